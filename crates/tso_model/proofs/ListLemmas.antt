@@ -1,0 +1,12 @@
+use Rattle.std.proofs.Common.{◌≡◌, ◌<◌, ℕ, suc, zero, List, [], ◌∷◌, length, map, All, slice_index_or, arith, subst, refl}
+use Rattle.std.proofs.lemmas.List.{length-map}
+
+slice_index_or-map : {X Y : Type 0} (f : X → Y) (xs : List X) (k : ℕ) (d : X) (e : Y) → k < length xs → slice_index_or (map f xs) k e ≡ f (slice_index_or xs k d)
+slice_index_or-map f [] k d e h = absurd (omega arith)
+slice_index_or-map f (x ∷ xs) zero d e h = refl
+slice_index_or-map f (x ∷ xs) (suc k) d e h = slice_index_or-map f xs k d e (omega arith)
+
+-- what holds of each image
+pub All-from_map : {X Y : Type 0} (P : Y → Type 0) (f : X → Y) (xs : List X) → All P (map f xs) → All (λ x. P (f x)) xs
+All-from_map P f xs h =
+    λ k d l. subst P (slice_index_or-map f xs k d (f d) l) (h k (f d) (let q = length-map xs f in omega arith))

@@ -1,0 +1,12 @@
+pub mod Registers
+pub mod Condition
+pub mod Names
+pub mod Litmus
+pub mod LitmusParts
+pub mod ConditionCode
+pub mod Thread
+pub mod ProgramOrder
+pub mod Execution
+pub mod FinalState
+pub mod FlatMachine
+pub mod Runs

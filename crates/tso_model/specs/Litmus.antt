@@ -1,0 +1,58 @@
+-- A test, and the limits that every test keeps. (This project's profile.)
+use Rattle.std.specs.Prelude.{ℕ, ◌<◌, ◌≤◌, ◌≡◌, ◌&&◌, Bool, IsTrue, true, not, List, [], ◌∷◌, length, Option, All}
+use Rattle.std.specs.Option.{ForSome}
+use Rattle.std.specs.List.{list_all}
+use Rattle.tso_model.specs.Condition.{Condition, NamesExist, atoms_in, negations_in}
+use Rattle.tso_model.specs.Names.{is_test_name, is_location_name, is_among}
+use Rattle.tso_model.specs.declared.instruction.Instr.{Instr}
+use Rattle.tso_model.specs.declared.instruction.Instr.TheVariants.{StoreImm, StoreReg, Load, SetImm, SetReg, Fence, Xchg, Xadd}
+use Rattle.tso_model.specs.declared.limits.TheConstants.{MAX_CORES, MAX_LOCATIONS, MAX_INSTRUCTIONS, MAX_ATOMS, MAX_NEGATIONS}
+
+-- a test: the names of its locations and their first words, and for each core its first registers and its program
+pub record Litmus : Type 0 where
+  pub name : List ℕ
+  pub locations : List (List ℕ)
+  pub words : List ℕ
+  pub registers : List (List ℕ)
+  pub programs : List (List Instr)
+  pub condition : Option Condition
+
+-- the location of the instruction, if it has one, is below this number
+abbrev pub KnownLocation : ℕ → Instr → Type 0
+KnownLocation locations (StoreImm loc value) = loc.0 < locations
+KnownLocation locations (StoreReg loc reg) = loc.0 < locations
+KnownLocation locations (Load reg loc) = loc.0 < locations
+KnownLocation locations (SetImm reg value) = Unit {0}
+KnownLocation locations (SetReg reg other) = Unit {0}
+KnownLocation locations Fence = Unit {0}
+KnownLocation locations (Xchg loc reg) = loc.0 < locations
+KnownLocation locations (Xadd loc reg) = loc.0 < locations
+
+-- a program within the limits, over so many locations
+pub record IsProgram (locations : ℕ) (program : List Instr) : Type 0 where
+  pub size : length program ≤ MAX_INSTRUCTIONS
+  pub locations_known : All (KnownLocation locations) program
+
+-- a condition within the limits, over so many cores and locations
+pub record IsCondition (cores locations : ℕ) (c : Condition) : Type 0 where
+  pub names_known : NamesExist cores locations c.claim
+  pub atoms : atoms_in c.claim ≤ MAX_ATOMS
+  pub negations : negations_in c.claim ≤ MAX_NEGATIONS
+
+-- whether no name stands twice
+abbrev pub are_distinct : List (List ℕ) → Bool
+are_distinct [] = true
+are_distinct (x ∷ xs) = not (is_among x xs) && are_distinct xs
+
+-- what every test keeps
+pub record IsTest (t : Litmus) : Type 0 where
+  pub name_spelled : IsTrue (is_test_name t.name)
+  pub some_core : 0 < length t.programs
+  pub cores : length t.programs ≤ MAX_CORES
+  pub registers_given : length t.registers ≡ length t.programs
+  pub location_count : length t.locations ≤ MAX_LOCATIONS
+  pub locations_spelled : IsTrue (list_all is_location_name t.locations)
+  pub locations_differ : IsTrue (are_distinct t.locations)
+  pub words_given : length t.words ≡ length t.locations
+  pub programs_fit : All (IsProgram (length t.locations)) t.programs
+  pub condition_fits : ForSome t.condition (IsCondition (length t.programs) (length t.locations))

@@ -1,0 +1,38 @@
+use crate::instruction::Core;
+
+/// One step of a schedule: which core acts, and how.
+#[derive(Clone, Copy, Debug, PartialEq, Eq)]
+pub enum Choice {
+    /// The core's next instruction is to take effect.
+    Step(Core),
+    /// The core's oldest pending store is to go to memory.
+    Drain(Core),
+}
+
+/// Why a choice changed nothing.
+#[derive(Clone, Copy, Debug, PartialEq, Eq)]
+pub enum Stall {
+    /// The core's program is at its end.
+    Done,
+    /// A plain store finds as many stores pending as the buffer holds.
+    Full,
+    /// A fence waits until nothing is pending.
+    Fence,
+    /// A locked instruction waits until nothing is pending.
+    Lock,
+    /// A drain finds nothing pending.
+    Empty,
+}
+
+/// What a choice did.
+#[derive(Clone, Copy, Debug, PartialEq, Eq)]
+pub enum Outcome {
+    /// One memory action took effect, or both parts of a locked instruction.
+    Committed,
+    /// A plain store became pending.
+    Buffered,
+    /// A register was set.
+    Moved,
+    /// Nothing changed.
+    Stalled(Stall),
+}

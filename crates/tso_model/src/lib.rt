@@ -1,0 +1,27 @@
+//! What a litmus test is, what its programs do, and what an order of their memory actions is.
+//!
+//! This crate holds the types that all others speak of, and in `specs/` the definitions on which
+//! every proof rests: test, thread, program order, TSO execution, final state, truth of a condition
+//! and the flat machine.
+#![tactic(auto)]
+
+pub mod choice;
+pub mod condition;
+pub mod execution;
+pub mod instruction;
+pub mod limits;
+pub mod litmus;
+pub mod memory;
+pub mod names;
+pub mod register;
+pub mod thread;
+mod validity;
+
+pub use choice::{Choice, Outcome, Stall};
+pub use condition::{Cond, Prop, Quantifier, cond_holds};
+pub use execution::{Entry, Execution, Kind};
+pub use instruction::{Core, Instr, Loc};
+pub use litmus::{Test, TestParts};
+pub use memory::NoMemory;
+pub use register::Reg;
+pub use thread::{Thread, read_count, thread_entries};

@@ -1,0 +1,145 @@
+ghost use Rattle.std.specs.Prelude.{◌≡◌, ◌<◌, ◌≤◌, ◌+◌, List, [], ◌∷◌, ◌++◌, length, IfOk, slice_index_or};
+ghost use Rattle.tso_model.specs.declared.instruction.Instr.{Instr};
+ghost use Rattle.tso_model.specs.Thread.{entry, entries_of, registers_after, reads_in};
+
+use crate::execution::{Entry, Kind};
+use crate::instruction::{Core, Instr, Loc};
+use crate::litmus::Test;
+use crate::memory::NoMemory;
+use std::alloc::Global;
+
+/// What a core's program does: its entries in program order, and its registers at the end.
+#[derive(Debug, Drop)]
+pub struct Thread {
+    pub entries: Vec<Entry>,
+    pub registers: [u32; 6],
+}
+
+/// How many values the core's program reads: one for each load and each locked instruction.
+pub fn read_count(test: &Test, core: Core) -> usize
+    requires { core.0 < length test.now.programs }
+    ensures { result ≡ reads_in (slice_index_or test.now.programs core.0 []) }
+{
+    reads_of(test.program(core))
+}
+
+fn reads_of(program: &[Instr]) -> usize
+    ensures { result ≡ reads_in program.now }
+{
+    let mut count = 0;
+    for instr in program {
+        if matches!(instr, Instr::Load(..) | Instr::Xchg(..) | Instr::Xadd(..)) {
+            count += 1;
+        }
+    }
+    count
+}
+
+/// The entries of a core's program in program order and its registers at the end, where its reads
+/// return these values, used in program order.
+///
+/// Fails only for want of memory.
+pub fn thread_entries(
+    alloc: Global,
+    test: &Test,
+    core: Core,
+    reads: &[u32],
+) -> Result<Thread, NoMemory>
+    requires known { core.0 < length test.now.programs }
+    requires reads { length reads.now ≡ reads_in (slice_index_or test.now.programs core.0 []) }
+    ensures entries { IfOk result (λ t. t.entries.items ≡ entries_of core.0 0 (slice_index_or test.now.programs core.0 []) (slice_index_or test.now.registers core.0 []) reads.now) }
+    ensures registers { IfOk result (λ t. t.registers ≡ registers_after (slice_index_or test.now.programs core.0 []) (slice_index_or test.now.registers core.0 []) reads.now) }
+{
+    let mut thread = Thread {
+        entries: Vec::new(alloc),
+        registers: test.initial_registers(core),
+    };
+    let mut place = 0;
+    let mut left = reads;
+    for instr in test.program(core) {
+        left = run_instruction(&mut thread, core, place, *instr, left)?;
+        place += 1;
+    }
+    Ok(thread)
+}
+
+/// Adds what an instruction does, and hands back the values that are left for later reads.
+fn run_instruction<'a>(
+    thread: &mut Thread,
+    core: Core,
+    place: u8,
+    instr: Instr,
+    reads: &'a [u32],
+) -> Result<&'a [u32], NoMemory>
+    requires { reads_in (instr ∷ []) ≤ length reads.now }
+    ensures entries { IfOk result (λ left. (rest : List Instr) → thread.old.entries.items ++ entries_of core.0 place (instr ∷ rest) thread.old.registers reads.now ≡ thread.new.entries.items ++ entries_of core.0 (place + 1) rest thread.new.registers left.now) }
+    ensures registers { IfOk result (λ left. (rest : List Instr) → registers_after (instr ∷ rest) thread.old.registers reads.now ≡ registers_after rest thread.new.registers left.now) }
+    ensures left { IfOk result (λ left. length left.now + reads_in (instr ∷ []) ≡ length reads.now) }
+{
+    match instr {
+        Instr::StoreImm(loc, value) => {
+            note(thread, core, place, Kind::W, loc, value)?;
+            Ok(reads)
+        }
+        Instr::StoreReg(loc, reg) => {
+            let value = thread.registers[reg.index()];
+            note(thread, core, place, Kind::W, loc, value)?;
+            Ok(reads)
+        }
+        Instr::Load(reg, loc) => {
+            let value = reads[0];
+            note(thread, core, place, Kind::R, loc, value)?;
+            thread.registers[reg.index()] = value;
+            Ok(&reads[1..])
+        }
+        Instr::SetImm(reg, value) => {
+            thread.registers[reg.index()] = value;
+            Ok(reads)
+        }
+        Instr::SetReg(reg, other) => {
+            thread.registers[reg.index()] = thread.registers[other.index()];
+            Ok(reads)
+        }
+        Instr::Fence => {
+            note(thread, core, place, Kind::F, Loc(0), 0)?;
+            Ok(reads)
+        }
+        Instr::Xchg(loc, reg) => {
+            let value = reads[0];
+            let written = thread.registers[reg.index()];
+            note(thread, core, place, Kind::LR, loc, value)?;
+            note(thread, core, place, Kind::LW, loc, written)?;
+            thread.registers[reg.index()] = value;
+            Ok(&reads[1..])
+        }
+        Instr::Xadd(loc, reg) => {
+            let value = reads[0];
+            let written = value.wrapping_add(thread.registers[reg.index()]);
+            note(thread, core, place, Kind::LR, loc, value)?;
+            note(thread, core, place, Kind::LW, loc, written)?;
+            thread.registers[reg.index()] = value;
+            Ok(&reads[1..])
+        }
+    }
+}
+
+fn note(
+    thread: &mut Thread,
+    core: Core,
+    place: u8,
+    kind: Kind,
+    loc: Loc,
+    value: u32,
+) -> Result<(), NoMemory>
+    ensures entries { IfOk result (λ _. thread.new.entries.items ≡ thread.old.entries.items ++ entry core.0 place kind loc value ∷ []) }
+    ensures registers { thread.new.registers ≡ thread.old.registers }
+{
+    thread.entries.push(Entry {
+        core,
+        place,
+        kind,
+        loc,
+        value,
+    })?;
+    Ok(())
+}
