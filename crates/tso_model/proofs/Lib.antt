@@ -1,2 +1,4 @@
 pub mod LitmusLemmas
 pub mod ListLemmas
+pub mod Deciding
+pub mod WorkedOrders

@@ -10,3 +10,4 @@ pub mod Execution
 pub mod FinalState
 pub mod FlatMachine
 pub mod Runs
+pub mod Examples

@@ -14,6 +14,8 @@ pub mod litmus;
 pub mod memory;
 pub mod names;
 pub mod register;
+#[cfg(test)]
+mod tests;
 pub mod thread;
 mod validity;
 

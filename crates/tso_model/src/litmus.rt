@@ -129,7 +129,7 @@ impl Test {
         requires { core.0 < length self.now.programs }
         ensures { result ≡ slice_index (slice_index_or self.now.registers core.0 []) (index_of reg) }
     {
-        self.parts.registers[core.0 as usize][reg.index()]
+        self.initial_registers(core)[reg.index()]
     }
 
     /// A core's first registers, in the order of `Reg::ALL`.

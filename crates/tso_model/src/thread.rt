@@ -87,9 +87,9 @@ fn run_instruction<'a>(
             Ok(reads)
         }
         Instr::Load(reg, loc) => {
-            let value = reads[0];
-            note(thread, core, place, Kind::R, loc, value)?;
-            thread.registers[reg.index()] = value;
+            let loaded = reads[0];
+            note(thread, core, place, Kind::R, loc, loaded)?;
+            thread.registers[reg.index()] = loaded;
             Ok(&reads[1..])
         }
         Instr::SetImm(reg, value) => {
@@ -105,19 +105,19 @@ fn run_instruction<'a>(
             Ok(reads)
         }
         Instr::Xchg(loc, reg) => {
-            let value = reads[0];
-            let written = thread.registers[reg.index()];
-            note(thread, core, place, Kind::LR, loc, value)?;
-            note(thread, core, place, Kind::LW, loc, written)?;
-            thread.registers[reg.index()] = value;
+            let old = reads[0];
+            let given = thread.registers[reg.index()];
+            note(thread, core, place, Kind::LR, loc, old)?;
+            note(thread, core, place, Kind::LW, loc, given)?;
+            thread.registers[reg.index()] = old;
             Ok(&reads[1..])
         }
         Instr::Xadd(loc, reg) => {
-            let value = reads[0];
-            let written = value.wrapping_add(thread.registers[reg.index()]);
-            note(thread, core, place, Kind::LR, loc, value)?;
-            note(thread, core, place, Kind::LW, loc, written)?;
-            thread.registers[reg.index()] = value;
+            let word = reads[0];
+            let sum = word.wrapping_add(thread.registers[reg.index()]);
+            note(thread, core, place, Kind::LR, loc, word)?;
+            note(thread, core, place, Kind::LW, loc, sum)?;
+            thread.registers[reg.index()] = word;
             Ok(&reads[1..])
         }
     }
