@@ -1,0 +1,171 @@
+-- Entries of one core, place and kind, and lists in which no two are.
+use Rattle.std.proofs.Common.{◌≡◌, ◌≢◌, ◌<◌, ◌≤◌, ℕ, ◌+◌, suc, zero, List, [], ◌∷◌, length, Some, slice_get, Bool, true, false, ◌==◌, ◌&&◌, ◌||◌, if◌then◌else◌, arith, ap, sym, ◌∙◌, ◌⊎◌, inl, inr, subst, refl}
+use Rattle.std.proofs.lemmas.Bool.Decides.{nat_tests, eqb_tells}
+use Rattle.tso_model.specs.Thread.{entry}
+use Rattle.tso_model.specs.ProgramOrder.{is_read, is_write, is_read_kind, is_write_kind}
+use Rattle.tso_model.specs.Execution.{is_at, same_kind, read_value}
+use Rattle.tso_model.specs.declared.execution.Entry.{Entry}
+use Rattle.tso_model.specs.declared.execution.Kind.{Kind}
+use Rattle.tso_model.specs.declared.execution.Kind.TheVariants.{R, W, F, LR, LW}
+use Rattle.axiom_checker.specs.Entries.{same_action, same_but_value, IsTwice}
+use Rattle.axiom_checker.proofs.Slots.{Each, each-at, AllApart}
+
+same_kind-is : (a b : Kind) → same_kind a b ≡ true → a ≡ b
+same_kind-is R R h = refl
+same_kind-is R W h = absurd (let z : ⊥ = cc in z)
+same_kind-is R F h = absurd (let z : ⊥ = cc in z)
+same_kind-is R LR h = absurd (let z : ⊥ = cc in z)
+same_kind-is R LW h = absurd (let z : ⊥ = cc in z)
+same_kind-is W R h = absurd (let z : ⊥ = cc in z)
+same_kind-is W W h = refl
+same_kind-is W F h = absurd (let z : ⊥ = cc in z)
+same_kind-is W LR h = absurd (let z : ⊥ = cc in z)
+same_kind-is W LW h = absurd (let z : ⊥ = cc in z)
+same_kind-is F R h = absurd (let z : ⊥ = cc in z)
+same_kind-is F W h = absurd (let z : ⊥ = cc in z)
+same_kind-is F F h = refl
+same_kind-is F LR h = absurd (let z : ⊥ = cc in z)
+same_kind-is F LW h = absurd (let z : ⊥ = cc in z)
+same_kind-is LR R h = absurd (let z : ⊥ = cc in z)
+same_kind-is LR W h = absurd (let z : ⊥ = cc in z)
+same_kind-is LR F h = absurd (let z : ⊥ = cc in z)
+same_kind-is LR LR h = refl
+same_kind-is LR LW h = absurd (let z : ⊥ = cc in z)
+same_kind-is LW R h = absurd (let z : ⊥ = cc in z)
+same_kind-is LW W h = absurd (let z : ⊥ = cc in z)
+same_kind-is LW F h = absurd (let z : ⊥ = cc in z)
+same_kind-is LW LR h = absurd (let z : ⊥ = cc in z)
+same_kind-is LW LW h = refl
+
+same_kind-itself : (a : Kind) → same_kind a a ≡ true
+same_kind-itself R = refl
+same_kind-itself W = refl
+same_kind-itself F = refl
+same_kind-itself LR = refl
+same_kind-itself LW = refl
+
+pub record SameAction (x y : Entry) : Type 0 where
+  pub core : x.core.0 ≡ y.core.0
+  pub place : x.place ≡ y.place
+  pub kind : x.kind ≡ y.kind
+
+both : (a b : Bool) → (a && b) ≡ true → (a ≡ true) × (b ≡ true)
+both true true h = (refl, refl)
+both true false h = absurd (let z : ⊥ = cc in z)
+both false b h = absurd (let z : ⊥ = cc in z)
+
+test-is : (a b : ℕ) → (a == b) ≡ true → a ≡ b
+test-is a b h = elim (eqb_tells a b) [ inl p ↦ p.1 | inr p ↦ absurd (let q = p.0 in let z : ⊥ = cc in z) ]
+
+test-of : (a b : ℕ) → a ≡ b → (a == b) ≡ true
+test-of a b h = elim (eqb_tells a b) [ inl p ↦ p.0 | inr p ↦ absurd (p.1 h) ]
+
+pub same-parts : (x y : Entry) → same_action x y ≡ true → SameAction x y
+same-parts x y h =
+    let p = both ((y.core.0 == x.core.0) && (y.place == x.place)) (same_kind y.kind x.kind) h in
+    let q = both (y.core.0 == x.core.0) (y.place == x.place) p.0 in
+    record { core = sym (test-is y.core.0 x.core.0 q.0); place = sym (test-is y.place x.place q.1); kind = sym (same_kind-is y.kind x.kind p.1) }
+
+pub same-from : (x y : Entry) → SameAction x y → same_action x y ≡ true
+same-from x y s =
+    rw (test-of y.core.0 x.core.0 (sym s.core), test-of y.place x.place (sym s.place)) (subst (λ k. same_kind y.kind k ≡ true) (sym s.kind) (same_kind-itself y.kind))
+
+pub same-turned : (x y : Entry) → SameAction x y → SameAction y x
+same-turned x y s = record { core = sym s.core; place = sym s.place; kind = sym s.kind }
+
+pub same-through : (x y z : Entry) → SameAction x y → SameAction y z → SameAction x z
+same-through x y z s t = record { core = s.core ∙ t.core; place = s.place ∙ t.place; kind = s.kind ∙ t.kind }
+
+pub same-itself : (x : Entry) → same_action x x ≡ true
+same-itself x = same-from x x (record { core = refl; place = refl; kind = refl })
+
+pub entry-is : (x y : Entry) → SameAction x y → x.loc.0 ≡ y.loc.0 → x.value ≡ y.value → x ≡ y
+entry-is x y s l v =
+    ap (λ c. entry c x.place x.kind x.loc x.value) s.core ∙ ap (λ p. entry y.core.0 p x.kind x.loc x.value) s.place
+    ∙ ap (λ k. entry y.core.0 y.place k x.loc x.value) s.kind ∙ ap (λ n. entry y.core.0 y.place y.kind (record { 0 = n }) x.value) l
+    ∙ ap (λ n. entry y.core.0 y.place y.kind y.loc n) v
+
+pub record SameButValue (e x : Entry) : Type 0 where
+  pub action : SameAction e x
+  pub loc : x.loc.0 ≡ e.loc.0
+  pub fence : x.kind ≡ F → x.value ≡ e.value
+
+neither : (k : Kind) (b : Bool) → k ≡ F → (is_read_kind k || is_write_kind k || b) ≡ true → b ≡ true
+neither k b f h = let w : (is_read_kind F || is_write_kind F || b) ≡ true = subst (λ z. (is_read_kind z || is_write_kind z || b) ≡ true) f h in w
+
+pub same_but_value-parts : (e x : Entry) → same_but_value e x ≡ true → SameButValue e x
+same_but_value-parts e x h =
+    let p = both (same_action e x && (x.loc.0 == e.loc.0)) (is_read x || is_write x || (x.value == e.value)) h in
+    let q = both (same_action e x) (x.loc.0 == e.loc.0) p.0 in
+    record {
+      action = same-parts e x q.0;
+      loc = test-is x.loc.0 e.loc.0 q.1;
+      fence = λ f. test-is x.value e.value (neither x.kind (x.value == e.value) f p.1);
+    }
+
+pub same_but_value-itself : (x : Entry) → same_but_value x x ≡ true
+same_but_value-itself x = rw (same-itself x, test-of x.loc.0 x.loc.0 refl, test-of x.value x.value refl) (any_true (is_read x) (is_write x))
+  where
+    any_true : (a b : Bool) → (a || b || true) ≡ true
+    any_true true true = refl
+    any_true true false = refl
+    any_true false true = refl
+    any_true false false = refl
+
+-- no two entries of the list are of one core, place and kind
+abbrev pub NoneTwice : List Entry → Type 0
+NoneTwice list = (i j : ℕ) (x y : Entry) → j < i → slice_get list i ≡ Some x → slice_get list j ≡ Some y → SameAction x y → ⊥
+
+pub apart-none : (list : List Entry) → AllApart list → NoneTwice list
+apart-none [] a i j x y l e f s = absurd (let z : ⊥ = cc in z)
+apart-none (z ∷ zs) a zero j x y l e f s = absurd (omega arith)
+apart-none (z ∷ zs) a (suc i) zero x y l e f s =
+    let q : z ≡ y = cc in
+    let n : same_action z x ≡ false = each-at (λ w. same_action z w ≡ false) zs i x a.0 e in
+    let t : same_action y x ≡ true = same-from y x (same-turned x y s) in
+    let m : same_action z x ≡ true = subst (λ w. same_action w x ≡ true) (sym q) t in
+    absurd (let v : ⊥ = cc in v)
+apart-none (z ∷ zs) a (suc i) (suc j) x y l e f s = apart-none zs a.1 i j x y (omega arith) e f s
+
+behind : (z : Entry) (zs : List Entry) → NoneTwice (z ∷ zs) → NoneTwice zs
+behind z zs n i j x y l e f s = n (suc i) (suc j) x y (omega arith) e f s
+
+three-ways : (i j : ℕ) → (i ≡ j) ⊎ ((i < j) ⊎ (j < i))
+three-ways i j = grind arith
+
+-- two entries of one core, place and kind are one
+pub one-place : (list : List Entry) → NoneTwice list → (i j : ℕ) (x y : Entry) → slice_get list i ≡ Some x → slice_get list j ≡ Some y → SameAction x y → i ≡ j
+one-place list n i j x y e f s = elim (three-ways i j) [
+  | inl q ↦ q
+  | inr w ↦ elim w [
+    | inl l ↦ absurd (n j i y x l f e (same-turned x y s))
+    | inr l ↦ absurd (n i j x y l e f s)
+  ]
+]
+
+pub one-entry : (list : List Entry) → NoneTwice list → (i j : ℕ) (x y : Entry) → slice_get list i ≡ Some x → slice_get list j ≡ Some y → SameAction x y → x ≡ y
+one-entry list n i j x y e f s =
+    let q = one-place list n i j x y e f s in
+    let g : slice_get list i ≡ Some y = subst (λ k. slice_get list k ≡ Some y) (sym q) f in cc
+
+-- the value that is looked up is that of the one entry of this core, place and kind
+value-step : (x : Entry) (y : Entry) (ys : List Entry) (b : Bool) → is_at x.core.0 x.place x.kind y ≡ b → (b ≡ true → y ≡ x) → (b ≡ false → read_value x.core.0 x.place x.kind ys ≡ x.value)
+    → (if b then y.value else read_value x.core.0 x.place x.kind ys) ≡ x.value
+value-step x y ys true e here later = ap (λ z. z.value) (here refl)
+value-step x y ys false e here later = later refl
+
+pub value-at : (list : List Entry) → NoneTwice list → (k : ℕ) (x : Entry) → slice_get list k ≡ Some x → read_value x.core.0 x.place x.kind list ≡ x.value
+value-at [] n k x e = absurd (let z : ⊥ = cc in z)
+value-at (y ∷ ys) n zero x e =
+    let q : y ≡ x = cc in
+    let t : is_at x.core.0 x.place x.kind y ≡ true = subst (λ z. is_at x.core.0 x.place x.kind z ≡ true) (sym q) (same-itself x) in
+    rw t (ap (λ z. z.value) q)
+value-at (y ∷ ys) n (suc k) x e =
+    value-step x y ys (is_at x.core.0 x.place x.kind y) refl
+    (λ t. absurd (n (suc k) zero x y (omega arith) e refl (same-parts x y t)))
+    (λ _. value-at ys (behind y ys n) k x e)
+
+-- two entries of one core, place and kind are looked up alike
+pub looked-up : (x y : Entry) (list : List Entry) → SameAction x y → read_value x.core.0 x.place x.kind list ≡ read_value y.core.0 y.place y.kind list
+looked-up x y list s =
+    ap (λ c. read_value c x.place x.kind list) s.core ∙ ap (λ p. read_value y.core.0 p x.kind list) s.place ∙ ap (λ k. read_value y.core.0 y.place k list) s.kind

@@ -1,0 +1,11 @@
+pub mod Firsts
+pub mod Finds
+pub mod Slots
+pub mod Actions
+pub mod OwnReads
+pub mod Pigeon
+pub mod Whole
+pub mod Keeps
+pub mod Known
+pub mod Breaches
+pub mod Named

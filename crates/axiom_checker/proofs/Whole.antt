@@ -1,0 +1,126 @@
+-- An order is whole exactly where no entry is extra, there twice, missing or a write of a wrong value.
+use Rattle.std.proofs.Common.{◌≡◌, ◌≢◌, ◌<◌, ◌≤◌, ℕ, List, length, Some, slice_get, Bool, true, false, ◌==◌, arith, ap, sym, ◌∙◌, ◌⊎◌, inl, inr, subst, refl}
+use Rattle.std.specs.List.{list_any}
+use Rattle.std.proofs.lemmas.Bool.Decides.{eqb_tells}
+use Rattle.tso_model.specs.Litmus.{Litmus}
+use Rattle.tso_model.specs.ProgramOrder.{is_read, is_write, is_read_kind, is_write_kind}
+use Rattle.tso_model.specs.Execution.{read_value, made, StandsIn, IsWhole}
+use Rattle.tso_model.specs.declared.execution.Entry.{Entry}
+use Rattle.tso_model.specs.declared.execution.Kind.{Kind}
+use Rattle.tso_model.specs.declared.execution.Kind.TheVariants.{R, W, F, LR, LW}
+use Rattle.axiom_checker.specs.First.{IsNowhere}
+use Rattle.axiom_checker.specs.Entries.{same_action, same_but_value, IsExtra, IsTwice, IsStray, IsMissing, IsWrongWrite, written_value}
+use Rattle.axiom_checker.proofs.Firsts.{any_at, none_passes}
+use Rattle.axiom_checker.proofs.Slots.{Each, each-at, made-apart}
+use Rattle.axiom_checker.proofs.OwnReads.{ReadsOwn, made-read}
+use Rattle.axiom_checker.proofs.Actions.{SameAction, same-parts, same-from, same-turned, same-through, same-itself, entry-is, SameButValue, same_but_value-parts, same_but_value-itself, NoneTwice, apart-none, one-entry, value-at, looked-up}
+use Rattle.axiom_checker.proofs.Pigeon.{Member, at-member, member-at, Distinct, distinct-from, distinct-one, Within, no_fewer, pigeon}
+
+-- an order without any of the four
+pub record IsClean (made order : List Entry) : Type 0 where
+  pub no_stray : IsNowhere order (IsStray made order)
+  pub no_missing : IsNowhere made (IsMissing order)
+  pub no_wrong : IsNowhere order (IsWrongWrite made)
+
+none-twice : (made order : List Entry) → IsNowhere order (IsStray made order) → NoneTwice order
+none-twice made order n i j x y l e f s = n i x e (inr (j, y, l, f, same-from x y s))
+
+-- an entry of the programs, the same as x but for its value
+record Made (made : List Entry) (x : Entry) : Type 0 where
+  pub place : ℕ
+  pub entry : Entry
+  pub stands : slice_get made place ≡ Some entry
+  pub same : SameButValue entry x
+
+made-of : (made : List Entry) (x : Entry) → (IsExtra made x → ⊥) → Made made x
+made-of made x n = go (list_any (λ e. same_but_value e x) made) refl
+  where
+    go : (b : Bool) → list_any (λ e. same_but_value e x) made ≡ b → Made made x
+    go true h = let r = any_at (λ e. same_but_value e x) made h in record { place = r.0; entry = r.1; stands = r.2; same = same_but_value-parts r.1 x r.3 }
+    go false h = absurd (n (none_passes (λ e. same_but_value e x) made h))
+
+-- an entry of the order of e's core, place and kind
+record Found (order : List Entry) (e : Entry) : Type 0 where
+  pub place : ℕ
+  pub entry : Entry
+  pub stands : slice_get order place ≡ Some entry
+  pub same : SameAction e entry
+
+found-of : (order : List Entry) (k : ℕ) (e : Entry) → (IsMissing order k e → ⊥) → Found order e
+found-of order k e n = go (list_any (λ x. same_action e x) order) refl
+  where
+    go : (b : Bool) → list_any (λ x. same_action e x) order ≡ b → Found order e
+    go true h = let r = any_at (λ x. same_action e x) order h in record { place = r.0; entry = r.1; stands = r.2; same = same-parts e r.1 r.3 }
+    go false h = absurd (n (none_passes (λ x. same_action e x) order h))
+
+stable : (a b : ℕ) → (a ≢ b → ⊥) → a ≡ b
+stable a b n = elim (eqb_tells a b) [ inl p ↦ p.1 | inr p ↦ absurd (n p.1) ]
+
+-- a fence has the value of its entry, a read the order's own, a write its program's
+by-kind : (k : Kind) {P : Type 0} → (is_read_kind k ≡ true → P) → (is_write_kind k ≡ true → P) → (k ≡ F → P) → P
+by-kind R read write fence = read refl
+by-kind W read write fence = write refl
+by-kind F read write fence = fence refl
+by-kind LR read write fence = read refl
+by-kind LW read write fence = write refl
+
+module _ (made order : List Entry) (one : NoneTwice made) (own : Each (ReadsOwn order) made) where
+  same-value : NoneTwice order → IsNowhere order (IsWrongWrite made) → (i : ℕ) (x : Entry) → slice_get order i ≡ Some x → (k : ℕ) (e : Entry) → slice_get made k ≡ Some e → SameButValue e x → x.value ≡ e.value
+  same-value once written i x at_i k e at_k s = by-kind x.kind
+      (λ r. sym (value-at order once i x at_i) ∙ looked-up x e order (same-turned e x s.action)
+      ∙ sym (each-at (ReadsOwn order) made k e own at_k (subst (λ z. is_read_kind z ≡ true) (sym s.action.kind) r)))
+      (λ w. stable x.value (written_value made x) (λ ne. written i x at_i (w, ne)) ∙ looked-up x e made (same-turned e x s.action) ∙ value-at made one k e at_k)
+      s.fence
+
+  -- each entry of the order is one of the programs
+  pub in-made : IsClean made order → (i : ℕ) (x : Entry) → slice_get order i ≡ Some x → StandsIn made x
+  in-made c i x e =
+      let m = made-of made x (λ q. c.no_stray i x e (inl q)) in
+      let v = same-value (none-twice made order c.no_stray) c.no_wrong i x e m.place m.entry m.stands m.same in
+      let q : m.entry ≡ x = entry-is m.entry x m.same.action (sym m.same.loc) (sym v) in
+      (m.place, m.stands ∙ ap Some q)
+
+  -- each entry of the programs stands in the order
+  in-order : IsClean made order → (k : ℕ) (e : Entry) → slice_get made k ≡ Some e → StandsIn order e
+  in-order c k e h =
+      let f = found-of order k e (c.no_missing k e h) in
+      let m = in-made c f.place f.entry f.stands in
+      let q : f.entry ≡ e = one-entry made one m.0 k f.entry e m.1 h (same-turned e f.entry f.same) in
+      (f.place, f.stands ∙ ap Some q)
+
+  as-many : IsClean made order → length order ≡ length made
+  as-many c =
+      let once = none-twice made order c.no_stray in
+      let left = no_fewer order made (distinct-from order (λ i j x l e f. once i j x x l e f (record { core = refl; place = refl; kind = refl })))
+      (λ z m. let r = member-at z order m in let s = in-made c r.0 z r.1 in at-member made s.0 z s.1) in
+      let right = no_fewer made order (distinct-from made (λ i j x l e f. one i j x x l e f (record { core = refl; place = refl; kind = refl })))
+      (λ z m. let r = member-at z made m in let s = in-order c r.0 z r.1 in at-member order s.0 z s.1) in
+      omega arith
+
+  -- an order of the programs' entries, each once
+  clean : length order ≡ length made → ((k : ℕ) (e : Entry) → slice_get made k ≡ Some e → StandsIn order e) → IsClean made order
+  clean count each =
+      let d : Distinct made = distinct-from made (λ i j x l e f. one i j x x l e f (record { core = refl; place = refl; kind = refl })) in
+      let p = pigeon made order d (λ z m. let r = member-at z made m in let s = each r.0 z r.1 in at-member order s.0 z s.1) (omega arith) in
+      let inside = λ (i : ℕ) (x : Entry) (e : slice_get order i ≡ Some x). member-at x made (p.0 x (at-member order i x e)) in
+      record {
+        no_stray = λ i x e s. elim s [
+          | inl extra ↦ let m = inside i x e in let f : same_but_value x x ≡ false = extra m.0 x m.1 in let t = same_but_value-itself x in let z : ⊥ = cc in z
+          | inr twice ↦
+              let m = inside i x e in
+              let n = inside twice.0 twice.1 twice.3 in
+              let q : x ≡ twice.1 = one-entry made one m.0 n.0 x twice.1 m.1 n.1 (same-parts x twice.1 twice.4) in
+              distinct-one order p.1 i twice.0 x twice.2 e (twice.3 ∙ ap Some (sym q))
+        ];
+        no_missing = λ k e h m. let s = each k e h in let f : same_action e e ≡ false = m s.0 e s.1 in let t = same-itself e in let z : ⊥ = cc in z;
+        no_wrong = λ i x e w. let m = inside i x e in w.1 (sym (value-at made one m.0 x m.1));
+      }
+
+pub whole-from : (t : Litmus) (order : List Entry) → IsClean (made t order) order → IsWhole t order
+whole-from t order c =
+    let one = apart-none (made t order) (made-apart t order) in
+    let own = made-read t order in
+    record { count = as-many (made t order) order one own c; each = in-order (made t order) order one own c }
+
+pub whole-clean : (t : Litmus) (order : List Entry) → IsWhole t order → IsClean (made t order) order
+whole-clean t order w = clean (made t order) order (apart-none (made t order) (made-apart t order)) (made-read t order) w.count w.each

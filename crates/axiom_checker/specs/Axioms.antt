@@ -1,0 +1,35 @@
+-- The ways in which an entry breaks an axiom at its place in the order.
+-- (Primer, chapter 4, the axioms of TSO; x86-TSO, section 3, for locked instructions.)
+use Rattle.std.specs.Prelude.{ℕ, ◌<◌, ◌≡◌, ◌≢◌, ◌&&◌, not, Bool, true, List, Some, slice_get, take, drop, suc}
+use Rattle.tso_model.specs.Litmus.{Litmus}
+use Rattle.tso_model.specs.ProgramOrder.{is_before, may_be_passed, is_read}
+use Rattle.tso_model.specs.Execution.{IsStorePart, due_value}
+use Rattle.tso_model.specs.declared.execution.Entry.{Entry}
+use Rattle.tso_model.specs.declared.execution.Kind.TheVariants.{LR}
+
+-- the axioms have a before b: it stands before b in its program, and the two aren't a plain store and a plain load
+abbrev pub must_stand_before : Entry → Entry → Bool
+must_stand_before a b = is_before a b && not (may_be_passed a b)
+
+-- b, at place j, stands before the place `at` of a, though a must stand before it
+pub record Overtakes (at : ℕ) (a : Entry) (j : ℕ) (b : Entry) : Type 0 where
+  pub sooner : j < at
+  pub swapped : must_stand_before a b ≡ true
+
+-- some entry overtook a
+abbrev pub IsLate : List Entry → ℕ → Entry → Type 0
+IsLate order at a = (j : ℕ) × (b : Entry) × (slice_get order j ≡ Some b) × Overtakes at a j b
+
+-- the load part of a locked instruction that isn't followed at once by its store part
+pub record IsParted (order : List Entry) (at : ℕ) (x : Entry) : Type 0 where
+  pub load_part : x.kind ≡ LR
+  pub parted : (y : Entry) → slice_get order (suc at) ≡ Some y → ¬ IsStorePart x y
+
+-- the value that is due to a read at its place: what stands before it there, and what stands behind it
+abbrev pub due_at : Litmus → List Entry → ℕ → Entry → ℕ
+due_at t order at x = due_value t x (take at order) (drop (suc at) order)
+
+-- a read of another value than is due
+pub record IsWrongRead (t : Litmus) (order : List Entry) (at : ℕ) (x : Entry) : Type 0 where
+  pub read : is_read x ≡ true
+  pub wrong : x.value ≢ due_at t order at x

@@ -1,0 +1,44 @@
+-- What holds of whatever a reading answers.
+use Rattle.std.proofs.Common.{◌≡◌, Bool, true, false, cond, List, Option, Some, None, Result, Ok, Err, IfOk, IfSome, refl}
+use Rattle.litmus_tokens.specs.Pieces.{Piece}
+use Rattle.litmus_reader.specs.declared.fault.Fault.{Fault}
+use Rattle.litmus_reader.specs.declared.fault.Part.{Part}
+use Rattle.litmus_reader.specs.Faults.{◌>>=◌, or_unfit, there}
+
+pub bind_keeps : {A B : Type 0} (R : A → Type 0) (Q : B → Type 0) (r : Result A Fault) (f : A → Result B Fault)
+    → IfOk r R → ((x : A) → R x → IfOk (f x) Q) → IfOk (r >>= f) Q
+bind_keeps R Q (Ok x) f h k = k x h
+bind_keeps R Q (Err e) f h k = tt
+
+-- where nothing is to be kept
+abbrev pub Any : {A : Type 0} → A → Type 0
+Any x = Unit {0}
+
+pub ok_any : {A : Type 0} (r : Result A Fault) → IfOk r (λ x. Any x)
+ok_any (Ok x) = tt
+ok_any (Err e) = tt
+
+pub some_any : {A : Type 0} (o : Option A) → IfSome o (λ x. Any x)
+some_any (Some x) = tt
+some_any None = tt
+
+pub there_keeps : {A B : Type 0} (R : A → Type 0) (P : B → Type 0) (o : Option A) (f : A → B) (other : B)
+    → IfSome o R → ((x : A) → R x → P (f x)) → P other → P (there o f other)
+there_keeps R P (Some x) f other h k l = k x h
+there_keeps R P None f other h k l = l
+
+pub cond_keeps : {B : Type 0} (P : B → Type 0) (b : Bool) (x y : B) → (b ≡ true → P x) → (b ≡ false → P y) → P (cond b x y)
+cond_keeps P true x y k l = k refl
+cond_keeps P false x y k l = l refl
+
+pub or_unfit_keeps : {A : Type 0} (Q : A → Type 0) (part : Part) (ps : List Piece) (o : Option A) → IfSome o Q → IfOk (or_unfit part ps o) Q
+or_unfit_keeps Q part ps (Some x) h = h
+or_unfit_keeps Q part ps None h = tt
+
+-- where an answer is known
+pub ok_is : {A : Type 0} (Q : A → Type 0) (r : Result A Fault) (x : A) → IfOk r Q → r ≡ Ok x → Q x
+ok_is Q (Ok y) x h e = let same : y ≡ x = cc in subst_by same h
+  where
+    subst_by : y ≡ x → Q y → Q x
+    subst_by e q = rw (← e) q
+ok_is Q (Err f) x h e = absurd cc

@@ -1,0 +1,15 @@
+pub mod Maps
+pub mod Lines
+pub mod Names
+pub mod ColumnSteps
+pub mod Cells
+pub mod RowEnds
+pub mod RowSteps
+pub mod Chains
+pub mod PartLists
+pub mod Keeps
+pub mod Named
+pub mod Known
+pub mod TableKept
+pub mod ClaimsKept
+pub mod Within

@@ -1,0 +1,31 @@
+-- The line at the front.
+use Rattle.std.proofs.Common.{◌≡◌, ℕ, ◌+◌, ◌-◌, ◌<◌, ◌≤◌, Bool, true, false, cond, ltb, eqb, not, List, [], ◌∷◌, length, take, drop, Option, Some, None, refl, sym, ap, ◌∙◌, ◌⊎◌, inl, inr, arith}
+use Rattle.std.specs.Prelude.{position}
+use Rattle.std.specs.List.{position_or_len, prefix_len, before_first, after_first}
+use Rattle.std.proofs.lemmas.Bool.{ltb-false, ltb-true}
+use Rattle.std.proofs.lemmas.List.{take_all, length-drop, nil_from_length}
+use Rattle.std.proofs.lemmas.List.Sums.{prefix_len-le-length}
+use Rattle.litmus_reader.specs.Header.{first_line}
+use Rattle.litmus_reader.proofs.Maps.{chosen}
+
+pub line_cut : (bytes : List ℕ) (n : ℕ) → Some n ≡ position (λ b. eqb b 10) bytes → first_line bytes ≡ (take n bytes, take (length bytes - (n + 1)) (drop (n + 1) bytes))
+unfolding first_line
+line_cut bytes n at = elim (chosen (ltb (position_or_len (λ b. eqb b 10) bytes) (length bytes)) (Some (position_or_len (λ b. eqb b 10) bytes)) None (Some n) (sym at)) [
+  | inl hit ↦
+      let here : position_or_len (λ b. eqb b 10) bytes ≡ n = cc in
+      let all : take (length bytes - (n + 1)) (drop (n + 1) bytes) ≡ drop (n + 1) bytes = take_all _ (drop (n + 1) bytes) (omega (arith, length-drop (n + 1) bytes)) in
+      rw (all, here) refl
+  | inr miss ↦ absurd cc
+]
+
+pub line_last : (bytes : List ℕ) → None ≡ position (λ b. eqb b 10) bytes → first_line bytes ≡ (bytes, take (length bytes - length bytes) (drop (length bytes) bytes))
+unfolding first_line
+line_last bytes at = elim (chosen (ltb (position_or_len (λ b. eqb b 10) bytes) (length bytes)) (Some (position_or_len (λ b. eqb b 10) bytes)) None None (sym at)) [
+  | inl hit ↦ absurd cc
+  | inr miss ↦
+      let past : length bytes ≤ position_or_len (λ b. eqb b 10) bytes = ltb-false _ _ miss.0 in
+      let front : before_first (λ b. eqb b 10) bytes ≡ bytes = take_all _ bytes past in
+      let back : after_first (λ b. eqb b 10) bytes ≡ [] = nil_from_length _ (omega (arith, length-drop (position_or_len (λ b. eqb b 10) bytes + 1) bytes)) in
+      let none : take (length bytes - length bytes) (drop (length bytes) bytes) ≡ [] = take_all _ _ (omega (arith, length-drop (length bytes) bytes)) ∙ nil_from_length _ (omega (arith, length-drop (length bytes) bytes)) in
+      rw (front, back, none) refl
+]

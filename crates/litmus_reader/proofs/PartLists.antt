@@ -1,0 +1,30 @@
+-- The lists of a test's parts, one item more at a time.
+use Rattle.std.proofs.Common.{◌≡◌, ℕ, zero, suc, ◌+◌, ◌<◌, ◌≤◌, List, [], ◌∷◌, ◌++◌, length, map, take, get_or, replicate, All, refl, sym, ap, subst, ◌∙◌, add-one, add-suc, arith}
+use Rattle.std.proofs.lemmas.List.{get_or-map, take_all, map-append}
+use Rattle.std.proofs.Math.Seq.{take-suc}
+use denote.Ref.{Bor}
+use Rattle.tso_model.specs.declared.instruction.Instr.{Instr}
+use Rattle.litmus_reader.specs.declared.cell.CoreInstr.{CoreInstr}
+use Rattle.litmus_reader.specs.Locations.{texts}
+use Rattle.litmus_reader.specs.Reading.{program_of, programs_from}
+
+programs_from-suc : (core n : ℕ) (instrs : List CoreInstr) → programs_from core (suc n) instrs ≡ programs_from core n instrs ++ program_of instrs (core + n) ∷ []
+programs_from-suc core zero instrs = let e : core + 0 ≡ core = omega arith in rw e refl
+programs_from-suc core (suc n) instrs =
+    let e : core + suc n ≡ core + 1 + n = omega arith in
+    rw e (ap (λ (l : List (List Instr)). program_of instrs core ∷ l) (programs_from-suc (core + 1) n instrs))
+
+pub programs_next : (core : ℕ) (instrs : List CoreInstr) → programs_from 0 (core + 1) instrs ≡ programs_from 0 core instrs ++ program_of instrs core ∷ []
+programs_next core instrs =
+    let e : 0 + core ≡ core = omega arith in
+    rw add-one (programs_from-suc 0 core instrs ∙ ap (λ (k : ℕ). programs_from 0 core instrs ++ program_of instrs k ∷ []) e)
+
+pub texts_next : (names : List (Bor (List ℕ))) (i : ℕ) (d : Bor (List ℕ)) → i < length names → texts (take (i + 1) names) ≡ texts (take i names) ++ (get_or names i d).now ∷ []
+texts_next names i d lt = rw add-one (ap texts (take-suc names i d lt) ∙ map-append (λ x. x.now) (take i names) (get_or names i d ∷ []))
+
+pub text_at : (P : List ℕ → Type 0) (names : List (Bor (List ℕ))) (i : ℕ) (d : Bor (List ℕ)) → i < length names → All P (texts names) → P (get_or names i d).now
+text_at P names i d lt each = subst P (get_or-map (λ (x : Bor (List ℕ)). x.now) names i d [] lt) (each i [] (subst (λ n. i < n) (sym (length-texts names)) lt))
+  where
+    length-texts : (xs : List (Bor (List ℕ))) → length (texts xs) ≡ length xs
+    length-texts [] = refl
+    length-texts (x ∷ xs) = ap suc (length-texts xs)

@@ -1,0 +1,85 @@
+-- All rows, one after the other.
+use Rattle.std.proofs.Common.{◌≡◌, ℕ, zero, suc, ◌≤◌, ◌<◌, Bool, true, false, List, [], ◌∷◌, length, Result, Ok, Err, refl, sym, ap, ◌∙◌, arith}
+use Rattle.litmus_tokens.specs.declared.token.Stop.{Stop}
+use Rattle.litmus_tokens.specs.Pieces.{Piece}
+use Rattle.litmus_reader.specs.declared.fault.Fault.{Fault}
+use Rattle.litmus_reader.specs.declared.fault.ReadError.{ReadError}
+use Rattle.litmus_reader.specs.declared.fault.ReadError.TheVariants as errors
+use Rattle.litmus_reader.specs.declared.cell.CoreInstr.{CoreInstr}
+use Rattle.litmus_reader.specs.Faults.{◌>>=◌, Fails, left_of}
+use Rattle.litmus_reader.specs.Columns.{columns_at}
+use Rattle.litmus_reader.specs.Rows.{Rows, rows, row_at, row_in, ends_rows, rows_within, rows_at, Table, table, table_at}
+
+-- the total is what the rest gives, in some number of rows that is enough
+pub record RowsBehind (stop : Stop) (cores : ℕ) (instrs : List CoreInstr) (names : List (List ℕ)) (ps : List Piece) (total : Result Rows Fault) : Type 0 where
+  pub count : ℕ
+  pub enough : length ps ≤ count
+  pub same : rows_within count stop cores instrs names ps ≡ total
+
+pub rows_start : (stop : Stop) (cores : ℕ) (names : List (List ℕ)) (ps : List Piece) → RowsBehind stop cores [] names ps (rows_at stop cores names ps)
+unfolding rows_at
+rows_start stop cores names ps = record { count = length ps; enough = omega arith; same = refl }
+
+nothing_left : (ps : List Piece) → length ps ≤ 0 → ends_rows ps ≡ true
+unfolding ends_rows
+nothing_left [] le = refl
+nothing_left (p ∷ ps) le = absurd (omega arith)
+
+pub rows_end : (stop : Stop) (cores : ℕ) (instrs : List CoreInstr) (names : List (List ℕ)) (ps : List Piece) (total : Result Rows Fault)
+    → ends_rows ps ≡ true → RowsBehind stop cores instrs names ps total → total ≡ Ok (rows instrs names ps)
+unfolding rows_within
+rows_end stop cores instrs names ps total ends b = by_count b.count b.same
+  where
+    by_count : (n : ℕ) → rows_within n stop cores instrs names ps ≡ total → total ≡ Ok (rows instrs names ps)
+    by_count zero same = sym same
+    by_count (suc n) same = sym (rw ends at same)
+
+-- one row more
+step : (n : ℕ) (stop : Stop) (cores : ℕ) (instrs : List CoreInstr) (names : List (List ℕ)) (ps row rest : List Piece)
+    → ends_rows ps ≡ false → row_at stop ps ≡ Ok (row, rest)
+    → rows_within (suc n) stop cores instrs names ps ≡ (row_in cores (left_of ps) instrs names row >>= λ read. rows_within n stop cores read.0 read.1 rest)
+unfolding rows_within
+step n stop cores instrs names ps row rest more at = rw (more, at) refl
+
+pub rows_go_on : (stop : Stop) (cores left : ℕ) (instrs after : List CoreInstr) (names known : List (List ℕ)) (ps row rest : List Piece) (total : Result Rows Fault)
+    → ends_rows ps ≡ false → left ≡ left_of ps → row_at stop ps ≡ Ok (row, rest) → row_in cores left instrs names row ≡ Ok (after, known) → length rest < length ps
+    → RowsBehind stop cores instrs names ps total → RowsBehind stop cores after known rest total
+rows_go_on stop cores left instrs after names known ps row rest total more place at read shorter b = by_count b.count b.enough b.same
+  where
+    by_count : (n : ℕ) → length ps ≤ n → rows_within n stop cores instrs names ps ≡ total → RowsBehind stop cores after known rest total
+    by_count zero enough same = absurd (omega arith)
+    by_count (suc n) enough same = record {
+      count = n;
+      enough = omega arith;
+      same = sym (step n stop cores instrs names ps row rest more at ∙ ap (λ (r : Result (List CoreInstr × List (List ℕ)) Fault). r >>= λ read. rows_within n stop cores read.0 read.1 rest) (ap (λ (l : ℕ). row_in cores l instrs names row) (sym place) ∙ read)) ∙ same;
+    }
+
+pub row_fails : (e : ReadError) (stop : Stop) (cores left : ℕ) (instrs : List CoreInstr) (names : List (List ℕ)) (ps row rest : List Piece) (total : Result Rows Fault)
+    → ends_rows ps ≡ false → left ≡ left_of ps → row_at stop ps ≡ Ok (row, rest) → Fails e (row_in cores left instrs names row)
+    → RowsBehind stop cores instrs names ps total → Fails e total
+row_fails errors.NoMemory stop cores left instrs names ps row rest total more place at read b = tt
+row_fails (errors.Fault f) stop cores left instrs names ps row rest total more place at read b = by_count b.count b.enough b.same
+  where
+    by_count : (n : ℕ) → length ps ≤ n → rows_within n stop cores instrs names ps ≡ total → total ≡ Err f
+    by_count zero enough same = let none : ends_rows ps ≡ true = nothing_left ps enough in absurd cc
+    by_count (suc n) enough same = sym same ∙ step n stop cores instrs names ps row rest more at ∙ ap (λ (r : Result (List CoreInstr × List (List ℕ)) Fault). r >>= λ read. rows_within n stop cores read.0 read.1 rest) (ap (λ (l : ℕ). row_in cores l instrs names row) (sym place) ∙ read)
+
+pub row_open : (f : Fault) (stop : Stop) (cores : ℕ) (instrs : List CoreInstr) (names : List (List ℕ)) (ps : List Piece) (total : Result Rows Fault)
+    → ends_rows ps ≡ false → row_at stop ps ≡ Err f → RowsBehind stop cores instrs names ps total → total ≡ Err f
+unfolding rows_within
+row_open f stop cores instrs names ps total more at b = by_count b.count b.enough b.same
+  where
+    by_count : (n : ℕ) → length ps ≤ n → rows_within n stop cores instrs names ps ≡ total → total ≡ Err f
+    by_count zero enough same = let none : ends_rows ps ≡ true = nothing_left ps enough in absurd cc
+    by_count (suc n) enough same = sym same ∙ rw (more, at) refl
+
+pub table_done : (stop : Stop) (cores : ℕ) (names : List (List ℕ)) (ps rest : List Piece) (r : Rows)
+    → Ok (cores, rest) ≡ columns_at stop ps → rows_at stop cores names rest ≡ Ok r → table_at stop names ps ≡ Ok (table cores r)
+unfolding table_at
+table_done stop cores names ps rest r at is = rw (← at, is) refl
+
+pub table_fails : (e : ReadError) (stop : Stop) (cores : ℕ) (names : List (List ℕ)) (ps rest : List Piece)
+    → Ok (cores, rest) ≡ columns_at stop ps → Fails e (rows_at stop cores names rest) → Fails e (table_at stop names ps)
+unfolding table_at
+table_fails errors.NoMemory stop cores names ps rest at is = tt
+table_fails (errors.Fault f) stop cores names ps rest at is = rw (← at, is) refl

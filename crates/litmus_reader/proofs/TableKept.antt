@@ -1,0 +1,180 @@
+-- What the rows give stays within the limits of a test.
+use Rattle.std.proofs.Common.{◌≡◌, ℕ, zero, suc, ◌+◌, ◌≤◌, ◌<◌, ◌==◌, Bool, true, false, cond, ltb, eqb, List, [], ◌∷◌, ◌++◌, length, map, filter, All, Option, Some, None, Result, Ok, Err, IfOk, refl, sym, ap, subst, ◌∙◌, arith}
+use Rattle.std.specs.Prelude.{count_by}
+use Rattle.std.proofs.lemmas.Bool.{ltb-true, eqb-true}
+use Rattle.std.proofs.lemmas.List.{length-map}
+use Rattle.std.proofs.lemmas.List.Sums.{length-filter, sum_by-append}
+use Rattle.std.proofs.lemmas.List.Elements.{All-append, All-nil, All-weaker, All-filter, All-map}
+use Rattle.tso_model.specs.Litmus.{KnownLocation, IsProgram}
+use Rattle.tso_model.specs.declared.instruction.Loc.{Loc}
+use Rattle.tso_model.specs.declared.instruction.Instr.{Instr}
+use Rattle.tso_model.specs.declared.instruction.Instr.TheVariants.{StoreImm, StoreReg, Load, SetImm, SetReg, Fence, Xchg, Xadd}
+use Rattle.litmus_tokens.specs.declared.token.Stop.{Stop}
+use Rattle.litmus_tokens.specs.Pieces.{Piece}
+use Rattle.litmus_reader.specs.declared.fault.Fault.{Fault}
+use Rattle.litmus_reader.specs.declared.cell.CoreInstr.{CoreInstr}
+use Rattle.litmus_reader.specs.Faults.{◌>>=◌, or_unfit, left_of}
+use Rattle.litmus_reader.specs.Locations.{located}
+use Rattle.litmus_reader.specs.Items.{word_at}
+use Rattle.litmus_reader.specs.Forms.{Shape, store_imm, store_reg, load, set_imm, set_reg, fence, xchg, xadd, spelled_in}
+use Rattle.litmus_reader.specs.Columns.{in_columns, core_at, parting_at, columns, columns_at}
+use Rattle.litmus_reader.specs.Cells.{instr_of, count_of, of_core, or_bad_instruction, cell_in, cells_in}
+use Rattle.litmus_reader.specs.Rows.{row_at, cells_of, counted, row_in, ends_rows, Rows, rows, rows_within, rows_at, Table, table, table_at}
+use Rattle.litmus_reader.specs.Reading.{program_of, programs_from}
+use Rattle.litmus_reader.proofs.Keeps.{Any, ok_any, bind_keeps, cond_keeps}
+use Rattle.litmus_reader.proofs.Named.{NamedShape, IfNamed, spelled_named}
+use Rattle.litmus_reader.proofs.Known.{AreNames, Grown, same_names, Locates, LocatesIn, located_keeps, All-one}
+
+-- ---- the header row
+
+abbrev pub FewCores : ℕ → ℕ → ℕ × List Piece → Type 0
+FewCores core n r = (core < r.0) × (r.0 ≤ core + n)
+
+columns_few : (stop : Stop) (n core : ℕ) (ps : List Piece) → IfOk (columns stop n core ps) (FewCores core n)
+unfolding columns
+columns_few stop zero core ps = bind_keeps (λ x. Any x) (FewCores core zero) (or_unfit (in_columns stop) ps (core_at core ps)) _ (ok_any _) (λ rest _. tt)
+columns_few stop (suc n) core ps =
+    bind_keeps (λ x. Any x) (FewCores core (suc n)) (or_unfit (in_columns stop) ps (core_at core ps)) _ (ok_any _)
+    (λ rest _. bind_keeps (λ x. Any x) (FewCores core (suc n)) (or_unfit (in_columns stop) rest (parting_at rest)) _ (ok_any _)
+    (λ parting _. cond_keeps (λ (r : Result (ℕ × List Piece) Fault). IfOk r (FewCores core (suc n))) parting.0 _ _
+    (λ _. weaker (columns stop n (core + 1) parting.1) (columns_few stop n (core + 1) parting.1))
+    (λ _. (omega arith, omega arith))))
+  where
+    weaker : (r : Result (ℕ × List Piece) Fault) → IfOk r (FewCores (core + 1) n) → IfOk r (FewCores core (suc n))
+    weaker (Ok x) h = (omega (arith, h.0), omega (arith, h.1))
+    weaker (Err e) h = tt
+
+-- ---- instructions
+
+record IsRead (old : List (List ℕ)) (instr : Instr) (new : List (List ℕ)) : Type 0 where
+  pub grown : Grown old new
+  pub known : KnownLocation (length new) instr
+
+abbrev IsReadIn : List (List ℕ) → Instr × List (List ℕ) → Type 0
+IsReadIn old r = IsRead old r.0 r.1
+
+located_instr : (left : ℕ) (names : List (List ℕ)) (x : List ℕ) (make : Loc → Instr) → ((n : ℕ) (loc : Loc) → loc.0 < n → KnownLocation n (make loc))
+    → AreNames names → NamedShape (store_imm x 0) → IfOk (located left names x >>= λ loc. Ok (make loc.0, loc.1)) (IsReadIn names)
+located_instr left names x make knows h is =
+    bind_keeps (LocatesIn names) (IsReadIn names) (located left names x) _ (located_keeps left names x h is)
+    (λ loc l. record { grown = l.grown; known = knows (length loc.1) loc.0 l.below })
+
+instr_keeps : (left : ℕ) (names : List (List ℕ)) (shape : Shape) → AreNames names → NamedShape shape → IfOk (instr_of left names shape) (IsReadIn names)
+unfolding instr_of
+instr_keeps left names (store_imm x v) h is =
+    bind_keeps (λ n. Any n) (IsReadIn names) (word_at left v) _ (ok_any _) (λ value _. located_instr left names x (λ loc. StoreImm loc value) (λ n loc lt. lt) h is)
+instr_keeps left names (store_reg x reg) h is = located_instr left names x (λ loc. StoreReg loc reg) (λ n loc lt. lt) h is
+instr_keeps left names (load reg x) h is = located_instr left names x (λ loc. Load reg loc) (λ n loc lt. lt) h is
+instr_keeps left names (set_imm reg v) h is =
+    bind_keeps (λ n. Any n) (IsReadIn names) (word_at left v) _ (ok_any _) (λ value _. record { grown = same_names names h; known = tt })
+instr_keeps left names (set_reg reg other) h is = record { grown = same_names names h; known = tt }
+instr_keeps left names fence h is = record { grown = same_names names h; known = tt }
+instr_keeps left names (xchg x reg) h is = located_instr left names x (λ loc. Xchg loc reg) (λ n loc lt. lt) h is
+instr_keeps left names (xadd x reg) h is = located_instr left names x (λ loc. Xadd loc reg) (λ n loc lt. lt) h is
+
+pub known_further : (m n : ℕ) (i : Instr) → m ≤ n → KnownLocation m i → KnownLocation n i
+known_further m n (StoreImm loc value) le h = omega arith
+known_further m n (StoreReg loc reg) le h = omega arith
+known_further m n (Load reg loc) le h = omega arith
+known_further m n (SetImm reg value) le h = tt
+known_further m n (SetReg reg other) le h = tt
+known_further m n Fence le h = tt
+known_further m n (Xchg loc reg) le h = omega arith
+known_further m n (Xadd loc reg) le h = omega arith
+
+-- ---- cells and rows
+
+-- what has been read of the rows
+pub record Kept (instrs : List CoreInstr) (locations : List (List ℕ)) : Type 0 where
+  pub names : AreNames locations
+  pub known : All (λ i. KnownLocation (length locations) i.instr) instrs
+  pub room : (core : ℕ) → count_of core instrs ≤ 32
+
+abbrev pub KeptIn : List CoreInstr × List (List ℕ) → Type 0
+KeptIn r = Kept r.0 r.1
+
+count_by-push : (p : CoreInstr → Bool) (xs : List CoreInstr) (x : CoreInstr) → count_by p (xs ++ x ∷ []) ≡ count_by p xs + cond (p x) 1 0
+count_by-push p xs x = sum_by-append (λ x. cond (p x) 1 0) xs (x ∷ []) ∙ omega arith
+
+room-push : (core other : ℕ) (instrs : List CoreInstr) (instr : Instr) → count_of core instrs < 32 → count_of other instrs ≤ 32 → count_of other (instrs ++ of_core core instr ∷ []) ≤ 32
+room-push core other instrs instr room h = subst (λ n. n ≤ 32) (sym (count_by-push (λ i. i.core == other) instrs (of_core core instr))) (by_test (eqb core other) refl)
+  where
+    by_test : (b : Bool) → eqb core other ≡ b → count_of other instrs + cond b 1 0 ≤ 32
+    by_test true e = let same : core ≡ other = eqb-true _ _ e in let room' : count_of other instrs < 32 = subst (λ k. count_of k instrs < 32) same room in omega (arith, room')
+    by_test false e = omega (arith, h)
+
+cell_keeps : (core : ℕ) (instrs : List CoreInstr) (names : List (List ℕ)) (ps : List Piece) → Kept instrs names → IfOk (cell_in core instrs names ps) KeptIn
+unfolding cell_in
+cell_keeps core instrs names [] h = h
+cell_keeps core instrs names (p ∷ ps) h =
+    bind_keeps NamedShape KeptIn (or_bad_instruction p.left (spelled_in (p ∷ ps))) _ (good (spelled_in (p ∷ ps)) (spelled_named (p ∷ ps)))
+    (λ shape named. bind_keeps (IsReadIn names) KeptIn (instr_of p.left names shape) _ (instr_keeps p.left names shape h.names named)
+    (λ instr is. cond_keeps (λ (r : Result (List CoreInstr × List (List ℕ)) Fault). IfOk r KeptIn) (ltb (count_of core instrs) 32) _ _
+    (λ room. record {
+      names = is.grown.names;
+      known = All-append (λ i. KnownLocation (length instr.1) i.instr) instrs (of_core core instr.0 ∷ [])
+          (All-weaker (λ i. KnownLocation (length names) i.instr) (λ i. KnownLocation (length instr.1) i.instr) (λ i k. known_further _ _ i.instr is.grown.grown k) instrs h.known)
+          (All-one (λ i. KnownLocation (length instr.1) i.instr) (of_core core instr.0) is.known);
+      room = λ other. room-push core other instrs instr.0 (ltb-true _ _ room) (h.room other);
+    })
+    (λ _. tt)))
+  where
+    good : (o : Option Shape) → IfNamed o → IfOk (or_bad_instruction p.left o) NamedShape
+    good (Some shape) h = h
+    good None h = tt
+
+cells_keep : (cells : List (List Piece)) (core : ℕ) (instrs : List CoreInstr) (names : List (List ℕ)) → Kept instrs names → IfOk (cells_in core instrs names cells) KeptIn
+unfolding cells_in
+cells_keep [] core instrs names h = h
+cells_keep (c ∷ cs) core instrs names h =
+    bind_keeps KeptIn KeptIn (cell_in core instrs names c) _ (cell_keeps core instrs names c h) (λ read k. cells_keep cs (core + 1) read.0 read.1 k)
+
+row_keeps : (cores left : ℕ) (instrs : List CoreInstr) (names : List (List ℕ)) (row : List Piece) → Kept instrs names → IfOk (row_in cores left instrs names row) KeptIn
+unfolding row_in
+row_keeps cores left instrs names row h =
+    bind_keeps (λ x. Any x) KeptIn (counted cores left (cells_of row)) _ (ok_any _) (λ cells _. cells_keep cells 0 instrs names h)
+
+abbrev pub KeptRows : Rows → Type 0
+KeptRows r = Kept r.instrs r.names
+
+rows_keep : (n : ℕ) (stop : Stop) (cores : ℕ) (instrs : List CoreInstr) (names : List (List ℕ)) (ps : List Piece) → Kept instrs names → IfOk (rows_within n stop cores instrs names ps) KeptRows
+unfolding rows_within
+rows_keep zero stop cores instrs names ps h = h
+rows_keep (suc n) stop cores instrs names ps h =
+    cond_keeps (λ (r : Result Rows Fault). IfOk r KeptRows) (ends_rows ps) _ _ (λ _. h)
+    (λ _. bind_keeps (λ x. Any x) KeptRows (row_at stop ps) _ (ok_any _)
+    (λ row _. bind_keeps KeptIn KeptRows (row_in cores (left_of ps) instrs names row.0) _ (row_keeps cores (left_of ps) instrs names row.0 h)
+    (λ read k. rows_keep n stop cores read.0 read.1 row.1 k)))
+
+-- what the header row and the rows give
+pub record KeptTable (t : Table) : Type 0 where
+  pub some : 0 < t.cores
+  pub few : t.cores ≤ 4
+  pub kept : Kept t.instrs t.names
+
+none_yet : Kept [] []
+none_yet = record { names = record { count = omega arith; spelled = All-nil _; differ = refl }; known = All-nil _; room = λ core. omega arith }
+
+pub table_keeps : (stop : Stop) (ps : List Piece) → IfOk (table_at stop [] ps) KeptTable
+unfolding table_at rows_at
+table_keeps stop ps =
+    bind_keeps (FewCores 0 4) KeptTable (columns stop 4 0 ps) _ (columns_few stop 4 0 ps)
+    (λ cores few. bind_keeps KeptRows KeptTable (rows_within (length cores.1) stop cores.0 [] [] cores.1) _ (rows_keep (length cores.1) stop cores.0 [] [] cores.1 none_yet)
+    (λ r kept. record { some = few.0; few = omega (arith, few.1); kept = kept }))
+
+-- ---- programs
+
+pub programs_fit : (n : ℕ) (instrs : List CoreInstr) → All (λ i. KnownLocation n i.instr) instrs → ((core : ℕ) → count_of core instrs ≤ 32) → (cores core : ℕ) → All (IsProgram n) (programs_from core cores instrs)
+programs_fit n instrs known room zero core = All-nil _
+programs_fit n instrs known room (suc cores) core =
+    All-append (IsProgram n) (program_of instrs core ∷ []) (programs_from (core + 1) cores instrs) (All-one (IsProgram n) (program_of instrs core) fits) (programs_fit n instrs known room cores (core + 1))
+  where
+    fits : IsProgram n (program_of instrs core)
+    fits = record {
+      size = omega (arith, length-map (filter (λ (i : CoreInstr). i.core == core) instrs) (λ i. i.instr), length-filter (λ (i : CoreInstr). i.core == core) instrs, room core);
+      locations_known = All-map (KnownLocation n) (λ (i : CoreInstr). i.instr) (filter (λ (i : CoreInstr). i.core == core) instrs) (All-filter (λ (i : CoreInstr). i.core == core) (λ i. KnownLocation n i.instr) instrs known);
+    }
+
+pub length-programs : (core cores : ℕ) (instrs : List CoreInstr) → length (programs_from core cores instrs) ≡ cores
+length-programs core zero instrs = refl
+length-programs core (suc cores) instrs = ap suc (length-programs (core + 1) cores instrs)

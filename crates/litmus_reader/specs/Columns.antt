@@ -1,0 +1,44 @@
+-- The header row: `P0`, `P1`, .. parted by vertical bars and ended by `;`. (This project's profile.)
+use Rattle.std.specs.Prelude.{ℕ, zero, suc, ◌+◌, Bool, true, false, List, [], ◌∷◌, Option, Some, None, Result, Ok, Err, if◌then◌else◌}
+use Rattle.std.specs.Str.{bytes_eq}
+use Rattle.litmus_tokens.specs.declared.token.Stop.{Stop}
+use Rattle.litmus_tokens.specs.declared.token.Symbol.TheVariants.{Semicolon, Bar}
+use Rattle.litmus_tokens.specs.Pieces.{Piece}
+use Rattle.litmus_tokens.specs.Front.{symbol_at, name_at}
+use Rattle.tso_model.specs.declared.limits.TheConstants.{MAX_CORES}
+use Rattle.litmus_reader.specs.declared.fault.Why.TheVariants.{BadHeaderRow, TooLarge}
+use Rattle.litmus_reader.specs.declared.fault.Fault.{Fault}
+use Rattle.litmus_reader.specs.declared.fault.Part.{Part}
+use Rattle.litmus_reader.specs.Faults.{◌>>=◌, fault, at_stop, left_of, or_unfit, there}
+
+abbrev pub in_columns : Stop → Part
+in_columns stop = record { why = BadHeaderRow; missing = at_stop (fault BadHeaderRow 0) stop }
+
+-- `P` and the core's number, which has one digit
+abbrev pub core_name : ℕ → List ℕ
+core_name core = 80 ∷ (48 + core) ∷ []
+
+abbrev pub if_core : ℕ → List ℕ × List Piece → Option (List Piece)
+if_core core found = if bytes_eq found.0 (core_name core) then Some found.1 else None
+
+-- what stands behind the name of this core
+unfoldable pub core_at : ℕ → List Piece → Option (List Piece)
+core_at core ps = there (name_at ps) (if_core core) None
+
+-- whether another core follows, and what stands behind the vertical bar or the `;`
+unfoldable pub parting_at : List Piece → Option (Bool × List Piece)
+parting_at ps = there (symbol_at Bar ps) (λ rest. Some (true, rest)) (there (symbol_at Semicolon ps) (λ rest. Some (false, rest)) None)
+
+-- The columns from this core on, of which n may come: how many cores there are, and what stands behind the row.
+unfoldable pub columns : Stop → ℕ → ℕ → List Piece → Result (ℕ × List Piece) Fault
+columns stop zero core ps = do
+  rest ← or_unfit (in_columns stop) ps (core_at core ps)
+  Err (fault TooLarge (left_of ps))
+columns stop (suc n) core ps = do
+  rest ← or_unfit (in_columns stop) ps (core_at core ps)
+  parting ← or_unfit (in_columns stop) rest (parting_at rest)
+  if parting.0 then columns stop n (core + 1) parting.1 else Ok (core + 1, parting.1)
+
+-- how many cores the header row has, and what stands behind it
+abbrev pub columns_at : Stop → List Piece → Result (ℕ × List Piece) Fault
+columns_at stop ps = columns stop MAX_CORES 0 ps

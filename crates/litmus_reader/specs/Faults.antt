@@ -1,0 +1,60 @@
+-- Readings that may fail, and what a function that reads returns.
+use Rattle.std.specs.Prelude.{◌≡◌, ℕ, List, [], ◌∷◌, Option, Some, None, Result, Ok, Err}
+use Rattle.litmus_tokens.specs.declared.token.Stop.{Stop}
+use Rattle.litmus_tokens.specs.declared.token.Stop.TheVariants as stops
+use Rattle.litmus_tokens.specs.Pieces.{Piece}
+use Rattle.litmus_reader.specs.declared.fault.Why.{Why}
+use Rattle.litmus_reader.specs.declared.fault.Why.TheVariants.{BadToken, Unclosed}
+use Rattle.litmus_reader.specs.declared.fault.Fault.{Fault}
+use Rattle.litmus_reader.specs.declared.fault.Part.{Part}
+use Rattle.litmus_reader.specs.declared.fault.ReadError.{ReadError}
+use Rattle.litmus_reader.specs.declared.fault.ReadError.TheVariants as errors
+
+infixl 10 ◌>>=◌
+abbrev pub ◌>>=◌ : {A B : Type 0} → Result A Fault → (A → Result B Fault) → Result B Fault
+(Ok x) >>= f = f x
+(Err e) >>= f = Err e
+
+-- a refusal, at the place from which so many bytes of the text stand
+abbrev pub fault : Why → ℕ → Fault
+fault why left = record { why = why; left = left }
+
+-- where the tokens run out: the lexical fault that ended them, or at the end of the text this one
+abbrev pub at_stop : Fault → Stop → Fault
+at_stop end stops.End = end
+at_stop end (stops.BadToken left) = fault BadToken left
+at_stop end (stops.Unclosed left) = fault Unclosed left
+
+-- the place of the first token, or of the end
+abbrev pub left_of : List Piece → ℕ
+left_of [] = 0
+left_of (p ∷ ps) = p.left
+
+-- what a part of the text answers where the token at the front doesn't fit, or where there is none
+abbrev pub unfit : Part → List Piece → Fault
+unfit part [] = part.missing
+unfit part (p ∷ ps) = fault part.why p.left
+
+-- what is there, and else the token at the front doesn't fit
+abbrev pub or_unfit : {A : Type 0} → Part → List Piece → Option A → Result A Fault
+or_unfit part ps (Some x) = Ok x
+or_unfit part ps None = Err (unfit part ps)
+
+-- what comes of a reading that is there, and else another
+abbrev pub there : {A B : Type 0} → Option A → (A → B) → B → B
+there (Some x) f other = f x
+there None f other = other
+
+-- a result, with what was found seen by `view`
+abbrev pub seen : {X Y : Type 0} → (X → Y) → Result X Fault → Result Y Fault
+seen view (Ok x) = Ok (view x)
+seen view (Err e) = Err e
+
+abbrev pub Fails : {Y : Type 0} → ReadError → Result Y Fault → Type 0
+Fails errors.NoMemory read = Unit {0}
+Fails (errors.Fault f) read = read ≡ Err f
+
+-- What a function returned, seen by `view`, is what the reading gives, unless memory ran out.
+abbrev pub Gives : {X Y : Type 0} → (X → Y) → Result X ReadError → Result Y Fault → Type 0
+Gives view (Ok x) read = read ≡ Ok (view x)
+Gives view (Err e) read = Fails e read

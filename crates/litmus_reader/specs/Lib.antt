@@ -1,0 +1,14 @@
+pub mod Why
+pub mod Faults
+pub mod Header
+pub mod Locations
+pub mod Items
+pub mod Initial
+pub mod Columns
+pub mod Operands
+pub mod Forms
+pub mod Cells
+pub mod Rows
+pub mod Conditions
+pub mod Reading
+pub mod Spelling

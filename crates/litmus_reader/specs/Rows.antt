@@ -1,0 +1,84 @@
+-- The rows of the table. (This project's profile.)
+use Rattle.std.specs.Prelude.{ℕ, zero, suc, Bool, true, false, List, [], ◌∷◌, length, codes, Result, Ok, Err, nat_lt, ◌==◌, ◌||◌, if◌then◌else◌}
+use Rattle.std.specs.List.{slice_split, position_or_len, before_first, after_first}
+use Rattle.std.specs.Str.{bytes_eq}
+use Rattle.litmus_tokens.specs.declared.token.Symbol.TheVariants.{Semicolon, Bar, Tilde}
+use Rattle.litmus_tokens.specs.declared.token.Stop.{Stop}
+use Rattle.litmus_tokens.specs.Terms.{Term, number, name, symbol}
+use Rattle.litmus_tokens.specs.Pieces.{Piece}
+use Rattle.litmus_tokens.specs.Front.{is_symbol}
+use Rattle.litmus_reader.specs.declared.fault.Why.TheVariants.{Unclosed, WrongCells}
+use Rattle.litmus_reader.specs.declared.fault.Fault.{Fault}
+use Rattle.litmus_reader.specs.declared.cell.CoreInstr.{CoreInstr}
+use Rattle.litmus_reader.specs.Faults.{◌>>=◌, fault, at_stop, left_of}
+use Rattle.litmus_reader.specs.Columns.{columns_at}
+use Rattle.litmus_reader.specs.Cells.{cells_in}
+
+-- a row, and what stands behind its `;`; one without a `;` is unclosed
+unfoldable pub row_at : Stop → List Piece → Result (List Piece × List Piece) Fault
+row_at stop ps =
+    if nat_lt (position_or_len (is_symbol Semicolon) ps) (length ps)
+    then Ok (before_first (is_symbol Semicolon) ps, after_first (is_symbol Semicolon) ps)
+    else Err (at_stop (fault Unclosed (left_of ps)) stop)
+
+abbrev pub cells_of : List Piece → List (List Piece)
+cells_of row = slice_split (is_symbol Bar) row
+
+-- as many cells as cores, or the row is refused at its first token
+abbrev pub counted : ℕ → ℕ → List (List Piece) → Result (List (List Piece)) Fault
+counted cores left cells = if length cells == cores then Ok cells else Err (fault WrongCells left)
+
+-- a row's cells: first counted, then read from left to right
+unfoldable pub row_in : ℕ → ℕ → List CoreInstr → List (List ℕ) → List Piece → Result (List CoreInstr × List (List ℕ)) Fault
+row_in cores left instrs names row = do
+  cells ← counted cores left (cells_of row)
+  cells_in 0 instrs names cells
+
+-- `locations`, `exists` and `forall`
+abbrev pub ends_rows_term : Term → Bool
+ends_rows_term (number n) = false
+ends_rows_term (name x) = bytes_eq x (codes "locations") || bytes_eq x (codes "exists") || bytes_eq x (codes "forall")
+ends_rows_term (symbol s) = false
+
+-- the end of the tokens, or a token with which no row begins
+unfoldable pub ends_rows : List Piece → Bool
+ends_rows [] = true
+ends_rows (p ∷ ps) = ends_rows_term p.term || is_symbol Tilde p
+
+-- what all rows give: the instructions, the names of locations, and what stands behind the rows
+pub record Rows : Type 0 where
+  pub instrs : List CoreInstr
+  pub names : List (List ℕ)
+  pub rest : List Piece
+
+abbrev pub rows : List CoreInstr → List (List ℕ) → List Piece → Rows
+rows instrs names rest = record { instrs = instrs; names = names; rest = rest }
+
+-- at most n rows
+unfoldable pub rows_within : ℕ → Stop → ℕ → List CoreInstr → List (List ℕ) → List Piece → Result Rows Fault
+rows_within zero stop cores instrs names ps = Ok (rows instrs names ps)
+rows_within (suc n) stop cores instrs names ps =
+    if ends_rows ps then Ok (rows instrs names ps)
+    else (row_at stop ps >>= λ row.
+    row_in cores (left_of ps) instrs names row.0 >>= λ read.
+    rows_within n stop cores read.0 read.1 row.1)
+
+-- all rows; a row takes a token or more
+unfoldable pub rows_at : Stop → ℕ → List (List ℕ) → List Piece → Result Rows Fault
+rows_at stop cores names ps = rows_within (length ps) stop cores [] names ps
+
+-- the header row and the rows: how many cores there are, and what the rows give
+pub record Table : Type 0 where
+  pub cores : ℕ
+  pub instrs : List CoreInstr
+  pub names : List (List ℕ)
+  pub rest : List Piece
+
+abbrev pub table : ℕ → Rows → Table
+table cores r = record { cores = cores; instrs = r.instrs; names = r.names; rest = r.rest }
+
+unfoldable pub table_at : Stop → List (List ℕ) → List Piece → Result Table Fault
+table_at stop names ps = do
+  cores ← columns_at stop ps
+  r ← rows_at stop cores.0 names cores.1
+  Ok (table cores.0 r)

@@ -1,0 +1,118 @@
+ghost use Rattle.std.specs.Prelude.{◌≡◌};
+ghost use Rattle.litmus_tokens.specs.Pieces.{pieces};
+ghost use Rattle.litmus_reader.specs.Faults.{Gives};
+ghost use Rattle.litmus_reader.specs.Locations.{texts};
+ghost use Rattle.litmus_reader.specs.Forms.{shape_of};
+ghost use Rattle.litmus_reader.specs.Cells as spec;
+ghost use Rattle.litmus_reader.specs.Cells.{cell_pieces};
+
+use crate::fault::{Fault, ReadError, Why};
+use crate::form::{Form, form_of};
+use crate::item::word_at;
+use crate::location::located;
+use indexmap::IndexSet;
+use litmus_tokens::Token;
+use tso_model::Instr;
+use tso_model::limits::MAX_INSTRUCTIONS;
+
+/// An instruction and the core in whose column it stands.
+#[derive(Clone, Copy, Debug)]
+pub struct CoreInstr {
+    pub core: usize,
+    pub instr: Instr,
+}
+
+/// The instruction of a form, with its location's number.
+///
+/// `BadNumber` for a value over a word, `TooLarge` for a location too many, both at `left`.
+#[tactic(auto, unfolding(crate::specs::Cells::instr_of))]
+fn instr_of<'a>(
+    names: &mut IndexSet<&'a [u8]>,
+    left: usize,
+    form: Form<'a>,
+) -> Result<Instr, ReadError>
+    ensures { Gives (λ i. (i, texts names.new.keys)) result (spec.instr_of left (texts names.old.keys) (shape_of form.entry)) }
+{
+    match form {
+        Form::StoreImm(name, digits) => {
+            let value = word_at(left, digits)?;
+            let loc = located(names, left, name)?;
+            Ok(Instr::StoreImm(loc, value))
+        }
+        Form::StoreReg(name, reg) => {
+            let loc = located(names, left, name)?;
+            Ok(Instr::StoreReg(loc, reg))
+        }
+        Form::Load(reg, name) => {
+            let loc = located(names, left, name)?;
+            Ok(Instr::Load(reg, loc))
+        }
+        Form::SetImm(reg, digits) => {
+            let value = word_at(left, digits)?;
+            Ok(Instr::SetImm(reg, value))
+        }
+        Form::SetReg(reg, other) => Ok(Instr::SetReg(reg, other)),
+        Form::Fence => Ok(Instr::Fence),
+        Form::Xchg(name, reg) => {
+            let loc = located(names, left, name)?;
+            Ok(Instr::Xchg(loc, reg))
+        }
+        Form::Xadd(name, reg) => {
+            let loc = located(names, left, name)?;
+            Ok(Instr::Xadd(loc, reg))
+        }
+    }
+}
+
+fn count_of(core: usize, instrs: &[CoreInstr]) -> usize
+    ensures { result ≡ spec.count_of core instrs.now }
+{
+    instrs.iter().filter(|i| i.core == core).count()
+}
+
+/// Reads a core's cell: its instruction goes behind the others.
+///
+/// `BadInstruction`, then `BadNumber`, then `TooLarge`, at the cell's first token.
+#[tactic(auto, unfolding(crate::specs::Cells::cell_in))]
+pub fn read_cell<'a>(
+    core: usize,
+    instrs: &mut Vec<CoreInstr>,
+    names: &mut IndexSet<&'a [u8]>,
+    cell: &[Token<'a>],
+) -> Result<(), ReadError>
+    ensures { Gives (λ _. (instrs.new.items, texts names.new.keys)) result (spec.cell_in core instrs.old.items (texts names.old.keys) (pieces cell.now)) }
+{
+    let Some(first) = cell.first() else {
+        return Ok(());
+    };
+    let left = first.left;
+    let Some(form) = form_of(cell) else {
+        return Err(ReadError::Fault(Fault {
+            why: Why::BadInstruction,
+            left,
+        }));
+    };
+    let instr = instr_of(names, left, form)?;
+    if count_of(core, instrs) >= MAX_INSTRUCTIONS {
+        return Err(ReadError::Fault(Fault {
+            why: Why::TooLarge,
+            left,
+        }));
+    }
+    instrs.push(CoreInstr { core, instr })?;
+    Ok(())
+}
+
+/// Reads the cells of a row from left to right.
+pub fn read_cells<'a>(
+    instrs: &mut Vec<CoreInstr>,
+    names: &mut IndexSet<&'a [u8]>,
+    cells: &[&[Token<'a>]],
+) -> Result<(), ReadError>
+    ensures { Gives (λ _. (instrs.new.items, texts names.new.keys)) result (spec.cells_in 0 instrs.old.items (texts names.old.keys) (cell_pieces cells.now)) }
+{
+    for (core, cell) in cells.iter().enumerate() {
+        read_cell(core, instrs, names, cell)?;
+    }
+    Ok(())
+}

@@ -1,0 +1,90 @@
+ghost use Rattle.std.specs.Prelude.{◌≡◌, ◌≤◌, ◌-◌, IfOk};
+ghost use Rattle.std.specs.Option.{option_map};
+ghost use Rattle.litmus_tokens.specs.Pieces.{pieces};
+ghost use Rattle.litmus_reader.specs.Faults.{seen};
+ghost use Rattle.litmus_reader.specs.Columns as spec;
+
+use crate::fault::{Fault, Part, Why, at_stop, left_of};
+use litmus_tokens::{Stop, Symbol, Token, after_symbol, name_at};
+use tso_model::limits::MAX_CORES;
+
+fn in_columns(stop: Stop) -> Part
+    ensures { result ≡ spec.in_columns stop }
+{
+    let end = Fault {
+        why: Why::BadHeaderRow,
+        left: 0,
+    };
+    Part {
+        why: Why::BadHeaderRow,
+        missing: at_stop(end, stop),
+    }
+}
+
+/// What stands behind the name of this core.
+#[tactic(auto, unfolding(crate::specs::Columns::core_at))]
+fn after_core<'a, 'b>(core: usize, tokens: &'b [Token<'a>]) -> Option<&'b [Token<'a>]>
+    requires { core ≤ 4 }
+    ensures { option_map (λ x. pieces x.now) result ≡ spec.core_at core (pieces tokens.now) }
+{
+    let (name, rest) = name_at(tokens)?;
+    if name == [b'P', b'0' + core as u8].as_slice() {
+        Some(rest)
+    } else {
+        None
+    }
+}
+
+/// Whether another core follows, and what stands behind the vertical bar or the `;`.
+#[tactic(auto, unfolding(crate::specs::Columns::parting_at))]
+fn after_parting<'a, 'b>(tokens: &'b [Token<'a>]) -> Option<(bool, &'b [Token<'a>])>
+    ensures { option_map (λ x. (x.0, pieces x.1.now)) result ≡ spec.parting_at (pieces tokens.now) }
+{
+    if let Some(rest) = after_symbol(Symbol::Bar, tokens) {
+        return Some((true, rest));
+    }
+    if let Some(rest) = after_symbol(Symbol::Semicolon, tokens) {
+        return Some((false, rest));
+    }
+    None
+}
+
+/// How many cores the columns from this core on make, and the tokens behind the row.
+#[tactic(auto, using(crate::proofs::ColumnSteps::columns_next, crate::proofs::ColumnSteps::columns_last))]
+fn columns_from<'a, 'b>(
+    stop: Stop,
+    core: usize,
+    tokens: &'b [Token<'a>],
+) -> Result<(usize, &'b [Token<'a>]), Fault>
+    requires { core ≤ 4 }
+    ensures value { seen (λ x. (x.0, pieces x.1.now)) result ≡ spec.columns stop (4 - core) core (pieces tokens.now) }
+    ensures cores { IfOk result (λ x. x.0 ≤ 4) }
+{
+    let part = in_columns(stop);
+    let rest = part.expect(tokens, after_core(core, tokens))?;
+    if core >= MAX_CORES {
+        return Err(Fault {
+            why: Why::TooLarge,
+            left: left_of(tokens),
+        });
+    }
+    let (more, rest) = part.expect(rest, after_parting(rest))?;
+    if more {
+        columns_from(stop, core + 1, rest)
+    } else {
+        Ok((core + 1, rest))
+    }
+}
+
+/// How many cores the header row has, and the tokens behind it.
+///
+/// `TooLarge` at the name of a core too many, and `BadHeaderRow` at anything else that doesn't fit.
+pub fn columns_at<'a, 'b>(
+    stop: Stop,
+    tokens: &'b [Token<'a>],
+) -> Result<(usize, &'b [Token<'a>]), Fault>
+    ensures value { seen (λ x. (x.0, pieces x.1.now)) result ≡ spec.columns_at stop (pieces tokens.now) }
+    ensures cores { IfOk result (λ x. x.0 ≤ 4) }
+{
+    columns_from(stop, 0, tokens)
+}

@@ -1,0 +1,106 @@
+ghost use Rattle.std.specs.Prelude.{◌≡◌};
+ghost use Rattle.std.specs.Option.{option_map};
+ghost use Rattle.tso_model.specs.Registers.{same_letters};
+ghost use Rattle.litmus_tokens.specs.Pieces.{pieces};
+ghost use Rattle.litmus_reader.specs.Operands.{place_of};
+ghost use Rattle.litmus_reader.specs.Forms as spec;
+ghost use Rattle.litmus_reader.specs.Forms.{shape_of};
+
+use crate::operand::{Operand, two_operands};
+use litmus_tokens::{Token, name_at};
+use tso_model::Reg;
+
+/// An instruction as it is spelled: a location is its name, a number its digits.
+#[derive(Clone, Copy, Debug)]
+pub enum Form<'a> {
+    StoreImm(&'a [u8], &'a [u8]),
+    StoreReg(&'a [u8], Reg),
+    Load(Reg, &'a [u8]),
+    SetImm(Reg, &'a [u8]),
+    SetReg(Reg, Reg),
+    Fence,
+    Xchg(&'a [u8], Reg),
+    Xadd(&'a [u8], Reg),
+}
+
+fn is_word(name: &[u8], word: &[u8]) -> bool
+    ensures { result ≡ same_letters name.now word.now }
+{
+    name.eq_ignore_ascii_case(word)
+}
+
+fn mov_of<'a>(first: Operand<'a>, second: Operand<'a>) -> Option<Form<'a>>
+    ensures { option_map shape_of result ≡ spec.mov_of (place_of first.entry, place_of second.entry) }
+{
+    match (first, second) {
+        (Operand::Location(name), Operand::Number(digits)) => Some(Form::StoreImm(name, digits)),
+        (Operand::Location(name), Operand::Register(reg)) => Some(Form::StoreReg(name, reg)),
+        (Operand::Register(reg), Operand::Location(name)) => Some(Form::Load(reg, name)),
+        (Operand::Register(reg), Operand::Number(digits)) => Some(Form::SetImm(reg, digits)),
+        (Operand::Register(reg), Operand::Register(other)) => Some(Form::SetReg(reg, other)),
+        _ => None,
+    }
+}
+
+fn xchg_of<'a>(first: Operand<'a>, second: Operand<'a>) -> Option<Form<'a>>
+    ensures { option_map shape_of result ≡ spec.xchg_of (place_of first.entry, place_of second.entry) }
+{
+    match (first, second) {
+        (Operand::Location(name), Operand::Register(reg)) => Some(Form::Xchg(name, reg)),
+        (Operand::Register(reg), Operand::Location(name)) => Some(Form::Xchg(name, reg)),
+        _ => None,
+    }
+}
+
+fn xadd_of<'a>(first: Operand<'a>, second: Operand<'a>) -> Option<Form<'a>>
+    ensures { option_map shape_of result ≡ spec.xadd_of (place_of first.entry, place_of second.entry) }
+{
+    match (first, second) {
+        (Operand::Location(name), Operand::Register(reg)) => Some(Form::Xadd(name, reg)),
+        _ => None,
+    }
+}
+
+/// What may stand behind `LOCK`.
+#[tactic(auto, unfolding(crate::specs::Forms::locked_at))]
+fn locked_form<'a>(tokens: &[Token<'a>]) -> Option<Form<'a>>
+    ensures { option_map shape_of result ≡ spec.locked_at (pieces tokens.now) }
+{
+    let (word, rest) = name_at(tokens)?;
+    if is_word(word, b"XCHG") {
+        let (first, second) = two_operands(rest)?;
+        return xchg_of(first, second);
+    }
+    if is_word(word, b"XADD") {
+        let (first, second) = two_operands(rest)?;
+        return xadd_of(first, second);
+    }
+    None
+}
+
+/// The instruction that a whole cell spells.
+#[tactic(auto, unfolding(crate::specs::Forms::spelled_in))]
+pub fn form_of<'a>(cell: &[Token<'a>]) -> Option<Form<'a>>
+    ensures { option_map shape_of result ≡ spec.spelled_in (pieces cell.now) }
+{
+    let (word, rest) = name_at(cell)?;
+    if is_word(word, b"MOV") {
+        let (first, second) = two_operands(rest)?;
+        return mov_of(first, second);
+    }
+    if is_word(word, b"MFENCE") {
+        return if rest.is_empty() {
+            Some(Form::Fence)
+        } else {
+            None
+        };
+    }
+    if is_word(word, b"XCHG") {
+        let (first, second) = two_operands(rest)?;
+        return xchg_of(first, second);
+    }
+    if is_word(word, b"LOCK") {
+        return locked_form(rest);
+    }
+    None
+}

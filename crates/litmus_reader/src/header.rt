@@ -1,0 +1,208 @@
+ghost use Rattle.std.specs.Prelude.{◌≡◌, ◌≤◌, ◌==◌, ◌&&◌, nat_lt, length, position};
+ghost use Rattle.std.specs.Option.{option_map};
+ghost use Rattle.std.specs.List.{prefix_len, suffix_len, list_all};
+ghost use Rattle.tso_model.specs.Names as names;
+ghost use Rattle.litmus_tokens.specs.Gap.{gap_end};
+ghost use Rattle.litmus_reader.specs.Header as header;
+ghost use Rattle.litmus_reader.specs.Faults.{seen};
+
+use crate::fault::{Fault, Why, at_stop};
+use litmus_tokens::after_gap;
+use tso_model::names::is_test_name;
+
+/// A text has at most so many bytes.
+pub const MAX_TEXT: usize = 65_536;
+
+const MAX_TEST_NAME: usize = 64;
+
+/// The text, if it isn't too large.
+pub fn sized(text: &[u8]) -> Result<&[u8], Fault>
+    ensures { seen (λ x. x.now) result ≡ header.sized text.now }
+{
+    if text.len() > MAX_TEXT {
+        return Err(Fault {
+            why: Why::TooLarge,
+            left: text.len(),
+        });
+    }
+    Ok(text)
+}
+
+/// What stands behind white space and comments.
+fn behind_gap(bytes: &[u8]) -> Result<&[u8], Fault>
+    ensures { seen (λ x. x.now) result ≡ header.from_gap (gap_end None bytes.now) }
+{
+    match after_gap(bytes) {
+        Ok(rest) => Ok(rest),
+        Err(stop) => Err(at_stop(
+            Fault {
+                why: Why::Unclosed,
+                left: 0,
+            },
+            stop,
+        )),
+    }
+}
+
+fn is_blank(byte: u8) -> bool
+    ensures { result ≡ header.is_blank byte }
+{
+    byte == b' ' || byte == b'\t'
+}
+
+fn is_margin(byte: u8) -> bool
+    ensures { result ≡ header.is_margin byte }
+{
+    is_blank(byte) || byte == b'\r'
+}
+
+fn margin_in_front(bytes: &[u8]) -> usize
+    ensures value { result ≡ prefix_len header.is_margin bytes.now }
+    ensures within { result ≤ length bytes.now }
+{
+    bytes.iter().take_while(|b| is_margin(**b)).count()
+}
+
+fn margin_behind(bytes: &[u8]) -> usize
+    ensures value { result ≡ suffix_len header.is_margin bytes.now }
+    ensures within { result ≤ length bytes.now }
+{
+    bytes.iter().rev().take_while(|b| is_margin(**b)).count()
+}
+
+/// The bytes without spaces, tabs and CRs at the two ends.
+#[tactic(auto, unfolding(crate::specs::Header::trimmed))]
+fn trimmed(bytes: &[u8]) -> &[u8]
+    ensures { result.now ≡ header.trimmed bytes.now }
+{
+    let (_, rest) = bytes.split_at(margin_in_front(bytes));
+    let (front, _) = rest.split_at(rest.len() - margin_behind(rest));
+    front
+}
+
+fn line_feed_at(bytes: &[u8]) -> Option<usize>
+    ensures { result ≡ position (λ b. b == 10) bytes.now }
+{
+    bytes.iter().position(|b| *b == b'\n')
+}
+
+/// The line at the front without its LF, and what stands behind it.
+#[tactic(auto, using(crate::proofs::Lines::line_cut, crate::proofs::Lines::line_last))]
+fn first_line(bytes: &[u8]) -> (&[u8], &[u8])
+    ensures { (result.0.now, result.1.now) ≡ header.first_line bytes.now }
+{
+    match line_feed_at(bytes) {
+        Some(n) => (&bytes[..n], &bytes[n + 1..]),
+        None => (bytes, &bytes[bytes.len()..]),
+    }
+}
+
+fn begins_blank(bytes: &[u8]) -> bool
+    ensures { result ≡ header.begins_blank bytes.now }
+{
+    match bytes.first() {
+        Some(first) => is_blank(*first),
+        None => false,
+    }
+}
+
+/// The name that a header line gives, if it has the header's form.
+#[tactic(auto, unfolding(crate::specs::Header::name_in))]
+fn name_in(line: &[u8]) -> Option<&[u8]>
+    ensures { option_map (λ x. x.now) result ≡ header.name_in line.now }
+{
+    if !line.starts_with(b"X86") {
+        return None;
+    }
+    let (_, rest) = line.split_at(3);
+    if !begins_blank(rest) {
+        return None;
+    }
+    Some(trimmed(rest))
+}
+
+fn is_printable(byte: u8) -> bool
+    ensures { result ≡ names.is_printable byte }
+{
+    (b' '..=b'~').contains(&byte)
+}
+
+fn is_all_printable(bytes: &[u8]) -> bool
+    ensures { result ≡ list_all names.is_printable bytes.now }
+{
+    bytes.iter().all(|b| is_printable(*b))
+}
+
+fn is_long_name(name: &[u8]) -> bool
+    ensures { result ≡ (nat_lt 64 (length name.now) && list_all names.is_printable name.now) }
+{
+    name.len() > MAX_TEST_NAME && is_all_printable(name)
+}
+
+#[tactic(auto, unfolding(crate::specs::Header::judged))]
+fn judged<'a>(left: usize, name: Option<&'a [u8]>) -> Result<&'a [u8], Fault>
+    ensures { seen (λ x. x.now) result ≡ header.judged left (option_map (λ x. x.now) name.entry) }
+{
+    let Some(name) = name else {
+        return Err(Fault {
+            why: Why::NoHeader,
+            left,
+        });
+    };
+    if is_test_name(name) {
+        Ok(name)
+    } else if is_long_name(name) {
+        Err(Fault {
+            why: Why::TooLarge,
+            left,
+        })
+    } else {
+        Err(Fault {
+            why: Why::NoHeader,
+            left,
+        })
+    }
+}
+
+/// The name of the test, and what stands behind the header line.
+///
+/// `NoHeader` and, for a name of more than 64 bytes, `TooLarge`, at the first byte that isn't white
+/// space; `Unclosed` at a comment before it that doesn't end.
+#[tactic(auto, unfolding(crate::specs::Header::header_at))]
+pub fn header_at(text: &[u8]) -> Result<(&[u8], &[u8]), Fault>
+    ensures { seen (λ x. (x.0.now, x.1.now)) result ≡ header.header_at text.now }
+{
+    let at = behind_gap(text)?;
+    let (line, rest) = first_line(at);
+    let name = judged(at.len(), name_in(line))?;
+    Ok((name, rest))
+}
+
+#[tactic(auto, unfolding(crate::specs::Header::opened))]
+fn opened(bytes: &[u8]) -> Result<&[u8], Fault>
+    ensures { seen (λ x. x.now) result ≡ header.opened bytes.now }
+{
+    match bytes.first() {
+        None => Err(Fault {
+            why: Why::Unclosed,
+            left: 0,
+        }),
+        Some(b'{') => Ok(bytes),
+        Some(_) => Err(Fault {
+            why: Why::BadToken,
+            left: bytes.len(),
+        }),
+    }
+}
+
+/// What stands from the `{` of the initial state on, where nothing else stands before it.
+///
+/// `BadToken` at anything else, and `Unclosed` at the end of the text or at a comment that doesn't
+/// end.
+#[tactic(auto, unfolding(crate::specs::Header::braces_at))]
+pub fn braces_at(bytes: &[u8]) -> Result<&[u8], Fault>
+    ensures { seen (λ x. x.now) result ≡ header.braces_at bytes.now }
+{
+    let at = behind_gap(bytes)?;
+    opened(at)
+}

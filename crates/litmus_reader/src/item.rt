@@ -1,0 +1,133 @@
+ghost use Rattle.std.specs.Prelude.{◌≡◌, ◌<◌, length, None, IfSome, IfOk};
+ghost use Rattle.std.specs.Option.{option_map};
+ghost use Rattle.litmus_tokens.specs.Terms.{decimal};
+ghost use Rattle.litmus_tokens.specs.Pieces.{pieces};
+ghost use Rattle.litmus_reader.specs.Faults.{seen};
+ghost use Rattle.litmus_reader.specs.Items as spec;
+ghost use Rattle.litmus_reader.specs.Items.{setting_of};
+
+use crate::fault::{Fault, Part, Why};
+use litmus_tokens::{Symbol, Token, after_symbol, name_at, number_at, word};
+use tso_model::Reg;
+use tso_model::names::is_location_name;
+
+/// A value of a register or a location, as the initial state and conditions spell it. Cores and
+/// values are digits, of any length.
+#[derive(Clone, Copy, Debug)]
+pub enum Item<'a> {
+    Register(&'a [u8], Reg, &'a [u8]),
+    Location(&'a [u8], &'a [u8]),
+}
+
+/// The name of a location at the front, and the tokens behind it.
+#[tactic(auto, unfolding(crate::specs::Items::location_at))]
+pub fn location_at<'a, 'b>(tokens: &'b [Token<'a>]) -> Option<(&'a [u8], &'b [Token<'a>])>
+    ensures value { option_map (λ x. (x.0.now, pieces x.1.now)) result ≡ spec.location_at (pieces tokens.now) }
+    ensures shorter { IfSome result (λ x. length x.1.now < length tokens.now) }
+{
+    let (name, rest) = name_at(tokens)?;
+    if is_location_name(name) {
+        Some((name, rest))
+    } else {
+        None
+    }
+}
+
+/// The register whose name is at the front, and the tokens behind it.
+#[tactic(auto, unfolding(crate::specs::Items::register_at))]
+pub fn register_at<'a, 'b>(tokens: &'b [Token<'a>]) -> Option<(Reg, &'b [Token<'a>])>
+    ensures value { option_map (λ x. (x.0, pieces x.1.now)) result ≡ spec.register_at (pieces tokens.now) }
+    ensures shorter { IfSome result (λ x. length x.1.now < length tokens.now) }
+{
+    let (name, rest) = name_at(tokens)?;
+    let reg = Reg::from_name(name)?;
+    Some((reg, rest))
+}
+
+/// `=v`: the digits of the value, and the tokens behind them.
+#[tactic(auto, unfolding(crate::specs::Items::value_at))]
+fn value_at<'a, 'b>(
+    part: Part,
+    tokens: &'b [Token<'a>],
+) -> Result<(&'a [u8], &'b [Token<'a>]), Fault>
+    ensures value { seen (λ x. (decimal x.0.now, pieces x.1.now)) result ≡ spec.value_at part (pieces tokens.now) }
+    ensures shorter { IfOk result (λ x. length x.1.now < length tokens.now) }
+{
+    let rest = part.expect(tokens, after_symbol(Symbol::Equals, tokens))?;
+    part.expect(rest, number_at(rest))
+}
+
+#[tactic(auto, unfolding(crate::specs::Items::register_setting))]
+fn register_item<'a, 'b>(
+    part: Part,
+    core: &'a [u8],
+    tokens: &'b [Token<'a>],
+) -> Result<(Item<'a>, &'b [Token<'a>]), Fault>
+    ensures value { seen (λ x. (setting_of x.0, pieces x.1.now)) result ≡ spec.register_setting part (decimal core.now) (pieces tokens.now) }
+    ensures shorter { IfOk result (λ x. length x.1.now < length tokens.now) }
+{
+    let rest = part.expect(tokens, after_symbol(Symbol::Colon, tokens))?;
+    let (reg, rest) = part.expect(rest, register_at(rest))?;
+    let (value, rest) = value_at(part, rest)?;
+    Ok((Item::Register(core, reg, value), rest))
+}
+
+#[tactic(auto, unfolding(crate::specs::Items::square_setting))]
+fn square_item<'a, 'b>(
+    part: Part,
+    tokens: &'b [Token<'a>],
+) -> Result<(Item<'a>, &'b [Token<'a>]), Fault>
+    ensures value { seen (λ x. (setting_of x.0, pieces x.1.now)) result ≡ spec.square_setting part (pieces tokens.now) }
+    ensures shorter { IfOk result (λ x. length x.1.now < length tokens.now) }
+{
+    let (name, rest) = part.expect(tokens, location_at(tokens))?;
+    let rest = part.expect(rest, after_symbol(Symbol::CloseSquare, rest))?;
+    let (value, rest) = value_at(part, rest)?;
+    Ok((Item::Location(name, value), rest))
+}
+
+#[tactic(auto, unfolding(crate::specs::Items::plain_setting))]
+fn plain_item<'a, 'b>(
+    part: Part,
+    tokens: &'b [Token<'a>],
+) -> Result<(Item<'a>, &'b [Token<'a>]), Fault>
+    ensures value { seen (λ x. (setting_of x.0, pieces x.1.now)) result ≡ spec.plain_setting part (pieces tokens.now) }
+    ensures shorter { IfOk result (λ x. length x.1.now < length tokens.now) }
+{
+    let (name, rest) = part.expect(tokens, location_at(tokens))?;
+    let (value, rest) = value_at(part, rest)?;
+    Ok((Item::Location(name, value), rest))
+}
+
+/// `c:REG=v`, `[x]=v` or `x=v` at the front, and the tokens behind it.
+///
+/// What doesn't fit is refused as `part` says.
+#[tactic(auto, unfolding(crate::specs::Items::setting_at))]
+pub fn item_at<'a, 'b>(
+    part: Part,
+    tokens: &'b [Token<'a>],
+) -> Result<(Item<'a>, &'b [Token<'a>]), Fault>
+    ensures value { seen (λ x. (setting_of x.0, pieces x.1.now)) result ≡ spec.setting_at part (pieces tokens.now) }
+    ensures shorter { IfOk result (λ x. length x.1.now < length tokens.now) }
+{
+    if let Some((core, rest)) = number_at(tokens) {
+        return register_item(part, core, rest);
+    }
+    if let Some(rest) = after_symbol(Symbol::OpenSquare, tokens) {
+        return square_item(part, rest);
+    }
+    plain_item(part, tokens)
+}
+
+/// The number that digits say; `BadNumber` at `left` where a word has no room for it.
+pub fn word_at(left: usize, digits: &[u8]) -> Result<u32, Fault>
+    ensures { result ≡ spec.word_at left (decimal digits.now) }
+{
+    match word(digits) {
+        Some(value) => Ok(value),
+        None => Err(Fault {
+            why: Why::BadNumber,
+            left,
+        }),
+    }
+}

@@ -1,0 +1,49 @@
+ghost use Rattle.std.specs.Prelude.{◌≡◌, OnOk};
+ghost use Rattle.litmus_reader.specs.Faults.{Gives};
+ghost use Rattle.litmus_reader.specs.Locations as spec;
+ghost use Rattle.litmus_reader.specs.Locations.{texts};
+
+use crate::fault::{Fault, ReadError, Why};
+use indexmap::IndexSet;
+use tso_model::limits::MAX_LOCATIONS;
+use tso_model::{Loc, NoMemory};
+
+/// The number of a name: its own, or the next.
+fn number_of(names: &IndexSet<&[u8]>, name: &[u8]) -> usize
+    ensures { result ≡ spec.number_of (texts names.now.keys) name.now }
+{
+    match names.get_index_of(name) {
+        Some(number) => number,
+        None => names.len(),
+    }
+}
+
+/// Puts a name behind the others where it is new.
+fn note<'a>(names: &mut IndexSet<&'a [u8]>, name: &'a [u8]) -> Result<(), NoMemory>
+    ensures { OnOk result (texts names.new.keys ≡ spec.with_name (texts names.old.keys) name.now) }
+{
+    names.insert(name)?;
+    Ok(())
+}
+
+/// The location of a name, which is put behind the other names where it is new.
+///
+/// `TooLarge` at `left` for one location too many.
+#[tactic(auto, unfolding(crate::specs::Locations::located))]
+pub fn located<'a>(
+    names: &mut IndexSet<&'a [u8]>,
+    left: usize,
+    name: &'a [u8],
+) -> Result<Loc, ReadError>
+    ensures { Gives (λ loc. (loc, texts names.new.keys)) result (spec.located left (texts names.old.keys) name.now) }
+{
+    let number = number_of(names, name);
+    if number >= MAX_LOCATIONS {
+        return Err(ReadError::Fault(Fault {
+            why: Why::TooLarge,
+            left,
+        }));
+    }
+    note(names, name)?;
+    Ok(Loc(number as u8))
+}

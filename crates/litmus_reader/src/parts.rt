@@ -1,0 +1,98 @@
+ghost use Rattle.std.specs.Prelude.{◌≡◌, IfOk, IsTrue, All, map, length, replicate, string_bytes};
+ghost use Rattle.std.specs.Option.{option_map};
+ghost use Rattle.std.specs.Str.{IsUtf8};
+ghost use Rattle.tso_model.specs.Condition.{condition_of};
+ghost use Rattle.tso_model.specs.LitmusParts.{litmus_of};
+ghost use Rattle.tso_model.specs.Names as names;
+ghost use Rattle.litmus_reader.specs.Locations.{texts};
+ghost use Rattle.litmus_reader.specs.Reading as spec;
+
+use crate::cell::CoreInstr;
+use std::alloc::{AllocError, Global};
+use tso_model::{Cond, Instr, NoMemory, TestParts};
+
+fn string_of(alloc: Global, bytes: &[u8]) -> Result<String, AllocError>
+    requires { IsUtf8 bytes.now }
+    ensures { IfOk result (λ text. string_bytes text ≡ bytes.now) }
+{
+    String::from_utf8_lossy(alloc, bytes)
+}
+
+#[tactic(auto, using(crate::proofs::PartLists::texts_next, std::proofs::lemmas::List::map_push, std::proofs::lemmas::List::take_all))]
+fn strings_of(alloc: Global, names: &[&[u8]]) -> Result<Vec<String>, NoMemory>
+    requires { All (λ name. IsUtf8 name) (texts names.now) }
+    ensures { IfOk result (λ v. map string_bytes v.items ≡ texts names.now) }
+{
+    let mut strings = Vec::new(alloc);
+    for name in names {
+        strings.push(string_of(alloc, name)?)?;
+    }
+    Ok(strings)
+}
+
+fn zeros(alloc: Global, count: usize) -> Result<Vec<u32>, AllocError>
+    ensures { IfOk result (λ v. v.items ≡ replicate count 0) }
+{
+    vec![in alloc; 0; count]
+}
+
+#[tactic(auto, using(std::proofs::lemmas::Grind::replicate_next))]
+fn registers_of(alloc: Global, cores: usize) -> Result<Vec<[u32; 6]>, NoMemory>
+    ensures { IfOk result (λ v. v.items ≡ replicate cores spec.no_registers) }
+{
+    let mut registers = Vec::new(alloc);
+    for _ in 0..cores {
+        registers.push([0; 6])?;
+    }
+    Ok(registers)
+}
+
+fn program_of(alloc: Global, instrs: &[CoreInstr], core: usize) -> Result<Vec<Instr>, AllocError>
+    ensures { IfOk result (λ v. v.items ≡ spec.program_of instrs.now core) }
+{
+    instrs
+        .iter()
+        .filter(|i| i.core == core)
+        .map(|i| i.instr)
+        .collect(alloc)
+}
+
+#[tactic(auto, using(crate::proofs::PartLists::programs_next, std::proofs::lemmas::List::map_push))]
+fn programs_of(
+    alloc: Global,
+    instrs: &[CoreInstr],
+    cores: usize,
+) -> Result<Vec<Vec<Instr>>, NoMemory>
+    ensures { IfOk result (λ v. map (λ program. program.items) v.items ≡ spec.programs_from 0 cores instrs.now) }
+{
+    let mut programs = Vec::new(alloc);
+    for core in 0..cores {
+        programs.push(program_of(alloc, instrs, core)?)?;
+    }
+    Ok(programs)
+}
+
+/// The parts of a test from what was read: words and registers begin as 0.
+///
+/// Fails only for want of memory.
+pub fn parts_of(
+    alloc: Global,
+    name: &[u8],
+    names: &[&[u8]],
+    cores: usize,
+    instrs: &[CoreInstr],
+    cond: Option<Cond>,
+) -> Result<TestParts, NoMemory>
+    requires name { IsUtf8 name.now }
+    requires names { All (λ name. IsUtf8 name) (texts names.now) }
+    ensures { IfOk result (λ parts. litmus_of parts ≡ spec.test_of name.now (texts names.now) cores instrs.now (option_map condition_of cond)) }
+{
+    Ok(TestParts {
+        name: string_of(alloc, name)?,
+        locations: strings_of(alloc, names)?,
+        words: zeros(alloc, names.len())?,
+        registers: registers_of(alloc, cores)?,
+        programs: programs_of(alloc, instrs, cores)?,
+        cond,
+    })
+}

@@ -1,0 +1,114 @@
+ghost use Rattle.std.specs.Prelude.{◌≡◌, ◌≢◌, IfOk, IfErr, MatchResult, IsTrue};
+ghost use Rattle.std.specs.Str.{IsUtf8};
+ghost use Rattle.tso_model.specs.Litmus.{Litmus, IsTest};
+ghost use Rattle.litmus_reader.specs.declared.fault.TextFault.{TextFault};
+ghost use Rattle.tso_model.specs.LitmusParts.{litmus_of};
+ghost use Rattle.litmus_tokens.specs.Pieces.{pieces};
+ghost use Rattle.litmus_reader.specs.Faults.{seen, Gives};
+ghost use Rattle.litmus_reader.specs.Reading as spec;
+ghost use Rattle.litmus_reader.specs.Spelling.{SpellsTest, IsRefused};
+
+use crate::condition::condition_at;
+use crate::fault::{Fault, ReadError, TextFault, Why};
+use crate::header::{braces_at, header_at, sized};
+use crate::initial::after_initial;
+use crate::parts::parts_of;
+use crate::row::read_table;
+use indexmap::IndexSet;
+use litmus_tokens::{Stop, Token, line_of, tokens_of};
+use std::alloc::Global;
+use tso_model::{Test, TestParts};
+
+/// The end of the text has to follow.
+#[tactic(auto, unfolding(crate::specs::Reading::end_at))]
+fn end_at(stop: Stop, tokens: &[Token<'_>]) -> Result<(), Fault>
+    ensures { result ≡ spec.end_at stop (pieces tokens.now) }
+{
+    if let Some(first) = tokens.first() {
+        return Err(Fault {
+            why: Why::Trailing,
+            left: first.left,
+        });
+    }
+    match stop {
+        Stop::End => Ok(()),
+        Stop::BadToken(left) => Err(Fault {
+            why: Why::BadToken,
+            left,
+        }),
+        Stop::Unclosed(left) => Err(Fault {
+            why: Why::Unclosed,
+            left,
+        }),
+    }
+}
+
+/// The initial state, the table and the condition, and then the end.
+#[tactic(auto, using(crate::proofs::Within::names_are_text), unfolding(crate::specs::Reading::body_of))]
+fn body_of(
+    alloc: Global,
+    name: &[u8],
+    stop: Stop,
+    tokens: &[Token<'_>],
+) -> Result<TestParts, ReadError>
+    requires { IsUtf8 name.now }
+    ensures { Gives (λ parts. litmus_of parts) result (spec.body_of name.now stop (pieces tokens.now)) }
+{
+    let mut names = IndexSet::new(alloc);
+    let rest = after_initial(stop, tokens)?;
+    let (table, rest) = read_table(alloc, stop, &mut names, rest)?;
+    let (cond, rest) = condition_at(alloc, stop, table.cores, &mut names, rest)?;
+    end_at(stop, rest)?;
+    let parts = parts_of(
+        alloc,
+        name,
+        names.as_slice(),
+        table.cores,
+        &table.instrs,
+        cond,
+    )?;
+    Ok(parts)
+}
+
+/// The parts of the test that the text spells.
+#[tactic(auto, using(crate::proofs::Within::name_is_text), unfolding(crate::specs::Reading::reading_of))]
+fn read_parts(alloc: Global, text: &[u8]) -> Result<TestParts, ReadError>
+    ensures { Gives (λ parts. litmus_of parts) result (spec.reading_of text.now) }
+{
+    let text = sized(text)?;
+    let (name, rest) = header_at(text)?;
+    let tokens = tokens_of(alloc, braces_at(rest)?)?;
+    body_of(alloc, name, tokens.stop, &tokens.items)
+}
+
+/// The test that a text spells.
+///
+/// Want of memory aside, a text that spells no test is refused for the first thing in it that is at
+/// fault, with that place's line, and no other text is refused.
+#[tactic(auto, using(crate::proofs::Within::spelled_is_test), unfolding(crate::specs::Spelling::SpellsTest, crate::specs::Spelling::IsRefused))]
+pub fn read_test(alloc: Global, text: &[u8]) -> Result<Test, TextFault>
+    // What is answered is what the text spells, and a text that spells a test is answered with it.
+    ensures found { IfOk result (λ test. SpellsTest text.now test) }
+    ensures only { (t : Litmus) → SpellsTest text.now t → MatchResult result (λ test. test ≡ t) (λ f. f.why ≡ Why.NoMemory) }
+
+    // A refusal is the one that the text gets, and a text that gets one is answered with it.
+    ensures refused { IfErr result (λ f. f.why ≢ Why.NoMemory → IsRefused text.now f) }
+    ensures refuses { (fault : TextFault) → IsRefused text.now fault → MatchResult result (λ _. ⊥) (λ f. f.why ≢ Why.NoMemory → f ≡ fault) }
+{
+    match read_parts(alloc, text) {
+        Ok(parts) => {
+            let test = Test::new(parts).unwrap();
+            Ok(test)
+        }
+        Err(ReadError::NoMemory) => Err(TextFault {
+            line: 0,
+            why: Why::NoMemory,
+        }),
+        Err(ReadError::Fault(fault)) => {
+            Err(TextFault {
+                line: line_of(text, fault.left),
+                why: fault.why,
+            })
+        }
+    }
+}

@@ -1,0 +1,132 @@
+ghost use Rattle.std.specs.Prelude.{◌≡◌, ◌<◌, ◌≤◌, length, position, IfOk};
+ghost use Rattle.litmus_tokens.specs.declared.token.Symbol.TheVariants.{Semicolon};
+ghost use Rattle.litmus_tokens.specs.Pieces.{piece_of, pieces};
+ghost use Rattle.litmus_tokens.specs.Terms.{term_of};
+ghost use Rattle.litmus_tokens.specs.Front as front;
+ghost use Rattle.litmus_reader.specs.Faults.{seen, Gives, left_of};
+ghost use Rattle.litmus_reader.specs.Locations.{texts};
+ghost use Rattle.litmus_reader.specs.Cells.{cell_pieces};
+ghost use Rattle.litmus_reader.specs.Rows as spec;
+ghost use Rattle.litmus_reader.specs.Rows.{rows, table};
+
+use crate::cell::{CoreInstr, read_cells};
+use crate::columns::columns_at;
+use crate::fault::{Fault, ReadError, Why, at_stop, left_of};
+use indexmap::IndexSet;
+use litmus_tokens::{Lexeme, Stop, Symbol, Token, is_symbol};
+use std::alloc::{AllocError, Global};
+
+fn end_of_row(tokens: &[Token<'_>]) -> Option<usize>
+    ensures { result ≡ position (λ t. front.is_symbol Semicolon (piece_of t)) tokens.now }
+{
+    tokens.iter().position(|t| is_symbol(Symbol::Semicolon, t))
+}
+
+/// A row without its `;`, and the tokens behind it.
+#[tactic(auto, using(crate::proofs::RowEnds::row_open, crate::proofs::RowEnds::row_closed))]
+fn row_at<'a, 'b>(
+    stop: Stop,
+    tokens: &'b [Token<'a>],
+) -> Result<(&'b [Token<'a>], &'b [Token<'a>]), Fault>
+    ensures value { seen (λ x. (pieces x.0.now, pieces x.1.now)) result ≡ spec.row_at stop (pieces tokens.now) }
+    ensures shorter { IfOk result (λ x. length x.1.now < length tokens.now) }
+{
+    match end_of_row(tokens) {
+        Some(end) => Ok((&tokens[..end], &tokens[end + 1..])),
+        None => Err(at_stop(
+            Fault {
+                why: Why::Unclosed,
+                left: left_of(tokens),
+            },
+            stop,
+        )),
+    }
+}
+
+/// The cells of a row.
+fn cells_of<'a, 'b>(alloc: Global, row: &'b [Token<'a>]) -> Result<Vec<&'b [Token<'a>]>, AllocError>
+    ensures { IfOk result (λ v. cell_pieces v.items ≡ spec.cells_of (pieces row.now)) }
+{
+    row.split(|t| is_symbol(Symbol::Bar, t)).collect(alloc)
+}
+
+/// Reads a row whose first token stands at `left`.
+///
+/// `WrongCells` at `left` where it hasn't a cell for each core, and then what its cells refuse.
+#[tactic(auto, unfolding(crate::specs::Rows::row_in))]
+fn read_row<'a>(
+    alloc: Global,
+    cores: usize,
+    left: usize,
+    instrs: &mut Vec<CoreInstr>,
+    names: &mut IndexSet<&'a [u8]>,
+    row: &[Token<'a>],
+) -> Result<(), ReadError>
+    ensures { Gives (λ _. (instrs.new.items, texts names.new.keys)) result (spec.row_in cores left instrs.old.items (texts names.old.keys) (pieces row.now)) }
+{
+    let cells = cells_of(alloc, row)?;
+    if cells.len() != cores {
+        return Err(ReadError::Fault(Fault {
+            why: Why::WrongCells,
+            left,
+        }));
+    }
+    read_cells(instrs, names, &cells)
+}
+
+fn ends_rows_term(lexeme: Lexeme<'_>) -> bool
+    ensures { result ≡ spec.ends_rows_term (term_of lexeme.entry) }
+{
+    match lexeme {
+        Lexeme::Name(name) => {
+            name == b"locations".as_slice()
+                || name == b"exists".as_slice()
+                || name == b"forall".as_slice()
+        }
+        _ => false,
+    }
+}
+
+/// Whether no row begins with the token at the front, or no token is there.
+#[tactic(auto, unfolding(crate::specs::Rows::ends_rows))]
+fn ends_rows(tokens: &[Token<'_>]) -> bool
+    ensures { result ≡ spec.ends_rows (pieces tokens.now) }
+{
+    match tokens.first() {
+        Some(first) => ends_rows_term(first.lexeme) || is_symbol(Symbol::Tilde, first),
+        None => true,
+    }
+}
+
+/// What the header row and the rows give.
+#[derive(Debug, Drop)]
+pub struct Table {
+    pub cores: usize,
+    /// The instructions of all rows, in the order of the text.
+    pub instrs: Vec<CoreInstr>,
+}
+
+/// Reads the header row and all rows, and answers the tokens behind them.
+///
+/// A row is first taken to its `;` (`Unclosed` at its first token where the text ends), then its
+/// cells are counted, then they are read.
+#[tactic(auto, unfolding(crate::specs::Rows::table_at))]
+pub fn read_table<'a, 'b>(
+    alloc: Global,
+    stop: Stop,
+    names: &mut IndexSet<&'a [u8]>,
+    tokens: &'b [Token<'a>],
+) -> Result<(Table, &'b [Token<'a>]), ReadError>
+    ensures value { Gives (λ x. table x.0.cores (rows x.0.instrs.items (texts names.new.keys) (pieces x.1.now))) result (spec.table_at stop (texts names.old.keys) (pieces tokens.now)) }
+    ensures cores { IfOk result (λ x. x.0.cores ≤ 4) }
+{
+    let (cores, mut rest) = columns_at(stop, tokens)?;
+    let mut instrs = Vec::new(alloc);
+    'rows: while !ends_rows(rest) {
+        let left = left_of(rest);
+        let (row, behind) = row_at(stop, rest)?;
+        read_row(alloc, cores, left, &mut instrs, names, row)?;
+        rest = behind;
+    }
+    Ok((Table { cores, instrs }, rest))
+}

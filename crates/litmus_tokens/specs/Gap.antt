@@ -1,0 +1,47 @@
+-- White space and comments. (This project's profile.)
+use Rattle.std.specs.Prelude.{◌≡◌, ◌<◌, ℕ, Bool, List, [], ◌∷◌, length, Option, Some, None, Result, Ok, Err, ◌==◌, ◌&&◌, ◌||◌, if◌then◌else◌}
+use denote.Ref.{Bor}
+use Rattle.litmus_tokens.specs.declared.token.Stop.{Stop}
+use Rattle.litmus_tokens.specs.declared.token.Stop.TheVariants.{Unclosed}
+
+-- a result, with what was found seen by `view`
+abbrev pub seen : {X Y : Type 0} → (X → Y) → Result X Stop → Result Y Stop
+seen view (Ok x) = Ok (view x)
+seen view (Err e) = Err e
+
+-- space, tab, LF and CR
+unfoldable pub is_space : ℕ → Bool
+is_space b = (b == 32) || (b == 9) || (b == 10) || (b == 13)
+
+-- `(*`
+abbrev pub opens_comment : ℕ → ℕ → Bool
+opens_comment b c = (b == 40) && (c == 42)
+
+-- `*)`
+abbrev pub closes_comment : ℕ → ℕ → Bool
+closes_comment b c = (b == 42) && (c == 41)
+
+-- what stands behind the first `*)`
+unfoldable pub comment_end : List ℕ → Option (List ℕ)
+comment_end [] = None
+comment_end (b ∷ []) = None
+comment_end (b ∷ c ∷ bs) = if closes_comment b c then Some bs else comment_end (c ∷ bs)
+
+-- What stands behind white space and comments. A comment begins with `(*`, ends with the first `*)` behind these two
+-- bytes, and has no comments in it. Inside one the number says how many bytes of the text stand from its `(*` on.
+unfoldable pub gap_end : Option ℕ → List ℕ → Result (List ℕ) Stop
+gap_end None [] = Ok []
+gap_end None (b ∷ []) = if is_space b then Ok [] else Ok (b ∷ [])
+gap_end None (b ∷ c ∷ bs) =
+    if is_space b then gap_end None (c ∷ bs)
+    else if opens_comment b c then gap_end (Some (length (b ∷ c ∷ bs))) bs
+    else Ok (b ∷ c ∷ bs)
+gap_end (Some opener) [] = Err (Unclosed opener)
+gap_end (Some opener) (b ∷ []) = Err (Unclosed opener)
+gap_end (Some opener) (b ∷ c ∷ bs) = if closes_comment b c then gap_end None bs else gap_end (Some opener) (c ∷ bs)
+
+-- One step over a gap from some bytes, whose whole gap is total: to a shorter rest with the same end, to nothing more, or to a stop.
+abbrev pub Steps : Result (Option (Bor (List ℕ))) Stop → List ℕ → Result (List ℕ) Stop → Type 0
+Steps (Ok (Some after)) bytes total = (total ≡ gap_end None after.now) × (length after.now < length bytes)
+Steps (Ok None) bytes total = total ≡ Ok bytes
+Steps (Err stop) bytes total = total ≡ Err stop

@@ -1,0 +1,5 @@
+pub mod Gap
+pub mod Terms
+pub mod Pieces
+pub mod Front
+pub mod Line

@@ -1,0 +1,6 @@
+-- Lines of places. (This project's profile.)
+use Rattle.std.specs.Prelude.{ℕ, ◌+◌, ◌-◌, List, length, take, count_by, ◌==◌}
+
+-- The line of the place from which so many bytes of the text stand: 1, and the number of LF bytes before it.
+abbrev pub line_of : List ℕ → ℕ → ℕ
+line_of text left = 1 + count_by (λ b. b == 10) (take (length text - left) text)

@@ -1,0 +1,42 @@
+-- The tokens of a text with their places, and why there are no more. (This project's profile.)
+use Rattle.std.specs.Prelude.{ℕ, zero, suc, List, [], ◌∷◌, length, map, None, Result, Ok, Err}
+use Rattle.litmus_tokens.specs.declared.token.Stop.{Stop}
+use Rattle.litmus_tokens.specs.declared.token.Stop.TheVariants.{End}
+use Rattle.litmus_tokens.specs.declared.token.Token.{Token}
+use Rattle.litmus_tokens.specs.Gap.{gap_end}
+use Rattle.litmus_tokens.specs.Terms.{Term, term_of, term_at}
+
+-- a token, and how many bytes of the text stand from its first byte on
+pub record Piece : Type 0 where
+  pub left : ℕ
+  pub term : Term
+
+abbrev pub piece_of : Token → Piece
+piece_of t = record { left = t.left; term = term_of t.lexeme }
+
+abbrev pub pieces : List Token → List Piece
+pieces tokens = map piece_of tokens
+
+infixl 10 ◌>>=◌
+abbrev pub ◌>>=◌ : {A B : Type 0} → Result A Stop → (A → Result B Stop) → Result B Stop
+(Ok x) >>= f = f x
+(Err e) >>= f = Err e
+
+-- the next token behind white space and comments, and what stands behind it
+unfoldable pub piece_at : List ℕ → Result (Piece × List ℕ) Stop
+piece_at bytes = do
+  rest ← gap_end None bytes
+  found ← term_at rest
+  Ok (record { left = length rest; term = found.0 }, found.1)
+
+abbrev pub onto : Piece → List Piece × Stop → List Piece × Stop
+onto p more = (p ∷ more.0, more.1)
+
+-- at most n tokens
+unfoldable pub pieces_within : ℕ → List ℕ → List Piece × Stop
+pieces_within zero bytes = ([], End)
+pieces_within (suc n) bytes = elim (piece_at bytes) [ Ok found ↦ onto found.0 (pieces_within n found.1) | Err stop ↦ ([], stop) ]
+
+-- all tokens, and why there are no more; a token takes a byte or more
+unfoldable pub pieces_of : List ℕ → List Piece × Stop
+pieces_of bytes = pieces_within (length bytes) bytes

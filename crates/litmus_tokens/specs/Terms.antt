@@ -1,0 +1,91 @@
+-- Single tokens: numbers, names and symbols. (This project's profile.)
+use Rattle.std.specs.Prelude.{ℕ, ◌+◌, ◌-◌, ◌*◌, ◌^◌, Bool, List, [], ◌∷◌, length, take, drop, Option, Some, None, Result, Ok, Err, nat_lt, ◌==◌, ◌&&◌, if◌then◌else◌}
+use Rattle.std.specs.List.{prefix_len}
+use Rattle.std.specs.Char.{is_ascii_digit}
+use Rattle.tso_model.specs.Names.{begins_name, continues_name}
+use Rattle.litmus_tokens.specs.declared.token.Stop.{Stop}
+use Rattle.litmus_tokens.specs.declared.token.Stop.TheVariants.{End, BadToken}
+use Rattle.litmus_tokens.specs.declared.token.Symbol.{Symbol}
+use Rattle.litmus_tokens.specs.declared.token.Symbol.TheVariants.{Equals, Semicolon, Colon, OpenSquare, CloseSquare, OpenCurly, CloseCurly, Bar, Comma, Dollar, Tilde, OpenRound, CloseRound, And, Or}
+use Rattle.litmus_tokens.specs.declared.token.Lexeme.{Lexeme}
+use Rattle.litmus_tokens.specs.declared.token.Lexeme.TheVariants as code
+
+-- a token without its place: a number is its value, of any size
+pub data Term : Type 0 where
+  number : ℕ → Term
+  name : List ℕ → Term
+  symbol : Symbol → Term
+
+-- the number that digits say, behind those that said n
+unfoldable pub decimal_from : ℕ → List ℕ → ℕ
+decimal_from n [] = n
+decimal_from n (d ∷ ds) = decimal_from (n * 10 + (d - 48)) ds
+
+-- the number that digits say; leading zeros are allowed
+abbrev pub decimal : List ℕ → ℕ
+decimal digits = decimal_from 0 digits
+
+-- the number, if a word has room for it
+abbrev pub word_of : ℕ → Option ℕ
+word_of n = if nat_lt n (2 ^ 32) then Some n else None
+
+-- what a lexeme of the code says
+abbrev pub term_of : Lexeme → Term
+term_of (code.Number digits) = number (decimal digits.now)
+term_of (code.Name bytes) = name bytes.now
+term_of (code.Symbol s) = symbol s
+
+-- a symbol of one byte
+unfoldable pub single : ℕ → Option Symbol
+single b =
+    if b == 61 then Some Equals
+    else if b == 59 then Some Semicolon
+    else if b == 58 then Some Colon
+    else if b == 91 then Some OpenSquare
+    else if b == 93 then Some CloseSquare
+    else if b == 123 then Some OpenCurly
+    else if b == 125 then Some CloseCurly
+    else if b == 124 then Some Bar
+    else if b == 44 then Some Comma
+    else if b == 36 then Some Dollar
+    else if b == 126 then Some Tilde
+    else if b == 40 then Some OpenRound
+    else if b == 41 then Some CloseRound
+    else None
+
+-- the two symbols of two bytes, from the first byte on: `/\` and `\/`
+unfoldable pub wedge_at : ℕ → List ℕ → Option (Symbol × List ℕ)
+wedge_at b [] = None
+wedge_at b (c ∷ cs) = if (b == 47) && (c == 92) then Some (And, cs) else if (b == 92) && (c == 47) then Some (Or, cs) else None
+
+abbrev pub single_or : ℕ → List ℕ → Option Symbol → Option (Symbol × List ℕ)
+single_or b bs (Some s) = Some (s, bs)
+single_or b bs None = wedge_at b bs
+
+-- the symbol at the front, and what stands behind it
+unfoldable pub symbol_of : List ℕ → Option (Symbol × List ℕ)
+symbol_of [] = None
+symbol_of (b ∷ bs) = single_or b bs (single b)
+
+-- the longest front of bytes that pass, and the rest
+abbrev pub run_of : (ℕ → Bool) → List ℕ → List ℕ × List ℕ
+run_of p bytes = (take (prefix_len p bytes) bytes, drop (prefix_len p bytes) bytes)
+
+abbrev pub number_of : List ℕ × List ℕ → Result (Term × List ℕ) Stop
+number_of run = Ok (number (decimal run.0), run.1)
+
+-- a name has 32 bytes at most
+abbrev pub name_of : ℕ → List ℕ × List ℕ → Result (Term × List ℕ) Stop
+name_of left run = if nat_lt 32 (length run.0) then Err (BadToken left) else Ok (name run.0, run.1)
+
+abbrev pub symbol_or_bad : ℕ → Option (Symbol × List ℕ) → Result (Term × List ℕ) Stop
+symbol_or_bad left (Some found) = Ok (symbol found.0, found.1)
+symbol_or_bad left None = Err (BadToken left)
+
+-- the token at the very front of some bytes, and what stands behind it
+unfoldable pub term_at : List ℕ → Result (Term × List ℕ) Stop
+term_at [] = Err End
+term_at (b ∷ bs) =
+    if is_ascii_digit b then number_of (run_of is_ascii_digit (b ∷ bs))
+    else if begins_name b then name_of (length (b ∷ bs)) (run_of continues_name (b ∷ bs))
+    else symbol_or_bad (length (b ∷ bs)) (symbol_of (b ∷ bs))

@@ -1,0 +1,152 @@
+ghost use Rattle.std.specs.Prelude.{◌≡◌, ◌≤◌, ◌<◌, length, IfOk, IfSome, true, slice_index};
+ghost use Rattle.std.specs.Option.{option_map};
+ghost use Rattle.std.specs.List.{prefix_len};
+ghost use Rattle.std.specs.Char as char;
+ghost use Rattle.tso_model.specs.Names as names;
+ghost use Rattle.litmus_tokens.specs.Gap.{seen};
+ghost use Rattle.litmus_tokens.specs.Terms as terms;
+ghost use Rattle.litmus_tokens.specs.Terms.{decimal, word_of, term_of};
+ghost use Rattle.litmus_tokens.specs.Pieces as spec;
+ghost use Rattle.litmus_tokens.specs.Pieces.{piece_of, pieces, pieces_of};
+
+use crate::gap::after_gap;
+use crate::token::{Lexeme, Stop, Symbol, Token, Tokens};
+use std::alloc::Global;
+use tso_model::NoMemory;
+use tso_model::names::{begins_name, continues_name};
+
+/// A longest name has so many bytes.
+pub const MAX_NAME: usize = 32;
+
+#[tactic(auto, using(crate::proofs::Pieces::prefix_len_some))]
+fn digits_len(bytes: &[u8]) -> usize
+    ensures value { result ≡ prefix_len char.is_ascii_digit bytes.now }
+    ensures within { result ≤ length bytes.now }
+    ensures some { 0 < length bytes.now → char.is_ascii_digit (slice_index bytes.now 0) ≡ true → 0 < result }
+{
+    bytes.iter().take_while(|b| b.is_ascii_digit()).count()
+}
+
+#[tactic(auto, using(crate::proofs::Pieces::prefix_len_some))]
+fn name_len(bytes: &[u8]) -> usize
+    ensures value { result ≡ prefix_len names.continues_name bytes.now }
+    ensures within { result ≤ length bytes.now }
+    ensures some { 0 < length bytes.now → names.continues_name (slice_index bytes.now 0) ≡ true → 0 < result }
+{
+    bytes.iter().take_while(|b| continues_name(**b)).count()
+}
+
+/// The number that digits say, if a word of 32 bits has room for it.
+#[tactic(auto, using(crate::proofs::Words::decimal_more, crate::proofs::Words::word_over, crate::proofs::Words::word_fits))]
+pub fn word(digits: &[u8]) -> Option<u32>
+    ensures { result ≡ word_of (decimal digits.now) }
+{
+    let mut value = 0u64;
+    for digit in digits {
+        value = value * 10 + u64::from(digit.saturating_sub(b'0'));
+        if value > 0xffff_ffff {
+            return None;
+        }
+    }
+    Some(value as u32)
+}
+
+#[tactic(auto, unfolding(crate::specs::Terms::single))]
+fn single(byte: u8) -> Option<Symbol>
+    ensures { result ≡ terms.single byte }
+{
+    match byte {
+        b'=' => Some(Symbol::Equals),
+        b';' => Some(Symbol::Semicolon),
+        b':' => Some(Symbol::Colon),
+        b'[' => Some(Symbol::OpenSquare),
+        b']' => Some(Symbol::CloseSquare),
+        b'{' => Some(Symbol::OpenCurly),
+        b'}' => Some(Symbol::CloseCurly),
+        b'|' => Some(Symbol::Bar),
+        b',' => Some(Symbol::Comma),
+        b'$' => Some(Symbol::Dollar),
+        b'~' => Some(Symbol::Tilde),
+        b'(' => Some(Symbol::OpenRound),
+        b')' => Some(Symbol::CloseRound),
+        _ => None,
+    }
+}
+
+/// The symbol at the very front, and what stands behind it.
+#[tactic(auto, unfolding(crate::specs::Terms::symbol_of, crate::specs::Terms::wedge_at))]
+fn symbol_of(bytes: &[u8]) -> Option<(Symbol, &[u8])>
+    ensures value { option_map (λ x. (x.0, x.1.now)) result ≡ terms.symbol_of bytes.now }
+    ensures shorter { IfSome result (λ x. length x.1.now < length bytes.now) }
+{
+    let (first, rest) = bytes.split_first()?;
+    if let Some(symbol) = single(*first) {
+        return Some((symbol, rest));
+    }
+    let (second, past) = rest.split_first()?;
+    if *first == b'/' && *second == b'\\' {
+        Some((Symbol::And, past))
+    } else if *first == b'\\' && *second == b'/' {
+        Some((Symbol::Or, past))
+    } else {
+        None
+    }
+}
+
+/// The token at the very front, and what stands behind it.
+#[tactic(auto, using(crate::proofs::Pieces::begins_in_name), unfolding(crate::specs::Terms::term_at))]
+fn lexeme_at(bytes: &[u8]) -> Result<(Lexeme<'_>, &[u8]), Stop>
+    ensures value { seen (λ x. (term_of x.0, x.1.now)) result ≡ terms.term_at bytes.now }
+    ensures shorter { IfOk result (λ x. length x.1.now < length bytes.now) }
+{
+    let Some(first) = bytes.first() else {
+        return Err(Stop::End);
+    };
+    if first.is_ascii_digit() {
+        let (digits, rest) = bytes.split_at(digits_len(bytes));
+        return Ok((Lexeme::Number(digits), rest));
+    }
+    if begins_name(*first) {
+        let (name, rest) = bytes.split_at(name_len(bytes));
+        if name.len() > MAX_NAME {
+            return Err(Stop::BadToken(bytes.len()));
+        }
+        return Ok((Lexeme::Name(name), rest));
+    }
+    match symbol_of(bytes) {
+        Some((symbol, rest)) => Ok((Lexeme::Symbol(symbol), rest)),
+        None => Err(Stop::BadToken(bytes.len())),
+    }
+}
+
+/// The next token behind white space and comments, and what stands behind it.
+#[tactic(auto, unfolding(crate::specs::Pieces::piece_at))]
+fn token_at(bytes: &[u8]) -> Result<(Token<'_>, &[u8]), Stop>
+    ensures value { seen (λ x. (piece_of x.0, x.1.now)) result ≡ spec.piece_at bytes.now }
+    ensures shorter { IfOk result (λ x. length x.1.now < length bytes.now) }
+{
+    let rest = after_gap(bytes)?;
+    let (lexeme, after) = lexeme_at(rest)?;
+    let left = rest.len();
+    Ok((Token { left, lexeme }, after))
+}
+
+/// The tokens of a text, or of its end from some place on, and why there are no more.
+///
+/// Fails only for want of memory: a lexical fault ends the list, and counts where a reader wants a
+/// token more.
+pub fn tokens_of(alloc: Global, bytes: &[u8]) -> Result<Tokens<'_>, NoMemory>
+    ensures { IfOk result (λ found. (pieces found.items.items, found.stop) ≡ pieces_of bytes.now) }
+{
+    let mut items = Vec::new(alloc);
+    let mut rest = bytes;
+    loop {
+        match token_at(rest) {
+            Ok((token, after)) => {
+                items.push(token)?;
+                rest = after;
+            }
+            Err(stop) => return Ok(Tokens { items, stop }),
+        }
+    }
+}

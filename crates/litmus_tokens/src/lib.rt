@@ -1,0 +1,17 @@
+//! The lexical layer of test texts: bytes to tokens, each with its place.
+//!
+//! A place is the number of bytes of the text that stand from there on, so that no reader counts
+//! lines; [`line_of`] makes a line of it at the end.
+#![tactic(auto)]
+
+pub mod front;
+pub mod gap;
+pub mod lexing;
+pub mod line;
+pub mod token;
+
+pub use front::{after_symbol, is_symbol, name_at, number_at};
+pub use gap::after_gap;
+pub use lexing::{tokens_of, word};
+pub use line::line_of;
+pub use token::{Lexeme, Stop, Symbol, Token, Tokens};

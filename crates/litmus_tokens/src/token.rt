@@ -1,0 +1,70 @@
+/// A symbol of the test texts.
+#[derive(Clone, Copy, Debug, PartialEq, Eq)]
+pub enum Symbol {
+    /// `=`.
+    Equals,
+    /// `;`.
+    Semicolon,
+    /// `:`.
+    Colon,
+    /// `[`.
+    OpenSquare,
+    /// `]`.
+    CloseSquare,
+    /// `{`.
+    OpenCurly,
+    /// `}`.
+    CloseCurly,
+    /// `|`.
+    Bar,
+    /// `,`.
+    Comma,
+    /// `$`.
+    Dollar,
+    /// `~`.
+    Tilde,
+    /// `(`.
+    OpenRound,
+    /// `)`.
+    CloseRound,
+    /// `/\`.
+    And,
+    /// `\/`.
+    Or,
+}
+
+/// A token without its place.
+#[derive(Clone, Copy, Debug)]
+pub enum Lexeme<'a> {
+    /// Decimal digits, one or more; [`word`](crate::word) is their value.
+    Number(&'a [u8]),
+    /// A letter or an underscore, then letters, digits and underscores; 32 bytes at most.
+    Name(&'a [u8]),
+    Symbol(Symbol),
+}
+
+/// A token, and how many bytes of the text stand from its first byte on.
+#[derive(Clone, Copy, Debug)]
+pub struct Token<'a> {
+    pub left: usize,
+    pub lexeme: Lexeme<'a>,
+}
+
+/// Why there are no further tokens. A number is how many bytes of the text stand from that place
+/// on.
+#[derive(Clone, Copy, Debug, PartialEq, Eq)]
+pub enum Stop {
+    /// The text is at its end.
+    End,
+    /// A byte that begins no token stands there, or a name of more than 32 bytes.
+    BadToken(usize),
+    /// A comment begins there that doesn't end.
+    Unclosed(usize),
+}
+
+/// The tokens of a text, and why there are no more.
+#[derive(Debug, Drop)]
+pub struct Tokens<'a> {
+    pub items: Vec<Token<'a>>,
+    pub stop: Stop,
+}

@@ -1,0 +1,4 @@
+pub mod Effects
+pub mod CoreLemmas
+pub mod Performing
+pub mod RunningLemmas

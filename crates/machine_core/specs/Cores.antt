@@ -1,0 +1,44 @@
+-- A core of the machine as the flat machine has it: what its store buffer holds are its pending stores.
+-- (This project's profile.)
+use Rattle.std.specs.Prelude.{ℕ, ◌+◌, List, [], ◌∷◌, map, Some, slice_index}
+use Rattle.tso_model.specs.Thread.{entry}
+use Rattle.tso_model.specs.FlatMachine.{CoreState, State, Effect, step_of, drain_of, locked}
+use Rattle.tso_model.specs.declared.register.Reg.{Reg}
+use Rattle.tso_model.specs.declared.instruction.Loc.{Loc}
+use Rattle.tso_model.specs.declared.instruction.Instr.{Instr}
+use Rattle.tso_model.specs.declared.execution.Entry.{Entry}
+use Rattle.tso_model.specs.declared.execution.Kind.TheVariants.{W}
+use Rattle.store_buffer.specs.declared.Pending.{Pending}
+use Rattle.machine_core.specs.declared.processor.Processor.{Processor}
+
+-- the entry that a buffered store of this core commits when it goes to memory
+abbrev pub store_of : ℕ → Pending → Entry
+store_of core p = entry core p.place W p.loc p.value
+
+abbrev pub core_state : ℕ → Processor → CoreState
+core_state core p = record { place = p.place; registers = p.registers; pending = map (store_of core) p.stores.items }
+
+-- the cores from this number on
+abbrev pub core_states : ℕ → List Processor → List CoreState
+core_states core [] = []
+core_states core (p ∷ ps) = core_state core p ∷ core_states (core + 1) ps
+
+abbrev pub state_of : List Processor → List ℕ → State
+state_of processors memory = record { memory = memory; cores = core_states 0 processors }
+
+-- a step of the core at this instruction, at the depth of its own buffer
+abbrev pub step_by : Processor → ℕ → List ℕ → Instr → Effect
+step_by p core memory instr = step_of p.stores.depth memory core (Some instr) (core_state core p)
+
+-- a locked instruction of the core that writes this value
+abbrev pub exchange_by : Processor → ℕ → List ℕ → Reg → Loc → ℕ → Effect
+exchange_by p core memory reg loc value =
+    locked core (core_state core p) loc reg (slice_index memory loc.0) value (map (store_of core) p.stores.items)
+
+-- a drain of the core
+abbrev pub drain_by : Processor → ℕ → Effect
+drain_by p core = drain_of (core_state core p) (map (store_of core) p.stores.items)
+
+-- the core at its next instruction, with these registers
+abbrev pub advanced : Processor → List ℕ → Processor
+advanced p registers = record { place = p.place + 1; registers = registers; stores = p.stores }

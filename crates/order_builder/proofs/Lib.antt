@@ -1,0 +1,15 @@
+pub mod Choosing
+pub mod DecimalLemmas
+pub mod LineLemmas
+pub mod PrintLemmas
+pub mod LoopLemmas
+pub mod DecimalLaws
+pub mod NameLaws
+pub mod EntryLaws
+pub mod SpellingLaws
+pub mod FaultLaws
+pub mod ContractLemmas
+pub mod PrintLaws
+pub mod Merging
+pub mod Keeping
+pub mod Appending

@@ -1,0 +1,134 @@
+-- Texts that are parted at a byte, and their lines.
+use Rattle.std.proofs.Common.{◌≡◌, ℕ, ◌+◌, ◌<◌, ◌≤◌, true, false, ltb, eqb, List, [], ◌∷◌, ◌++◌, length, get_or, take, drop, Option, Some, None, All, refl, sym, ap, subst, ◌∙◌, inl, inr, arith}
+use Rattle.std.specs.List.{position, position_or_len, slice_split}
+use Rattle.std.specs.Option.{option_map}
+use Rattle.std.specs.Str.Lines.{strip_carriage_return}
+use Rattle.std.specs.Str.{bytes_eq}
+use Rattle.std.proofs.lemmas.Bool.{lt-ltb, le-ltb, ltb-false, eqb-true}
+use Rattle.std.proofs.lemmas.Bool.Decides.{nat_tests}
+use Rattle.std.proofs.lemmas.List.{take_at, drop_at, append_assoc, length-append, length-take, get_or-take, get_or_at, get_or_append_left, length_push, take-append-drop, drop_more, nil_from_length}
+use Rattle.std.proofs.lemmas.List.Elements.{All-get_or, All-from_get_or}
+use Rattle.std.proofs.lemmas.List.Quantifiers.{position-Some}
+use Rattle.std.proofs.lemmas.List.Sums.{position_or_len_is, fails_before_first, count_by-le-length}
+use Rattle.std.proofs.lemmas.List.Splits.{slice_split_none, slice_split_at, length-slice_split}
+use Rattle.order_builder.specs.Lines.{lines_in, lines_of, is_line_feed}
+use Rattle.order_builder.specs.Reading.{parted, halves_at}
+use Rattle.order_builder.proofs.Choosing.{chosen}
+
+-- no byte of the text is this one
+abbrev pub Lacks : ℕ → List ℕ → Type 0
+Lacks byte text = All (λ b. eqb b byte ≡ false) text
+
+halved : (text : List ℕ) (o : Option ℕ) (xs ys : List ℕ) → option_map (halves_at text) o ≡ Some (xs, ys) → (i : ℕ) × (o ≡ Some i) × (take i text ≡ xs) × (drop (i + 1) text ≡ ys)
+halved text None xs ys e = absurd cc
+halved text (Some i) xs ys e =
+    let same : (take i text, drop (i + 1) text) ≡ (xs, ys) = cc in
+    (i, refl, ap (λ (p : List ℕ × List ℕ). p.0) same, ap (λ (p : List ℕ × List ℕ). p.1) same)
+
+Lacks-before : (byte : ℕ) (text : List ℕ) (i : ℕ) → i < length text → ((k : ℕ) → k < i → eqb (get_or text k 0) byte ≡ false) → Lacks byte (take i text)
+Lacks-before byte text i lt fails =
+    All-from_get_or (λ b. eqb b byte ≡ false) (take i text) 0
+    (λ k l. let below : k < i = omega (arith, length-take i text) in rw (get_or-take i text k 0 below) (fails k below))
+
+pub parted-Some : (byte : ℕ) (text xs ys : List ℕ) → parted byte text ≡ Some (xs, ys) → (text ≡ xs ++ byte ∷ ys) × Lacks byte xs
+unfolding parted
+parted-Some byte text xs ys e =
+    let h = halved text (position (λ b. eqb b byte) text) xs ys e in
+    let at = position-Some (λ b. eqb b byte) text h.0 0 h.1 in
+    let whole : take h.0 text ++ drop h.0 text ≡ text = take-append-drop h.0 text in
+    let lt : h.0 < length text = at.0 in
+    let back : drop h.0 text ≡ get_or text h.0 0 ∷ drop (h.0 + 1) text = drop_more text h.0 0 lt in
+    let is_byte : get_or text h.0 0 ≡ byte = eqb-true _ _ at.1 in
+    (sym whole ∙ rw (back, is_byte, h.2, h.3) refl, subst (Lacks byte) h.2 (Lacks-before byte text h.0 lt at.2))
+
+halved_none : (text : List ℕ) (o : Option ℕ) → option_map (halves_at text) o ≡ None → o ≡ None
+halved_none text None e = refl
+halved_none text (Some i) e = absurd cc
+
+pub parted-None : (byte : ℕ) (text : List ℕ) → parted byte text ≡ None → Lacks byte text
+unfolding parted
+parted-None byte text e =
+    let none : position (λ b. eqb b byte) text ≡ None = halved_none text (position (λ b. eqb b byte) text) e in
+    elim (chosen (ltb (position_or_len (λ b. eqb b byte) text) (length text)) (Some (position_or_len (λ b. eqb b byte) text)) None None none) [
+      | inl hit ↦ absurd cc
+      | inr miss ↦
+          let past : length text ≤ position_or_len (λ b. eqb b byte) text = ltb-false _ _ miss.0 in
+          All-from_get_or (λ b. eqb b byte ≡ false) text 0 (λ k l. fails_before_first (λ b. eqb b byte) text k 0 (omega arith))
+    ]
+
+pub parted-at : (byte : ℕ) (xs ys : List ℕ) → Lacks byte xs → parted byte (xs ++ byte ∷ ys) ≡ Some (xs, ys)
+unfolding parted
+parted-at byte xs ys lacks =
+    let at : position_or_len (λ b. eqb b byte) (xs ++ byte ∷ ys) ≡ length xs =
+    position_or_len_is (λ b. eqb b byte) (xs ++ byte ∷ ys) (length xs) 0 (omega (arith, length-append xs (byte ∷ ys)))
+    (λ k lt. rw (get_or_append_left xs (byte ∷ ys) 0 k lt) (All-get_or (λ b. eqb b byte ≡ false) xs k 0 lt lacks))
+    (λ _. rw (get_or_at xs byte ys 0 (length xs) refl) (grind (arith, nat_tests))) in
+    let room : ltb (length xs) (length (xs ++ byte ∷ ys)) ≡ true = lt-ltb _ _ (omega (arith, length-append xs (byte ∷ ys))) in
+    let front : take (length xs) (xs ++ byte ∷ ys) ≡ xs = take_at xs (byte ∷ ys) (length xs) refl in
+    let back : drop (length xs + 1) (xs ++ byte ∷ ys) ≡ ys =
+    ap (drop (length xs + 1)) (sym (append_assoc xs (byte ∷ []) ys)) ∙ drop_at (xs ++ byte ∷ []) ys (length xs + 1) (length_push xs byte) in
+    rw (at, room, front, back) refl
+
+-- ---- lines
+
+more_lines : (part : List ℕ) (parts : List (List ℕ)) → 0 < length parts → lines_in (part ∷ parts) ≡ strip_carriage_return part ∷ lines_in parts
+more_lines part [] some = absurd (omega arith)
+more_lines part (next ∷ parts) some = refl
+
+pub lines_of-nil : (text : List ℕ) → length text ≡ 0 → lines_of text ≡ []
+unfolding lines_of
+lines_of-nil text none = rw (nil_from_length text none) refl
+
+pub lines_of-line : (line rest : List ℕ) → Lacks 10 line → lines_of (line ++ 10 ∷ rest) ≡ strip_carriage_return line ∷ lines_of rest
+unfolding lines_of
+lines_of-line line rest lacks =
+    let split : slice_split is_line_feed (line ++ 10 ∷ rest) ≡ line ∷ slice_split is_line_feed rest = slice_split_at is_line_feed line 10 rest lacks refl in
+    rw split (more_lines line (slice_split is_line_feed rest) (omega (arith, length-slice_split is_line_feed rest)))
+
+pub lines_of-last : (line : List ℕ) → Lacks 10 line → 0 < length line → lines_of line ≡ strip_carriage_return line ∷ []
+unfolding lines_of
+lines_of-last line lacks some =
+    let split : slice_split is_line_feed line ≡ line ∷ [] = slice_split_none is_line_feed line lacks in
+    let not_empty : eqb (length line) 0 ≡ false = grind (arith, nat_tests) in
+    rw (split, not_empty) refl
+
+-- the first line, where a line feed ends it
+pub lines_of-parted : (text line rest : List ℕ) → Some (line, rest) ≡ parted 10 text → lines_of text ≡ strip_carriage_return line ∷ lines_of rest
+lines_of-parted text line rest e =
+    let p = parted-Some 10 text line rest (sym e) in
+    ap lines_of p.0 ∙ lines_of-line line rest p.1
+
+-- the one line of a text without a line feed
+pub lines_of-alone : (text : List ℕ) → None ≡ parted 10 text → 0 < length text → lines_of text ≡ strip_carriage_return text ∷ lines_of []
+lines_of-alone text e some = lines_of-last text (parted-None 10 text (sym e)) some ∙ ap (λ (l : List (List ℕ)). strip_carriage_return text ∷ l) (sym (lines_of-nil [] refl))
+
+lines_in-length : (parts : List (List ℕ)) → length (lines_in parts) ≤ length parts
+lines_in-length [] = omega arith
+lines_in-length (rest ∷ []) =
+    elim (chosen (eqb (length rest) 0) [] (strip_carriage_return rest ∷ []) _ refl) [
+      | inl hit ↦ rw hit.0 (omega arith)
+      | inr miss ↦ rw miss.0 (omega arith)
+    ]
+lines_in-length (part ∷ next ∷ parts) = let more = lines_in-length (next ∷ parts) in omega (arith, more)
+
+pub lines_of-length : (text : List ℕ) → length (lines_of text) ≤ length text + 1
+unfolding lines_of
+lines_of-length text = omega (arith, lines_in-length (slice_split is_line_feed text), length-slice_split is_line_feed text, count_by-le-length is_line_feed text)
+
+-- ---- the first of some names
+
+pub named_at : (names : List (List ℕ)) (name : List ℕ) (i : ℕ) → i < length names → ((k : ℕ) → k < i → bytes_eq (get_or names k []) name ≡ false)
+    → bytes_eq (get_or names i []) name ≡ true → position (λ other. bytes_eq other name) names ≡ Some i
+named_at names name i lt before here =
+    let at : position_or_len (λ other. bytes_eq other name) names ≡ i =
+    position_or_len_is (λ other. bytes_eq other name) names i [] (omega arith) before (λ _. here) in
+    let room : ltb i (length names) ≡ true = lt-ltb _ _ lt in
+    rw (at, room) refl
+
+pub named_none : (names : List (List ℕ)) (name : List ℕ) (i : ℕ) → i ≡ length names → ((k : ℕ) → k < i → bytes_eq (get_or names k []) name ≡ false)
+    → position (λ other. bytes_eq other name) names ≡ None
+named_none names name i all before =
+    let at : position_or_len (λ other. bytes_eq other name) names ≡ i =
+    position_or_len_is (λ other. bytes_eq other name) names i [] (omega arith) before (λ lt. absurd (omega arith)) in
+    let room : ltb i (length names) ≡ false = le-ltb _ _ (omega arith) in
+    rw (at, room) refl

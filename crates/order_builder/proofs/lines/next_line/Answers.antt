@@ -1,0 +1,17 @@
+use Rattle.std.proofs.Common.{[], ◌∷◌, length, ap, sym, ◌∙◌, arith, List, ℕ}
+use Rattle.std.proofs.lemmas.Bool.{eqb-true, eqb-false}
+use Rattle.order_builder.specs.Lines.{lines_of}
+use Rattle.order_builder.proofs.LineLemmas.{lines_of-nil, lines_of-parted, lines_of-alone}
+use Rattle.order_builder.proofs.lines.next_line.Goals as goal
+
+pub returns-then-is_empty-clause-none : goal.returns-then-is_empty-clause-none
+returns-then-is_empty-clause-none c = lines_of-nil c.args.text.now (eqb-true _ _ (sym c.if-is_empty.ensures))
+
+pub returns-in-Some-clause-some : goal.returns-in-Some-clause-some
+returns-in-Some-clause-some c =
+    lines_of-parted c.args.text.now c.in-Some.line.now c.in-Some.rest.now c.in-Some.ensures.value ∙ ap (λ (l : List ℕ). l ∷ lines_of c.in-Some.rest.now) (sym c.without_return.ensures)
+
+pub returns-in-None-clause-some : goal.returns-in-None-clause-some
+returns-in-None-clause-some c =
+    lines_of-alone c.args.text.now c.in-None.ensures.value (let some = eqb-false (length c.args.text.now) 0 (sym c.if-is_empty.ensures) in omega (arith, some))
+    ∙ ap (λ (l : List ℕ). l ∷ lines_of []) (sym c.without_return-in-None.ensures)

@@ -1,0 +1,14 @@
+use Rattle.std.proofs.Common.{◌≡◌, ◌+◌, ◌≤◌, length}
+use Rattle.order_builder.specs.Lines.{lines_of}
+use Rattle.order_builder.specs.Reading.{entries_in}
+use Rattle.order_builder.proofs.LoopLemmas.{with_front}
+use Rattle.order_builder.proofs.reading.read_entries.Given as goal
+
+abbrev pub invariant-loop-line : goal.invariant-loop-line
+invariant-loop-line l = record {
+  same : with_front l.order.items (entries_in l.test l.start (length l.order.items) (lines_of l.rest)) ≡ entries_in l.test l.start 0 (lines_of l.text);
+  within : length l.order.items + length l.rest ≤ length l.text;
+}
+
+abbrev pub decreases-loop-line : goal.decreases-loop-line
+decreases-loop-line l = length l.rest

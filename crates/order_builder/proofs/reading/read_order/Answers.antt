@@ -1,0 +1,32 @@
+use Rattle.std.proofs.Common.{◌≡◌, ◌^◌, ◌<◌, length, Err, arith}
+use Rattle.order_builder.specs.Reading.{Gives, order_of}
+use Rattle.order_builder.specs.declared.fault.OrderFault.TheVariants.{NoOrder}
+use Rattle.order_builder.proofs.ContractLemmas.{entries_of, is_found, is_only, is_fault, is_only_fault, read_behind, read_nowhere}
+use Rattle.order_builder.proofs.reading.read_order.Goals as goal
+
+pub returns-in-Some : goal.returns-in-Some
+returns-in-Some c =
+    let small : length c.args.text.now < 2 ^ 64 = omega arith in
+    let test = c.locations-locations.ensures.test in
+    let read : Gives entries_of c.read_entries.result (order_of c.args.test.now c.args.text.now) =
+    read_behind c.args.test.now c.args.text.now c.in-Some.rest.now c.in-Some.start c.read_entries.result c.in-Some.ensures.value c.read_entries.ensures in
+    record {
+      found = is_found c.args.test.now c.args.text.now c.read_entries.result small read;
+      only = is_only c.args.test.now c.args.text.now c.read_entries.result test small read;
+      fault = is_fault c.args.test.now c.args.text.now c.read_entries.result test read;
+      only_fault = is_only_fault c.args.test.now c.args.text.now c.read_entries.result test read;
+      exact = read;
+    }
+
+pub returns-in-None : goal.returns-in-None
+returns-in-None c =
+    let small : length c.args.text.now < 2 ^ 64 = omega arith in
+    let test = c.locations-locations.ensures.test in
+    let read : order_of c.args.test.now c.args.text.now ≡ Err NoOrder = read_nowhere c.args.test.now c.args.text.now c.in-None.ensures.value in
+    record {
+      found = tt;
+      only = is_only c.args.test.now c.args.text.now (Err NoOrder) test small read;
+      fault = is_fault c.args.test.now c.args.text.now (Err NoOrder) test read;
+      only_fault = is_only_fault c.args.test.now c.args.text.now (Err NoOrder) test read;
+      exact = read;
+    }

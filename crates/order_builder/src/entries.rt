@@ -1,0 +1,107 @@
+//! The lines of an order text, one by one.
+
+ghost use Rattle.std.specs.Prelude.{◌≡◌, ◌<◌, length, IfSome, ◌^◌, ◌-◌};
+ghost use Rattle.std.specs.Option.{option_map};
+ghost use Rattle.order_builder.specs.Reading.{kind_of, location_named, place_in, access_in, action_in, entry_in, end_in};
+
+use crate::decimals::{is_number, number_up_to};
+use crate::lines::{behind_front, parted};
+use tso_model::{Core, Entry, Kind, Loc, Test};
+
+/// The entry of a test that a line is, if it is one. Its core and its place needn't be the test's.
+#[tactic(auto, unfolding(crate::specs::Reading::entry_in))]
+pub fn entry_in(test: &Test, line: &[u8]) -> Option<Entry>
+    ensures { result ≡ entry_in test.now line.now }
+{
+    let (head, action) = parted(line, b' ')?;
+    let (core, place) = place_in(head)?;
+    action_in(test, core, place, action)
+}
+
+/// The digits of a line that is `Endorder` and a number of any size.
+#[tactic(auto, unfolding(crate::specs::Reading::end_in))]
+pub fn end_in(line: &[u8]) -> Option<&[u8]>
+    ensures { option_map (λ digits. digits.now) result ≡ end_in line.now }
+{
+    let digits = behind_front(line, b"Endorder ")?;
+    if is_number(digits) {
+        Some(digits)
+    } else {
+        None
+    }
+}
+
+#[tactic(auto, unfolding(crate::specs::Reading::place_in))]
+fn place_in(text: &[u8]) -> Option<(u8, u8)>
+    ensures { result ≡ place_in text.now }
+{
+    let numbers = behind_front(text, b"P")?;
+    let (core, place) = parted(numbers, b':')?;
+    let core = number_up_to(core, 255)?;
+    let place = number_up_to(place, 255)?;
+    Some((core as u8, place as u8))
+}
+
+#[tactic(auto, unfolding(crate::specs::Reading::action_in))]
+fn action_in(test: &Test, core: u8, place: u8, text: &[u8]) -> Option<Entry>
+    ensures { result ≡ action_in test.now (core, place) text.now }
+{
+    if text == b"F".as_slice() {
+        return Some(Entry {
+            core: Core(core),
+            place,
+            kind: Kind::F,
+            loc: Loc(0),
+            value: 0,
+        });
+    }
+    let (letters, access) = parted(text, b' ')?;
+    let kind = kind_of(letters)?;
+    let (loc, value) = access_in(test, access)?;
+    Some(Entry {
+        core: Core(core),
+        place,
+        kind,
+        loc: Loc(loc),
+        value,
+    })
+}
+
+#[tactic(auto, unfolding(crate::specs::Reading::kind_of))]
+fn kind_of(letters: &[u8]) -> Option<Kind>
+    ensures { result ≡ kind_of letters.now }
+{
+    if letters == b"R".as_slice() {
+        Some(Kind::R)
+    } else if letters == b"W".as_slice() {
+        Some(Kind::W)
+    } else if letters == b"LR".as_slice() {
+        Some(Kind::LR)
+    } else if letters == b"LW".as_slice() {
+        Some(Kind::LW)
+    } else {
+        None
+    }
+}
+
+#[tactic(auto, unfolding(crate::specs::Reading::access_in))]
+fn access_in(test: &Test, text: &[u8]) -> Option<(u8, u32)>
+    ensures { result ≡ access_in test.now text.now }
+{
+    let (name, value) = parted(text, b'=')?;
+    let loc = location_named(test, name)?;
+    let value = number_up_to(value, 0xffff_ffff)?;
+    Some((loc, value as u32))
+}
+
+#[tactic(auto, unfolding(crate::specs::Reading::location_named))]
+fn location_named(test: &Test, name: &[u8]) -> Option<u8>
+    ensures { result ≡ location_named test.now name.now }
+{
+    for loc in 0..test.locations() {
+        if test.location_name(Loc(loc)).as_bytes() == name {
+            return Some(loc);
+        }
+    }
+    None
+}

@@ -1,0 +1,18 @@
+//! The order in which memory saw a run: made of the machine's commits, printed and read.
+#![tactic(auto)]
+
+pub mod commits;
+mod decimals;
+mod entries;
+pub mod fault;
+pub mod laws;
+mod lines;
+pub mod printing;
+pub mod reading;
+#[cfg(test)]
+mod tests;
+
+pub use commits::{Commits, build};
+pub use fault::OrderFault;
+pub use printing::{entry_text, letters_of, order_text};
+pub use reading::read_order;

@@ -1,0 +1,60 @@
+//! The lines of a text.
+
+ghost use Rattle.std.specs.Prelude.{◌≡◌, ◌<◌, ◌∷◌, [], ◌==◌, length, position, IfSome, IfNone};
+ghost use Rattle.std.specs.Option.{option_map};
+ghost use Rattle.std.specs.Str.Lines.{strip_carriage_return};
+ghost use Rattle.order_builder.specs.Lines.{lines_of};
+ghost use Rattle.order_builder.specs.Reading.{parted, behind_front};
+
+/// What stands before the first such byte, and what behind it; `None` where there is no such byte.
+#[tactic(auto, unfolding(crate::specs::Reading::parted))]
+pub fn parted(text: &[u8], byte: u8) -> Option<(&[u8], &[u8])>
+    ensures value { option_map (λ halves. (halves.0.now, halves.1.now)) result ≡ parted byte text.now }
+    ensures shorter { IfSome result (λ halves. length halves.1.now < length text.now) }
+{
+    match place_of(text, byte) {
+        Some(at) => Some((&text[..at], &text[at + 1..])),
+        None => None,
+    }
+}
+
+fn place_of(text: &[u8], byte: u8) -> Option<usize>
+    ensures value { result ≡ position (λ b. b == byte) text.now }
+    ensures within { IfSome result (λ at. at < length text.now) }
+{
+    text.iter().position(|b| *b == byte)
+}
+
+/// What stands behind this text, where the other begins with it.
+#[tactic(auto, unfolding(crate::specs::Reading::behind_front))]
+pub fn behind_front<'a>(text: &'a [u8], front: &[u8]) -> Option<&'a [u8]>
+    ensures { option_map (λ rest. rest.now) result ≡ behind_front front.now text.now }
+{
+    text.strip_prefix(front)
+}
+
+/// The first line of a text, without a carriage return at its end, and what stands behind it;
+/// `None` where the text is empty.
+pub fn next_line(text: &[u8]) -> Option<(&[u8], &[u8])>
+    ensures some { IfSome result (λ found. lines_of text.now ≡ found.0.now ∷ lines_of found.1.now) }
+    ensures shorter { IfSome result (λ found. length found.1.now < length text.now) }
+    ensures none { IfNone result (lines_of text.now ≡ []) }
+{
+    if text.is_empty() {
+        return None;
+    }
+    match parted(text, b'\n') {
+        Some((line, rest)) => Some((without_return(line), rest)),
+        None => Some((without_return(text), &[])),
+    }
+}
+
+/// The line without a carriage return at its end, if it has one.
+fn without_return(line: &[u8]) -> &[u8]
+    ensures { result.now ≡ strip_carriage_return line.now }
+{
+    match line.split_last() {
+        Some((last, front)) if *last == b'\r' => front,
+        _ => line,
+    }
+}

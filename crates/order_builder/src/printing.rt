@@ -1,0 +1,89 @@
+//! Entries and orders as they are printed.
+
+ghost use Rattle.std.specs.Prelude.{◌≡◌, ◌++◌, ◌∷◌, [], map, All, IfOk, OnOk, string_bytes};
+ghost use Rattle.order_builder.specs.PrintedOrder.{letters_of, printed_access, printed_entry, printed_end, printed_lines, printed_order, HasLocation};
+
+use std::alloc::Global;
+use tso_model::{Entry, Execution, Kind, NoMemory, Test};
+
+/// An entry as it is printed, as `P0:1 R y=0`, or `P1:2 F` for a fence.
+pub fn entry_text(alloc: Global, test: &Test, entry: &Entry) -> Result<String, NoMemory>
+    requires { HasLocation test.now entry.now }
+    ensures { IfOk result (λ text. string_bytes text ≡ printed_entry test.now entry.now) }
+{
+    let mut text = String::new(alloc);
+    write_entry(&mut text, test, entry)?;
+    Ok(text)
+}
+
+/// The text of an order: the line `Order`, a line for each entry, and the line `Endorder n`, n being
+/// how many entries there are.
+pub fn order_text(alloc: Global, test: &Test, execution: &Execution) -> Result<String, NoMemory>
+    requires { All (HasLocation test.now) execution.now.order.items }
+    ensures { IfOk result (λ text. string_bytes text ≡ printed_order test.now execution.now.order.items) }
+{
+    let order = execution.order.as_slice();
+    let mut text = String::new(alloc);
+    text.push_str("Order\n")?;
+    write_entries(&mut text, test, order)?;
+    write_end(&mut text, order.len())?;
+    Ok(text)
+}
+
+fn write_entries(text: &mut String, test: &Test, order: &[Entry]) -> Result<(), NoMemory>
+    requires { All (HasLocation test.now) order.now }
+    ensures { OnOk result (string_bytes text.new ≡ string_bytes text.old ++ printed_lines (map (printed_entry test.now) order.now)) }
+{
+    for entry in order {
+        write_entry(text, test, entry)?;
+        text.push('\n')?;
+    }
+    Ok(())
+}
+
+fn write_entry(text: &mut String, test: &Test, entry: &Entry) -> Result<(), NoMemory>
+    requires { HasLocation test.now entry.now }
+    ensures { OnOk result (string_bytes text.new ≡ string_bytes text.old ++ printed_entry test.now entry.now) }
+{
+    let core = entry.core.0;
+    let place = entry.place;
+    let letters = letters_of(entry.kind);
+    write!(text, "P{core}:{place} {letters}")?;
+    write_access(text, test, entry)
+}
+
+/// Where and what was read or written; of a fence there is nothing to write.
+fn write_access(text: &mut String, test: &Test, entry: &Entry) -> Result<(), NoMemory>
+    requires { HasLocation test.now entry.now }
+    ensures { OnOk result (string_bytes text.new ≡ string_bytes text.old ++ printed_access test.now entry.now.kind entry.now.loc.0 entry.now.value) }
+{
+    match entry.kind {
+        Kind::F => Ok(()),
+        Kind::R | Kind::W | Kind::LR | Kind::LW => {
+            let name = test.location_name(entry.loc);
+            let value = entry.value;
+            write!(text, " {name}={value}")?;
+            Ok(())
+        }
+    }
+}
+
+fn write_end(text: &mut String, count: usize) -> Result<(), NoMemory>
+    ensures { OnOk result (string_bytes text.new ≡ string_bytes text.old ++ (printed_end count ++ 10 ∷ [])) }
+{
+    write!(text, "Endorder {count}\n")?;
+    Ok(())
+}
+
+/// The letters that stand for a kind.
+pub fn letters_of(kind: Kind) -> &'static str
+    ensures { result.now ≡ letters_of kind }
+{
+    match kind {
+        Kind::R => "R",
+        Kind::W => "W",
+        Kind::F => "F",
+        Kind::LR => "LR",
+        Kind::LW => "LW",
+    }
+}

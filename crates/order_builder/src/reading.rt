@@ -1,0 +1,90 @@
+//! Orders read from texts.
+
+ghost use Rattle.std.specs.Prelude.{◌≡◌, ◌≢◌, ◌+◌, ◌<◌, ◌≤◌, ◌^◌, length, List, Ok, Err, IfSome, IfOk, IfErr};
+ghost use Rattle.std.specs.Option.{option_map};
+ghost use Rattle.order_builder.specs.Lines.{lines_of};
+ghost use Rattle.tso_model.specs.declared.execution.Entry.{Entry};
+ghost use Rattle.order_builder.specs.Spelling.{SpellsOrder, HasFault};
+ghost use Rattle.order_builder.specs.declared.fault.OrderFault.{OrderFault};
+ghost use Rattle.order_builder.specs.declared.fault.OrderFault.TheVariants.{NoMemory};
+ghost use Rattle.order_builder.specs.Reading.{entries_in, order_start, order_of, Gives};
+
+use crate::decimals::number_is;
+use crate::entries::{end_in, entry_in};
+use crate::fault::OrderFault;
+use crate::lines::next_line;
+use std::alloc::Global;
+use tso_model::{Execution, Test};
+
+/// The order of a test that a text spells. The text before the first line that is `Order`, and behind
+/// the first line `Endorder n` after it, is not judged. Cores and places needn't be the test's.
+///
+/// # Errors
+///
+/// The first fault in the order of the lines, where the text spells no order; `NoMemory` where the
+/// allocator refused a growth.
+pub fn read_order(alloc: Global, test: &Test, text: &[u8]) -> Result<Execution, OrderFault>
+    // What is read is spelled so, and what is spelled so is read, unless memory runs out.
+    ensures found { IfOk result (λ execution. SpellsOrder test.now text.now execution.order.items) }
+    ensures only { (order : List Entry) → SpellsOrder test.now text.now order → Gives (λ execution. execution.order.items) result (Ok order) }
+
+    // A fault that is answered is the text's, and the text's is answered, unless memory runs out.
+    ensures fault { IfErr result (λ fault. fault ≢ NoMemory → HasFault test.now text.now fault) }
+    ensures only_fault { (fault : OrderFault) → HasFault test.now text.now fault → Gives (λ execution. execution.order.items) result (Err fault) }
+
+    // Which of the two it is.
+    ensures exact { Gives (λ execution. execution.order.items) result (order_of test.now text.now) }
+{
+    // A test keeps its limits, on which the names of its locations rest.
+    let _locations = test.locations();
+    match behind_order_line(text) {
+        Some((rest, start)) => read_entries(alloc, test, rest, start),
+        None => Err(OrderFault::NoOrder),
+    }
+}
+
+/// What stands behind the first line that is `Order`, and how many lines there are up to it.
+#[tactic(auto, unfolding(crate::specs::Reading::order_start))]
+fn behind_order_line(text: &[u8]) -> Option<(&[u8], usize)>
+    ensures value { option_map (λ found. (found.1, lines_of found.0.now)) result ≡ order_start 0 (lines_of text.now) }
+    ensures within { IfSome result (λ found. found.1 + length found.0.now ≤ length text.now) }
+{
+    let mut rest = text;
+    let mut lines = 0;
+    while let Some((line, behind)) = next_line(rest) {
+        lines += 1;
+        if line == b"Order".as_slice() {
+            return Some((behind, lines));
+        }
+        rest = behind;
+    }
+    None
+}
+
+/// The entries of a text that stands behind some lines, the last of which is `Order`.
+fn read_entries(
+    alloc: Global,
+    test: &Test,
+    text: &[u8],
+    start: usize,
+) -> Result<Execution, OrderFault>
+    requires { start + length text.now < 2 ^ 64 }
+    ensures { Gives (λ execution. execution.order.items) result (entries_in test.now start 0 (lines_of text.now)) }
+{
+    let mut order = Vec::new(alloc);
+    let mut rest = text;
+    while let Some((line, behind)) = next_line(rest) {
+        if let Some(digits) = end_in(line) {
+            if number_is(digits, order.len() as u64) {
+                return Ok(Execution { order });
+            }
+            return Err(OrderFault::BadCount);
+        }
+        match entry_in(test, line) {
+            Some(entry) => order.push(entry)?,
+            None => return Err(OrderFault::BadLine(start + order.len() + 1)),
+        }
+        rest = behind;
+    }
+    Err(OrderFault::BadCount)
+}

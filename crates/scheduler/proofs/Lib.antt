@@ -1,0 +1,7 @@
+pub mod Decimal
+pub mod Generated
+pub mod Items
+pub mod ChoiceWords
+pub mod Found
+pub mod Whole
+pub mod Loop

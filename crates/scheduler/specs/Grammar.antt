@@ -1,0 +1,42 @@
+-- Which text spells which choices. (This project's profile.)
+use Rattle.std.specs.Prelude.{◌<◌, ◌≤◌, ◌^◌, ◌++◌, ℕ, List, [], ◌∷◌, length, codes, IsTrue}
+use Rattle.tso_model.specs.declared.choice.Choice.{Choice}
+use Rattle.tso_model.specs.declared.choice.Choice.TheVariants.{Step, Drain}
+use Rattle.scheduler.specs.Words.{words_of, is_numeral, decimal}
+use Rattle.scheduler.specs.Seeds.{seeded_choices}
+
+-- the greatest number of choices of a text
+abbrev pub most_choices : ℕ
+most_choices = 100000
+
+-- a word of digits and `s`, or digits and `d`: a choice of the core that the digits say, be it there or not
+pub data IsChoiceWord : List ℕ → Choice → Type 0 where
+  step : (digits : List ℕ) → IsTrue (is_numeral digits) → IsChoiceWord (digits ++ codes "s") (Step (record { 0 = decimal digits }))
+  drain : (digits : List ℕ) → IsTrue (is_numeral digits) → IsChoiceWord (digits ++ codes "d") (Drain (record { 0 = decimal digits }))
+
+-- the number of the core that a choice names
+abbrev pub core_of : Choice → ℕ
+core_of (Step core) = core.0
+core_of (Drain core) = core.0
+
+-- the words of one item, and its choices: one word for a choice of a core that is there, or the three words
+-- `seed N M` for the first M choices of the seed N
+pub data IsItem (cores : ℕ) : List (List ℕ) → List Choice → Type 0 where
+  one : (word : List ℕ) (choice : Choice) → IsChoiceWord word choice → core_of choice < cores → IsItem cores (word ∷ []) (choice ∷ [])
+  seeded : (seed count : List ℕ) → IsTrue (is_numeral seed) → decimal seed < 2 ^ 64 → IsTrue (is_numeral count)
+      → IsItem cores (codes "seed" ∷ seed ∷ count ∷ []) (seeded_choices cores (decimal seed) (decimal count))
+
+-- words that are items one after the other, and the choices of these items
+pub data AreItems (cores : ℕ) : List (List ℕ) → List Choice → Type 0 where
+  none : AreItems cores [] []
+  more : (words rest : List (List ℕ)) (choices others : List Choice) → IsItem cores words choices → AreItems cores rest others
+      → AreItems cores (words ++ rest) (choices ++ others)
+
+-- words spell choices in a test with so many cores
+pub record WordsSpell (cores : ℕ) (words : List (List ℕ)) (choices : List Choice) : Type 0 where
+  pub items : AreItems cores words choices
+  pub few : length choices ≤ most_choices
+
+-- a text spells choices in a test with so many cores
+abbrev pub SpellsChoices : ℕ → List ℕ → List Choice → Type 0
+SpellsChoices cores text choices = WordsSpell cores (words_of text) choices

@@ -1,0 +1,5 @@
+pub mod Words
+pub mod Seeds
+pub mod Grammar
+pub mod Refusals
+pub mod Reading

@@ -1,0 +1,44 @@
+-- Which refusal a text gets that spells no choices: that of its first item at fault. (This project's profile.)
+use Rattle.std.specs.Prelude.{◌≡◌, ◌≢◌, ◌⊎◌, ◌<◌, ◌≤◌, ◌^◌, ◌+◌, ◌++◌, ℕ, List, ◌∷◌, length, codes, IsTrue}
+use Rattle.tso_model.specs.declared.choice.Choice.{Choice}
+use Rattle.scheduler.specs.declared.fault.ChoiceFault.{ChoiceFault}
+use Rattle.scheduler.specs.declared.fault.ChoiceFault.TheVariants.{BadWord, NoSuchCore, TooMany}
+use Rattle.scheduler.specs.Words.{words_of, is_numeral, decimal}
+use Rattle.scheduler.specs.Grammar.{most_choices, IsChoiceWord, core_of, IsItem, AreItems, SpellsChoices}
+
+-- the fault of the item at which words begin, where `before` choices stand before it and its first word has this number:
+-- the word is of no form; `seed` lacks one of its two words; the seed is no number below 2^64; the count is no number;
+-- the core isn't there; or the item has none of these faults and passes the limit
+pub data IsFault (cores before number : ℕ) : List (List ℕ) → ChoiceFault → Type 0 where
+  bad_form : (word : List ℕ) (rest : List (List ℕ)) → ((choice : Choice) → ¬ (IsChoiceWord word choice)) → word ≢ codes "seed"
+      → IsFault cores before number (word ∷ rest) (BadWord number)
+  cut_seed : (rest : List (List ℕ)) → length rest < 2 → IsFault cores before number (codes "seed" ∷ rest) (BadWord number)
+  bad_seed : (seed count : List ℕ) (rest : List (List ℕ)) → ¬ (IsTrue (is_numeral seed) × (decimal seed < 2 ^ 64))
+      → IsFault cores before number (codes "seed" ∷ seed ∷ count ∷ rest) (BadWord (number + 1))
+  bad_count : (seed count : List ℕ) (rest : List (List ℕ)) → IsTrue (is_numeral seed) → decimal seed < 2 ^ 64 → ¬ (IsTrue (is_numeral count))
+      → IsFault cores before number (codes "seed" ∷ seed ∷ count ∷ rest) (BadWord (number + 2))
+  no_core : (word : List ℕ) (choice : Choice) (rest : List (List ℕ)) → IsChoiceWord word choice → cores ≤ core_of choice
+      → IsFault cores before number (word ∷ rest) (NoSuchCore number)
+  too_many : (words : List (List ℕ)) (choices : List Choice) (rest : List (List ℕ)) → IsItem cores words choices
+      → most_choices < before + length choices → IsFault cores before number (words ++ rest) (TooMany number)
+
+-- words get a refusal: they are items within the limit, and behind these one at fault; words are numbered from 1
+pub record AreRefused (cores : ℕ) (words : List (List ℕ)) (fault : ChoiceFault) : Type 0 where
+  pub front : List (List ℕ)
+  pub back : List (List ℕ)
+  pub choices : List Choice
+  pub split : words ≡ front ++ back
+  pub items : AreItems cores front choices
+  pub few : length choices ≤ most_choices
+  pub at_fault : IsFault cores (length choices) (length front + 1) back fault
+
+-- a text gets a refusal in a test with so many cores
+abbrev pub IsRefused : ℕ → List ℕ → ChoiceFault → Type 0
+IsRefused cores text fault = AreRefused cores (words_of text) fault
+
+-- a text spells one list of choices or gets one refusal, and never both
+pub record IsDecided (cores : ℕ) (text : List ℕ) : Type 0 where
+  pub one_list : (choices others : List Choice) → SpellsChoices cores text choices → SpellsChoices cores text others → choices ≡ others
+  pub one_refusal : (fault other : ChoiceFault) → IsRefused cores text fault → IsRefused cores text other → fault ≡ other
+  pub never_both : (choices : List Choice) (fault : ChoiceFault) → SpellsChoices cores text choices → IsRefused cores text fault → ⊥
+  pub always : ((choices : List Choice) × SpellsChoices cores text choices) ⊎ ((fault : ChoiceFault) × IsRefused cores text fault)

@@ -1,0 +1,65 @@
+//! The choices that a text spells.
+
+ghost use Rattle.std.specs.Prelude.{◌≡◌, ◌≢◌, ◌<◌, ℕ, List, IfOk, IfErr, MatchResult};
+ghost use Rattle.scheduler.specs.Grammar.{WordsSpell, SpellsChoices};
+ghost use Rattle.scheduler.specs.Refusals.{AreRefused, IsRefused, IsDecided};
+ghost use Rattle.scheduler.specs.Reading.{texts};
+ghost use Rattle.scheduler.specs.declared.fault.ChoiceFault.{ChoiceFault};
+ghost use Rattle.tso_model.specs.declared.choice.Choice.{Choice};
+
+use crate::fault::ChoiceFault;
+use crate::item::read_item;
+use crate::words::split_words;
+use std::alloc::Global;
+use tso_model::Choice;
+
+/// Choices of a text, at most.
+pub const MAX_CHOICES: usize = 100_000;
+
+fn choices_of_words(alloc: Global, cores: u8, words: &[&[u8]]) -> Result<Vec<Choice>, ChoiceFault>
+    requires { 0 < cores }
+    ensures found { IfOk result (λ v. WordsSpell cores (texts words.now) v.items) }
+    ensures refused { IfErr result (λ f. f ≢ ChoiceFault.NoMemory → AreRefused cores (texts words.now) f) }
+{
+    let mut choices = Vec::new(alloc);
+    let mut at = 0;
+    while at < words.len() {
+        let room = MAX_CHOICES - choices.len();
+        let item = read_item(cores, room, at + 1, words[at], &words[at + 1..])?;
+        item.push_to(&mut choices, cores)?;
+        at += item.words();
+    }
+    Ok(choices)
+}
+
+/// The choices that a text spells in a test with so many cores (1 or more).
+///
+/// Words are parted by spaces, tabs, carriage returns and line feeds, and numbered from 1. An item is digits and `s` (that
+/// core steps), digits and `d` (it drains), or the three words `seed N M` for the first M choices of the seed N. The
+/// first item at fault decides:
+///
+/// - [`ChoiceFault::BadWord`]: the word has none of these forms; or it is `seed` with fewer than two words behind it, else
+///   an N that isn't all digits or is 2^64 or more, else an M that isn't all digits.
+/// - [`ChoiceFault::NoSuchCore`]: the word names a core that the test hasn't.
+/// - [`ChoiceFault::TooMany`]: with the choices of this item, which has none of these faults, there are more than
+///   [`MAX_CHOICES`]. None of its choices is made.
+/// - [`ChoiceFault::NoMemory`]: only where the allocator refused a growth.
+pub fn read_choices(alloc: Global, cores: u8, text: &[u8]) -> Result<Vec<Choice>, ChoiceFault>
+    requires { 0 < cores }
+
+    // What is answered is what the text spells, and a text that spells choices is answered with them.
+    ensures found { IfOk result (λ v. SpellsChoices cores text.now v.items) }
+    ensures only { (choices : List Choice) → SpellsChoices cores text.now choices → MatchResult result (λ v. v.items ≡ choices) (λ f. f ≡ ChoiceFault.NoMemory) }
+
+    // A refusal is the one that the text gets, and a text that gets one is answered with it.
+    ensures refused { IfErr result (λ f. f ≢ ChoiceFault.NoMemory → IsRefused cores text.now f) }
+    ensures refuses { (fault : ChoiceFault) → IsRefused cores text.now fault → MatchResult result (λ _. ⊥) (λ f. f ≢ ChoiceFault.NoMemory → f ≡ fault) }
+{
+    let words = split_words(alloc, text)?;
+    choices_of_words(alloc, cores, &words)
+}
+
+/// Each text spells one list of choices or gets one refusal, and never both: a law of the definitions, with nothing to run.
+pub fn texts_are_decided()
+    ensures { (cores : ℕ) (text : List ℕ) → 0 < cores → IsDecided cores text }
+{}

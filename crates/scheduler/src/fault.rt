@@ -1,0 +1,58 @@
+//! Why a text spells no choices.
+
+ghost use Rattle.std.specs.Prelude.{◌≡◌};
+ghost use Rattle.scheduler.specs.declared.fault.ChoiceFault.TheVariants as fault;
+
+use std::alloc::{AllocError, AllocFailed};
+use std::error::Error;
+use std::fmt;
+
+/// Why a text wasn't read as choices. Words are numbered from 1.
+#[derive(Clone, Copy, Debug, PartialEq, Eq)]
+pub enum ChoiceFault {
+    /// This word is of no form of a choice text, or isn't the number that `seed` needs here.
+    BadWord(usize),
+    /// This word names a core that isn't there.
+    NoSuchCore(usize),
+    /// The item that begins at this word passes the greatest number of choices of a text.
+    TooMany(usize),
+    /// The allocator refused a growth. It is answered for no other reason.
+    NoMemory,
+}
+
+impl fmt::Display for ChoiceFault {
+    fn fmt<W: fmt::Write>(&self, f: &mut fmt::Formatter<W>) -> fmt::Result {
+        match self {
+            ChoiceFault::BadWord(word) => write!(f, "word {word} is no choice"),
+            ChoiceFault::NoSuchCore(word) => write!(f, "word {word} names a core that isn't there"),
+            ChoiceFault::TooMany(word) => write!(f, "word {word} passes the limit of choices"),
+            ChoiceFault::NoMemory => write!(f, "out of memory"),
+        }
+    }
+}
+
+impl Error for ChoiceFault {}
+
+impl From<AllocError> for ChoiceFault {
+    ghost from_gives = { λ _ e. e ≡ fault.NoMemory };
+
+    fn from(_: AllocError) -> ChoiceFault {
+        ChoiceFault::NoMemory
+    }
+}
+
+impl<T: Drop> From<AllocFailed<T>> for ChoiceFault {
+    ghost from_gives = { λ _ e. e ≡ fault.NoMemory };
+
+    fn from(_: AllocFailed<T>) -> ChoiceFault {
+        ChoiceFault::NoMemory
+    }
+}
+
+impl From<tso_model::NoMemory> for ChoiceFault {
+    ghost from_gives = { λ _ e. e ≡ fault.NoMemory };
+
+    fn from(_: tso_model::NoMemory) -> ChoiceFault {
+        ChoiceFault::NoMemory
+    }
+}

@@ -1,0 +1,146 @@
+//! One item of a choice text.
+
+ghost use Rattle.std.specs.Prelude.{◌≡◌, ◌<◌, ◌≤◌, ◌+◌, ◌-◌, ◌^◌, ◌++◌, length, IfOk, OnOk};
+ghost use Rattle.scheduler.specs.Reading.{texts, made_of, words_in, action_of, choice_by, one_of, seed_of, seeded_of, item_of};
+
+use crate::fault::ChoiceFault;
+use crate::numbers::{is_numeral, number_up_to};
+use crate::seeds::push_seeded;
+use tso_model::{Choice, Core, NoMemory};
+
+/// What a core is to do.
+#[derive(Clone, Copy, Debug, PartialEq, Eq)]
+pub enum Action {
+    Step,
+    Drain,
+}
+
+impl Action {
+    #[tactic(auto, unfolding(crate::specs::Reading::action_of))]
+    fn of(letter: u8) -> Option<Action>
+        ensures { result ≡ action_of letter }
+    {
+        match letter {
+            b's' => Some(Action::Step),
+            b'd' => Some(Action::Drain),
+            _ => None,
+        }
+    }
+
+    fn by(self, core: Core) -> Choice
+        ensures { result ≡ choice_by self core.0 }
+    {
+        match self {
+            Action::Step => Choice::Step(core),
+            Action::Drain => Choice::Drain(core),
+        }
+    }
+}
+
+/// An item: one word that is a choice, or the three words `seed N M` for the first M choices of the seed N.
+#[derive(Clone, Copy, Debug, PartialEq, Eq)]
+pub enum Item {
+    One(Choice),
+    Seeded(u64, usize),
+}
+
+impl Item {
+    /// How many words it has.
+    pub fn words(self) -> usize
+        ensures { result ≡ words_in self }
+    {
+        match self {
+            Item::One(_) => 1,
+            Item::Seeded(..) => 3,
+        }
+    }
+
+    /// Appends its choices. After a refusal the list may have some of them.
+    pub fn push_to(self, choices: &mut Vec<Choice>, cores: u8) -> Result<(), NoMemory>
+        requires { 0 < cores }
+        ensures { OnOk result (choices.new.items ≡ choices.old.items ++ made_of cores self) }
+    {
+        match self {
+            Item::One(choice) => choices.push(choice)?,
+            Item::Seeded(seed, count) => push_seeded(choices, cores, seed, count)?,
+        }
+        Ok(())
+    }
+}
+
+/// Reads a word that is to be digits and the letter of a step or a drain, where `room` choices more are allowed.
+#[tactic(auto, using(crate::proofs::Items::one_word))]
+fn read_one(cores: u8, room: usize, number: usize, word: &[u8]) -> Result<Item, ChoiceFault>
+    requires { 0 < cores }
+    ensures { result ≡ one_of cores room number word.now }
+{
+    let Some((letter, digits)) = word.split_last() else {
+        return Err(ChoiceFault::BadWord(number));
+    };
+    let Some(action) = Action::of(*letter) else {
+        return Err(ChoiceFault::BadWord(number));
+    };
+    if !is_numeral(digits) {
+        return Err(ChoiceFault::BadWord(number));
+    }
+    let Some(core) = number_up_to(u64::from(cores) - 1, digits) else {
+        return Err(ChoiceFault::NoSuchCore(number));
+    };
+    if room == 0 {
+        return Err(ChoiceFault::TooMany(number));
+    }
+    Ok(Item::One(action.by(Core(core as u8))))
+}
+
+/// The seed that a word says, if it is a number below 2^64.
+#[tactic(auto, unfolding(crate::specs::Reading::seed_of))]
+fn seed_of(word: &[u8]) -> Option<u64>
+    ensures { result ≡ seed_of word.now }
+{
+    if is_numeral(word) {
+        number_up_to(u64::MAX, word)
+    } else {
+        None
+    }
+}
+
+/// Reads the two words behind `seed`, whose own number is `number`, where `room` choices more are allowed.
+#[tactic(auto, using(crate::proofs::Items::seed_words))]
+fn read_seeded(room: usize, number: usize, rest: &[&[u8]]) -> Result<Item, ChoiceFault>
+    requires { number + length rest.now < 2 ^ 64 }
+    ensures { result ≡ seeded_of room number (texts rest.now) }
+{
+    if rest.len() < 2 {
+        return Err(ChoiceFault::BadWord(number));
+    }
+    let Some(seed) = seed_of(rest[0]) else {
+        return Err(ChoiceFault::BadWord(number + 1));
+    };
+    if !is_numeral(rest[1]) {
+        return Err(ChoiceFault::BadWord(number + 2));
+    }
+    let Some(count) = number_up_to(room as u64, rest[1]) else {
+        return Err(ChoiceFault::TooMany(number));
+    };
+    Ok(Item::Seeded(seed, count as usize))
+}
+
+/// Reads the item that begins with a word, whose number is `number`, where `room` choices more are allowed.
+#[tactic(auto, unfolding(crate::specs::Reading::item_of))]
+pub fn read_item(
+    cores: u8,
+    room: usize,
+    number: usize,
+    word: &[u8],
+    rest: &[&[u8]],
+) -> Result<Item, ChoiceFault>
+    requires there { 0 < cores }
+    requires numbered { number + length rest.now < 2 ^ 64 }
+    ensures { result ≡ item_of cores room number word.now (texts rest.now) }
+{
+    if word == b"seed".as_slice() {
+        read_seeded(room, number, rest)
+    } else {
+        read_one(cores, room, number, word)
+    }
+}

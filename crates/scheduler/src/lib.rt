@@ -1,0 +1,15 @@
+//! What is chosen next, and by which core: the texts that say it, and the choices of a seed.
+#![tactic(auto)]
+
+mod choices;
+pub mod fault;
+mod item;
+mod numbers;
+mod seeds;
+#[cfg(test)]
+mod tests;
+mod words;
+
+pub use choices::{MAX_CHOICES, read_choices, texts_are_decided};
+pub use fault::ChoiceFault;
+pub use seeds::seeded_choices;

@@ -1,0 +1,59 @@
+//! The choices of a seed.
+
+ghost use Rattle.std.specs.Prelude.{◌≡◌, ◌<◌, ◌++◌, IfOk, OnOk};
+ghost use Rattle.scheduler.specs.Seeds.{choice_of_word, seeded_choices};
+
+use rand_core::SeedableRng;
+use rand_core::utils::NextWord;
+use rand_pcg::Lcg64Xsh32;
+use std::alloc::Global;
+use tso_model::{Choice, Core, NoMemory};
+
+/// The choice that a word of the generator says in a test with so many cores: modulo twice the cores, it is twice the
+/// core, and 1 more for a drain.
+fn choice_of_word(cores: u8, word: u32) -> Choice
+    requires { 0 < cores }
+    ensures { result ≡ choice_of_word cores word }
+{
+    let pick = word % (2 * u32::from(cores));
+    let core = Core((pick / 2) as u8);
+    if pick % 2 == 0 {
+        Choice::Step(core)
+    } else {
+        Choice::Drain(core)
+    }
+}
+
+/// Appends the first `count` choices of a seed. After a refusal the list has some of them.
+pub fn push_seeded(
+    choices: &mut Vec<Choice>,
+    cores: u8,
+    seed: u64,
+    count: usize,
+) -> Result<(), NoMemory>
+    requires { 0 < cores }
+    ensures { OnOk result (choices.new.items ≡ choices.old.items ++ seeded_choices cores seed count) }
+{
+    let mut generator = Lcg64Xsh32::seed_from_u64(seed);
+    for _made in 0..count {
+        choices.push(choice_of_word(cores, generator.next_word()))?;
+    }
+    Ok(())
+}
+
+/// The first `count` choices of a seed in a test with so many cores: `seed N M` in a choice text.
+///
+/// They are made of the words of PCG XSH RR 64/32 (O'Neill), seeded by `rand_core`'s `seed_from_u64`.
+pub fn seeded_choices(
+    alloc: Global,
+    cores: u8,
+    seed: u64,
+    count: usize,
+) -> Result<Vec<Choice>, NoMemory>
+    requires { 0 < cores }
+    ensures { IfOk result (λ v. v.items ≡ seeded_choices cores seed count) }
+{
+    let mut choices = Vec::new(alloc);
+    push_seeded(&mut choices, cores, seed, count)?;
+    Ok(choices)
+}

@@ -1,0 +1,11 @@
+-- What a contract sees of a store buffer. (This project's profile.)
+use Rattle.std.specs.Prelude.{ℕ, List}
+use Rattle.store_buffer.specs.declared.Pending.{Pending}
+
+-- the pending stores, the oldest first, and how many there may be
+pub record Stores : Type 0 where
+  pub items : List Pending
+  pub depth : ℕ
+
+abbrev pub stores : List Pending → ℕ → Stores
+stores items depth = record { items = items; depth = depth }

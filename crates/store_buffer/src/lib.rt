@@ -1,0 +1,158 @@
+//! The store buffer of a core: the stores that it has issued and memory has not seen yet, first in,
+//! first out. (x86-TSO, section 3: each hardware thread has a FIFO store buffer, and a load reads the
+//! newest store to its location from its own; that a buffer is bounded is this project's profile.)
+#![tactic(auto)]
+
+ghost use Rattle.std.specs.Prelude.{◌≡◌, ◌<◌, ◌≤◌, ◌↔◌, [], ◌∷◌, ◌++◌, IsTrue, IfOk, OnOk, IfErr, length, drop, fold, slice_get};
+ghost use Rattle.store_buffer.specs.Newest.{newer};
+
+use circular_buffer::HeapCircularBuffer;
+use std::alloc::Global;
+use std::marker::Model;
+use tso_model::{Loc, NoMemory};
+
+/// How many stores a buffer may be made for, at most.
+pub const MAX_DEPTH: u8 = 32;
+
+/// A store that was issued and is not in memory yet: the number of its instruction in its program,
+/// its location and the value that it writes.
+#[derive(Clone, Copy, Debug, PartialEq, Eq)]
+pub struct Pending {
+    pub place: u8,
+    pub loc: Loc,
+    pub value: u32,
+}
+
+/// The pending stores of one core, the oldest first, and never more than the buffer's depth.
+#[derive(Drop)]
+pub struct StoreBuffer {
+    ring: HeapCircularBuffer<Pending>,
+}
+
+impl Model for StoreBuffer {
+    ghost use Rattle.std.specs.Prelude.{◌<◌, ◌≤◌, length};
+    ghost use Rattle.store_buffer.specs.Stores.{Stores, stores};
+
+    ghost Value = { Stores };
+
+    ghost view = { λ s. stores s.ring.items s.ring.capacity };
+
+    ghost invariant = { λ s. (length s.ring.items ≤ s.ring.capacity) × (0 < s.ring.capacity) };
+}
+
+impl StoreBuffer {
+    ghost use Rattle.store_buffer.specs.Stores.{stores};
+    ghost use Rattle.store_buffer.specs.Newest.{newest_for};
+
+    /// An empty buffer for `depth` stores, from 1 to `MAX_DEPTH`. No other call takes memory.
+    ///
+    /// Fails only for want of memory.
+    pub fn new(alloc: Global, depth: u8) -> Result<Self, NoMemory>
+        requires { (0 < depth) × (depth ≤ MAX_DEPTH) }
+        ensures { IfOk result (λ b. b ≡ stores [] depth) }
+    {
+        let ring = HeapCircularBuffer::with_capacity(alloc, usize::from(depth))?;
+        Ok(StoreBuffer { ring })
+    }
+
+    /// Appends a store. Hands it back, with nothing changed, exactly where as many stores are
+    /// pending as the buffer's depth.
+    pub fn put(&mut self, store: Pending) -> Result<(), Pending>
+        ensures full { (length self.old.items ≡ self.old.depth) ↔ (result ≡ Err store) }
+        ensures ok { OnOk result (self.new ≡ stores (self.old.items ++ store ∷ []) self.old.depth) }
+        ensures err { IfErr result (λ back. (back ≡ store) × (self.new ≡ self.old)) }
+        ensures within { length self.new.items ≤ self.new.depth }
+    {
+        self.ring.try_push_back(store)
+    }
+
+    /// The oldest store, if any is pending.
+    pub fn oldest(&self) -> Option<Pending>
+        ensures { result ≡ slice_get self.now.items 0 }
+    {
+        self.ring.front().copied()
+    }
+
+    /// Takes the oldest store out of the buffer, if any is pending.
+    pub fn take_oldest(&mut self) -> Option<Pending>
+        ensures taken { result ≡ slice_get self.old.items 0 }
+        ensures rest { self.new ≡ stores (drop 1 self.old.items) self.old.depth }
+    {
+        self.ring.pop_front()
+    }
+
+    /// The value of the newest store to the location, if any is pending: what a load of the buffer's
+    /// own core sees.
+    pub fn newest_for(&self, loc: Loc) -> Option<u32>
+        ensures { result ≡ newest_for loc.0 self.now.items }
+    {
+        newest_in(&self.ring, loc)
+    }
+
+    /// Whether nothing is pending.
+    pub fn is_empty(&self) -> bool
+        ensures { IsTrue result ↔ (self.now.items ≡ []) }
+    {
+        self.ring.is_empty()
+    }
+
+    /// Whether as many stores are pending as the buffer's depth, so that `put` would refuse one.
+    pub fn is_full(&self) -> bool
+        ensures full { IsTrue result ↔ (length self.now.items ≡ self.now.depth) }
+        ensures within { length self.now.items ≤ self.now.depth }
+    {
+        self.ring.is_full()
+    }
+}
+
+/// The value of the last store to the location, found on one walk from the oldest on.
+fn newest_in(ring: &HeapCircularBuffer<Pending>, loc: Loc) -> Option<u32>
+    ensures { result ≡ fold (newer loc.0) None ring.now.items }
+{
+    ring.iter().fold(
+        None,
+        |newest, p| if p.loc == loc { Some(p.value) } else { newest },
+    )
+}
+
+#[cfg(test)]
+mod tests {
+    use super::*;
+
+    fn store(place: u8, loc: u8, value: u32) -> Pending {
+        Pending {
+            place,
+            loc: Loc(loc),
+            value,
+        }
+    }
+
+    #[test]
+    fn stores_leave_in_the_order_in_which_they_came(rt: HostRuntime) {
+        let mut buffer = StoreBuffer::new(rt.alloc(), 2).expect(&rt, "memory is ample");
+        assert!(rt; buffer.is_empty() && !buffer.is_full());
+        assert_eq!(rt; buffer.oldest(), None);
+        assert_eq!(rt; buffer.put(store(0, 0, 1)), Ok(()));
+        assert_eq!(rt; buffer.put(store(1, 1, 2)), Ok(()));
+        assert!(rt; buffer.is_full());
+        assert_eq!(rt; buffer.put(store(2, 0, 3)), Err(store(2, 0, 3)));
+        assert_eq!(rt; buffer.oldest(), Some(store(0, 0, 1)));
+        assert_eq!(rt; buffer.take_oldest(), Some(store(0, 0, 1)));
+        assert_eq!(rt; buffer.put(store(2, 0, 3)), Ok(()));
+        assert_eq!(rt; buffer.take_oldest(), Some(store(1, 1, 2)));
+        assert_eq!(rt; buffer.take_oldest(), Some(store(2, 0, 3)));
+        assert_eq!(rt; buffer.take_oldest(), None);
+    }
+
+    #[test]
+    fn a_load_sees_the_newest_store_to_its_location(rt: HostRuntime) {
+        let mut buffer = StoreBuffer::new(rt.alloc(), 32).expect(&rt, "memory is ample");
+        assert_eq!(rt; buffer.newest_for(Loc(0)), None);
+        assert_eq!(rt; buffer.put(store(0, 0, 1)), Ok(()));
+        assert_eq!(rt; buffer.put(store(1, 0, 2)), Ok(()));
+        assert_eq!(rt; buffer.put(store(2, 1, 3)), Ok(()));
+        assert_eq!(rt; buffer.newest_for(Loc(0)), Some(2));
+        assert_eq!(rt; buffer.newest_for(Loc(1)), Some(3));
+        assert_eq!(rt; buffer.newest_for(Loc(2)), None);
+    }
+}

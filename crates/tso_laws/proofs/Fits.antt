@@ -1,0 +1,69 @@
+-- The entries of a program have its places and its locations.
+use Rattle.std.proofs.Common.{◌≡◌, ◌≢◌, ◌<◌, ◌≤◌, ℕ, ◌+◌, zero, suc, List, [], ◌∷◌, Some, length, take, slice_get, arith, sym, refl, subst}
+use Rattle.tso_model.specs.Litmus.{Litmus, IsTest, KnownLocation}
+use Rattle.tso_model.specs.Thread.{entries_of}
+use Rattle.tso_model.specs.Execution.{IsTsoExecution, StandsIn, made, made_by, read_values}
+use Rattle.tso_model.specs.FlatMachine.{program_of}
+use Rattle.tso_model.specs.declared.instruction.Instr.{Instr}
+use Rattle.tso_model.specs.declared.instruction.Instr.TheVariants.{StoreImm, StoreReg, Load, SetImm, SetReg, Fence, Xchg, Xadd}
+use Rattle.tso_model.specs.declared.execution.Entry.{Entry}
+use Rattle.tso_model.specs.declared.execution.Kind.TheVariants.{F}
+use Rattle.tso_laws.specs.Entries.{FitsTest}
+use Rattle.tso_laws.proofs.Lists.{Each, Member}
+use Rattle.tso_laws.proofs.Folds.{HasLocations}
+use Rattle.tso_laws.proofs.Held.{each-of}
+use Rattle.tso_laws.proofs.Goes.{first_of}
+use Rattle.tso_laws.proofs.Onward.{entries-below}
+use Rattle.tso_laws.proofs.Whole.{at-member, made-at, of-core, tso-own}
+
+abbrev Placed : ℕ → Entry → Type 0
+Placed n e = (e.kind ≢ F → e.loc.0 < n) × (e.kind ≡ F → (e.loc.0 ≡ 0) × (e.value ≡ 0))
+
+entries-located : (n c place : ℕ) (p : List Instr) (registers reads : List ℕ) → ((i : ℕ) (x : Instr) → slice_get p i ≡ Some x → KnownLocation n x) → Each (Placed n) (entries_of c place p registers reads)
+entries-located n c place [] registers reads f = tt
+entries-located n c place (StoreImm loc value ∷ p) registers reads f = ((λ k. f 0 (StoreImm loc value) refl, λ k. absurd (let z : ⊥ = cc in z)), entries-located n c (place + 1) p _ _ (λ i. f (suc i)))
+entries-located n c place (StoreReg loc reg ∷ p) registers reads f = ((λ k. f 0 (StoreReg loc reg) refl, λ k. absurd (let z : ⊥ = cc in z)), entries-located n c (place + 1) p _ _ (λ i. f (suc i)))
+entries-located n c place (Load reg loc ∷ p) registers reads f = ((λ k. f 0 (Load reg loc) refl, λ k. absurd (let z : ⊥ = cc in z)), entries-located n c (place + 1) p _ _ (λ i. f (suc i)))
+entries-located n c place (SetImm reg value ∷ p) registers reads f = entries-located n c (place + 1) p _ _ (λ i. f (suc i))
+entries-located n c place (SetReg reg other ∷ p) registers reads f = entries-located n c (place + 1) p _ _ (λ i. f (suc i))
+entries-located n c place (Fence ∷ p) registers reads f = ((λ k. absurd (k refl), λ k. (refl, refl)), entries-located n c (place + 1) p _ _ (λ i. f (suc i)))
+entries-located n c place (Xchg loc reg ∷ p) registers reads f = ((λ k. f 0 (Xchg loc reg) refl, λ k. absurd (let z : ⊥ = cc in z)), ((λ k. f 0 (Xchg loc reg) refl, λ k. absurd (let z : ⊥ = cc in z)), entries-located n c (place + 1) p _ _ (λ i. f (suc i))))
+entries-located n c place (Xadd loc reg ∷ p) registers reads f = ((λ k. f 0 (Xadd loc reg) refl, λ k. absurd (let z : ⊥ = cc in z)), ((λ k. f 0 (Xadd loc reg) refl, λ k. absurd (let z : ⊥ = cc in z)), entries-located n c (place + 1) p _ _ (λ i. f (suc i))))
+
+-- an entry that a beginning of a program makes
+pub made-fits : (t : Litmus) (n : ℕ) (order : List Entry) (e : Entry) → IsTest t → HasLocations t → e.core.0 < length t.programs
+    → Member e (made_by e.core.0 (take n (program_of t e.core.0)) (first_of t e.core.0) order) → FitsTest t e
+made-fits t n order e test known l m =
+    let k : ℕ = e.core.0 in
+    let p : List Instr = take n (program_of t k) in
+    let a = each-of (λ e. e.place < 0 + length p) e _ (entries-below k 0 p (first_of t k) (read_values k 0 p order)) m in
+    let b : Placed (length t.words) e = each-of (Placed (length t.words)) e _ (entries-located (length t.words) k 0 p (first_of t k) (read_values k 0 p order) (λ i x q. known k i x (in-take n (program_of t k) i x q))) m in
+    let s = short n (program_of t k) in
+    record { core = l; place = omega (arith, a, s); location = λ f. subst (λ z. e.loc.0 < z) test.words_given (b.0 f); fence = b.1 }
+  where
+    short : (n : ℕ) (p : List Instr) → length (take n p) ≤ length p
+    short zero p = omega arith
+    short (suc n) [] = omega arith
+    short (suc n) (x ∷ p) = let h = short n p in omega arith
+
+    in-take : (n : ℕ) (p : List Instr) (i : ℕ) (x : Instr) → slice_get (take n p) i ≡ Some x → slice_get p i ≡ Some x
+    in-take zero p i x q = absurd (let z : ⊥ = cc in z)
+    in-take (suc n) [] i x q = q
+    in-take (suc n) (y ∷ p) zero x q = q
+    in-take (suc n) (y ∷ p) (suc i) x q = in-take n p i x q
+
+take-all : (p : List Instr) → take (length p) p ≡ p
+take-all [] = refl
+take-all (x ∷ p) = let h = take-all p in cc
+
+pub execution-fits : (t : Litmus) (order : List Entry) (e : Entry) → IsTest t → HasLocations t → IsTsoExecution t order → StandsIn order e → FitsTest t e
+execution-fits t order e test known tso m =
+    let h = (tso-own t order tso).in_made e (at-member order m.0 e m.1) in
+    made-fits t (length (program_of t e.core.0)) order e test known h.0
+    (subst (λ z. Member e (made_by e.core.0 z (first_of t e.core.0) order)) (sym (take-all (program_of t e.core.0))) h.1)
+
+pub made-entry-fits : (t : Litmus) (order : List Entry) (e : Entry) → IsTest t → HasLocations t → StandsIn (made t order) e → FitsTest t e
+made-entry-fits t order e test known s =
+    let h = of-core t order e (made-at 0 t.programs t.registers order e (at-member (made t order) s.0 e s.1)) in
+    made-fits t (length (program_of t e.core.0)) order e test known h.0
+    (subst (λ z. Member e (made_by e.core.0 z (first_of t e.core.0) order)) (sym (take-all (program_of t e.core.0))) h.1)

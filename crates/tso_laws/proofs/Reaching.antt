@@ -1,0 +1,67 @@
+-- The greatest depth is enough, and what runs end with are exactly the executions.
+use Rattle.std.proofs.Common.{◌<◌, ◌≤◌, ◌↔◌, ◌≢◌, ap, ℕ, suc, List, [], ◌∷◌, length, slice_index_or, arith, subst}
+use Rattle.tso_model.specs.Litmus.{Litmus, IsTest}
+use Rattle.tso_model.specs.Execution.{IsTsoExecution}
+use Rattle.tso_model.specs.declared.instruction.Instr.{Instr}
+use Rattle.tso_model.specs.declared.instruction.Instr.TheVariants.{StoreImm, StoreReg, Load, SetImm, SetReg, Fence, Xchg, Xadd}
+use Rattle.tso_model.specs.declared.execution.Entry.{Entry}
+use Rattle.tso_model.specs.Runs.{run}
+use Rattle.tso_model.specs.declared.choice.Choice.{Choice}
+use Rattle.tso_laws.proofs.Basics.{max-within}
+use Rattle.tso_laws.specs.Counting.{is_plain_store, stores_in, most_stores}
+use Rattle.tso_laws.specs.Depth.{needed}
+use Rattle.tso_laws.specs.Along.{choices_along, LeadTo}
+use Rattle.tso_laws.specs.Reached.{IsReached}
+use Rattle.tso_laws.proofs.Folds.{needed-is}
+use Rattle.tso_laws.proofs.Along.{witness-leads}
+use Rattle.tso_laws.proofs.Whole.{tso-good}
+use Rattle.tso_laws.proofs.Beginnings.{run-is-execution, run-needs}
+use Rattle.tso_laws.proofs.Most.{most-is-enough}
+use Rattle.tso_laws.proofs.SoFar.{test-locations}
+
+pub execution-leads : (t : Litmus) (d : ℕ) (order : List Entry) → IsTest t → IsTsoExecution t order → needed order ≤ d → LeadTo t d (choices_along t order) order
+execution-leads t d order test tso n = witness-leads d t order (tso-good d t order (test-locations t test) tso (subst (λ z. z ≤ d) (needed-is order) n))
+
+stores-length : (p : List Instr) → stores_in p ≤ length p
+stores-length [] = omega arith
+stores-length (x ∷ p) = let h = stores-length p in let w = one x in omega arith
+  where
+    one : (x : Instr) → is_plain_store x ≤ 1
+    one (StoreImm loc value) = omega arith
+    one (StoreReg loc reg) = omega arith
+    one (Load reg loc) = omega arith
+    one (SetImm reg value) = omega arith
+    one (SetReg reg other) = omega arith
+    one Fence = omega arith
+    one (Xchg loc reg) = omega arith
+    one (Xadd loc reg) = omega arith
+
+most-within : (ps : List (List Instr)) (n : ℕ) → ((k : ℕ) → k < length ps → length (slice_index_or ps k []) ≤ n) → most_stores ps ≤ n
+most-within [] n f = omega arith
+most-within (p ∷ ps) n f =
+    max-within (stores_in p) (most_stores ps) n (let a = stores-length p in let b = f 0 (omega arith) in omega arith) (most-within ps n (λ k l. f (suc k) (omega arith)))
+
+pub greatest-is-enough : (t : Litmus) (order : List Entry) → IsTest t → IsTsoExecution t order → needed order ≤ 32
+greatest-is-enough t order test tso =
+    let a = most-is-enough t order tso in let b = most-within t.programs 32 (λ k l. (test.programs_fit k [] l).size) in omega arith
+
+reached-execution : (t : Litmus) (d : ℕ) (order : List Entry) → IsTest t → IsReached t d order → IsTsoExecution t order
+reached-execution t d order test r = subst (λ z. IsTsoExecution t z) r.commits (run-is-execution t d r.choices (test-locations t test) r.ended).order
+
+reached-needs : (t : Litmus) (d : ℕ) (order : List Entry) → IsTest t → 0 < d → IsReached t d order → needed order ≤ d
+reached-needs t d order test p r = subst (λ z. needed z ≤ d) r.commits (run-needs t d r.choices p (test-locations t test))
+
+pub never : (t : Litmus) (d : ℕ) (order : List Entry) (cs : List Choice) → IsTest t → 0 < d → d < needed order → (run t d cs).commits ≢ order
+never t d order cs test p l q = let n = run-needs t d cs p (test-locations t test) in let m = ap needed q in omega arith
+
+execution-reached : (t : Litmus) (d : ℕ) (order : List Entry) → IsTest t → IsTsoExecution t order → needed order ≤ d → IsReached t d order
+execution-reached t d order test tso n =
+    let w = execution-leads t d order test tso n in
+    record { choices = choices_along t order; cores = w.cores; ended = w.ended; commits = w.commits }
+
+pub reached-exactly : (t : Litmus) (d : ℕ) (order : List Entry) → IsTest t → 0 < d → IsReached t d order ↔ (IsTsoExecution t order × (needed order ≤ d))
+reached-exactly t d order test p = (λ r. (reached-execution t d order test r, reached-needs t d order test p r), λ h. execution-reached t d order test h.0 h.1)
+
+pub greatest-exactly : (t : Litmus) (order : List Entry) → IsTest t → IsReached t 32 order ↔ IsTsoExecution t order
+greatest-exactly t order test =
+    (λ r. reached-execution t 32 order test r, λ h. execution-reached t 32 order test h (greatest-is-enough t order test h))

@@ -1,0 +1,40 @@
+-- How much there is to do in a test.
+use Rattle.std.specs.Prelude.{max, ℕ, ◌+◌, List, [], ◌∷◌, length}
+use Rattle.tso_model.specs.declared.instruction.Instr.{Instr}
+use Rattle.tso_model.specs.declared.instruction.Instr.TheVariants.{StoreImm, StoreReg, Load, SetImm, SetReg, Fence, Xchg, Xadd}
+
+-- 1 for a plain store, else 0
+abbrev pub is_plain_store : Instr → ℕ
+is_plain_store (StoreImm loc value) = 1
+is_plain_store (StoreReg loc reg) = 1
+is_plain_store (Load reg loc) = 0
+is_plain_store (SetImm reg value) = 0
+is_plain_store (SetReg reg other) = 0
+is_plain_store Fence = 0
+is_plain_store (Xchg loc reg) = 0
+is_plain_store (Xadd loc reg) = 0
+
+-- the plain stores of a program
+abbrev pub stores_in : List Instr → ℕ
+stores_in [] = 0
+stores_in (x ∷ xs) = is_plain_store x + stores_in xs
+
+-- the instructions of all programs
+abbrev pub instructions : List (List Instr) → ℕ
+instructions [] = 0
+instructions (p ∷ ps) = length p + instructions ps
+
+-- the plain stores of all programs
+abbrev pub stores : List (List Instr) → ℕ
+stores [] = 0
+stores (p ∷ ps) = stores_in p + stores ps
+
+-- the greatest number of plain stores in one program
+abbrev pub most_stores : List (List Instr) → ℕ
+most_stores [] = 0
+most_stores (p ∷ ps) = max (stores_in p) (most_stores ps)
+
+-- the length of the longest program
+abbrev pub longest : List (List Instr) → ℕ
+longest [] = 0
+longest (p ∷ ps) = max (length p) (longest ps)

@@ -1,0 +1,16 @@
+pub mod Choices
+pub mod Entries
+pub mod SoFar
+pub mod EndedRuns
+pub mod Stopping
+pub mod Counting
+pub mod Rounds
+pub mod Depth
+pub mod Along
+pub mod Reached
+pub mod WorkedRuns
+pub use Rattle.tso_model.specs.Litmus
+pub use Rattle.tso_model.specs.Execution
+pub use Rattle.tso_model.specs.FlatMachine
+pub use Rattle.tso_model.specs.Runs
+pub use Rattle.tso_model.specs.Examples

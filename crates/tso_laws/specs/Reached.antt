@@ -1,0 +1,13 @@
+-- Orders that runs end with.
+use Rattle.std.specs.Prelude.{ℕ, ◌≡◌, true, List, length}
+use Rattle.tso_model.specs.Litmus.{Litmus}
+use Rattle.tso_model.specs.Runs.{run, CoresExist}
+use Rattle.tso_model.specs.declared.execution.Entry.{Entry}
+use Rattle.tso_model.specs.declared.choice.Choice.{Choice}
+
+-- at this depth some choices of the test's cores end the test with this very order
+pub record IsReached (t : Litmus) (depth : ℕ) (order : List Entry) : Type 0 where
+  pub choices : List Choice
+  pub cores : CoresExist (length t.programs) choices
+  pub ended : (run t depth choices).ended ≡ true
+  pub commits : (run t depth choices).commits ≡ order

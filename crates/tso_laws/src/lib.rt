@@ -1,0 +1,151 @@
+//! The laws of the flat machine: whatever the choices, an ended run is a TSO execution, and every
+//! TSO execution is a run.
+//!
+//! Nothing here computes. Each public function has an empty body, and its contract is a law on the
+//! definitions: a body that needs the law calls the function, and knows it from then on. The proofs
+//! are long, and stand beside the chain of crates in this way, and not in it.
+//!
+//! Sources: the Primer, chapter "Total Store Order", for the axioms; the x86-TSO paper for the
+//! machine. Rounds, the depth that an order needs and the choices along an order are this project's.
+#![tactic(auto)]
+
+ghost use Rattle.std.specs.Prelude.{ℕ, ◌+◌, ◌*◌, ◌<◌, ◌≤◌, ◌≡◌, ◌≢◌, ◌↔◌, true, List, [], ◌++◌, length};
+ghost use Rattle.tso_model.specs.Litmus.{Litmus, IsTest};
+ghost use Rattle.tso_model.specs.Execution.{made, IsTsoExecution, KeepsAllOrder, StandsIn};
+ghost use Rattle.tso_model.specs.FlatMachine.{State, start, effect_of, after_choice};
+ghost use Rattle.tso_model.specs.Runs.{run};
+ghost use Rattle.tso_model.specs.Examples.{sb, sb_order, sb_choices, n6, n6_order};
+ghost use Rattle.tso_model.specs.declared.execution.Entry.{Entry};
+ghost use Rattle.tso_model.specs.declared.choice.Choice.{Choice};
+ghost use Rattle.tso_model.specs.declared.choice.Stall.{Stall};
+ghost use Rattle.tso_model.specs.declared.choice.Outcome.TheVariants.{Stalled};
+ghost use Rattle.tso_laws.specs.Choices.{state_after, commits_of, IsPossible};
+ghost use Rattle.tso_laws.specs.Entries.{FitsTest};
+ghost use Rattle.tso_laws.specs.SoFar.{SoFar};
+ghost use Rattle.tso_laws.specs.EndedRuns.{End, IsExecution};
+ghost use Rattle.tso_laws.specs.Stopping.{ChangesNothing, StopsAtTheEnd};
+ghost use Rattle.tso_laws.specs.Counting.{instructions, stores, most_stores, longest};
+ghost use Rattle.tso_laws.specs.Rounds.{CanBeCutIntoRounds};
+ghost use Rattle.tso_laws.specs.Depth.{needed};
+ghost use Rattle.tso_laws.specs.Along.{choices_along, LeadTo};
+ghost use Rattle.tso_laws.specs.Reached.{IsReached};
+ghost use Rattle.tso_laws.specs.WorkedRuns.{n6_along, sb_along, sb_rounds, two_stores, two_passed, two_stalled, moved_last, moved_order, moved_along};
+
+/// The states that choices can lead to, with what was committed on the way: the first state is one,
+/// each choice leads from one to one, and each run leads to one.
+pub fn choices_lead_from_state_to_state()
+    ensures first { (t : Litmus) (depth : ℕ) → IsPossible t depth [] (start t) }
+    ensures next { (t : Litmus) (depth : ℕ) (commits : List Entry) (state : State) (choice : Choice) → IsPossible t depth commits state → IsPossible t depth (commits ++ (effect_of t depth state choice).commits) (after_choice t depth state choice) }
+    ensures runs { (t : Litmus) (depth : ℕ) (choices : List Choice) → IsPossible t depth (run t depth choices).commits (run t depth choices).state }
+{}
+
+/// What holds in each state that choices lead to, whether the test has ended or not: the commits
+/// meet the axioms as far as they go, each core's pending list is its issued and uncommitted plain
+/// stores in program order, memory has the last write to each location, and the registers are the
+/// threads' so far.
+pub fn what_holds_so_far()
+    ensures in_each_state { (t : Litmus) (depth : ℕ) (commits : List Entry) (state : State) → IsTest t → IsPossible t depth commits state → SoFar t depth commits state }
+    ensures after_choices { (t : Litmus) (depth : ℕ) (choices : List Choice) → IsTest t → SoFar t depth (commits_of t depth (start t) choices) (state_after t depth (start t) choices) }
+    ensures in_runs { (t : Litmus) (depth : ℕ) (choices : List Choice) → IsTest t → SoFar t depth (run t depth choices).commits (run t depth choices).state }
+{}
+
+/// Each entry that the programs make, and so each entry of a TSO execution, has a core, a place and
+/// a location of the test; a fence has location 0 and value 0.
+pub fn entries_fit_the_test()
+    ensures made { (t : Litmus) (order : List Entry) (e : Entry) → IsTest t → StandsIn (made t order) e → FitsTest t e }
+    ensures executions { (t : Litmus) (order : List Entry) (e : Entry) → IsTest t → IsTsoExecution t order → StandsIn order e → FitsTest t e }
+{}
+
+/// What an ended run commits is a TSO execution of the test, and its memory and registers are the
+/// final state of that order.
+pub fn ended_runs_are_executions()
+    ensures { (t : Litmus) (depth : ℕ) (choices : List Choice) → IsTest t → End t depth choices → IsExecution t (run t depth choices) }
+{}
+
+/// A run uses its choices up to the first moment at which the test has ended, and counts the
+/// others as unused; behind that moment no choice commits or changes anything.
+pub fn runs_stop_where_they_end()
+    ensures stops { (t : Litmus) (depth : ℕ) (choices : List Choice) → StopsAtTheEnd t depth choices (run t depth choices) }
+    ensures nothing_more { (t : Litmus) (depth : ℕ) (choices : List Choice) (choice : Choice) → End t depth choices → ChangesNothing t depth (run t depth choices).state choice }
+{}
+
+/// A choice that stalls changes nothing, and commits nothing.
+pub fn stalls_change_nothing()
+    ensures { (t : Litmus) (depth : ℕ) (state : State) (choice : Choice) (why : Stall) → (effect_of t depth state choice).outcome ≡ Stalled why → ChangesNothing t depth state choice }
+{}
+
+/// In an ended run the choices that didn't stall are as many as all instructions and, where stores
+/// are buffered, all plain stores together: each instruction took effect once, and each plain store
+/// was drained once.
+pub fn runs_are_counted()
+    ensures buffered { (t : Litmus) (depth : ℕ) (choices : List Choice) → 0 < depth → End t depth choices → (run t depth choices).used ≡ (run t depth choices).stalled + (instructions t.programs + stores t.programs) }
+    ensures unbuffered { (t : Litmus) (choices : List Choice) → End t 0 choices → (run t 0 choices).used ≡ (run t 0 choices).stalled + instructions t.programs }
+{}
+
+/// A list that can be cut into twice as many rounds as the longest program has instructions, and a
+/// rest, ends the test.
+pub fn fair_rounds_end()
+    ensures { (t : Litmus) (depth : ℕ) (choices : List Choice) → CanBeCutIntoRounds (length t.programs) (2 * longest t.programs) choices → End t depth choices }
+{}
+
+/// At depth 0, where no store is buffered, the order of a run keeps every two entries of program
+/// order, without exception: sequential consistency.
+pub fn no_buffer_no_reordering()
+    ensures { (t : Litmus) (choices : List Choice) → IsTest t → KeepsAllOrder (run t 0 choices).commits }
+{}
+
+/// The choices made along a TSO execution end the test with that very order, where the depth is
+/// enough; none stalls and none is left over.
+pub fn every_execution_is_reached()
+    ensures { (t : Litmus) (depth : ℕ) (order : List Entry) → IsTest t → IsTsoExecution t order → needed order ≤ depth → LeadTo t depth (choices_along t order) order }
+{}
+
+/// What a run commits needs no more than the run's depth; so at a smaller depth no list of choices
+/// commits an order that needs more.
+pub fn smaller_depths_never_reach()
+    ensures within { (t : Litmus) (depth : ℕ) (choices : List Choice) → IsTest t → 0 < depth → needed (run t depth choices).commits ≤ depth }
+    ensures never { (t : Litmus) (depth : ℕ) (order : List Entry) (choices : List Choice) → IsTest t → 0 < depth → depth < needed order → (run t depth choices).commits ≢ order }
+{}
+
+/// A TSO execution needs no more depth than the most plain stores of one program, and so never more
+/// than 32.
+pub fn most_stores_are_depth_enough()
+    ensures of_a_program { (t : Litmus) (order : List Entry) → IsTsoExecution t order → needed order ≤ most_stores t.programs }
+    ensures greatest { (t : Litmus) (order : List Entry) → IsTest t → IsTsoExecution t order → needed order ≤ 32 }
+{}
+
+/// The orders that runs end with, at a depth of 1 or more, are exactly the TSO executions that need
+/// no more; at the greatest depth they are exactly the TSO executions.
+pub fn runs_reach_exactly_the_executions()
+    ensures by_depth { (t : Litmus) (depth : ℕ) (order : List Entry) → IsTest t → 0 < depth → IsReached t depth order ↔ (IsTsoExecution t order × (needed order ≤ depth)) }
+    ensures at_the_greatest { (t : Litmus) (order : List Entry) → IsTest t → IsReached t 32 order ↔ IsTsoExecution t order }
+{}
+
+/// Worked runs, and the choices along worked orders.
+pub fn worked_runs()
+    ensures sb_order_of_the_run { (run sb 4 sb_choices).commits ≡ sb_order }
+    ensures sb_used { (run sb 4 sb_choices).used ≡ 6 }
+    ensures sb_stalled { (run sb 4 sb_choices).stalled ≡ 0 }
+    ensures sb_unused { (run sb 4 sb_choices).unused ≡ 0 }
+    ensures sb_needs_one { needed sb_order ≡ 1 }
+    ensures sb_along_its_order { choices_along sb sb_order ≡ sb_along }
+    ensures n6_needs_one { needed n6_order ≡ 1 }
+    ensures n6_along_its_order { choices_along n6 n6_order ≡ n6_along }
+    ensures n6_run { (run n6 1 n6_along).commits ≡ n6_order }
+    ensures n6_run_deeper { (run n6 4 n6_along).commits ≡ n6_order }
+    ensures two_passed_need_two { needed two_passed ≡ 2 }
+    ensures two_passed_at_two { (run two_stores 2 (choices_along two_stores two_passed)).commits ≡ two_passed }
+    ensures full_is_counted { (run two_stores 1 two_stalled).stalled ≡ 1 }
+    ensures moved_at_the_end { choices_along moved_last moved_order ≡ moved_along }
+{}
+
+/// The laws' premises are met: the store-buffering test is within the limits, its first run ends,
+/// its order is a TSO execution, and four rounds of it are what the law on rounds asks for.
+pub fn premises_are_met()
+    ensures test { IsTest sb }
+    ensures ended { End sb 4 sb_choices }
+    ensures unbuffered { End sb 0 sb_choices }
+    ensures shallow { End two_stores 1 two_stalled }
+    ensures execution { IsTsoExecution sb sb_order }
+    ensures rounds { CanBeCutIntoRounds (length sb.programs) (2 * longest sb.programs) sb_rounds }
+{}

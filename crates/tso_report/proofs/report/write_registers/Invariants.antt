@@ -1,0 +1,7 @@
+use Rattle.std.proofs.Common.{◌≡◌, ◌++◌, drop, string_bytes}
+use Rattle.tso_report.specs.Report.{register_lines}
+use Rattle.tso_report.proofs.report.write_registers.Given as goal
+
+abbrev pub invariant-loop-core : goal.invariant-loop-core
+invariant-loop-core l =
+    string_bytes l.text ++ register_lines l.core (drop l.core l.registers) ≡ string_bytes l.initial.text ++ register_lines 0 l.registers

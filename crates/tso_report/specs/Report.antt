@@ -1,0 +1,84 @@
+-- The text of a run that ended. (This project's profile.)
+use Rattle.std.specs.Prelude.{ℕ, ◌+◌, Bool, true, false, List, [], ◌∷◌, ◌++◌, Option, Some, None, codes}
+use Rattle.std.specs.Fmt.{decimal}
+use Rattle.tso_model.specs.Litmus.{Litmus}
+use Rattle.tso_model.specs.Condition.{Condition}
+use Rattle.tso_model.specs.Registers.{name_of}
+use Rattle.tso_model.specs.Thread.{value_in}
+use Rattle.tso_model.specs.declared.register.Reg.{Reg}
+use Rattle.tso_model.specs.declared.register.Reg.TheVariants.{Eax, Ebx, Ecx, Edx, Esi, Edi}
+use Rattle.tso_model.specs.declared.condition.Quantifier.{Quantifier}
+use Rattle.tso_model.specs.declared.condition.Quantifier.TheVariants.{Exists, NotExists, Forall}
+use Rattle.order_builder.specs.PrintedOrder.{printed_order}
+use Rattle.tso_report.specs.Shown.{Shown}
+
+abbrev pub line : List ℕ → List ℕ
+line text = text ++ 10 ∷ []
+
+-- `Test NAME`
+abbrev pub test_line : Litmus → List ℕ
+test_line t = codes "Test " ++ line t.name
+
+-- `Machine flat depth=D`
+abbrev pub machine_line : ℕ → List ℕ
+machine_line depth = codes "Machine flat depth=" ++ line (decimal depth)
+
+-- ` EAX=v`
+abbrev pub printed_register : List ℕ → Reg → List ℕ
+printed_register registers reg = codes " " ++ (name_of reg ++ (codes "=" ++ decimal (value_in registers reg)))
+
+abbrev pub printed_registers : List ℕ → List Reg → List ℕ
+printed_registers registers [] = []
+printed_registers registers (reg ∷ rest) = printed_register registers reg ++ printed_registers registers rest
+
+unfoldable pub all_registers : List Reg
+all_registers = Eax ∷ (Ebx ∷ (Ecx ∷ (Edx ∷ (Esi ∷ (Edi ∷ [])))))
+
+-- `Registers Pc EAX=v ..`
+abbrev pub register_line : ℕ → List ℕ → List ℕ
+register_line core registers = codes "Registers P" ++ (decimal core ++ line (printed_registers registers all_registers))
+
+-- a line for each core
+abbrev pub register_lines : ℕ → List (List ℕ) → List ℕ
+register_lines core [] = []
+register_lines core (registers ∷ rest) = register_line core registers ++ register_lines (core + 1) rest
+
+-- ` x=v` for each location
+abbrev pub printed_words : List (List ℕ) → List ℕ → List ℕ
+printed_words [] words = []
+printed_words (name ∷ names) [] = []
+printed_words (name ∷ names) (word ∷ words) = codes " " ++ (name ++ (codes "=" ++ (decimal word ++ printed_words names words)))
+
+-- `Memory x=v ..`
+abbrev pub memory_line : Litmus → List ℕ → List ℕ
+memory_line t words = codes "Memory" ++ line (printed_words t.locations words)
+
+abbrev pub printed_quantifier : Quantifier → List ℕ
+printed_quantifier Exists = codes "exists"
+printed_quantifier NotExists = codes "~exists"
+printed_quantifier Forall = codes "forall"
+
+abbrev pub printed_truth : Bool → List ℕ
+printed_truth true = codes "true"
+printed_truth false = codes "false"
+
+-- the condition's quantifier and the truth of its proposition, or `none`
+abbrev pub printed_verdict : Option Condition → Option Bool → List ℕ
+printed_verdict None holds = codes "none"
+printed_verdict (Some condition) None = codes "none"
+printed_verdict (Some condition) (Some holds) = printed_quantifier condition.quantifier ++ (codes " " ++ printed_truth holds)
+
+-- `Condition exists true`
+abbrev pub condition_line : Litmus → Option Bool → List ℕ
+condition_line t holds = codes "Condition " ++ line (printed_verdict t.condition holds)
+
+-- `Choices used=U stalled=S unused=N`
+abbrev pub choices_line : ℕ → ℕ → ℕ → List ℕ
+choices_line used stalled unused =
+    codes "Choices used=" ++ (decimal used ++ (codes " stalled=" ++ (decimal stalled ++ (codes " unused=" ++ line (decimal unused)))))
+
+-- the report of a run of the test at this depth
+abbrev pub report : Litmus → ℕ → Shown → List ℕ
+report t depth s =
+    test_line t ++ (machine_line depth ++ (printed_order t s.order ++ (register_lines 0 s.registers
+    ++ (memory_line t s.memory ++ (condition_line t s.holds ++ choices_line s.used s.stalled s.unused)))))

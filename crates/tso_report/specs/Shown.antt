@@ -1,0 +1,34 @@
+-- What a report shows of a run. (This project's profile.)
+use Rattle.std.specs.Prelude.{ℕ, ◌≡◌, Bool, List, length, Option, is_some, All}
+use Rattle.tso_model.specs.Litmus.{Litmus}
+use Rattle.tso_model.specs.declared.execution.Entry.{Entry}
+use Rattle.order_builder.specs.PrintedOrder.{HasLocation}
+use Rattle.tso_report.specs.declared.run.Run.{Run}
+
+-- the order, the registers of each core, the words, the verdict, and the counts of choices
+pub record Shown : Type 0 where
+  pub order : List Entry
+  pub registers : List (List ℕ)
+  pub memory : List ℕ
+  pub holds : Option Bool
+  pub used : ℕ
+  pub stalled : ℕ
+  pub unused : ℕ
+
+abbrev pub shown : Run → Shown
+shown r = record {
+  order = r.execution.order.items;
+  registers = r.registers.items;
+  memory = r.memory.items;
+  holds = r.holds;
+  used = r.used;
+  stalled = r.stalled;
+  unused = r.unused;
+}
+
+-- a run of this test: registers for each core, a word for each location, a verdict where there is a condition
+pub record IsOf (t : Litmus) (s : Shown) : Type 0 where
+  pub locations : All (HasLocation t) s.order
+  pub registers : length s.registers ≡ length t.programs
+  pub memory : length s.memory ≡ length t.locations
+  pub verdict : is_some s.holds ≡ is_some t.condition

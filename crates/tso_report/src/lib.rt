@@ -1,0 +1,8 @@
+//! What is printed of a run.
+#![tactic(auto)]
+
+pub mod report;
+pub mod run;
+
+pub use report::report_text;
+pub use run::Run;

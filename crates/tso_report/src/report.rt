@@ -1,0 +1,140 @@
+ghost use Rattle.std.specs.Prelude.{◌≡◌, ◌++◌, ◌∷◌, [], IfOk, OnOk, string_bytes, length, slice_index_or, Option, is_some};
+ghost use Rattle.tso_report.specs.Shown.{shown, IsOf};
+ghost use Rattle.tso_report.specs.Report.{report, line, test_line, machine_line, printed_register, printed_registers, all_registers, register_line, register_lines, printed_words, memory_line, printed_verdict, condition_line, choices_line, printed_quantifier, printed_truth};
+
+use crate::run::Run;
+use machine_core::Config;
+use order_builder::order_text;
+use std::alloc::Global;
+use tso_model::{Loc, NoMemory, Quantifier, Reg, Test};
+
+/// The report of a run: the test, the machine, the order in which memory saw the run, the final
+/// state, the verdict and the counts of choices, each on lines of its own.
+///
+/// Fails only for want of memory.
+pub fn report_text(
+    alloc: Global,
+    test: &Test,
+    config: Config,
+    run: &Run,
+) -> Result<String, NoMemory>
+    requires { IsOf test.now (shown run.now) }
+    ensures { IfOk result (λ text. string_bytes text ≡ report test.now config.depth (shown run.now)) }
+{
+    let mut text = String::new(alloc);
+    write_test(&mut text, test)?;
+    write_machine(&mut text, config)?;
+    text.push_str(&order_text(alloc, test, &run.execution)?)?;
+    write_registers(&mut text, &run.registers)?;
+    write_memory(&mut text, test, &run.memory)?;
+    write_condition(&mut text, test, run.holds)?;
+    write_choices(&mut text, run)?;
+    Ok(text)
+}
+
+fn write_test(text: &mut String, test: &Test) -> Result<(), NoMemory>
+    ensures { OnOk result (string_bytes text.new ≡ string_bytes text.old ++ test_line test.now) }
+{
+    let name = test.name();
+    write!(text, "Test {name}\n")?;
+    Ok(())
+}
+
+fn write_machine(text: &mut String, config: Config) -> Result<(), NoMemory>
+    ensures { OnOk result (string_bytes text.new ≡ string_bytes text.old ++ machine_line config.depth) }
+{
+    let depth = config.depth();
+    write!(text, "Machine flat depth={depth}\n")?;
+    Ok(())
+}
+
+fn write_registers(text: &mut String, registers: &[[u32; 6]]) -> Result<(), NoMemory>
+    ensures { OnOk result (string_bytes text.new ≡ string_bytes text.old ++ register_lines 0 registers.now) }
+{
+    for (core, values) in registers.iter().enumerate() {
+        write_core(text, core, values)?;
+    }
+    Ok(())
+}
+
+fn write_core(text: &mut String, core: usize, values: &[u32; 6]) -> Result<(), NoMemory>
+    ensures { OnOk result (string_bytes text.new ≡ string_bytes text.old ++ register_line core values.now) }
+{
+    write!(text, "Registers P{core}")?;
+    write_value_line(text, values)?;
+    Ok(())
+}
+
+fn write_value_line(text: &mut String, values: &[u32; 6]) -> Result<(), NoMemory>
+    ensures { OnOk result (string_bytes text.new ≡ string_bytes text.old ++ line (printed_registers values.now all_registers)) }
+{
+    write_all_values(text, values)?;
+    text.push('\n')?;
+    Ok(())
+}
+
+#[tactic(auto, unfolding(crate::specs::Report::all_registers))]
+fn write_all_values(text: &mut String, values: &[u32; 6]) -> Result<(), NoMemory>
+    ensures { OnOk result (string_bytes text.new ≡ string_bytes text.old ++ printed_registers values.now all_registers) }
+{
+    write_values(text, values, &Reg::ALL)
+}
+
+fn write_values(text: &mut String, values: &[u32; 6], regs: &[Reg]) -> Result<(), NoMemory>
+    ensures { OnOk result (string_bytes text.new ≡ string_bytes text.old ++ printed_registers values.now regs.now) }
+{
+    for reg in regs {
+        let name = reg.name();
+        let value = values[reg.index()];
+        write!(text, " {name}={value}")?;
+    }
+    Ok(())
+}
+
+fn write_memory(text: &mut String, test: &Test, memory: &[u32]) -> Result<(), NoMemory>
+    requires { length memory.now ≡ length test.now.locations }
+    ensures { OnOk result (string_bytes text.new ≡ string_bytes text.old ++ memory_line test.now memory.now) }
+{
+    text.push_str("Memory")?;
+    for loc in 0..test.locations() {
+        let name = test.location_name(Loc(loc));
+        let word = memory[loc as usize];
+        write!(text, " {name}={word}")?;
+    }
+    text.push('\n')?;
+    Ok(())
+}
+
+fn write_condition(text: &mut String, test: &Test, holds: Option<bool>) -> Result<(), NoMemory>
+    ensures { OnOk result (string_bytes text.new ≡ string_bytes text.old ++ condition_line test.now holds) }
+{
+    text.push_str("Condition ")?;
+    match (test.cond(), holds) {
+        (Some(cond), Some(holds)) => {
+            let quantifier = quantifier_text(cond.quantifier);
+            let truth = if holds { "true" } else { "false" };
+            write!(text, "{quantifier} {truth}\n")?;
+        }
+        _ => text.push_str("none\n")?,
+    }
+    Ok(())
+}
+
+/// The word that a quantifier is written with.
+pub fn quantifier_text(quantifier: Quantifier) -> &'static str
+    ensures { result.now ≡ printed_quantifier quantifier }
+{
+    match quantifier {
+        Quantifier::Exists => "exists",
+        Quantifier::NotExists => "~exists",
+        Quantifier::Forall => "forall",
+    }
+}
+
+fn write_choices(text: &mut String, run: &Run) -> Result<(), NoMemory>
+    ensures { OnOk result (string_bytes text.new ≡ string_bytes text.old ++ choices_line run.now.used run.now.stalled run.now.unused) }
+{
+    let (used, stalled, unused) = (run.used, run.stalled, run.unused);
+    write!(text, "Choices used={used} stalled={stalled} unused={unused}\n")?;
+    Ok(())
+}
