@@ -5,3 +5,4 @@ pub mod ChoiceWords
 pub mod Found
 pub mod Whole
 pub mod Loop
+pub mod Cores

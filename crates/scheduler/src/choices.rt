@@ -1,6 +1,7 @@
 //! The choices that a text spells.
 
 ghost use Rattle.std.specs.Prelude.{◌≡◌, ◌≢◌, ◌<◌, ℕ, List, IfOk, IfErr, MatchResult};
+ghost use Rattle.tso_model.specs.Runs.{CoresExist};
 ghost use Rattle.scheduler.specs.Grammar.{WordsSpell, SpellsChoices};
 ghost use Rattle.scheduler.specs.Refusals.{AreRefused, IsRefused, IsDecided};
 ghost use Rattle.scheduler.specs.Reading.{texts};
@@ -62,4 +63,9 @@ pub fn read_choices(alloc: Global, cores: u8, text: &[u8]) -> Result<Vec<Choice>
 /// Each text spells one list of choices or gets one refusal, and never both: a law of the definitions, with nothing to run.
 pub fn texts_are_decided()
     ensures { (cores : ℕ) (text : List ℕ) → 0 < cores → IsDecided cores text }
+{}
+
+/// The choices that a text spells are of cores that are there: a law of the definitions, with nothing to run.
+pub fn spelled_cores_exist()
+    ensures { (cores : ℕ) (text : List ℕ) (choices : List Choice) → 0 < cores → SpellsChoices cores text choices → CoresExist cores choices }
 {}

@@ -10,6 +10,6 @@ mod seeds;
 mod tests;
 mod words;
 
-pub use choices::{MAX_CHOICES, read_choices, texts_are_decided};
+pub use choices::{MAX_CHOICES, read_choices, spelled_cores_exist, texts_are_decided};
 pub use fault::ChoiceFault;
 pub use seeds::seeded_choices;

@@ -2,7 +2,7 @@
 use Rattle.std.proofs.Common.{◌≡◌, ◌≢◌, ◌<◌, ◌≤◌, ℕ, ◌+◌, zero, suc, List, [], ◌∷◌, Some, length, take, slice_get, arith, sym, refl, subst}
 use Rattle.tso_model.specs.Litmus.{Litmus, IsTest, KnownLocation}
 use Rattle.tso_model.specs.Thread.{entries_of}
-use Rattle.tso_model.specs.Execution.{IsTsoExecution, StandsIn, made, made_by, read_values}
+use Rattle.tso_model.specs.Execution.{IsWhole, StandsIn, made, made_by, read_values}
 use Rattle.tso_model.specs.FlatMachine.{program_of}
 use Rattle.tso_model.specs.declared.instruction.Instr.{Instr}
 use Rattle.tso_model.specs.declared.instruction.Instr.TheVariants.{StoreImm, StoreReg, Load, SetImm, SetReg, Fence, Xchg, Xadd}
@@ -14,7 +14,7 @@ use Rattle.tso_laws.proofs.Folds.{HasLocations}
 use Rattle.tso_laws.proofs.Held.{each-of}
 use Rattle.tso_laws.proofs.Goes.{first_of}
 use Rattle.tso_laws.proofs.Onward.{entries-below}
-use Rattle.tso_laws.proofs.Whole.{at-member, made-at, of-core, tso-own}
+use Rattle.tso_laws.proofs.Whole.{at-member, made-at, of-core, whole-own}
 
 abbrev Placed : ℕ → Entry → Type 0
 Placed n e = (e.kind ≢ F → e.loc.0 < n) × (e.kind ≡ F → (e.loc.0 ≡ 0) × (e.value ≡ 0))
@@ -56,9 +56,9 @@ take-all : (p : List Instr) → take (length p) p ≡ p
 take-all [] = refl
 take-all (x ∷ p) = let h = take-all p in cc
 
-pub execution-fits : (t : Litmus) (order : List Entry) (e : Entry) → IsTest t → HasLocations t → IsTsoExecution t order → StandsIn order e → FitsTest t e
-execution-fits t order e test known tso m =
-    let h = (tso-own t order tso).in_made e (at-member order m.0 e m.1) in
+pub whole-fits : (t : Litmus) (order : List Entry) (e : Entry) → IsTest t → HasLocations t → IsWhole t order → StandsIn order e → FitsTest t e
+whole-fits t order e test known w m =
+    let h = (whole-own t order w).in_made e (at-member order m.0 e m.1) in
     made-fits t (length (program_of t e.core.0)) order e test known h.0
     (subst (λ z. Member e (made_by e.core.0 z (first_of t e.core.0) order)) (sym (take-all (program_of t e.core.0))) h.1)
 

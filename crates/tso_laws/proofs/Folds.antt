@@ -1,5 +1,5 @@
 -- The definitions in the form that proofs by recursion take: each fold goes over a list once.
-use Rattle.std.proofs.Common.{max, ◌≡◌, ◌≤◌, ℕ, ◌+◌, suc, List, [], ◌∷◌, ◌++◌, Some, Bool, true, false, refl, ◌∙◌, ap, length, slice_get, slice_index, if◌then◌else◌, ◌&&◌, arith}
+use Rattle.std.proofs.Common.{sym, max, ◌≡◌, ◌≤◌, ℕ, ◌+◌, suc, List, [], ◌∷◌, ◌++◌, Some, Bool, true, false, refl, ◌∙◌, ap, length, slice_get, slice_index, if◌then◌else◌, ◌&&◌, arith}
 use Rattle.std.proofs.lemmas.Bool.Decides.{nat_tests}
 use Rattle.std.specs.Prelude.{filter}
 use Rattle.tso_model.specs.Litmus.{Litmus, KnownLocation}
@@ -12,7 +12,7 @@ use Rattle.tso_model.specs.declared.execution.Kind.{Kind}
 use Rattle.tso_model.specs.declared.execution.Kind.TheVariants.{R, W, F, LR, LW}
 use Rattle.tso_model.specs.declared.choice.Outcome.TheVariants.{Buffered}
 use Rattle.tso_laws.proofs.Basics.{and-true, and-false}
-use Rattle.tso_laws.specs.Depth.{stores_before, most_passed, one_for_stores, needed}
+use Rattle.tso_laws.specs.Depth.{asked, stores_before, most_passed, one_for_stores, needed}
 
 -- the word of a location after these entries
 abbrev pub last_word : ℕ → List Entry → ℕ → ℕ
@@ -130,3 +130,7 @@ needed-is (x ∷ back) = rw (← needed-is back, ← passed-is x back) (go x.kin
     go F p o m h = neither o m
     go LR p o m h = neither o m
     go LW p o m h = neither o m
+
+-- the same, one entry at a time
+pub needed-first : (x : Entry) (back : List Entry) → needed (x ∷ back) ≡ max (asked x back) (needed back)
+needed-first x back = needed-is (x ∷ back) ∙ ap (λ z. max (if is_load x then z else (if is_store x then 1 else 0)) (needs back)) (sym (passed-is x back)) ∙ ap (λ z. max (asked x back) z) (sym (needed-is back))

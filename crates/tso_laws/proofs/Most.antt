@@ -16,7 +16,7 @@ use Rattle.tso_model.specs.FlatMachine.{program_of}
 use Rattle.tso_laws.proofs.Lists.{Member}
 use Rattle.tso_laws.proofs.Held.{member-left, member-right, member-split, each-of, Distinct, Apart, is_held, held, held-passed}
 use Rattle.tso_laws.proofs.Goes.{first_of}
-use Rattle.tso_laws.proofs.Whole.{cut-at, length-middle, each-from, Own, tso-own}
+use Rattle.tso_laws.proofs.Whole.{cut-at, length-middle, each-from, Own, whole-own}
 
 -- distinct entries that all stand in a list are no more than it has
 fewer : (xs ys : List Entry) → Distinct xs → ((e : Entry) → Member e xs → Member e ys) → length xs ≤ length ys
@@ -122,4 +122,4 @@ within_depth d t order (x ∷ xs) o m u f =
     here false q = asked (is_store x) refl
 
 pub most-is-enough : (t : Litmus) (order : List Entry) → IsTsoExecution t order → needed order ≤ most_stores t.programs
-most-is-enough t order h = let o = tso-own t order h in rw (needed-is order) (within_depth (most_stores t.programs) t order order o (omega arith) o.distinct (λ e i. i))
+most-is-enough t order h = let o = whole-own t order h.whole in rw (needed-is order) (within_depth (most_stores t.programs) t order order o (omega arith) o.distinct (λ e i. i))

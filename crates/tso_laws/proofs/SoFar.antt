@@ -1,21 +1,21 @@
 -- What holds after any list of choices, in the words of the definitions.
-use Rattle.std.proofs.Common.{◌≡◌, ◌<◌, ◌≤◌, ℕ, zero, suc, List, [], ◌∷◌, ◌++◌, Some, length, take, slice_get, slice_index, slice_index_or, All, arith, ap, sym, ◌∙◌, append_assoc, refl, ◌⊎◌, inl, inr, subst}
+use Rattle.std.proofs.Common.{◌≡◌, ◌≢◌, ◌<◌, ◌≤◌, ℕ, zero, suc, List, [], ◌∷◌, ◌++◌, Some, length, take, slice_get, slice_index, slice_index_or, All, arith, ap, sym, ◌∙◌, append_assoc, refl, ◌⊎◌, inl, inr, subst}
 use Rattle.std.specs.Prelude.{filter}
 use Rattle.std.proofs.lemmas.Option.{slice_get-get_or}
 use Rattle.tso_model.specs.Litmus.{Litmus, IsTest, KnownLocation}
-use Rattle.tso_model.specs.Execution.{made_by, StandsIn}
+use Rattle.tso_model.specs.Execution.{made_by, StandsIn, KeepsProgramOrder}
 use Rattle.tso_model.specs.FinalState.{registers_of}
 use Rattle.tso_model.specs.FlatMachine.{CoreState, State, idle, program_of, core_of, effect_of, after_choice, start}
 use Rattle.tso_model.specs.Runs.{run}
 use Rattle.tso_model.specs.declared.instruction.Instr.{Instr}
 use Rattle.tso_model.specs.declared.execution.Entry.{Entry}
 use Rattle.tso_model.specs.declared.choice.Choice.{Choice}
-use Rattle.tso_laws.proofs.Basics.{lt-or}
+use Rattle.tso_laws.proofs.Basics.{decide, lt-or}
 use Rattle.tso_laws.specs.Choices.{state_after, commits_of, IsPossible}
 use Rattle.tso_laws.specs.SoFar.{issued, is_waiting, CoreSoFar, IsIssued, SoFar}
-use Rattle.tso_laws.proofs.Lists.{Each, each-at, each-right, Member, member-at, append-nil}
+use Rattle.tso_laws.proofs.Lists.{Each, each-at, each-map, each-append, each-right, Member, member-at, append-nil}
 use Rattle.tso_laws.proofs.Folds.{HasLocations, due-is}
-use Rattle.tso_laws.proofs.Entries.{DueIn}
+use Rattle.tso_laws.proofs.Entries.{Fine, Ordered, DueIn}
 use Rattle.tso_laws.proofs.Sees.{Queued}
 use Rattle.tso_laws.proofs.Holds.{Holds}
 use Rattle.tso_laws.proofs.Rounds.{after-append}
@@ -47,14 +47,22 @@ test-locations t test k i x e =
 each-all : (P : Entry → Type 0) (xs : List Entry) → Each P xs → All P xs
 each-all P xs h k d l = each-at P xs k (slice_index_or xs k d) h (slice_get-get_or xs k d l)
 
-pub core-so-far : (d : ℕ) (t : Litmus) (commits : List Entry) (k : ℕ) (s : CoreState) → Holds d k (program_of t k) (slice_index_or t.registers k []) t.words commits s → CoreSoFar t d commits k s
-core-so-far d t commits k s h =
+-- entries of other cores behind a list change nothing in what a core sees
+ordered-foreign : (d c : ℕ) (xs ys : List Entry) → Ordered d c xs → Each (λ y. y.core.0 ≢ c) ys → Ordered d c (xs ++ ys)
+ordered-foreign d c [] [] o f = tt
+ordered-foreign d c [] (y ∷ ys) o f = (each-map (λ z. z.core.0 ≢ c) (λ z. Fine d c y z) ys (λ z n k b. absurd (n k)) f.1, ordered-foreign d c [] ys tt f.1)
+ordered-foreign d c (x ∷ xs) ys o f =
+    (each-append (λ z. Fine d c x z) xs ys o.0 (each-map (λ z. z.core.0 ≢ c) (λ z. Fine d c x z) ys (λ z n k b. absurd (n k)) f), ordered-foreign d c xs ys o.1 f)
+
+pub core-so-far : (d : ℕ) (t : Litmus) (commits : List Entry) (k : ℕ) (s : CoreState) → Holds d k (program_of t k) (slice_index_or t.registers k []) t.words commits s → KeepsProgramOrder (commits ++ s.pending) → CoreSoFar t d commits k s
+core-so-far d t commits k s h order =
     let w = waits d k (program_of t k) (slice_index_or t.registers k []) t.words commits s h in
     let done : issued t k s.place commits ≡ h.done = ap (λ z. made_by k (take s.place (program_of t k)) (slice_index_or t.registers k []) z) (sym (append-nil commits)) ∙ h.made [] in
     record {
       place = h.within;
       pending = w.pending ∙ ap (λ z. filter (is_waiting commits) z) (sym done);
       room = h.fits;
+      order = order;
       locations = each-all (λ e. e.loc.0 < length t.words) s.pending (known s.pending h.queued);
       others = λ e m q. member-at e commits (w.others e (at-member h.done m.0 e (subst (λ z. slice_get z m.0 ≡ Some e) done m.1)) q);
       registers = sym (h.now []) ∙ ap (λ z. registers_of k (take s.place (program_of t k)) (slice_index_or t.registers k []) z) (append-nil commits);
@@ -77,11 +85,28 @@ so-far d t commits state test known w = record {
       due-at x.core.0 t.words [] front x (back ++ p) (subst (λ z. DueIn x.core.0 t.words [] z) same (holds x.core.0 l).sees.due) refl r ∙ sym (due-is x front (back ++ p) (slice_index t.words x.loc.0));
   memory = memory-list t.words state.memory commits w.room w.memory;
   size = w.size;
-  cores = λ k l. core-so-far d t commits k (core_of state k) (holds k l);
+  cores = λ k l. core-so-far d t commits k (core_of state k) (holds k l) (order k l);
 }
   where
     holds : (k : ℕ) → k < length t.programs → Holds d k (program_of t k) (slice_index_or t.registers k []) t.words commits (core_of state k)
     holds k l = w.cores k (core_of state k) (slice_get-get_or state.cores k idle (rw w.size l))
+
+    mine : (k : ℕ) → k < length t.programs → Each (λ e. e.core.0 ≡ k) (core_of state k).pending
+    mine k l = each-map (Queued k (length t.words)) (λ e. e.core.0 ≡ k) (core_of state k).pending (λ e q. q.own) (holds k l).queued
+
+    -- another core's pending stores are nothing to this one
+    seen-by : (k j : ℕ) → k < length t.programs → j < length t.programs → Ordered d j (commits ++ (core_of state k).pending)
+    seen-by k j l m = elim (decide j k) [
+      | inl q ↦ subst (λ z. Ordered d z (commits ++ (core_of state k).pending)) (sym q) (holds k l).sees.kept
+      | inr n ↦ ordered-foreign d j commits (core_of state k).pending (world-ordered d t commits state w j m)
+          (each-map (λ e. e.core.0 ≡ k) (λ e. e.core.0 ≢ j) (core_of state k).pending (λ e q p. n (sym p ∙ q)) (mine k l))
+    ]
+
+    order : (k : ℕ) → k < length t.programs → KeepsProgramOrder (commits ++ (core_of state k).pending)
+    order k l = kept-by-each d (length t.programs) (commits ++ (core_of state k).pending)
+        (each-append (λ e. e.core.0 < length t.programs) commits (core_of state k).pending w.known
+        (each-map (λ e. e.core.0 ≡ k) (λ e. e.core.0 < length t.programs) (core_of state k).pending (λ e q. rw q l) (mine k l)))
+        (λ j m. seen-by k j l m)
 
     of-core : (e : Entry) → StandsIn commits e → e.core.0 < length t.programs → IsIssued t commits state e
     of-core e m l =

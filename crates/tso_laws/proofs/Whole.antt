@@ -6,7 +6,7 @@ use Rattle.tso_model.specs.Litmus.{Litmus}
 use Rattle.tso_model.specs.ProgramOrder.{rank, may_be_passed}
 use Rattle.tso_laws.proofs.Basics.{part-small}
 use Rattle.tso_laws.proofs.Folds.{due-is, needs, HasLocations}
-use Rattle.tso_model.specs.Execution.{read_values, made_by, made_from, made, KeepsProgramOrder, IsStorePart, KeepsPairs, IsTsoExecution}
+use Rattle.tso_model.specs.Execution.{read_values, made_by, made_from, made, KeepsProgramOrder, IsStorePart, KeepsPairs, StandsIn, IsWhole, IsTsoExecution}
 use Rattle.tso_model.specs.declared.execution.Entry.{Entry}
 use Rattle.tso_model.specs.declared.instruction.Instr.{Instr}
 use Rattle.tso_model.specs.declared.instruction.Instr.TheVariants.{StoreImm, StoreReg, Load, SetImm, SetReg, Fence, Xchg, Xadd}
@@ -175,10 +175,11 @@ kept-paired (x ∷ xs) h = (λ l. next xs (h 0 x refl l), kept-paired xs (λ i y
     next [] p = absurd (let q = p.1 in let z : ⊥ = cc in z)
     next (z ∷ zs) p = record { store = p.0; rest = zs; is = ap (λ w. w ∷ zs) (let q = p.1 in let w : z ≡ p.0 = cc in w); pair = p.2 }
 
--- the entries of a TSO execution are those of the programs
+-- the entries of a whole order are those of the programs
 pub record Own (t : Litmus) (order : List Entry) : Type 0 where
   pub within : (e : Entry) → Member e (made t order) → Member e order
   pub distinct : Distinct order
+  pub made : (e : Entry) → Member e order → Member e (made t order)
   pub in_made : (e : Entry) → Member e order → (e.core.0 < length t.programs) × Member e (made_by e.core.0 (program_of t e.core.0) (first_of t e.core.0) order)
 
 -- an entry that the programs make is made by the program of its core
@@ -189,16 +190,31 @@ of-core t order e m =
     let one : Member e (made_by m.at (program_of t m.at) (first_of t m.at) order) = subst (λ w. Member e (made_by w (program_of t m.at) (first_of t w) order)) z m.member in
     ((let l = m.within in omega arith), subst (λ w. Member e (made_by w (program_of t w) (first_of t w) order)) c one)
 
-pub tso-own : (t : Litmus) (order : List Entry) → IsTsoExecution t order → Own t order
-tso-own t order h =
+pub whole-own : (t : Litmus) (order : List Entry) → IsWhole t order → Own t order
+whole-own t order h =
     let within : (e : Entry) → Member e (made t order) → Member e order =
-    (λ (e : Entry) (m : Member e (made t order)). let i = member-at e (made t order) m in let s = h.whole.each i.0 e i.1 in at-member order s.0 e s.1) in
-    let s = pigeons (made t order) order (made-distinct 0 t.programs t.registers order) within h.whole.count in
-    record { within = within; distinct = s.distinct; in_made = λ e m. of-core t order e (made-at 0 t.programs t.registers order e (s.in_made e m)) }
+    (λ (e : Entry) (m : Member e (made t order)). let i = member-at e (made t order) m in let s = h.each i.0 e i.1 in at-member order s.0 e s.1) in
+    let s = pigeons (made t order) order (made-distinct 0 t.programs t.registers order) within h.count in
+    record { within = within; distinct = s.distinct; made = s.in_made; in_made = λ e m. of-core t order e (made-at 0 t.programs t.registers order e (s.in_made e m)) }
+
+
+-- each entry stands in a distinct list once
+pub distinct-once : (xs : List Entry) (i j : ℕ) (e : Entry) → Distinct xs → slice_get xs i ≡ Some e → slice_get xs j ≡ Some e → i ≡ j
+distinct-once [] i j e d a b = absurd (let z : ⊥ = cc in z)
+distinct-once (x ∷ xs) zero zero e d a b = refl
+distinct-once (x ∷ xs) zero (suc j) e d a b = absurd (let q : x ≡ e = cc in each-of (Apart x) e xs d.0 (at-member xs j e b) (ap (λ z. z.core.0) q) (ap (λ z. rank z) q))
+distinct-once (x ∷ xs) (suc i) zero e d a b = absurd (let q : x ≡ e = cc in each-of (Apart x) e xs d.0 (at-member xs i e a) (ap (λ z. z.core.0) q) (ap (λ z. rank z) q))
+distinct-once (x ∷ xs) (suc i) (suc j) e d a b = ap suc (distinct-once xs i j e d.1 a b)
+
+pub whole-once : (t : Litmus) (order : List Entry) (i j : ℕ) (e : Entry) → IsWhole t order → slice_get order i ≡ Some e → slice_get order j ≡ Some e → i ≡ j
+whole-once t order i j e h a b = distinct-once order i j e (whole-own t order h).distinct a b
+
+pub whole-made : (t : Litmus) (order : List Entry) (e : Entry) → IsWhole t order → StandsIn order e → StandsIn (made t order) e
+whole-made t order e h m = member-at e (made t order) ((whole-own t order h).made e (at-member order m.0 e m.1))
 
 pub tso-good : (d : ℕ) (t : Litmus) (order : List Entry) → HasLocations t → IsTsoExecution t order → needs order ≤ d → Good d t order
 tso-good d t order known h n =
-    let s = tso-own t order h in
+    let s = whole-own t order h.whole in
     record {
       made_in = λ k e l m. s.within e (made-in 0 t.programs t.registers order k e l (subst (λ z. Member e (made_by z (program_of t k) (first_of t z) order)) (let z : k ≡ 0 + k = omega arith in z) m));
       in_made = s.in_made;

@@ -27,12 +27,13 @@ abbrev pub is_waiting : List Entry → Entry → Bool
 is_waiting commits e = is_store e && not (is_committed commits e)
 
 -- of one core: it stands within its program; what is pending are its issued and uncommitted plain stores, in
--- program order, no more than the buffer holds; all else that it has issued is committed; its registers are its
--- thread's so far
+-- program order, no more than the buffer holds, and commits with these behind them keep program order; all else that
+-- it has issued is committed; its registers are its thread's so far
 pub record CoreSoFar (t : Litmus) (depth : ℕ) (commits : List Entry) (core : ℕ) (s : CoreState) : Type 0 where
   pub place : s.place ≤ length (program_of t core)
   pub pending : s.pending ≡ filter (is_waiting commits) (issued t core s.place commits)
   pub room : length s.pending ≤ depth
+  pub order : KeepsProgramOrder (commits ++ s.pending)
   pub locations : All (λ e. e.loc.0 < length t.words) s.pending
   pub others : (e : Entry) → StandsIn (issued t core s.place commits) e → is_waiting commits e ≡ false → StandsIn commits e
   pub registers : s.registers ≡ registers_at t core s.place commits

@@ -65,3 +65,33 @@ moved_order = entry 0 0 W loc_x 1 ∷ []
 -- the move comes at the end: 0s 0d 0s
 abbrev pub moved_along : List Choice
 moved_along = step 0 ∷ (drain 0 ∷ (step 0 ∷ []))
+
+-- one store, and nothing else
+abbrev pub one_store : Litmus
+one_store = record {
+  name = codes "one";
+  locations = codes "x" ∷ [];
+  words = 0 ∷ [];
+  registers = zeros ∷ [];
+  programs = (StoreImm loc_x 1 ∷ []) ∷ [];
+  condition = None;
+}
+
+-- one round of it, with the drain first
+abbrev pub one_round : List Choice
+one_round = drain 0 ∷ (step 0 ∷ [])
+
+-- outside the limits: its location has no word
+abbrev pub wordless : Litmus
+wordless = record {
+  name = codes "none";
+  locations = [];
+  words = [];
+  registers = zeros ∷ [];
+  programs = (StoreImm loc_x 1 ∷ (Load Eax loc_x ∷ [])) ∷ [];
+  condition = None;
+}
+
+-- 0s 0d 0s
+abbrev pub wordless_choices : List Choice
+wordless_choices = step 0 ∷ (drain 0 ∷ (step 0 ∷ []))

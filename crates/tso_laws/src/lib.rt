@@ -9,9 +9,9 @@
 //! machine. Rounds, the depth that an order needs and the choices along an order are this project's.
 #![tactic(auto)]
 
-ghost use Rattle.std.specs.Prelude.{ℕ, ◌+◌, ◌*◌, ◌<◌, ◌≤◌, ◌≡◌, ◌≢◌, ◌↔◌, true, List, [], ◌++◌, length};
+ghost use Rattle.std.specs.Prelude.{ℕ, max, ◌+◌, ◌*◌, ◌<◌, ◌≤◌, ◌≡◌, ◌≢◌, ◌↔◌, true, false, List, [], ◌∷◌, ◌++◌, length, slice_get, Some};
 ghost use Rattle.tso_model.specs.Litmus.{Litmus, IsTest};
-ghost use Rattle.tso_model.specs.Execution.{made, IsTsoExecution, KeepsAllOrder, StandsIn};
+ghost use Rattle.tso_model.specs.Execution.{made, StandsIn, IsWhole, IsTsoExecution, KeepsAllOrder};
 ghost use Rattle.tso_model.specs.FlatMachine.{State, start, effect_of, after_choice};
 ghost use Rattle.tso_model.specs.Runs.{run};
 ghost use Rattle.tso_model.specs.Examples.{sb, sb_order, sb_choices, n6, n6_order};
@@ -26,10 +26,10 @@ ghost use Rattle.tso_laws.specs.EndedRuns.{End, IsExecution};
 ghost use Rattle.tso_laws.specs.Stopping.{ChangesNothing, StopsAtTheEnd};
 ghost use Rattle.tso_laws.specs.Counting.{instructions, stores, most_stores, longest};
 ghost use Rattle.tso_laws.specs.Rounds.{CanBeCutIntoRounds};
-ghost use Rattle.tso_laws.specs.Depth.{needed};
+ghost use Rattle.tso_laws.specs.Depth.{needed, asked};
 ghost use Rattle.tso_laws.specs.Along.{choices_along, LeadTo};
 ghost use Rattle.tso_laws.specs.Reached.{IsReached};
-ghost use Rattle.tso_laws.specs.WorkedRuns.{n6_along, sb_along, sb_rounds, two_stores, two_passed, two_stalled, moved_last, moved_order, moved_along};
+ghost use Rattle.tso_laws.specs.WorkedRuns.{n6_along, sb_along, sb_rounds, two_stores, two_passed, two_stalled, moved_last, moved_order, moved_along, one_store, one_round, wordless, wordless_choices};
 
 /// The states that choices can lead to, with what was committed on the way: the first state is one,
 /// each choice leads from one to one, and each run leads to one.
@@ -49,11 +49,18 @@ pub fn what_holds_so_far()
     ensures in_runs { (t : Litmus) (depth : ℕ) (choices : List Choice) → IsTest t → SoFar t depth (run t depth choices).commits (run t depth choices).state }
 {}
 
-/// Each entry that the programs make, and so each entry of a TSO execution, has a core, a place and
-/// a location of the test; a fence has location 0 and value 0.
-pub fn entries_fit_the_test()
-    ensures made { (t : Litmus) (order : List Entry) (e : Entry) → IsTest t → StandsIn (made t order) e → FitsTest t e }
-    ensures executions { (t : Litmus) (order : List Entry) (e : Entry) → IsTest t → IsTsoExecution t order → StandsIn order e → FitsTest t e }
+/// Each entry that the programs make, whatever values their reads are given, has a core, a place
+/// and a location of the test; a fence has location 0 and value 0.
+pub fn made_entries_fit_the_test()
+    ensures { (t : Litmus) (order : List Entry) (e : Entry) → IsTest t → StandsIn (made t order) e → FitsTest t e }
+{}
+
+/// Where an order is whole, each of its entries is made by the programs and stands in it once; its
+/// core, its place and, but for a fence, its location are of the test.
+pub fn whole_orders_have_each_entry_once()
+    ensures made_by_the_programs { (t : Litmus) (order : List Entry) (e : Entry) → IsWhole t order → StandsIn order e → StandsIn (made t order) e }
+    ensures once { (t : Litmus) (order : List Entry) (i j : ℕ) (e : Entry) → IsWhole t order → slice_get order i ≡ Some e → slice_get order j ≡ Some e → i ≡ j }
+    ensures fits { (t : Litmus) (order : List Entry) (e : Entry) → IsTest t → IsWhole t order → StandsIn order e → FitsTest t e }
 {}
 
 /// What an ended run commits is a TSO execution of the test, and its memory and registers are the
@@ -107,6 +114,13 @@ pub fn smaller_depths_never_reach()
     ensures never { (t : Litmus) (depth : ℕ) (order : List Entry) (choices : List Choice) → IsTest t → 0 < depth → depth < needed order → (run t depth choices).commits ≢ order }
 {}
 
+/// The depth that an order needs is the most that one of its entries asks of it: a load asks for the
+/// stores that it passes, a plain store for 1.
+pub fn needed_is_the_most_that_is_asked()
+    ensures none { needed [] ≡ 0 }
+    ensures first { (x : Entry) (back : List Entry) → needed (x ∷ back) ≡ max (asked x back) (needed back) }
+{}
+
 /// A TSO execution needs no more depth than the most plain stores of one program, and so never more
 /// than 32.
 pub fn most_stores_are_depth_enough()
@@ -148,4 +162,27 @@ pub fn premises_are_met()
     ensures shallow { End two_stores 1 two_stalled }
     ensures execution { IsTsoExecution sb sb_order }
     ensures rounds { CanBeCutIntoRounds (length sb.programs) (2 * longest sb.programs) sb_rounds }
+{}
+
+/// What fails without the laws' premises.
+///
+/// Outside the limits: a location without a word keeps no store, so that a load behind the store
+/// returns 0. Not ended: a run of no choices is no execution, and its counts aren't the program's.
+/// One round less: a drain that comes before the step of its round finds nothing. A buffer: both
+/// loads of store buffering pass their stores. No buffer: an order that needs a depth of 1 is
+/// committed at depth 0. No execution, or too little depth: the choices along the order don't end
+/// the test. Entries of another test: the order needs more than this test's stores.
+pub fn laws_need_their_premises()
+    ensures wordless_ends { End wordless 1 wordless_choices }
+    ensures wordless_is_refuted { IsTsoExecution wordless (run wordless 1 wordless_choices).commits → ⊥ }
+    ensures unended_is_refuted { IsTsoExecution sb (run sb 4 []).commits → ⊥ }
+    ensures unended_is_not_counted { (run sb 4 []).used ≡ 0 }
+    ensures one_round_is_cut { CanBeCutIntoRounds (length one_store.programs) 1 one_round }
+    ensures one_round_is_not_enough { (run one_store 1 one_round).ended ≡ false }
+    ensures buffered_is_not_sequential { KeepsAllOrder (run sb 4 sb_choices).commits → ⊥ }
+    ensures unbuffered_needs_one { needed (run one_store 0 one_round).commits ≡ 1 }
+    ensures no_execution_is_not_reached { (run sb 4 (choices_along sb [])).ended ≡ false }
+    ensures too_small_is_not_reached { (run two_stores 1 (choices_along two_stores two_passed)).ended ≡ false }
+    ensures foreign_needs_two { needed two_passed ≡ 2 }
+    ensures one_store_at_most { most_stores one_store.programs ≡ 1 }
 {}
