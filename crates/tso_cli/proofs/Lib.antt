@@ -1,0 +1,6 @@
+pub mod KnownLemmas
+pub mod RunLemmas
+pub mod AnswerLemmas
+pub mod HeadlineLemmas
+pub mod CommandLemmas
+pub mod SimulationLemmas

@@ -1,0 +1,44 @@
+-- The answer to an input: what is written, and the status. (This project's profile.)
+use Rattle.std.specs.Prelude.{ℕ, ◌<◌, ◌≤◌, ◌≡◌, if◌then◌else◌, List, length}
+use Rattle.tso_model.specs.Litmus.{Litmus}
+use Rattle.tso_model.specs.Runs as flat
+use Rattle.tso_model.specs.declared.choice.Choice.{Choice}
+use Rattle.litmus_reader.specs.Spelling.{SpellsTest, IsRefused as IsRefusedTest}
+use Rattle.litmus_reader.specs.declared.fault.TextFault.{TextFault}
+use Rattle.scheduler.specs.Grammar.{SpellsChoices}
+use Rattle.scheduler.specs.Refusals.{IsRefused as AreRefusedChoices}
+use Rattle.scheduler.specs.declared.fault.ChoiceFault.{ChoiceFault}
+use Rattle.tso_report.specs.Report.{report}
+use Rattle.tso_cli.specs.Parts.{parts_of}
+use Rattle.tso_cli.specs.Lines.{input_refusal, test_refusal, choices_refusal, unfinished_line}
+use Rattle.tso_cli.specs.Simulation.{shown_of}
+use Rattle.tso_cli.specs.declared.settings.Settings.{Settings}
+use Rattle.tso_cli.specs.declared.settings.Settings.TheVariants as settings
+use Rattle.tso_cli.specs.declared.answer.Status.{Status}
+use Rattle.tso_cli.specs.declared.answer.Status.TheVariants.{Good, Refused, Unended, Invalid}
+
+-- what is written of a run of the flat machine: the report where it ended, else how far it came
+abbrev pub run_text : Litmus → ℕ → flat.Run → List ℕ
+run_text t depth r = if r.ended then report t depth (shown_of t r) else unfinished_line r.used r.stalled
+
+abbrev pub run_status : flat.Run → Status
+run_status r = if r.ended then Good else Unended
+
+-- the answer of `run` to a test and the text of its choices
+pub data IsRunAnswer (t : Litmus) (depth : ℕ) (text : List ℕ) : List ℕ → Status → Type 0 where
+  refused : (fault : ChoiceFault) → AreRefusedChoices (length t.programs) text fault
+      → IsRunAnswer t depth text (choices_refusal fault) Refused
+  ran : (choices : List Choice) → SpellsChoices (length t.programs) text choices
+      → IsRunAnswer t depth text (run_text t depth (flat.run t depth choices)) (run_status (flat.run t depth choices))
+
+-- the answer to a test and the second part of its input
+abbrev pub IsAnswerTo : Settings → Litmus → List ℕ → List ℕ → Status → Type 0
+IsAnswerTo (settings.Run config) t text out status = IsRunAnswer t config.depth text out status
+
+-- the answer to an input: its size is judged first, then its first part, then the second
+pub data IsAnswer (s : Settings) (input : List ℕ) : List ℕ → Status → Type 0 where
+  too_large : 1048576 < length input → IsAnswer s input input_refusal Refused
+  refused : (fault : TextFault) → length input ≤ 1048576 → IsRefusedTest (parts_of input).test fault
+      → IsAnswer s input (test_refusal fault) Refused
+  answered : (t : Litmus) (out : List ℕ) (status : Status) → length input ≤ 1048576 → SpellsTest (parts_of input).test t
+      → IsAnswerTo s t (parts_of input).rest out status → IsAnswer s input out status

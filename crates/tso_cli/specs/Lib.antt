@@ -1,0 +1,7 @@
+pub mod Streams
+pub mod Parts
+pub mod Limits
+pub mod Simulation
+pub mod Lines
+pub mod Answers
+pub mod Headline

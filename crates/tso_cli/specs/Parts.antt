@@ -1,0 +1,38 @@
+-- The two parts of an input: before and behind the first line that is `====`. (This project's profile.)
+use Rattle.std.specs.Prelude.{ℕ, ◌==◌, Bool, true, false, if◌then◌else◌, List, [], ◌∷◌, drop, Option, Some, None, nat_eq, codes}
+use Rattle.std.specs.List.{starts_with}
+
+-- what is behind a line feed
+abbrev pub behind_feed : List ℕ → Option (List ℕ)
+behind_feed [] = Some []
+behind_feed (c ∷ cs) = if c == 10 then Some cs else None
+
+-- what is behind the end of a line; the end of the text is one too, and a carriage return before it is dropped
+abbrev pub behind_end : List ℕ → Option (List ℕ)
+behind_end [] = Some []
+behind_end (c ∷ cs) = if c == 13 then behind_feed cs else behind_feed (c ∷ cs)
+
+-- what is behind the line `====`, where the text begins with it
+abbrev pub behind_divider : List ℕ → Option (List ℕ)
+behind_divider text = if starts_with nat_eq text (codes "====") then behind_end (drop 4 text) else None
+
+-- the first part and the second
+pub record Parts : Type 0 where
+  pub test : List ℕ
+  pub rest : List ℕ
+
+abbrev pub parted : Option (List ℕ) → Parts → Parts
+parted None later = later
+parted (Some rest) later = record { test = []; rest = rest }
+
+abbrev pub with_byte : ℕ → Parts → Parts
+with_byte c p = record { test = c ∷ p.test; rest = p.rest }
+
+-- the parts of a text that begins at the beginning of a line, or within one
+abbrev pub parts_from : Bool → List ℕ → Parts
+parts_from at_line [] = record { test = []; rest = [] }
+parts_from at_line (c ∷ cs) =
+    parted (if at_line then behind_divider (c ∷ cs) else None) (with_byte c (parts_from (c == 10) cs))
+
+abbrev pub parts_of : List ℕ → Parts
+parts_of input = parts_from true input

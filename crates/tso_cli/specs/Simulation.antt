@@ -1,0 +1,51 @@
+-- What a simulation answers: the flat machine's run, as a report shows it. (This project's profile.)
+use Rattle.std.specs.Prelude.{ℕ, ◌≡◌, Bool, true, false, List, ◌++◌, map, Option}
+use Rattle.std.specs.Option.{option_map}
+use Rattle.tso_model.specs.Litmus.{Litmus}
+use Rattle.tso_model.specs.Condition.{truth_of}
+use Rattle.tso_model.specs.FlatMachine.{State}
+use Rattle.tso_model.specs.Runs as flat
+use Rattle.tso_model.specs.declared.choice.Choice.{Choice}
+use Rattle.machine_core.specs.Running.{Running}
+use Rattle.tso_report.specs.Shown.{Shown, shown, IsOf}
+use Rattle.tso_cli.specs.declared.simulation.Ending.{Ending}
+use Rattle.tso_cli.specs.declared.simulation.Ending.TheVariants.{Ended, Unfinished}
+
+abbrev pub registers_in : State → List (List ℕ)
+registers_in state = map (λ core. core.registers) state.cores
+
+-- the truth of the test's condition in a state, if it has one
+abbrev pub verdict : Litmus → List (List ℕ) → List ℕ → Option Bool
+verdict t registers words = option_map (λ c. truth_of registers words c.claim) t.condition
+
+-- what is shown of a run of the flat machine
+abbrev pub shown_of : Litmus → flat.Run → Shown
+shown_of t r = record {
+  order = r.commits;
+  registers = registers_in r.state;
+  memory = r.state.memory;
+  holds = verdict t (registers_in r.state) r.state.memory;
+  used = r.used;
+  stalled = r.stalled;
+  unused = r.unused;
+}
+
+-- the answer is that of this run of the test
+abbrev pub IsEndingOf : Litmus → flat.Run → Ending → Type 0
+IsEndingOf t r (Ended run) = (r.ended ≡ true) × (shown run ≡ shown_of t r)
+IsEndingOf t r (Unfinished used stalled) = (r.ended ≡ false) × (used ≡ r.used) × (stalled ≡ r.stalled)
+
+-- a machine is driven through these choices, up to the first moment at which the test has ended
+pub record Drives (old new : Running) (choices : List Choice) (uses stalls : ℕ) : Type 0 where
+  pub test : new.test ≡ old.test
+  pub depth : new.depth ≡ old.depth
+  pub failed : new.failed ≡ false
+  pub state : new.state ≡ (flat.run_from old.test old.depth old.state choices).state
+  pub commits : new.commits ≡ old.commits ++ (flat.run_from old.test old.depth old.state choices).commits
+  pub used : uses ≡ (flat.run_from old.test old.depth old.state choices).used
+  pub stalled : stalls ≡ (flat.run_from old.test old.depth old.state choices).stalled
+
+-- a run that ended is one of the test
+abbrev pub FitsEnding : Litmus → Ending → Type 0
+FitsEnding t (Ended run) = IsOf t (shown run)
+FitsEnding t (Unfinished used stalled) = Unit {0}

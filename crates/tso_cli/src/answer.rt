@@ -1,0 +1,140 @@
+ghost use Rattle.std.specs.Prelude.{◌≡◌, ◌≢◌, ◌<◌, ◌≤◌, true, List, IfOk, OnOk, length, string_bytes};
+ghost use Rattle.tso_model.specs.Runs.{run, CoresExist};
+ghost use Rattle.tso_model.specs.Litmus.{IsTest};
+ghost use Rattle.tso_model.specs.declared.choice.Choice.{Choice};
+ghost use Rattle.scheduler.specs.Grammar.{SpellsChoices};
+ghost use Rattle.tso_report.specs.Report.{report};
+ghost use Rattle.tso_cli.specs.Answers.{run_text, run_status, IsRunAnswer, IsAnswerTo, IsAnswer};
+ghost use Rattle.tso_cli.specs.Headline.{PrintsEachRun, HeadlineOf, Headline};
+ghost use Rattle.tso_cli.specs.Lines.{test_refusal, choices_refusal, unfinished_line, input_refusal};
+ghost use Rattle.tso_cli.specs.Simulation.{shown_of};
+
+use crate::parts::parts_of;
+use crate::settings::Settings;
+use crate::simulation::{Ending, SimFault, simulate};
+use crate::streams::MAX_INPUT;
+use litmus_reader::{TextFault, Why, read_test};
+use machine_core::{Choice, Config};
+use scheduler::{ChoiceFault, read_choices, spelled_cores_exist};
+use std::alloc::Global;
+use tso_laws::ended_runs_are_executions;
+use tso_model::{NoMemory, Test};
+use tso_report::report_text;
+
+/// How a command ended.
+#[derive(Clone, Copy, Debug, PartialEq, Eq)]
+pub enum Status {
+    /// The test ended, the order is valid, or what was asked for was printed.
+    Good,
+    /// A text was refused.
+    Refused,
+    /// The choices were too few to end the test.
+    Unended,
+    /// The order isn't valid.
+    Invalid,
+}
+
+/// What is to be written, and how the command ended.
+#[derive(Debug, Drop)]
+pub struct Answer {
+    pub text: String,
+    pub status: Status,
+}
+
+fn refused_test(alloc: Global, fault: TextFault) -> Result<Answer, NoMemory>
+    ensures text { IfOk result (λ a. string_bytes a.text ≡ test_refusal fault) }
+    ensures status { IfOk result (λ a. a.status ≡ Status.Refused) }
+    ensures real { OnOk result (fault.why ≢ Why.NoMemory) }
+{
+    if fault.why == Why::NoMemory {
+        return Err(NoMemory);
+    }
+    let line = fault.line;
+    let name = fault.why.name();
+    let text = format!(in alloc; "Refused test line {line} {name}\n")?;
+    Ok(Answer { text, status: Status::Refused })
+}
+
+fn refused_choices(alloc: Global, fault: ChoiceFault) -> Result<Answer, NoMemory>
+    ensures text { IfOk result (λ a. string_bytes a.text ≡ choices_refusal fault) }
+    ensures status { IfOk result (λ a. a.status ≡ Status.Refused) }
+    ensures real { OnOk result (fault ≢ ChoiceFault.NoMemory) }
+{
+    let text = match fault {
+        ChoiceFault::BadWord(word) => format!(in alloc; "Refused choices word {word} BadWord\n")?,
+        ChoiceFault::NoSuchCore(word) => format!(in alloc; "Refused choices word {word} NoSuchCore\n")?,
+        ChoiceFault::TooMany(word) => format!(in alloc; "Refused choices word {word} TooMany\n")?,
+        ChoiceFault::NoMemory => return Err(NoMemory),
+    };
+    Ok(Answer { text, status: Status::Refused })
+}
+
+fn refused_input(alloc: Global) -> Result<Answer, NoMemory>
+    ensures text { IfOk result (λ a. string_bytes a.text ≡ input_refusal) }
+    ensures status { IfOk result (λ a. a.status ≡ Status.Refused) }
+{
+    let text = String::from_str(alloc, "Refused input TooLarge\n")?;
+    Ok(Answer { text, status: Status::Refused })
+}
+
+/// The answer to an input: its size is judged first, then the test that is its first part, then the
+/// second part.
+///
+/// Fails only for want of memory.
+pub fn answer_to(alloc: Global, settings: &Settings, input: &[u8]) -> Result<Answer, NoMemory>
+    ensures exact { IfOk result (λ a. IsAnswer settings.now input.now (string_bytes a.text) a.status) }
+    ensures headline { IfOk result (λ a. Headline settings.now input.now (string_bytes a.text)) }
+{
+    if input.len() > MAX_INPUT {
+        return refused_input(alloc);
+    }
+    let parts = parts_of(input);
+    match read_test(alloc, parts.test) {
+        Ok(test) => answer_of(alloc, settings, &test, parts.rest),
+        Err(fault) => refused_test(alloc, fault),
+    }
+}
+
+fn answer_of(alloc: Global, settings: &Settings, test: &Test, text: &[u8]) -> Result<Answer, NoMemory>
+    ensures exact { IfOk result (λ a. IsAnswerTo settings.now test.now text.now (string_bytes a.text) a.status) }
+    ensures headline { IfOk result (λ a. HeadlineOf settings.now test.now text.now (string_bytes a.text)) }
+{
+    match settings {
+        Settings::Run { config } => run_answer(alloc, test, *config, text),
+    }
+}
+
+fn run_answer(alloc: Global, test: &Test, config: Config, text: &[u8]) -> Result<Answer, NoMemory>
+    ensures exact { IfOk result (λ a. IsRunAnswer test.now config.depth text.now (string_bytes a.text) a.status) }
+    ensures headline { IfOk result (λ a. PrintsEachRun test.now config.depth text.now (string_bytes a.text)) }
+{
+    ended_runs_are_executions();
+    spelled_cores_exist();
+    match read_choices(alloc, test.cores(), text) {
+        Ok(choices) => run_under(alloc, test, config, &choices),
+        Err(fault) => refused_choices(alloc, fault),
+    }
+}
+
+fn run_under(alloc: Global, test: &Test, config: Config, choices: &[Choice]) -> Result<Answer, NoMemory>
+    requires { CoresExist (length test.now.programs) choices.now }
+    ensures text { IfOk result (λ a. string_bytes a.text ≡ run_text test.now config.depth (run test.now config.depth choices.now)) }
+    ensures status { IfOk result (λ a. a.status ≡ run_status (run test.now config.depth choices.now)) }
+{
+    match simulate(alloc, test, config, choices) {
+        Ok(Ending::Ended(run)) => {
+            let text = report_text(alloc, test, config, &run)?;
+            Ok(Answer { text, status: Status::Good })
+        }
+        Ok(Ending::Unfinished { used, stalled }) => unfinished(alloc, used, stalled),
+        Err(SimFault::NoMemory) => Err(NoMemory),
+    }
+}
+
+fn unfinished(alloc: Global, used: usize, stalled: usize) -> Result<Answer, NoMemory>
+    ensures text { IfOk result (λ a. string_bytes a.text ≡ unfinished_line used stalled) }
+    ensures status { IfOk result (λ a. a.status ≡ Status.Unended) }
+{
+    let text = format!(in alloc; "Unfinished used={used} stalled={stalled}\n")?;
+    Ok(Answer { text, status: Status::Unended })
+}

@@ -1,0 +1,17 @@
+//! The commands of `tso`, from bytes to bytes.
+#![tactic(auto)]
+
+pub mod answer;
+pub mod command;
+pub mod counted;
+pub mod parts;
+pub mod settings;
+pub mod simulation;
+pub mod streams;
+
+pub use answer::{Answer, Status};
+pub use command::run_command;
+pub use counted::Counted;
+pub use settings::{LineFault, Settings, settings_of};
+pub use simulation::{Ending, SimFault, simulate};
+pub use streams::RunFault;

@@ -1,0 +1,114 @@
+ghost use Rattle.std.specs.Prelude.{◌≡◌, ◌≤◌, false, IfOk, length};
+ghost use Rattle.tso_model.specs.Runs.{CoresExist};
+ghost use Rattle.tso_model.specs.Runs as flat;
+ghost use Rattle.tso_cli.specs.Simulation.{IsEndingOf, FitsEnding, Drives, verdict};
+
+use machine_core::{Choice, Config, Final, Machine, Outcome};
+use std::alloc::Global;
+use thiserror::Error;
+use tso_model::{NoMemory, Test, cond_holds};
+use tso_laws::{ended_runs_are_executions, whole_orders_have_each_entry_once};
+use tso_report::Run;
+
+/// How a list of choices left a test.
+#[derive(Debug, Drop)]
+pub enum Ending {
+    /// The test ended within the list.
+    Ended(Run),
+    /// The list was too short: so many choices were made, and so many of them stalled.
+    Unfinished { used: usize, stalled: usize },
+}
+
+/// Why a simulation came to no answer.
+#[derive(Clone, Copy, Debug, PartialEq, Eq, Error)]
+pub enum SimFault {
+    /// The allocator refused a growth.
+    #[error("out of memory")]
+    NoMemory,
+}
+
+impl From<NoMemory> for SimFault {
+    fn from(_: NoMemory) -> SimFault {
+        SimFault::NoMemory
+    }
+}
+
+/// Runs a test under a list of choices, up to the first moment at which it has ended.
+///
+/// Fails only for want of memory.
+pub fn simulate(
+    alloc: Global,
+    test: &Test,
+    config: Config,
+    choices: &[Choice],
+) -> Result<Ending, SimFault>
+    requires { CoresExist (length test.now.programs) choices.now }
+    ensures ending { IfOk result (IsEndingOf test.now (flat.run test.now config.depth choices.now)) }
+    ensures fits { IfOk result (FitsEnding test.now) }
+{
+    ended_runs_are_executions();
+    whole_orders_have_each_entry_once();
+    let _known = test.cores();
+    let mut machine = Machine::new(alloc, test, config)?;
+    let progress = drive(&mut machine, choices)?;
+    if !machine.is_ended() {
+        return Ok(Ending::Unfinished { used: progress.used, stalled: progress.stalled });
+    }
+    let left = machine.finish(alloc)?;
+    let holds = verdict_of(test, &left);
+    Ok(Ending::Ended(Run {
+        execution: left.execution,
+        registers: left.registers,
+        memory: left.memory,
+        holds,
+        used: progress.used,
+        stalled: progress.stalled,
+        unused: choices.len() - progress.used,
+    }))
+}
+
+/// How many choices were made, and how many of them stalled.
+#[derive(Clone, Copy, Debug)]
+struct Progress {
+    used: usize,
+    stalled: usize,
+}
+
+/// Makes the choices one after the other, until the test has ended.
+fn drive(machine: &mut Machine<'_>, choices: &[Choice]) -> Result<Progress, NoMemory>
+    requires fresh { machine.old.failed ≡ false }
+    requires cores { CoresExist (length machine.old.test.programs) choices.now }
+    ensures drives { IfOk result (λ p. Drives machine.old machine.new choices.now p.used p.stalled) }
+    ensures within { IfOk result (λ p. p.used ≤ length choices.now) }
+{
+    let mut used = 0;
+    let mut stalled = 0;
+    while used < choices.len() && !machine.is_ended() {
+        let outcome = machine.choose(choices[used])?;
+        used += 1;
+        stalled += stall_count(outcome);
+    }
+    Ok(Progress { used, stalled })
+}
+
+fn stall_count(outcome: Outcome) -> usize
+    ensures value { result ≡ flat.stall_count outcome }
+    ensures bound { result ≤ 1 }
+{
+    match outcome {
+        Outcome::Stalled(_) => 1,
+        Outcome::Committed | Outcome::Buffered | Outcome::Moved => 0,
+    }
+}
+
+/// The truth of the test's condition in the state that a machine left, if it has one.
+fn verdict_of(test: &Test, left: &Final) -> Option<bool>
+    requires cores { length left.now.registers.items ≡ length test.now.programs }
+    requires locations { length left.now.memory.items ≡ length test.now.locations }
+    ensures { result ≡ verdict test.now left.now.registers.items left.now.memory.items }
+{
+    match test.cond() {
+        None => None,
+        Some(cond) => Some(cond_holds(cond, &left.registers, &left.memory)),
+    }
+}

@@ -1,0 +1,103 @@
+ghost use Rattle.std.specs.Prelude.{◌≡◌, ℕ, ◌+◌, ◌-◌, ◌^◌, ◌<◌, ◌≤◌, length, IfOk, OnOk, MatchResult};
+ghost use Rattle.std.specs.Io.KnownBytes.{Consumes, Appends, IsAtEnd};
+ghost use Rattle.tso_cli.specs.Streams.{AppendsBeginning, ConsumesAtMost};
+
+use crate::counted::Counted;
+use std::alloc::{AllocError, AllocFailed, Global};
+use std::io::{Read, Write};
+use thiserror::Error;
+use tso_model::NoMemory;
+
+/// The greatest input that is judged, in bytes.
+pub const MAX_INPUT: usize = 1_048_576;
+
+/// How many bytes are read, at most: one more than the greatest input, which shows that there is one.
+const READ_LIMIT: usize = 1_048_577;
+
+/// Why a command came to no answer.
+#[derive(Clone, Copy, Debug, PartialEq, Eq, Error)]
+pub enum RunFault {
+    /// A call of the reader or the writer failed.
+    #[error("a device failed")]
+    Device,
+    /// The allocator refused a growth.
+    #[error("out of memory")]
+    NoMemory,
+}
+
+impl From<AllocError> for RunFault {
+    ghost use Rattle.std.specs.Prelude.{◌≡◌};
+    ghost use Rattle.tso_cli.specs.declared.streams.RunFault.TheVariants as faults;
+
+    ghost from_gives = { λ _ fault. fault ≡ faults.NoMemory };
+
+    fn from(_: AllocError) -> RunFault {
+        RunFault::NoMemory
+    }
+}
+
+impl<T: Drop> From<AllocFailed<T>> for RunFault {
+    ghost use Rattle.std.specs.Prelude.{◌≡◌};
+    ghost use Rattle.tso_cli.specs.declared.streams.RunFault.TheVariants as faults;
+
+    ghost from_gives = { λ _ fault. fault ≡ faults.NoMemory };
+
+    fn from(_: AllocFailed<T>) -> RunFault {
+        RunFault::NoMemory
+    }
+}
+
+impl From<NoMemory> for RunFault {
+    ghost use Rattle.std.specs.Prelude.{◌≡◌};
+    ghost use Rattle.tso_cli.specs.declared.streams.RunFault.TheVariants as faults;
+
+    ghost from_gives = { λ _ fault. fault ≡ faults.NoMemory };
+
+    fn from(_: NoMemory) -> RunFault {
+        RunFault::NoMemory
+    }
+}
+
+/// All bytes of the reader, or the first 1,048,577 of them. No call is tried again.
+pub fn read_input<R: Read>(alloc: Global, reader: &mut Counted<R>) -> Result<Vec<u8>, RunFault>
+    requires { reader.old.1 < 2 ^ 32 - 1 }
+
+    ensures bytes { IfOk result (λ v. Consumes (R.remaining reader.old.0) (R.remaining reader.new.0) v.items) }
+    ensures size { IfOk result (λ v. length v.items ≤ 1048577) }
+    ensures end { IfOk result (λ v. length v.items < 1048577 → IsAtEnd (R.remaining reader.new.0)) }
+    ensures most { ConsumesAtMost (R.remaining reader.old.0) (R.remaining reader.new.0) 1048577 }
+
+    ensures faults { MatchResult result (λ _. reader.new.1 ≡ reader.old.1) (λ e. (e ≡ RunFault.Device → reader.new.1 ≡ reader.old.1 + 1) × (e ≡ RunFault.NoMemory → reader.new.1 ≡ reader.old.1)) }
+{
+    let mut input = Vec::new(alloc);
+    let mut chunk = [0u8; 4096];
+    while input.len() < READ_LIMIT {
+        let room = (READ_LIMIT - input.len()).min(4096);
+        match reader.read(&mut chunk[..room]) {
+            Ok(0) => return Ok(input),
+            Ok(n) => input.extend_from_slice(&chunk[..n])?,
+            Err(_) => return Err(RunFault::Device),
+        }
+    }
+    Ok(input)
+}
+
+/// Writes these bytes once. No call is tried again.
+pub fn write_output<W: Write>(writer: &mut Counted<W>, bytes: &[u8]) -> Result<(), RunFault>
+    requires { writer.old.1 < 2 ^ 32 - 1 }
+
+    ensures ok { OnOk result (Appends (W.contents writer.old.0) (W.contents writer.new.0) bytes.now) }
+    ensures beginning { AppendsBeginning (W.contents writer.old.0) (W.contents writer.new.0) bytes.now }
+
+    ensures faults { MatchResult result (λ _. writer.new.1 ≡ writer.old.1) (λ e. (e ≡ RunFault.Device) × (writer.new.1 ≡ writer.old.1 + 1)) }
+{
+    let mut at = 0;
+    while at < bytes.len() {
+        match writer.write(&bytes[at..]) {
+            Ok(0) => return Err(RunFault::Device),
+            Ok(n) => at += n,
+            Err(_) => return Err(RunFault::Device),
+        }
+    }
+    Ok(())
+}
