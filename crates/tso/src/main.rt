@@ -1,0 +1,104 @@
+//! `tso`: runs x86 litmus tests on a simulated multiprocessor under total store order.
+//!
+//! The command reads standard input and writes standard output. What it answers is proved of
+//! `tso_cli::run_command`; here stand the streams, the words of the line and the exit status.
+#![tactic(auto)]
+
+use std::alloc::AllocError;
+use std::env;
+use std::io;
+use std::io::Write;
+use std::process::ExitCode;
+use tso_cli::{Counted, LineFault, RunFault, Settings, Status, run_command, settings_of};
+
+/// The exit status of a line that is refused; `--help` is such a line too.
+const BAD_LINE: u8 = 2;
+
+/// The exit status where memory or a device failed.
+const FAULT: u8 = 5;
+
+fn main(rt: HostRuntime) -> ExitCode {
+    let status = match settings_of_line(&rt) {
+        Ok(settings) => run(&rt, &settings),
+        Err(status) => status,
+    };
+    ExitCode::from(status)
+}
+
+/// The settings that the process's words give, or the exit status of a line that is refused.
+fn settings_of_line(rt: &HostRuntime) -> Result<Settings, u8> {
+    match words_of_line(rt) {
+        Ok(settings) => Ok(settings),
+        Err(LineError::Refused(LineFault::Words(error))) => {
+            let _ = rt.eprint(&error);
+            Err(BAD_LINE)
+        }
+        Err(LineError::Refused(LineFault::Range)) | Err(LineError::NotText) => {
+            Err(fault(rt, "fault range", BAD_LINE))
+        }
+        Err(LineError::NoMemory) => Err(fault(rt, "fault memory", FAULT)),
+    }
+}
+
+#[derive(Debug, Drop)]
+enum LineError {
+    Refused(LineFault),
+    NotText,
+    NoMemory,
+}
+
+impl From<AllocError> for LineError {
+    fn from(_: AllocError) -> LineError {
+        LineError::NoMemory
+    }
+}
+
+impl From<io::Error> for LineError {
+    fn from(error: io::Error) -> LineError {
+        match error.kind() {
+            io::ErrorKind::OutOfMemory => LineError::NoMemory,
+            _ => LineError::NotText,
+        }
+    }
+}
+
+fn words_of_line(rt: &HostRuntime) -> Result<Settings, LineError> {
+    let mut lines = Vec::new(rt.alloc());
+    for word in env::args(rt)? {
+        lines.push(word).map_err(AllocError::from)?;
+    }
+    let mut words = Vec::new(rt.alloc());
+    for word in &lines {
+        words.push(word.as_str()).map_err(AllocError::from)?;
+    }
+    settings_of(rt.alloc(), &words).map_err(LineError::Refused)
+}
+
+/// Runs the command over the standard streams, and answers the exit status.
+fn run(rt: &HostRuntime, settings: &Settings) -> u8 {
+    let mut reader = Counted::new(rt.reader());
+    let mut writer = Counted::new(io::writer(rt));
+    match run_command(rt.alloc(), &mut reader, &mut writer, settings) {
+        Ok(status) => match writer.flush() {
+            Ok(()) => exit_status(status),
+            Err(_) => fault(rt, "fault device", FAULT),
+        },
+        Err(RunFault::Device) => fault(rt, "fault device", FAULT),
+        Err(RunFault::NoMemory) => fault(rt, "fault memory", FAULT),
+    }
+}
+
+fn exit_status(status: Status) -> u8 {
+    match status {
+        Status::Good => 0,
+        Status::Refused => 1,
+        Status::Unended => 3,
+        Status::Invalid => 4,
+    }
+}
+
+/// Tells a fault on standard error; nothing can be done where that fails too.
+fn fault(rt: &HostRuntime, line: &str, status: u8) -> u8 {
+    let _ = rt.eprintln(line);
+    status
+}
