@@ -1,14 +1,15 @@
 -- Entries of one core, place and kind, and lists in which no two are.
-use Rattle.std.proofs.Common.{◌≡◌, ◌≢◌, ◌<◌, ◌≤◌, ℕ, ◌+◌, suc, zero, List, [], ◌∷◌, length, Some, slice_get, Bool, true, false, ◌==◌, ◌&&◌, ◌||◌, if◌then◌else◌, arith, ap, sym, ◌∙◌, ◌⊎◌, inl, inr, subst, refl}
-use Rattle.std.proofs.lemmas.Bool.Decides.{nat_tests, eqb_tells}
+use Rattle.std.proofs.Common.{◌≡◌, ◌<◌, ℕ, suc, zero, List, [], ◌∷◌, Some, slice_get, Bool, true, false, ◌==◌, ◌&&◌, ◌||◌, if◌then◌else◌, arith, ap, sym, ◌∙◌, inl, inr, subst, refl}
+use Rattle.std.proofs.lemmas.Bool.Decides.{eqb_tells}
 use Rattle.tso_model.specs.Thread.{entry}
 use Rattle.tso_model.specs.ProgramOrder.{is_read, is_write, is_read_kind, is_write_kind}
 use Rattle.tso_model.specs.Execution.{is_at, same_kind, read_value}
 use Rattle.tso_model.specs.declared.execution.Entry.{Entry}
 use Rattle.tso_model.specs.declared.execution.Kind.{Kind}
 use Rattle.tso_model.specs.declared.execution.Kind.TheVariants.{R, W, F, LR, LW}
-use Rattle.axiom_checker.specs.Entries.{same_action, same_but_value, IsTwice}
-use Rattle.axiom_checker.proofs.Slots.{Each, each-at, AllApart}
+use Rattle.axiom_checker.specs.Entries.{same_action, same_but_value}
+use Rattle.axiom_checker.proofs.Firsts.{three-ways}
+use Rattle.axiom_checker.proofs.Slots.{each-at, AllApart}
 
 same_kind-is : (a b : Kind) → same_kind a b ≡ true → a ≡ b
 same_kind-is R R h = refl
@@ -73,9 +74,6 @@ same-from x y s =
 pub same-turned : (x y : Entry) → SameAction x y → SameAction y x
 same-turned x y s = record { core = sym s.core; place = sym s.place; kind = sym s.kind }
 
-pub same-through : (x y z : Entry) → SameAction x y → SameAction y z → SameAction x z
-same-through x y z s t = record { core = s.core ∙ t.core; place = s.place ∙ t.place; kind = s.kind ∙ t.kind }
-
 pub same-itself : (x : Entry) → same_action x x ≡ true
 same-itself x = same-from x x (record { core = refl; place = refl; kind = refl })
 
@@ -129,9 +127,6 @@ apart-none (z ∷ zs) a (suc i) (suc j) x y l e f s = apart-none zs a.1 i j x y 
 
 behind : (z : Entry) (zs : List Entry) → NoneTwice (z ∷ zs) → NoneTwice zs
 behind z zs n i j x y l e f s = n (suc i) (suc j) x y (omega arith) e f s
-
-three-ways : (i j : ℕ) → (i ≡ j) ⊎ ((i < j) ⊎ (j < i))
-three-ways i j = grind arith
 
 -- two entries of one core, place and kind are one
 pub one-place : (list : List Entry) → NoneTwice list → (i j : ℕ) (x y : Entry) → slice_get list i ≡ Some x → slice_get list j ≡ Some y → SameAction x y → i ≡ j

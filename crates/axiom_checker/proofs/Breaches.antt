@@ -1,5 +1,5 @@
 -- A first breach is real, and an order has at most one.
-use Rattle.std.proofs.Common.{◌≡◌, ◌≢◌, ◌<◌, ◌≤◌, ℕ, suc, zero, List, Some, slice_get, arith, ap, sym, ◌∙◌, ◌⊎◌, inl, inr, subst, refl}
+use Rattle.std.proofs.Common.{◌≡◌, ◌<◌, ℕ, suc, zero, List, Some, slice_get, arith, ap, sym, ◌∙◌, ◌⊎◌, inl, inr, subst}
 use Rattle.tso_model.specs.Litmus.{Litmus}
 use Rattle.tso_model.specs.Thread.{entry}
 use Rattle.tso_model.specs.Execution.{made, IsWhole, KeepsProgramOrder, KeepsPairs, IsTsoExecution}
@@ -10,6 +10,7 @@ use Rattle.axiom_checker.specs.Axioms.{Overtakes, IsLate, IsParted, IsWrongRead,
 use Rattle.axiom_checker.specs.FirstBreach.{IsFirstBreach}
 use Rattle.axiom_checker.specs.declared.breach.Breach.{Breach}
 use Rattle.axiom_checker.specs.declared.breach.Breach.TheVariants.{Extra, Twice, Missing, WrongValue, ProgramOrder, NotAdjacent, ReadValue, NoMemory}
+use Rattle.axiom_checker.proofs.Firsts.{three-ways}
 use Rattle.axiom_checker.proofs.Whole.{whole-clean}
 use Rattle.axiom_checker.proofs.Keeps.{none-late, none-parted, none-wrong}
 
@@ -115,13 +116,10 @@ record Same (i j : ℕ) (x y : Entry) : Type 0 where
   pub entry : x ≡ y
 
 one-first : (list : List Entry) (Fact : ℕ → Entry → Type 0) (i j : ℕ) (x y : Entry) → IsFirst list Fact i x → IsFirst list Fact j y → Same i j x y
-one-first list Fact i j x y f g = elim (ways i j) [
+one-first list Fact i j x y f g = elim (three-ways i j) [
   | inl q ↦ let s : slice_get list i ≡ Some y = subst (λ k. slice_get list k ≡ Some y) (sym q) g.stands in let e = f.stands in record { place = q; entry = cc }
   | inr w ↦ elim w [ inl l ↦ absurd (g.earliest i x l f.stands f.holds) | inr l ↦ absurd (f.earliest j y l g.stands g.holds) ]
 ]
-  where
-    ways : (i j : ℕ) → (i ≡ j) ⊎ ((i < j) ⊎ (j < i))
-    ways i j = grind arith
 
 same-letter : (t : Litmus) (order : List Entry) (b c : Breach) → level b ≡ level c → IsFirstBreach t order b → IsFirstBreach t order c → b ≡ c
 same-letter t order (Extra x) (Extra y) l f g = let s = one-first order (IsStray (made t order) order) f.1.0 g.1.0 x y f.1.1 g.1.1 in ap Extra s.entry
@@ -148,11 +146,8 @@ same-letter t order (ReadValue x due) (ReadValue y due') l f g =
     ap (λ d. ReadValue x d) (f.3.2 ∙ ap (λ at. due_at t order at x) s.place ∙ ap (λ z. due_at t order g.3.0 z) s.entry ∙ sym g.3.2) ∙ ap (λ z. ReadValue z due') s.entry
 same-letter t order b c l f g = absurd (omega arith)
 
-letters : (i j : ℕ) → (i ≡ j) ⊎ ((i < j) ⊎ (j < i))
-letters i j = grind arith
-
 pub one-breach : (t : Litmus) (order : List Entry) (b c : Breach) → IsFirstBreach t order b → IsFirstBreach t order c → b ≡ c
-one-breach t order b c f g = elim (letters (level b) (level c)) [
+one-breach t order b c f g = elim (three-ways (level b) (level c)) [
   | inl q ↦ same-letter t order b c q f g
   | inr w ↦ elim w [
     | inl l ↦ absurd (none-lower t order c g (level b) l (occurs-at t order b f))

@@ -1,15 +1,15 @@
 -- What the tests of the checker say of an order.
-use Rattle.std.proofs.Common.{◌≡◌, ◌≢◌, ◌<◌, ◌≤◌, ℕ, ◌+◌, suc, zero, List, [], ◌∷◌, ◌++◌, length, Option, Some, None, slice_get, IfSome, IsNone, Bool, true, false, not, ◌||◌, ◌&&◌, find, filter, arith, ap, sym, ◌∙◌, ◌⊎◌, inl, inr, subst, refl, take, cond}
+use Rattle.std.proofs.Common.{◌≡◌, ℕ, List, [], ◌∷◌, ◌++◌, Option, Some, None, IfSome, IsNone, Bool, true, false, not, find, filter, ap, sym, ◌∙◌, inl, inr, refl, take, cond}
 use Rattle.std.specs.List.{list_any}
 use Rattle.tso_model.specs.ProgramOrder.{writes_to, is_before}
 use Rattle.tso_model.specs.Execution.{last_value, counting}
 use Rattle.tso_model.specs.declared.execution.Entry.{Entry}
-use Rattle.axiom_checker.specs.First.{IsFirst, IsNowhere}
+use Rattle.axiom_checker.specs.First.{IsFirst}
 use Rattle.axiom_checker.specs.Entries.{same_action, same_but_value, IsExtra, IsTwice, IsStray, IsMissing}
 use Rattle.axiom_checker.specs.Axioms.{must_stand_before, Overtakes, IsLate}
-use Rattle.axiom_checker.proofs.Firsts.{Passing, any_at, none_passes, FirstPassing, found_at, found_none, in_front, from_front}
+use Rattle.axiom_checker.proofs.Firsts.{any_at, none_passes, found_at, found_none, in_front, from_front}
 
--- C1
+-- entries that are extra or stand twice
 pub extra_tells : (made : List Entry) (x : Entry) → list_any (λ e. same_but_value e x) made ≡ false → IsExtra made x
 extra_tells made x h = none_passes (λ e. same_but_value e x) made h
 
@@ -40,7 +40,7 @@ missing_tells order e true h = (
       let r = any_at (λ y. same_action e y) order (sym h) in let f : same_action e r.1 ≡ false = m r.0 r.1 r.2 in let t = r.3 in absurd (let z : ⊥ = cc in z),
 )
 
--- C3
+-- entries that overtook another
 pub overtaking_found : (order : List Entry) (at : ℕ) (a b : Entry) → find (λ y. must_stand_before a y) (take at order) ≡ Some b → (j : ℕ) × IsFirst order (Overtakes at a) j b
 overtaking_found order at a b h =
     let r = found_at (λ y. must_stand_before a y) (take at order) b h in
@@ -64,7 +64,7 @@ pub overtaking_tells : (order : List Entry) (at : ℕ) (a : Entry) (r : Option E
 overtaking_tells order at a None h = (tt, λ n. overtaking_none order at a (sym h))
 overtaking_tells order at a (Some b) h = (overtaking_found order at a b (sym h), λ n. absurd (let z : ⊥ = cc in z))
 
--- C5: the last of the writes that count, found by going over what stands before the read and then what stands behind it
+-- the last of the writes that count, found by going over what stands before the read and then what stands behind it
 last_value-append : (xs ys : List Entry) (w : ℕ) → last_value (xs ++ ys) w ≡ last_value ys (last_value xs w)
 last_value-append [] ys w = refl
 last_value-append (x ∷ xs) ys w = last_value-append xs ys x.value

@@ -1,5 +1,5 @@
 -- The earliest entry of a list, found by going over it from the front.
-use Rattle.std.proofs.Common.{◌≡◌, ◌<◌, ◌≤◌, ℕ, ◌+◌, suc, zero, List, [], ◌∷◌, length, Option, Some, None, slice_get, slice_index_or, Bool, ◌||◌, true, false, find, arith, ap, sym, ◌∙◌, ◌⊎◌, inl, inr, subst, refl, take, cond}
+use Rattle.std.proofs.Common.{◌≡◌, ◌<◌, ◌≤◌, ℕ, ◌+◌, suc, zero, List, [], ◌∷◌, length, Option, Some, None, slice_get, slice_index_or, Bool, ◌||◌, true, false, find, arith, ap, ◌⊎◌, inl, inr, subst, refl, take, cond}
 use Rattle.std.proofs.lemmas.Option.{slice_get_within, slice_get-get_or}
 use Rattle.std.specs.List.{list_any}
 use Rattle.tso_model.specs.declared.execution.Entry.{Entry}
@@ -8,6 +8,10 @@ use Rattle.axiom_checker.specs.First.{IsFirst, IsNowhere}
 -- the fact holds of no entry before this place
 abbrev pub NoneBefore : List Entry → (ℕ → Entry → Type 0) → ℕ → Type 0
 NoneBefore list Fact at = (k : ℕ) (y : Entry) → k < at → slice_get list k ≡ Some y → Fact k y → ⊥
+
+-- two places are one, or the one is before the other
+pub three-ways : (i j : ℕ) → (i ≡ j) ⊎ ((i < j) ⊎ (j < i))
+three-ways i j = grind arith
 
 same_or_below : (i n : ℕ) → i < n + 1 → (i ≡ n) ⊎ (i < n)
 same_or_below i n h = grind arith
@@ -23,9 +27,6 @@ one_more list Fact at x here before not k y l e f = elim (same_or_below k at l) 
 
 pub none_at_all : (list : List Entry) (Fact : ℕ → Entry → Type 0) (at : ℕ) → length list ≤ at → NoneBefore list Fact at → IsNowhere list Fact
 none_at_all list Fact at whole before k y e f = before k y (let w = slice_get_within list k y e in omega arith) e f
-
-pub first_at : (list : List Entry) (Fact : ℕ → Entry → Type 0) (at : ℕ) (x : Entry) → slice_get list at ≡ Some x → NoneBefore list Fact at → Fact at x → IsFirst list Fact at x
-first_at list Fact at x here before holds = record { stands = here; holds = holds; earliest = before }
 
 pub none_in_nothing : (list : List Entry) (Fact : ℕ → Entry → Type 0) → NoneBefore list Fact 0
 none_in_nothing list Fact k y l e f = absurd (omega arith)

@@ -1,14 +1,15 @@
 -- An axiom holds of an order exactly where no entry breaks it.
-use Rattle.std.proofs.Common.{◌≡◌, ◌≢◌, ◌<◌, ◌≤◌, ℕ, ◌+◌, suc, zero, List, [], ◌∷◌, ◌++◌, length, Option, Some, None, slice_get, take, drop, Bool, true, false, not, ◌&&◌, ◌==◌, arith, ap, sym, ◌∙◌, ◌⊎◌, inl, inr, subst, refl}
+use Rattle.std.proofs.Common.{◌≡◌, ◌≢◌, ℕ, suc, zero, List, [], ◌∷◌, ◌++◌, length, Option, Some, None, slice_get, take, drop, Bool, true, false, not, ◌&&◌, arith, ap, sym, ◌∙◌, ◌⊎◌, inl, inr, subst, refl}
 use Rattle.std.proofs.lemmas.Bool.Decides.{nat_tests, eqb_tells}
 use Rattle.tso_model.specs.Litmus.{Litmus}
-use Rattle.tso_model.specs.ProgramOrder.{is_before, may_be_passed, is_read}
+use Rattle.tso_model.specs.ProgramOrder.{is_before, may_be_passed}
 use Rattle.tso_model.specs.Execution.{KeepsProgramOrder, KeepsPairs, IsStorePart, HasReadValues, due_value}
 use Rattle.tso_model.specs.declared.execution.Entry.{Entry}
 use Rattle.tso_model.specs.declared.execution.Kind.{Kind}
 use Rattle.tso_model.specs.declared.execution.Kind.TheVariants.{R, W, F, LR, LW}
 use Rattle.axiom_checker.specs.First.{IsNowhere}
-use Rattle.axiom_checker.specs.Axioms.{must_stand_before, Overtakes, IsLate, IsParted, IsWrongRead, due_at}
+use Rattle.axiom_checker.proofs.Firsts.{three-ways}
+use Rattle.axiom_checker.specs.Axioms.{IsLate, IsParted, IsWrongRead, due_at}
 
 -- program order
 not-before-itself : (x : Entry) → is_before x x ≡ false
@@ -22,18 +23,15 @@ swapped-parts true true h = absurd (let z : ⊥ = cc in z)
 swapped-parts true false h = (refl, refl)
 swapped-parts false b h = absurd (let z : ⊥ = cc in z)
 
-three-ways : (i j : ℕ) → (i < j) ⊎ ((i ≡ j) ⊎ (j < i))
-three-ways i j = grind arith
-
 pub keeps-order : (order : List Entry) → IsNowhere order (IsLate order) → KeepsProgramOrder order
 keeps-order order n i j x y e f before passed = elim (three-ways i j) [
-  | inl l ↦ l
+  | inl q ↦
+      let g : slice_get order i ≡ Some y = subst (λ k. slice_get order k ≡ Some y) (sym q) f in
+      let s : y ≡ x = cc in
+      let t : is_before x x ≡ true = subst (λ z. is_before x z ≡ true) s before in
+      let u = not-before-itself x in absurd (let z : ⊥ = cc in z)
   | inr w ↦ elim w [
-    | inl q ↦
-        let g : slice_get order i ≡ Some y = subst (λ k. slice_get order k ≡ Some y) (sym q) f in
-        let s : y ≡ x = cc in
-        let t : is_before x x ≡ true = subst (λ z. is_before x z ≡ true) s before in
-        let u = not-before-itself x in absurd (let z : ⊥ = cc in z)
+    | inl l ↦ l
     | inr l ↦ absurd (n i x e (j, y, f, record { sooner = l; swapped = swapped-of (is_before x y) (may_be_passed x y) before passed }))
   ]
 ]
@@ -53,7 +51,7 @@ store-kind F = inr (λ h. let z : ⊥ = cc in z)
 store-kind LR = inr (λ h. let z : ⊥ = cc in z)
 store-kind LW = inl refl
 
-equal-or-not : (a b : ℕ) → (a ≡ b) ⊎ (a ≢ b)
+pub equal-or-not : (a b : ℕ) → (a ≡ b) ⊎ (a ≢ b)
 equal-or-not a b = elim (eqb_tells a b) [ inl p ↦ inl p.1 | inr p ↦ inr p.1 ]
 
 store-part-or-not : (x y : Entry) → IsStorePart x y ⊎ (IsStorePart x y → ⊥)
@@ -68,7 +66,7 @@ store-part-or-not x y = elim (equal-or-not y.core.0 x.core.0) [
   ]
 ]
 
-next-of : (x : Entry) (o : Option Entry) → ((y : Entry) → o ≡ Some y → IsStorePart x y → ⊥) ⊎ ((y : Entry) × (o ≡ Some y) × IsStorePart x y)
+pub next-of : (x : Entry) (o : Option Entry) → ((y : Entry) → o ≡ Some y → IsStorePart x y → ⊥) ⊎ ((y : Entry) × (o ≡ Some y) × IsStorePart x y)
 next-of x None = inl (λ y e s. let z : ⊥ = cc in z)
 next-of x (Some y) = elim (store-part-or-not x y) [
   | inl s ↦ inr (y, refl, s)

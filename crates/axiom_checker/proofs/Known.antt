@@ -1,5 +1,5 @@
 -- Each entry of a whole order has a location of the test, but for fences.
-use Rattle.std.proofs.Common.{◌≡◌, ◌<◌, ◌≤◌, ℕ, ◌+◌, suc, zero, List, [], ◌∷◌, ◌++◌, length, Some, slice_get, slice_index, slice_index_or, drop, Bool, true, false, All, arith, refl, subst, ap, sym}
+use Rattle.std.proofs.Common.{◌≡◌, ◌<◌, ℕ, ◌+◌, suc, List, [], ◌∷◌, length, Some, slice_get, slice_index, slice_index_or, drop, true, false, All, arith, refl}
 use Rattle.tso_model.specs.Thread.{entry, fence, entries_of, with_value, value_in, sum_of}
 use Rattle.tso_model.specs.Litmus.{Litmus, KnownLocation, IsProgram, IsTest}
 use Rattle.tso_model.specs.ProgramOrder.{is_read}
@@ -7,7 +7,7 @@ use Rattle.tso_model.specs.Execution.{read_values, made_by, made_from, made, IsW
 use Rattle.tso_model.specs.declared.instruction.Instr.{Instr}
 use Rattle.tso_model.specs.declared.instruction.Instr.TheVariants.{StoreImm, StoreReg, Load, SetImm, SetReg, Fence, Xchg, Xadd}
 use Rattle.tso_model.specs.declared.execution.Entry.{Entry}
-use Rattle.tso_model.specs.declared.execution.Kind.TheVariants.{R, W, F, LR, LW}
+use Rattle.tso_model.specs.declared.execution.Kind.TheVariants.{W, LW}
 use Rattle.axiom_checker.proofs.Slots.{Each, each-append, each-at, made-apart}
 use Rattle.axiom_checker.proofs.OwnReads.{made-read}
 use Rattle.axiom_checker.proofs.Actions.{apart-none}

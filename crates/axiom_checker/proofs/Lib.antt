@@ -9,3 +9,4 @@ pub mod Keeps
 pub mod Known
 pub mod Breaches
 pub mod Named
+pub mod Judged

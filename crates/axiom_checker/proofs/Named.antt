@@ -1,7 +1,7 @@
 -- Each breach that the checker names is the first, and an order in which it finds none is a TSO execution.
-use Rattle.std.proofs.Common.{◌≡◌, ◌<◌, ℕ, List, Some, slice_get, true, sym, subst, refl}
+use Rattle.std.proofs.Common.{◌≡◌, ℕ, List, subst}
 use Rattle.tso_model.specs.Litmus.{Litmus}
-use Rattle.tso_model.specs.Execution.{made, IsWhole, KeepsProgramOrder, KeepsPairs, IsTsoExecution}
+use Rattle.tso_model.specs.Execution.{made, IsWhole, IsTsoExecution}
 use Rattle.tso_model.specs.declared.execution.Entry.{Entry}
 use Rattle.axiom_checker.specs.First.{IsFirst, IsNowhere}
 use Rattle.axiom_checker.specs.Entries.{IsExtra, IsStray, IsMissing, IsWrongWrite, written_value}

@@ -1,5 +1,5 @@
 -- Each read that the programs make has the value that the order itself gives it.
-use Rattle.std.proofs.Common.{◌≡◌, ℕ, ◌+◌, List, [], ◌∷◌, ◌++◌, slice_index, slice_index_or, drop, Bool, true, false, refl, ap}
+use Rattle.std.proofs.Common.{◌≡◌, ℕ, ◌+◌, List, [], ◌∷◌, slice_index_or, true, false, refl}
 use Rattle.tso_model.specs.Thread.{entry, fence, entries_of, with_value, value_in, sum_of}
 use Rattle.tso_model.specs.Litmus.{Litmus}
 use Rattle.tso_model.specs.ProgramOrder.{is_read}
@@ -7,7 +7,7 @@ use Rattle.tso_model.specs.Execution.{read_value, read_values, made_by, made_fro
 use Rattle.tso_model.specs.declared.instruction.Instr.{Instr}
 use Rattle.tso_model.specs.declared.instruction.Instr.TheVariants.{StoreImm, StoreReg, Load, SetImm, SetReg, Fence, Xchg, Xadd}
 use Rattle.tso_model.specs.declared.execution.Entry.{Entry}
-use Rattle.tso_model.specs.declared.execution.Kind.TheVariants.{R, W, F, LR, LW}
+use Rattle.tso_model.specs.declared.execution.Kind.TheVariants.{R, W, LR, LW}
 use Rattle.axiom_checker.proofs.Slots.{Each, each-append}
 
 abbrev pub ReadsOwn : List Entry → Entry → Type 0

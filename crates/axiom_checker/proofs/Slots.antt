@@ -1,16 +1,13 @@
 -- No two entries that the programs make are of one core, place and kind.
-use Rattle.std.proofs.Common.{◌≡◌, ◌≢◌, ◌<◌, ◌≤◌, ℕ, ◌+◌, suc, zero, List, [], ◌∷◌, ◌++◌, length, Some, slice_get, slice_index, slice_index_or, drop, Bool, true, false, ◌==◌, ◌&&◌, arith, ap, sym, ◌∙◌, ◌⊎◌, inl, inr, subst, refl}
+use Rattle.std.proofs.Common.{◌≡◌, ◌<◌, ◌≤◌, ℕ, ◌+◌, suc, zero, List, [], ◌∷◌, ◌++◌, Some, slice_get, slice_index, slice_index_or, drop, Bool, true, false, ◌==◌, ◌&&◌, arith, subst, refl}
 use Rattle.std.proofs.lemmas.Bool.Decides.{nat_tests}
-use Rattle.tso_model.specs.Registers.{index_of}
 use Rattle.tso_model.specs.Thread.{entry, fence, entries_of, with_value, value_in, sum_of}
 use Rattle.tso_model.specs.Litmus.{Litmus}
-use Rattle.tso_model.specs.ProgramOrder.{is_read}
-use Rattle.tso_model.specs.Execution.{is_at, same_kind, read_value, read_values, made_by, made_from, made}
+use Rattle.tso_model.specs.Execution.{same_kind, read_values, made_by, made_from, made}
 use Rattle.tso_model.specs.declared.instruction.Instr.{Instr}
 use Rattle.tso_model.specs.declared.instruction.Instr.TheVariants.{StoreImm, StoreReg, Load, SetImm, SetReg, Fence, Xchg, Xadd}
 use Rattle.tso_model.specs.declared.execution.Entry.{Entry}
-use Rattle.tso_model.specs.declared.execution.Kind.{Kind}
-use Rattle.tso_model.specs.declared.execution.Kind.TheVariants.{R, W, F, LR, LW}
+use Rattle.tso_model.specs.declared.execution.Kind.TheVariants.{R, W, LR, LW}
 use Rattle.axiom_checker.specs.Entries.{same_action}
 
 abbrev pub Each : (Entry → Type 0) → List Entry → Type 0

@@ -1,20 +1,20 @@
 -- An order is whole exactly where no entry is extra, there twice, missing or a write of a wrong value.
-use Rattle.std.proofs.Common.{◌≡◌, ◌≢◌, ◌<◌, ◌≤◌, ℕ, List, length, Some, slice_get, Bool, true, false, ◌==◌, arith, ap, sym, ◌∙◌, ◌⊎◌, inl, inr, subst, refl}
+use Rattle.std.proofs.Common.{◌≡◌, ◌≢◌, ℕ, List, length, Some, slice_get, Bool, true, false, arith, ap, sym, ◌∙◌, inl, inr, subst, refl}
 use Rattle.std.specs.List.{list_any}
 use Rattle.std.proofs.lemmas.Bool.Decides.{eqb_tells}
 use Rattle.tso_model.specs.Litmus.{Litmus}
-use Rattle.tso_model.specs.ProgramOrder.{is_read, is_write, is_read_kind, is_write_kind}
-use Rattle.tso_model.specs.Execution.{read_value, made, StandsIn, IsWhole}
+use Rattle.tso_model.specs.ProgramOrder.{is_read_kind, is_write_kind}
+use Rattle.tso_model.specs.Execution.{made, StandsIn, IsWhole}
 use Rattle.tso_model.specs.declared.execution.Entry.{Entry}
 use Rattle.tso_model.specs.declared.execution.Kind.{Kind}
 use Rattle.tso_model.specs.declared.execution.Kind.TheVariants.{R, W, F, LR, LW}
 use Rattle.axiom_checker.specs.First.{IsNowhere}
-use Rattle.axiom_checker.specs.Entries.{same_action, same_but_value, IsExtra, IsTwice, IsStray, IsMissing, IsWrongWrite, written_value}
+use Rattle.axiom_checker.specs.Entries.{same_action, same_but_value, IsExtra, IsStray, IsMissing, IsWrongWrite, written_value}
 use Rattle.axiom_checker.proofs.Firsts.{any_at, none_passes}
 use Rattle.axiom_checker.proofs.Slots.{Each, each-at, made-apart}
 use Rattle.axiom_checker.proofs.OwnReads.{ReadsOwn, made-read}
-use Rattle.axiom_checker.proofs.Actions.{SameAction, same-parts, same-from, same-turned, same-through, same-itself, entry-is, SameButValue, same_but_value-parts, same_but_value-itself, NoneTwice, apart-none, one-entry, value-at, looked-up}
-use Rattle.axiom_checker.proofs.Pigeon.{Member, at-member, member-at, Distinct, distinct-from, distinct-one, Within, no_fewer, pigeon}
+use Rattle.axiom_checker.proofs.Actions.{SameAction, same-parts, same-from, same-turned, same-itself, entry-is, SameButValue, same_but_value-parts, same_but_value-itself, NoneTwice, apart-none, one-entry, value-at, looked-up}
+use Rattle.axiom_checker.proofs.Pigeon.{at-member, member-at, Distinct, distinct-from, distinct-one, no_fewer, pigeon}
 
 -- an order without any of the four
 pub record IsClean (made order : List Entry) : Type 0 where

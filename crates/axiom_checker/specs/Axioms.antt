@@ -7,7 +7,7 @@ use Rattle.tso_model.specs.Execution.{IsStorePart, due_value}
 use Rattle.tso_model.specs.declared.execution.Entry.{Entry}
 use Rattle.tso_model.specs.declared.execution.Kind.TheVariants.{LR}
 
--- the axioms have a before b: it stands before b in its program, and the two aren't a plain store and a plain load
+-- a stands before b in their program, and the axioms keep the two in order: a plain load alone may pass a plain store
 abbrev pub must_stand_before : Entry → Entry → Bool
 must_stand_before a b = is_before a b && not (may_be_passed a b)
 

@@ -14,7 +14,8 @@ same_action x y = is_at x.core.0 x.place x.kind y
 abbrev pub same_but_value : Entry → Entry → Bool
 same_but_value e x = same_action e x && (x.loc.0 == e.loc.0) && (is_read x || is_write x || (x.value == e.value))
 
--- no program has this core, place, kind and location; nor has one a fence with a location or value other than 0
+-- no program has this core, place, kind and location. The programs' fences have location 0 and value 0, so any other
+-- fence is extra too
 abbrev pub IsExtra : List Entry → Entry → Type 0
 IsExtra made x = (k : ℕ) (e : Entry) → slice_get made k ≡ Some e → same_but_value e x ≡ false
 
@@ -22,7 +23,7 @@ IsExtra made x = (k : ℕ) (e : Entry) → slice_get made k ≡ Some e → same_
 abbrev pub IsTwice : List Entry → ℕ → Entry → Type 0
 IsTwice order at x = (j : ℕ) × (y : Entry) × (j < at) × (slice_get order j ≡ Some y) × (same_action x y ≡ true)
 
--- an entry that should not stand where it does
+-- extra, or there twice
 abbrev pub IsStray : List Entry → List Entry → ℕ → Entry → Type 0
 IsStray made order at x = IsExtra made x ⊎ IsTwice order at x
 

@@ -8,6 +8,10 @@ pub record IsFirst (list : List Entry) (Fact : ℕ → Entry → Type 0) (at : �
   pub holds : Fact at x
   pub earliest : (k : ℕ) (y : Entry) → k < at → slice_get list k ≡ Some y → ¬ Fact k y
 
+-- x is the earliest entry of the list of which the fact holds
+abbrev pub IsEarliest : List Entry → (ℕ → Entry → Type 0) → Entry → Type 0
+IsEarliest list Fact x = (at : ℕ) × IsFirst list Fact at x
+
 -- the fact holds of no entry of the list, whatever its place
 abbrev pub IsNowhere : List Entry → (ℕ → Entry → Type 0) → Type 0
 IsNowhere list Fact = (k : ℕ) (y : Entry) → slice_get list k ≡ Some y → ¬ Fact k y

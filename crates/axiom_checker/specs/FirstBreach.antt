@@ -5,31 +5,31 @@ use Rattle.std.specs.Prelude.{ℕ, ◌≡◌, List}
 use Rattle.tso_model.specs.Litmus.{Litmus}
 use Rattle.tso_model.specs.Thread.{entry}
 use Rattle.tso_model.specs.Execution.{made, IsWhole, KeepsProgramOrder, KeepsPairs}
-use Rattle.axiom_checker.specs.First.{IsFirst, IsNowhere}
+use Rattle.axiom_checker.specs.First.{IsFirst, IsEarliest, IsNowhere}
 use Rattle.axiom_checker.specs.Entries.{IsExtra, IsStray, IsMissing, IsWrongWrite, written_value}
 use Rattle.axiom_checker.specs.Axioms.{Overtakes, IsLate, IsParted, IsWrongRead, due_at}
 use Rattle.tso_model.specs.declared.execution.Entry.{Entry}
 use Rattle.axiom_checker.specs.declared.breach.Breach.{Breach}
 use Rattle.axiom_checker.specs.declared.breach.Breach.TheVariants.{Extra, Twice, Missing, WrongValue, ProgramOrder, NotAdjacent, ReadValue, NoMemory}
 
--- An entry that is both extra and there twice is extra. `made` goes core by core and in program order, the load part of a
--- locked instruction before its store part, so the first of its entries that is missing is the first by core, place and
--- part. A whole order has no breach of the first four kinds.
+-- An entry that is both extra and there twice is extra. `made` goes core by core and in program order, the load part of
+-- a locked instruction before its store part, so the first of its entries that is missing is the first by core, place
+-- and part. A whole order has no breach of the kinds up to a wrong value.
 abbrev pub IsFirstBreach : Litmus → List Entry → Breach → Type 0
 IsFirstBreach t order (Extra x) =
-    IsExtra (made t order) x × ((at : ℕ) × IsFirst order (IsStray (made t order) order) at x)
+    IsExtra (made t order) x × IsEarliest order (IsStray (made t order) order) x
 IsFirstBreach t order (Twice x) =
-    ¬ IsExtra (made t order) x × ((at : ℕ) × IsFirst order (IsStray (made t order) order) at x)
+    ¬ IsExtra (made t order) x × IsEarliest order (IsStray (made t order) order) x
 IsFirstBreach t order (Missing core place kind loc) =
     IsNowhere order (IsStray (made t order) order)
     × ((k value : ℕ) × IsFirst (made t order) (IsMissing order) k (entry core.0 place kind loc value))
 IsFirstBreach t order (WrongValue x due) =
     IsNowhere order (IsStray (made t order) order) × IsNowhere (made t order) (IsMissing order)
-    × ((at : ℕ) × IsFirst order (IsWrongWrite (made t order)) at x) × (due ≡ written_value (made t order) x)
+    × IsEarliest order (IsWrongWrite (made t order)) x × (due ≡ written_value (made t order) x)
 IsFirstBreach t order (ProgramOrder a b) =
     IsWhole t order × ((at j : ℕ) × IsFirst order (IsLate order) at a × IsFirst order (Overtakes at a) j b)
 IsFirstBreach t order (NotAdjacent x) =
-    IsWhole t order × KeepsProgramOrder order × ((at : ℕ) × IsFirst order (IsParted order) at x)
+    IsWhole t order × KeepsProgramOrder order × IsEarliest order (IsParted order) x
 IsFirstBreach t order (ReadValue x due) =
     IsWhole t order × KeepsProgramOrder order × KeepsPairs order
     × ((at : ℕ) × IsFirst order (IsWrongRead t order) at x × (due ≡ due_at t order at x))

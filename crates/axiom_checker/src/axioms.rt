@@ -1,7 +1,7 @@
 ghost use Rattle.std.specs.Prelude.{◌≡◌, ◌<◌, ◌≤◌, ◌↔◌, IsTrue, true, Some, slice_get, slice_index, IsNone, IfSome, ℕ, length, find, filter};
 ghost use Rattle.tso_model.specs.ProgramOrder as program_order;
 ghost use Rattle.tso_model.specs.Execution.{IsStorePart, last_value};
-ghost use Rattle.axiom_checker.specs.First.{IsFirst, IsNowhere};
+ghost use Rattle.axiom_checker.specs.First.{IsFirst, IsEarliest, IsNowhere};
 ghost use Rattle.axiom_checker.specs.Axioms.{Overtakes, IsLate, IsParted, IsWrongRead, due_at};
 ghost use Rattle.axiom_checker.specs.Axioms as axioms;
 ghost use Rattle.tso_model.specs.declared.execution.Entry.{Entry};
@@ -12,7 +12,8 @@ use tso_model::{Entry, Kind, Loc, Test};
 /// The earliest entry of the order that stands behind one which its program has after it, and the
 /// earliest such other. A plain store may stand behind a later plain load.
 pub fn first_late(order: &[Entry]) -> Option<(Entry, Entry)>
-    ensures found { IfSome result (λ p. (at j : ℕ) × IsFirst order.now (IsLate order.now) at p.0 × IsFirst order.now (Overtakes at p.0) j p.1) }
+    ensures found { IfSome result (λ p. (at j : ℕ) × IsFirst order.now (IsLate order.now) at p.0
+        × IsFirst order.now (Overtakes at p.0) j p.1) }
     ensures none { IsNone result → IsNowhere order.now (IsLate order.now) }
 {
     for (at, a) in order.iter().enumerate() {
@@ -26,7 +27,7 @@ pub fn first_late(order: &[Entry]) -> Option<(Entry, Entry)>
 /// The earliest entry before this place which its program has after `a`, and which may not pass it.
 fn first_overtaking(order: &[Entry], at: usize, a: &Entry) -> Option<Entry>
     requires { at ≤ length order.now }
-    ensures found { IfSome result (λ b. (j : ℕ) × IsFirst order.now (Overtakes at a.now) j b) }
+    ensures found { IfSome result (λ b. IsEarliest order.now (Overtakes at a.now) b) }
     ensures none { IsNone result → ¬ IsLate order.now at a.now }
 {
     find_overtaking(&order[..at], a)
@@ -69,7 +70,7 @@ fn may_be_passed(x: &Entry, y: &Entry) -> bool
 
 /// The earliest load part of a locked instruction that isn't followed at once by its store part.
 pub fn first_parted(order: &[Entry]) -> Option<Entry>
-    ensures found { IfSome result (λ x. (at : ℕ) × IsFirst order.now (IsParted order.now) at x) }
+    ensures found { IfSome result (λ x. IsEarliest order.now (IsParted order.now) x) }
     ensures none { IsNone result → IsNowhere order.now (IsParted order.now) }
 {
     for (at, x) in order.iter().enumerate() {
@@ -104,8 +105,10 @@ fn is_store_part(x: &Entry, y: &Entry) -> bool
 /// that of the last write to its location among those before it in the order and those before it
 /// in its program, else the location's first word.
 pub fn first_wrong_read(test: &Test, order: &[Entry]) -> Option<(Entry, u32)>
-    requires { (k : ℕ) (x : Entry) → slice_get order.now k ≡ Some x → program_order.is_read x ≡ true → x.loc.0 < length test.now.locations }
-    ensures found { IfSome result (λ w. (at : ℕ) × IsFirst order.now (IsWrongRead test.now order.now) at w.0 × (w.1 ≡ due_at test.now order.now at w.0)) }
+    requires { (k : ℕ) (x : Entry) → slice_get order.now k ≡ Some x → program_order.is_read x ≡ true
+        → x.loc.0 < length test.now.locations }
+    ensures found { IfSome result (λ w. (at : ℕ) × IsFirst order.now (IsWrongRead test.now order.now) at w.0
+        × (w.1 ≡ due_at test.now order.now at w.0)) }
     ensures none { IsNone result → IsNowhere order.now (IsWrongRead test.now order.now) }
 {
     for (at, x) in order.iter().enumerate() {
@@ -151,7 +154,8 @@ fn last_write(entries: &[Entry], loc: Loc, word: u32) -> u32
 /// The value of the last of these entries that is a write to x's location and stands before x in
 /// its program, else this word.
 fn last_own_write(entries: &[Entry], x: &Entry, word: u32) -> u32
-    ensures { result ≡ last_value (filter (program_order.writes_to x.now.loc.0) (filter (λ e. program_order.is_before e x.now) entries.now)) word }
+    ensures { let own = filter (λ e. program_order.is_before e x.now) entries.now in
+        result ≡ last_value (filter (program_order.writes_to x.now.loc.0) own) word }
 {
     let mut last_own = word;
     for e in entries {

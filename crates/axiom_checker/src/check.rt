@@ -17,8 +17,8 @@ use tso_model::{Entry, Execution, Test};
 /// has the value of the last write before it in memory order or in program order. (Primer, chapter
 /// "Total Store Order".)
 ///
-/// Else the first breach: of the earliest variant of [`Breach`] that occurs, and of its entries the
-/// earliest. `NoMemory` alone says nothing of the order.
+/// Else the first breach: of the first variant of [`Breach`] that occurs, `Extra` and `Twice` taken
+/// as one, and of its entries the earliest. `NoMemory` alone says nothing of the order.
 pub fn check_order(alloc: Global, test: &Test, execution: &Execution) -> Result<(), Breach>
     ensures valid { OnOk result (IsTsoExecution test.now execution.now.order.items) }
     ensures accepted { IsTsoExecution test.now execution.now.order.items → IsOkUnless result Breach.NoMemory }

@@ -1,7 +1,7 @@
 ghost use Rattle.std.specs.Prelude.{◌≡◌, ◌≤◌, ◌↔◌, IsTrue, length, IsNone, IfSome, ℕ};
 ghost use Rattle.std.specs.List.{list_any};
 ghost use Rattle.tso_model.specs.ProgramOrder as program_order;
-ghost use Rattle.axiom_checker.specs.First.{IsFirst, IsNowhere};
+ghost use Rattle.axiom_checker.specs.First.{IsEarliest, IsNowhere};
 ghost use Rattle.axiom_checker.specs.Entries.{same_action, same_but_value, IsStray, IsMissing, IsWrongWrite};
 ghost use Rattle.axiom_checker.specs.Entries as entries;
 
@@ -11,7 +11,7 @@ use tso_model::{Entry, Kind};
 /// The earliest entry of the order that isn't one of those that the programs made, or whose core,
 /// place and kind stood before.
 pub fn first_stray(made: &[Entry], order: &[Entry]) -> Option<Entry>
-    ensures found { IfSome result (λ x. (at : ℕ) × IsFirst order.now (IsStray made.now order.now) at x) }
+    ensures found { IfSome result (λ x. IsEarliest order.now (IsStray made.now order.now) x) }
     ensures none { IsNone result → IsNowhere order.now (IsStray made.now order.now) }
 {
     for (at, x) in order.iter().enumerate() {
@@ -63,7 +63,7 @@ fn is_same_but_value(e: &Entry, x: &Entry) -> bool
 /// The first of the entries that the programs made whose core, place and kind the order doesn't
 /// have.
 pub fn first_missing(made: &[Entry], order: &[Entry]) -> Option<Entry>
-    ensures found { IfSome result (λ e. (k : ℕ) × IsFirst made.now (IsMissing order.now) k e) }
+    ensures found { IfSome result (λ e. IsEarliest made.now (IsMissing order.now) e) }
     ensures none { IsNone result → IsNowhere made.now (IsMissing order.now) }
 {
     for e in made {
@@ -84,7 +84,7 @@ fn is_missing(order: &[Entry], e: &Entry) -> bool
 /// The earliest write of the order that has another value than its program gives it, and that
 /// value.
 pub fn first_wrong_write(made: &[Entry], order: &[Entry]) -> Option<(Entry, u32)>
-    ensures found { IfSome result (λ w. (at : ℕ) × IsFirst order.now (IsWrongWrite made.now) at w.0) }
+    ensures found { IfSome result (λ w. IsEarliest order.now (IsWrongWrite made.now) w.0) }
     ensures due { IfSome result (λ w. w.1 ≡ entries.written_value made.now w.0) }
     ensures none { IsNone result → IsNowhere order.now (IsWrongWrite made.now) }
 {

@@ -1,16 +1,15 @@
 -- The machine's cores as the flat machine has them.
 use Rattle.std.proofs.Common.{◌≡◌, ◌<◌, ℕ, zero, suc, ◌+◌, ◌==◌, ◌&&◌, Bool, true, false, IsTrue, if◌then◌else◌, List, [], ◌∷◌, ◌++◌, map, filter, Option, None, Some, unwrap_or, length, slice_get, slice_set, slice_index_or, drop, drop-cons, add-one, append_assoc, refl, sym, ap, ◌∙◌, arith, subst, All}
-use Rattle.std.proofs.lemmas.List.Elements.{All-append, All-drop}
+use Rattle.std.proofs.lemmas.List.Elements.{All-append}
 use Rattle.std.specs.Option.{option_map}
 use Rattle.std.specs.List.{last_or}
 use Rattle.tso_model.specs.ProgramOrder.{writes_to}
 use Rattle.tso_model.specs.Execution.{last_value}
-use Rattle.tso_model.specs.FlatMachine.{CoreState, Effect, stalled, fenced, locked, drain_of, started, idle}
+use Rattle.tso_model.specs.FlatMachine.{CoreState, stalled, fenced, locked, drain_of, started, idle}
 use Rattle.tso_model.specs.Runs.{is_none_pending, is_done, all_done}
 use Rattle.tso_model.specs.declared.register.Reg.{Reg}
 use Rattle.tso_model.specs.declared.instruction.Loc.{Loc}
 use Rattle.tso_model.specs.declared.instruction.Instr.{Instr}
-use Rattle.tso_model.specs.declared.execution.Entry.{Entry}
 use Rattle.tso_model.specs.declared.choice.Stall.TheVariants as stall
 use Rattle.store_buffer.specs.declared.Pending.{Pending}
 use Rattle.store_buffer.specs.Newest.{newest_for}

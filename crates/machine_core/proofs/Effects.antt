@@ -1,24 +1,23 @@
 -- What every choice of the flat machine keeps: it commits both parts of a locked instruction or none, and a stall
 -- changes nothing.
-use Rattle.std.proofs.Common.{◌≡◌, ◌<◌, ℕ, zero, suc, ◌+◌, ◌==◌, ◌&&◌, Bool, true, false, not, nat_lt, if◌then◌else◌, List, [], ◌∷◌, ◌++◌, map, Option, None, Some, IsTrue, length, slice_get, slice_set, slice_index, slice_index_or, refl, sym, ap, ◌∙◌, arith, subst}
+use Rattle.std.proofs.Common.{◌≡◌, ℕ, zero, suc, ◌+◌, ◌==◌, ◌&&◌, Bool, true, false, not, nat_lt, if◌then◌else◌, List, [], ◌∷◌, ◌++◌, map, Option, None, Some, length, slice_get, slice_index, refl, arith}
 use Rattle.std.proofs.lemmas.Bool.Decides.{nat_tests}
 use Rattle.std.proofs.lemmas.List.{set-get_or}
 use Rattle.tso_model.specs.Litmus.{Litmus}
-use Rattle.tso_model.specs.Thread.{entry, fence, value_in, sum_of}
+use Rattle.tso_model.specs.Thread.{entry, value_in, sum_of}
 use Rattle.tso_model.specs.Execution.{same_kind, is_at}
-use Rattle.tso_model.specs.FlatMachine.{CoreState, State, Effect, stalled, stored, fenced, locked, step_of, drain_of, effect_of, applied, after_choice, chosen, core_of, program_of, idle}
+use Rattle.tso_model.specs.FlatMachine.{CoreState, State, Effect, stalled, stored, fenced, locked, step_of, drain_of, effect_of, after_choice, chosen, core_of, program_of, idle}
 use Rattle.tso_model.specs.declared.register.Reg.{Reg}
 use Rattle.tso_model.specs.declared.instruction.Loc.{Loc}
 use Rattle.tso_model.specs.declared.instruction.Instr.{Instr}
 use Rattle.tso_model.specs.declared.instruction.Instr.TheVariants.{StoreImm, StoreReg, Load, SetImm, SetReg, Fence, Xchg, Xadd}
 use Rattle.tso_model.specs.declared.execution.Entry.{Entry}
-use Rattle.tso_model.specs.declared.execution.Kind.TheVariants.{R, W, F, LR, LW}
+use Rattle.tso_model.specs.declared.execution.Kind.TheVariants.{W, LW}
 use Rattle.tso_model.specs.declared.choice.Choice.{Choice}
 use Rattle.tso_model.specs.declared.choice.Choice.TheVariants.{Step, Drain}
 use Rattle.tso_model.specs.declared.choice.Stall.{Stall}
 use Rattle.tso_model.specs.declared.choice.Stall.TheVariants as stall
-use Rattle.tso_model.specs.declared.choice.Outcome.{Outcome}
-use Rattle.tso_model.specs.declared.choice.Outcome.TheVariants.{Committed, Buffered, Moved, Stalled}
+use Rattle.tso_model.specs.declared.choice.Outcome.TheVariants.{Buffered, Stalled}
 use Rattle.order_builder.specs.Pairs.{IsPaired, are_paired_behind, waiting_after}
 use Rattle.store_buffer.specs.declared.Pending.{Pending}
 use Rattle.machine_core.specs.Cores.{store_of}

@@ -1,15 +1,15 @@
 -- A choice on the parts of a machine, from what its core did.
-use Rattle.std.proofs.Common.{◌≡◌, ◌≢◌, ◌<◌, ℕ, List, [], ◌∷◌, ◌++◌, map, Option, None, Some, Result, Ok, Err, IfOk, OnOk, IsOk, length, slice_get, slice_set, slice_index_or, length-set, refl, sym, ap, ◌∙◌, subst, append-nil, All}
+use Rattle.std.proofs.Common.{◌≡◌, ◌<◌, ℕ, List, ◌++◌, None, Some, Result, Ok, Err, IfOk, OnOk, length, slice_get, slice_set, slice_index_or, length-set, refl, sym, ap, ◌∙◌, subst, append-nil, All}
 use Rattle.std.proofs.lemmas.List.Elements.{All-set}
 use Rattle.tso_model.specs.Litmus.{Litmus}
-use Rattle.tso_model.specs.FlatMachine.{CoreState, Effect, State, stalled, step_of, drain_of, effect_of, applied, chosen, memory_after, program_of, core_of}
+use Rattle.tso_model.specs.FlatMachine.{Effect, stalled, step_of, drain_of, applied, chosen, memory_after, program_of, core_of}
 use Rattle.tso_model.specs.declared.instruction.Core.{Core}
 use Rattle.tso_model.specs.declared.instruction.Instr.{Instr}
 use Rattle.tso_model.specs.declared.memory.NoMemory.{NoMemory}
 use Rattle.tso_model.specs.declared.choice.Choice.{Choice}
 use Rattle.tso_model.specs.declared.choice.Choice.TheVariants.{Step, Drain}
 use Rattle.tso_model.specs.declared.choice.Outcome.{Outcome}
-use Rattle.tso_model.specs.declared.choice.Outcome.TheVariants.{Committed, Stalled}
+use Rattle.tso_model.specs.declared.choice.Outcome.TheVariants.{Stalled}
 use Rattle.tso_model.specs.declared.choice.Stall.TheVariants as stall
 use Rattle.order_builder.specs.Pairs.{IsPaired}
 use Rattle.machine_core.specs.declared.processor.Processor.{Processor}

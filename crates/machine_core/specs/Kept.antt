@@ -1,5 +1,5 @@
 -- What the parts of a machine keep from choice to choice. (This project's profile.)
-use Rattle.std.specs.Prelude.{ℕ, ◌≡◌, ◌<◌, ◌≤◌, List, length, All}
+use Rattle.std.specs.Prelude.{ℕ, ◌≡◌, ◌<◌, length, All}
 use Rattle.tso_model.specs.Litmus.{Litmus}
 use Rattle.tso_model.specs.FlatMachine.{State}
 use Rattle.machine_core.specs.declared.processor.Processor.{Processor}

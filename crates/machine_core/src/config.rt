@@ -6,7 +6,7 @@ use std::marker::Model;
 pub const MIN_DEPTH: u8 = 1;
 
 /// The greatest depth of a store buffer.
-pub const MAX_DEPTH: u8 = 32;
+pub const MAX_DEPTH: u8 = store_buffer::MAX_DEPTH;
 
 /// How a machine is built: how many stores each core's buffer holds.
 #[derive(Clone, Copy, Debug, PartialEq, Eq)]
@@ -15,7 +15,7 @@ pub struct Config {
 }
 
 impl Model for Config {
-    ghost use Rattle.std.specs.Prelude.{◌≤◌, ℕ};
+    ghost use Rattle.std.specs.Prelude.{◌≤◌};
     ghost use Rattle.machine_core.specs.Configuration.{Configuration};
     ghost use Rattle.machine_core.specs.declared.config.TheConstants.{MIN_DEPTH, MAX_DEPTH};
 

@@ -1,4 +1,4 @@
-ghost use Rattle.std.specs.Prelude.{◌≡◌, ◌≢◌, ◌<◌, ◌≤◌, true, false, IsTrue, IsOk, IsErr, IfOk, OnOk, OnErr, List, length, map};
+ghost use Rattle.std.specs.Prelude.{◌≡◌, ◌≢◌, ◌<◌, true, false, IsTrue, IsOk, IsErr, IfOk, OnOk, OnErr, length, map};
 ghost use Rattle.tso_model.specs.FlatMachine.{chosen};
 ghost use Rattle.machine_core.specs.Running.{new_machine, effect_on, machine_after, IsRefused, is_ended};
 
@@ -118,3 +118,6 @@ impl<'a> Machine<'a> {
         })
     }
 }
+
+#[cfg(test)]
+mod tests;

@@ -1,13 +1,12 @@
-ghost use Rattle.std.specs.Prelude.{◌≡◌, ◌≢◌, ℕ, ◌<◌, ◌≤◌, [], IsOk, IfOk, OnOk, OnErr, All, length, map, slice_get};
+ghost use Rattle.std.specs.Prelude.{◌≡◌, ◌≢◌, ℕ, ◌<◌, ◌≤◌, [], IsOk, IfOk, OnErr, All, length, map, slice_get};
 ghost use Rattle.tso_model.specs.FlatMachine.{chosen, started, start};
 ghost use Rattle.tso_model.specs.Runs.{all_done};
 ghost use Rattle.machine_core.specs.Cores.{core_states};
 ghost use Rattle.machine_core.specs.Kept.{IsCore, FitsTest, state_in};
 ghost use Rattle.machine_core.specs.Performed.{Performs, effect_in};
 
-use crate::config::Config;
-use crate::processor;
-use crate::processor::Processor;
+use crate::config::{Config, MAX_DEPTH};
+use crate::processor::{Processor, drain as drain_core, step as step_core};
 use order_builder::Commits;
 use std::alloc::Global;
 use store_buffer::StoreBuffer;
@@ -25,9 +24,9 @@ pub struct Parts {
 /// The parts of a machine at the beginning of the test.
 pub fn begin(alloc: Global, test: &Test, config: Config) -> Result<Parts, NoMemory>
     ensures fits { IfOk result (FitsTest test.now) }
-    ensures state { IfOk result (λ m. state_in m ≡ start test.now) }
-    ensures commits { IfOk result (λ m. m.commits ≡ []) }
-    ensures config { IfOk result (λ m. m.config ≡ config) }
+    ensures state { IfOk result (λ parts. state_in parts ≡ start test.now) }
+    ensures commits { IfOk result (λ parts. parts.commits ≡ []) }
+    ensures config { IfOk result (λ parts. parts.config ≡ config) }
 {
     let processors = processors_of(alloc, test, config.depth())?;
     let memory = Vec::from_slice(alloc, test.initial_words())?;
@@ -42,7 +41,7 @@ pub fn begin(alloc: Global, test: &Test, config: Config) -> Result<Parts, NoMemo
 /// Each core of the test before its first instruction, with its first registers and an empty buffer
 /// of this depth.
 fn processors_of(alloc: Global, test: &Test, depth: u8) -> Result<Vec<Processor>, NoMemory>
-    requires { (0 < depth) × (depth ≤ 32) }
+    requires { (0 < depth) × (depth ≤ MAX_DEPTH) }
     ensures states { IfOk result (λ ps. core_states 0 ps.items ≡ started 0 test.now.programs test.now.registers) }
     ensures depths { IfOk result (λ ps. (locations : ℕ) → All (IsCore depth locations) ps.items) }
     ensures count { IfOk result (λ ps. length ps.items ≡ length test.now.programs) }
@@ -63,38 +62,44 @@ fn processors_of(alloc: Global, test: &Test, depth: u8) -> Result<Vec<Processor>
 /// Makes a choice.
 ///
 /// Fails only for want of memory, and then changes nothing but the list of commits.
-pub fn perform(m: &mut Parts, test: &Test, choice: Choice) -> Result<Outcome, NoMemory>
+pub fn perform(parts: &mut Parts, test: &Test, choice: Choice) -> Result<Outcome, NoMemory>
     requires core { chosen choice < length test.now.programs }
-    requires fits { FitsTest test.now m.old }
+    requires fits { FitsTest test.now parts.old }
 
-    ensures ok { IfOk result (Performs test.now m.old m.new choice) }
-    ensures succeeds { (effect_in test.now m.old choice).outcome ≢ Outcome.Committed → IsOk result }
-    ensures err { OnErr result (state_in m.new ≡ state_in m.old) }
-    ensures config { m.new.config ≡ m.old.config }
-    ensures fits { FitsTest test.now m.new }
+    ensures ok { IfOk result (Performs test.now parts.old parts.new choice) }
+    ensures succeeds { (effect_in test.now parts.old choice).outcome ≢ Outcome.Committed → IsOk result }
+    ensures err { OnErr result (state_in parts.new ≡ state_in parts.old) }
+    ensures config { parts.new.config ≡ parts.old.config }
+    ensures fits { FitsTest test.now parts.new }
 {
     match choice {
-        Choice::Step(core) => step(m, test, core),
-        Choice::Drain(core) => drain(m, test, core),
+        Choice::Step(core) => step(parts, test, core),
+        Choice::Drain(core) => drain(parts, test, core),
     }
 }
 
 /// A step of a core at its next instruction, if there is one.
-fn step(m: &mut Parts, test: &Test, core: Core) -> Result<Outcome, NoMemory>
+fn step(parts: &mut Parts, test: &Test, core: Core) -> Result<Outcome, NoMemory>
     requires core { core.0 < length test.now.programs }
-    requires fits { FitsTest test.now m.old }
+    requires fits { FitsTest test.now parts.old }
 
-    ensures ok { IfOk result (Performs test.now m.old m.new (Choice.Step core)) }
-    ensures succeeds { (effect_in test.now m.old (Choice.Step core)).outcome ≢ Outcome.Committed → IsOk result }
-    ensures err { OnErr result (state_in m.new ≡ state_in m.old) }
-    ensures config { m.new.config ≡ m.old.config }
-    ensures fits { FitsTest test.now m.new }
+    ensures ok { IfOk result (Performs test.now parts.old parts.new (Choice.Step core)) }
+    ensures succeeds { (effect_in test.now parts.old (Choice.Step core)).outcome ≢ Outcome.Committed → IsOk result }
+    ensures err { OnErr result (state_in parts.new ≡ state_in parts.old) }
+    ensures config { parts.new.config ≡ parts.old.config }
+    ensures fits { FitsTest test.now parts.new }
 {
     let program = test.program(core);
-    let p = &mut m.processors[core.0 as usize];
-    match instruction_at(program, p.place) {
+    let processor = &mut parts.processors[core.0 as usize];
+    match instruction_at(program, processor.place) {
         None => Ok(Outcome::Stalled(Stall::Done)),
-        Some(instr) => processor::step(p, core, instr, &mut m.memory, &mut m.commits),
+        Some(instr) => step_core(
+            processor,
+            core,
+            instr,
+            &mut parts.memory,
+            &mut parts.commits,
+        ),
     }
 }
 
@@ -106,27 +111,27 @@ fn instruction_at(program: &[Instr], place: u8) -> Option<Instr>
 }
 
 /// A drain of a core: its oldest buffered store goes to memory, if there is one.
-fn drain(m: &mut Parts, test: &Test, core: Core) -> Result<Outcome, NoMemory>
+fn drain(parts: &mut Parts, test: &Test, core: Core) -> Result<Outcome, NoMemory>
     requires core { core.0 < length test.now.programs }
-    requires fits { FitsTest test.now m.old }
+    requires fits { FitsTest test.now parts.old }
 
-    ensures ok { IfOk result (Performs test.now m.old m.new (Choice.Drain core)) }
-    ensures succeeds { (effect_in test.now m.old (Choice.Drain core)).outcome ≢ Outcome.Committed → IsOk result }
-    ensures err { OnErr result (state_in m.new ≡ state_in m.old) }
-    ensures config { m.new.config ≡ m.old.config }
-    ensures fits { FitsTest test.now m.new }
+    ensures ok { IfOk result (Performs test.now parts.old parts.new (Choice.Drain core)) }
+    ensures succeeds { (effect_in test.now parts.old (Choice.Drain core)).outcome ≢ Outcome.Committed → IsOk result }
+    ensures err { OnErr result (state_in parts.new ≡ state_in parts.old) }
+    ensures config { parts.new.config ≡ parts.old.config }
+    ensures fits { FitsTest test.now parts.new }
 {
-    let p = &mut m.processors[core.0 as usize];
-    processor::drain(p, core, &mut m.memory, &mut m.commits)
+    let processor = &mut parts.processors[core.0 as usize];
+    drain_core(processor, core, &mut parts.memory, &mut parts.commits)
 }
 
 /// Whether each core is at the end of its program with nothing buffered.
-pub fn are_done(m: &Parts, test: &Test) -> bool
-    requires { length m.now.processors.items ≡ length test.now.programs }
-    ensures { result ≡ all_done test.now.programs (core_states 0 m.now.processors.items) }
+pub fn are_done(parts: &Parts, test: &Test) -> bool
+    requires { length parts.now.processors.items ≡ length test.now.programs }
+    ensures { result ≡ all_done test.now.programs (core_states 0 parts.now.processors.items) }
 {
     for core in 0..test.cores() {
-        if !m.processors[core as usize].is_done(test.program(Core(core))) {
+        if !parts.processors[core as usize].is_done(test.program(Core(core))) {
             return false;
         }
     }
@@ -138,8 +143,8 @@ pub fn registers_of(alloc: Global, processors: &[Processor]) -> Result<Vec<[u32;
     ensures { IfOk result (λ rs. rs.items ≡ map (λ p. p.registers) processors.now) }
 {
     let mut registers = Vec::new(alloc);
-    for p in processors {
-        registers.push(p.registers)?;
+    for processor in processors {
+        registers.push(processor.registers)?;
     }
     Ok(registers)
 }

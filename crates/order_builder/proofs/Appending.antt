@@ -1,10 +1,9 @@
 -- The lists as contracts see them, when one of them gets an entry or a list is added.
-use Rattle.std.proofs.Common.{◌≡◌, ◌<◌, ◌≤◌, ◌^◌, ℕ, ◌+◌, List, [], ◌∷◌, ◌++◌, Result, Ok, Err, OnErr, length, map, slice_index_or, slice_set, arith, sym, ◌∙◌, ap, refl, subst}
+use Rattle.std.proofs.Common.{◌≡◌, ◌<◌, ℕ, List, [], ◌∷◌, ◌++◌, Result, Ok, Err, OnErr, length, map, slice_index_or, slice_set, sym, ◌∙◌, ap, refl, subst}
 use Rattle.std.proofs.lemmas.List.{map-set, map-append, get_or-map, length-map}
 use Rattle.std.proofs.Math.Seq.{map-set_same}
 use Rattle.std.specs.declared.vec.Vec.{Vec}
 use Rattle.std.specs.declared.alloc.Global.{Global}
-use Rattle.tso_model.specs.declared.execution.Entry.{Entry}
 use Rattle.order_builder.specs.declared.commits.Numbered.{Numbered}
 use Rattle.order_builder.specs.Numbers.{merged_with, entries_in_order}
 use Rattle.order_builder.specs.Kept.{IsKept, AreBelow, lists_in}

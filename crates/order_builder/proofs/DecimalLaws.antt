@@ -1,4 +1,5 @@
 -- A number without leading zeros is what is printed of what its digits say.
+use Rattle.std.specs.Char.{is_ascii_digit}
 use Rattle.std.proofs.Common.{◌≡◌, ℕ, zero, suc, ◌^◌, ◌<◌, ◌≤◌, true, ◌&&◌, leb, inl, inr, List, length, get_or, Some, None, refl, sym, ap, ◌∙◌, arith, rules}
 use Rattle.std.specs.Fmt.{decimal}
 use Rattle.std.specs.List.{list_all}
@@ -6,25 +7,25 @@ use Rattle.std.proofs.lemmas.Bool.{le-leb, leb-true, and_parts}
 use Rattle.std.proofs.lemmas.Bool.Decides.{nat_tests}
 use Rattle.std.proofs.lemmas.Fmt.{digits_decimal, digits_value-decimal, decimal_nonempty, first_decimal, decimal_digit, decimal-digits_value}
 use Rattle.std.proofs.lemmas.Str.Parse.{IsNumeralModel, numerals_by_fold}
-use Rattle.order_builder.specs.Decimals.{is_digit, is_number, decimal_from, number_of, number_up_to}
+use Rattle.order_builder.specs.Decimals.{is_number, decimal_from, number_of, number_up_to}
 use Rattle.order_builder.proofs.Choosing.{chosen}
 
-own : IsNumeralModel (λ ds. list_all is_digit ds ≡ true) (decimal_from 0)
+own : IsNumeralModel (λ ds. list_all is_ascii_digit ds ≡ true) (decimal_from 0)
 unfolding decimal_from
 own = numerals_by_fold _ (search rules) decimal_from (search rules)
 
 -- the parts of a number
-pub is_number-parts : (text : List ℕ) → is_number text ≡ true → (0 < length text) × (list_all is_digit text ≡ true) × (get_or text 0 0 ≡ 48 → length text ≡ 1)
+pub is_number-parts : (text : List ℕ) → is_number text ≡ true → (0 < length text) × (list_all is_ascii_digit text ≡ true) × (get_or text 0 0 ≡ 48 → length text ≡ 1)
 is_number-parts text h = grind (arith, nat_tests)
 
-is_number-from : (text : List ℕ) → 0 < length text → list_all is_digit text ≡ true → (get_or text 0 0 ≡ 48 → length text ≡ 1) → is_number text ≡ true
+is_number-from : (text : List ℕ) → 0 < length text → list_all is_ascii_digit text ≡ true → (get_or text 0 0 ≡ 48 → length text ≡ 1) → is_number text ≡ true
 is_number-from text some digits lead = grind (arith, nat_tests)
 
 lead_of : (n : ℕ) → n < 2 ^ 64 → get_or (decimal n) 0 0 ≡ 48 → length (decimal n) ≡ 1
 lead_of zero small lead = ap (λ (ds : List ℕ). length ds) (decimal_digit 0 (omega arith))
 lead_of (suc n) small lead = absurd (let over = first_decimal (suc n) (omega arith) small in omega (arith, over, lead))
 
-pub is_digits-decimal : (n : ℕ) → n < 2 ^ 64 → list_all is_digit (decimal n) ≡ true
+pub is_digits-decimal : (n : ℕ) → n < 2 ^ 64 → list_all is_ascii_digit (decimal n) ≡ true
 is_digits-decimal n small = digits_decimal own n small
 
 pub is_number-decimal : (n : ℕ) → n < 2 ^ 64 → is_number (decimal n) ≡ true

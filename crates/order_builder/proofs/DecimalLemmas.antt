@@ -1,8 +1,6 @@
 -- Decimal numbers.
-use Rattle.std.proofs.Common.{◌≡◌, ℕ, ◌+◌, ◌-◌, ◌*◌, ◌<◌, ◌≤◌, true, false, cond, leb, eqb, inl, inr, List, [], ◌∷◌, length, get_or, drop, Some, None, refl, sym, ap, ◌∙◌, add-one, drop-cons, arith}
-use Rattle.std.proofs.lemmas.Bool.{lt-leb, le-leb, leb-false}
-use Rattle.std.proofs.lemmas.Bool.Decides.{nat_tests}
-use Rattle.order_builder.proofs.Choosing.{chosen}
+use Rattle.std.proofs.Common.{◌≡◌, ℕ, ◌+◌, ◌-◌, ◌*◌, ◌<◌, ◌≤◌, true, false, cond, leb, List, [], ◌∷◌, length, get_or, drop, Some, None, refl, sym, ap, ◌∙◌, add-one, drop-cons, arith}
+use Rattle.std.proofs.lemmas.Bool.{lt-leb, le-leb}
 use Rattle.std.proofs.lemmas.List.{nil_from_length, length-drop}
 use Rattle.order_builder.specs.Decimals.{decimal_from, number_of}
 
@@ -34,19 +32,3 @@ number_fits most digits i n past same below =
 -- one digit more
 pub decimal_step : (ds : List ℕ) (i n digit : ℕ) → i < length ds → digit ≡ get_or ds i 0 - 48 → decimal_from n (drop i ds) ≡ number_of ds → decimal_from (n * 10 + digit) (drop (i + 1) ds) ≡ number_of ds
 decimal_step ds i n digit lt digit-is same = rw digit-is (sym (decimal_more ds i n lt) ∙ same)
-
--- ---- a number and its digits, where the reader has the number only up to a bound
-
-pub number_found : (digits : List ℕ) (n most : ℕ) → Some n ≡ cond (leb (number_of digits) most) (Some (number_of digits)) None → eqb n most ≡ eqb (number_of digits) most
-number_found digits n most e =
-    elim (chosen (leb (number_of digits) most) (Some (number_of digits)) None (Some n) (sym e)) [
-      | inl hit ↦ let same : number_of digits ≡ n = cc in ap (λ (k : ℕ). eqb k most) (sym same)
-      | inr miss ↦ absurd cc
-    ]
-
-pub number_missed : (digits : List ℕ) (most : ℕ) → None ≡ cond (leb (number_of digits) most) (Some (number_of digits)) None → false ≡ eqb (number_of digits) most
-number_missed digits most e =
-    elim (chosen (leb (number_of digits) most) (Some (number_of digits)) None None (sym e)) [
-      | inl hit ↦ absurd cc
-      | inr miss ↦ let over : most < number_of digits = leb-false _ _ miss.0 in grind (arith, nat_tests)
-    ]

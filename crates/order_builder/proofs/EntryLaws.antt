@@ -1,4 +1,5 @@
 -- The lines of entries and of ends: what is printed is read, and what is read is printed so.
+use Rattle.std.specs.Char.{is_ascii_digit}
 use Rattle.std.proofs.Common.{◌≡◌, ℕ, ◌-◌, ◌^◌, ◌<◌, Bool, true, false, cond, eqb, inl, inr, List, [], ◌∷◌, ◌++◌, length, take, drop, get_or, Option, Some, None, refl, sym, ap, subst, ◌∙◌, arith}
 use Rattle.std.specs.Prelude.{codes}
 use Rattle.std.specs.Fmt.{decimal}
@@ -9,27 +10,27 @@ use Rattle.tso_model.specs.Litmus.{Litmus, IsTest}
 use Rattle.tso_model.specs.declared.execution.Entry.{Entry}
 use Rattle.tso_model.specs.declared.execution.Kind.{Kind}
 use Rattle.tso_model.specs.declared.execution.Kind.TheVariants.{R, W, F, LR, LW}
-use Rattle.order_builder.specs.Decimals.{is_digit, is_number, number_up_to}
+use Rattle.order_builder.specs.Decimals.{is_number, number_up_to}
 use Rattle.order_builder.specs.PrintedOrder.{letters_of, printed_access, printed_entry}
 use Rattle.order_builder.specs.Spelling.{HasAccess, IsEntryFor}
-use Rattle.order_builder.specs.Reading.{◌>>=◌, parted, behind_front, kind_of, location_named, entry_at, place_in, access_in, action_in, entry_in, numeral, end_in}
+use Rattle.order_builder.specs.Reading.{◌>>=◌, split_once, without_prefix, kind_of, location_named, entry_at, place_in, access_in, action_in, entry_in, numeral, end_in}
 use Rattle.order_builder.proofs.Choosing.{chosen, same_bytes, bytes_eq-same}
-use Rattle.order_builder.proofs.LineLemmas.{Lacks, parted-at, parted-Some}
+use Rattle.order_builder.proofs.LineLemmas.{Lacks, split_once-at, split_once-Some}
 use Rattle.order_builder.proofs.DecimalLaws.{number_again, number_found}
 use Rattle.order_builder.proofs.NameLaws.{lacks_from_all, lacks-decimal, lacks-name, location_again, location_found}
 
 -- ---- parts of an entry
 
 -- what stands behind a text at the front
-behind-again : (front rest : List ℕ) → behind_front front (front ++ rest) ≡ Some rest
-unfolding behind_front
+behind-again : (front rest : List ℕ) → without_prefix front (front ++ rest) ≡ Some rest
+unfolding without_prefix
 behind-again front rest =
     let head : take (length front) (front ++ rest) ≡ front = take_at front rest (length front) refl in
     let tail : drop (length front) (front ++ rest) ≡ rest = drop_at front rest (length front) refl in
     rw (head, tail, bytes_eq-same front) refl
 
-behind-found : (front text rest : List ℕ) → behind_front front text ≡ Some rest → text ≡ front ++ rest
-unfolding behind_front
+behind-found : (front text rest : List ℕ) → without_prefix front text ≡ Some rest → text ≡ front ++ rest
+unfolding without_prefix
 behind-found front text rest e =
     elim (chosen (bytes_eq (take (length front) text) front) (Some (drop (length front) text)) None (Some rest) e) [
       | inl hit ↦
@@ -60,7 +61,7 @@ lacks-join byte b xs ys differs front back =
 abbrev pub printed_place : ℕ → ℕ → List ℕ
 printed_place core place = codes "P" ++ (decimal core ++ 58 ∷ decimal place)
 
-pub lacks-place : (byte core place : ℕ) → is_digit byte ≡ false → eqb 80 byte ≡ false → eqb 58 byte ≡ false → core < 2 ^ 64 → place < 2 ^ 64 → Lacks byte (printed_place core place)
+pub lacks-place : (byte core place : ℕ) → is_ascii_digit byte ≡ false → eqb 80 byte ≡ false → eqb 58 byte ≡ false → core < 2 ^ 64 → place < 2 ^ 64 → Lacks byte (printed_place core place)
 lacks-place byte core place misses letter colon c p =
     All-cons (λ b. eqb b byte ≡ false) 80 (decimal core ++ 58 ∷ decimal place) letter
     (lacks-join byte 58 (decimal core) (decimal place) colon (lacks-decimal byte core misses c) (lacks-decimal byte place misses p))
@@ -68,20 +69,20 @@ lacks-place byte core place misses letter colon c p =
 place_again : (core place : ℕ) → core < 256 → place < 256 → place_in (printed_place core place) ≡ Some (core, place)
 unfolding place_in
 place_again core place c p =
-    let front : behind_front (codes "P") (printed_place core place) ≡ Some (decimal core ++ 58 ∷ decimal place) = behind-again (codes "P") (decimal core ++ 58 ∷ decimal place) in
-    let cut : parted 58 (decimal core ++ 58 ∷ decimal place) ≡ Some (decimal core, decimal place) = parted-at 58 (decimal core) (decimal place) (lacks-decimal 58 core refl (omega arith)) in
+    let front : without_prefix (codes "P") (printed_place core place) ≡ Some (decimal core ++ 58 ∷ decimal place) = behind-again (codes "P") (decimal core ++ 58 ∷ decimal place) in
+    let cut : split_once 58 (decimal core ++ 58 ∷ decimal place) ≡ Some (decimal core, decimal place) = split_once-at 58 (decimal core) (decimal place) (lacks-decimal 58 core refl (omega arith)) in
     rw (front, cut, number_again 255 core (omega arith) (omega arith), number_again 255 place (omega arith) (omega arith)) refl
 
 place_found : (text : List ℕ) (at : ℕ × ℕ) → place_in text ≡ Some at → (text ≡ printed_place at.0 at.1) × (at.0 < 256) × (at.1 < 256)
 unfolding place_in
 place_found text at e =
-    let a = bound (behind_front (codes "P") text) (λ numbers. parted 58 numbers >>= λ halves. number_up_to 255 halves.0 >>= λ core. number_up_to 255 halves.1 >>= λ place. Some (core, place)) at e in
-    let b = bound (parted 58 a.0) (λ halves. number_up_to 255 halves.0 >>= λ core. number_up_to 255 halves.1 >>= λ place. Some (core, place)) at a.2 in
+    let a = bound (without_prefix (codes "P") text) (λ numbers. split_once 58 numbers >>= λ halves. number_up_to 255 halves.0 >>= λ core. number_up_to 255 halves.1 >>= λ place. Some (core, place)) at e in
+    let b = bound (split_once 58 a.0) (λ halves. number_up_to 255 halves.0 >>= λ core. number_up_to 255 halves.1 >>= λ place. Some (core, place)) at a.2 in
     let c = bound (number_up_to 255 b.0.0) (λ core. number_up_to 255 b.0.1 >>= λ place. Some (core, place)) at b.2 in
     let d = bound (number_up_to 255 b.0.1) (λ place. Some (c.0, place)) at c.2 in
     let core = number_found 255 b.0.0 c.0 (omega arith) c.1 in
     let place = number_found 255 b.0.1 d.0 (omega arith) d.1 in
-    let cut = parted-Some 58 a.0 b.0.0 b.0.1 b.1 in
+    let cut = split_once-Some 58 a.0 b.0.0 b.0.1 b.1 in
     let same : (c.0, d.0) ≡ at = cc in
     let text-is : text ≡ printed_place c.0 d.0 =
     behind-found (codes "P") text a.0 a.1 ∙ ap (λ (l : List ℕ). codes "P" ++ l) (rejoined 58 a.0 b.0.0 b.0.1 (decimal c.0) (decimal d.0) cut.0 core.0 place.0) in
@@ -95,18 +96,18 @@ printed_word t loc value = get_or t.locations loc [] ++ 61 ∷ decimal value
 access_again : (t : Litmus) (loc value : ℕ) → IsTest t → loc < length t.locations → value < 2 ^ 32 → access_in t (printed_word t loc value) ≡ Some (loc, value)
 unfolding access_in
 access_again t loc value test known small =
-    let cut : parted 61 (printed_word t loc value) ≡ Some (get_or t.locations loc [], decimal value) = parted-at 61 (get_or t.locations loc []) (decimal value) (lacks-name 61 t loc refl test known) in
+    let cut : split_once 61 (printed_word t loc value) ≡ Some (get_or t.locations loc [], decimal value) = split_once-at 61 (get_or t.locations loc []) (decimal value) (lacks-name 61 t loc refl test known) in
     rw (cut, location_again t loc test known, number_again (2 ^ 32 - 1) value (omega arith) (omega arith)) refl
 
 access_found : (t : Litmus) (text : List ℕ) (access : ℕ × ℕ) → access_in t text ≡ Some access → (text ≡ printed_word t access.0 access.1) × (access.0 < length t.locations) × (access.1 < 2 ^ 32)
 unfolding access_in
 access_found t text access e =
-    let a = bound (parted 61 text) (λ halves. location_named t halves.0 >>= λ loc. number_up_to (2 ^ 32 - 1) halves.1 >>= λ value. Some (loc, value)) access e in
+    let a = bound (split_once 61 text) (λ halves. location_named t halves.0 >>= λ loc. number_up_to (2 ^ 32 - 1) halves.1 >>= λ value. Some (loc, value)) access e in
     let b = bound (location_named t a.0.0) (λ loc. number_up_to (2 ^ 32 - 1) a.0.1 >>= λ value. Some (loc, value)) access a.2 in
     let c = bound (number_up_to (2 ^ 32 - 1) a.0.1) (λ value. Some (b.0, value)) access b.2 in
     let loc = location_found t a.0.0 b.0 b.1 in
     let value = number_found (2 ^ 32 - 1) a.0.1 c.0 (omega arith) c.1 in
-    let cut = parted-Some 61 text a.0.0 a.0.1 a.1 in
+    let cut = split_once-Some 61 text a.0.0 a.0.1 a.1 in
     let same : (b.0, c.0) ≡ access = cc in
     let text-is : text ≡ printed_word t b.0 c.0 =
     rejoined 61 text a.0.0 a.0.1 (get_or t.locations b.0 []) (decimal c.0) cut.0 loc.1 value.0 in
@@ -166,7 +167,7 @@ word_again : (t : Litmus) (at : ℕ × ℕ) (kind : Kind) (loc value : ℕ) → 
     → action_in t at (letters_of kind ++ 32 ∷ printed_word t loc value) ≡ Some (entry_at at kind loc value)
 unfolding action_in
 word_again t at kind loc value is test known small =
-    let cut : parted 32 (letters_of kind ++ 32 ∷ printed_word t loc value) ≡ Some (letters_of kind, printed_word t loc value) = parted-at 32 (letters_of kind) (printed_word t loc value) (lacks-letters kind) in
+    let cut : split_once 32 (letters_of kind ++ 32 ∷ printed_word t loc value) ≡ Some (letters_of kind, printed_word t loc value) = split_once-at 32 (letters_of kind) (printed_word t loc value) (lacks-letters kind) in
     rw (no_fence kind (printed_word t loc value), cut, kind_again kind is, access_again t loc value test known small) refl
 
 action_again : (t : Litmus) (at : ℕ × ℕ) (kind : Kind) (loc value : ℕ) → IsTest t → HasAccess t kind loc value
@@ -202,16 +203,16 @@ record IsActionOf (t : Litmus) (at : ℕ × ℕ) (text : List ℕ) (e : Entry) :
 action_found : (t : Litmus) (at : ℕ × ℕ) (text : List ℕ) (e : Entry) → action_in t at text ≡ Some e → IsActionOf t at text e
 unfolding action_in
 action_found t at text e read =
-    elim (chosen (bytes_eq text (codes "F")) (Some (entry_at at F 0 0)) (parted 32 text >>= λ halves. kind_of halves.0 >>= λ kind. access_in t halves.1 >>= λ access. Some (entry_at at kind access.0 access.1)) (Some e) read) [
+    elim (chosen (bytes_eq text (codes "F")) (Some (entry_at at F 0 0)) (split_once 32 text >>= λ halves. kind_of halves.0 >>= λ kind. access_in t halves.1 >>= λ access. Some (entry_at at kind access.0 access.1)) (Some e) read) [
       | inl hit ↦
           let same : entry_at at F 0 0 ≡ e = cc in
           subst (IsActionOf t at text) same (record { core = refl; place = refl; access = (refl, refl); printed = same_bytes _ _ hit.0 })
       | inr miss ↦
-          let a = bound (parted 32 text) (λ halves. kind_of halves.0 >>= λ kind. access_in t halves.1 >>= λ access. Some (entry_at at kind access.0 access.1)) e miss.1 in
+          let a = bound (split_once 32 text) (λ halves. kind_of halves.0 >>= λ kind. access_in t halves.1 >>= λ access. Some (entry_at at kind access.0 access.1)) e miss.1 in
           let b = bound (kind_of a.0.0) (λ kind. access_in t a.0.1 >>= λ access. Some (entry_at at kind access.0 access.1)) e a.2 in
           let c = bound (access_in t a.0.1) (λ access. Some (entry_at at b.0 access.0 access.1)) e b.2 in
           let same : entry_at at b.0 c.0.0 c.0.1 ≡ e = cc in
-          let cut = parted-Some 32 text a.0.0 a.0.1 a.1 in
+          let cut = split_once-Some 32 text a.0.0 a.0.1 a.1 in
           let kind = kind_found a.0.0 b.0 b.1 in
           let access = access_found t a.0.1 c.0 c.1 in
           let text-is : text ≡ letters_of b.0 ++ 32 ∷ printed_word t c.0.0 c.0.1 =
@@ -234,16 +235,16 @@ pub entry_again : (t : Litmus) (e : Entry) → IsTest t → IsEntryFor t e → e
 unfolding entry_in
 entry_again t e test is =
     let action = letters_of e.kind ++ printed_access t e.kind e.loc.0 e.value in
-    let cut : parted 32 (printed_place e.core.0 e.place ++ 32 ∷ action) ≡ Some (printed_place e.core.0 e.place, action) =
-    parted-at 32 (printed_place e.core.0 e.place) action (lacks-place 32 e.core.0 e.place refl refl refl (omega (arith, is.core)) (omega (arith, is.place))) in
+    let cut : split_once 32 (printed_place e.core.0 e.place ++ 32 ∷ action) ≡ Some (printed_place e.core.0 e.place, action) =
+    split_once-at 32 (printed_place e.core.0 e.place) action (lacks-place 32 e.core.0 e.place refl refl refl (omega (arith, is.core)) (omega (arith, is.place))) in
     rw (grouped t e, cut, place_again e.core.0 e.place is.core is.place) (action_again t (e.core.0, e.place) e.kind e.loc.0 e.value test is.access)
 
 pub entry_found : (t : Litmus) (line : List ℕ) (e : Entry) → entry_in t line ≡ Some e → IsEntryFor t e × (line ≡ printed_entry t e)
 unfolding entry_in
 entry_found t line e read =
-    let a = bound (parted 32 line) (λ halves. place_in halves.0 >>= λ at. action_in t at halves.1) e read in
+    let a = bound (split_once 32 line) (λ halves. place_in halves.0 >>= λ at. action_in t at halves.1) e read in
     let b = bound (place_in a.0.0) (λ at. action_in t at a.0.1) e a.2 in
-    let cut = parted-Some 32 line a.0.0 a.0.1 a.1 in
+    let cut = split_once-Some 32 line a.0.0 a.0.1 a.1 in
     let place = place_found a.0.0 b.0 b.1 in
     let action = action_found t b.0 a.0.1 e b.2 in
     let front : a.0.0 ≡ printed_place e.core.0 e.place =
@@ -255,19 +256,19 @@ entry_found t line e read =
 -- ---- the end
 
 pub no_end_in_entry : (t : Litmus) (e : Entry) → end_in (printed_entry t e) ≡ None
-unfolding end_in behind_front
+unfolding end_in without_prefix
 no_end_in_entry t e = refl
 
 pub end_again : (digits : List ℕ) → is_number digits ≡ true → end_in (codes "Endorder " ++ digits) ≡ Some digits
 unfolding end_in
 end_again digits is =
-    let front : behind_front (codes "Endorder ") (codes "Endorder " ++ digits) ≡ Some digits = behind-again (codes "Endorder ") digits in
+    let front : without_prefix (codes "Endorder ") (codes "Endorder " ++ digits) ≡ Some digits = behind-again (codes "Endorder ") digits in
     rw (front, is) refl
 
 pub end_found : (line digits : List ℕ) → end_in line ≡ Some digits → (line ≡ codes "Endorder " ++ digits) × (is_number digits ≡ true)
 unfolding end_in
 end_found line digits e =
-    let a = bound (behind_front (codes "Endorder ") line) numeral digits e in
+    let a = bound (without_prefix (codes "Endorder ") line) numeral digits e in
     elim (chosen (is_number a.0) (Some a.0) None (Some digits) a.2) [
       | inl hit ↦
           let same : a.0 ≡ digits = cc in

@@ -1,3 +1,7 @@
+pub mod Merging
+pub mod Keeping
+pub mod Appending
+pub mod Pairing
 pub mod Choosing
 pub mod DecimalLemmas
 pub mod LineLemmas
@@ -10,6 +14,3 @@ pub mod SpellingLaws
 pub mod FaultLaws
 pub mod ContractLemmas
 pub mod PrintLaws
-pub mod Merging
-pub mod Keeping
-pub mod Appending

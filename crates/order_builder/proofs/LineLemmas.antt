@@ -1,4 +1,4 @@
--- Texts that are parted at a byte, and their lines.
+-- Texts that are split_once at a byte, and their lines.
 use Rattle.std.proofs.Common.{◌≡◌, ℕ, ◌+◌, ◌<◌, ◌≤◌, true, false, ltb, eqb, List, [], ◌∷◌, ◌++◌, length, get_or, take, drop, Option, Some, None, All, refl, sym, ap, subst, ◌∙◌, inl, inr, arith}
 use Rattle.std.specs.List.{position, position_or_len, slice_split}
 use Rattle.std.specs.Option.{option_map}
@@ -12,7 +12,7 @@ use Rattle.std.proofs.lemmas.List.Quantifiers.{position-Some}
 use Rattle.std.proofs.lemmas.List.Sums.{position_or_len_is, fails_before_first, count_by-le-length}
 use Rattle.std.proofs.lemmas.List.Splits.{slice_split_none, slice_split_at, length-slice_split}
 use Rattle.order_builder.specs.Lines.{lines_in, lines_of, is_line_feed}
-use Rattle.order_builder.specs.Reading.{parted, halves_at}
+use Rattle.order_builder.specs.Reading.{split_once, halves_at}
 use Rattle.order_builder.proofs.Choosing.{chosen}
 
 -- no byte of the text is this one
@@ -30,9 +30,9 @@ Lacks-before byte text i lt fails =
     All-from_get_or (λ b. eqb b byte ≡ false) (take i text) 0
     (λ k l. let below : k < i = omega (arith, length-take i text) in rw (get_or-take i text k 0 below) (fails k below))
 
-pub parted-Some : (byte : ℕ) (text xs ys : List ℕ) → parted byte text ≡ Some (xs, ys) → (text ≡ xs ++ byte ∷ ys) × Lacks byte xs
-unfolding parted
-parted-Some byte text xs ys e =
+pub split_once-Some : (byte : ℕ) (text xs ys : List ℕ) → split_once byte text ≡ Some (xs, ys) → (text ≡ xs ++ byte ∷ ys) × Lacks byte xs
+unfolding split_once
+split_once-Some byte text xs ys e =
     let h = halved text (position (λ b. eqb b byte) text) xs ys e in
     let at = position-Some (λ b. eqb b byte) text h.0 0 h.1 in
     let whole : take h.0 text ++ drop h.0 text ≡ text = take-append-drop h.0 text in
@@ -45,9 +45,9 @@ halved_none : (text : List ℕ) (o : Option ℕ) → option_map (halves_at text)
 halved_none text None e = refl
 halved_none text (Some i) e = absurd cc
 
-pub parted-None : (byte : ℕ) (text : List ℕ) → parted byte text ≡ None → Lacks byte text
-unfolding parted
-parted-None byte text e =
+pub split_once-None : (byte : ℕ) (text : List ℕ) → split_once byte text ≡ None → Lacks byte text
+unfolding split_once
+split_once-None byte text e =
     let none : position (λ b. eqb b byte) text ≡ None = halved_none text (position (λ b. eqb b byte) text) e in
     elim (chosen (ltb (position_or_len (λ b. eqb b byte) text) (length text)) (Some (position_or_len (λ b. eqb b byte) text)) None None none) [
       | inl hit ↦ absurd cc
@@ -56,9 +56,9 @@ parted-None byte text e =
           All-from_get_or (λ b. eqb b byte ≡ false) text 0 (λ k l. fails_before_first (λ b. eqb b byte) text k 0 (omega arith))
     ]
 
-pub parted-at : (byte : ℕ) (xs ys : List ℕ) → Lacks byte xs → parted byte (xs ++ byte ∷ ys) ≡ Some (xs, ys)
-unfolding parted
-parted-at byte xs ys lacks =
+pub split_once-at : (byte : ℕ) (xs ys : List ℕ) → Lacks byte xs → split_once byte (xs ++ byte ∷ ys) ≡ Some (xs, ys)
+unfolding split_once
+split_once-at byte xs ys lacks =
     let at : position_or_len (λ b. eqb b byte) (xs ++ byte ∷ ys) ≡ length xs =
     position_or_len_is (λ b. eqb b byte) (xs ++ byte ∷ ys) (length xs) 0 (omega (arith, length-append xs (byte ∷ ys)))
     (λ k lt. rw (get_or_append_left xs (byte ∷ ys) 0 k lt) (All-get_or (λ b. eqb b byte ≡ false) xs k 0 lt lacks))
@@ -93,14 +93,14 @@ lines_of-last line lacks some =
     rw (split, not_empty) refl
 
 -- the first line, where a line feed ends it
-pub lines_of-parted : (text line rest : List ℕ) → Some (line, rest) ≡ parted 10 text → lines_of text ≡ strip_carriage_return line ∷ lines_of rest
-lines_of-parted text line rest e =
-    let p = parted-Some 10 text line rest (sym e) in
+pub lines_of-split_once : (text line rest : List ℕ) → Some (line, rest) ≡ split_once 10 text → lines_of text ≡ strip_carriage_return line ∷ lines_of rest
+lines_of-split_once text line rest e =
+    let p = split_once-Some 10 text line rest (sym e) in
     ap lines_of p.0 ∙ lines_of-line line rest p.1
 
 -- the one line of a text without a line feed
-pub lines_of-alone : (text : List ℕ) → None ≡ parted 10 text → 0 < length text → lines_of text ≡ strip_carriage_return text ∷ lines_of []
-lines_of-alone text e some = lines_of-last text (parted-None 10 text (sym e)) some ∙ ap (λ (l : List (List ℕ)). strip_carriage_return text ∷ l) (sym (lines_of-nil [] refl))
+pub lines_of-alone : (text : List ℕ) → None ≡ split_once 10 text → 0 < length text → lines_of text ≡ strip_carriage_return text ∷ lines_of []
+lines_of-alone text e some = lines_of-last text (split_once-None 10 text (sym e)) some ∙ ap (λ (l : List (List ℕ)). strip_carriage_return text ∷ l) (sym (lines_of-nil [] refl))
 
 lines_in-length : (parts : List (List ℕ)) → length (lines_in parts) ≤ length parts
 lines_in-length [] = omega arith

@@ -1,5 +1,5 @@
 -- An entry with the greatest number, appended to one of several lists, comes last when they are merged.
-use Rattle.std.proofs.Common.{◌≡◌, ◌<◌, ◌≤◌, ℕ, suc, zero, ◌+◌, nat_lt, Bool, true, false, if◌then◌else◌, List, [], ◌∷◌, ◌++◌, length, slice_index_or, slice_set, append_assoc, append-nil, arith, sym, ◌∙◌, ap, refl}
+use Rattle.std.proofs.Common.{◌≡◌, ◌<◌, ◌≤◌, ℕ, suc, zero, nat_lt, true, false, if◌then◌else◌, List, [], ◌∷◌, ◌++◌, length, slice_index_or, slice_set, append_assoc, arith, sym, ◌∙◌, ap, refl}
 use Rattle.std.proofs.lemmas.Bool.Decides.{nat_tests}
 use Rattle.order_builder.specs.Numbers.{front_below, back_from, merged, merged_with}
 use Rattle.order_builder.specs.Kept.{HasNumbersBelow, AreBelow}

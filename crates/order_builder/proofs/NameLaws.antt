@@ -1,4 +1,5 @@
 -- Bytes that stand in no number and in no name, and the numbers of locations.
+use Rattle.std.specs.Char.{is_ascii_digit}
 use Rattle.std.proofs.Common.{◌≡◌, ◌≢◌, ℕ, zero, suc, ◌^◌, ◌<◌, Bool, true, false, not, ◌||◌, eqb, ◌⊎◌, inl, inr, List, [], ◌∷◌, length, get_or, Some, refl, sym, subst, arith}
 use Rattle.std.specs.Fmt.{decimal}
 use Rattle.std.specs.List.{list_all, list_any}
@@ -9,7 +10,6 @@ use Rattle.std.proofs.lemmas.List.Quantifiers.{position-Some}
 use Rattle.std.proofs.lemmas.List.Elements.{All-cons, All-nil}
 use Rattle.tso_model.specs.Litmus.{Litmus, IsTest, are_distinct}
 use Rattle.tso_model.specs.Names.{is_name, is_location_name, begins_name, continues_name, is_among}
-use Rattle.order_builder.specs.Decimals.{is_digit}
 use Rattle.order_builder.specs.Reading.{location_named}
 use Rattle.order_builder.proofs.Choosing.{same_bytes, bytes_eq-same, bytes_eq-other}
 use Rattle.order_builder.proofs.LineLemmas.{Lacks, named_at}
@@ -33,8 +33,8 @@ lacks_from_all p byte (b ∷ bs) misses all =
     let parts = and_parts _ _ all in
     All-cons (λ b. eqb b byte ≡ false) b bs (fails p b byte parts.0 misses) (lacks_from_all p byte bs misses parts.1)
 
-pub lacks-decimal : (byte n : ℕ) → is_digit byte ≡ false → n < 2 ^ 64 → Lacks byte (decimal n)
-lacks-decimal byte n misses small = lacks_from_all is_digit byte (decimal n) misses (is_digits-decimal n small)
+pub lacks-decimal : (byte n : ℕ) → is_ascii_digit byte ≡ false → n < 2 ^ 64 → Lacks byte (decimal n)
+lacks-decimal byte n misses small = lacks_from_all is_ascii_digit byte (decimal n) misses (is_digits-decimal n small)
 
 begins_continues : (b : ℕ) → begins_name b ≡ true → continues_name b ≡ true
 begins_continues b first = grind (arith, nat_tests)

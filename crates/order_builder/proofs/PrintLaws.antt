@@ -6,7 +6,7 @@ use Rattle.std.specs.List.{list_all}
 use Rattle.std.specs.Str.Lines.{strip_carriage_return}
 use Rattle.std.proofs.lemmas.Bool.{and_parts, and_from, eqb-true}
 use Rattle.std.proofs.lemmas.Bool.Decides.{nat_tests}
-use Rattle.std.proofs.lemmas.List.{append_assoc, take_all, take_more}
+use Rattle.std.proofs.lemmas.List.{append_assoc, append-nil, take_all, take_more}
 use Rattle.std.proofs.lemmas.List.Elements.{All-cons, All-nil, All-head, All-tail, All-get_or}
 use Rattle.std.proofs.lemmas.List.Folds.{list_all-append}
 use Rattle.tso_model.specs.Litmus.{Litmus, IsTest}
@@ -159,3 +159,6 @@ printed_spells t order front rest text test are others text-is =
       first = others_before front others;
       entries = are;
     }
+
+pub printed_alone : (t : Litmus) (order : List Entry) → IsTest t → IsOrderFor t order → SpellsOrder t (printed_order t order) order
+printed_alone t order test are = printed_spells t order [] [] (printed_order t order) test are (All-nil IsBefore) (sym (append-nil (printed_order t order)))

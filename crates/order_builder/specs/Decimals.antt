@@ -1,13 +1,11 @@
 -- Decimal numbers without leading zeros. (This project's profile.)
 use Rattle.std.specs.Prelude.{ℕ, ◌+◌, ◌-◌, ◌*◌, ◌==◌, ◌&&◌, ◌||◌, nat_le, nat_lt, Bool, not, List, [], ◌∷◌, length, slice_index, Option, Some, None, if◌then◌else◌}
 use Rattle.std.specs.List.{list_all}
-
-abbrev pub is_digit : ℕ → Bool
-is_digit b = nat_le 48 b && nat_le b 57
+use Rattle.std.specs.Char.{is_ascii_digit}
 
 -- some digits, the first of them no `0` unless it is the only one
 abbrev pub is_number : List ℕ → Bool
-is_number text = nat_lt 0 (length text) && list_all is_digit text && (not (slice_index text 0 == 48) || (length text == 1))
+is_number text = nat_lt 0 (length text) && list_all is_ascii_digit text && (not (slice_index text 0 == 48) || (length text == 1))
 
 -- the number that digits say behind those that said n
 unfoldable pub decimal_from : ℕ → List ℕ → ℕ

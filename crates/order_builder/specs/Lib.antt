@@ -1,8 +1,10 @@
+pub mod Pairs
+pub mod Numbers
+pub mod Kept
 pub mod PrintedOrder
 pub mod Lines
 pub mod Decimals
 pub mod Spelling
 pub mod Reading
-pub mod Pairs
-pub mod Numbers
-pub mod Kept
+pub use Rattle.tso_model.specs.Litmus
+pub use Rattle.tso_model.specs.Execution

@@ -12,6 +12,7 @@ lines_in (part ∷ next ∷ parts) = strip_carriage_return part ∷ lines_in (ne
 abbrev pub is_line_feed : ℕ → Bool
 is_line_feed b = b == 10
 
+-- the lines of a text
 unfoldable pub lines_of : List ℕ → List (List ℕ)
 lines_of text = lines_in (slice_split is_line_feed text)
 

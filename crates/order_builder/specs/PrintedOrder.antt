@@ -37,6 +37,7 @@ abbrev pub printed_lines : List (List ℕ) → List ℕ
 printed_lines [] = []
 printed_lines (line ∷ lines) = line ++ 10 ∷ printed_lines lines
 
+-- the text of an order
 abbrev pub printed_order : Litmus → List Entry → List ℕ
 printed_order t order = printed_lines (order_lines t order)
 

@@ -12,6 +12,7 @@ use Rattle.order_builder.specs.Decimals.{is_number, number_of, number_up_to}
 use Rattle.order_builder.specs.declared.fault.OrderFault.{OrderFault}
 use Rattle.order_builder.specs.declared.fault.OrderFault.TheVariants.{NoOrder, BadLine, BadCount, NoMemory}
 
+-- one step after the other, as long as each finds something
 infixl 10 ◌>>=◌
 abbrev pub ◌>>=◌ : {A B : Type 0} → Option A → (A → Option B) → Option B
 (Some x) >>= f = f x
@@ -22,12 +23,12 @@ abbrev pub halves_at : List ℕ → ℕ → List ℕ × List ℕ
 halves_at text i = (take i text, drop (i + 1) text)
 
 -- what stands before the first such byte, and what behind it
-unfoldable pub parted : ℕ → List ℕ → Option (List ℕ × List ℕ)
-parted byte text = option_map (halves_at text) (position (λ b. b == byte) text)
+unfoldable pub split_once : ℕ → List ℕ → Option (List ℕ × List ℕ)
+split_once byte text = option_map (halves_at text) (position (λ b. b == byte) text)
 
--- what stands behind this text at the front
-unfoldable pub behind_front : List ℕ → List ℕ → Option (List ℕ)
-behind_front front text = if bytes_eq (take (length front) text) front then Some (drop (length front) text) else None
+-- what stands behind a prefix
+unfoldable pub without_prefix : List ℕ → List ℕ → Option (List ℕ)
+without_prefix prefix text = if bytes_eq (take (length prefix) text) prefix then Some (drop (length prefix) text) else None
 
 -- the kind of an entry that has a location
 unfoldable pub kind_of : List ℕ → Option Kind
@@ -42,14 +43,15 @@ kind_of text =
 unfoldable pub location_named : Litmus → List ℕ → Option ℕ
 location_named t name = position (λ other. bytes_eq other name) t.locations
 
+-- an entry of this core and place
 abbrev pub entry_at : ℕ × ℕ → Kind → ℕ → ℕ → Entry
 entry_at at kind loc value = record { core = record { 0 = at.0 }; place = at.1; kind = kind; loc = record { 0 = loc }; value = value }
 
 -- `Pc:p`, the core and the place
 unfoldable pub place_in : List ℕ → Option (ℕ × ℕ)
 place_in text = do
-  numbers ← behind_front (codes "P") text
-  halves ← parted 58 numbers
+  numbers ← without_prefix (codes "P") text
+  halves ← split_once 58 numbers
   core ← number_up_to 255 halves.0
   place ← number_up_to 255 halves.1
   Some (core, place)
@@ -57,7 +59,7 @@ place_in text = do
 -- `x=v`, the location and the value
 unfoldable pub access_in : Litmus → List ℕ → Option (ℕ × ℕ)
 access_in t text = do
-  halves ← parted 61 text
+  halves ← split_once 61 text
   loc ← location_named t halves.0
   value ← number_up_to (2 ^ 32 - 1) halves.1
   Some (loc, value)
@@ -65,7 +67,7 @@ access_in t text = do
 -- `K x=v`, or `F`
 unfoldable pub action_in : Litmus → ℕ × ℕ → List ℕ → Option Entry
 action_in t at text = if bytes_eq text (codes "F") then Some (entry_at at F 0 0) else do
-  halves ← parted 32 text
+  halves ← split_once 32 text
   kind ← kind_of halves.0
   access ← access_in t halves.1
   Some (entry_at at kind access.0 access.1)
@@ -73,19 +75,21 @@ action_in t at text = if bytes_eq text (codes "F") then Some (entry_at at F 0 0)
 -- the entry that a line is
 unfoldable pub entry_in : Litmus → List ℕ → Option Entry
 entry_in t line = do
-  halves ← parted 32 line
+  halves ← split_once 32 line
   at ← place_in halves.0
   action_in t at halves.1
 
+-- the digits, if they are a number
 abbrev pub numeral : List ℕ → Option (List ℕ)
 numeral digits = if is_number digits then Some digits else None
 
 -- the digits of a line `Endorder n`
 unfoldable pub end_in : List ℕ → Option (List ℕ)
 end_in line = do
-  digits ← behind_front (codes "Endorder ") line
+  digits ← without_prefix (codes "Endorder ") line
   numeral digits
 
+-- an entry before those that are read behind it
 abbrev pub onto : Entry → Result (List Entry) OrderFault → Result (List Entry) OrderFault
 onto e (Ok es) = Ok (e ∷ es)
 onto e (Err fault) = Err fault
@@ -108,6 +112,7 @@ order_start before [] = None
 order_start before (line ∷ lines) =
     if bytes_eq line (codes "Order") then Some (before + 1, lines) else order_start (before + 1) lines
 
+-- the order that is read behind the line `Order`
 abbrev pub order_from : Litmus → Option (ℕ × List (List ℕ)) → Result (List Entry) OrderFault
 order_from t (Some start) = entries_in t start.0 0 start.1
 order_from t None = Err NoOrder
@@ -116,13 +121,14 @@ order_from t None = Err NoOrder
 unfoldable pub order_of : Litmus → List ℕ → Result (List Entry) OrderFault
 order_of t text = order_from t (order_start 0 (lines_of text))
 
--- what was returned is what reading gives, unless memory ran out
+-- a fault that was answered is the one that reading gives; want of memory says nothing of the reading
 abbrev pub Fails : OrderFault → Result (List Entry) OrderFault → Type 0
 Fails NoMemory read = Unit {0}
 Fails NoOrder read = read ≡ Err NoOrder
 Fails (BadLine number) read = read ≡ Err (BadLine number)
 Fails BadCount read = read ≡ Err BadCount
 
+-- what was answered is what reading gives, unless memory ran out
 abbrev pub Gives : {X : Type 0} → (X → List Entry) → Result X OrderFault → Result (List Entry) OrderFault → Type 0
 Gives view (Ok x) read = read ≡ Ok (view x)
 Gives view (Err fault) read = Fails fault read

@@ -15,12 +15,13 @@ abbrev pub HasAccess : Litmus → Kind → ℕ → ℕ → Type 0
 HasAccess t F loc value = (loc ≡ 0) × (value ≡ 0)
 HasAccess t _ loc value = (loc < length t.locations) × (value < 2 ^ 32)
 
--- an entry that an order of the test may have, right or wrong
+-- an entry that an order of the test may have: its core and its place needn't be the test's
 pub record IsEntryFor (t : Litmus) (e : Entry) : Type 0 where
   pub core : e.core.0 < 256
   pub place : e.place < 256
   pub access : HasAccess t e.kind e.loc.0 e.value
 
+-- an order of the test, right or wrong
 abbrev pub IsOrderFor : Litmus → List Entry → Type 0
 IsOrderFor t order = All (IsEntryFor t) order
 
@@ -49,7 +50,7 @@ pub record BeginsOrder (t : Litmus) (text : List ℕ) (before : List (List ℕ))
   pub first : All IsOther before
   pub entries : IsOrderFor t order
 
--- no entry of the test is printed so
+-- the line is no entry: none of an order of the test is printed so
 abbrev pub IsNoEntry : Litmus → List ℕ → Type 0
 IsNoEntry t line = (e : Entry) → IsEntryFor t e → line ≢ printed_entry t e
 
@@ -74,6 +75,7 @@ HasNoCount count [] = Unit {0}
 HasNoCount count (line ∷ lines) =
     (digits : List ℕ) × (is_number digits ≡ true) × (line ≡ codes "Endorder " ++ digits) × (number_of digits ≢ count)
 
+-- the entries are not followed by their count
 pub record HasBadCount (t : Litmus) (text : List ℕ) : Type 0 where
   pub before : List (List ℕ)
   pub order : List Entry

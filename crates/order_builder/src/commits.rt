@@ -1,4 +1,5 @@
-ghost use Rattle.std.specs.Prelude.{◌≡◌, ℕ, ◌<◌, ◌≤◌, ◌^◌, [], ◌∷◌, ◌++◌, length, map, All, IfOk, OnOk, OnErr, slice_index_or, slice_set};
+ghost use Rattle.std.specs.Prelude.{◌≡◌, ℕ, ◌<◌, ◌^◌, [], ◌∷◌, ◌++◌, length, map, IfOk, OnOk, OnErr, slice_index_or, slice_set};
+ghost use Rattle.tso_model.specs.Execution.{KeepsPairs};
 ghost use Rattle.order_builder.specs.Numbers.{front_below, back_from, merged, merged_with, entries_in_order};
 ghost use Rattle.order_builder.specs.Kept.{IsKept, lists_in};
 ghost use Rattle.order_builder.specs.Pairs.{IsPaired};
@@ -25,7 +26,7 @@ pub struct Commits {
 }
 
 impl Model for Commits {
-    ghost use Rattle.std.specs.Prelude.{List, map};
+    ghost use Rattle.std.specs.Prelude.{List};
     ghost use Rattle.tso_model.specs.declared.execution.Entry.{Entry};
     ghost use Rattle.order_builder.specs.Numbers.{entries_in_order};
     ghost use Rattle.order_builder.specs.Kept.{IsKept, lists_in};
@@ -101,7 +102,8 @@ fn append(lists: &mut Vec<Vec<Numbered>>, core: u8, x: Numbered) -> Result<(), N
 /// Fails only for want of memory.
 pub fn build(alloc: Global, commits: &Commits) -> Result<Execution, NoMemory>
     requires { IsPaired commits.now }
-    ensures { IfOk result (λ e. e.order.items ≡ commits.now) }
+    ensures order { IfOk result (λ e. e.order.items ≡ commits.now) }
+    ensures pairs { IfOk result (λ e. KeepsPairs e.order.items) }
 {
     let numbered = merge_all(alloc, &commits.lists)?;
     let order = entries_of(alloc, &numbered)?;

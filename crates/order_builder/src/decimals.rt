@@ -2,7 +2,8 @@
 
 ghost use Rattle.std.specs.Prelude.{◌≡◌, ◌≤◌, ◌==◌, IfSome, nat_le, Option, Some, None, if◌then◌else◌};
 ghost use Rattle.std.specs.List.{list_all};
-ghost use Rattle.order_builder.specs.Decimals.{is_digit, is_number, number_up_to, number_of};
+ghost use Rattle.std.specs.Char.{is_ascii_digit};
+ghost use Rattle.order_builder.specs.Decimals.{is_number, number_up_to, number_of};
 
 /// Whether the text is a decimal number without leading zeros, of any size.
 pub fn is_number(text: &[u8]) -> bool
@@ -12,26 +13,16 @@ pub fn is_number(text: &[u8]) -> bool
 }
 
 fn all_digits(text: &[u8]) -> bool
-    ensures { result ≡ list_all is_digit text.now }
+    ensures { result ≡ list_all is_ascii_digit text.now }
 {
-    text.iter().all(|b| is_digit(*b))
-}
-
-fn is_digit(byte: u8) -> bool
-    ensures { result ≡ is_digit byte }
-{
-    byte >= b'0' && byte <= b'9'
+    text.iter().all(|b| b.is_ascii_digit())
 }
 
 /// Whether digits say this number.
-#[tactic(auto, using(crate::proofs::DecimalLemmas::number_found, crate::proofs::DecimalLemmas::number_missed))]
 pub fn number_is(digits: &[u8], number: u64) -> bool
     ensures { result ≡ (number_of digits.now == number) }
 {
-    match digits_up_to(digits, number) {
-        Some(found) => found == number,
-        None => false,
-    }
+    digits_up_to(digits, number) == Some(number)
 }
 
 /// The number that a text is, if it is one and no greater than `most`.

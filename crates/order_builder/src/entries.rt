@@ -5,7 +5,7 @@ ghost use Rattle.std.specs.Option.{option_map};
 ghost use Rattle.order_builder.specs.Reading.{kind_of, location_named, place_in, access_in, action_in, entry_in, end_in};
 
 use crate::decimals::{is_number, number_up_to};
-use crate::lines::{behind_front, parted};
+use crate::lines::{split_once, without_prefix};
 use tso_model::{Core, Entry, Kind, Loc, Test};
 
 /// The entry of a test that a line is, if it is one. Its core and its place needn't be the test's.
@@ -13,7 +13,7 @@ use tso_model::{Core, Entry, Kind, Loc, Test};
 pub fn entry_in(test: &Test, line: &[u8]) -> Option<Entry>
     ensures { result ≡ entry_in test.now line.now }
 {
-    let (head, action) = parted(line, b' ')?;
+    let (head, action) = split_once(line, b' ')?;
     let (core, place) = place_in(head)?;
     action_in(test, core, place, action)
 }
@@ -23,7 +23,7 @@ pub fn entry_in(test: &Test, line: &[u8]) -> Option<Entry>
 pub fn end_in(line: &[u8]) -> Option<&[u8]>
     ensures { option_map (λ digits. digits.now) result ≡ end_in line.now }
 {
-    let digits = behind_front(line, b"Endorder ")?;
+    let digits = without_prefix(line, b"Endorder ")?;
     if is_number(digits) {
         Some(digits)
     } else {
@@ -35,10 +35,10 @@ pub fn end_in(line: &[u8]) -> Option<&[u8]>
 fn place_in(text: &[u8]) -> Option<(u8, u8)>
     ensures { result ≡ place_in text.now }
 {
-    let numbers = behind_front(text, b"P")?;
-    let (core, place) = parted(numbers, b':')?;
-    let core = number_up_to(core, 255)?;
-    let place = number_up_to(place, 255)?;
+    let numbers = without_prefix(text, b"P")?;
+    let (core, place) = split_once(numbers, b':')?;
+    let core = number_up_to(core, u64::from(u8::MAX))?;
+    let place = number_up_to(place, u64::from(u8::MAX))?;
     Some((core as u8, place as u8))
 }
 
@@ -55,7 +55,7 @@ fn action_in(test: &Test, core: u8, place: u8, text: &[u8]) -> Option<Entry>
             value: 0,
         });
     }
-    let (letters, access) = parted(text, b' ')?;
+    let (letters, access) = split_once(text, b' ')?;
     let kind = kind_of(letters)?;
     let (loc, value) = access_in(test, access)?;
     Some(Entry {
@@ -88,9 +88,9 @@ fn kind_of(letters: &[u8]) -> Option<Kind>
 fn access_in(test: &Test, text: &[u8]) -> Option<(u8, u32)>
     ensures { result ≡ access_in test.now text.now }
 {
-    let (name, value) = parted(text, b'=')?;
+    let (name, value) = split_once(text, b'=')?;
     let loc = location_named(test, name)?;
-    let value = number_up_to(value, 0xffff_ffff)?;
+    let value = number_up_to(value, u64::from(u32::MAX))?;
     Some((loc, value as u32))
 }
 

@@ -1,4 +1,4 @@
-//! The order in which memory saw a run: made of the machine's commits, printed and read.
+//! The order of memory actions that a machine's commits make, and the texts of orders, printed and read.
 #![tactic(auto)]
 
 pub mod commits;

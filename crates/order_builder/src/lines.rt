@@ -4,33 +4,31 @@ ghost use Rattle.std.specs.Prelude.{◌≡◌, ◌<◌, ◌∷◌, [], ◌==◌,
 ghost use Rattle.std.specs.Option.{option_map};
 ghost use Rattle.std.specs.Str.Lines.{strip_carriage_return};
 ghost use Rattle.order_builder.specs.Lines.{lines_of};
-ghost use Rattle.order_builder.specs.Reading.{parted, behind_front};
+ghost use Rattle.order_builder.specs.Reading.{split_once, without_prefix};
 
 /// What stands before the first such byte, and what behind it; `None` where there is no such byte.
-#[tactic(auto, unfolding(crate::specs::Reading::parted))]
-pub fn parted(text: &[u8], byte: u8) -> Option<(&[u8], &[u8])>
-    ensures value { option_map (λ halves. (halves.0.now, halves.1.now)) result ≡ parted byte text.now }
+#[tactic(auto, unfolding(crate::specs::Reading::split_once))]
+pub fn split_once(text: &[u8], byte: u8) -> Option<(&[u8], &[u8])>
+    ensures value { option_map (λ halves. (halves.0.now, halves.1.now)) result ≡ split_once byte text.now }
     ensures shorter { IfSome result (λ halves. length halves.1.now < length text.now) }
 {
-    match place_of(text, byte) {
-        Some(at) => Some((&text[..at], &text[at + 1..])),
-        None => None,
-    }
+    let at = position_of(text, byte)?;
+    Some((&text[..at], &text[at + 1..]))
 }
 
-fn place_of(text: &[u8], byte: u8) -> Option<usize>
+fn position_of(text: &[u8], byte: u8) -> Option<usize>
     ensures value { result ≡ position (λ b. b == byte) text.now }
     ensures within { IfSome result (λ at. at < length text.now) }
 {
     text.iter().position(|b| *b == byte)
 }
 
-/// What stands behind this text, where the other begins with it.
-#[tactic(auto, unfolding(crate::specs::Reading::behind_front))]
-pub fn behind_front<'a>(text: &'a [u8], front: &[u8]) -> Option<&'a [u8]>
-    ensures { option_map (λ rest. rest.now) result ≡ behind_front front.now text.now }
+/// What stands behind the prefix, where the text begins with it.
+#[tactic(auto, unfolding(crate::specs::Reading::without_prefix))]
+pub fn without_prefix<'a>(text: &'a [u8], prefix: &[u8]) -> Option<&'a [u8]>
+    ensures { option_map (λ rest. rest.now) result ≡ without_prefix prefix.now text.now }
 {
-    text.strip_prefix(front)
+    text.strip_prefix(prefix)
 }
 
 /// The first line of a text, without a carriage return at its end, and what stands behind it;
@@ -43,7 +41,7 @@ pub fn next_line(text: &[u8]) -> Option<(&[u8], &[u8])>
     if text.is_empty() {
         return None;
     }
-    match parted(text, b'\n') {
+    match split_once(text, b'\n') {
         Some((line, rest)) => Some((without_return(line), rest)),
         None => Some((without_return(text), &[])),
     }

@@ -1,4 +1,9 @@
 //! Entries and orders as they are printed.
+//!
+//! The text of an order is the line `Order`, a line for each entry, and the line `Endorder n`, n
+//! being how many entries there are. The line of an entry is `Pc:p K x=v`: its core, its place, its
+//! kind, its location and its value; that of a fence is `Pc:p F`. Numbers are decimal and have no
+//! leading zeros.
 
 ghost use Rattle.std.specs.Prelude.{◌≡◌, ◌++◌, ◌∷◌, [], map, All, IfOk, OnOk, string_bytes};
 ghost use Rattle.order_builder.specs.PrintedOrder.{letters_of, printed_access, printed_entry, printed_end, printed_lines, printed_order, HasLocation};
@@ -6,7 +11,12 @@ ghost use Rattle.order_builder.specs.PrintedOrder.{letters_of, printed_access, p
 use std::alloc::Global;
 use tso_model::{Entry, Execution, Kind, NoMemory, Test};
 
-/// An entry as it is printed, as `P0:1 R y=0`, or `P1:2 F` for a fence.
+/// An entry as it is printed, as `P0:1 R y=0`, or `P1:2 F` for a fence. But for a fence, its location
+/// is one of the test's.
+///
+/// # Errors
+///
+/// `NoMemory` where the allocator refused a growth.
 pub fn entry_text(alloc: Global, test: &Test, entry: &Entry) -> Result<String, NoMemory>
     requires { HasLocation test.now entry.now }
     ensures { IfOk result (λ text. string_bytes text ≡ printed_entry test.now entry.now) }
@@ -17,7 +27,11 @@ pub fn entry_text(alloc: Global, test: &Test, entry: &Entry) -> Result<String, N
 }
 
 /// The text of an order: the line `Order`, a line for each entry, and the line `Endorder n`, n being
-/// how many entries there are.
+/// how many entries there are. But for fences, the entries' locations are the test's.
+///
+/// # Errors
+///
+/// `NoMemory` where the allocator refused a growth.
 pub fn order_text(alloc: Global, test: &Test, execution: &Execution) -> Result<String, NoMemory>
     requires { All (HasLocation test.now) execution.now.order.items }
     ensures { IfOk result (λ text. string_bytes text ≡ printed_order test.now execution.now.order.items) }
@@ -71,11 +85,11 @@ fn write_access(text: &mut String, test: &Test, entry: &Entry) -> Result<(), NoM
 fn write_end(text: &mut String, count: usize) -> Result<(), NoMemory>
     ensures { OnOk result (string_bytes text.new ≡ string_bytes text.old ++ (printed_end count ++ 10 ∷ [])) }
 {
-    write!(text, "Endorder {count}\n")?;
+    writeln!(text, "Endorder {count}")?;
     Ok(())
 }
 
-/// The letters that stand for a kind.
+/// The letters that stand for a kind where an entry is printed.
 pub fn letters_of(kind: Kind) -> &'static str
     ensures { result.now ≡ letters_of kind }
 {

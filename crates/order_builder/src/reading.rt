@@ -1,4 +1,7 @@
-//! Orders read from texts.
+//! Orders read from texts, in the form in which they are printed.
+//!
+//! A line loses one carriage return at its end, and an empty rest behind the last line feed is no
+//! line. Lines are counted from 1.
 
 ghost use Rattle.std.specs.Prelude.{◌≡◌, ◌≢◌, ◌+◌, ◌<◌, ◌≤◌, ◌^◌, length, List, Ok, Err, IfSome, IfOk, IfErr};
 ghost use Rattle.std.specs.Option.{option_map};

@@ -19,10 +19,11 @@ abbrev pub core_of : Choice → ℕ
 core_of (Step core) = core.0
 core_of (Drain core) = core.0
 
--- the words of one item, and its choices: one word for a choice of a core that is there, or the three words
--- `seed N M` for the first M choices of the seed N
+-- the words of one item, and its choices
 pub data IsItem (cores : ℕ) : List (List ℕ) → List Choice → Type 0 where
+  -- one word for a choice of a core that is there
   one : (word : List ℕ) (choice : Choice) → IsChoiceWord word choice → core_of choice < cores → IsItem cores (word ∷ []) (choice ∷ [])
+  -- the three words `seed N M` for the first M choices of the seed N
   seeded : (seed count : List ℕ) → IsTrue (is_numeral seed) → decimal seed < 2 ^ 64 → IsTrue (is_numeral count)
       → IsItem cores (codes "seed" ∷ seed ∷ count ∷ []) (seeded_choices cores (decimal seed) (decimal count))
 

@@ -6,19 +6,23 @@ use Rattle.scheduler.specs.declared.fault.ChoiceFault.TheVariants.{BadWord, NoSu
 use Rattle.scheduler.specs.Words.{words_of, is_numeral, decimal}
 use Rattle.scheduler.specs.Grammar.{most_choices, IsChoiceWord, core_of, IsItem, AreItems, SpellsChoices}
 
--- the fault of the item at which words begin, where `before` choices stand before it and its first word has this number:
--- the word is of no form; `seed` lacks one of its two words; the seed is no number below 2^64; the count is no number;
--- the core isn't there; or the item has none of these faults and passes the limit
+-- the fault of the item at which words begin, where `before` choices stand before it and its first word has this number
 pub data IsFault (cores before number : ℕ) : List (List ℕ) → ChoiceFault → Type 0 where
+  -- the word has none of the forms
   bad_form : (word : List ℕ) (rest : List (List ℕ)) → ((choice : Choice) → ¬ (IsChoiceWord word choice)) → word ≢ codes "seed"
       → IsFault cores before number (word ∷ rest) (BadWord number)
+  -- the text ends before the two words of `seed`
   cut_seed : (rest : List (List ℕ)) → length rest < 2 → IsFault cores before number (codes "seed" ∷ rest) (BadWord number)
+  -- else the seed isn't all digits, or is 2^64 or more
   bad_seed : (seed count : List ℕ) (rest : List (List ℕ)) → ¬ (IsTrue (is_numeral seed) × (decimal seed < 2 ^ 64))
       → IsFault cores before number (codes "seed" ∷ seed ∷ count ∷ rest) (BadWord (number + 1))
+  -- else the count isn't all digits
   bad_count : (seed count : List ℕ) (rest : List (List ℕ)) → IsTrue (is_numeral seed) → decimal seed < 2 ^ 64 → ¬ (IsTrue (is_numeral count))
       → IsFault cores before number (codes "seed" ∷ seed ∷ count ∷ rest) (BadWord (number + 2))
+  -- the word is a choice of a core that isn't there
   no_core : (word : List ℕ) (choice : Choice) (rest : List (List ℕ)) → IsChoiceWord word choice → cores ≤ core_of choice
       → IsFault cores before number (word ∷ rest) (NoSuchCore number)
+  -- the item has none of these faults, and with its choices there are too many
   too_many : (words : List (List ℕ)) (choices : List Choice) (rest : List (List ℕ)) → IsItem cores words choices
       → most_choices < before + length choices → IsFault cores before number (words ++ rest) (TooMany number)
 

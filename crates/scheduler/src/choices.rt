@@ -50,11 +50,13 @@ pub fn read_choices(alloc: Global, cores: u8, text: &[u8]) -> Result<Vec<Choice>
 
     // What is answered is what the text spells, and a text that spells choices is answered with them.
     ensures found { IfOk result (λ v. SpellsChoices cores text.now v.items) }
-    ensures only { (choices : List Choice) → SpellsChoices cores text.now choices → MatchResult result (λ v. v.items ≡ choices) (λ f. f ≡ ChoiceFault.NoMemory) }
+    ensures only { (choices : List Choice) → SpellsChoices cores text.now choices
+        → MatchResult result (λ v. v.items ≡ choices) (λ f. f ≡ ChoiceFault.NoMemory) }
 
     // A refusal is the one that the text gets, and a text that gets one is answered with it.
     ensures refused { IfErr result (λ f. f ≢ ChoiceFault.NoMemory → IsRefused cores text.now f) }
-    ensures refuses { (fault : ChoiceFault) → IsRefused cores text.now fault → MatchResult result (λ _. ⊥) (λ f. f ≢ ChoiceFault.NoMemory → f ≡ fault) }
+    ensures refuses { (fault : ChoiceFault) → IsRefused cores text.now fault
+        → MatchResult result (λ _. ⊥) (λ f. f ≢ ChoiceFault.NoMemory → f ≡ fault) }
 {
     let words = split_words(alloc, text)?;
     choices_of_words(alloc, cores, &words)

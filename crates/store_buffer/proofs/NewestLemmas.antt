@@ -1,5 +1,5 @@
 -- The newest store to a location, found on one walk from the oldest on.
-use Rattle.std.proofs.Common.{◌≡◌, ℕ, List, [], ◌∷◌, fold, filter, ◌==◌, Bool, true, false, if◌then◌else◌, Option, None, Some, refl, sym}
+use Rattle.std.proofs.Common.{◌≡◌, ℕ, List, [], ◌∷◌, fold, filter, ◌==◌, true, false, if◌then◌else◌, Option, None, Some, refl}
 use Rattle.std.specs.Option.{option_map}
 use Rattle.std.specs.List.{last_or}
 use Rattle.store_buffer.specs.Newest.{newest_for, newer}

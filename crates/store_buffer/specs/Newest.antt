@@ -1,5 +1,5 @@
 -- What a load sees of the stores that are pending. (x86-TSO, section 3: it reads the newest own store.)
-use Rattle.std.specs.Prelude.{ℕ, List, [], ◌∷◌, filter, Option, None, Some, ◌==◌, if◌then◌else◌}
+use Rattle.std.specs.Prelude.{ℕ, List, filter, Option, None, Some, ◌==◌, if◌then◌else◌}
 use Rattle.std.specs.Option.{option_map}
 use Rattle.std.specs.List.{last_or}
 use Rattle.store_buffer.specs.declared.Pending.{Pending}

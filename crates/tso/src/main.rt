@@ -5,10 +5,9 @@
 #![tactic(auto)]
 
 use std::alloc::AllocError;
-use std::env;
-use std::io;
 use std::io::Write;
 use std::process::ExitCode;
+use std::{env, io};
 use tso_cli::{Counted, LineFault, RunFault, Settings, Status, run_command, settings_of};
 
 /// The exit status of a line that is refused; `--help` is such a line too.

@@ -31,7 +31,7 @@ IsAnswer-from_take s input _ _ (refused fault small is) =
 IsAnswer-from_take s input _ _ (answered t out status small spelled answer) =
     let fits = short input small in
     answered t out status fits (subst (λ i. SpellsTest (parts_of i).test t) (whole input fits) spelled)
-        (subst (λ i. IsAnswerTo s t (parts_of i).rest out status) (whole input fits) answer)
+    (subst (λ i. IsAnswerTo s t (parts_of i).rest out status) (whole input fits) answer)
 
 pub Headline-from_take : (s : Settings) (input out : List ℕ) → Headline s (take 1048577 input) out → Headline s input out
 Headline-from_take (settings.Run config) input out h = λ fits.

@@ -38,5 +38,5 @@ pub PrintsEachRun-from_text : {E : Type 0} (r : Result Answer E) (t : Litmus) (d
     → IfOk r (λ a. PrintsEachRun t depth text (string_bytes a.text))
 PrintsEachRun-from_text (Ok a) t depth text made is only law = λ choices spelled.
     subst (λ cs. (run t depth cs).ended ≡ true → PrintsExecution t depth cs (string_bytes a.text)) (only choices spelled)
-        (prints-one t depth made (string_bytes a.text) is law)
+    (prints-one t depth made (string_bytes a.text) is law)
 PrintsEachRun-from_text (Err e) t depth text made is only law = tt

@@ -29,14 +29,17 @@ input-is most (Some xs) (Some ys) items c l e = rw c (all_or_cut (le-cases (leng
   where
     le-cases : (a b : ℕ) → a ≤ b → (a < b) ⊎ (a ≡ b)
     le-cases a b h = grind arith
+
     take-all : (n : ℕ) (zs : List ℕ) → length zs ≤ n → take n zs ≡ zs
     take-all zero [] h = refl
     take-all zero (z ∷ zs) h = absurd (omega arith)
     take-all (suc n) [] h = refl
     take-all (suc n) (z ∷ zs) h = ap (λ r. z ∷ r) (take-all n zs (omega arith))
+
     take-front : (zs : List ℕ) → take (length zs) (zs ++ ys) ≡ zs
     take-front [] = refl
     take-front (z ∷ zs) = ap (λ r. z ∷ r) (take-front zs)
+
     all_or_cut : (length items < most) ⊎ (length items ≡ most) → items ≡ take most (items ++ ys)
     all_or_cut (inl h) = rw (e h, append-nil items) (sym (take-all most items l))
     all_or_cut (inr h) = rw (← h) (sym (take-front items))

@@ -25,16 +25,16 @@ CoresExist-drop cores (suc n) (c ∷ cs) h = CoresExist-drop cores n cs h.1
 pub ended-run_from : (t : Litmus) (depth : ℕ) (s : State) (cs : List Choice) → (run_from t depth s cs).ended ≡ has_ended t (run_from t depth s cs).state
 ended-run_from t depth s [] = refl
 ended-run_from t depth s (c ∷ cs) = elim (has_ended t s) as (λ b. has_ended t s ≡ b → (run_from t depth s (c ∷ cs)).ended ≡ has_ended t (run_from t depth s (c ∷ cs)).state) [
-    true ↦ λ h. rw (run_from-ended t depth s (c ∷ cs) h) (sym h)
+  | true ↦ λ h. rw (run_from-ended t depth s (c ∷ cs) h) (sym h)
   | false ↦ λ h. rw (run_from-going t depth s c cs h) (ended-run_from t depth (after_choice t depth s c) cs)
-  ] refl
+] refl
 
 pub used-run_from : (t : Litmus) (depth : ℕ) (s : State) (cs : List Choice) → (run_from t depth s cs).used + (run_from t depth s cs).unused ≡ length cs
 used-run_from t depth s [] = refl
 used-run_from t depth s (c ∷ cs) = elim (has_ended t s) as (λ b. has_ended t s ≡ b → (run_from t depth s (c ∷ cs)).used + (run_from t depth s (c ∷ cs)).unused ≡ length (c ∷ cs)) [
-    true ↦ λ h. rw (run_from-ended t depth s (c ∷ cs) h) (omega arith)
+  | true ↦ λ h. rw (run_from-ended t depth s (c ∷ cs) h) (omega arith)
   | false ↦ λ h. rw (run_from-going t depth s c cs h) (let q = used-run_from t depth (after_choice t depth s c) cs in omega arith)
-  ] refl
+] refl
 
 pub chosen-at : (cores : ℕ) (cs : List Choice) (n : ℕ) (d : Choice) → CoresExist cores cs → n < length cs → chosen (slice_index_or cs n d) < cores
 chosen-at cores [] n d h l = absurd (omega arith)

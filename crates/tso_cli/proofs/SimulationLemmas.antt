@@ -1,5 +1,5 @@
 -- From a machine that was driven to the answer of a simulation.
-use Rattle.std.proofs.Common.{◌≡◌, ◌≢◌, ◌<◌, ◌≤◌, ◌-◌, ◌+◌, ◌&&◌, ℕ, zero, suc, Bool, true, false, not, List, [], ◌∷◌, length, map, All, slice_get, slice_index_or, Option, Some, None, is_some, arith, ap, sym, ◌∙◌, refl, subst}
+use Rattle.std.proofs.Common.{◌≡◌, ◌≢◌, ◌<◌, ◌≤◌, ◌-◌, ◌+◌, ◌&&◌, ℕ, zero, suc, Bool, true, false, not, List, [], ◌∷◌, length, map, All, slice_get, slice_index_or, Option, Some, None, is_some, Result, Ok, Err, IfOk, arith, ap, sym, ◌∙◌, refl, subst}
 use Rattle.std.proofs.Common.{append-nil}
 use Rattle.std.specs.Option.{option_map}
 use Rattle.tso_model.specs.Litmus.{Litmus, IsTest}
@@ -16,7 +16,10 @@ use Rattle.tso_laws.specs.Entries.{FitsTest}
 use Rattle.order_builder.specs.PrintedOrder.{HasLocation, IsLocationFor}
 use Rattle.machine_core.specs.Running.{Running, new_machine, is_ended}
 use Rattle.tso_report.specs.Shown.{Shown}
-use Rattle.tso_cli.specs.Simulation.{Drives, shown_of, verdict, registers_in}
+use Rattle.tso_laws.specs.Counting.{instructions, stores}
+use Rattle.tso_cli.specs.declared.simulation.Ending.{Ending}
+use Rattle.tso_cli.specs.declared.simulation.Ending.TheVariants.{Ended, Unfinished}
+use Rattle.tso_cli.specs.Simulation.{Drives, shown_of, verdict, registers_in, IsEndingOf, IsCounted, HasEnded}
 use Rattle.tso_cli.proofs.RunLemmas.{ended-run_from, used-run_from}
 
 -- whether the driven machine has ended is whether the run has
@@ -81,3 +84,18 @@ is_some-verdict t registers memory = is_some-option_map (λ c. truth_of register
     is_some-option_map : (f : Condition → Bool) (c : Option Condition) → is_some (option_map f c) ≡ is_some c
     is_some-option_map f None = refl
     is_some-option_map f (Some c) = refl
+
+pub counted : {E : Type 0} (t : Litmus) (depth : ℕ) (choices : List Choice) (r : Result Ending E)
+    → ((flat.run t depth choices).ended ≡ true → (flat.run t depth choices).used ≡ (flat.run t depth choices).stalled + (instructions t.programs + stores t.programs))
+    → IfOk r (IsEndingOf t (flat.run t depth choices)) → IfOk r (IsCounted t)
+counted t depth choices (Ok (Ended run)) law is =
+    let used = ap (λ s. s.used) is.1 in let stalled = ap (λ s. s.stalled) is.1 in let count = law is.0 in omega arith
+counted t depth choices (Ok (Unfinished used stalled)) law is = tt
+counted t depth choices (Err e) law is = tt
+
+pub ended-by : {E : Type 0} (t : Litmus) (depth : ℕ) (choices : List Choice) (r : Result Ending E)
+    → (flat.run t depth choices).ended ≡ true → IfOk r (IsEndingOf t (flat.run t depth choices)) → IfOk r HasEnded
+ended-by t depth choices (Ok (Ended run)) over is = tt
+ended-by t depth choices (Ok (Unfinished used stalled)) over is =
+    let bad : true ≡ false = sym over ∙ is.0 in cc
+ended-by t depth choices (Err e) over is = tt

@@ -1,11 +1,12 @@
 -- What a simulation answers: the flat machine's run, as a report shows it. (This project's profile.)
-use Rattle.std.specs.Prelude.{ℕ, ◌≡◌, Bool, true, false, List, ◌++◌, map, Option}
+use Rattle.std.specs.Prelude.{ℕ, ◌+◌, ◌≡◌, Bool, true, false, List, ◌++◌, map, Option}
 use Rattle.std.specs.Option.{option_map}
 use Rattle.tso_model.specs.Litmus.{Litmus}
 use Rattle.tso_model.specs.Condition.{truth_of}
 use Rattle.tso_model.specs.FlatMachine.{State}
 use Rattle.tso_model.specs.Runs as flat
 use Rattle.tso_model.specs.declared.choice.Choice.{Choice}
+use Rattle.tso_laws.specs.Counting.{instructions, stores}
 use Rattle.machine_core.specs.Running.{Running}
 use Rattle.tso_report.specs.Shown.{Shown, shown, IsOf}
 use Rattle.tso_cli.specs.declared.simulation.Ending.{Ending}
@@ -49,3 +50,12 @@ pub record Drives (old new : Running) (choices : List Choice) (uses stalls : ℕ
 abbrev pub FitsEnding : Litmus → Ending → Type 0
 FitsEnding t (Ended run) = IsOf t (shown run)
 FitsEnding t (Unfinished used stalled) = Unit {0}
+
+-- in a run that ended, the choices that didn't stall are as many as all instructions and all plain stores together
+abbrev pub IsCounted : Litmus → Ending → Type 0
+IsCounted t (Ended run) = run.used ≡ run.stalled + (instructions t.programs + stores t.programs)
+IsCounted t (Unfinished used stalled) = Unit {0}
+
+abbrev pub HasEnded : Ending → Type 0
+HasEnded (Ended run) = Unit {0}
+HasEnded (Unfinished used stalled) = ⊥

@@ -52,7 +52,10 @@ fn refused_test(alloc: Global, fault: TextFault) -> Result<Answer, NoMemory>
     let line = fault.line;
     let name = fault.why.name();
     let text = format!(in alloc; "Refused test line {line} {name}\n")?;
-    Ok(Answer { text, status: Status::Refused })
+    Ok(Answer {
+        text,
+        status: Status::Refused,
+    })
 }
 
 fn refused_choices(alloc: Global, fault: ChoiceFault) -> Result<Answer, NoMemory>
@@ -62,11 +65,16 @@ fn refused_choices(alloc: Global, fault: ChoiceFault) -> Result<Answer, NoMemory
 {
     let text = match fault {
         ChoiceFault::BadWord(word) => format!(in alloc; "Refused choices word {word} BadWord\n")?,
-        ChoiceFault::NoSuchCore(word) => format!(in alloc; "Refused choices word {word} NoSuchCore\n")?,
+        ChoiceFault::NoSuchCore(word) => format!(in alloc;
+            "Refused choices word {word} NoSuchCore\n"
+        )?,
         ChoiceFault::TooMany(word) => format!(in alloc; "Refused choices word {word} TooMany\n")?,
         ChoiceFault::NoMemory => return Err(NoMemory),
     };
-    Ok(Answer { text, status: Status::Refused })
+    Ok(Answer {
+        text,
+        status: Status::Refused,
+    })
 }
 
 fn refused_input(alloc: Global) -> Result<Answer, NoMemory>
@@ -74,7 +82,10 @@ fn refused_input(alloc: Global) -> Result<Answer, NoMemory>
     ensures status { IfOk result (λ a. a.status ≡ Status.Refused) }
 {
     let text = String::from_str(alloc, "Refused input TooLarge\n")?;
-    Ok(Answer { text, status: Status::Refused })
+    Ok(Answer {
+        text,
+        status: Status::Refused,
+    })
 }
 
 /// The answer to an input: its size is judged first, then the test that is its first part, then the
@@ -95,7 +106,12 @@ pub fn answer_to(alloc: Global, settings: &Settings, input: &[u8]) -> Result<Ans
     }
 }
 
-fn answer_of(alloc: Global, settings: &Settings, test: &Test, text: &[u8]) -> Result<Answer, NoMemory>
+fn answer_of(
+    alloc: Global,
+    settings: &Settings,
+    test: &Test,
+    text: &[u8],
+) -> Result<Answer, NoMemory>
     ensures exact { IfOk result (λ a. IsAnswerTo settings.now test.now text.now (string_bytes a.text) a.status) }
     ensures headline { IfOk result (λ a. HeadlineOf settings.now test.now text.now (string_bytes a.text)) }
 {
@@ -116,7 +132,12 @@ fn run_answer(alloc: Global, test: &Test, config: Config, text: &[u8]) -> Result
     }
 }
 
-fn run_under(alloc: Global, test: &Test, config: Config, choices: &[Choice]) -> Result<Answer, NoMemory>
+fn run_under(
+    alloc: Global,
+    test: &Test,
+    config: Config,
+    choices: &[Choice],
+) -> Result<Answer, NoMemory>
     requires { CoresExist (length test.now.programs) choices.now }
     ensures text { IfOk result (λ a. string_bytes a.text ≡ run_text test.now config.depth (run test.now config.depth choices.now)) }
     ensures status { IfOk result (λ a. a.status ≡ run_status (run test.now config.depth choices.now)) }
@@ -124,7 +145,10 @@ fn run_under(alloc: Global, test: &Test, config: Config, choices: &[Choice]) -> 
     match simulate(alloc, test, config, choices) {
         Ok(Ending::Ended(run)) => {
             let text = report_text(alloc, test, config, &run)?;
-            Ok(Answer { text, status: Status::Good })
+            Ok(Answer {
+                text,
+                status: Status::Good,
+            })
         }
         Ok(Ending::Unfinished { used, stalled }) => unfinished(alloc, used, stalled),
         Err(SimFault::NoMemory) => Err(NoMemory),
@@ -136,5 +160,8 @@ fn unfinished(alloc: Global, used: usize, stalled: usize) -> Result<Answer, NoMe
     ensures status { IfOk result (λ a. a.status ≡ Status.Unended) }
 {
     let text = format!(in alloc; "Unfinished used={used} stalled={stalled}\n")?;
-    Ok(Answer { text, status: Status::Unended })
+    Ok(Answer {
+        text,
+        status: Status::Unended,
+    })
 }

@@ -19,18 +19,28 @@ pub fn parts_of(input: &[u8]) -> Parts<'_>
     for at in 0..input.len() {
         if at_line {
             if let Some(rest) = behind_divider(&input[at..]) {
-                return Parts { test: &input[..at], rest };
+                return Parts {
+                    test: &input[..at],
+                    rest,
+                };
             }
         }
         at_line = input[at] == b'\n';
     }
-    Parts { test: input, rest: &[] }
+    Parts {
+        test: input,
+        rest: &[],
+    }
 }
 
 fn behind_divider(text: &[u8]) -> Option<&[u8]>
     ensures { option_map (λ rest. rest.now) result ≡ words.behind_divider text.now }
 {
-    if text.starts_with(b"====".as_slice()) { behind_end(&text[4..]) } else { None }
+    if text.starts_with(b"====".as_slice()) {
+        behind_end(&text[4..])
+    } else {
+        None
+    }
 }
 
 fn behind_end(text: &[u8]) -> Option<&[u8]>

@@ -1,13 +1,17 @@
-ghost use Rattle.std.specs.Prelude.{◌≡◌, ◌≤◌, false, IfOk, length};
+ghost use Rattle.std.specs.Prelude.{◌≡◌, ◌≤◌, ◌*◌, false, IfOk, length};
 ghost use Rattle.tso_model.specs.Runs.{CoresExist};
 ghost use Rattle.tso_model.specs.Runs as flat;
-ghost use Rattle.tso_cli.specs.Simulation.{IsEndingOf, FitsEnding, Drives, verdict};
+ghost use Rattle.tso_cli.specs.Simulation.{IsEndingOf, FitsEnding, IsCounted, HasEnded, Drives, verdict};
+ghost use Rattle.tso_laws.specs.Rounds.{CanBeCutIntoRounds};
+ghost use Rattle.tso_laws.specs.Counting.{longest};
 
 use machine_core::{Choice, Config, Final, Machine, Outcome};
 use std::alloc::Global;
 use thiserror::Error;
+use tso_laws::{
+    ended_runs_are_executions, fair_rounds_end, runs_are_counted, whole_orders_have_each_entry_once,
+};
 use tso_model::{NoMemory, Test, cond_holds};
-use tso_laws::{ended_runs_are_executions, whole_orders_have_each_entry_once};
 use tso_report::Run;
 
 /// How a list of choices left a test.
@@ -43,6 +47,28 @@ pub fn simulate(
     choices: &[Choice],
 ) -> Result<Ending, SimFault>
     requires { CoresExist (length test.now.programs) choices.now }
+
+    // The answer is the flat machine's run, and a run that ended is one of the test.
+    ensures ending { IfOk result (IsEndingOf test.now (flat.run test.now config.depth choices.now)) }
+    ensures fits { IfOk result (FitsEnding test.now) }
+
+    // An ended run took each instruction once, and drained each plain store once; enough fair rounds end the test.
+    ensures counting { IfOk result (IsCounted test.now) }
+    ensures fair { CanBeCutIntoRounds (length test.now.programs) (2 * longest test.now.programs) choices.now → IfOk result HasEnded }
+{
+    runs_are_counted();
+    fair_rounds_end();
+    let _known = config.depth();
+    run_to_the_end(alloc, test, config, choices)
+}
+
+fn run_to_the_end(
+    alloc: Global,
+    test: &Test,
+    config: Config,
+    choices: &[Choice],
+) -> Result<Ending, SimFault>
+    requires { CoresExist (length test.now.programs) choices.now }
     ensures ending { IfOk result (IsEndingOf test.now (flat.run test.now config.depth choices.now)) }
     ensures fits { IfOk result (FitsEnding test.now) }
 {
@@ -52,7 +78,10 @@ pub fn simulate(
     let mut machine = Machine::new(alloc, test, config)?;
     let progress = drive(&mut machine, choices)?;
     if !machine.is_ended() {
-        return Ok(Ending::Unfinished { used: progress.used, stalled: progress.stalled });
+        return Ok(Ending::Unfinished {
+            used: progress.used,
+            stalled: progress.stalled,
+        });
     }
     let left = machine.finish(alloc)?;
     let holds = verdict_of(test, &left);

@@ -135,6 +135,9 @@ fn write_choices(text: &mut String, run: &Run) -> Result<(), NoMemory>
     ensures { OnOk result (string_bytes text.new ≡ string_bytes text.old ++ choices_line run.now.used run.now.stalled run.now.unused) }
 {
     let (used, stalled, unused) = (run.used, run.stalled, run.unused);
-    write!(text, "Choices used={used} stalled={stalled} unused={unused}\n")?;
+    write!(
+        text,
+        "Choices used={used} stalled={stalled} unused={unused}\n"
+    )?;
     Ok(())
 }

@@ -1,4 +1,4 @@
-use Rattle.std.proofs.Common.{◌≡◌, ◌+◌, take, drop, slice_index, add-one, arith, sym, ◌∙◌}
+use Rattle.std.proofs.Common.{◌+◌, take, drop, slice_index, arith}
 use Rattle.std.proofs.lemmas.Grind.{common_steps}
 use Rattle.axiom_checker.proofs.Finds.{last_counting}
 use Rattle.axiom_checker.proofs.axioms.due_value.Goals as goal

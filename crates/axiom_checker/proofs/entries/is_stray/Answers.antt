@@ -1,7 +1,5 @@
-use Rattle.std.proofs.Common.{◌≡◌, take, arith, refl, inl, sym}
-use Rattle.std.specs.List.{list_any}
+use Rattle.std.proofs.Common.{arith, refl, inl}
 use Rattle.std.proofs.lemmas.Grind.{common_steps}
-use Rattle.axiom_checker.specs.Entries.{same_action}
 use Rattle.axiom_checker.proofs.Finds.{stray_tells, extra_tells}
 use Rattle.axiom_checker.proofs.entries.is_stray.Goals as goal
 

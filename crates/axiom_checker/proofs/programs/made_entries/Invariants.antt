@@ -1,5 +1,4 @@
-use Rattle.std.proofs.Common.{◌≡◌, ◌≤◌, ◌++◌, drop, length}
-use Rattle.tso_model.specs.Litmus.{IsTest}
+use Rattle.std.proofs.Common.{◌≡◌, ◌++◌, drop}
 use Rattle.tso_model.specs.Execution.{made, made_from}
 use Rattle.axiom_checker.proofs.programs.made_entries.Given as goal
 

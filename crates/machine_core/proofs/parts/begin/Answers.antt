@@ -1,4 +1,4 @@
-use Rattle.std.proofs.Common.{◌≡◌, ap, ◌∙◌, subst, length, arith, All}
+use Rattle.std.proofs.Common.{ap, ◌∙◌, subst, length, arith, All}
 use Rattle.machine_core.specs.Kept.{IsCore}
 use Rattle.machine_core.proofs.parts.begin.Goals as goal
 

@@ -1,4 +1,4 @@
-use Rattle.std.proofs.Common.{◌≡◌, ◌+◌, ◌∷◌, [], ap, sym, ◌∙◌, refl, subst, length, length-append, arith, drop, All, ◌++◌, add-one}
+use Rattle.std.proofs.Common.{◌+◌, ◌∷◌, [], ap, sym, ◌∙◌, refl, subst, length, length-append, arith, drop, All, ◌++◌}
 use Rattle.tso_model.specs.FlatMachine.{started}
 use Rattle.machine_core.specs.Cores.{core_states}
 use Rattle.machine_core.specs.Kept.{IsCore}

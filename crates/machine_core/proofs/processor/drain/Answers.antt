@@ -1,4 +1,4 @@
-use Rattle.std.proofs.Common.{◌≡◌, ◌<◌, ap, sym, ◌++◌, append-nil, ◌∙◌, length, drop, slice_set, length-set, subst, All}
+use Rattle.std.proofs.Common.{◌≡◌, ◌<◌, ap, sym, ◌++◌, append-nil, ◌∙◌, length, drop, length-set, subst, All}
 use Rattle.std.proofs.lemmas.List.Elements.{All-drop}
 use Rattle.machine_core.specs.Cores.{core_state}
 use Rattle.machine_core.proofs.CoreLemmas.{drain_of-nothing}
@@ -7,12 +7,12 @@ use Rattle.machine_core.proofs.processor.drain.Goals as goal
 pub returns-in-None-clause-commits : goal.returns-in-None-clause-commits
 returns-in-None-clause-commits c =
     sym (append-nil c.args.commits.now)
-    ∙ ap (λ f. c.args.commits.now ++ f.commits) (sym (drain_of-nothing c.args.core.0 (core_state c.args.core.0 c.args.p.now) c.args.p.now.stores.items (sym c.in-None.ensures)))
+    ∙ ap (λ f. c.args.commits.now ++ f.commits) (sym (drain_of-nothing c.args.core.0 (core_state c.args.core.0 c.args.processor.now) c.args.processor.now.stores.items (sym c.in-None.ensures)))
 
 pub returns-in_ok-note-in-Some-clause-stores : goal.returns-in_ok-note-in-Some-clause-stores
 returns-in_ok-note-in-Some-clause-stores c =
-    let items : c.take_oldest.new.self.items ≡ drop 1 c.args.p.now.stores.items = ap (λ s. s.items) c.take_oldest.ensures.rest in
-    let size = length-set c.args.memory.now c.in-Some.store.loc.0 c.in-Some.store.value in
-    subst (λ n. All (λ s. s.loc.0 < n) c.take_oldest.new.self.items) (sym size)
+    let items : c.take_oldest.new.self.items ≡ drop 1 c.args.processor.now.stores.items = ap (λ s. s.items) c.take_oldest.ensures.rest in
+    λ k d h.
+    rw length-set
     (subst (λ stores. All (λ s. s.loc.0 < length c.args.memory.now) stores) (sym items)
-    (All-drop (λ s. s.loc.0 < length c.args.memory.now) 1 c.args.p.now.stores.items c.requires))
+    (All-drop (λ s. s.loc.0 < length c.args.memory.now) 1 c.args.processor.now.stores.items c.requires) k d h)

@@ -1,8 +1,3 @@
-use Rattle.std.proofs.Common.{◌≡◌, ap, sym, ◌++◌, ◌∙◌, subst}
-use Rattle.tso_model.specs.Thread.{entry}
-use Rattle.tso_model.specs.FlatMachine.{stored}
-use Rattle.tso_model.specs.declared.execution.Kind.TheVariants.{W}
-use Rattle.machine_core.specs.Cores.{core_state, step_by}
 use Rattle.machine_core.proofs.processor.step.Goals as goal
 
 pub returns-in-StoreImm-clause-outcome : goal.returns-in-StoreImm-clause-outcome

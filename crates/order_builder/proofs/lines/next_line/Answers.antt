@@ -1,7 +1,7 @@
 use Rattle.std.proofs.Common.{[], ◌∷◌, length, ap, sym, ◌∙◌, arith, List, ℕ}
 use Rattle.std.proofs.lemmas.Bool.{eqb-true, eqb-false}
 use Rattle.order_builder.specs.Lines.{lines_of}
-use Rattle.order_builder.proofs.LineLemmas.{lines_of-nil, lines_of-parted, lines_of-alone}
+use Rattle.order_builder.proofs.LineLemmas.{lines_of-nil, lines_of-split_once, lines_of-alone}
 use Rattle.order_builder.proofs.lines.next_line.Goals as goal
 
 pub returns-then-is_empty-clause-none : goal.returns-then-is_empty-clause-none
@@ -9,7 +9,7 @@ returns-then-is_empty-clause-none c = lines_of-nil c.args.text.now (eqb-true _ _
 
 pub returns-in-Some-clause-some : goal.returns-in-Some-clause-some
 returns-in-Some-clause-some c =
-    lines_of-parted c.args.text.now c.in-Some.line.now c.in-Some.rest.now c.in-Some.ensures.value ∙ ap (λ (l : List ℕ). l ∷ lines_of c.in-Some.rest.now) (sym c.without_return.ensures)
+    lines_of-split_once c.args.text.now c.in-Some.line.now c.in-Some.rest.now c.in-Some.ensures.value ∙ ap (λ (l : List ℕ). l ∷ lines_of c.in-Some.rest.now) (sym c.without_return.ensures)
 
 pub returns-in-None-clause-some : goal.returns-in-None-clause-some
 returns-in-None-clause-some c =

@@ -8,7 +8,7 @@ pub choose-requires : goal.choose-requires
 choose-requires c =
     let m = c.loop-used.machine in
     let exist : CoresExist (length m.test.programs) c.args.choices.now =
-        subst (λ t. CoresExist (length t.programs) c.args.choices.now) (sym c.loop-used.invariant.test) c.requires.cores in
+    subst (λ t. CoresExist (length t.programs) c.args.choices.now) (sym c.loop-used.invariant.test) c.requires.cores in
     chosen-at (length m.test.programs) c.args.choices.now c.loop-used.used _ exist (omega arith)
 
 pub returns-else-not-is_ended-clause-drives : goal.returns-else-not-is_ended-clause-drives

@@ -18,7 +18,7 @@ invariant-loop-used l =
       state : whole.state ≡ rest.state;
       commits : l.initial.machine.commits ++ whole.commits ≡ l.machine.commits ++ rest.commits;
       used : whole.used ≡ l.used + rest.used;
-      stalled : whole.stalled ≡ l.stalled + rest.stalled
+      stalled : whole.stalled ≡ l.stalled + rest.stalled;
     }
 
 abbrev pub decreases-loop-used : goal.decreases-loop-used

@@ -9,4 +9,4 @@ cond_holds-requires c =
     let cores : length c.args.test.now.programs ≡ length c.deref.result.now = sym (ap length c.deref.ensures.value ∙ c.requires.cores) in
     let locations : length c.args.test.now.locations ≡ length c.deref-in-Some.result.now = sym (ap length c.deref-in-Some.ensures.value ∙ c.requires.locations) in
     subst (λ n. NamesExist n (length c.deref-in-Some.result.now) claim) cores
-        (subst (λ n. NamesExist (length c.args.test.now.programs) n claim) locations fits.names_known)
+    (subst (λ n. NamesExist (length c.args.test.now.programs) n claim) locations fits.names_known)

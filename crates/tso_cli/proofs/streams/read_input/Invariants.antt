@@ -6,7 +6,7 @@ abbrev pub invariant-loop-chunk : goal.invariant-loop-chunk
 invariant-loop-chunk g l = record {
   bytes : Consumes (g.R.Read.remaining l.initial.reader.0) (g.R.Read.remaining l.reader.0) l.input.items;
   size : vec_len l.input ≤ 1048577;
-  faults : l.reader.1 ≡ l.initial.reader.1
+  faults : l.reader.1 ≡ l.initial.reader.1;
 }
 
 abbrev pub decreases-loop-chunk : goal.decreases-loop-chunk

@@ -6,7 +6,7 @@ abbrev pub invariant-loop-at : goal.invariant-loop-at
 invariant-loop-at g l = record {
   within : l.at ≤ length l.bytes;
   bytes : Appends (g.W.Write.contents l.initial.writer.0) (g.W.Write.contents l.writer.0) (take l.at l.bytes);
-  faults : l.writer.1 ≡ l.initial.writer.1
+  faults : l.writer.1 ≡ l.initial.writer.1;
 }
 
 abbrev pub decreases-loop-at : goal.decreases-loop-at

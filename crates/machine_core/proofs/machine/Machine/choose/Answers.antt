@@ -1,4 +1,4 @@
-use Rattle.std.proofs.Common.{◌≡◌, ap, sym, ◌∙◌, ◌++◌, append-nil, Ok}
+use Rattle.std.proofs.Common.{ap, sym, ◌∙◌, ◌++◌, append-nil}
 use Rattle.std.proofs.lemmas.Result.{IfOk-at_ok}
 use Rattle.std.specs.Result.{is_err}
 use Rattle.tso_model.specs.declared.choice.Outcome.TheVariants.{Stalled}
@@ -12,11 +12,11 @@ pub returns-clause-stall : goal.returns-clause-stall
 returns-clause-stall c = λ why h.
     let t = c.self.inside.test.now in
     let parts = c.self.inside.parts in
-    let done : Performs t parts c.perform-outcome.new.m c.args.choice (Stalled why) =
-    IfOk-at_ok (λ o. Performs t parts c.perform-outcome.new.m c.args.choice o) h c.perform-outcome.ensures.ok in
+    let done : Performs t parts c.perform-outcome.new.parts c.args.choice (Stalled why) =
+    IfOk-at_ok (λ o. Performs t parts c.perform-outcome.new.parts c.args.choice o) h c.perform-outcome.ensures.ok in
     let state = done.after ∙ after_choice-stall t parts.config.depth (state_in parts) c.args.choice why (sym done.outcome) in
     let commits = done.commits ∙ ap (λ es. parts.commits ++ es) (effect_of-stall t parts.config.depth (state_in parts) c.args.choice why (sym done.outcome)) ∙ append-nil parts.commits in
     let failed = c.is_err-self-inside.ensures.value ∙ ap (λ r. is_err r) h ∙ sym c.if-self.false in
-    Running-same c.args.self.now t parts.config.depth c.perform-outcome.new.m.config.depth (state_in parts) (state_in c.perform-outcome.new.m)
-    parts.commits c.perform-outcome.new.m.commits c.self.inside.failed c.is_err-self-inside.result
+    Running-same c.args.self.now t parts.config.depth c.perform-outcome.new.parts.config.depth (state_in parts) (state_in c.perform-outcome.new.parts)
+    parts.commits c.perform-outcome.new.parts.commits c.self.inside.failed c.is_err-self-inside.result
     c.self.view_is (ap (λ config. config.depth) c.perform-outcome.ensures.config) state commits failed

@@ -1,4 +1,4 @@
-use Rattle.std.proofs.Common.{◌≡◌, ap, ◌∙◌, map}
+use Rattle.std.proofs.Common.{ap, ◌∙◌, map}
 use Rattle.machine_core.proofs.CoreLemmas.{registers-core_states}
 use Rattle.machine_core.proofs.machine.Machine.finish.Goals as goal
 

@@ -1,7 +1,5 @@
-use Rattle.std.proofs.Common.{◌≡◌, ◌==◌, ◌&&◌, true, ap, ◌∙◌, sym, length, arith}
+use Rattle.std.proofs.Common.{◌≡◌, ◌==◌, true, length, arith}
 use Rattle.std.proofs.lemmas.Bool.Decides.{nat_tests}
-use Rattle.tso_model.specs.Runs.{is_none_pending}
-use Rattle.machine_core.specs.Cores.{store_of}
 use Rattle.machine_core.proofs.CoreLemmas.{is_none_pending-stores}
 use Rattle.machine_core.proofs.processor.Processor.is_done.Goals as goal
 

@@ -1,4 +1,4 @@
-use Rattle.std.proofs.Common.{◌≡◌, ◌<◌, ◌+◌, ◌∙◌, ◌++◌, ◌∷◌, [], length, ap, arith, sym, refl, subst}
+use Rattle.std.proofs.Common.{◌<◌, ◌+◌, ◌∙◌, ◌++◌, ◌∷◌, [], length, ap, arith, sym, refl, subst}
 use Rattle.std.proofs.lemmas.List.{length-map}
 use Rattle.order_builder.specs.Numbers.{entries_in_order}
 use Rattle.order_builder.specs.Kept.{IsKept, lists_in}
