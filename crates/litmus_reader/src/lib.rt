@@ -19,6 +19,8 @@ pub mod operand;
 mod parts;
 pub mod reader;
 pub mod row;
+#[cfg(test)]
+mod tests;
 
 pub use fault::{TextFault, Why};
 pub use reader::read_test;

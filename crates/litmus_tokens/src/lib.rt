@@ -4,14 +4,17 @@
 //! lines; [`line_of`] makes a line of it at the end.
 #![tactic(auto)]
 
-pub mod front;
-pub mod gap;
-pub mod lexing;
-pub mod line;
-pub mod token;
+mod front;
+mod gap;
+mod lexing;
+mod line;
+mod token;
 
 pub use front::{after_symbol, is_symbol, name_at, number_at};
 pub use gap::after_gap;
 pub use lexing::{tokens_of, word};
 pub use line::line_of;
 pub use token::{Lexeme, Stop, Symbol, Token, Tokens};
+
+#[cfg(test)]
+mod tests;
