@@ -1,5 +1,5 @@
 -- The printed text of an order, and of one entry. (This project's profile.)
-use Rattle.std.specs.Prelude.{ℕ, ◌<◌, List, [], ◌∷◌, ◌++◌, length, map, slice_index_or, codes}
+use Rattle.std.specs.Prelude.{ℕ, ◌<◌, ◌^◌, List, [], ◌∷◌, ◌++◌, length, map, slice_index_or, codes}
 use Rattle.std.specs.Fmt.{decimal}
 use Rattle.tso_model.specs.Litmus.{Litmus}
 use Rattle.tso_model.specs.declared.execution.Entry.{Entry}
@@ -49,3 +49,7 @@ IsLocationFor t _ loc = loc < length t.locations
 -- what an entry needs to be printed
 abbrev pub HasLocation : Litmus → Entry → Type 0
 HasLocation t e = IsLocationFor t e.kind e.loc.0
+
+-- the value is one that a location can hold
+abbrev pub HasWord : Entry → Type 0
+HasWord e = e.value < 2 ^ 32

@@ -6,7 +6,7 @@
 //! leading zeros.
 
 ghost use Rattle.std.specs.Prelude.{◌≡◌, ◌++◌, ◌∷◌, [], map, All, IfOk, OnOk, string_bytes};
-ghost use Rattle.order_builder.specs.PrintedOrder.{letters_of, printed_access, printed_entry, printed_end, printed_lines, printed_order, HasLocation};
+ghost use Rattle.order_builder.specs.PrintedOrder.{letters_of, printed_access, printed_entry, printed_end, printed_lines, printed_order, HasLocation, HasWord};
 
 use std::alloc::Global;
 use tso_model::{Entry, Execution, Kind, NoMemory, Test};
@@ -27,14 +27,16 @@ pub fn entry_text(alloc: Global, test: &Test, entry: &Entry) -> Result<String, N
 }
 
 /// The text of an order: the line `Order`, a line for each entry, and the line `Endorder n`, n being
-/// how many entries there are. But for fences, the entries' locations are the test's.
+/// how many entries there are. But for fences, the entries' locations are the test's. That the values
+/// that were printed are words is told along with it, for those who read the text again.
 ///
 /// # Errors
 ///
 /// `NoMemory` where the allocator refused a growth.
 pub fn order_text(alloc: Global, test: &Test, execution: &Execution) -> Result<String, NoMemory>
     requires { All (HasLocation test.now) execution.now.order.items }
-    ensures { IfOk result (λ text. string_bytes text ≡ printed_order test.now execution.now.order.items) }
+    ensures text { IfOk result (λ text. string_bytes text ≡ printed_order test.now execution.now.order.items) }
+    ensures words { OnOk result (All HasWord execution.now.order.items) }
 {
     let order = execution.order.as_slice();
     let mut text = String::new(alloc);
@@ -46,7 +48,8 @@ pub fn order_text(alloc: Global, test: &Test, execution: &Execution) -> Result<S
 
 fn write_entries(text: &mut String, test: &Test, order: &[Entry]) -> Result<(), NoMemory>
     requires { All (HasLocation test.now) order.now }
-    ensures { OnOk result (string_bytes text.new ≡ string_bytes text.old ++ printed_lines (map (printed_entry test.now) order.now)) }
+    ensures text { OnOk result (string_bytes text.new ≡ string_bytes text.old ++ printed_lines (map (printed_entry test.now) order.now)) }
+    ensures words { OnOk result (All HasWord order.now) }
 {
     for entry in order {
         write_entry(text, test, entry)?;
@@ -57,7 +60,8 @@ fn write_entries(text: &mut String, test: &Test, order: &[Entry]) -> Result<(), 
 
 fn write_entry(text: &mut String, test: &Test, entry: &Entry) -> Result<(), NoMemory>
     requires { HasLocation test.now entry.now }
-    ensures { OnOk result (string_bytes text.new ≡ string_bytes text.old ++ printed_entry test.now entry.now) }
+    ensures text { OnOk result (string_bytes text.new ≡ string_bytes text.old ++ printed_entry test.now entry.now) }
+    ensures word { OnOk result (HasWord entry.now) }
 {
     let core = entry.core.0;
     let place = entry.place;
@@ -69,13 +73,14 @@ fn write_entry(text: &mut String, test: &Test, entry: &Entry) -> Result<(), NoMe
 /// Where and what was read or written; of a fence there is nothing to write.
 fn write_access(text: &mut String, test: &Test, entry: &Entry) -> Result<(), NoMemory>
     requires { HasLocation test.now entry.now }
-    ensures { OnOk result (string_bytes text.new ≡ string_bytes text.old ++ printed_access test.now entry.now.kind entry.now.loc.0 entry.now.value) }
+    ensures text { OnOk result (string_bytes text.new ≡ string_bytes text.old ++ printed_access test.now entry.now.kind entry.now.loc.0 entry.now.value) }
+    ensures word { OnOk result (HasWord entry.now) }
 {
+    let value = entry.value;
     match entry.kind {
         Kind::F => Ok(()),
         Kind::R | Kind::W | Kind::LR | Kind::LW => {
             let name = test.location_name(entry.loc);
-            let value = entry.value;
             write!(text, " {name}={value}")?;
             Ok(())
         }

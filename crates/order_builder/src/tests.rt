@@ -108,21 +108,21 @@ fn an_order_is_read_in_the_midst_of_a_report(rt: HostRuntime) -> Result<(), Fail
 fn a_text_without_an_order_has_its_first_fault(rt: HostRuntime) -> Result<(), Fail> {
     let alloc = rt.alloc();
     let test = Test::new(parts(alloc)?).ok_or("a test")?;
-    let report = "Test n6\nMachine msi depth=4 sets=1 ways=2 words=1\nOrder\nP0:1 R x=1\nP0:2 R y=";
+    let report = "Test n6\nMachine flat depth=4\nOrder\nP0:1 R x=1\nP0:2 R y=";
     let bad = [
         (report, OrderFault::BadLine(5)),
         (
-            "Test n6\nMachine msi depth=4\nOrder\nP0:1 R x=1\nP0:2 R y=0\n",
+            "Test n6\nMachine flat depth=4\nOrder\nP0:1 R x=1\nP0:2 R y=0\n",
             OrderFault::BadCount,
         ),
         (
-            "Test n6\nMachine msi depth=4\nP0:1 R x=1\nEndorder 1\n",
+            "Test n6\nMachine flat depth=4\nP0:1 R x=1\nP0:2 R y=0\nP1:0 W y=2\nP1:1 W x=2\nP0:0 W x=1\nEndorder 5\nMemory x=1 y=2\n",
             OrderFault::NoOrder,
         ),
         ("", OrderFault::NoOrder),
         ("Order\r\r\nEndorder 0\n", OrderFault::NoOrder),
         (
-            "Order\nP0:0 W x=1\nP0:0 F\nEndorder 3\n",
+            "Order\nP0:1 R y=0\nP1:1 R x=0\nP0:0 W x=1\nP1:0 W y=1\nEndorder 3\n",
             OrderFault::BadCount,
         ),
         ("Order\n", OrderFault::BadCount),

@@ -1,13 +1,12 @@
 -- From the bytes that were read and written to what the definitions say of the whole input.
-use Rattle.std.proofs.Common.{◌≡◌, ℕ, ◌<◌, ◌≤◌, ◌⊎◌, inl, inr, List, [], ◌∷◌, length, take, Option, Some, None, IfSome, arith, ap, sym, ◌∙◌, refl, subst, length-take, zero, suc}
+use Rattle.std.proofs.Common.{◌≡◌, ℕ, ◌≤◌, List, [], ◌∷◌, length, take, Option, Some, None, IfSome, arith, ap, refl, subst, length-take, zero, suc}
 use Rattle.std.specs.Io.KnownBytes.{Appends}
 use Rattle.tso_cli.specs.Streams.{Writes, WritesBeginning, AppendsBeginning}
 use Rattle.litmus_reader.specs.Spelling.{SpellsTest, IsRefused as IsRefusedTest}
 use Rattle.tso_cli.specs.Parts.{parts_of}
 use Rattle.tso_cli.specs.Answers.{IsAnswer, IsAnswerTo, too_large, refused, answered}
-use Rattle.tso_cli.specs.Headline.{Headline, RunHeadline}
+use Rattle.tso_cli.specs.Headline.{Headline, InputHeadline}
 use Rattle.tso_cli.specs.declared.settings.Settings.{Settings}
-use Rattle.tso_cli.specs.declared.settings.Settings.TheVariants as settings
 use Rattle.tso_cli.specs.declared.answer.Status.{Status}
 
 take-short : (n : ℕ) (xs : List ℕ) → length xs ≤ n → take n xs ≡ xs
@@ -34,9 +33,9 @@ IsAnswer-from_take s input _ _ (answered t out status small spelled answer) =
     (subst (λ i. IsAnswerTo s t (parts_of i).rest out status) (whole input fits) answer)
 
 pub Headline-from_take : (s : Settings) (input out : List ℕ) → Headline s (take 1048577 input) out → Headline s input out
-Headline-from_take (settings.Run config) input out h = λ fits.
+Headline-from_take s input out h = λ fits.
     let same = whole input fits in
-    subst (λ i. RunHeadline config.depth i out) same (h (rw same fits))
+    subst (λ i. InputHeadline s i out) same (h (rw same fits))
 
 pub known-written : (old a b : Option (List ℕ)) (bytes items : List ℕ) (P : List ℕ → List ℕ → Type 0) → Appends a b bytes
     → IfSome old (λ input. items ≡ take 1048577 input) → ((input : List ℕ) → items ≡ take 1048577 input → P input bytes)

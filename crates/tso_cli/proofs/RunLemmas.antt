@@ -1,8 +1,8 @@
 -- One more choice of a run, and where a run stops.
-use Rattle.std.proofs.Common.{◌≡◌, ◌<◌, ◌+◌, ℕ, suc, zero, true, false, Bool, List, [], ◌∷◌, ◌++◌, length, drop, slice_index_or, append_assoc, arith, refl, ap, sym, ◌∙◌, cond, add-one, drop-cons}
+use Rattle.std.proofs.Common.{◌≡◌, ◌<◌, ◌+◌, ℕ, suc, zero, true, false, List, [], ◌∷◌, length, drop, slice_index_or, arith, refl, sym, add-one, drop-cons}
 use Rattle.tso_model.specs.Litmus.{Litmus}
 use Rattle.tso_model.specs.FlatMachine.{State, effect_of, after_choice, chosen}
-use Rattle.tso_model.specs.Runs.{Run, run_from, has_ended, then_run, resting, CoresExist}
+use Rattle.tso_model.specs.Runs.{run_from, has_ended, then_run, resting, CoresExist}
 use Rattle.tso_model.specs.declared.choice.Choice.{Choice}
 
 pub run_from-going : (t : Litmus) (depth : ℕ) (s : State) (c : Choice) (cs : List Choice) → has_ended t s ≡ false

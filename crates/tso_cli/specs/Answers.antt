@@ -1,16 +1,23 @@
 -- The answer to an input: what is written, and the status. (This project's profile.)
-use Rattle.std.specs.Prelude.{ℕ, ◌<◌, ◌≤◌, ◌≡◌, if◌then◌else◌, List, length}
+use Rattle.std.specs.Prelude.{ℕ, ◌<◌, ◌≤◌, if◌then◌else◌, List, length}
 use Rattle.tso_model.specs.Litmus.{Litmus}
+use Rattle.tso_model.specs.Execution.{IsTsoExecution}
 use Rattle.tso_model.specs.Runs as flat
+use Rattle.tso_model.specs.declared.execution.Entry.{Entry}
 use Rattle.tso_model.specs.declared.choice.Choice.{Choice}
 use Rattle.litmus_reader.specs.Spelling.{SpellsTest, IsRefused as IsRefusedTest}
 use Rattle.litmus_reader.specs.declared.fault.TextFault.{TextFault}
 use Rattle.scheduler.specs.Grammar.{SpellsChoices}
 use Rattle.scheduler.specs.Refusals.{IsRefused as AreRefusedChoices}
 use Rattle.scheduler.specs.declared.fault.ChoiceFault.{ChoiceFault}
+use Rattle.order_builder.specs.Spelling.{SpellsOrder, HasFault}
+use Rattle.order_builder.specs.declared.fault.OrderFault.{OrderFault}
+use Rattle.axiom_checker.specs.FirstBreach.{IsFirstBreach}
+use Rattle.axiom_checker.specs.declared.breach.Breach.{Breach}
 use Rattle.tso_report.specs.Report.{report}
 use Rattle.tso_cli.specs.Parts.{parts_of}
 use Rattle.tso_cli.specs.Lines.{input_refusal, test_refusal, choices_refusal, unfinished_line}
+use Rattle.tso_cli.specs.CheckLines.{order_refusal, valid_line, invalid_line}
 use Rattle.tso_cli.specs.Simulation.{shown_of}
 use Rattle.tso_cli.specs.declared.settings.Settings.{Settings}
 use Rattle.tso_cli.specs.declared.settings.Settings.TheVariants as settings
@@ -31,9 +38,21 @@ pub data IsRunAnswer (t : Litmus) (depth : ℕ) (text : List ℕ) : List ℕ →
   ran : (choices : List Choice) → SpellsChoices (length t.programs) text choices
       → IsRunAnswer t depth text (run_text t depth (flat.run t depth choices)) (run_status (flat.run t depth choices))
 
+-- the answer of `check` to a test and an order of it
+pub data IsJudgement (t : Litmus) (order : List Entry) : List ℕ → Status → Type 0 where
+  valid : IsTsoExecution t order → IsJudgement t order valid_line Good
+  invalid : (breach : Breach) → IsFirstBreach t order breach → IsJudgement t order (invalid_line t breach) Invalid
+
+-- the answer of `check` to a test and the text of an order
+pub data IsCheckAnswer (t : Litmus) (text : List ℕ) : List ℕ → Status → Type 0 where
+  refused : (fault : OrderFault) → HasFault t text fault → IsCheckAnswer t text (order_refusal fault) Refused
+  judged : (order : List Entry) (out : List ℕ) (status : Status) → SpellsOrder t text order → IsJudgement t order out status
+      → IsCheckAnswer t text out status
+
 -- the answer to a test and the second part of its input
 abbrev pub IsAnswerTo : Settings → Litmus → List ℕ → List ℕ → Status → Type 0
 IsAnswerTo (settings.Run config) t text out status = IsRunAnswer t config.depth text out status
+IsAnswerTo settings.Check t text out status = IsCheckAnswer t text out status
 
 -- the answer to an input: its size is judged first, then its first part, then the second
 pub data IsAnswer (s : Settings) (input : List ℕ) : List ℕ → Status → Type 0 where

@@ -1,25 +1,31 @@
 -- The headline: what is printed is a TSO execution of the test, with what it leaves; every other text is refused.
 -- (Primer, chapter 4, for the axioms; x86-TSO, section 3, for fences and locked instructions.)
-use Rattle.std.specs.Prelude.{ℕ, ◌≤◌, ◌≡◌, true, Bool, List, length, Option}
+use Rattle.std.specs.Prelude.{ℕ, ◌≤◌, ◌≡◌, ◌↔◌, true, List, length}
 use Rattle.tso_model.specs.Litmus.{Litmus}
-use Rattle.tso_model.specs.Execution.{IsWhole, KeepsProgramOrder, KeepsPairs, HasReadValues}
+use Rattle.tso_model.specs.Execution.{IsWhole, KeepsProgramOrder, KeepsPairs, HasReadValues, IsTsoExecution}
 use Rattle.tso_model.specs.FinalState.{final_words, final_registers}
 use Rattle.tso_model.specs.Runs.{run}
 use Rattle.tso_model.specs.declared.choice.Choice.{Choice}
+use Rattle.tso_model.specs.declared.execution.Entry.{Entry}
 use Rattle.litmus_reader.specs.Spelling.{SpellsTest, IsRefused as IsRefusedTest}
 use Rattle.litmus_reader.specs.declared.fault.TextFault.{TextFault}
 use Rattle.scheduler.specs.Grammar.{SpellsChoices}
+use Rattle.order_builder.specs.Spelling.{SpellsOrder}
+use Rattle.axiom_checker.specs.FirstBreach.{IsFirstBreach}
+use Rattle.axiom_checker.specs.declared.breach.Breach.{Breach}
 use Rattle.tso_report.specs.Shown.{Shown}
 use Rattle.tso_report.specs.Report.{report}
 use Rattle.tso_cli.specs.Parts.{parts_of}
 use Rattle.tso_cli.specs.Lines.{test_refusal}
+use Rattle.tso_cli.specs.CheckLines.{valid_line, invalid_line}
 use Rattle.tso_cli.specs.Simulation.{verdict}
 use Rattle.tso_cli.specs.declared.settings.Settings.{Settings}
 use Rattle.tso_cli.specs.declared.settings.Settings.TheVariants as settings
 
 -- what was printed is the report of a run of the test: its order holds each memory action of the programs exactly
 -- once and meets every TSO axiom; its registers and memory are what the programs and that order give, and its verdict
--- is the condition's truth in them; and its order is what the machine committed under these very choices
+-- is the condition's truth in them; its order is what the machine committed under these very choices; and it can be
+-- read again, as the text of that order
 pub record PrintsExecution (t : Litmus) (depth : ℕ) (choices : List Choice) (out : List ℕ) : Type 0 where
   pub shown : Shown
   pub printed : out ≡ report t depth shown
@@ -31,6 +37,7 @@ pub record PrintsExecution (t : Litmus) (depth : ℕ) (choices : List Choice) (o
   pub memory : shown.memory ≡ final_words t shown.order
   pub condition : shown.holds ≡ verdict t shown.registers shown.memory
   pub under_choices : shown.order ≡ (run t depth choices).commits
+  pub spelled : SpellsOrder t out shown.order
 
 -- for every list of choices that the text spells and that ends the test, an execution is printed
 abbrev pub PrintsEachRun : Litmus → ℕ → List ℕ → List ℕ → Type 0
@@ -38,16 +45,26 @@ PrintsEachRun t depth text out =
     (choices : List Choice) → SpellsChoices (length t.programs) text choices → (run t depth choices).ended ≡ true
     → PrintsExecution t depth choices out
 
+-- what is written of an order is `Check valid` exactly where it is a TSO execution of the test, else its first breach
+pub record JudgesOrder (t : Litmus) (order : List Entry) (out : List ℕ) : Type 0 where
+  pub valid : out ≡ valid_line ↔ IsTsoExecution t order
+  pub breach : (b : Breach) → IsFirstBreach t order b → out ≡ invalid_line t b
+
+-- for every order that the text spells
+abbrev pub JudgesEachOrder : Litmus → List ℕ → List ℕ → Type 0
+JudgesEachOrder t text out = (order : List Entry) → SpellsOrder t text order → JudgesOrder t order out
+
+-- what the headline says of a test and the second part of its input
+abbrev pub HeadlineOf : Settings → Litmus → List ℕ → List ℕ → Type 0
+HeadlineOf (settings.Run config) t text out = PrintsEachRun t config.depth text out
+HeadlineOf settings.Check t text out = JudgesEachOrder t text out
+
 -- this is so for every test text; every other text is refused with its line
-pub record RunHeadline (depth : ℕ) (input out : List ℕ) : Type 0 where
-  pub every_test : (t : Litmus) → SpellsTest (parts_of input).test t → PrintsEachRun t depth (parts_of input).rest out
+pub record InputHeadline (s : Settings) (input out : List ℕ) : Type 0 where
+  pub every_test : (t : Litmus) → SpellsTest (parts_of input).test t → HeadlineOf s t (parts_of input).rest out
   pub every_other : ((t : Litmus) → ¬ (SpellsTest (parts_of input).test t))
       → (fault : TextFault) × IsRefusedTest (parts_of input).test fault × (out ≡ test_refusal fault)
 
 -- of an input within its size
 abbrev pub Headline : Settings → List ℕ → List ℕ → Type 0
-Headline (settings.Run config) input out = length input ≤ 1048576 → RunHeadline config.depth input out
-
--- what the headline says of a test and the second part of its input
-abbrev pub HeadlineOf : Settings → Litmus → List ℕ → List ℕ → Type 0
-HeadlineOf (settings.Run config) t text out = PrintsEachRun t config.depth text out
+Headline s input out = length input ≤ 1048576 → InputHeadline s input out

@@ -1,5 +1,5 @@
 -- The lines that are written where no report is. (This project's profile.)
-use Rattle.std.specs.Prelude.{ℕ, List, [], ◌∷◌, ◌++◌, codes}
+use Rattle.std.specs.Prelude.{ℕ, List, [], ◌++◌, codes}
 use Rattle.std.specs.Fmt.{decimal}
 use Rattle.tso_report.specs.Report.{line}
 use Rattle.litmus_reader.specs.Why.{name_of}

@@ -1,5 +1,5 @@
 -- The two parts of an input: before and behind the first line that is `====`. (This project's profile.)
-use Rattle.std.specs.Prelude.{ℕ, ◌==◌, Bool, true, false, if◌then◌else◌, List, [], ◌∷◌, drop, Option, Some, None, nat_eq, codes}
+use Rattle.std.specs.Prelude.{ℕ, ◌==◌, Bool, true, if◌then◌else◌, List, [], ◌∷◌, drop, Option, Some, None, nat_eq, codes}
 use Rattle.std.specs.List.{starts_with}
 
 -- what is behind a line feed

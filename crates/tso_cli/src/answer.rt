@@ -3,12 +3,14 @@ ghost use Rattle.tso_model.specs.Runs.{run, CoresExist};
 ghost use Rattle.tso_model.specs.Litmus.{IsTest};
 ghost use Rattle.tso_model.specs.declared.choice.Choice.{Choice};
 ghost use Rattle.scheduler.specs.Grammar.{SpellsChoices};
+ghost use Rattle.order_builder.specs.Spelling.{SpellsOrder};
 ghost use Rattle.tso_report.specs.Report.{report};
 ghost use Rattle.tso_cli.specs.Answers.{run_text, run_status, IsRunAnswer, IsAnswerTo, IsAnswer};
 ghost use Rattle.tso_cli.specs.Headline.{PrintsEachRun, HeadlineOf, Headline};
 ghost use Rattle.tso_cli.specs.Lines.{test_refusal, choices_refusal, unfinished_line, input_refusal};
 ghost use Rattle.tso_cli.specs.Simulation.{shown_of};
 
+use crate::checking::check_answer;
 use crate::parts::parts_of;
 use crate::settings::Settings;
 use crate::simulation::{Ending, SimFault, simulate};
@@ -17,8 +19,9 @@ use litmus_reader::{TextFault, Why, read_test};
 use machine_core::{Choice, Config};
 use scheduler::{ChoiceFault, read_choices, spelled_cores_exist};
 use std::alloc::Global;
-use tso_laws::ended_runs_are_executions;
+use tso_laws::{ended_runs_are_executions, whole_orders_have_each_entry_once};
 use tso_model::{NoMemory, Test};
+use tso_report::laws::report_spells_its_order;
 use tso_report::report_text;
 
 /// How a command ended.
@@ -117,6 +120,7 @@ fn answer_of(
 {
     match settings {
         Settings::Run { config } => run_answer(alloc, test, *config, text),
+        Settings::Check => check_answer(alloc, test, text),
     }
 }
 
@@ -141,7 +145,13 @@ fn run_under(
     requires { CoresExist (length test.now.programs) choices.now }
     ensures text { IfOk result (λ a. string_bytes a.text ≡ run_text test.now config.depth (run test.now config.depth choices.now)) }
     ensures status { IfOk result (λ a. a.status ≡ run_status (run test.now config.depth choices.now)) }
+    ensures spelled { (run test.now config.depth choices.now).ended ≡ true → IfOk result (λ a. SpellsOrder test.now (string_bytes a.text) (run test.now config.depth choices.now).commits) }
 {
+    ended_runs_are_executions();
+    whole_orders_have_each_entry_once();
+    report_spells_its_order();
+    let _cores = test.cores();
+    let _depth = config.depth();
     match simulate(alloc, test, config, choices) {
         Ok(Ending::Ended(run)) => {
             let text = report_text(alloc, test, config, &run)?;

@@ -2,8 +2,10 @@
 #![tactic(auto)]
 
 pub mod answer;
+mod checking;
 pub mod command;
 pub mod counted;
+pub mod laws;
 pub mod parts;
 pub mod settings;
 pub mod simulation;

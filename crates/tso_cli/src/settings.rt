@@ -11,6 +11,8 @@ use thiserror::Error;
 pub enum Settings {
     /// Run a test under choices, on a machine of this configuration.
     Run { config: Config },
+    /// Check an order of a test against the axioms.
+    Check,
 }
 
 /// Why a command line is refused.
@@ -43,10 +45,12 @@ fn command_line<'a>(alloc: Global) -> Result<Command<'a>, clap::Error> {
     let run = Command::new(alloc, "run")
         .about("Runs a test under a list of choices")
         .arg(depth_option(alloc))?;
+    let check = Command::new(alloc, "check").about("Checks an order of a test against the axioms");
     let command = Command::new(alloc, "tso")
         .about("Runs x86 litmus tests on a simulated multiprocessor under total store order")
         .subcommand_required(true)
-        .subcommand(run)?;
+        .subcommand(run)?
+        .subcommand(check)?;
     Ok(command)
 }
 
@@ -64,6 +68,7 @@ fn settings_in(name: &str, matches: &ArgMatches<'_>) -> Option<Settings>
 {
     match name {
         "run" => run_settings(matches),
+        "check" => Some(Settings::Check),
         _ => None,
     }
 }

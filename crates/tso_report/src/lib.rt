@@ -1,6 +1,7 @@
 //! What is printed of a run.
 #![tactic(auto)]
 
+pub mod laws;
 pub mod report;
 pub mod run;
 

@@ -1,4 +1,5 @@
-ghost use Rattle.std.specs.Prelude.{◌≡◌, ◌++◌, ◌∷◌, [], IfOk, OnOk, string_bytes, length, slice_index_or, Option, is_some};
+ghost use Rattle.std.specs.Prelude.{◌≡◌, ◌++◌, ◌∷◌, [], IfOk, OnOk, string_bytes, length, slice_index_or, Option, is_some, All};
+ghost use Rattle.order_builder.specs.PrintedOrder.{HasWord};
 ghost use Rattle.tso_report.specs.Shown.{shown, IsOf};
 ghost use Rattle.tso_report.specs.Report.{report, line, test_line, machine_line, printed_register, printed_registers, all_registers, register_line, register_lines, printed_words, memory_line, printed_verdict, condition_line, choices_line, printed_quantifier, printed_truth};
 
@@ -9,7 +10,8 @@ use std::alloc::Global;
 use tso_model::{Loc, NoMemory, Quantifier, Reg, Test};
 
 /// The report of a run: the test, the machine, the order in which memory saw the run, the final
-/// state, the verdict and the counts of choices, each on lines of its own.
+/// state, the verdict and the counts of choices, each on lines of its own. That the values of the
+/// order are words is told along with it, for those who read the text again.
 ///
 /// Fails only for want of memory.
 pub fn report_text(
@@ -19,7 +21,8 @@ pub fn report_text(
     run: &Run,
 ) -> Result<String, NoMemory>
     requires { IsOf test.now (shown run.now) }
-    ensures { IfOk result (λ text. string_bytes text ≡ report test.now config.depth (shown run.now)) }
+    ensures text { IfOk result (λ text. string_bytes text ≡ report test.now config.depth (shown run.now)) }
+    ensures words { OnOk result (All HasWord run.now.execution.order.items) }
 {
     let mut text = String::new(alloc);
     write_test(&mut text, test)?;

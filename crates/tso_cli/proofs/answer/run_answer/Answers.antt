@@ -29,5 +29,6 @@ returns-in-Ok-clause-headline c =
     let depth = c.args.config.depth in
     PrintsEachRun-from_text c.run_under.result t depth c.args.text.now c.in-Ok.choices.items
     (rw c.deref.ensures.value at c.run_under.ensures.text)
+    (rw c.deref.ensures.value at c.run_under.ensures.spelled)
     (rw c.cores.ensures.value at c.in-Ok.ensures.only)
     (c.ended_runs_are_executions.ensures t depth c.in-Ok.choices.items c.cores.ensures.test)

@@ -1,6 +1,5 @@
-use Rattle.std.proofs.Common.{arith, ◌≡◌, ◌<◌, ◌++◌, ℕ, length, drop, true, false, sym, subst, ◌∙◌, ap, append-nil}
-use Rattle.tso_model.specs.FlatMachine.{chosen}
-use Rattle.tso_model.specs.Runs.{run_from, has_ended, CoresExist}
+use Rattle.std.proofs.Common.{arith, ◌≡◌, ◌++◌, length, drop, true, sym, subst, ◌∙◌, ap, append-nil}
+use Rattle.tso_model.specs.Runs.{has_ended, CoresExist}
 use Rattle.tso_cli.proofs.RunLemmas.{chosen-at, run_from-ended}
 use Rattle.tso_cli.proofs.simulation.drive.Goals as goal
 

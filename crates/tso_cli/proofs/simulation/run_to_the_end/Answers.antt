@@ -1,8 +1,6 @@
-use Rattle.std.proofs.Common.{arith, ◌≡◌, ◌<◌, true, false, sym, subst, ap, ◌∙◌, refl, length, is_some}
+use Rattle.std.proofs.Common.{arith, ◌≡◌, true, false, sym, subst, ap, ◌∙◌, refl, length, is_some}
 use Rattle.tso_model.specs.Runs as flat
 use Rattle.tso_model.specs.Execution.{IsWhole}
-use Rattle.machine_core.specs.Running.{is_ended}
-use Rattle.tso_report.specs.Shown.{IsOf}
 use Rattle.tso_laws.specs.EndedRuns.{IsExecution}
 use Rattle.tso_cli.proofs.SimulationLemmas.{unfinished-is, ended-is, locations-known, is_some-verdict}
 use Rattle.tso_cli.proofs.simulation.run_to_the_end.Goals as goal

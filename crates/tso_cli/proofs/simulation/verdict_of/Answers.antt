@@ -1,4 +1,4 @@
-use Rattle.std.proofs.Common.{arith, ◌≡◌, length, sym, subst, ◌∙◌, ap}
+use Rattle.std.proofs.Common.{◌≡◌, length, sym, subst, ◌∙◌, ap}
 use Rattle.tso_model.specs.Condition.{NamesExist, claim_of, condition_of}
 use Rattle.tso_cli.proofs.simulation.verdict_of.Goals as goal
 

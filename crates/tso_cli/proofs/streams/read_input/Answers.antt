@@ -1,4 +1,4 @@
-use Rattle.std.proofs.Common.{◌≡◌, arith, length-append, length-take, ℕ, length, ◌++◌, take}
+use Rattle.std.proofs.Common.{arith, length-append, length-take, ℕ, ◌++◌, take}
 use Rattle.tso_cli.proofs.KnownLemmas.{consumes-more}
 use Rattle.tso_cli.proofs.streams.read_input.Goals as goal
 

@@ -1,5 +1,4 @@
-use Rattle.std.proofs.Common.{◌≡◌, arith, ◌<◌, ◌≤◌, length-drop, length-take, length, drop, ◌-◌, ◌∙◌}
-use Rattle.std.proofs.lemmas.Bool.Decides.{nat_tests}
+use Rattle.std.proofs.Common.{arith, length-drop, length-take, length, drop, ◌-◌, ◌∙◌}
 use Rattle.tso_cli.proofs.KnownLemmas.{appends-more, take-piece, not-zero}
 use Rattle.tso_cli.proofs.streams.write_output.Goals as goal
 

@@ -1,0 +1,153 @@
+-- What `check` answers, and what that means.
+use Rattle.std.proofs.Common.{◌≡◌, ◌≢◌, ℕ, ◌<◌, ◌≤◌, ◌^◌, List, [], length, get_or, Some, slice_get, slice_index_or, All, Result, Ok, Err, IfOk, string_bytes, refl, sym, ap, subst, arith}
+use Rattle.std.proofs.lemmas.Option.{get_or_from_slice_get, slice_get-get_or, slice_get_within}
+use Rattle.tso_model.specs.Litmus.{Litmus, IsTest}
+use Rattle.tso_model.specs.Execution.{made, StandsIn, IsWhole, IsTsoExecution}
+use Rattle.tso_model.specs.Runs as flat
+use Rattle.tso_model.specs.FlatMachine.{program_of}
+use Rattle.tso_model.specs.declared.choice.Choice.{Choice}
+use Rattle.tso_model.specs.declared.execution.Entry.{Entry}
+use Rattle.tso_model.specs.declared.execution.Kind.{Kind}
+use Rattle.tso_model.specs.declared.execution.Kind.TheVariants.{R, W, F, LR, LW}
+use Rattle.tso_laws.specs.Entries.{FitsTest}
+use Rattle.tso_laws.specs.EndedRuns.{IsExecution}
+use Rattle.order_builder.specs.PrintedOrder.{HasLocation, HasWord, IsLocationFor}
+use Rattle.order_builder.specs.Spelling.{HasAccess, IsEntryFor, IsOrderFor, SpellsOrder, HasFault}
+use Rattle.order_builder.specs.declared.fault.OrderFault.{OrderFault}
+use Rattle.axiom_checker.specs.FirstBreach.{IsFirstBreach}
+use Rattle.axiom_checker.specs.declared.breach.Breach.{Breach}
+use Rattle.axiom_checker.specs.declared.breach.Breach.TheVariants.{Extra, Twice, Missing, WrongValue, ProgramOrder, NotAdjacent, ReadValue, NoMemory}
+use Rattle.tso_report.specs.Report.{report}
+use Rattle.tso_report.specs.Shown.{Shown}
+use Rattle.tso_cli.specs.Simulation.{shown_of}
+use Rattle.tso_cli.specs.Answers.{IsCheckAnswer, IsJudgement, refused, judged, valid, invalid}
+use Rattle.tso_cli.specs.CheckLines.{valid_line, invalid_line, CanBeNamed}
+use Rattle.tso_cli.specs.Headline.{JudgesOrder, JudgesEachOrder, PrintsExecution}
+use Rattle.tso_cli.specs.declared.answer.Answer.{Answer}
+use Rattle.tso_cli.specs.declared.answer.Status.{Status}
+use Rattle.tso_cli.specs.declared.answer.Status.TheVariants.{Good}
+
+-- ---- what a breach names can be printed
+
+in-order : (t : Litmus) (order : List Entry) (at : ℕ) (x : Entry) → All (HasLocation t) order → slice_get order at ≡ Some x → HasLocation t x
+in-order t order at x all stands =
+    subst (HasLocation t) (get_or_from_slice_get order at x x stands) (all at x (slice_get_within order at x stands))
+
+location : (t : Litmus) (kind : Kind) (loc : ℕ) → (kind ≢ F → loc < length t.locations) → IsLocationFor t kind loc
+location t R loc known = known (λ e. absurd cc)
+location t W loc known = known (λ e. absurd cc)
+location t F loc known = tt
+location t LR loc known = known (λ e. absurd cc)
+location t LW loc known = known (λ e. absurd cc)
+
+pub named : (t : Litmus) (order : List Entry) (b : Breach) → ((e : Entry) → StandsIn (made t order) e → FitsTest t e)
+    → All (HasLocation t) order → (b ≢ NoMemory → IsFirstBreach t order b) → CanBeNamed t b
+named t order (Extra x) fits all is = let first = (is (λ e. absurd cc)).1 in in-order t order first.0 x all first.1.stands
+named t order (Twice x) fits all is = let first = (is (λ e. absurd cc)).1 in in-order t order first.0 x all first.1.stands
+named t order (Missing core place kind loc) fits all is =
+    let first = (is (λ e. absurd cc)).1 in
+    location t kind loc.0 (fits _ (first.0, first.2.stands)).location
+named t order (WrongValue x due) fits all is = let first = (is (λ e. absurd cc)).2 in in-order t order first.0 x all first.1.stands
+named t order (ProgramOrder x y) fits all is =
+    let both = (is (λ e. absurd cc)).1 in
+    (in-order t order both.0 x all both.2.stands, in-order t order both.1 y all both.3.stands)
+named t order (NotAdjacent x) fits all is = let first = (is (λ e. absurd cc)).2 in in-order t order first.0 x all first.1.stands
+named t order (ReadValue x due) fits all is = let first = (is (λ e. absurd cc)).3 in in-order t order first.0 x all first.1.stands
+named t order NoMemory fits all is = tt
+
+-- ---- what an answer means
+
+lines_differ : (t : Litmus) (b : Breach) → invalid_line t b ≢ valid_line
+lines_differ t b same = let letters : 105 ≡ 118 = ap (λ (l : List ℕ). get_or l 6 0) same in omega (arith, letters)
+
+-- the laws of first breaches and of spelling, as this file uses them
+abbrev pub IsReal : Type 0
+IsReal = (t : Litmus) (order : List Entry) (b : Breach) → IsFirstBreach t order b → ¬ IsTsoExecution t order
+
+abbrev pub IsOne : Type 0
+IsOne = (t : Litmus) (order : List Entry) (b c : Breach) → IsFirstBreach t order b → IsFirstBreach t order c → b ≡ c
+
+abbrev pub IsOnce : Type 0
+IsOnce = (t : Litmus) (text : List ℕ) (order other : List Entry) → IsTest t → length text < 2 ^ 64
+    → SpellsOrder t text order → SpellsOrder t text other → order ≡ other
+
+abbrev pub IsNeverBoth : Type 0
+IsNeverBoth = (t : Litmus) (text : List ℕ) (order : List Entry) (fault : OrderFault) → IsTest t → length text < 2 ^ 64
+    → SpellsOrder t text order → HasFault t text fault → ⊥
+
+judgement-means : (t : Litmus) (order : List Entry) (out : List ℕ) (status : Status) → IsReal → IsOne
+    → IsJudgement t order out status → JudgesOrder t order out
+judgement-means t order _ _ real one (valid is) = record {
+  valid = (λ _. is, λ _. refl);
+  breach = λ b first. absurd (real t order b first is);
+}
+judgement-means t order _ _ real one (invalid b first) = record {
+  valid = (λ same. absurd (lines_differ t b same), λ is. absurd (real t order b first is));
+  breach = λ c other. ap (invalid_line t) (one t order b c first other);
+}
+
+pub check-means : (t : Litmus) (text out : List ℕ) (status : Status) → IsReal → IsOne → IsOnce → IsNeverBoth → IsTest t → length text < 2 ^ 64
+    → IsCheckAnswer t text out status → JudgesEachOrder t text out
+check-means t text _ _ real one once never test short (refused fault has) = λ order spelled. absurd (never t text order fault test short spelled has)
+check-means t text _ _ real one once never test short (judged order out status spelled is) = λ other again.
+    subst (λ o. JudgesOrder t o out) (once t text order other test short spelled again) (judgement-means t order out status real one is)
+
+valid-judgement : (t : Litmus) (order : List Entry) (out : List ℕ) (status : Status) → IsReal → IsTsoExecution t order
+    → IsJudgement t order out status → (out ≡ valid_line) × (status ≡ Good)
+valid-judgement t order _ _ real execution (valid is) = (refl, refl)
+valid-judgement t order _ _ real execution (invalid b first) = absurd (real t order b first execution)
+
+valid-answer : (t : Litmus) (text : List ℕ) (order : List Entry) (out : List ℕ) (status : Status) → IsReal → IsOnce → IsNeverBoth → IsTest t
+    → length text < 2 ^ 64 → SpellsOrder t text order → IsTsoExecution t order → IsCheckAnswer t text out status
+    → (out ≡ valid_line) × (status ≡ Good)
+valid-answer t text order _ _ real once never test short spelled execution (refused fault has) = absurd (never t text order fault test short spelled has)
+valid-answer t text order _ _ real once never test short spelled execution (judged other out status again is) =
+    valid-judgement t other out status real (subst (IsTsoExecution t) (once t text order other test short spelled again) execution) is
+
+pub printed-is-valid : (t : Litmus) (depth : ℕ) (choices : List Choice) (out answer : List ℕ) (status : Status) → IsReal → IsOnce → IsNeverBoth → IsTest t
+    → length out < 2 ^ 64 → PrintsExecution t depth choices out → IsCheckAnswer t out answer status → (answer ≡ valid_line) × (status ≡ Good)
+printed-is-valid t depth choices out answer status real once never test short prints is =
+    valid-answer t out prints.shown.order answer status real once never test short prints.spelled
+    (record { whole = prints.exactly_once; program_order = prints.program_order; pairs = prints.adjacent; read_values = prints.read_values }) is
+
+pub answer-means-judged : {E : Type 0} (r : Result Answer E) (t : Litmus) (text : List ℕ) → IsReal → IsOne → IsOnce → IsNeverBoth → IsTest t → length text < 2 ^ 64
+    → IfOk r (λ a. IsCheckAnswer t text (string_bytes a.text) a.status) → IfOk r (λ a. JudgesEachOrder t text (string_bytes a.text))
+answer-means-judged (Ok a) t text real one once never test short is = check-means t text (string_bytes a.text) a.status real one once never test short is
+answer-means-judged (Err e) t text real one once never test short is = tt
+
+-- ---- the order of an ended run has all that the text of an order needs
+
+access : (t : Litmus) (kind : Kind) (loc value : ℕ) → (kind ≢ F → loc < length t.locations) → (kind ≡ F → (loc ≡ 0) × (value ≡ 0)) → value < 2 ^ 32
+    → HasAccess t kind loc value
+access t R loc value known fence word = (known (λ e. absurd cc), word)
+access t W loc value known fence word = (known (λ e. absurd cc), word)
+access t F loc value known fence word = fence refl
+access t LR loc value known fence word = (known (λ e. absurd cc), word)
+access t LW loc value known fence word = (known (λ e. absurd cc), word)
+
+entry-for : (t : Litmus) (e : Entry) → IsTest t → FitsTest t e → HasWord e → IsEntryFor t e
+entry-for t e test fits word =
+    let cores = test.cores in
+    let size : length (program_of t e.core.0) ≤ 32 = (test.programs_fit e.core.0 [] fits.core).size in
+    record {
+      core = let c = fits.core in omega (arith, c, cores);
+      place = let p = fits.place in omega (arith, p, size);
+      access = access t e.kind e.loc.0 e.value fits.location fits.fence word;
+    }
+
+stands-at : (order : List Entry) (k : ℕ) (d : Entry) → k < length order → slice_get order k ≡ Some (slice_index_or order k d)
+stands-at order k d lt = slice_get-get_or order k d lt
+
+pub order-for : (t : Litmus) (order : List Entry) → IsTest t → ((e : Entry) → StandsIn order e → FitsTest t e) → All HasWord order → IsOrderFor t order
+order-for t order test fits words = λ k d lt.
+    entry-for t (slice_index_or order k d) test (fits _ (k, stands-at order k d lt)) (words k d lt)
+
+pub run-spells : (t : Litmus) (depth : ℕ) (r : flat.Run) (s : Shown) (text : List ℕ) → IsTest t → depth < 2 ^ 64
+    → ((t : Litmus) (depth : ℕ) (s : Shown) → IsTest t → depth < 2 ^ 64 → IsOrderFor t s.order → SpellsOrder t (report t depth s) s.order)
+    → ((t : Litmus) (order : List Entry) (e : Entry) → IsTest t → IsWhole t order → StandsIn order e → FitsTest t e)
+    → IsExecution t r → s ≡ shown_of t r → text ≡ report t depth s → All HasWord s.order → SpellsOrder t text r.commits
+run-spells t depth r s text test small law fits execution same printed words =
+    let order : s.order ≡ r.commits = ap (λ (s : Shown). s.order) same in
+    let whole : IsWhole t s.order = subst (IsWhole t) (sym order) execution.order.whole in
+    let are : IsOrderFor t s.order = order-for t s.order test (λ e stands. fits t s.order e test whole stands) words in
+    subst (SpellsOrder t text) order (subst (λ o. SpellsOrder t o s.order) (sym printed) (law t depth s test small are))

@@ -1,0 +1,59 @@
+-- The lines that `check` writes. (This project's profile.)
+use Rattle.std.specs.Prelude.{ℕ, List, [], ◌++◌, slice_index_or, codes}
+use Rattle.std.specs.Fmt.{decimal}
+use Rattle.tso_model.specs.Litmus.{Litmus}
+use Rattle.tso_model.specs.declared.execution.Kind.{Kind}
+use Rattle.tso_model.specs.declared.execution.Kind.TheVariants.{F}
+use Rattle.order_builder.specs.PrintedOrder.{letters_of, printed_entry, HasLocation, IsLocationFor}
+use Rattle.order_builder.specs.declared.fault.OrderFault.{OrderFault}
+use Rattle.order_builder.specs.declared.fault.OrderFault.TheVariants as orders
+use Rattle.axiom_checker.specs.declared.breach.Breach.{Breach}
+use Rattle.axiom_checker.specs.declared.breach.Breach.TheVariants.{Extra, Twice, Missing, WrongValue, ProgramOrder, NotAdjacent, ReadValue, NoMemory}
+use Rattle.tso_report.specs.Report.{line}
+
+-- why an order is refused; want of memory is no refusal and has no line
+abbrev pub order_refusal : OrderFault → List ℕ
+order_refusal orders.NoOrder = line (codes "Refused order NoOrder")
+order_refusal (orders.BadLine number) = codes "Refused order line " ++ (decimal number ++ line (codes " BadLine"))
+order_refusal orders.BadCount = line (codes "Refused order BadCount")
+order_refusal orders.NoMemory = []
+
+-- where an action that the order lacks would read or write, ` x`; a fence does neither
+abbrev pub missing_access : Litmus → Kind → ℕ → List ℕ
+missing_access t F loc = []
+missing_access t _ loc = codes " " ++ slice_index_or t.locations loc []
+
+-- an action that the order lacks, `Pc:p K x`, or `Pc:p F`
+abbrev pub missing_action : Litmus → ℕ → ℕ → Kind → ℕ → List ℕ
+missing_action t core place kind loc =
+    codes "P" ++ (decimal core ++ (codes ":" ++ (decimal place ++ (codes " " ++ (letters_of kind ++ missing_access t kind loc)))))
+
+-- the axiom that is broken, and by what
+abbrev pub breach_text : Litmus → Breach → List ℕ
+breach_text t (Extra x) = codes "C1 extra " ++ printed_entry t x
+breach_text t (Twice x) = codes "C1 twice " ++ printed_entry t x
+breach_text t (Missing core place kind loc) = codes "C1 missing " ++ missing_action t core.0 place kind loc.0
+breach_text t (WrongValue x due) = codes "C2 " ++ (printed_entry t x ++ (codes " due=" ++ decimal due))
+breach_text t (ProgramOrder x y) = codes "C3 " ++ (printed_entry t x ++ (codes " after " ++ printed_entry t y))
+breach_text t (NotAdjacent x) = codes "C4 " ++ printed_entry t x
+breach_text t (ReadValue x due) = codes "C5 " ++ (printed_entry t x ++ (codes " due=" ++ decimal due))
+breach_text t NoMemory = []
+
+-- `Check valid`
+abbrev pub valid_line : List ℕ
+valid_line = line (codes "Check valid")
+
+-- `Check invalid ..`
+abbrev pub invalid_line : Litmus → Breach → List ℕ
+invalid_line t b = codes "Check invalid " ++ line (breach_text t b)
+
+-- the locations of what the breach names are the test's
+abbrev pub CanBeNamed : Litmus → Breach → Type 0
+CanBeNamed t (Extra x) = HasLocation t x
+CanBeNamed t (Twice x) = HasLocation t x
+CanBeNamed t (Missing core place kind loc) = IsLocationFor t kind loc.0
+CanBeNamed t (WrongValue x due) = HasLocation t x
+CanBeNamed t (ProgramOrder x y) = HasLocation t x × HasLocation t y
+CanBeNamed t (NotAdjacent x) = HasLocation t x
+CanBeNamed t (ReadValue x due) = HasLocation t x
+CanBeNamed t NoMemory = Unit {0}

@@ -1,0 +1,102 @@
+-- The lines of a report before its order are none that an order could begin with.
+use Rattle.std.proofs.Common.{◌≡◌, ◌≢◌, ℕ, ◌<◌, ◌^◌, ◌&&◌, Bool, true, false, not, eqb, List, [], ◌∷◌, ◌++◌, length, get_or, All, refl, sym, ap, ◌∙◌, arith, rules}
+use Rattle.std.specs.Prelude.{codes}
+use Rattle.std.specs.Fmt.{decimal}
+use Rattle.std.specs.List.{list_all}
+use Rattle.std.specs.Char.{is_ascii_digit}
+use Rattle.std.proofs.lemmas.Bool.{and_parts, and_from}
+use Rattle.std.proofs.lemmas.Bool.Decides.{nat_tests}
+use Rattle.std.proofs.lemmas.Fmt.{digits_decimal}
+use Rattle.std.proofs.lemmas.Str.Parse.{IsNumeralModel, numerals_by_fold}
+use Rattle.std.proofs.lemmas.List.{append_assoc}
+use Rattle.std.proofs.lemmas.List.Elements.{All-cons, All-nil}
+use Rattle.std.proofs.lemmas.List.Folds.{list_all-append}
+use Rattle.tso_model.specs.Litmus.{Litmus, IsTest}
+use Rattle.tso_model.specs.declared.execution.Entry.{Entry}
+use Rattle.tso_model.specs.Names.{is_printable, is_test_name}
+use Rattle.order_builder.specs.Decimals.{decimal_from}
+use Rattle.order_builder.specs.Lines.{is_line}
+use Rattle.order_builder.specs.PrintedOrder.{printed_lines, printed_order}
+use Rattle.order_builder.specs.Spelling.{IsBefore, IsOrderFor, SpellsOrder}
+use Rattle.tso_report.specs.Shown.{Shown}
+use Rattle.tso_report.specs.Report.{report, line, test_line, machine_line, register_lines, memory_line, condition_line, choices_line}
+
+-- ---- no line feed
+
+weaker : (p q : ℕ → Bool) (text : List ℕ) → ((b : ℕ) → p b ≡ true → q b ≡ true) → list_all p text ≡ true → list_all q text ≡ true
+weaker p q [] follows all = refl
+weaker p q (b ∷ bs) follows all =
+    let parts = and_parts _ _ all in
+    and_from _ _ (follows b parts.0) (weaker p q bs follows parts.1)
+
+is_no_feed : ℕ → Bool
+is_no_feed b = not (eqb b 10)
+
+own : IsNumeralModel (λ ds. list_all is_ascii_digit ds ≡ true) (decimal_from 0)
+unfolding decimal_from
+own = numerals_by_fold _ (search rules) decimal_from (search rules)
+
+digit_is_no_feed : (b : ℕ) → is_ascii_digit b ≡ true → is_no_feed b ≡ true
+unfolding is_no_feed
+digit_is_no_feed b is = grind (arith, nat_tests)
+
+printable_is_no_feed : (b : ℕ) → is_printable b ≡ true → is_no_feed b ≡ true
+unfolding is_no_feed
+printable_is_no_feed b is = grind (arith, nat_tests)
+
+printable_name : (name : List ℕ) → is_test_name name ≡ true → list_all is_printable name ≡ true
+printable_name [] is = absurd cc
+printable_name (c ∷ cs) is =
+    let whole = and_parts _ _ is in
+    let front = and_parts _ _ whole.0 in
+    front.1
+
+line_of_name : (t : Litmus) → IsTest t → is_line (codes "Test " ++ t.name) ≡ true
+unfolding is_no_feed
+line_of_name t test = weaker is_printable is_no_feed t.name printable_is_no_feed (printable_name t.name test.name_spelled)
+
+line_of_depth : (depth : ℕ) → depth < 2 ^ 64 → is_line (codes "Machine flat depth=" ++ decimal depth) ≡ true
+unfolding is_no_feed
+line_of_depth depth small = weaker is_ascii_digit is_no_feed (decimal depth) digit_is_no_feed (digits_decimal own depth small)
+
+-- ---- no line `Order`
+
+heads : (x y : ℕ) (xs ys : List ℕ) → x ∷ xs ≡ y ∷ ys → x ≡ y
+heads x y xs ys same = ap (λ (l : List ℕ). get_or l 0 0) same
+
+before_name : (t : Litmus) → IsTest t → IsBefore (codes "Test " ++ t.name)
+before_name t test = record {
+  whole = line_of_name t test;
+  other = λ same. omega (arith, heads 84 79 _ _ same);
+  other_returned = λ same. omega (arith, heads 84 79 _ _ same);
+}
+
+before_depth : (depth : ℕ) → depth < 2 ^ 64 → IsBefore (codes "Machine flat depth=" ++ decimal depth)
+before_depth depth small = record {
+  whole = line_of_depth depth small;
+  other = λ same. omega (arith, heads 77 79 _ _ same);
+  other_returned = λ same. omega (arith, heads 77 79 _ _ same);
+}
+
+-- ---- the report
+
+-- the lines before the order
+front_of : Litmus → ℕ → List (List ℕ)
+front_of t depth = (codes "Test " ++ t.name) ∷ ((codes "Machine flat depth=" ++ decimal depth) ∷ [])
+
+joined : (first second order rest : List ℕ)
+    → (first ++ 10 ∷ []) ++ ((second ++ 10 ∷ []) ++ (order ++ rest)) ≡ (first ++ 10 ∷ (second ++ 10 ∷ [])) ++ (order ++ rest)
+joined first second order rest = simp append_assoc
+
+pub report_spells : ((t : Litmus) (order : List Entry) (front : List (List ℕ)) (rest text : List ℕ)
+    → IsTest t → IsOrderFor t order → All IsBefore front
+    → text ≡ printed_lines front ++ (printed_order t order ++ rest) → SpellsOrder t text order)
+    → (t : Litmus) (depth : ℕ) (s : Shown) → IsTest t → depth < 2 ^ 64 → IsOrderFor t s.order → SpellsOrder t (report t depth s) s.order
+unfolding front_of
+report_spells amid t depth s test small are =
+    let rest = register_lines 0 s.registers ++ (memory_line t s.memory ++ (condition_line t s.holds ++ choices_line s.used s.stalled s.unused)) in
+    let front : All IsBefore (front_of t depth) =
+    All-cons IsBefore (codes "Test " ++ t.name) ((codes "Machine flat depth=" ++ decimal depth) ∷ []) (before_name t test)
+    (All-cons IsBefore (codes "Machine flat depth=" ++ decimal depth) [] (before_depth depth small) (All-nil IsBefore)) in
+    amid t s.order (front_of t depth) rest (report t depth s) test are front
+    (joined (codes "Test " ++ t.name) (codes "Machine flat depth=" ++ decimal depth) (printed_order t s.order) rest)
