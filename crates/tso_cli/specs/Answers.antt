@@ -1,5 +1,5 @@
 -- The answer to an input: what is written, and the status. (This project's profile.)
-use Rattle.std.specs.Prelude.{ℕ, ◌<◌, ◌≤◌, if◌then◌else◌, List, length}
+use Rattle.std.specs.Prelude.{ℕ, ◌<◌, ◌≤◌, ◌≡◌, if◌then◌else◌, List, length}
 use Rattle.tso_model.specs.Litmus.{Litmus}
 use Rattle.tso_model.specs.Execution.{IsTsoExecution}
 use Rattle.tso_model.specs.Runs as flat
@@ -14,6 +14,10 @@ use Rattle.order_builder.specs.Spelling.{SpellsOrder, HasFault}
 use Rattle.order_builder.specs.declared.fault.OrderFault.{OrderFault}
 use Rattle.axiom_checker.specs.FirstBreach.{IsFirstBreach}
 use Rattle.axiom_checker.specs.declared.breach.Breach.{Breach}
+use Rattle.protocol_tables.specs.Names.{protocol_name}
+use Rattle.protocol_tables.specs.Tables.{table_of}
+use Rattle.protocol_tables.specs.PrintedTable.{printed_table}
+use Rattle.protocol_tables.specs.declared.kind.ProtocolKind.{ProtocolKind}
 use Rattle.tso_report.specs.Report.{report}
 use Rattle.tso_cli.specs.Parts.{parts_of}
 use Rattle.tso_cli.specs.Lines.{input_refusal, test_refusal, choices_refusal, unfinished_line}
@@ -49,15 +53,33 @@ pub data IsCheckAnswer (t : Litmus) (text : List ℕ) : List ℕ → Status → 
   judged : (order : List Entry) (out : List ℕ) (status : Status) → SpellsOrder t text order → IsJudgement t order out status
       → IsCheckAnswer t text out status
 
+-- the answer of `tables`
+pub record IsTableAnswer (kind : ProtocolKind) (out : List ℕ) (status : Status) : Type 0 where
+  pub text : out ≡ printed_table (protocol_name kind) (table_of kind)
+  pub status_is : status ≡ Good
+
 -- the answer to a test and the second part of its input
 abbrev pub IsAnswerTo : Settings → Litmus → List ℕ → List ℕ → Status → Type 0
 IsAnswerTo (settings.Run config) t text out status = IsRunAnswer t config.depth text out status
 IsAnswerTo settings.Check t text out status = IsCheckAnswer t text out status
+IsAnswerTo (settings.Tables kind) t text out status = IsTableAnswer kind out status
 
--- the answer to an input: its size is judged first, then its first part, then the second
-pub data IsAnswer (s : Settings) (input : List ℕ) : List ℕ → Status → Type 0 where
-  too_large : 1048576 < length input → IsAnswer s input input_refusal Refused
+-- the answer to an input that was read: its size is judged first, then its first part, then the second
+pub data IsInputAnswer (s : Settings) (input : List ℕ) : List ℕ → Status → Type 0 where
+  too_large : 1048576 < length input → IsInputAnswer s input input_refusal Refused
   refused : (fault : TextFault) → length input ≤ 1048576 → IsRefusedTest (parts_of input).test fault
-      → IsAnswer s input (test_refusal fault) Refused
+      → IsInputAnswer s input (test_refusal fault) Refused
   answered : (t : Litmus) (out : List ℕ) (status : Status) → length input ≤ 1048576 → SpellsTest (parts_of input).test t
-      → IsAnswerTo s t (parts_of input).rest out status → IsAnswer s input out status
+      → IsAnswerTo s t (parts_of input).rest out status → IsInputAnswer s input out status
+
+-- the answer to an input; `tables` reads none, and answers the same to each
+abbrev pub IsAnswer : Settings → List ℕ → List ℕ → Status → Type 0
+IsAnswer (settings.Run config) input out status = IsInputAnswer (settings.Run config) input out status
+IsAnswer settings.Check input out status = IsInputAnswer settings.Check input out status
+IsAnswer (settings.Tables kind) input out status = IsTableAnswer kind out status
+
+-- how many bytes of the input are read, at most
+abbrev pub most_read : Settings → ℕ
+most_read (settings.Run config) = 1048577
+most_read settings.Check = 1048577
+most_read (settings.Tables kind) = 0

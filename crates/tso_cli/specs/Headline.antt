@@ -13,6 +13,10 @@ use Rattle.scheduler.specs.Grammar.{SpellsChoices}
 use Rattle.order_builder.specs.Spelling.{SpellsOrder}
 use Rattle.axiom_checker.specs.FirstBreach.{IsFirstBreach}
 use Rattle.axiom_checker.specs.declared.breach.Breach.{Breach}
+use Rattle.protocol_tables.specs.Names.{protocol_name}
+use Rattle.protocol_tables.specs.Tables.{table_of}
+use Rattle.protocol_tables.specs.PrintedTable.{printed_table}
+use Rattle.protocol_tables.specs.declared.kind.ProtocolKind.{ProtocolKind}
 use Rattle.tso_report.specs.Shown.{Shown}
 use Rattle.tso_report.specs.Report.{report}
 use Rattle.tso_cli.specs.Parts.{parts_of}
@@ -54,10 +58,15 @@ pub record JudgesOrder (t : Litmus) (order : List Entry) (out : List ℕ) : Type
 abbrev pub JudgesEachOrder : Litmus → List ℕ → List ℕ → Type 0
 JudgesEachOrder t text out = (order : List Entry) → SpellsOrder t text order → JudgesOrder t order out
 
+-- the table of the protocol is printed
+abbrev pub PrintsTable : ProtocolKind → List ℕ → Type 0
+PrintsTable kind out = out ≡ printed_table (protocol_name kind) (table_of kind)
+
 -- what the headline says of a test and the second part of its input
 abbrev pub HeadlineOf : Settings → Litmus → List ℕ → List ℕ → Type 0
 HeadlineOf (settings.Run config) t text out = PrintsEachRun t config.depth text out
 HeadlineOf settings.Check t text out = JudgesEachOrder t text out
+HeadlineOf (settings.Tables kind) t text out = PrintsTable kind out
 
 -- this is so for every test text; every other text is refused with its line
 pub record InputHeadline (s : Settings) (input out : List ℕ) : Type 0 where
@@ -65,6 +74,8 @@ pub record InputHeadline (s : Settings) (input out : List ℕ) : Type 0 where
   pub every_other : ((t : Litmus) → ¬ (SpellsTest (parts_of input).test t))
       → (fault : TextFault) × IsRefusedTest (parts_of input).test fault × (out ≡ test_refusal fault)
 
--- of an input within its size
+-- of an input within its size; `tables` reads none
 abbrev pub Headline : Settings → List ℕ → List ℕ → Type 0
-Headline s input out = length input ≤ 1048576 → InputHeadline s input out
+Headline (settings.Run config) input out = length input ≤ 1048576 → InputHeadline (settings.Run config) input out
+Headline settings.Check input out = length input ≤ 1048576 → InputHeadline settings.Check input out
+Headline (settings.Tables kind) input out = PrintsTable kind out

@@ -5,8 +5,8 @@ ghost use Rattle.tso_model.specs.declared.choice.Choice.{Choice};
 ghost use Rattle.scheduler.specs.Grammar.{SpellsChoices};
 ghost use Rattle.order_builder.specs.Spelling.{SpellsOrder};
 ghost use Rattle.tso_report.specs.Report.{report};
-ghost use Rattle.tso_cli.specs.Answers.{run_text, run_status, IsRunAnswer, IsAnswerTo, IsAnswer};
-ghost use Rattle.tso_cli.specs.Headline.{PrintsEachRun, HeadlineOf, Headline};
+ghost use Rattle.tso_cli.specs.Answers.{run_text, run_status, IsRunAnswer, IsTableAnswer, IsAnswerTo, IsInputAnswer};
+ghost use Rattle.tso_cli.specs.Headline.{PrintsEachRun, PrintsTable, HeadlineOf, InputHeadline};
 ghost use Rattle.tso_cli.specs.Lines.{test_refusal, choices_refusal, unfinished_line, input_refusal};
 ghost use Rattle.tso_cli.specs.Simulation.{shown_of};
 
@@ -17,6 +17,7 @@ use crate::simulation::{Ending, SimFault, simulate};
 use crate::streams::MAX_INPUT;
 use litmus_reader::{TextFault, Why, read_test};
 use machine_core::{Choice, Config};
+use protocol_tables::{ProtocolKind, table_text};
 use scheduler::{ChoiceFault, read_choices, spelled_cores_exist};
 use std::alloc::Global;
 use tso_laws::{ended_runs_are_executions, whole_orders_have_each_entry_once};
@@ -91,13 +92,13 @@ fn refused_input(alloc: Global) -> Result<Answer, NoMemory>
     })
 }
 
-/// The answer to an input: its size is judged first, then the test that is its first part, then the
-/// second part.
+/// The answer to an input that was read: its size is judged first, then the test that is its first
+/// part, then the second part.
 ///
 /// Fails only for want of memory.
 pub fn answer_to(alloc: Global, settings: &Settings, input: &[u8]) -> Result<Answer, NoMemory>
-    ensures exact { IfOk result (λ a. IsAnswer settings.now input.now (string_bytes a.text) a.status) }
-    ensures headline { IfOk result (λ a. Headline settings.now input.now (string_bytes a.text)) }
+    ensures exact { IfOk result (λ a. IsInputAnswer settings.now input.now (string_bytes a.text) a.status) }
+    ensures headline { IfOk result (λ a. length input.now ≤ 1048576 → InputHeadline settings.now input.now (string_bytes a.text)) }
 {
     if input.len() > MAX_INPUT {
         return refused_input(alloc);
@@ -121,7 +122,22 @@ fn answer_of(
     match settings {
         Settings::Run { config } => run_answer(alloc, test, *config, text),
         Settings::Check => check_answer(alloc, test, text),
+        Settings::Tables(kind) => table_answer(alloc, *kind),
     }
+}
+
+/// The answer of `tables`.
+///
+/// Fails only for want of memory.
+pub fn table_answer(alloc: Global, kind: ProtocolKind) -> Result<Answer, NoMemory>
+    ensures exact { IfOk result (λ a. IsTableAnswer kind (string_bytes a.text) a.status) }
+    ensures headline { IfOk result (λ a. PrintsTable kind (string_bytes a.text)) }
+{
+    let text = table_text(alloc, kind)?;
+    Ok(Answer {
+        text,
+        status: Status::Good,
+    })
 }
 
 fn run_answer(alloc: Global, test: &Test, config: Config, text: &[u8]) -> Result<Answer, NoMemory>

@@ -1,11 +1,11 @@
-ghost use Rattle.std.specs.Prelude.{◌≡◌, ℕ, ◌+◌, ◌-◌, ◌^◌, ◌<◌, ◌≤◌, ◌↔◌, ◌⊎◌, List, IfOk, IfSome, Err};
+ghost use Rattle.std.specs.Prelude.{◌≡◌, ℕ, ◌+◌, ◌-◌, ◌^◌, ◌<◌, ◌≤◌, ◌↔◌, ◌⊎◌, List, IfOk, IfSome, Err, MatchResult, string_bytes};
 ghost use Rattle.std.specs.Io.KnownBytes.{Keeps};
 ghost use Rattle.tso_cli.specs.Streams.{Writes, WritesBeginning, ConsumesAtMost};
-ghost use Rattle.tso_cli.specs.Answers.{IsAnswer};
+ghost use Rattle.tso_cli.specs.Answers.{IsAnswer, most_read};
 ghost use Rattle.tso_cli.specs.Headline.{Headline};
 ghost use Rattle.tso_cli.specs.declared.answer.Status.{Status};
 
-use crate::answer::{Status, answer_to};
+use crate::answer::{Answer, Status, answer_to, table_answer};
 use crate::counted::Counted;
 use crate::settings::Settings;
 use crate::streams::{RunFault, read_input, write_output};
@@ -13,8 +13,8 @@ use std::alloc::Global;
 use std::io::{Read, Write};
 
 /// Reads an input, and writes the answer to it under these settings and nothing else. The answer is
-/// made whole before its first byte is written. At most 1,048,577 bytes are read; no call of the
-/// reader or the writer is tried again, and the writer isn't flushed.
+/// made whole before its first byte is written. At most 1,048,577 bytes are read, and none for
+/// `tables`; no call of the reader or the writer is tried again, and the writer isn't flushed.
 ///
 /// `Device` exactly where a call of the reader or the writer failed: of the reader, and nothing was
 /// written; of the writer, and a beginning of the answer was taken. `NoMemory` where the allocator
@@ -39,10 +39,30 @@ pub fn run_command<R: Read, W: Write>(
     ensures reader_fault { reader.old.1 < reader.new.1 → Keeps (W.contents writer.old.0) (W.contents writer.new.0) }
     ensures writer_fault { writer.old.1 < writer.new.1 → IfSome (R.remaining reader.old.0) (λ input. (status : Status) × WritesBeginning (W.contents writer.old.0) (W.contents writer.new.0) (λ out. IsAnswer settings.now input out status)) }
 
-    ensures most { ConsumesAtMost (R.remaining reader.old.0) (R.remaining reader.new.0) 1048577 }
+    ensures most { ConsumesAtMost (R.remaining reader.old.0) (R.remaining reader.new.0) (most_read settings.now) }
 {
-    let input = read_input(alloc, reader)?;
-    let answer = answer_to(alloc, settings, &input)?;
+    let answer = answer_from(alloc, reader, settings)?;
     write_output(writer, answer.text.as_bytes())?;
     Ok(answer.status)
+}
+
+/// The answer to what the reader has; `tables` reads nothing.
+fn answer_from<R: Read>(
+    alloc: Global,
+    reader: &mut Counted<R>,
+    settings: &Settings,
+) -> Result<Answer, RunFault>
+    requires { reader.old.1 < 2 ^ 32 - 1 }
+    ensures exact { IfOk result (λ a. IfSome (R.remaining reader.old.0) (λ input. IsAnswer settings.now input (string_bytes a.text) a.status)) }
+    ensures headline { IfOk result (λ a. IfSome (R.remaining reader.old.0) (λ input. Headline settings.now input (string_bytes a.text))) }
+    ensures most { ConsumesAtMost (R.remaining reader.old.0) (R.remaining reader.new.0) (most_read settings.now) }
+    ensures faults { MatchResult result (λ _. reader.new.1 ≡ reader.old.1) (λ e. (e ≡ RunFault.Device → reader.new.1 ≡ reader.old.1 + 1) × (e ≡ RunFault.NoMemory → reader.new.1 ≡ reader.old.1)) }
+{
+    match settings {
+        Settings::Run { .. } | Settings::Check => {
+            let input = read_input(alloc, reader)?;
+            Ok(answer_to(alloc, settings, &input)?)
+        }
+        Settings::Tables(kind) => Ok(table_answer(alloc, *kind)?),
+    }
 }

@@ -1,8 +1,10 @@
 ghost use Rattle.std.specs.Prelude.{IfOk, IfSome};
 ghost use Rattle.tso_cli.specs.Limits.{IsWithinLimits};
 
+use clap::builder::ValueParser;
 use clap::{Arg, ArgMatches, Command};
 use machine_core::Config;
+use protocol_tables::ProtocolKind;
 use std::alloc::Global;
 use thiserror::Error;
 
@@ -13,7 +15,12 @@ pub enum Settings {
     Run { config: Config },
     /// Check an order of a test against the axioms.
     Check,
+    /// Print a protocol's table.
+    Tables(ProtocolKind),
 }
+
+/// The protocols as a command line names them.
+static PROTOCOLS: [&str; 3] = ["msi", "mesi", "moesi"];
 
 /// Why a command line is refused.
 #[derive(Debug, Drop, Error)]
@@ -46,11 +53,15 @@ fn command_line<'a>(alloc: Global) -> Result<Command<'a>, clap::Error> {
         .about("Runs a test under a list of choices")
         .arg(depth_option(alloc))?;
     let check = Command::new(alloc, "check").about("Checks an order of a test against the axioms");
+    let tables = Command::new(alloc, "tables")
+        .about("Prints the table of a protocol")
+        .arg(protocol_option(alloc))?;
     let command = Command::new(alloc, "tso")
         .about("Runs x86 litmus tests on a simulated multiprocessor under total store order")
         .subcommand_required(true)
         .subcommand(run)?
-        .subcommand(check)?;
+        .subcommand(check)?
+        .subcommand(tables)?;
     Ok(command)
 }
 
@@ -62,6 +73,14 @@ fn depth_option<'a>(alloc: Global) -> Arg<'a> {
         .default_value("4")
 }
 
+fn protocol_option<'a>(alloc: Global) -> Arg<'a> {
+    Arg::new(alloc, "protocol")
+        .long("protocol")
+        .help("Which protocol the caches follow")
+        .value_parser(ValueParser::Names(&PROTOCOLS))
+        .default_value("msi")
+}
+
 /// The settings of a subcommand; `None` where a value is outside its limits.
 fn settings_in(name: &str, matches: &ArgMatches<'_>) -> Option<Settings>
     ensures { IfSome result IsWithinLimits }
@@ -69,6 +88,7 @@ fn settings_in(name: &str, matches: &ArgMatches<'_>) -> Option<Settings>
     match name {
         "run" => run_settings(matches),
         "check" => Some(Settings::Check),
+        "tables" => Some(Settings::Tables(protocol_in(matches)?)),
         _ => None,
     }
 }
@@ -79,4 +99,13 @@ fn run_settings(matches: &ArgMatches<'_>) -> Option<Settings>
     let depth = matches.get_one::<u8>("depth")?;
     let config = Config::new(depth)?;
     Some(Settings::Run { config })
+}
+
+fn protocol_in(matches: &ArgMatches<'_>) -> Option<ProtocolKind> {
+    match matches.get_str("protocol")? {
+        "msi" => Some(ProtocolKind::Msi),
+        "mesi" => Some(ProtocolKind::Mesi),
+        "moesi" => Some(ProtocolKind::Moesi),
+        _ => None,
+    }
 }

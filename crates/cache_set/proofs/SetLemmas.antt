@@ -1,0 +1,127 @@
+-- The contents of a set after each call: what holds of them, what is found in them, and that the list
+-- which `lru` ends with is theirs.
+use Rattle.std.proofs.Common.{arith, ◌≡◌, ◌≢◌, ◌<◌, ◌-◌, ℕ, zero, suc, List, ◌∷◌, take, slice_get, Option, Some, None, IfSome, option_map, nat_eq, if◌then◌else◌, inl, inr, refl}
+use Rattle.std.proofs.lemmas.Bool.Decides.{eqb_tells}
+use Rattle.std.proofs.lemmas.List.{length-map}
+use Rattle.std.specs.Option.{option_map_or}
+use Rattle.std.specs.Map.{lookup, remove_entry, set_value}
+use Rattle.lru.specs.LruCache.{lru_cache, promoted, put_entries}
+use Rattle.protocol_tables.specs.declared.state.State.TheVariants.{I}
+use Rattle.cache_set.specs.declared.Line.{Line}
+use Rattle.cache_set.specs.declared.Victim.{Victim}
+use Rattle.cache_set.specs.Contents.{Contents, contents, IsCacheSet, copy_of, to_front, with_new, as_victim, victim_of, changed_at, with_changed, without, after_fill}
+use Rattle.cache_set.proofs.Entries.{lookup_entry-is, valid-found, lookup-remove, absent-remove, once-remove, valid-remove, length-remove, length-remove-found, once-take, valid-take, length-cut, lookup-at, lookup-cut, take-short, lookup-changed, once-changed, valid-changed, set_value-changed}
+
+-- A line goes to the front.
+
+pub contents-promoted : (line : ℕ) (es : List (ℕ × Line)) (ways : ℕ) → contents (promoted (nat_eq line) es) ways ≡ to_front line (contents es ways)
+contents-promoted line es ways = rw (lookup_entry-is line es) (found (lookup (nat_eq line) es))
+  where
+    found : (o : Option Line) → contents (option_map_or (λ e. e ∷ remove_entry (nat_eq line) es) (option_map (λ copy. (line, copy)) o) es) ways
+        ≡ contents (option_map_or (λ copy. (line, copy) ∷ remove_entry (nat_eq line) es) o es) ways
+    found None = refl
+    found (Some copy) = refl
+
+pub IsCacheSet-to_front : (line : ℕ) (s : Contents) → IsCacheSet s → IsCacheSet (to_front line s)
+IsCacheSet-to_front line s h = found (copy_of s line) refl
+  where
+    found : (o : Option Line) → copy_of s line ≡ o → IsCacheSet (contents (option_map_or (λ copy. (line, copy) ∷ remove_entry (nat_eq line) s.copies) o s.copies) s.ways)
+    found None e = h
+    found (Some copy) e =
+        let shorter = length-remove-found line copy s.copies e in
+        let fits = h.within in
+        record {
+          room = h.room;
+          within = omega arith;
+          once = (absent-remove line s.copies h.once, once-remove line s.copies h.once);
+          valid = (valid-found line copy s.copies h.valid e, valid-remove line s.copies h.valid);
+        }
+
+pub copy_of-to_front : (line k : ℕ) (s new : Contents) → IsCacheSet s → new ≡ to_front line s → copy_of new k ≡ copy_of s k
+copy_of-to_front line k s new h is = rw is (found (copy_of s line) refl)
+  where
+    found : (o : Option Line) → copy_of s line ≡ o → lookup (nat_eq k) (option_map_or (λ copy. (line, copy) ∷ remove_entry (nat_eq line) s.copies) o s.copies) ≡ copy_of s k
+    found None e = refl
+    found (Some copy) e = elim (eqb_tells k line) [
+      | inl p ↦ rw (p.0, p.1, e) refl
+      | inr p ↦ rw (p.0, lookup-remove line k s.copies h.once, p.0) refl
+    ]
+
+-- A line comes in.
+
+pub put_entries-with_new : (line : ℕ) (copy : Line) (es : List (ℕ × Line)) (ways : ℕ) → 0 < ways → lookup (nat_eq line) es ≡ None
+    → contents (put_entries nat_eq (lru_cache es ways) line copy) ways ≡ with_new line copy (contents es ways)
+put_entries-with_new line copy es zero room absent = absurd (omega arith)
+put_entries-with_new line copy es (suc n) room absent = let one : suc n - 1 ≡ n = omega arith in rw (lookup_entry-is line es, absent, one) refl
+
+pub IsCacheSet-with_new : (line : ℕ) (copy : Line) (s : Contents) → copy_of s line ≡ None → copy.state ≢ I → IsCacheSet s → IsCacheSet (with_new line copy s)
+IsCacheSet-with_new line copy s absent valid h = record {
+  room = h.room;
+  within = length-cut s.ways ((line, copy) ∷ s.copies);
+  once = once-take s.ways ((line, copy) ∷ s.copies) (absent, h.once);
+  valid = valid-take s.ways ((line, copy) ∷ s.copies) (valid, h.valid);
+}
+
+pub copy_of-with_new : (line : ℕ) (copy : Line) (v : Option Victim) (k : ℕ) (s new : Contents) → IsCacheSet s → new ≡ with_new line copy s → v ≡ victim_of s
+    → copy_of new k ≡ after_fill line copy v k (copy_of s k)
+copy_of-with_new line copy v k s new h is left = rw (is, left) (at s.ways s.copies h)
+  where
+    at : (ways : ℕ) (es : List (ℕ × Line)) → IsCacheSet (contents es ways)
+        → lookup (nat_eq k) (take ways ((line, copy) ∷ es)) ≡ after_fill line copy (victim_of (contents es ways)) k (lookup (nat_eq k) es)
+    at zero es h = let room = h.room in absurd (omega arith)
+    at (suc n) es h = let one : suc n - 1 ≡ n = omega arith in rw one (last (slice_get es n) refl)
+      where
+        last : (o : Option (ℕ × Line)) → slice_get es n ≡ o → lookup (nat_eq k) ((line, copy) ∷ take n es)
+            ≡ after_fill line copy (option_map as_victim o) k (lookup (nat_eq k) es)
+        last None e = rw (take-short n es e) refl
+        last (Some x) e = rw (lookup-cut n k x es h.once h.within e) refl
+
+pub victim_of-was_here : (v : Option Victim) (s : Contents) → IsCacheSet s → v ≡ victim_of s → IfSome v (λ x. copy_of s x.line ≡ Some x.content)
+victim_of-was_here v s h left = rw left (last (slice_get s.copies (s.ways - 1)) refl)
+  where
+    last : (o : Option (ℕ × Line)) → slice_get s.copies (s.ways - 1) ≡ o → IfSome (option_map as_victim o) (λ v. copy_of s v.line ≡ Some v.content)
+    last None e = tt
+    last (Some x) e = lookup-at (s.ways - 1) x s.copies h.once e
+
+-- A copy is changed.
+
+pub contents-set_value : (change : Line → Line) (line : ℕ) (copy : Line) (es : List (ℕ × Line)) (ways : ℕ) → IsCacheSet (contents es ways) → lookup (nat_eq line) es ≡ Some copy
+    → contents (set_value (nat_eq line) es (change copy)) ways ≡ with_changed change line (contents es ways)
+contents-set_value change line copy es ways h found = rw (set_value-changed change line copy es h.once found) refl
+
+pub IsCacheSet-with_changed : (change : Line → Line) (line : ℕ) (s : Contents) → ((copy : Line) → copy.state ≢ I → (change copy).state ≢ I) → IsCacheSet s → IsCacheSet (with_changed change line s)
+IsCacheSet-with_changed change line s keeps h = record {
+  room = h.room;
+  within = rw (length-map s.copies (changed_at change line)) h.within;
+  once = once-changed change line s.copies h.once;
+  valid = valid-changed change line keeps s.copies h.valid;
+}
+
+pub copy_of-with_changed : (change : Line → Line) (line k : ℕ) (s new : Contents) → new ≡ with_changed change line s
+    → copy_of new k ≡ (if nat_eq k line then option_map change (copy_of s k) else copy_of s k)
+copy_of-with_changed change line k s new is = rw is (lookup-changed change line k s.copies)
+
+-- A line leaves.
+
+pub IsCacheSet-without : (line : ℕ) (s : Contents) → IsCacheSet s → IsCacheSet (without line s)
+IsCacheSet-without line s h =
+    let shorter = length-remove line s.copies in
+    let fits = h.within in
+    record {
+      room = h.room;
+      within = omega arith;
+      once = once-remove line s.copies h.once;
+      valid = valid-remove line s.copies h.valid;
+    }
+
+pub copy_of-without : (line k : ℕ) (s new : Contents) → IsCacheSet s → new ≡ without line s → copy_of new k ≡ (if nat_eq k line then None else copy_of s k)
+copy_of-without line k s new h is = rw is (lookup-remove line k s.copies h.once)
+
+-- No copy that is found is in state I.
+
+pub copy_of-valid : (k : ℕ) (s : Contents) → IsCacheSet s → IfSome (copy_of s k) (λ copy. copy.state ≢ I)
+copy_of-valid k s h = found (copy_of s k) refl
+  where
+    found : (o : Option Line) → copy_of s k ≡ o → IfSome o (λ copy. copy.state ≢ I)
+    found None e = tt
+    found (Some copy) e = valid-found k copy s.copies h.valid e

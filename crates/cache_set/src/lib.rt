@@ -1,0 +1,185 @@
+//! One set of a cache: copies of lines, in the order of their last use. Where a new line finds the
+//! set full, the line that was used longest ago leaves (least recently used, LRU). What a use is, is
+//! the caller's to say: `touch` and `fill` bring a line to the front, and nothing else moves one.
+#![tactic(auto)]
+
+ghost use Rattle.std.specs.Prelude.{◌≡◌, ◌≢◌, ◌<◌, ◌≤◌, ℕ, [], Some, None, IsSome, IfSome, IfOk, OnErr, option_map, option_copied, nat_eq, if◌then◌else◌};
+
+use lru::LruCache;
+use protocol_tables::State;
+use std::alloc::Global;
+use std::marker::Model;
+use std::num::NonZeroUsize;
+use tso_model::NoMemory;
+
+/// How many lines a set may be made for, at most.
+pub const MAX_WAYS: u8 = 8;
+
+/// A copy of a line: its state, and the one word that a line has.
+#[derive(Clone, Copy, Debug, PartialEq, Eq)]
+pub struct Line {
+    pub state: State,
+    pub word: u32,
+}
+
+/// A line that left a full set, with its copy.
+#[derive(Clone, Copy, Debug, PartialEq, Eq)]
+pub struct Victim {
+    pub line: u8,
+    pub content: Line,
+}
+
+/// The copies of one set, the most recently used first: never more than the set's ways, no line
+/// twice, and none in state I. A line goes by its number.
+///
+/// Each call says what it makes of the whole list (`exact`), what is then found at each line
+/// (`copies`), and that the above still holds (`valid`).
+#[derive(Drop)]
+pub struct CacheSet {
+    lines: LruCache<u8, Line>,
+}
+
+impl Model for CacheSet {
+    ghost use Rattle.cache_set.specs.Contents.{Contents, contents, IsCacheSet};
+
+    ghost Value = { Contents };
+
+    ghost view = { λ s. contents s.lines.entries s.lines.cap };
+
+    ghost invariant = { λ s. IsCacheSet (contents s.lines.entries s.lines.cap) };
+}
+
+impl CacheSet {
+    ghost use Rattle.cache_set.specs.Contents.{contents, IsCacheSet, copy_of, to_front, with_new, victim_of, with_changed, without, after_fill};
+    ghost use Rattle.cache_set.specs.Copy.{copy_with, with_state, with_word};
+
+    /// An empty set for `ways` lines, from 1 to `MAX_WAYS`. Of the other calls only `fill` takes
+    /// memory.
+    ///
+    /// Fails only for want of memory.
+    pub fn new(alloc: Global, ways: u8) -> Result<Self, NoMemory>
+        requires { (0 < ways) × (ways ≤ MAX_WAYS) }
+        ensures { IfOk result (λ s. s ≡ contents [] ways) }
+    {
+        let capacity = NonZeroUsize::new(usize::from(ways)).unwrap();
+        let lines = LruCache::new(alloc, capacity)?;
+        Ok(CacheSet { lines })
+    }
+
+    /// The copy of a line, if it is here. Nothing moves.
+    pub fn look(&self, line: u8) -> Option<&Line>
+        ensures found { option_copied result ≡ copy_of self.now line }
+        ensures valid { IsCacheSet self.now }
+        ensures copies { (k : ℕ) → IfSome (copy_of self.now k) (λ copy. copy.state ≢ State.I) }
+    {
+        self.lines.peek(&line)
+    }
+
+    /// A line that is here was used: it goes to the front, and the others stay in their order.
+    pub fn touch(&mut self, line: u8)
+        requires { IsSome (copy_of self.old line) }
+        ensures exact { self.new ≡ to_front line self.old }
+        ensures valid { IsCacheSet self.new }
+        ensures copies { (k : ℕ) → copy_of self.new k ≡ copy_of self.old k }
+    {
+        self.lines.promote(&line);
+    }
+
+    /// A line that is not here comes in at the front, in a state other than I. A full set hands its
+    /// last line back.
+    ///
+    /// Fails only for want of memory; nothing is changed then.
+    pub fn fill(&mut self, line: u8, state: State, word: u32) -> Result<Option<Victim>, NoMemory>
+        requires absent { copy_of self.old line ≡ None }
+        requires valid { state ≢ State.I }
+        ensures exact { IfOk result (λ _. self.new ≡ with_new line (copy_with state word) self.old) }
+        ensures victim { IfOk result (λ v. v ≡ victim_of self.old) }
+        ensures copies { IfOk result (λ v. (k : ℕ) → copy_of self.new k ≡ after_fill line (copy_with state word) v k (copy_of self.old k)) }
+        ensures was_here { IfOk result (λ v. IfSome v (λ x. copy_of self.old x.line ≡ Some x.content)) }
+        ensures err { OnErr result (self.new ≡ self.old) }
+        ensures valid { IsCacheSet self.new }
+    {
+        let victim = self.lines.push(line, Line { state, word })?;
+        Ok(victim.map(|(line, content)| Victim { line, content }))
+    }
+
+    /// A line that is here goes to another state than I, and keeps its place.
+    pub fn set_state(&mut self, line: u8, state: State)
+        requires present { IsSome (copy_of self.old line) }
+        requires valid { state ≢ State.I }
+        ensures exact { self.new ≡ with_changed (with_state state) line self.old }
+        ensures valid { IsCacheSet self.new }
+        ensures copies { (k : ℕ) → copy_of self.new k ≡ (if nat_eq k line then option_map (with_state state) (copy_of self.old k) else copy_of self.old k) }
+    {
+        let copy = self.lines.peek_mut(&line).unwrap();
+        copy.state = state;
+    }
+
+    /// The word of a line that is here is written, and the line keeps its place and state.
+    pub fn write_word(&mut self, line: u8, word: u32)
+        requires { IsSome (copy_of self.old line) }
+        ensures exact { self.new ≡ with_changed (with_word word) line self.old }
+        ensures valid { IsCacheSet self.new }
+        ensures copies { (k : ℕ) → copy_of self.new k ≡ (if nat_eq k line then option_map (with_word word) (copy_of self.old k) else copy_of self.old k) }
+    {
+        let copy = self.lines.peek_mut(&line).unwrap();
+        copy.word = word;
+    }
+
+    /// A line that is here leaves, and the others stay in their order. Answers its copy.
+    pub fn drop_line(&mut self, line: u8) -> Line
+        requires { IsSome (copy_of self.old line) }
+        ensures content { Some result ≡ copy_of self.old line }
+        ensures exact { self.new ≡ without line self.old }
+        ensures valid { IsCacheSet self.new }
+        ensures copies { (k : ℕ) → copy_of self.new k ≡ (if nat_eq k line then None else copy_of self.old k) }
+    {
+        self.lines.pop(&line).unwrap()
+    }
+}
+
+#[cfg(test)]
+mod tests {
+    use super::*;
+
+    fn copy(state: State, word: u32) -> Line {
+        Line { state, word }
+    }
+
+    fn victim(line: u8, state: State, word: u32) -> Option<Victim> {
+        Some(Victim {
+            line,
+            content: copy(state, word),
+        })
+    }
+
+    #[test]
+    fn the_line_used_longest_ago_leaves(rt: HostRuntime) {
+        let mut set = CacheSet::new(rt.alloc(), 2).expect(&rt, "memory is ample");
+        assert_eq!(rt; set.fill(0, State::S, 5), Ok(None));
+        assert_eq!(rt; set.fill(1, State::M, 6), Ok(None));
+        assert!(rt; set.look(0).is_some() && set.look(2).is_none());
+        set.touch(0);
+        assert_eq!(rt; set.fill(2, State::S, 7), Ok(victim(1, State::M, 6)));
+        assert_eq!(rt; set.look(0).copied(), Some(copy(State::S, 5)));
+        assert!(rt; set.look(3).is_none());
+        assert_eq!(rt; set.fill(3, State::E, 8), Ok(victim(0, State::S, 5)));
+        assert!(rt; set.look(2).is_some());
+        assert_eq!(rt; set.drop_line(2), copy(State::S, 7));
+        assert_eq!(rt; set.look(3).copied(), Some(copy(State::E, 8)));
+        assert!(rt; set.look(0).is_none() && set.look(1).is_none() && set.look(2).is_none());
+    }
+
+    #[test]
+    fn a_write_keeps_the_place(rt: HostRuntime) {
+        let mut set = CacheSet::new(rt.alloc(), 2).expect(&rt, "memory is ample");
+        assert_eq!(rt; set.fill(0, State::E, 5), Ok(None));
+        assert_eq!(rt; set.fill(1, State::S, 6), Ok(None));
+        assert!(rt; set.look(0).is_some());
+        set.set_state(0, State::M);
+        set.write_word(0, 9);
+        assert!(rt; set.look(2).is_none());
+        assert_eq!(rt; set.fill(2, State::S, 7), Ok(victim(0, State::M, 9)));
+        assert_eq!(rt; set.look(1).copied(), Some(copy(State::S, 6)));
+    }
+}

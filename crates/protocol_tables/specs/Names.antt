@@ -1,0 +1,9 @@
+-- The names of the protocols. (This project's profile.)
+use Rattle.std.specs.Prelude.{ℕ, List, codes}
+use Rattle.protocol_tables.specs.declared.kind.ProtocolKind.{ProtocolKind}
+use Rattle.protocol_tables.specs.declared.kind.ProtocolKind.TheVariants.{Msi, Mesi, Moesi}
+
+abbrev pub protocol_name : ProtocolKind → List ℕ
+protocol_name Msi = codes "msi"
+protocol_name Mesi = codes "mesi"
+protocol_name Moesi = codes "moesi"

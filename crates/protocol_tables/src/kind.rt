@@ -1,0 +1,23 @@
+ghost use Rattle.std.specs.Prelude.{◌≡◌};
+ghost use Rattle.protocol_tables.specs.Names.{protocol_name};
+
+/// Which of the three protocols a machine's caches follow.
+#[derive(Clone, Copy, Debug, PartialEq, Eq)]
+pub enum ProtocolKind {
+    Msi,
+    Mesi,
+    Moesi,
+}
+
+impl ProtocolKind {
+    /// The protocol's name as it is written in a command line and a report, in small letters.
+    pub fn name(self) -> &'static str
+        ensures { result.now ≡ protocol_name self }
+    {
+        match self {
+            ProtocolKind::Msi => "msi",
+            ProtocolKind::Mesi => "mesi",
+            ProtocolKind::Moesi => "moesi",
+        }
+    }
+}

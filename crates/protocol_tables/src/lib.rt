@@ -1,0 +1,14 @@
+//! Snooping protocols as tables of states, and the laws that a cache bus rests on.
+#![tactic(auto)]
+
+pub mod kind;
+pub mod printing;
+pub mod protocol;
+pub mod state;
+pub mod tables;
+
+pub use kind::ProtocolKind;
+pub use printing::table_text;
+pub use protocol::Protocol;
+pub use state::{Snoop, State};
+pub use tables::{Mesi, Moesi, Msi};

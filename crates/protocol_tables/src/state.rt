@@ -1,0 +1,27 @@
+/// The state of a line in a cache. M and O are the dirty states: memory may be stale.
+///
+/// (Primer on Memory Consistency and Cache Coherence, chapter 6.)
+#[derive(Clone, Copy, Debug, PartialEq, Eq)]
+pub enum State {
+    /// Invalid: no copy.
+    I,
+    /// Shared: a copy that may only be read; other caches may have one too.
+    S,
+    /// Exclusive: the only copy, and memory has its words.
+    E,
+    /// Owned: a copy that may only be read and is dirty; other caches may have it in S.
+    O,
+    /// Modified: the only copy, and dirty.
+    M,
+}
+
+/// What a copy does when another core's request for its line is seen on the bus.
+#[derive(Clone, Copy, Debug, PartialEq, Eq)]
+pub struct Snoop {
+    /// The copy's state afterwards.
+    pub next: State,
+    /// Whether the copy's words answer the request, in place of memory's.
+    pub supplies: bool,
+    /// Whether the copy's words are also written to memory.
+    pub to_memory: bool,
+}

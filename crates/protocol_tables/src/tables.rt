@@ -1,0 +1,243 @@
+ghost use Rattle.std.specs.Prelude.{◌≡◌, true, false};
+ghost use Rattle.std.proofs.Common.{rules};
+ghost use Rattle.protocol_tables.specs.declared.kind.ProtocolKind.TheVariants.{Msi as KindMsi, Mesi as KindMesi, Moesi as KindMoesi};
+ghost use Rattle.protocol_tables.specs.Names.{protocol_name};
+ghost use Rattle.protocol_tables.specs.Tables.{msi, mesi, moesi, snoop, filled_by_company, get_s_sending, get_s_owning, get_m, write, write_back};
+
+use crate::kind::ProtocolKind;
+use crate::protocol::Protocol;
+use crate::state::{Snoop, State};
+
+/// Modified, shared, invalid: the least that a write-back cache needs.
+#[derive(Clone, Copy, Debug, PartialEq, Eq)]
+pub struct Msi;
+
+/// MSI and exclusive copies: a line that no other cache holds is written without the bus.
+#[derive(Clone, Copy, Debug, PartialEq, Eq)]
+pub struct Mesi;
+
+/// MESI and owned copies: a modified line is shared without being sent to memory.
+#[derive(Clone, Copy, Debug, PartialEq, Eq)]
+pub struct Moesi;
+
+impl Protocol for Msi {
+    ghost table = { λ _. msi };
+
+    ghost called = { λ _. protocol_name KindMsi };
+
+    fn filled(&self, _shared: bool) -> State {
+        State::S
+    }
+
+    fn on_get_s(&self, state: State) -> Snoop {
+        shared_clean(state)
+    }
+
+    fn on_get_m(&self, state: State) -> Snoop {
+        given_up(state)
+    }
+
+    fn written(&self, state: State) -> Option<State> {
+        written_in_place(state)
+    }
+
+    fn evicts_dirty(&self, state: State) -> bool {
+        is_dirty(state)
+    }
+
+    fn name(&self) -> &str {
+        ProtocolKind::Msi.name()
+    }
+
+    ghost fills_exclusive_only_alone = { λ _. Prim.search rules };
+
+    ghost shares = { λ _. Prim.search rules };
+
+    ghost cleans_by_memory = { λ _. Prim.search rules };
+
+    ghost supplies_to_readers = { λ _. Prim.search rules };
+
+    ghost supplies_to_writers = { λ _. Prim.search rules };
+
+    ghost gives_up = { λ _. Prim.search rules };
+
+    ghost writes_in_place = { λ _. Prim.search rules };
+
+    ghost writes_back_dirty = { λ _. Prim.search rules };
+}
+
+impl Protocol for Mesi {
+    ghost table = { λ _. mesi };
+
+    ghost called = { λ _. protocol_name KindMesi };
+
+    fn filled(&self, shared: bool) -> State {
+        filled_by_sharing(shared)
+    }
+
+    fn on_get_s(&self, state: State) -> Snoop {
+        shared_clean(state)
+    }
+
+    fn on_get_m(&self, state: State) -> Snoop {
+        given_up(state)
+    }
+
+    fn written(&self, state: State) -> Option<State> {
+        written_in_place(state)
+    }
+
+    fn evicts_dirty(&self, state: State) -> bool {
+        is_dirty(state)
+    }
+
+    fn name(&self) -> &str {
+        ProtocolKind::Mesi.name()
+    }
+
+    ghost fills_exclusive_only_alone = { λ _. Prim.search rules };
+
+    ghost shares = { λ _. Prim.search rules };
+
+    ghost cleans_by_memory = { λ _. Prim.search rules };
+
+    ghost supplies_to_readers = { λ _. Prim.search rules };
+
+    ghost supplies_to_writers = { λ _. Prim.search rules };
+
+    ghost gives_up = { λ _. Prim.search rules };
+
+    ghost writes_in_place = { λ _. Prim.search rules };
+
+    ghost writes_back_dirty = { λ _. Prim.search rules };
+}
+
+impl Protocol for Moesi {
+    ghost table = { λ _. moesi };
+
+    ghost called = { λ _. protocol_name KindMoesi };
+
+    fn filled(&self, shared: bool) -> State {
+        filled_by_sharing(shared)
+    }
+
+    fn on_get_s(&self, state: State) -> Snoop {
+        shared_dirty(state)
+    }
+
+    fn on_get_m(&self, state: State) -> Snoop {
+        given_up(state)
+    }
+
+    fn written(&self, state: State) -> Option<State> {
+        written_in_place(state)
+    }
+
+    fn evicts_dirty(&self, state: State) -> bool {
+        is_dirty(state)
+    }
+
+    fn name(&self) -> &str {
+        ProtocolKind::Moesi.name()
+    }
+
+    ghost fills_exclusive_only_alone = { λ _. Prim.search rules };
+
+    ghost shares = { λ _. Prim.search rules };
+
+    ghost cleans_by_memory = { λ _. Prim.search rules };
+
+    ghost supplies_to_readers = { λ _. Prim.search rules };
+
+    ghost supplies_to_writers = { λ _. Prim.search rules };
+
+    ghost gives_up = { λ _. Prim.search rules };
+
+    ghost writes_in_place = { λ _. Prim.search rules };
+
+    ghost writes_back_dirty = { λ _. Prim.search rules };
+}
+
+fn filled_by_sharing(shared: bool) -> State
+    ensures { result ≡ filled_by_company shared }
+{
+    if shared { State::S } else { State::E }
+}
+
+/// What GetS does where a modified copy is sent to memory.
+fn shared_clean(state: State) -> Snoop
+    ensures { result ≡ get_s_sending state }
+{
+    match state {
+        State::M => sent_to_memory(State::S),
+        State::O => supplied(State::O),
+        State::E => supplied(State::S),
+        State::S => silent(State::S),
+        State::I => silent(State::I),
+    }
+}
+
+/// What GetS does where a modified copy stays dirty, as owned.
+fn shared_dirty(state: State) -> Snoop
+    ensures { result ≡ get_s_owning state }
+{
+    match state {
+        State::M | State::O => supplied(State::O),
+        State::E => supplied(State::S),
+        State::S | State::I => silent(state),
+    }
+}
+
+fn given_up(state: State) -> Snoop
+    ensures { result ≡ get_m state }
+{
+    match state {
+        State::M | State::O | State::E => supplied(State::I),
+        State::S | State::I => silent(State::I),
+    }
+}
+
+fn silent(next: State) -> Snoop
+    ensures { result ≡ snoop next false false }
+{
+    Snoop {
+        next,
+        supplies: false,
+        to_memory: false,
+    }
+}
+
+fn supplied(next: State) -> Snoop
+    ensures { result ≡ snoop next true false }
+{
+    Snoop {
+        next,
+        supplies: true,
+        to_memory: false,
+    }
+}
+
+fn sent_to_memory(next: State) -> Snoop
+    ensures { result ≡ snoop next true true }
+{
+    Snoop {
+        next,
+        supplies: true,
+        to_memory: true,
+    }
+}
+
+fn written_in_place(state: State) -> Option<State>
+    ensures { result ≡ write state }
+{
+    match state {
+        State::M | State::E => Some(State::M),
+        State::O | State::S | State::I => None,
+    }
+}
+
+fn is_dirty(state: State) -> bool
+    ensures { result ≡ write_back state }
+{
+    matches!(state, State::M | State::O)
+}
