@@ -5,13 +5,13 @@ use denote.Ref.{Bor}
 use Rattle.std.proofs.lemmas.List.{nil_from_length, length-drop}
 use Rattle.litmus_tokens.specs.declared.token.Symbol.TheVariants.{Bar}
 use Rattle.litmus_tokens.specs.declared.token.Token.{Token}
-use Rattle.litmus_tokens.specs.Pieces.{Piece, piece_of, pieces}
+use Rattle.litmus_tokens.specs.Pieces.{piece_of, pieces}
 use Rattle.litmus_tokens.specs.Front.{is_symbol}
 use Rattle.litmus_reader.specs.declared.fault.Fault.{Fault}
 use Rattle.litmus_reader.specs.declared.fault.ReadError.{ReadError}
 use Rattle.litmus_reader.specs.declared.fault.ReadError.TheVariants as errors
 use Rattle.litmus_reader.specs.declared.cell.CoreInstr.{CoreInstr}
-use Rattle.litmus_reader.specs.Faults.{◌>>=◌, Fails}
+use Rattle.litmus_reader.specs.Faults.{Fails}
 use Rattle.litmus_reader.specs.Cells.{cell_pieces, cell_in, cells_in}
 use Rattle.litmus_reader.specs.Rows.{cells_of}
 use Rattle.litmus_reader.proofs.Maps.{slice_split-map, map-map}

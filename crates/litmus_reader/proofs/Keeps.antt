@@ -1,9 +1,12 @@
 -- What holds of whatever a reading answers.
-use Rattle.std.proofs.Common.{◌≡◌, Bool, true, false, cond, List, Option, Some, None, Result, Ok, Err, IfOk, IfSome, refl}
+use Rattle.std.proofs.Common.{◌≡◌, ◌<◌, ℕ, ltb, Bool, true, false, cond, List, Option, Some, None, Result, Ok, Err, IfOk, IfSome, refl}
+use Rattle.std.proofs.lemmas.Bool.{ltb-true}
+use Rattle.litmus_tokens.specs.Terms.{decimal}
 use Rattle.litmus_tokens.specs.Pieces.{Piece}
 use Rattle.litmus_reader.specs.declared.fault.Fault.{Fault}
 use Rattle.litmus_reader.specs.declared.fault.Part.{Part}
 use Rattle.litmus_reader.specs.Faults.{◌>>=◌, or_unfit, there}
+use Rattle.litmus_reader.specs.Items.{core_of}
 
 pub bind_keeps : {A B : Type 0} (R : A → Type 0) (Q : B → Type 0) (r : Result A Fault) (f : A → Result B Fault)
     → IfOk r R → ((x : A) → R x → IfOk (f x) Q) → IfOk (r >>= f) Q
@@ -42,3 +45,6 @@ ok_is Q (Ok y) x h e = let same : y ≡ x = cc in subst_by same h
     subst_by : y ≡ x → Q y → Q x
     subst_by e q = rw (← e) q
 ok_is Q (Err f) x h e = absurd cc
+
+pub core_keeps : (cores left : ℕ) (digits : List ℕ) → IfOk (core_of cores left digits) (λ core. core < cores)
+core_keeps cores left digits = cond_keeps (λ (r : Result ℕ Fault). IfOk r (λ core. core < cores)) (ltb (decimal digits) cores) _ _ (λ lt. ltb-true _ _ lt) (λ _. tt)

@@ -1,15 +1,15 @@
 -- The names of locations stay distinct, spelled and few.
-use Rattle.std.proofs.Common.{◌≡◌, ℕ, zero, suc, ◌+◌, ◌≤◌, ◌<◌, Bool, true, false, cond, ltb, not, ◌||◌, ◌&&◌, IsTrue, List, [], ◌∷◌, ◌++◌, length, All, Option, Some, None, Result, Ok, Err, IfOk, refl, sym, ap, subst, ◌∙◌, arith}
+use Rattle.std.proofs.Common.{◌≡◌, ℕ, zero, suc, ◌+◌, ◌≤◌, ◌<◌, Bool, true, false, cond, ltb, not, ◌||◌, IsTrue, List, [], ◌∷◌, ◌++◌, length, All, Result, IfOk, refl, arith}
 use Rattle.std.specs.List.{list_any, position_or_len}
 use Rattle.std.specs.Str.{bytes_eq}
-use Rattle.std.proofs.lemmas.Bool.{ltb-true, and_parts, or_parts, and_from, not_from_false, not-true}
+use Rattle.std.proofs.lemmas.Bool.{ltb-true, and_parts, or_parts, not-true}
 use Rattle.std.proofs.lemmas.List.{length-append}
-use Rattle.std.proofs.lemmas.List.Elements.{All-append, All-nil}
-use Rattle.tso_model.specs.Litmus.{are_distinct, KnownLocation}
-use Rattle.tso_model.specs.Names.{is_location_name, is_among}
+use Rattle.std.proofs.lemmas.List.Elements.{All-append}
+use Rattle.tso_model.specs.Litmus.{are_distinct}
+use Rattle.tso_model.specs.Names.{is_among}
 use Rattle.tso_model.specs.declared.instruction.Loc.{Loc}
 use Rattle.litmus_reader.specs.declared.fault.Fault.{Fault}
-use Rattle.litmus_reader.specs.Locations.{number_of, with_name, location, located}
+use Rattle.litmus_reader.specs.Locations.{number_of, location, located}
 use Rattle.litmus_reader.proofs.Keeps.{cond_keeps}
 use Rattle.litmus_reader.proofs.Named.{IsLocation}
 

@@ -1,15 +1,14 @@
 -- Each name that is read as a location's is one that a location may have.
-use Rattle.std.proofs.Common.{◌≡◌, ℕ, Bool, true, false, cond, IsTrue, List, [], ◌∷◌, Option, Some, None, Result, Ok, Err, IfOk, IfSome, refl}
+use Rattle.std.proofs.Common.{ℕ, IsTrue, List, [], ◌∷◌, Option, Some, None, Result, IfOk, IfSome}
 use Rattle.std.specs.Prelude.{codes}
 use Rattle.tso_model.specs.Names.{is_location_name}
 use Rattle.tso_model.specs.Registers.{same_letters}
-use Rattle.tso_model.specs.declared.register.Reg.{Reg}
-use Rattle.litmus_tokens.specs.declared.token.Symbol.TheVariants.{Equals, Colon, OpenSquare, CloseSquare, Comma, Dollar}
+use Rattle.litmus_tokens.specs.declared.token.Symbol.TheVariants.{Colon, OpenSquare, CloseSquare, Comma, Dollar}
 use Rattle.litmus_tokens.specs.Pieces.{Piece}
 use Rattle.litmus_tokens.specs.Front.{symbol_at, name_at, number_at}
 use Rattle.litmus_reader.specs.declared.fault.Fault.{Fault}
 use Rattle.litmus_reader.specs.declared.fault.Part.{Part}
-use Rattle.litmus_reader.specs.Faults.{◌>>=◌, or_unfit, there}
+use Rattle.litmus_reader.specs.Faults.{or_unfit, there}
 use Rattle.litmus_reader.specs.Items.{Setting, of_register, of_location, if_location, location_at, register_at, value_at, register_setting, square_setting, plain_setting, setting_at}
 use Rattle.litmus_reader.specs.Operands.{Place, in_memory, in_register, constant, as_constant, dollar_at, closed_memory, memory_at, as_register, operand_at, if_last, second_of, behind_first, two_operands}
 use Rattle.litmus_reader.specs.Forms.{Shape, store_imm, store_reg, load, set_imm, set_reg, fence, xchg, xadd, mov_of, xchg_of, xadd_of, no_more, locked_by, locked_at, by_mnemonic, spelled_in}
@@ -139,7 +138,7 @@ NamedSetting (of_location x value) = IsLocation x
 abbrev pub IfNamedSetting : Result (Setting × List Piece) Fault → Type 0
 IfNamedSetting r = IfOk r (λ x. NamedSetting x.0)
 
-register_named : (part : Part) (core : ℕ) (ps : List Piece) → IfNamedSetting (register_setting part core ps)
+register_named : (part : Part) (core : List ℕ) (ps : List Piece) → IfNamedSetting (register_setting part core ps)
 unfolding register_setting
 register_named part core ps =
     bind_keeps (λ x. Any x) (λ x. NamedSetting x.0) (or_unfit part ps (symbol_at Colon ps)) _ (ok_any _)

@@ -1,7 +1,7 @@
 -- Where a row ends.
-use Rattle.std.proofs.Common.{◌≡◌, ℕ, ◌+◌, ◌-◌, ◌<◌, Bool, true, false, cond, ltb, not, List, [], ◌∷◌, length, map, take, drop, Option, Some, None, Result, Ok, Err, refl, sym, ap, ◌∙◌, ◌⊎◌, inl, inr, arith}
+use Rattle.std.proofs.Common.{◌≡◌, ℕ, ◌+◌, ◌-◌, true, false, ltb, not, List, length, take, drop, Some, None, Ok, Err, refl, sym, ap, ◌∙◌, inl, inr, arith}
 use Rattle.std.specs.Prelude.{position}
-use Rattle.std.specs.List.{position_or_len, prefix_len, before_first, after_first}
+use Rattle.std.specs.List.{position_or_len, before_first, after_first}
 use Rattle.std.proofs.lemmas.List.{length-drop, length-map, take-map, drop-map, take_all}
 use Rattle.litmus_tokens.specs.declared.token.Symbol.TheVariants.{Semicolon}
 use Rattle.litmus_tokens.specs.declared.token.Stop.{Stop}
@@ -9,7 +9,6 @@ use Rattle.litmus_tokens.specs.declared.token.Token.{Token}
 use Rattle.litmus_tokens.specs.Pieces.{Piece, piece_of, pieces}
 use Rattle.litmus_tokens.specs.Front.{is_symbol}
 use Rattle.litmus_reader.specs.declared.fault.Why.TheVariants.{Unclosed}
-use Rattle.litmus_reader.specs.declared.fault.Fault.{Fault}
 use Rattle.litmus_reader.specs.Faults.{fault, at_stop, left_of}
 use Rattle.litmus_reader.specs.Rows.{row_at}
 use Rattle.litmus_reader.proofs.Maps.{chosen, prefix_len-map}

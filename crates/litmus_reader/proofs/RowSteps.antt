@@ -1,5 +1,5 @@
 -- All rows, one after the other.
-use Rattle.std.proofs.Common.{◌≡◌, ℕ, zero, suc, ◌≤◌, ◌<◌, Bool, true, false, List, [], ◌∷◌, length, Result, Ok, Err, refl, sym, ap, ◌∙◌, arith}
+use Rattle.std.proofs.Common.{◌≡◌, ℕ, zero, suc, ◌≤◌, ◌<◌, true, false, List, [], ◌∷◌, length, Result, Ok, Err, refl, sym, ap, ◌∙◌, arith}
 use Rattle.litmus_tokens.specs.declared.token.Stop.{Stop}
 use Rattle.litmus_tokens.specs.Pieces.{Piece}
 use Rattle.litmus_reader.specs.declared.fault.Fault.{Fault}
@@ -7,8 +7,9 @@ use Rattle.litmus_reader.specs.declared.fault.ReadError.{ReadError}
 use Rattle.litmus_reader.specs.declared.fault.ReadError.TheVariants as errors
 use Rattle.litmus_reader.specs.declared.cell.CoreInstr.{CoreInstr}
 use Rattle.litmus_reader.specs.Faults.{◌>>=◌, Fails, left_of}
+use Rattle.litmus_reader.specs.Initial.{Given, registers_of}
 use Rattle.litmus_reader.specs.Columns.{columns_at}
-use Rattle.litmus_reader.specs.Rows.{Rows, rows, row_at, row_in, ends_rows, rows_within, rows_at, Table, table, table_at}
+use Rattle.litmus_reader.specs.Rows.{Rows, rows, row_at, row_in, ends_rows, rows_within, rows_at, table, table_at}
 
 -- the total is what the rest gives, in some number of rows that is enough
 pub record RowsBehind (stop : Stop) (cores : ℕ) (instrs : List CoreInstr) (names : List (List ℕ)) (ps : List Piece) (total : Result Rows Fault) : Type 0 where
@@ -73,13 +74,23 @@ row_open f stop cores instrs names ps total more at b = by_count b.count b.enoug
     by_count zero enough same = let none : ends_rows ps ≡ true = nothing_left ps enough in absurd cc
     by_count (suc n) enough same = sym same ∙ rw (more, at) refl
 
-pub table_done : (stop : Stop) (cores : ℕ) (names : List (List ℕ)) (ps rest : List Piece) (r : Rows)
-    → Ok (cores, rest) ≡ columns_at stop ps → rows_at stop cores names rest ≡ Ok r → table_at stop names ps ≡ Ok (table cores r)
+pub table_done : (stop : Stop) (cores : ℕ) (given : List Given) (registers : List (List ℕ)) (names : List (List ℕ)) (ps rest : List Piece) (r : Rows)
+    → Ok (cores, rest) ≡ columns_at stop ps → registers_of cores given ≡ Ok registers → rows_at stop cores names rest ≡ Ok r → table_at stop given names ps ≡ Ok (table cores registers r)
 unfolding table_at
-table_done stop cores names ps rest r at is = rw (← at, is) refl
+table_done stop cores given registers names ps rest r at all is = rw (← at, all, is) refl
 
-pub table_fails : (e : ReadError) (stop : Stop) (cores : ℕ) (names : List (List ℕ)) (ps rest : List Piece)
-    → Ok (cores, rest) ≡ columns_at stop ps → Fails e (rows_at stop cores names rest) → Fails e (table_at stop names ps)
+pub table_fails : (e : ReadError) (stop : Stop) (cores : ℕ) (given : List Given) (registers : List (List ℕ)) (names : List (List ℕ)) (ps rest : List Piece)
+    → Ok (cores, rest) ≡ columns_at stop ps → registers_of cores given ≡ Ok registers → Fails e (rows_at stop cores names rest) → Fails e (table_at stop given names ps)
 unfolding table_at
-table_fails errors.NoMemory stop cores names ps rest at is = tt
-table_fails (errors.Fault f) stop cores names ps rest at is = rw (← at, is) refl
+table_fails errors.NoMemory stop cores given registers names ps rest at all is = tt
+table_fails (errors.Fault f) stop cores given registers names ps rest at all is = rw (← at, all, is) refl
+
+pub registers_missing : (e : ReadError) (stop : Stop) (cores : ℕ) (given : List Given) (names : List (List ℕ)) (ps rest : List Piece)
+    → Ok (cores, rest) ≡ columns_at stop ps → Fails e (registers_of cores given) → Fails e (table_at stop given names ps)
+unfolding table_at
+registers_missing errors.NoMemory stop cores given names ps rest at is = tt
+registers_missing (errors.Fault f) stop cores given names ps rest at is = rw (← at, is) refl
+
+pub columns_missing : (f : Fault) (stop : Stop) (given : List Given) (names : List (List ℕ)) (ps : List Piece) → Err f ≡ columns_at stop ps → table_at stop given names ps ≡ Err f
+unfolding table_at
+columns_missing f stop given names ps at = rw (← at) refl

@@ -1,5 +1,5 @@
 -- What the rows give stays within the limits of a test.
-use Rattle.std.proofs.Common.{◌≡◌, ℕ, zero, suc, ◌+◌, ◌≤◌, ◌<◌, ◌==◌, Bool, true, false, cond, ltb, eqb, List, [], ◌∷◌, ◌++◌, length, map, filter, All, Option, Some, None, Result, Ok, Err, IfOk, refl, sym, ap, subst, ◌∙◌, arith}
+use Rattle.std.proofs.Common.{◌≡◌, ℕ, zero, suc, ◌+◌, ◌≤◌, ◌<◌, ◌==◌, Bool, true, false, cond, ltb, eqb, List, [], ◌∷◌, ◌++◌, length, filter, All, Option, Some, None, Result, Ok, Err, IfOk, refl, sym, ap, subst, ◌∙◌, arith}
 use Rattle.std.specs.Prelude.{count_by}
 use Rattle.std.proofs.lemmas.Bool.{ltb-true, eqb-true}
 use Rattle.std.proofs.lemmas.List.{length-map}
@@ -17,13 +17,15 @@ use Rattle.litmus_reader.specs.Faults.{◌>>=◌, or_unfit, left_of}
 use Rattle.litmus_reader.specs.Locations.{located}
 use Rattle.litmus_reader.specs.Items.{word_at}
 use Rattle.litmus_reader.specs.Forms.{Shape, store_imm, store_reg, load, set_imm, set_reg, fence, xchg, xadd, spelled_in}
-use Rattle.litmus_reader.specs.Columns.{in_columns, core_at, parting_at, columns, columns_at}
+use Rattle.litmus_reader.specs.Columns.{in_columns, core_at, parting_at, columns}
 use Rattle.litmus_reader.specs.Cells.{instr_of, count_of, of_core, or_bad_instruction, cell_in, cells_in}
-use Rattle.litmus_reader.specs.Rows.{row_at, cells_of, counted, row_in, ends_rows, Rows, rows, rows_within, rows_at, Table, table, table_at}
+use Rattle.litmus_reader.specs.Rows.{row_at, cells_of, counted, row_in, ends_rows, Rows, rows_within, rows_at, Table, table_at}
 use Rattle.litmus_reader.specs.Reading.{program_of, programs_from}
 use Rattle.litmus_reader.proofs.Keeps.{Any, ok_any, bind_keeps, cond_keeps}
 use Rattle.litmus_reader.proofs.Named.{NamedShape, IfNamed, spelled_named}
-use Rattle.litmus_reader.proofs.Known.{AreNames, Grown, same_names, Locates, LocatesIn, located_keeps, All-one}
+use Rattle.litmus_reader.specs.Initial.{Given, registers_of}
+use Rattle.litmus_reader.proofs.InitialKept.{HasLength, all_registers_keep}
+use Rattle.litmus_reader.proofs.Known.{AreNames, Grown, same_names, LocatesIn, located_keeps, All-one}
 
 -- ---- the header row
 
@@ -84,14 +86,15 @@ known_further m n (Xadd loc reg) le h = omega arith
 
 -- ---- cells and rows
 
--- what has been read of the rows
-pub record Kept (instrs : List CoreInstr) (locations : List (List ℕ)) : Type 0 where
+-- what has been read of the rows, with so many names or more
+pub record Kept (least : ℕ) (instrs : List CoreInstr) (locations : List (List ℕ)) : Type 0 where
   pub names : AreNames locations
+  pub more : least ≤ length locations
   pub known : All (λ i. KnownLocation (length locations) i.instr) instrs
   pub room : (core : ℕ) → count_of core instrs ≤ 32
 
-abbrev pub KeptIn : List CoreInstr × List (List ℕ) → Type 0
-KeptIn r = Kept r.0 r.1
+abbrev pub KeptIn : ℕ → List CoreInstr × List (List ℕ) → Type 0
+KeptIn least r = Kept least r.0 r.1
 
 count_by-push : (p : CoreInstr → Bool) (xs : List CoreInstr) (x : CoreInstr) → count_by p (xs ++ x ∷ []) ≡ count_by p xs + cond (p x) 1 0
 count_by-push p xs x = sum_by-append (λ x. cond (p x) 1 0) xs (x ∷ []) ∙ omega arith
@@ -103,15 +106,16 @@ room-push core other instrs instr room h = subst (λ n. n ≤ 32) (sym (count_by
     by_test true e = let same : core ≡ other = eqb-true _ _ e in let room' : count_of other instrs < 32 = subst (λ k. count_of k instrs < 32) same room in omega (arith, room')
     by_test false e = omega (arith, h)
 
-cell_keeps : (core : ℕ) (instrs : List CoreInstr) (names : List (List ℕ)) (ps : List Piece) → Kept instrs names → IfOk (cell_in core instrs names ps) KeptIn
+cell_keeps : (least core : ℕ) (instrs : List CoreInstr) (names : List (List ℕ)) (ps : List Piece) → Kept least instrs names → IfOk (cell_in core instrs names ps) (KeptIn least)
 unfolding cell_in
-cell_keeps core instrs names [] h = h
-cell_keeps core instrs names (p ∷ ps) h =
-    bind_keeps NamedShape KeptIn (or_bad_instruction p.left (spelled_in (p ∷ ps))) _ (good (spelled_in (p ∷ ps)) (spelled_named (p ∷ ps)))
-    (λ shape named. bind_keeps (IsReadIn names) KeptIn (instr_of p.left names shape) _ (instr_keeps p.left names shape h.names named)
-    (λ instr is. cond_keeps (λ (r : Result (List CoreInstr × List (List ℕ)) Fault). IfOk r KeptIn) (ltb (count_of core instrs) 32) _ _
+cell_keeps least core instrs names [] h = h
+cell_keeps least core instrs names (p ∷ ps) h =
+    bind_keeps NamedShape (KeptIn least) (or_bad_instruction p.left (spelled_in (p ∷ ps))) _ (good (spelled_in (p ∷ ps)) (spelled_named (p ∷ ps)))
+    (λ shape named. bind_keeps (IsReadIn names) (KeptIn least) (instr_of p.left names shape) _ (instr_keeps p.left names shape h.names named)
+    (λ instr is. cond_keeps (λ (r : Result (List CoreInstr × List (List ℕ)) Fault). IfOk r (KeptIn least)) (ltb (count_of core instrs) 32) _ _
     (λ room. record {
       names = is.grown.names;
+      more = omega (arith, h.more, is.grown.grown);
       known = All-append (λ i. KnownLocation (length instr.1) i.instr) instrs (of_core core instr.0 ∷ [])
           (All-weaker (λ i. KnownLocation (length names) i.instr) (λ i. KnownLocation (length instr.1) i.instr) (λ i k. known_further _ _ i.instr is.grown.grown k) instrs h.known)
           (All-one (λ i. KnownLocation (length instr.1) i.instr) (of_core core instr.0) is.known);
@@ -123,44 +127,46 @@ cell_keeps core instrs names (p ∷ ps) h =
     good (Some shape) h = h
     good None h = tt
 
-cells_keep : (cells : List (List Piece)) (core : ℕ) (instrs : List CoreInstr) (names : List (List ℕ)) → Kept instrs names → IfOk (cells_in core instrs names cells) KeptIn
+cells_keep : (least : ℕ) (cells : List (List Piece)) (core : ℕ) (instrs : List CoreInstr) (names : List (List ℕ)) → Kept least instrs names → IfOk (cells_in core instrs names cells) (KeptIn least)
 unfolding cells_in
-cells_keep [] core instrs names h = h
-cells_keep (c ∷ cs) core instrs names h =
-    bind_keeps KeptIn KeptIn (cell_in core instrs names c) _ (cell_keeps core instrs names c h) (λ read k. cells_keep cs (core + 1) read.0 read.1 k)
+cells_keep least [] core instrs names h = h
+cells_keep least (c ∷ cs) core instrs names h =
+    bind_keeps (KeptIn least) (KeptIn least) (cell_in core instrs names c) _ (cell_keeps least core instrs names c h) (λ read k. cells_keep least cs (core + 1) read.0 read.1 k)
 
-row_keeps : (cores left : ℕ) (instrs : List CoreInstr) (names : List (List ℕ)) (row : List Piece) → Kept instrs names → IfOk (row_in cores left instrs names row) KeptIn
+row_keeps : (least cores left : ℕ) (instrs : List CoreInstr) (names : List (List ℕ)) (row : List Piece) → Kept least instrs names → IfOk (row_in cores left instrs names row) (KeptIn least)
 unfolding row_in
-row_keeps cores left instrs names row h =
-    bind_keeps (λ x. Any x) KeptIn (counted cores left (cells_of row)) _ (ok_any _) (λ cells _. cells_keep cells 0 instrs names h)
+row_keeps least cores left instrs names row h =
+    bind_keeps (λ x. Any x) (KeptIn least) (counted cores left (cells_of row)) _ (ok_any _) (λ cells _. cells_keep least cells 0 instrs names h)
 
-abbrev pub KeptRows : Rows → Type 0
-KeptRows r = Kept r.instrs r.names
+abbrev pub KeptRows : ℕ → Rows → Type 0
+KeptRows least r = Kept least r.instrs r.names
 
-rows_keep : (n : ℕ) (stop : Stop) (cores : ℕ) (instrs : List CoreInstr) (names : List (List ℕ)) (ps : List Piece) → Kept instrs names → IfOk (rows_within n stop cores instrs names ps) KeptRows
+rows_keep : (least n : ℕ) (stop : Stop) (cores : ℕ) (instrs : List CoreInstr) (names : List (List ℕ)) (ps : List Piece) → Kept least instrs names → IfOk (rows_within n stop cores instrs names ps) (KeptRows least)
 unfolding rows_within
-rows_keep zero stop cores instrs names ps h = h
-rows_keep (suc n) stop cores instrs names ps h =
-    cond_keeps (λ (r : Result Rows Fault). IfOk r KeptRows) (ends_rows ps) _ _ (λ _. h)
-    (λ _. bind_keeps (λ x. Any x) KeptRows (row_at stop ps) _ (ok_any _)
-    (λ row _. bind_keeps KeptIn KeptRows (row_in cores (left_of ps) instrs names row.0) _ (row_keeps cores (left_of ps) instrs names row.0 h)
-    (λ read k. rows_keep n stop cores read.0 read.1 row.1 k)))
+rows_keep least zero stop cores instrs names ps h = h
+rows_keep least (suc n) stop cores instrs names ps h =
+    cond_keeps (λ (r : Result Rows Fault). IfOk r (KeptRows least)) (ends_rows ps) _ _ (λ _. h)
+    (λ _. bind_keeps (λ x. Any x) (KeptRows least) (row_at stop ps) _ (ok_any _)
+    (λ row _. bind_keeps (KeptIn least) (KeptRows least) (row_in cores (left_of ps) instrs names row.0) _ (row_keeps least cores (left_of ps) instrs names row.0 h)
+    (λ read k. rows_keep least n stop cores read.0 read.1 row.1 k)))
 
--- what the header row and the rows give
-pub record KeptTable (t : Table) : Type 0 where
+none_yet : (names : List (List ℕ)) → AreNames names → Kept (length names) [] names
+none_yet names h = record { names = h; more = omega arith; known = All-nil _; room = λ core. omega arith }
+
+-- what the header row and the rows give, behind so many names or more
+pub record KeptTable (least : ℕ) (t : Table) : Type 0 where
   pub some : 0 < t.cores
   pub few : t.cores ≤ 4
-  pub kept : Kept t.instrs t.names
+  pub each : length t.registers ≡ t.cores
+  pub kept : Kept least t.rows.instrs t.rows.names
 
-none_yet : Kept [] []
-none_yet = record { names = record { count = omega arith; spelled = All-nil _; differ = refl }; known = All-nil _; room = λ core. omega arith }
-
-pub table_keeps : (stop : Stop) (ps : List Piece) → IfOk (table_at stop [] ps) KeptTable
+pub table_keeps : (stop : Stop) (given : List Given) (names : List (List ℕ)) (ps : List Piece) → AreNames names → IfOk (table_at stop given names ps) (KeptTable (length names))
 unfolding table_at rows_at
-table_keeps stop ps =
-    bind_keeps (FewCores 0 4) KeptTable (columns stop 4 0 ps) _ (columns_few stop 4 0 ps)
-    (λ cores few. bind_keeps KeptRows KeptTable (rows_within (length cores.1) stop cores.0 [] [] cores.1) _ (rows_keep (length cores.1) stop cores.0 [] [] cores.1 none_yet)
-    (λ r kept. record { some = few.0; few = omega (arith, few.1); kept = kept }))
+table_keeps stop given names ps h =
+    bind_keeps (FewCores 0 4) (KeptTable (length names)) (columns stop 4 0 ps) _ (columns_few stop 4 0 ps)
+    (λ columns few. bind_keeps (HasLength columns.0) (KeptTable (length names)) (registers_of columns.0 given) _ (all_registers_keep columns.0 given)
+    (λ registers each. bind_keeps (KeptRows (length names)) (KeptTable (length names)) (rows_within (length columns.1) stop columns.0 [] names columns.1) _ (rows_keep (length names) (length columns.1) stop columns.0 [] names columns.1 (none_yet names h))
+    (λ r kept. record { some = few.0; few = omega (arith, few.1); each = each; kept = kept })))
 
 -- ---- programs
 

@@ -1,30 +1,32 @@
 -- What a text spells is within the limits of a test.
-use Rattle.std.proofs.Common.{◌≡◌, ℕ, ◌+◌, ◌≤◌, ◌<◌, Bool, true, false, cond, not, eqb, ltb, IsTrue, ◌&&◌, List, [], ◌∷◌, length, replicate, All, Option, Some, None, Result, Ok, Err, IfOk, refl, sym, ap, subst, ◌∙◌, arith}
+use Rattle.std.proofs.Common.{◌≡◌, ℕ, ◌≤◌, ◌<◌, Bool, true, not, eqb, ltb, ◌&&◌, List, [], ◌∷◌, length, All, Option, Some, None, Result, Ok, IfOk, sym, arith}
 use Rattle.std.specs.List.{list_all}
 use Rattle.std.specs.Str.{IsUtf8}
 use Rattle.std.proofs.lemmas.Bool.{and_parts, and_from}
 use Rattle.std.proofs.lemmas.Bool.Decides.{nat_tests}
-use Rattle.std.proofs.lemmas.List.{length-replicate}
 use Rattle.std.proofs.lemmas.List.Sums.{AllPass-from_list_all, list_all-from_AllPass}
 use Rattle.std.proofs.lemmas.List.Elements.{All-weaker}
 use Rattle.std.proofs.lemmas.Str.{IsUtf8-from_ascii}
 use Rattle.std.proofs.lemmas.Str.Ascii.{IsAscii-from_all}
 use Rattle.tso_model.specs.Litmus.{Litmus, IsTest, KnownLocation}
-use Rattle.tso_model.specs.Names.{is_name, is_location_name, is_register_word, is_keyword, is_test_name, is_printable, begins_name, continues_name, last_byte}
+use Rattle.tso_model.specs.Condition.{Condition}
+use Rattle.tso_model.specs.Names.{is_name, is_location_name, is_register_word, is_test_name, is_printable, begins_name, continues_name, last_byte}
 use Rattle.litmus_tokens.specs.declared.token.Stop.{Stop}
 use Rattle.litmus_tokens.specs.Pieces.{Piece, pieces_of}
 use Rattle.litmus_tokens.specs.Gap.{gap_end}
 use Rattle.litmus_reader.specs.declared.fault.Fault.{Fault}
 use Rattle.litmus_reader.specs.declared.cell.CoreInstr.{CoreInstr}
-use Rattle.litmus_reader.specs.Faults.{◌>>=◌}
-use Rattle.litmus_reader.specs.Header.{sized, from_gap, name_in, first_line, judged, header_at, braces_at}
-use Rattle.litmus_reader.specs.Initial.{initial_at}
+use Rattle.litmus_reader.specs.Header.{sized, from_gap, name_in, first_line, judged, header_at}
+use Rattle.litmus_reader.specs.Information.{braces_at}
+use Rattle.litmus_reader.specs.Initial.{Initial, Given, initial_at}
 use Rattle.litmus_reader.specs.Rows.{Table, table_at}
-use Rattle.litmus_reader.specs.Conditions.{Conditioned, condition_at}
-use Rattle.litmus_reader.specs.Reading.{end_at, no_registers, programs_from, test_of, body_of, reading_of}
+use Rattle.litmus_reader.specs.Observed.{observed_end}
+use Rattle.litmus_reader.specs.Conditions.{conditioned, condition_at}
+use Rattle.litmus_reader.specs.Reading.{end_at, ending_at, ending_from, tail_at, programs_from, test_of, body_of, reading_of}
 use Rattle.litmus_reader.proofs.Keeps.{Any, ok_any, bind_keeps, cond_keeps, ok_is}
 use Rattle.litmus_reader.proofs.Named.{IsLocation}
-use Rattle.litmus_reader.proofs.Known.{AreNames, Grown}
+use Rattle.litmus_reader.proofs.Known.{AreNames}
+use Rattle.litmus_reader.proofs.InitialKept.{KeptInitial, initial_keeps, length-words}
 use Rattle.litmus_reader.proofs.TableKept.{Kept, KeptTable, table_keeps, known_further, programs_fit, length-programs}
 use Rattle.litmus_reader.proofs.ClaimsKept.{KeptCondition, condition_keeps}
 
@@ -79,39 +81,62 @@ header_named text =
 pub name_is_text : (text name rest : List ℕ) → Ok (name, rest) ≡ header_at text → IsUtf8 name
 name_is_text text name rest at = test_text name (ok_is IsNamed (header_at text) (name, rest) (header_named text) (sym at))
 
--- ---- the table and the condition
+-- ---- the whole text
 
-pub names_are_text : (stop : Stop) (ps : List Piece) (t : Table) (c : Conditioned) → table_at stop [] ps ≡ Ok t → condition_at stop t.cores t.names t.rest ≡ Ok c → All (λ name. IsUtf8 name) c.names
-names_are_text stop ps t c table condition =
-    let kept : KeptTable t = ok_is KeptTable (table_at stop [] ps) t (table_keeps stop ps) table in
-    let after : KeptCondition t.cores t.names c = ok_is (KeptCondition t.cores t.names) (condition_at stop t.cores t.names t.rest) c (condition_keeps stop t.cores t.names t.rest kept.kept.names) condition in
-    All-weaker (λ name. IsLocation name) (λ name. IsUtf8 name) location_text c.names after.grown.names.spelled
+-- the names that have been read are ones that locations may have
+abbrev EndingKept : ℕ → List (List ℕ) → Option Condition × List (List ℕ) → Type 0
+EndingKept cores old e = KeptCondition cores old (conditioned e.0 e.1 [])
 
-test_fits : (name : List ℕ) (t : Table) (c : Conditioned) → is_test_name name ≡ true → KeptTable t → KeptCondition t.cores t.names c → IsTest (test_of name c.names t.cores t.instrs c.condition)
-test_fits name t c is kept after =
-    let n : length (programs_from 0 t.cores t.instrs) ≡ t.cores = length-programs 0 t.cores t.instrs in
+ending_keeps : (stop : Stop) (cores : ℕ) (names : List (List ℕ)) (ps : List Piece) → AreNames names → IfOk (ending_at stop cores names ps) (EndingKept cores names)
+unfolding ending_at
+ending_keeps stop cores names ps h =
+    bind_keeps (KeptCondition cores names) (EndingKept cores names) (condition_at stop cores names ps) _ (condition_keeps stop cores names ps h)
+    (λ c k. bind_keeps (λ x. Any x) (EndingKept cores names) (end_at stop c.rest) _ (ok_any _) (λ end _. record { grown = k.grown; fits = k.fits }))
+
+tail_keeps : (text : List ℕ) (stop : Stop) (cores : ℕ) (names : List (List ℕ)) (ps : List Piece) → AreNames names → IfOk (tail_at text stop cores names ps) (EndingKept cores names)
+unfolding tail_at
+tail_keeps text stop cores names ps h =
+    bind_keeps (λ x. Any x) (EndingKept cores names) (observed_end text stop ps) _ (ok_any _) (λ behind _. either behind)
+  where
+    either : (behind : Option (List ℕ)) → IfOk (ending_from stop cores names ps behind) (EndingKept cores names)
+    either None = ending_keeps stop cores names ps h
+    either (Some bytes) = ending_keeps (pieces_of bytes).1 cores names (pieces_of bytes).0 h
+
+pub names_are_text : (text : List ℕ) (stop : Stop) (start rest : List Piece) (i : Initial) (given : List Given) (t : Table) (condition : Option Condition) (names : List (List ℕ))
+    → initial_at stop [] start ≡ Ok (i, rest) → table_at stop given i.names rest ≡ Ok t → tail_at text stop t.cores t.rows.names t.rows.rest ≡ Ok (condition, names) → All (λ name. IsUtf8 name) names
+names_are_text text stop start rest i given t condition names initial table ending =
+    let first : KeptInitial i = ok_is (λ (x : Initial × List Piece). KeptInitial x.0) (initial_at stop [] start) (i, rest) (initial_keeps stop start) initial in
+    let kept : KeptTable (length i.names) t = ok_is (KeptTable (length i.names)) (table_at stop given i.names rest) t (table_keeps stop given i.names rest first.names) table in
+    let after : EndingKept t.cores t.rows.names (condition, names) = ok_is (EndingKept t.cores t.rows.names) (tail_at text stop t.cores t.rows.names t.rows.rest) (condition, names) (tail_keeps text stop t.cores t.rows.names t.rows.rest kept.kept.names) ending in
+    All-weaker (λ name. IsLocation name) (λ name. IsUtf8 name) location_text names after.grown.names.spelled
+
+test_fits : (name : List ℕ) (cores least : ℕ) (old : List (List ℕ)) (words : List ℕ) (registers : List (List ℕ)) (instrs : List CoreInstr) (condition : Option Condition) (names : List (List ℕ))
+    → is_test_name name ≡ true → 0 < cores → cores ≤ 4 → length registers ≡ cores → length words ≤ least → Kept least instrs old → EndingKept cores old (condition, names)
+    → IsTest (test_of name names words registers instrs condition)
+test_fits name cores least old words registers instrs condition names is some few each given kept after =
+    let n : length (programs_from 0 (length registers) instrs) ≡ length registers = length-programs 0 (length registers) instrs in
     record {
       name_spelled = is;
-      some_core = omega (arith, n, kept.some);
-      cores = omega (arith, n, kept.few);
-      registers_given = length-replicate t.cores no_registers ∙ sym n;
+      some_core = omega (arith, n, some, each);
+      cores = omega (arith, n, few, each);
+      registers_given = sym n;
       location_count = after.grown.names.count;
-      locations_spelled = list_all-from_AllPass is_location_name c.names after.grown.names.spelled;
+      locations_spelled = list_all-from_AllPass is_location_name names after.grown.names.spelled;
       locations_differ = after.grown.names.differ;
-      words_given = length-replicate (length c.names) 0;
-      programs_fit = programs_fit (length c.names) t.instrs
-          (All-weaker (λ i. KnownLocation (length t.names) i.instr) (λ i. KnownLocation (length c.names) i.instr) (λ i k. known_further _ _ i.instr after.grown.grown k) t.instrs kept.kept.known)
-          kept.kept.room t.cores 0;
-      condition_fits = λ x e. rw n (after.fits x e);
+      words_given = length-words (length names) words (omega (arith, given, kept.more, after.grown.grown));
+      programs_fit = programs_fit (length names) instrs
+          (All-weaker (λ i. KnownLocation (length old) i.instr) (λ i. KnownLocation (length names) i.instr) (λ i k. known_further _ _ i.instr after.grown.grown k) instrs kept.known)
+          kept.room (length registers) 0;
+      condition_fits = λ x e. rw (n, each) (after.fits x e);
     }
 
-body_keeps : (name : List ℕ) (stop : Stop) (ps : List Piece) → is_test_name name ≡ true → IfOk (body_of name stop ps) IsTest
+body_keeps : (name text : List ℕ) (stop : Stop) (ps : List Piece) → is_test_name name ≡ true → IfOk (body_of name text stop ps) IsTest
 unfolding body_of
-body_keeps name stop ps is =
-    bind_keeps (λ x. Any x) IsTest (initial_at stop ps) _ (ok_any _)
-    (λ rest _. bind_keeps KeptTable IsTest (table_at stop [] rest) _ (table_keeps stop rest)
-    (λ t kept. bind_keeps (KeptCondition t.cores t.names) IsTest (condition_at stop t.cores t.names t.rest) _ (condition_keeps stop t.cores t.names t.rest kept.kept.names)
-    (λ c after. bind_keeps (λ x. Any x) IsTest (end_at stop c.rest) _ (ok_any _) (λ end _. test_fits name t c is kept after))))
+body_keeps name text stop ps is =
+    bind_keeps (λ (x : Initial × List Piece). KeptInitial x.0) IsTest (initial_at stop [] ps) _ (initial_keeps stop ps)
+    (λ i first. bind_keeps (KeptTable (length i.0.names)) IsTest (table_at stop i.0.registers i.0.names i.1) _ (table_keeps stop i.0.registers i.0.names i.1 first.names)
+    (λ t kept. bind_keeps (EndingKept t.cores t.rows.names) IsTest (tail_at text stop t.cores t.rows.names t.rows.rest) _ (tail_keeps text stop t.cores t.rows.names t.rows.rest kept.kept.names)
+    (λ ending after. test_fits name t.cores (length i.0.names) t.rows.names i.0.words t.registers t.rows.instrs ending.0 ending.1 is kept.some kept.few kept.each first.few kept.kept after)))
 
 pub spelled_is_test : (text : List ℕ) (t : Litmus) → reading_of text ≡ Ok t → IsTest t
 unfolding reading_of
@@ -119,4 +144,4 @@ spelled_is_test text t is = ok_is IsTest _ t
     (bind_keeps (λ x. Any x) IsTest (sized text) _ (ok_any _)
     (λ bytes _. bind_keeps IsNamed IsTest (header_at bytes) _ (header_named bytes)
     (λ header named. bind_keeps (λ x. Any x) IsTest (braces_at header.1) _ (ok_any _)
-    (λ braces _. body_keeps header.0 (pieces_of braces).1 (pieces_of braces).0 named)))) is
+    (λ braces _. body_keeps header.0 braces (pieces_of braces).1 (pieces_of braces).0 named)))) is

@@ -1,33 +1,30 @@
 -- The condition. (This project's profile.)
-use Rattle.std.specs.Prelude.{ℕ, zero, suc, ◌+◌, Bool, true, false, List, [], ◌∷◌, length, codes, Option, Some, None, Result, Ok, Err, nat_lt, is_some, ◌||◌, if◌then◌else◌}
-use Rattle.std.specs.Str.{bytes_eq}
-use Rattle.tso_model.specs.Condition.{Claim, RegClaim, LocClaim, AndClaim, Condition}
+use Rattle.std.specs.Prelude.{ℕ, zero, suc, ◌+◌, Bool, true, false, List, length, codes, Option, Some, None, Result, Ok, Err, nat_lt, is_some, ◌||◌, if◌then◌else◌}
+use Rattle.tso_model.specs.Condition.{Claim, TruthClaim, RegClaim, LocClaim, NotClaim, AndClaim, OrClaim, Condition}
 use Rattle.tso_model.specs.declared.condition.Quantifier.{Quantifier}
-use Rattle.tso_model.specs.declared.condition.Quantifier.TheVariants.{Exists}
+use Rattle.tso_model.specs.declared.condition.Quantifier.TheVariants.{Exists, NotExists, Forall}
 use Rattle.tso_model.specs.declared.limits.TheConstants.{MAX_ATOMS}
 use Rattle.litmus_tokens.specs.declared.token.Stop.{Stop}
 use Rattle.litmus_tokens.specs.declared.token.Symbol.{Symbol}
-use Rattle.litmus_tokens.specs.declared.token.Symbol.TheVariants.{OpenRound, CloseRound, And, Tilde}
+use Rattle.litmus_tokens.specs.declared.token.Symbol.TheVariants.{OpenRound, CloseRound, And, Or, Tilde}
 use Rattle.litmus_tokens.specs.Pieces.{Piece}
-use Rattle.litmus_tokens.specs.Front.{is_symbol, symbol_at, name_at}
-use Rattle.litmus_reader.specs.declared.fault.Why.TheVariants.{BadCondition, NoSuchCore, TooLarge}
+use Rattle.litmus_tokens.specs.Front.{symbol_at}
+use Rattle.litmus_reader.specs.declared.fault.Why.TheVariants.{BadCondition, TooLarge}
 use Rattle.litmus_reader.specs.declared.fault.Fault.{Fault}
 use Rattle.litmus_reader.specs.declared.fault.Part.{Part}
-use Rattle.litmus_reader.specs.Faults.{◌>>=◌, fault, at_stop, left_of, unfit, or_unfit, there}
+use Rattle.litmus_reader.specs.declared.condition.TheConstants.{MAX_OPEN}
+use Rattle.litmus_reader.specs.Faults.{◌>>=◌, fault, at_stop, left_of, or_unfit, there}
+use Rattle.litmus_reader.specs.Keywords.{word_behind}
 use Rattle.litmus_reader.specs.Locations.{located}
-use Rattle.litmus_reader.specs.Items.{Setting, of_register, of_location, setting_at, word_at}
+use Rattle.litmus_reader.specs.Items.{Setting, of_register, of_location, setting_at, word_at, core_of}
 
 abbrev pub in_condition : Stop → Part
 in_condition stop = record { why = BadCondition; missing = at_stop (fault BadCondition 0) stop }
 
--- a core of the test
-abbrev pub core_of : ℕ → ℕ → ℕ → Result ℕ Fault
-core_of cores left core = if nat_lt core cores then Ok core else Err (fault NoSuchCore left)
-
 -- the claim of a setting, and the names with its location's
 unfoldable pub claim_in : ℕ → ℕ → List (List ℕ) → Setting → Result (Claim × List (List ℕ)) Fault
-claim_in cores left names (of_register n reg v) = do
-  core ← core_of cores left n
+claim_in cores left names (of_register digits reg v) = do
+  core ← core_of cores left digits
   value ← word_at left v
   Ok (RegClaim core reg value, names)
 claim_in cores left names (of_location x v) = do
@@ -46,12 +43,33 @@ pub record Claimed : Type 0 where
 abbrev pub claimed : Claim → ℕ → List (List ℕ) → List Piece → Claimed
 claimed claim atoms names rest = record { claim = claim; atoms = atoms; names = names; rest = rest }
 
--- an atom behind so many others
-unfoldable pub atom_at : Stop → ℕ → ℕ → List (List ℕ) → List Piece → Result Claimed Fault
-atom_at stop cores atoms names ps = do
+-- how many atoms there are with one more; one too many is refused at `left`
+abbrev pub one_more : ℕ → ℕ → Result ℕ Fault
+one_more left atoms = if nat_lt atoms MAX_ATOMS then Ok (atoms + 1) else Err (fault TooLarge left)
+
+-- `true` or `false`
+unfoldable pub truth_at : List Piece → Option (Bool × List Piece)
+truth_at ps =
+    there (word_behind (codes "true") ps) (λ rest. Some (true, rest))
+    (there (word_behind (codes "false") ps) (λ rest. Some (false, rest)) None)
+
+-- an atom that is true or false, behind so many others
+abbrev pub truth_atom : ℕ → ℕ → List (List ℕ) → Bool × List Piece → Result Claimed Fault
+truth_atom left atoms names t = do
+  n ← one_more left atoms
+  Ok (claimed (TruthClaim t.0) n names t.1)
+
+-- an atom of a register or a location, behind so many others
+unfoldable pub setting_atom : Stop → ℕ → ℕ → List (List ℕ) → List Piece → Result Claimed Fault
+setting_atom stop cores atoms names ps = do
   setting ← setting_at (in_condition stop) ps
   claim ← claim_in cores (left_of ps) names setting.0
-  if nat_lt atoms MAX_ATOMS then Ok (claimed claim.0 (atoms + 1) claim.1 setting.1) else Err (fault TooLarge (left_of ps))
+  n ← one_more (left_of ps) atoms
+  Ok (claimed claim.0 n claim.1 setting.1)
+
+-- an atom behind so many others
+unfoldable pub atom_at : Stop → ℕ → ℕ → List (List ℕ) → List Piece → Result Claimed Fault
+atom_at stop cores atoms names ps = there (truth_at ps) (truth_atom (left_of ps) atoms names) (setting_atom stop cores atoms names ps)
 
 -- a reading of a proposition, behind so many atoms and with these names
 abbrev pub Proposition : Type 0
@@ -74,26 +92,56 @@ chain_of symbol join unit atoms names ps = do
   first ← unit atoms names ps
   chain symbol join unit (length first.rest) first
 
--- atoms joined by `/\`
-abbrev pub proposition_at : Stop → ℕ → Proposition
-proposition_at stop cores = chain_of And (λ left right. AndClaim left right) (atom_at stop cores)
+abbrev pub both : Claim → Claim → Claim
+both left right = AndClaim left right
 
--- a claim, the names of locations, and what stands behind
-pub record Bracketed : Type 0 where
-  pub claim : Claim
-  pub names : List (List ℕ)
-  pub rest : List Piece
+abbrev pub either : Claim → Claim → Claim
+either left right = OrClaim left right
 
-abbrev pub claim_and_rest : Claim → List (List ℕ) → List Piece → Bracketed
-claim_and_rest claim names rest = record { claim = claim; names = names; rest = rest }
+-- units joined by `/\`
+abbrev pub conjunction : Proposition → Proposition
+conjunction unit = chain_of And both unit
 
--- the proposition in its brackets
-unfoldable pub bracketed_at : Stop → ℕ → List (List ℕ) → List Piece → Result Bracketed Fault
-bracketed_at stop cores names ps = do
-  inner ← or_unfit (in_condition stop) ps (symbol_at OpenRound ps)
-  c ← proposition_at stop cores 0 names inner
+-- conjunctions joined by `\/`
+abbrev pub disjunction : Proposition → Proposition
+disjunction unit = chain_of Or either (conjunction unit)
+
+-- what stands behind a `~` or a `not`
+unfoldable pub negation_at : List Piece → Option (List Piece)
+negation_at ps = there (symbol_at Tilde ps) (λ rest. Some rest) (word_behind (codes "not") ps)
+
+-- whether a negation or a bracket begins here
+unfoldable pub opens_unit : List Piece → Bool
+opens_unit ps = is_some (negation_at ps) || is_some (symbol_at OpenRound ps)
+
+-- the unit behind a negation
+abbrev pub negated : Proposition → ℕ → List (List ℕ) → List Piece → Result Claimed Fault
+negated inner atoms names ps = do
+  c ← inner atoms names ps
+  Ok (claimed (NotClaim c.claim) c.atoms c.names c.rest)
+
+-- the proposition behind a `(`, and its `)`
+abbrev pub bracketed : Stop → Proposition → ℕ → List (List ℕ) → List Piece → Result Claimed Fault
+bracketed stop inner atoms names ps = do
+  c ← disjunction inner atoms names ps
   rest ← or_unfit (in_condition stop) c.rest (symbol_at CloseRound c.rest)
-  Ok (claim_and_rest c.claim c.names rest)
+  Ok (claimed c.claim c.atoms c.names rest)
+
+-- a unit whose own units are read by `inner`
+unfoldable pub unit_by : Stop → ℕ → Proposition → Proposition
+unit_by stop cores inner atoms names ps =
+    there (negation_at ps) (negated inner atoms names)
+    (there (symbol_at OpenRound ps) (bracketed stop inner atoms names)
+    (atom_at stop cores atoms names ps))
+
+-- a unit, in which n more negations and brackets may be open at once
+unfoldable pub unit_at : Stop → ℕ → ℕ → Proposition
+unit_at stop cores zero atoms names ps = if opens_unit ps then Err (fault TooLarge (left_of ps)) else atom_at stop cores atoms names ps
+unit_at stop cores (suc n) atoms names ps = unit_by stop cores (unit_at stop cores n) atoms names ps
+
+-- a proposition, in which so many negations and brackets may be open at once
+abbrev pub proposition_at : Stop → ℕ → ℕ → Proposition
+proposition_at stop cores opens = disjunction (unit_at stop cores opens)
 
 -- what the condition gives, and what stands behind it
 pub record Conditioned : Type 0 where
@@ -104,23 +152,25 @@ pub record Conditioned : Type 0 where
 abbrev pub conditioned : Option Condition → List (List ℕ) → List Piece → Conditioned
 conditioned condition names rest = record { condition = condition; names = names; rest = rest }
 
-abbrev pub quantified : Quantifier → Bracketed → Conditioned
-quantified quantifier b = conditioned (Some (record { quantifier = quantifier; claim = b.claim })) b.names b.rest
+abbrev pub with_claim : Quantifier → Claimed → Conditioned
+with_claim quantifier c = conditioned (Some (record { quantifier = quantifier; claim = c.claim })) c.names c.rest
 
-abbrev pub if_word : List ℕ → List ℕ × List Piece → Option (List Piece)
-if_word word found = if bytes_eq found.0 word then Some found.1 else None
+-- the proposition behind this quantifier
+unfoldable pub quantified : Stop → ℕ → Quantifier → List (List ℕ) → List Piece → Result Conditioned Fault
+quantified stop cores quantifier names ps = do
+  c ← proposition_at stop cores MAX_OPEN 0 names ps
+  Ok (with_claim quantifier c)
 
--- what stands behind this word, if it is at the front
-unfoldable pub word_behind : List ℕ → List Piece → Option (List Piece)
-word_behind word ps = there (name_at ps) (if_word word) None
+-- `exists` behind a `~`
+unfoldable pub not_exists : Stop → ℕ → List (List ℕ) → List Piece → Result Conditioned Fault
+not_exists stop cores names ps = do
+  rest ← or_unfit (in_condition stop) ps (word_behind (codes "exists") ps)
+  quantified stop cores NotExists names rest
 
--- `~` and `forall` aren't read yet
-abbrev pub not_read_yet : Stop → List Piece → Result Conditioned Fault
-not_read_yet stop ps = Err (unfit (in_condition stop) ps)
-
--- the condition, if there is one: `exists` and a proposition in brackets
+-- the condition, if there is one: `exists`, `forall` or `~exists`, and a proposition
 unfoldable pub condition_at : Stop → ℕ → List (List ℕ) → List Piece → Result Conditioned Fault
 condition_at stop cores names ps =
-    there (word_behind (codes "exists") ps) (λ rest. bracketed_at stop cores names rest >>= λ b. Ok (quantified Exists b))
-    (if is_some (word_behind (codes "forall") ps) || is_some (symbol_at Tilde ps) then not_read_yet stop ps
-    else Ok (conditioned None names ps))
+    there (word_behind (codes "exists") ps) (quantified stop cores Exists names)
+    (there (word_behind (codes "forall") ps) (quantified stop cores Forall names)
+    (there (symbol_at Tilde ps) (not_exists stop cores names)
+    (Ok (conditioned None names ps))))

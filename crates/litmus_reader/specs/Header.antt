@@ -1,11 +1,11 @@
--- The size of a text, its header line, and what stands between that and the initial state. (This project's profile.)
+-- The size of a text and its header line. (This project's profile.)
 use Rattle.std.specs.Prelude.{ℕ, ◌-◌, Bool, false, List, [], ◌∷◌, length, take, drop, codes, nat_eq, Option, Some, None, Result, Ok, Err, nat_lt, ◌==◌, ◌&&◌, ◌||◌, if◌then◌else◌}
 use Rattle.std.specs.List.{prefix_len, suffix_len, list_all, before_first, after_first, starts_with}
 use Rattle.tso_model.specs.Names.{is_test_name, is_printable}
 use Rattle.litmus_tokens.specs.declared.token.Stop.{Stop}
 use Rattle.litmus_tokens.specs.Gap.{gap_end}
 use Rattle.litmus_reader.specs.declared.header.TheConstants.{MAX_TEXT}
-use Rattle.litmus_reader.specs.declared.fault.Why.TheVariants.{NoHeader, Unclosed, TooLarge, BadToken}
+use Rattle.litmus_reader.specs.declared.fault.Why.TheVariants.{NoHeader, Unclosed, TooLarge}
 use Rattle.litmus_reader.specs.declared.fault.Fault.{Fault}
 use Rattle.litmus_reader.specs.Faults.{◌>>=◌, fault, at_stop}
 
@@ -58,14 +58,3 @@ header_at text = do
   at ← from_gap (gap_end None text)
   name ← judged (length at) (name_in (first_line at).0)
   Ok (name, (first_line at).1)
-
--- information lines aren't read yet: the initial state's `{` has to be next
-unfoldable pub opened : List ℕ → Result (List ℕ) Fault
-opened [] = Err (fault Unclosed 0)
-opened (b ∷ bs) = if b == 123 then Ok (b ∷ bs) else Err (fault BadToken (length (b ∷ bs)))
-
--- what stands from the `{` of the initial state on
-unfoldable pub braces_at : List ℕ → Result (List ℕ) Fault
-braces_at bytes = do
-  at ← from_gap (gap_end None bytes)
-  opened at

@@ -1,5 +1,5 @@
 -- `c:REG=v`, `x=v` and `[x]=v`, as they stand in the initial state and in conditions. (This project's profile.)
-use Rattle.std.specs.Prelude.{ℕ, List, [], ◌∷◌, Option, Some, None, Result, Ok, Err, nat_lt, if◌then◌else◌}
+use Rattle.std.specs.Prelude.{ℕ, List, Option, Some, None, Result, Ok, Err, nat_lt, if◌then◌else◌}
 use Rattle.tso_model.specs.Names.{is_location_name}
 use Rattle.tso_model.specs.Registers.{register_named}
 use Rattle.tso_model.specs.declared.register.Reg.{Reg}
@@ -7,20 +7,20 @@ use Rattle.litmus_tokens.specs.declared.token.Symbol.TheVariants.{Equals, Colon,
 use Rattle.litmus_tokens.specs.Terms.{decimal, word_of}
 use Rattle.litmus_tokens.specs.Pieces.{Piece}
 use Rattle.litmus_tokens.specs.Front.{symbol_at, name_at, number_at}
-use Rattle.litmus_reader.specs.declared.fault.Why.TheVariants.{BadNumber}
+use Rattle.litmus_reader.specs.declared.fault.Why.TheVariants.{BadNumber, NoSuchCore}
 use Rattle.litmus_reader.specs.declared.fault.Fault.{Fault}
 use Rattle.litmus_reader.specs.declared.fault.Part.{Part}
 use Rattle.litmus_reader.specs.declared.item.Item.{Item}
 use Rattle.litmus_reader.specs.declared.item.Item.TheVariants as code
 use Rattle.litmus_reader.specs.Faults.{◌>>=◌, fault, or_unfit, there}
 
--- a register's or a location's value, numbers of any size
+-- A register's or a location's value, of any size. The core is its digits, without leading zeros.
 pub data Setting : Type 0 where
-  of_register : (core : ℕ) → (reg : Reg) → (value : ℕ) → Setting
+  of_register : (core : List ℕ) → (reg : Reg) → (value : ℕ) → Setting
   of_location : (name : List ℕ) → (value : ℕ) → Setting
 
 abbrev pub setting_of : Item → Setting
-setting_of (code.Register core reg value) = of_register (decimal core.now) reg (decimal value.now)
+setting_of (code.Register core reg value) = of_register core.now reg (decimal value.now)
 setting_of (code.Location name value) = of_location name.now (decimal value.now)
 
 abbrev pub if_location : List ℕ × List Piece → Option (List ℕ × List Piece)
@@ -41,10 +41,11 @@ register_at ps = there (name_at ps) if_register None
 unfoldable pub value_at : Part → List Piece → Result (ℕ × List Piece) Fault
 value_at part ps = do
   rest ← or_unfit part ps (symbol_at Equals ps)
-  or_unfit part rest (number_at rest)
+  digits ← or_unfit part rest (number_at rest)
+  Ok (decimal digits.0, digits.1)
 
 -- `:REG=v`, behind its core
-unfoldable pub register_setting : Part → ℕ → List Piece → Result (Setting × List Piece) Fault
+unfoldable pub register_setting : Part → List ℕ → List Piece → Result (Setting × List Piece) Fault
 register_setting part core ps = do
   rest ← or_unfit part ps (symbol_at Colon ps)
   reg ← or_unfit part rest (register_at rest)
@@ -79,3 +80,7 @@ or_bad_number left None = Err (fault BadNumber left)
 -- a number for which a word has room
 abbrev pub word_at : ℕ → ℕ → Result ℕ Fault
 word_at left n = or_bad_number left (word_of n)
+
+-- a core of the test; any other, of whatever size, is refused
+abbrev pub core_of : ℕ → ℕ → List ℕ → Result ℕ Fault
+core_of cores left digits = if nat_lt (decimal digits) cores then Ok (decimal digits) else Err (fault NoSuchCore left)

@@ -1,6 +1,8 @@
 pub mod Why
 pub mod Faults
 pub mod Header
+pub mod Information
+pub mod Keywords
 pub mod Locations
 pub mod Items
 pub mod Initial
@@ -9,6 +11,7 @@ pub mod Operands
 pub mod Forms
 pub mod Cells
 pub mod Rows
+pub mod Observed
 pub mod Conditions
 pub mod Reading
 pub mod Spelling

@@ -21,8 +21,8 @@ place_of (code.Location name) = in_memory name.now
 place_of (code.Register reg) = in_register reg
 place_of (code.Number digits) = constant (decimal digits.now)
 
-abbrev pub as_constant : ℕ × List Piece → Option (Place × List Piece)
-as_constant found = Some (constant found.0, found.1)
+abbrev pub as_constant : List ℕ × List Piece → Option (Place × List Piece)
+as_constant found = Some (constant (decimal found.0), found.1)
 
 -- `v`, behind its `$`
 abbrev pub dollar_at : List Piece → Option (Place × List Piece)

@@ -1,5 +1,5 @@
 -- The reading of a whole text, part by part in the order of the text. (This project's profile.)
-use Rattle.std.specs.Prelude.{ℕ, ◌+◌, zero, suc, List, [], ◌∷◌, length, map, filter, replicate, Option, Result, Ok, Err, ◌==◌}
+use Rattle.std.specs.Prelude.{ℕ, ◌+◌, zero, suc, List, [], ◌∷◌, length, map, filter, Option, Some, None, Result, Ok, Err, ◌==◌}
 use Rattle.tso_model.specs.Litmus.{Litmus}
 use Rattle.tso_model.specs.Condition.{Condition}
 use Rattle.tso_model.specs.declared.instruction.Instr.{Instr}
@@ -10,9 +10,11 @@ use Rattle.litmus_reader.specs.declared.fault.Why.TheVariants.{BadToken, Unclose
 use Rattle.litmus_reader.specs.declared.fault.Fault.{Fault}
 use Rattle.litmus_reader.specs.declared.cell.CoreInstr.{CoreInstr}
 use Rattle.litmus_reader.specs.Faults.{◌>>=◌, fault}
-use Rattle.litmus_reader.specs.Header.{sized, header_at, braces_at}
-use Rattle.litmus_reader.specs.Initial.{initial_at}
+use Rattle.litmus_reader.specs.Header.{sized, header_at}
+use Rattle.litmus_reader.specs.Information.{braces_at}
+use Rattle.litmus_reader.specs.Initial.{words_of, initial_at}
 use Rattle.litmus_reader.specs.Rows.{table_at}
+use Rattle.litmus_reader.specs.Observed.{observed_end}
 use Rattle.litmus_reader.specs.Conditions.{condition_at}
 
 -- the end of the text has to follow
@@ -31,29 +33,42 @@ abbrev pub programs_from : ℕ → ℕ → List CoreInstr → List (List Instr)
 programs_from core zero instrs = []
 programs_from core (suc n) instrs = program_of instrs core ∷ programs_from (core + 1) n instrs
 
--- each register begins as 0
-abbrev pub no_registers : List ℕ
-no_registers = 0 ∷ 0 ∷ 0 ∷ 0 ∷ 0 ∷ 0 ∷ []
-
--- the test of what was read; words and registers begin as 0
-abbrev pub test_of : List ℕ → List (List ℕ) → ℕ → List CoreInstr → Option Condition → Litmus
-test_of name names cores instrs condition = record {
+-- the test of what was read: each core has its registers and its program
+abbrev pub test_of : List ℕ → List (List ℕ) → List ℕ → List (List ℕ) → List CoreInstr → Option Condition → Litmus
+test_of name names words registers instrs condition = record {
   name = name;
   locations = names;
-  words = replicate (length names) 0;
-  registers = replicate cores no_registers;
-  programs = programs_from 0 cores instrs;
+  words = words_of (length names) words;
+  registers = registers;
+  programs = programs_from 0 (length registers) instrs;
   condition = condition;
 }
 
--- the initial state, the table and the condition, and then the end
-unfoldable pub body_of : List ℕ → Stop → List Piece → Result Litmus Fault
-body_of name stop ps = do
-  rest ← initial_at stop ps
-  table ← table_at stop [] rest
-  c ← condition_at stop table.cores table.names table.rest
+-- the condition, and then the end
+unfoldable pub ending_at : Stop → ℕ → List (List ℕ) → List Piece → Result (Option Condition × List (List ℕ)) Fault
+ending_at stop cores names ps = do
+  c ← condition_at stop cores names ps
   end ← end_at stop c.rest
-  Ok (test_of name c.names table.cores table.instrs c.condition)
+  Ok (c.condition, c.names)
+
+-- the condition and the end, behind `locations [..]` if bytes behind it are given
+abbrev pub ending_from : Stop → ℕ → List (List ℕ) → List Piece → Option (List ℕ) → Result (Option Condition × List (List ℕ)) Fault
+ending_from stop cores names ps None = ending_at stop cores names ps
+ending_from stop cores names ps (Some bytes) = ending_at (pieces_of bytes).1 cores names (pieces_of bytes).0
+
+-- what stands behind the rows
+unfoldable pub tail_at : List ℕ → Stop → ℕ → List (List ℕ) → List Piece → Result (Option Condition × List (List ℕ)) Fault
+tail_at text stop cores names ps = do
+  behind ← observed_end text stop ps
+  ending_from stop cores names ps behind
+
+-- the initial state, the table and what stands behind it; the tokens are those of this end of the text
+unfoldable pub body_of : List ℕ → List ℕ → Stop → List Piece → Result Litmus Fault
+body_of name text stop ps = do
+  initial ← initial_at stop [] ps
+  table ← table_at stop initial.0.registers initial.0.names initial.1
+  ending ← tail_at text stop table.cores table.rows.names table.rows.rest
+  Ok (test_of name ending.1 initial.0.words table.registers table.rows.instrs ending.0)
 
 -- the test, or the first fault in the order of the text
 unfoldable pub reading_of : List ℕ → Result Litmus Fault
@@ -61,4 +76,4 @@ reading_of text = do
   bytes ← sized text
   header ← header_at bytes
   braces ← braces_at header.1
-  body_of header.0 (pieces_of braces).1 (pieces_of braces).0
+  body_of header.0 braces (pieces_of braces).1 (pieces_of braces).0

@@ -11,6 +11,7 @@ use Rattle.litmus_reader.specs.declared.fault.Why.TheVariants.{Unclosed, WrongCe
 use Rattle.litmus_reader.specs.declared.fault.Fault.{Fault}
 use Rattle.litmus_reader.specs.declared.cell.CoreInstr.{CoreInstr}
 use Rattle.litmus_reader.specs.Faults.{◌>>=◌, fault, at_stop, left_of}
+use Rattle.litmus_reader.specs.Initial.{Given, registers_of}
 use Rattle.litmus_reader.specs.Columns.{columns_at}
 use Rattle.litmus_reader.specs.Cells.{cells_in}
 
@@ -67,18 +68,19 @@ rows_within (suc n) stop cores instrs names ps =
 unfoldable pub rows_at : Stop → ℕ → List (List ℕ) → List Piece → Result Rows Fault
 rows_at stop cores names ps = rows_within (length ps) stop cores [] names ps
 
--- the header row and the rows: how many cores there are, and what the rows give
+-- the header row and the rows: how many cores there are, their first registers, and what the rows give
 pub record Table : Type 0 where
   pub cores : ℕ
-  pub instrs : List CoreInstr
-  pub names : List (List ℕ)
-  pub rest : List Piece
+  pub registers : List (List ℕ)
+  pub rows : Rows
 
-abbrev pub table : ℕ → Rows → Table
-table cores r = record { cores = cores; instrs = r.instrs; names = r.names; rest = r.rest }
+abbrev pub table : ℕ → List (List ℕ) → Rows → Table
+table cores registers r = record { cores = cores; registers = registers; rows = r }
 
-unfoldable pub table_at : Stop → List (List ℕ) → List Piece → Result Table Fault
-table_at stop names ps = do
-  cores ← columns_at stop ps
-  r ← rows_at stop cores.0 names cores.1
-  Ok (table cores.0 r)
+-- the header row, at whose end each core of the initial state has to be there, and then the rows
+unfoldable pub table_at : Stop → List Given → List (List ℕ) → List Piece → Result Table Fault
+table_at stop given names ps = do
+  columns ← columns_at stop ps
+  registers ← registers_of columns.0 given
+  r ← rows_at stop columns.0 names columns.1
+  Ok (table columns.0 registers r)

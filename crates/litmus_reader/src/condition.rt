@@ -1,22 +1,25 @@
-ghost use Rattle.std.specs.Prelude.{◌≡◌, ◌≤◌, ◌<◌, ◌+◌, length, codes, Some, None, Ok, IfOk};
+ghost use Rattle.std.specs.Prelude.{◌≡◌, ◌≤◌, ◌<◌, ◌+◌, length, codes, Some, None, Ok, IfOk, IfSome};
 ghost use Rattle.std.specs.Option.{option_map};
-ghost use Rattle.tso_model.specs.Condition.{claim_of, condition_of, AndClaim};
+ghost use Rattle.tso_model.specs.Condition.{claim_of, condition_of, NotClaim};
 ghost use Rattle.litmus_tokens.specs.Pieces.{pieces};
-ghost use Rattle.litmus_tokens.specs.Terms.{decimal};
 ghost use Rattle.litmus_reader.specs.Faults.{seen, Gives};
 ghost use Rattle.litmus_reader.specs.Locations.{texts};
 ghost use Rattle.litmus_reader.specs.Items.{setting_of};
 ghost use Rattle.litmus_reader.specs.Conditions as spec;
-ghost use Rattle.litmus_reader.specs.Conditions.{claimed, claim_and_rest, conditioned};
+ghost use Rattle.litmus_reader.specs.Conditions.{claimed, conditioned};
 
 use crate::fault::{Fault, Part, ReadError, Why, at_stop, left_of};
-use crate::item::{Item, item_at, word_at};
+use crate::item::{Item, core_of, item_at, word_at};
+use crate::keyword::after_word;
 use crate::location::located;
 use indexmap::IndexSet;
-use litmus_tokens::{Stop, Symbol, Token, after_symbol, name_at, word};
+use litmus_tokens::{Stop, Symbol, Token, after_symbol};
 use std::alloc::Global;
 use tso_model::limits::MAX_ATOMS;
-use tso_model::{Cond, Core, Prop, Quantifier};
+use tso_model::{Cond, Prop, Quantifier};
+
+/// So many negations and brackets of a condition may be open at once.
+pub const MAX_OPEN: usize = 64;
 
 fn in_condition(stop: Stop) -> Part
     ensures { result ≡ spec.in_condition stop }
@@ -28,20 +31,6 @@ fn in_condition(stop: Stop) -> Part
     Part {
         why: Why::BadCondition,
         missing: at_stop(end, stop),
-    }
-}
-
-/// A core of the test; `NoSuchCore` at `left` for any other, of whatever size.
-fn core_of(cores: usize, left: usize, digits: &[u8]) -> Result<Core, Fault>
-    requires { cores ≤ 4 }
-    ensures { seen (λ core. core.0) result ≡ spec.core_of cores left (decimal digits.now) }
-{
-    match word(digits) {
-        Some(core) if (core as usize) < cores => Ok(Core(core as u8)),
-        _ => Err(Fault {
-            why: Why::NoSuchCore,
-            left,
-        }),
     }
 }
 
@@ -72,6 +61,53 @@ fn prop_of<'a>(
     }
 }
 
+/// Counts one atom more; `TooLarge` at `left` for one too many.
+fn count_atom(left: usize, atoms: &mut usize) -> Result<(), Fault>
+    ensures { seen (λ _. atoms.new) result ≡ spec.one_more left atoms.old }
+{
+    if *atoms >= MAX_ATOMS {
+        return Err(Fault {
+            why: Why::TooLarge,
+            left,
+        });
+    }
+    *atoms += 1;
+    Ok(())
+}
+
+/// Whether `true` or `false` is at the front, and the tokens behind it.
+#[tactic(auto, unfolding(crate::specs::Conditions::truth_at))]
+fn truth_at<'a, 'b>(tokens: &'b [Token<'a>]) -> Option<(bool, &'b [Token<'a>])>
+    ensures value { option_map (λ x. (x.0, pieces x.1.now)) result ≡ spec.truth_at (pieces tokens.now) }
+    ensures shorter { IfSome result (λ x. length x.1.now < length tokens.now) }
+{
+    if let Some(rest) = after_word(b"true", tokens) {
+        return Some((true, rest));
+    }
+    let rest = after_word(b"false", tokens)?;
+    Some((false, rest))
+}
+
+/// The atom of a register or a location at the front, and the tokens behind it.
+#[tactic(auto, unfolding(crate::specs::Conditions::setting_atom))]
+fn setting_atom<'a, 'b>(
+    stop: Stop,
+    cores: usize,
+    atoms: &mut usize,
+    names: &mut IndexSet<&'a [u8]>,
+    tokens: &'b [Token<'a>],
+) -> Result<(Prop, &'b [Token<'a>]), ReadError>
+    requires { cores ≤ 4 }
+    ensures value { Gives (λ x. claimed (claim_of x.0) atoms.new (texts names.new.keys) (pieces x.1.now)) result (spec.setting_atom stop cores atoms.old (texts names.old.keys) (pieces tokens.now)) }
+    ensures shorter { IfOk result (λ x. length x.1.now < length tokens.now) }
+{
+    let left = left_of(tokens);
+    let (item, rest) = item_at(in_condition(stop), tokens)?;
+    let prop = prop_of(cores, left, names, item)?;
+    count_atom(left, atoms)?;
+    Ok((prop, rest))
+}
+
 /// The atom at the front, behind so many others, and the tokens behind it.
 ///
 /// `BadCondition` at a token that doesn't fit; then, at the atom's first token, `NoSuchCore`,
@@ -88,80 +124,164 @@ fn atom_at<'a, 'b>(
     ensures value { Gives (λ x. claimed (claim_of x.0) atoms.new (texts names.new.keys) (pieces x.1.now)) result (spec.atom_at stop cores atoms.old (texts names.old.keys) (pieces tokens.now)) }
     ensures shorter { IfOk result (λ x. length x.1.now < length tokens.now) }
 {
-    let left = left_of(tokens);
-    let (item, rest) = item_at(in_condition(stop), tokens)?;
-    let prop = prop_of(cores, left, names, item)?;
-    if *atoms >= MAX_ATOMS {
-        return Err(ReadError::Fault(Fault {
-            why: Why::TooLarge,
-            left,
-        }));
+    if let Some((truth, rest)) = truth_at(tokens) {
+        count_atom(left_of(tokens), atoms)?;
+        return Ok((Prop::Truth(truth), rest));
     }
-    *atoms += 1;
-    Ok((prop, rest))
+    setting_atom(stop, cores, atoms, names, tokens)
+}
+
+/// The negation of a proposition.
+fn not(alloc: Global, inner: Prop) -> Result<Prop, ReadError>
+    ensures { Gives (λ p. claim_of p) result (Ok (NotClaim (claim_of inner))) }
+{
+    Ok(Prop::Not(Box::new(alloc, inner)?))
 }
 
 /// Two propositions joined by `/\`.
 fn and(alloc: Global, left: Prop, right: Prop) -> Result<Prop, ReadError>
-    ensures { Gives (λ p. claim_of p) result (Ok (AndClaim (claim_of left) (claim_of right))) }
+    ensures { Gives (λ p. claim_of p) result (Ok (spec.both (claim_of left) (claim_of right))) }
 {
     Ok(Prop::And(Box::new(alloc, left)?, Box::new(alloc, right)?))
 }
 
-/// Atoms joined by `/\`, and the tokens behind them.
-fn proposition_at<'a, 'b>(
+/// Two propositions joined by `\/`.
+fn or(alloc: Global, left: Prop, right: Prop) -> Result<Prop, ReadError>
+    ensures { Gives (λ p. claim_of p) result (Ok (spec.either (claim_of left) (claim_of right))) }
+{
+    Ok(Prop::Or(Box::new(alloc, left)?, Box::new(alloc, right)?))
+}
+
+/// What stands behind a `~` or a `not`.
+#[tactic(auto, unfolding(crate::specs::Conditions::negation_at))]
+fn after_negation<'a, 'b>(tokens: &'b [Token<'a>]) -> Option<&'b [Token<'a>]>
+    ensures value { option_map (λ x. pieces x.now) result ≡ spec.negation_at (pieces tokens.now) }
+    ensures shorter { IfSome result (λ x. length x.now < length tokens.now) }
+{
+    if let Some(rest) = after_symbol(Symbol::Tilde, tokens) {
+        return Some(rest);
+    }
+    after_word(b"not", tokens)
+}
+
+/// Whether a negation or a bracket begins here.
+#[tactic(auto, unfolding(crate::specs::Conditions::opens_unit))]
+fn opens_unit(tokens: &[Token<'_>]) -> bool
+    ensures { result ≡ spec.opens_unit (pieces tokens.now) }
+{
+    after_negation(tokens).is_some() || after_symbol(Symbol::OpenRound, tokens).is_some()
+}
+
+/// The unit at the front, in which so many negations and brackets may be open at once, and the
+/// tokens behind it.
+///
+/// `TooLarge` at a negation or a bracket too many.
+#[cycle(condition)]
+#[tactic(auto, using(crate::proofs::Units::unit_last, crate::proofs::Units::unit_next), unfolding(crate::specs::Conditions::unit_by))]
+fn unit_at<'a, 'b>(
     alloc: Global,
     stop: Stop,
     cores: usize,
+    opens: usize,
     atoms: &mut usize,
     names: &mut IndexSet<&'a [u8]>,
     tokens: &'b [Token<'a>],
 ) -> Result<(Prop, &'b [Token<'a>]), ReadError>
     requires { cores ≤ 4 }
-    ensures { Gives (λ x. claimed (claim_of x.0) atoms.new (texts names.new.keys) (pieces x.1.now)) result (spec.proposition_at stop cores atoms.old (texts names.old.keys) (pieces tokens.now)) }
+    ensures value { Gives (λ x. claimed (claim_of x.0) atoms.new (texts names.new.keys) (pieces x.1.now)) result (spec.unit_at stop cores opens atoms.old (texts names.old.keys) (pieces tokens.now)) }
+    ensures shorter { IfOk result (λ x. length x.1.now < length tokens.now) }
 {
-    let (mut prop, mut rest) = atom_at(stop, cores, atoms, names, tokens)?;
+    if opens == 0 {
+        if opens_unit(tokens) {
+            return Err(ReadError::Fault(Fault {
+                why: Why::TooLarge,
+                left: left_of(tokens),
+            }));
+        }
+        return atom_at(stop, cores, atoms, names, tokens);
+    }
+    if let Some(rest) = after_negation(tokens) {
+        let (inner, rest) = unit_at(alloc, stop, cores, opens - 1, atoms, names, rest)?;
+        return Ok((not(alloc, inner)?, rest));
+    }
+    if let Some(inside) = after_symbol(Symbol::OpenRound, tokens) {
+        let (prop, rest) = proposition_at(alloc, stop, cores, opens - 1, atoms, names, inside)?;
+        let rest = in_condition(stop).expect(rest, after_symbol(Symbol::CloseRound, rest))?;
+        return Ok((prop, rest));
+    }
+    atom_at(stop, cores, atoms, names, tokens)
+}
+
+/// Units joined by `/\`, and the tokens behind them.
+#[cycle(condition)]
+fn conjunction_at<'a, 'b>(
+    alloc: Global,
+    stop: Stop,
+    cores: usize,
+    opens: usize,
+    atoms: &mut usize,
+    names: &mut IndexSet<&'a [u8]>,
+    tokens: &'b [Token<'a>],
+) -> Result<(Prop, &'b [Token<'a>]), ReadError>
+    requires { cores ≤ 4 }
+    ensures value { Gives (λ x. claimed (claim_of x.0) atoms.new (texts names.new.keys) (pieces x.1.now)) result (spec.conjunction (spec.unit_at stop cores opens) atoms.old (texts names.old.keys) (pieces tokens.now)) }
+    ensures shorter { IfOk result (λ x. length x.1.now < length tokens.now) }
+{
+    let (mut prop, mut rest) = unit_at(alloc, stop, cores, opens, atoms, names, tokens)?;
     while let Some(behind) = after_symbol(Symbol::And, rest) {
-        let (atom, after) = atom_at(stop, cores, atoms, names, behind)?;
-        prop = and(alloc, prop, atom)?;
+        let (unit, after) = unit_at(alloc, stop, cores, opens, atoms, names, behind)?;
+        prop = and(alloc, prop, unit)?;
         rest = after;
     }
     Ok((prop, rest))
 }
 
-/// What stands behind this word, if it is at the front.
-#[tactic(auto, unfolding(crate::specs::Conditions::word_behind))]
-fn after_word<'a, 'b>(word: &[u8], tokens: &'b [Token<'a>]) -> Option<&'b [Token<'a>]>
-    ensures { option_map (λ x. pieces x.now) result ≡ spec.word_behind word.now (pieces tokens.now) }
-{
-    let (name, rest) = name_at(tokens)?;
-    if name == word { Some(rest) } else { None }
-}
-
-/// The proposition in its brackets, and the tokens behind them.
-#[tactic(auto, unfolding(crate::specs::Conditions::bracketed_at))]
-fn bracketed_at<'a, 'b>(
+/// Conjunctions joined by `\/`, and the tokens behind them.
+#[cycle(condition)]
+fn proposition_at<'a, 'b>(
     alloc: Global,
     stop: Stop,
     cores: usize,
+    opens: usize,
+    atoms: &mut usize,
     names: &mut IndexSet<&'a [u8]>,
     tokens: &'b [Token<'a>],
 ) -> Result<(Prop, &'b [Token<'a>]), ReadError>
     requires { cores ≤ 4 }
-    ensures { Gives (λ x. claim_and_rest (claim_of x.0) (texts names.new.keys) (pieces x.1.now)) result (spec.bracketed_at stop cores (texts names.old.keys) (pieces tokens.now)) }
+    ensures value { Gives (λ x. claimed (claim_of x.0) atoms.new (texts names.new.keys) (pieces x.1.now)) result (spec.proposition_at stop cores opens atoms.old (texts names.old.keys) (pieces tokens.now)) }
+    ensures shorter { IfOk result (λ x. length x.1.now < length tokens.now) }
 {
-    let part = in_condition(stop);
-    let inner = part.expect(tokens, after_symbol(Symbol::OpenRound, tokens))?;
-    let mut atoms = 0;
-    let (prop, rest) = proposition_at(alloc, stop, cores, &mut atoms, names, inner)?;
-    let rest = part.expect(rest, after_symbol(Symbol::CloseRound, rest))?;
+    let (mut prop, mut rest) = conjunction_at(alloc, stop, cores, opens, atoms, names, tokens)?;
+    while let Some(behind) = after_symbol(Symbol::Or, rest) {
+        let (conjunction, after) = conjunction_at(alloc, stop, cores, opens, atoms, names, behind)?;
+        prop = or(alloc, prop, conjunction)?;
+        rest = after;
+    }
     Ok((prop, rest))
+}
+
+/// The condition of this quantifier, and the tokens behind it.
+#[tactic(auto, unfolding(crate::specs::Conditions::quantified))]
+fn quantified<'a, 'b>(
+    alloc: Global,
+    stop: Stop,
+    cores: usize,
+    quantifier: Quantifier,
+    names: &mut IndexSet<&'a [u8]>,
+    tokens: &'b [Token<'a>],
+) -> Result<(Option<Cond>, &'b [Token<'a>]), ReadError>
+    requires { cores ≤ 4 }
+    ensures { Gives (λ x. conditioned (option_map condition_of x.0) (texts names.new.keys) (pieces x.1.now)) result (spec.quantified stop cores quantifier (texts names.old.keys) (pieces tokens.now)) }
+{
+    let mut atoms = 0;
+    let (prop, rest) = proposition_at(alloc, stop, cores, MAX_OPEN, &mut atoms, names, tokens)?;
+    Ok((Some(Cond { quantifier, prop }), rest))
 }
 
 /// The condition, if there is one, and the tokens behind it.
 ///
 /// What stands in a condition and doesn't fit is `BadCondition`.
-#[tactic(auto, unfolding(crate::specs::Conditions::condition_at))]
+#[tactic(auto, unfolding(crate::specs::Conditions::condition_at, crate::specs::Conditions::not_exists))]
 pub fn condition_at<'a, 'b>(
     alloc: Global,
     stop: Stop,
@@ -173,17 +293,14 @@ pub fn condition_at<'a, 'b>(
     ensures { Gives (λ x. conditioned (option_map condition_of x.0) (texts names.new.keys) (pieces x.1.now)) result (spec.condition_at stop cores (texts names.old.keys) (pieces tokens.now)) }
 {
     if let Some(rest) = after_word(b"exists", tokens) {
-        let (prop, rest) = bracketed_at(alloc, stop, cores, names, rest)?;
-        return Ok((
-            Some(Cond {
-                quantifier: Quantifier::Exists,
-                prop,
-            }),
-            rest,
-        ));
+        return quantified(alloc, stop, cores, Quantifier::Exists, names, rest);
     }
-    if after_word(b"forall", tokens).is_some() || after_symbol(Symbol::Tilde, tokens).is_some() {
-        return Err(ReadError::Fault(in_condition(stop).unfit(tokens)));
+    if let Some(rest) = after_word(b"forall", tokens) {
+        return quantified(alloc, stop, cores, Quantifier::Forall, names, rest);
+    }
+    if let Some(rest) = after_symbol(Symbol::Tilde, tokens) {
+        let rest = in_condition(stop).expect(rest, after_word(b"exists", rest))?;
+        return quantified(alloc, stop, cores, Quantifier::NotExists, names, rest);
     }
     Ok((None, tokens))
 }

@@ -1,4 +1,4 @@
-ghost use Rattle.std.specs.Prelude.{◌≡◌, ◌≤◌, ◌==◌, ◌&&◌, nat_lt, length, position};
+ghost use Rattle.std.specs.Prelude.{◌≡◌, ◌≤◌, ◌==◌, ◌&&◌, nat_lt, length, position, None, IfOk};
 ghost use Rattle.std.specs.Option.{option_map};
 ghost use Rattle.std.specs.List.{prefix_len, suffix_len, list_all};
 ghost use Rattle.tso_model.specs.Names as names;
@@ -28,9 +28,10 @@ pub fn sized(text: &[u8]) -> Result<&[u8], Fault>
     Ok(text)
 }
 
-/// What stands behind white space and comments.
-fn behind_gap(bytes: &[u8]) -> Result<&[u8], Fault>
-    ensures { seen (λ x. x.now) result ≡ header.from_gap (gap_end None bytes.now) }
+/// What stands behind white space and comments; `Unclosed` at a comment that doesn't end.
+pub fn behind_gap(bytes: &[u8]) -> Result<&[u8], Fault>
+    ensures value { seen (λ x. x.now) result ≡ header.from_gap (gap_end None bytes.now) }
+    ensures within { IfOk result (λ x. length x.now ≤ length bytes.now) }
 {
     match after_gap(bytes) {
         Ok(rest) => Ok(rest),
@@ -88,8 +89,9 @@ fn line_feed_at(bytes: &[u8]) -> Option<usize>
 
 /// The line at the front without its LF, and what stands behind it.
 #[tactic(auto, using(crate::proofs::Lines::line_cut, crate::proofs::Lines::line_last))]
-fn first_line(bytes: &[u8]) -> (&[u8], &[u8])
-    ensures { (result.0.now, result.1.now) ≡ header.first_line bytes.now }
+pub fn first_line(bytes: &[u8]) -> (&[u8], &[u8])
+    ensures value { (result.0.now, result.1.now) ≡ header.first_line bytes.now }
+    ensures within { length result.1.now ≤ length bytes.now }
 {
     match line_feed_at(bytes) {
         Some(n) => (&bytes[..n], &bytes[n + 1..]),
@@ -176,33 +178,4 @@ pub fn header_at(text: &[u8]) -> Result<(&[u8], &[u8]), Fault>
     let (line, rest) = first_line(at);
     let name = judged(at.len(), name_in(line))?;
     Ok((name, rest))
-}
-
-#[tactic(auto, unfolding(crate::specs::Header::opened))]
-fn opened(bytes: &[u8]) -> Result<&[u8], Fault>
-    ensures { seen (λ x. x.now) result ≡ header.opened bytes.now }
-{
-    match bytes.first() {
-        None => Err(Fault {
-            why: Why::Unclosed,
-            left: 0,
-        }),
-        Some(b'{') => Ok(bytes),
-        Some(_) => Err(Fault {
-            why: Why::BadToken,
-            left: bytes.len(),
-        }),
-    }
-}
-
-/// What stands from the `{` of the initial state on, where nothing else stands before it.
-///
-/// `BadToken` at anything else, and `Unclosed` at the end of the text or at a comment that doesn't
-/// end.
-#[tactic(auto, unfolding(crate::specs::Header::braces_at))]
-pub fn braces_at(bytes: &[u8]) -> Result<&[u8], Fault>
-    ensures { seen (λ x. x.now) result ≡ header.braces_at bytes.now }
-{
-    let at = behind_gap(bytes)?;
-    opened(at)
 }

@@ -1,10 +1,37 @@
 ghost use Rattle.litmus_tokens.specs.Pieces.{pieces};
-ghost use Rattle.std.specs.Prelude.{◌≡◌};
-ghost use Rattle.litmus_reader.specs.Faults.{seen};
+ghost use Rattle.std.specs.Prelude.{◌≡◌, ◌≤◌, ◌<◌, length, map, replicate, IfOk};
+ghost use Rattle.std.specs.List.{list_any};
+ghost use Rattle.litmus_reader.specs.Faults.{seen, Gives};
+ghost use Rattle.litmus_reader.specs.Locations.{texts};
+ghost use Rattle.litmus_reader.specs.Items.{setting_of};
 ghost use Rattle.litmus_reader.specs.Initial as spec;
+ghost use Rattle.litmus_reader.specs.Initial.{given_of, initial};
 
-use crate::fault::{Fault, Part, Why, at_stop, left_of};
-use litmus_tokens::{Stop, Symbol, Token, after_symbol};
+use crate::fault::{Fault, Part, ReadError, Why, at_stop, left_of};
+use crate::item::{Item, core_of, item_at, word_at};
+use crate::location::located;
+use indexmap::IndexSet;
+use litmus_tokens::{Stop, Symbol, Token, after_symbol, is_symbol};
+use std::alloc::{AllocError, Global};
+use tso_model::Reg;
+
+/// A register's first word, and the place of the item that gives it. The core is its digits: it may
+/// be one that the test hasn't.
+#[derive(Clone, Copy, Debug)]
+pub struct RegisterWord<'a> {
+    pub left: usize,
+    pub core: &'a [u8],
+    pub reg: Reg,
+    pub value: u32,
+}
+
+/// What the initial state gives.
+#[derive(Debug, Drop)]
+pub struct Initial<'a> {
+    /// The words of the locations that it names, by their numbers.
+    pub words: Vec<u32>,
+    pub registers: Vec<RegisterWord<'a>>,
+}
 
 fn before_initial(stop: Stop) -> Part
     ensures { result ≡ spec.before_initial stop }
@@ -36,14 +63,164 @@ fn in_initial(left: usize, stop: Stop) -> Part
     }
 }
 
-/// What stands behind the initial state, which has to be empty.
-///
-/// `BadInit` at a token that doesn't fit, `Unclosed` at its `{` where the text ends.
-#[tactic(auto, unfolding(crate::specs::Initial::initial_at))]
-pub fn after_initial<'a, 'b>(stop: Stop, tokens: &'b [Token<'a>]) -> Result<&'b [Token<'a>], Fault>
-    ensures { seen (λ x. pieces x.now) result ≡ spec.initial_at stop (pieces tokens.now) }
+/// Whether this register of this core is the one that is given.
+fn gives(core: &[u8], reg: Reg, given: &RegisterWord<'_>) -> bool
+    ensures { result ≡ spec.gives core.now reg (given_of given.now) }
 {
-    let rest = before_initial(stop).expect(tokens, after_symbol(Symbol::OpenCurly, tokens))?;
+    given.core == core && given.reg.index() == reg.index()
+}
+
+fn is_given(core: &[u8], reg: Reg, registers: &[RegisterWord<'_>]) -> bool
+    ensures { result ≡ list_any (λ r. spec.gives core.now reg (given_of r)) registers.now }
+{
+    registers.iter().any(|given| gives(core, reg, given))
+}
+
+/// Notes an item whose first token stands at `left`.
+///
+/// `BadNumber`, then `TooLarge` for a location too many, then `TwiceInit`, all at `left`.
+#[tactic(auto, using(crate::proofs::InitialLists::judged_twice, crate::proofs::InitialLists::judged_new), unfolding(crate::specs::Initial::judged))]
+fn note_item<'a>(
+    left: usize,
+    state: &mut Initial<'a>,
+    names: &mut IndexSet<&'a [u8]>,
+    item: Item<'a>,
+) -> Result<(), ReadError>
+    ensures { Gives (λ _. initial (texts names.new.keys) state.new.words.items (map given_of state.new.registers.items)) result (spec.judged left (initial (texts names.old.keys) state.old.words.items (map given_of state.old.registers.items)) (setting_of item.entry)) }
+{
+    let twice = Fault {
+        why: Why::TwiceInit,
+        left,
+    };
+    match item {
+        Item::Register(core, reg, digits) => {
+            let value = word_at(left, digits)?;
+            if is_given(core, reg, &state.registers) {
+                return Err(ReadError::Fault(twice));
+            }
+            state.registers.push(RegisterWord {
+                left,
+                core,
+                reg,
+                value,
+            })?;
+        }
+        Item::Location(name, digits) => {
+            let value = word_at(left, digits)?;
+            let loc = located(names, left, name)?;
+            if (loc.0 as usize) < state.words.len() {
+                return Err(ReadError::Fault(twice));
+            }
+            state.words.push(value)?;
+        }
+    }
+    Ok(())
+}
+
+#[tactic(auto, unfolding(crate::specs::Initial::ends_item))]
+fn ends_item(tokens: &[Token<'_>]) -> bool
+    ensures { result ≡ spec.ends_item (pieces tokens.now) }
+{
+    match tokens.first() {
+        Some(first) => {
+            is_symbol(Symbol::Semicolon, first) || is_symbol(Symbol::CloseCurly, first)
+        }
+        None => false,
+    }
+}
+
+/// Reads the item at the front, and answers the tokens from its `;` or `}` on.
+#[tactic(auto, unfolding(crate::specs::Initial::item_in))]
+fn read_item<'a, 'b>(
+    part: Part,
+    state: &mut Initial<'a>,
+    names: &mut IndexSet<&'a [u8]>,
+    tokens: &'b [Token<'a>],
+) -> Result<&'b [Token<'a>], ReadError>
+    ensures value { Gives (λ rest. (initial (texts names.new.keys) state.new.words.items (map given_of state.new.registers.items), pieces rest.now)) result (spec.item_in part (initial (texts names.old.keys) state.old.words.items (map given_of state.old.registers.items)) (pieces tokens.now)) }
+    ensures shorter { IfOk result (λ rest. length rest.now < length tokens.now) }
+{
+    let (item, rest) = item_at(part, tokens)?;
+    if !ends_item(rest) {
+        return Err(ReadError::Fault(part.unfit(rest)));
+    }
+    note_item(left_of(tokens), state, names, item)?;
+    Ok(rest)
+}
+
+/// Reads the `;` or the item at the front, and answers the tokens behind it.
+#[tactic(auto, unfolding(crate::specs::Initial::step_in))]
+fn read_step<'a, 'b>(
+    part: Part,
+    state: &mut Initial<'a>,
+    names: &mut IndexSet<&'a [u8]>,
+    tokens: &'b [Token<'a>],
+) -> Result<&'b [Token<'a>], ReadError>
+    ensures value { Gives (λ rest. (initial (texts names.new.keys) state.new.words.items (map given_of state.new.registers.items), pieces rest.now)) result (spec.step_in part (initial (texts names.old.keys) state.old.words.items (map given_of state.old.registers.items)) (pieces tokens.now)) }
+    ensures shorter { IfOk result (λ rest. length rest.now < length tokens.now) }
+{
+    if let Some(rest) = after_symbol(Symbol::Semicolon, tokens) {
+        return Ok(rest);
+    }
+    read_item(part, state, names, tokens)
+}
+
+/// What stands behind the `{` at the front.
+fn after_opening<'a, 'b>(stop: Stop, tokens: &'b [Token<'a>]) -> Result<&'b [Token<'a>], Fault>
+    ensures { seen (λ x. pieces x.now) result ≡ spec.opened_at stop (pieces tokens.now) }
+{
+    before_initial(stop).expect(tokens, after_symbol(Symbol::OpenCurly, tokens))
+}
+
+/// Reads the initial state, and answers what it gives and the tokens behind it. There are no names
+/// of locations before it.
+///
+/// `BadInit` at a token that doesn't fit, `Unclosed` at its `{` where the text ends; as an item's
+/// `;` or `}` stands there, at the item's first token, `BadNumber`, `TooLarge` for a location too
+/// many, and `TwiceInit`.
+pub fn read_initial<'a, 'b>(
+    alloc: Global,
+    stop: Stop,
+    names: &mut IndexSet<&'a [u8]>,
+    tokens: &'b [Token<'a>],
+) -> Result<(Initial<'a>, &'b [Token<'a>]), ReadError>
+    ensures { Gives (λ x. (initial (texts names.new.keys) x.0.words.items (map given_of x.0.registers.items), pieces x.1.now)) result (spec.initial_at stop (texts names.old.keys) (pieces tokens.now)) }
+{
     let part = in_initial(left_of(tokens), stop);
-    part.expect(rest, after_symbol(Symbol::CloseCurly, rest))
+    let mut rest = after_opening(stop, tokens)?;
+    let mut state = Initial {
+        words: Vec::new(alloc),
+        registers: Vec::new(alloc),
+    };
+    'items: loop {
+        if let Some(behind) = after_symbol(Symbol::CloseCurly, rest) {
+            return Ok((state, behind));
+        }
+        rest = read_step(part, &mut state, names, rest)?;
+    }
+}
+
+fn no_registers(alloc: Global, cores: usize) -> Result<Vec<[u32; 6]>, AllocError>
+    ensures { IfOk result (λ v. v.items ≡ replicate cores spec.no_registers) }
+{
+    vec![in alloc; [0; 6]; cores]
+}
+
+/// Each core's first registers.
+///
+/// `NoSuchCore` at the first item whose core isn't there.
+pub fn registers_of(
+    alloc: Global,
+    cores: usize,
+    given: &[RegisterWord<'_>],
+) -> Result<Vec<[u32; 6]>, ReadError>
+    requires { cores ≤ 4 }
+    ensures { Gives (λ v. v.items) result (spec.registers_of cores (map given_of given.now)) }
+{
+    let mut registers = no_registers(alloc, cores)?;
+    for word in given {
+        let core = core_of(cores, word.left, word.core)?;
+        registers[core.0 as usize][word.reg.index()] = word.value;
+    }
+    Ok(registers)
 }

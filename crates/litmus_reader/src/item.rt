@@ -1,4 +1,4 @@
-ghost use Rattle.std.specs.Prelude.{◌≡◌, ◌<◌, length, None, IfSome, IfOk};
+ghost use Rattle.std.specs.Prelude.{◌≡◌, ◌<◌, ◌≤◌, length, None, IfSome, IfOk};
 ghost use Rattle.std.specs.Option.{option_map};
 ghost use Rattle.litmus_tokens.specs.Terms.{decimal};
 ghost use Rattle.litmus_tokens.specs.Pieces.{pieces};
@@ -8,8 +8,8 @@ ghost use Rattle.litmus_reader.specs.Items.{setting_of};
 
 use crate::fault::{Fault, Part, Why};
 use litmus_tokens::{Symbol, Token, after_symbol, name_at, number_at, word};
-use tso_model::Reg;
 use tso_model::names::is_location_name;
+use tso_model::{Core, Reg};
 
 /// A value of a register or a location, as the initial state and conditions spell it. Cores and
 /// values are digits, of any length.
@@ -63,7 +63,7 @@ fn register_item<'a, 'b>(
     core: &'a [u8],
     tokens: &'b [Token<'a>],
 ) -> Result<(Item<'a>, &'b [Token<'a>]), Fault>
-    ensures value { seen (λ x. (setting_of x.0, pieces x.1.now)) result ≡ spec.register_setting part (decimal core.now) (pieces tokens.now) }
+    ensures value { seen (λ x. (setting_of x.0, pieces x.1.now)) result ≡ spec.register_setting part core.now (pieces tokens.now) }
     ensures shorter { IfOk result (λ x. length x.1.now < length tokens.now) }
 {
     let rest = part.expect(tokens, after_symbol(Symbol::Colon, tokens))?;
@@ -127,6 +127,20 @@ pub fn word_at(left: usize, digits: &[u8]) -> Result<u32, Fault>
         Some(value) => Ok(value),
         None => Err(Fault {
             why: Why::BadNumber,
+            left,
+        }),
+    }
+}
+
+/// A core of the test; `NoSuchCore` at `left` for any other, of whatever size.
+pub fn core_of(cores: usize, left: usize, digits: &[u8]) -> Result<Core, Fault>
+    requires { cores ≤ 4 }
+    ensures { seen (λ core. core.0) result ≡ spec.core_of cores left digits.now }
+{
+    match word(digits) {
+        Some(core) if (core as usize) < cores => Ok(Core(core as u8)),
+        _ => Err(Fault {
+            why: Why::NoSuchCore,
             left,
         }),
     }

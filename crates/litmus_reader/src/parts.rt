@@ -1,10 +1,11 @@
-ghost use Rattle.std.specs.Prelude.{◌≡◌, IfOk, IsTrue, All, map, length, replicate, string_bytes};
+ghost use Rattle.std.specs.Prelude.{◌≡◌, IfOk, All, map, replicate, string_bytes};
 ghost use Rattle.std.specs.Option.{option_map};
 ghost use Rattle.std.specs.Str.{IsUtf8};
 ghost use Rattle.tso_model.specs.Condition.{condition_of};
 ghost use Rattle.tso_model.specs.LitmusParts.{litmus_of};
 ghost use Rattle.tso_model.specs.Names as names;
 ghost use Rattle.litmus_reader.specs.Locations.{texts};
+ghost use Rattle.litmus_reader.specs.Initial as initial;
 ghost use Rattle.litmus_reader.specs.Reading as spec;
 
 use crate::cell::CoreInstr;
@@ -36,15 +37,13 @@ fn zeros(alloc: Global, count: usize) -> Result<Vec<u32>, AllocError>
     vec![in alloc; 0; count]
 }
 
-#[tactic(auto, using(std::proofs::lemmas::Grind::replicate_next))]
-fn registers_of(alloc: Global, cores: usize) -> Result<Vec<[u32; 6]>, NoMemory>
-    ensures { IfOk result (λ v. v.items ≡ replicate cores spec.no_registers) }
+/// The words with zeros behind them, so many in all.
+fn words_of(alloc: Global, mut words: Vec<u32>, count: usize) -> Result<Vec<u32>, AllocError>
+    ensures { IfOk result (λ v. v.items ≡ initial.words_of count words.items) }
 {
-    let mut registers = Vec::new(alloc);
-    for _ in 0..cores {
-        registers.push([0; 6])?;
-    }
-    Ok(registers)
+    let mut rest = zeros(alloc, count.saturating_sub(words.len()))?;
+    words.append(&mut rest)?;
+    Ok(words)
 }
 
 fn program_of(alloc: Global, instrs: &[CoreInstr], core: usize) -> Result<Vec<Instr>, AllocError>
@@ -72,26 +71,29 @@ fn programs_of(
     Ok(programs)
 }
 
-/// The parts of a test from what was read: words and registers begin as 0.
+/// The parts of a test from what was read: the words of locations that the initial state doesn't
+/// name are 0.
 ///
 /// Fails only for want of memory.
 pub fn parts_of(
     alloc: Global,
     name: &[u8],
     names: &[&[u8]],
-    cores: usize,
+    words: Vec<u32>,
+    registers: Vec<[u32; 6]>,
     instrs: &[CoreInstr],
     cond: Option<Cond>,
 ) -> Result<TestParts, NoMemory>
     requires name { IsUtf8 name.now }
     requires names { All (λ name. IsUtf8 name) (texts names.now) }
-    ensures { IfOk result (λ parts. litmus_of parts ≡ spec.test_of name.now (texts names.now) cores instrs.now (option_map condition_of cond)) }
+    ensures { IfOk result (λ parts. litmus_of parts ≡ spec.test_of name.now (texts names.now) words.items registers.items instrs.now (option_map condition_of cond)) }
 {
+    let cores = registers.len();
     Ok(TestParts {
         name: string_of(alloc, name)?,
         locations: strings_of(alloc, names)?,
-        words: zeros(alloc, names.len())?,
-        registers: registers_of(alloc, cores)?,
+        words: words_of(alloc, words, names.len())?,
+        registers,
         programs: programs_of(alloc, instrs, cores)?,
         cond,
     })

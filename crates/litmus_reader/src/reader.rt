@@ -1,23 +1,28 @@
-ghost use Rattle.std.specs.Prelude.{◌≡◌, ◌≢◌, IfOk, IfErr, MatchResult, IsTrue};
+ghost use Rattle.std.specs.Prelude.{◌≡◌, ◌≢◌, ◌≤◌, IfOk, IfErr, MatchResult, IsTrue};
+ghost use Rattle.std.specs.Option.{option_map};
 ghost use Rattle.std.specs.Str.{IsUtf8};
 ghost use Rattle.tso_model.specs.Litmus.{Litmus, IsTest};
 ghost use Rattle.litmus_reader.specs.declared.fault.TextFault.{TextFault};
+ghost use Rattle.tso_model.specs.Condition.{condition_of};
 ghost use Rattle.tso_model.specs.LitmusParts.{litmus_of};
 ghost use Rattle.litmus_tokens.specs.Pieces.{pieces};
 ghost use Rattle.litmus_reader.specs.Faults.{seen, Gives};
+ghost use Rattle.litmus_reader.specs.Locations.{texts};
 ghost use Rattle.litmus_reader.specs.Reading as spec;
 ghost use Rattle.litmus_reader.specs.Spelling.{SpellsTest, IsRefused};
 
 use crate::condition::condition_at;
 use crate::fault::{Fault, ReadError, TextFault, Why};
-use crate::header::{braces_at, header_at, sized};
-use crate::initial::after_initial;
+use crate::header::{header_at, sized};
+use crate::information::braces_at;
+use crate::initial::read_initial;
+use crate::observed::after_observed;
 use crate::parts::parts_of;
 use crate::row::read_table;
 use indexmap::IndexSet;
 use litmus_tokens::{Stop, Token, line_of, tokens_of};
 use std::alloc::Global;
-use tso_model::{Test, TestParts};
+use tso_model::{Cond, Test, TestParts};
 
 /// The end of the text has to follow.
 #[tactic(auto, unfolding(crate::specs::Reading::end_at))]
@@ -43,27 +48,68 @@ fn end_at(stop: Stop, tokens: &[Token<'_>]) -> Result<(), Fault>
     }
 }
 
-/// The initial state, the table and the condition, and then the end.
+/// The condition, if there is one; the end of the text has to follow.
+#[tactic(auto, unfolding(crate::specs::Reading::ending_at))]
+fn ending_at<'a>(
+    alloc: Global,
+    stop: Stop,
+    cores: usize,
+    names: &mut IndexSet<&'a [u8]>,
+    tokens: &[Token<'a>],
+) -> Result<Option<Cond>, ReadError>
+    requires { cores ≤ 4 }
+    ensures { Gives (λ cond. (option_map condition_of cond, texts names.new.keys)) result (spec.ending_at stop cores (texts names.old.keys) (pieces tokens.now)) }
+{
+    let (cond, rest) = condition_at(alloc, stop, cores, names, tokens)?;
+    end_at(stop, rest)?;
+    Ok(cond)
+}
+
+/// What stands behind the rows: `locations [..]`, the condition and the end. The tokens are ones of
+/// this text's end.
+#[tactic(auto, unfolding(crate::specs::Reading::tail_at))]
+fn tail_at<'a>(
+    alloc: Global,
+    text: &'a [u8],
+    stop: Stop,
+    cores: usize,
+    names: &mut IndexSet<&'a [u8]>,
+    tokens: &[Token<'a>],
+) -> Result<Option<Cond>, ReadError>
+    requires { cores ≤ 4 }
+    ensures { Gives (λ cond. (option_map condition_of cond, texts names.new.keys)) result (spec.tail_at text.now stop cores (texts names.old.keys) (pieces tokens.now)) }
+{
+    match after_observed(text, stop, tokens)? {
+        Some(behind) => {
+            let tokens = tokens_of(alloc, behind)?;
+            ending_at(alloc, tokens.stop, cores, names, &tokens.items)
+        }
+        None => ending_at(alloc, stop, cores, names, tokens),
+    }
+}
+
+/// The initial state, the table and what stands behind it.
 #[tactic(auto, using(crate::proofs::Within::names_are_text), unfolding(crate::specs::Reading::body_of))]
-fn body_of(
+fn body_of<'a>(
     alloc: Global,
     name: &[u8],
+    text: &'a [u8],
     stop: Stop,
-    tokens: &[Token<'_>],
+    tokens: &[Token<'a>],
 ) -> Result<TestParts, ReadError>
     requires { IsUtf8 name.now }
-    ensures { Gives (λ parts. litmus_of parts) result (spec.body_of name.now stop (pieces tokens.now)) }
+    ensures { Gives (λ parts. litmus_of parts) result (spec.body_of name.now text.now stop (pieces tokens.now)) }
 {
     let mut names = IndexSet::new(alloc);
-    let rest = after_initial(stop, tokens)?;
-    let (table, rest) = read_table(alloc, stop, &mut names, rest)?;
-    let (cond, rest) = condition_at(alloc, stop, table.cores, &mut names, rest)?;
-    end_at(stop, rest)?;
+    let (initial, rest) = read_initial(alloc, stop, &mut names, tokens)?;
+    let (table, rest) = read_table(alloc, stop, &initial.registers, &mut names, rest)?;
+    let cond = tail_at(alloc, text, stop, table.cores, &mut names, rest)?;
     let parts = parts_of(
         alloc,
         name,
         names.as_slice(),
-        table.cores,
+        initial.words,
+        table.registers,
         &table.instrs,
         cond,
     )?;
@@ -77,8 +123,9 @@ fn read_parts(alloc: Global, text: &[u8]) -> Result<TestParts, ReadError>
 {
     let text = sized(text)?;
     let (name, rest) = header_at(text)?;
-    let tokens = tokens_of(alloc, braces_at(rest)?)?;
-    body_of(alloc, name, tokens.stop, &tokens.items)
+    let rest = braces_at(rest)?;
+    let tokens = tokens_of(alloc, rest)?;
+    body_of(alloc, name, rest, tokens.stop, &tokens.items)
 }
 
 /// The test that a text spells.

@@ -1,10 +1,11 @@
-ghost use Rattle.std.specs.Prelude.{◌≡◌, ◌<◌, ◌≤◌, length, position, IfOk};
+ghost use Rattle.std.specs.Prelude.{◌≡◌, ◌<◌, ◌≤◌, length, map, position, IfOk};
 ghost use Rattle.litmus_tokens.specs.declared.token.Symbol.TheVariants.{Semicolon};
 ghost use Rattle.litmus_tokens.specs.Pieces.{piece_of, pieces};
 ghost use Rattle.litmus_tokens.specs.Terms.{term_of};
 ghost use Rattle.litmus_tokens.specs.Front as front;
 ghost use Rattle.litmus_reader.specs.Faults.{seen, Gives, left_of};
 ghost use Rattle.litmus_reader.specs.Locations.{texts};
+ghost use Rattle.litmus_reader.specs.Initial.{given_of};
 ghost use Rattle.litmus_reader.specs.Cells.{cell_pieces};
 ghost use Rattle.litmus_reader.specs.Rows as spec;
 ghost use Rattle.litmus_reader.specs.Rows.{rows, table};
@@ -12,6 +13,7 @@ ghost use Rattle.litmus_reader.specs.Rows.{rows, table};
 use crate::cell::{CoreInstr, read_cells};
 use crate::columns::columns_at;
 use crate::fault::{Fault, ReadError, Why, at_stop, left_of};
+use crate::initial::{RegisterWord, registers_of};
 use indexmap::IndexSet;
 use litmus_tokens::{Lexeme, Stop, Symbol, Token, is_symbol};
 use std::alloc::{AllocError, Global};
@@ -102,25 +104,29 @@ fn ends_rows(tokens: &[Token<'_>]) -> bool
 #[derive(Debug, Drop)]
 pub struct Table {
     pub cores: usize,
+    /// The first registers of each core.
+    pub registers: Vec<[u32; 6]>,
     /// The instructions of all rows, in the order of the text.
     pub instrs: Vec<CoreInstr>,
 }
 
 /// Reads the header row and all rows, and answers the tokens behind them.
 ///
-/// A row is first taken to its `;` (`Unclosed` at its first token where the text ends), then its
-/// cells are counted, then they are read.
-#[tactic(auto, unfolding(crate::specs::Rows::table_at))]
+/// As the header row ends, `NoSuchCore` at the first item of the initial state whose core isn't
+/// there. A row is first taken to its `;` (`Unclosed` at its first token where the text ends), then
+/// its cells are counted, then they are read.
 pub fn read_table<'a, 'b>(
     alloc: Global,
     stop: Stop,
+    given: &[RegisterWord<'a>],
     names: &mut IndexSet<&'a [u8]>,
     tokens: &'b [Token<'a>],
 ) -> Result<(Table, &'b [Token<'a>]), ReadError>
-    ensures value { Gives (λ x. table x.0.cores (rows x.0.instrs.items (texts names.new.keys) (pieces x.1.now))) result (spec.table_at stop (texts names.old.keys) (pieces tokens.now)) }
+    ensures value { Gives (λ x. table x.0.cores x.0.registers.items (rows x.0.instrs.items (texts names.new.keys) (pieces x.1.now))) result (spec.table_at stop (map given_of given.now) (texts names.old.keys) (pieces tokens.now)) }
     ensures cores { IfOk result (λ x. x.0.cores ≤ 4) }
 {
     let (cores, mut rest) = columns_at(stop, tokens)?;
+    let registers = registers_of(alloc, cores, given)?;
     let mut instrs = Vec::new(alloc);
     'rows: while !ends_rows(rest) {
         let left = left_of(rest);
@@ -128,5 +134,10 @@ pub fn read_table<'a, 'b>(
         read_row(alloc, cores, left, &mut instrs, names, row)?;
         rest = behind;
     }
-    Ok((Table { cores, instrs }, rest))
+    let table = Table {
+        cores,
+        registers,
+        instrs,
+    };
+    Ok((table, rest))
 }

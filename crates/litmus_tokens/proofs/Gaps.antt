@@ -1,6 +1,5 @@
 -- A comment's end, and the gap behind it.
-use Rattle.std.proofs.Common.{◌≡◌, ℕ, Bool, true, false, cond, eqb, ◌&&◌, List, [], ◌∷◌, length, Option, Some, None, Result, Ok, Err, refl, sym, ap, ◌∙◌, inl, inr, ◌⊎◌, arith}
-use Rattle.litmus_tokens.specs.declared.token.Stop.{Stop}
+use Rattle.std.proofs.Common.{◌≡◌, ℕ, Bool, true, false, cond, eqb, ◌&&◌, List, [], ◌∷◌, length, Some, None, Err, refl, sym, ap, inl, inr, ◌⊎◌}
 use Rattle.litmus_tokens.specs.declared.token.Stop.TheVariants.{Unclosed}
 use Rattle.litmus_tokens.specs.Gap.{is_space, comment_end, gap_end}
 

@@ -1,5 +1,5 @@
 -- All tokens, one after the other.
-use Rattle.std.proofs.Common.{◌≡◌, ℕ, zero, suc, ◌≤◌, ◌<◌, ◌+◌, Bool, true, get_or, List, [], ◌∷◌, ◌++◌, length, Result, Ok, Err, refl, sym, ap, subst, ◌∙◌, append_assoc, arith}
+use Rattle.std.proofs.Common.{◌≡◌, ℕ, zero, suc, ◌≤◌, ◌<◌, Bool, true, get_or, List, [], ◌∷◌, ◌++◌, length, Ok, Err, refl, sym, ap, ◌∙◌, append_assoc, arith}
 use Rattle.std.proofs.lemmas.List.{append-nil}
 use Rattle.litmus_tokens.specs.declared.token.Stop.{Stop}
 use Rattle.litmus_tokens.specs.declared.token.Stop.TheVariants.{End}
@@ -8,7 +8,7 @@ use Rattle.std.specs.List.{prefix_len}
 use Rattle.litmus_tokens.specs.Gap.{gap_end}
 use Rattle.litmus_tokens.specs.Terms.{term_at}
 use Rattle.tso_model.specs.Names.{begins_name, continues_name}
-use Rattle.litmus_tokens.specs.Pieces.{Piece, ◌>>=◌, piece_at, onto, pieces_within, pieces_of}
+use Rattle.litmus_tokens.specs.Pieces.{Piece, piece_at, pieces_within, pieces_of}
 
 abbrev pub before : List Piece → List Piece × Stop → List Piece × Stop
 before front more = (front ++ more.0, more.1)

@@ -1,5 +1,5 @@
 -- Single tokens at the front of some.
-use Rattle.std.specs.Prelude.{ℕ, Bool, true, false, List, [], ◌∷◌, Option, Some, None, ◌==◌, if◌then◌else◌}
+use Rattle.std.specs.Prelude.{ℕ, Bool, false, List, [], ◌∷◌, Option, Some, None, ◌==◌, if◌then◌else◌}
 use Rattle.litmus_tokens.specs.declared.token.Symbol.{Symbol}
 use Rattle.litmus_tokens.specs.declared.token.Symbol.TheVariants.{Equals, Semicolon, Colon, OpenSquare, CloseSquare, OpenCurly, CloseCurly, Bar, Comma, Dollar, Tilde, OpenRound, CloseRound, And, Or}
 use Rattle.litmus_tokens.specs.Terms.{Term, number, name, symbol}
@@ -23,7 +23,7 @@ code_of And = 13
 code_of Or = 14
 
 abbrev pub is_symbol_term : Symbol → Term → Bool
-is_symbol_term s (number n) = false
+is_symbol_term s (number digits) = false
 is_symbol_term s (name x) = false
 is_symbol_term s (symbol t) = code_of s == code_of t
 
@@ -37,7 +37,7 @@ symbol_at s [] = None
 symbol_at s (p ∷ ps) = if is_symbol s p then Some ps else None
 
 abbrev pub name_then : Term → List Piece → Option (List ℕ × List Piece)
-name_then (number n) ps = None
+name_then (number digits) ps = None
 name_then (name x) ps = Some (x, ps)
 name_then (symbol s) ps = None
 
@@ -46,12 +46,12 @@ unfoldable pub name_at : List Piece → Option (List ℕ × List Piece)
 name_at [] = None
 name_at (p ∷ ps) = name_then p.term ps
 
-abbrev pub number_then : Term → List Piece → Option (ℕ × List Piece)
-number_then (number n) ps = Some (n, ps)
+abbrev pub number_then : Term → List Piece → Option (List ℕ × List Piece)
+number_then (number digits) ps = Some (digits, ps)
 number_then (name x) ps = None
 number_then (symbol s) ps = None
 
--- the number at the front, and what stands behind it
-unfoldable pub number_at : List Piece → Option (ℕ × List Piece)
+-- the digits of the number at the front, and what stands behind it
+unfoldable pub number_at : List Piece → Option (List ℕ × List Piece)
 number_at [] = None
 number_at (p ∷ ps) = number_then p.term ps

@@ -10,9 +10,10 @@ use Rattle.litmus_tokens.specs.declared.token.Symbol.TheVariants.{Equals, Semico
 use Rattle.litmus_tokens.specs.declared.token.Lexeme.{Lexeme}
 use Rattle.litmus_tokens.specs.declared.token.Lexeme.TheVariants as code
 
--- a token without its place: a number is its value, of any size
+-- A token without its place. A number is of any size, and is its digits without leading zeros: equal numbers have equal
+-- digits.
 pub data Term : Type 0 where
-  number : ℕ → Term
+  number : List ℕ → Term
   name : List ℕ → Term
   symbol : Symbol → Term
 
@@ -21,9 +22,13 @@ unfoldable pub decimal_from : ℕ → List ℕ → ℕ
 decimal_from n [] = n
 decimal_from n (d ∷ ds) = decimal_from (n * 10 + (d - 48)) ds
 
--- the number that digits say; leading zeros are allowed
+-- the number that digits say
 abbrev pub decimal : List ℕ → ℕ
 decimal digits = decimal_from 0 digits
+
+-- digits without the zeros in front
+abbrev pub without_zeros : List ℕ → List ℕ
+without_zeros digits = drop (prefix_len (λ d. d == 48) digits) digits
 
 -- the number, if a word has room for it
 abbrev pub word_of : ℕ → Option ℕ
@@ -31,7 +36,7 @@ word_of n = if nat_lt n (2 ^ 32) then Some n else None
 
 -- what a lexeme of the code says
 abbrev pub term_of : Lexeme → Term
-term_of (code.Number digits) = number (decimal digits.now)
+term_of (code.Number digits) = number digits.now
 term_of (code.Name bytes) = name bytes.now
 term_of (code.Symbol s) = symbol s
 
@@ -72,7 +77,7 @@ abbrev pub run_of : (ℕ → Bool) → List ℕ → List ℕ × List ℕ
 run_of p bytes = (take (prefix_len p bytes) bytes, drop (prefix_len p bytes) bytes)
 
 abbrev pub number_of : List ℕ × List ℕ → Result (Term × List ℕ) Stop
-number_of run = Ok (number (decimal run.0), run.1)
+number_of run = Ok (number (without_zeros run.0), run.1)
 
 -- a name has 32 bytes at most
 abbrev pub name_of : ℕ → List ℕ × List ℕ → Result (Term × List ℕ) Stop

@@ -1,6 +1,5 @@
 ghost use Rattle.std.specs.Prelude.{◌≡◌, ◌<◌, length, IfSome};
 ghost use Rattle.std.specs.Option.{option_map};
-ghost use Rattle.litmus_tokens.specs.Terms.{decimal};
 ghost use Rattle.litmus_tokens.specs.Pieces.{piece_of, pieces};
 ghost use Rattle.litmus_tokens.specs.Front as front;
 
@@ -44,10 +43,10 @@ pub fn name_at<'a, 'b>(tokens: &'b [Token<'a>]) -> Option<(&'a [u8], &'b [Token<
     }
 }
 
-/// The digits of the number at the front, and the tokens behind it.
+/// The digits of the number at the front, without leading zeros, and the tokens behind it.
 #[tactic(auto, unfolding(crate::specs::Front::number_at))]
 pub fn number_at<'a, 'b>(tokens: &'b [Token<'a>]) -> Option<(&'a [u8], &'b [Token<'a>])>
-    ensures value { option_map (λ x. (decimal x.0.now, pieces x.1.now)) result ≡ front.number_at (pieces tokens.now) }
+    ensures value { option_map (λ x. (x.0.now, pieces x.1.now)) result ≡ front.number_at (pieces tokens.now) }
     ensures shorter { IfSome result (λ x. length x.1.now < length tokens.now) }
 {
     let (first, rest) = tokens.split_first()?;

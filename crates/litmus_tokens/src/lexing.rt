@@ -1,4 +1,4 @@
-ghost use Rattle.std.specs.Prelude.{◌≡◌, ◌≤◌, ◌<◌, length, IfOk, IfSome, true, slice_index};
+ghost use Rattle.std.specs.Prelude.{◌≡◌, ◌≤◌, ◌<◌, ◌==◌, length, IfOk, IfSome, true, slice_index};
 ghost use Rattle.std.specs.Option.{option_map};
 ghost use Rattle.std.specs.List.{prefix_len};
 ghost use Rattle.std.specs.Char as char;
@@ -25,6 +25,20 @@ fn digits_len(bytes: &[u8]) -> usize
     ensures some { 0 < length bytes.now → char.is_ascii_digit (slice_index bytes.now 0) ≡ true → 0 < result }
 {
     bytes.iter().take_while(|b| b.is_ascii_digit()).count()
+}
+
+fn zeros_in_front(digits: &[u8]) -> usize
+    ensures value { result ≡ prefix_len (λ d. d == 48) digits.now }
+    ensures within { result ≤ length digits.now }
+{
+    digits.iter().take_while(|d| **d == b'0').count()
+}
+
+fn without_zeros(digits: &[u8]) -> &[u8]
+    ensures { result.now ≡ terms.without_zeros digits.now }
+{
+    let (_, rest) = digits.split_at(zeros_in_front(digits));
+    rest
 }
 
 #[tactic(auto, using(crate::proofs::Pieces::prefix_len_some))]
@@ -104,7 +118,7 @@ fn lexeme_at(bytes: &[u8]) -> Result<(Lexeme<'_>, &[u8]), Stop>
     };
     if first.is_ascii_digit() {
         let (digits, rest) = bytes.split_at(digits_len(bytes));
-        return Ok((Lexeme::Number(digits), rest));
+        return Ok((Lexeme::Number(without_zeros(digits)), rest));
     }
     if begins_name(*first) {
         let (name, rest) = bytes.split_at(name_len(bytes));

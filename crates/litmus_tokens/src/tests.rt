@@ -23,7 +23,7 @@ fn tokens_and_places(rt: HostRuntime) -> Result<(), Fail> {
     let said = format!(in rt.alloc(); "{:?} {:?}", tokens.items, tokens.stop)?;
     assert_eq!(rt;
         said.as_str(),
-        "[Token { left: 25, lexeme: Number([48, 48, 55]) }, Token { left: 12, lexeme: Name([95, 120, 49]) }, Token { left: 8, lexeme: Symbol(And) }, Token { left: 5, lexeme: Symbol(Or) }, Token { left: 2, lexeme: Symbol(Tilde) }] BadToken(1)"
+        "[Token { left: 25, lexeme: Number([55]) }, Token { left: 12, lexeme: Name([95, 120, 49]) }, Token { left: 8, lexeme: Symbol(And) }, Token { left: 5, lexeme: Symbol(Or) }, Token { left: 2, lexeme: Symbol(Tilde) }] BadToken(1)"
     );
     let (digits, rest) = front(&tokens.items).ok_or("no number and name")?;
     assert_eq!(rt; word(digits), Some(7));

@@ -36,7 +36,8 @@ pub enum Symbol {
 /// A token without its place.
 #[derive(Clone, Copy, Debug)]
 pub enum Lexeme<'a> {
-    /// Decimal digits, one or more; [`word`](crate::word) is their value.
+    /// Decimal digits without the leading zeros, so that equal numbers have equal digits, and 0 has
+    /// none; [`word`](crate::word) is their value.
     Number(&'a [u8]),
     /// A letter or an underscore, then letters, digits and underscores; 32 bytes at most.
     Name(&'a [u8]),

@@ -1,4 +1,3 @@
-use Rattle.std.proofs.Common.{◌≡◌}
 use Rattle.std.proofs.lemmas.Result.{err_from_is_err_and}
 use Rattle.litmus_reader.specs.Locations.{texts}
 use Rattle.litmus_reader.proofs.Cells.{cells_go_on, cells_end, cells_done}

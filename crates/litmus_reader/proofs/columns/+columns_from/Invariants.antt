@@ -1,4 +1,4 @@
-use Rattle.std.proofs.Common.{ℕ, ◌-◌}
+use Rattle.std.proofs.Common.{◌-◌}
 use Rattle.litmus_reader.proofs.columns.+columns_from.Given as goal
 
 abbrev pub decreases-columns_from : goal.decreases-columns_from

@@ -1,4 +1,4 @@
-use Rattle.std.proofs.Common.{◌≡◌, ◌≤◌, ℕ, length}
+use Rattle.std.proofs.Common.{length}
 use Rattle.litmus_tokens.specs.Pieces.{pieces}
 use Rattle.litmus_reader.specs.Locations.{texts}
 use Rattle.litmus_reader.specs.Rows.{rows_at}

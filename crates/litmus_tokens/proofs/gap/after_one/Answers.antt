@@ -1,4 +1,4 @@
-use Rattle.std.proofs.Common.{◌≡◌, sym, ◌∙◌, arith}
+use Rattle.std.proofs.Common.{sym, ◌∙◌, arith}
 use Rattle.litmus_tokens.proofs.Gaps.{gap_over_comment, gap_over_unclosed}
 use Rattle.litmus_tokens.proofs.gap.after_one.Goals as goal
 

@@ -1,7 +1,7 @@
 use Rattle.std.proofs.Common.{◌≡◌, ◌++◌, ◌∷◌, [], map}
 use Rattle.std.proofs.lemmas.List.{map_push}
 use Rattle.litmus_tokens.specs.Pieces.{piece_of, pieces_of}
-use Rattle.litmus_tokens.proofs.Pieces.{behind_start, behind_step, behind_stop, behind}
+use Rattle.litmus_tokens.proofs.Pieces.{behind_start, behind_step, behind_stop}
 use Rattle.litmus_tokens.proofs.lexing.tokens_of.Goals as goal
 
 pub loop-token-init : goal.loop-token-init

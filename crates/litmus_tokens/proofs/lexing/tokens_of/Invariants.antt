@@ -1,4 +1,4 @@
-use Rattle.std.proofs.Common.{◌≡◌, ◌≤◌, ℕ, length, map}
+use Rattle.std.proofs.Common.{length, map}
 use Rattle.litmus_tokens.specs.Pieces.{piece_of, pieces_of}
 use Rattle.litmus_tokens.proofs.Pieces.{behind}
 use Rattle.litmus_tokens.proofs.lexing.tokens_of.Given as goal

@@ -1,0 +1,91 @@
+-- What the initial state gives stays within the limits of a test.
+use Rattle.std.proofs.Common.{◌≡◌, ℕ, zero, suc, ◌-◌, ◌≤◌, ◌<◌, ltb, List, [], ◌∷◌, length, replicate, Result, Ok, IfOk, refl, ◌∙◌, arith}
+use Rattle.std.specs.List.{list_any}
+use Rattle.std.proofs.lemmas.Bool.{ltb-false}
+use Rattle.std.proofs.lemmas.List.{length-append, length-replicate, length-set}
+use Rattle.std.proofs.lemmas.List.Elements.{All-nil}
+use Rattle.litmus_tokens.specs.declared.token.Stop.{Stop}
+use Rattle.litmus_tokens.specs.declared.token.Symbol.TheVariants.{OpenCurly, CloseCurly, Semicolon}
+use Rattle.litmus_tokens.specs.Pieces.{Piece}
+use Rattle.litmus_tokens.specs.Front.{symbol_at}
+use Rattle.litmus_reader.specs.declared.fault.Fault.{Fault}
+use Rattle.litmus_reader.specs.declared.fault.Part.{Part}
+use Rattle.litmus_reader.specs.Faults.{or_unfit, left_of}
+use Rattle.litmus_reader.specs.Locations.{located}
+use Rattle.litmus_reader.specs.Items.{Setting, of_register, of_location, setting_at, word_at, core_of}
+use Rattle.litmus_reader.specs.Initial.{before_initial, in_initial, Given, Initial, initial, gives, judged, ends_item, item_in, step_in, items_within, items_at, initial_at, with_register, registers_with, registers_of, words_of}
+use Rattle.litmus_reader.proofs.Keeps.{Any, ok_any, some_any, bind_keeps, there_keeps, cond_keeps, core_keeps}
+use Rattle.litmus_reader.proofs.Named.{NamedSetting, setting_named}
+use Rattle.litmus_reader.proofs.Known.{AreNames, LocatesIn, located_keeps}
+
+-- the names of locations, of which each word so far has one
+pub record KeptInitial (i : Initial) : Type 0 where
+  pub names : AreNames i.names
+  pub few : length i.words ≤ length i.names
+
+abbrev IfKept : Result Initial Fault → Type 0
+IfKept r = IfOk r KeptInitial
+
+judged_keeps : (left : ℕ) (i : Initial) (s : Setting) → KeptInitial i → NamedSetting s → IfKept (judged left i s)
+unfolding judged
+judged_keeps left i (of_register core reg v) h is =
+    bind_keeps (λ x. Any x) KeptInitial (word_at left v) _ (ok_any _)
+    (λ value _. cond_keeps IfKept (list_any (gives core reg) i.registers) _ _ (λ _. tt) (λ _. record { names = h.names; few = h.few }))
+judged_keeps left i (of_location x v) h is =
+    bind_keeps (λ x. Any x) KeptInitial (word_at left v) _ (ok_any _)
+    (λ value _. bind_keeps (LocatesIn i.names) KeptInitial (located left i.names x) _ (located_keeps left i.names x h.names is)
+    (λ loc l. cond_keeps IfKept (ltb loc.0.0 (length i.words)) _ _ (λ _. tt)
+    (λ new. let past : length i.words ≤ loc.0.0 = ltb-false _ _ new in
+    record { names = l.grown.names; few = omega (arith, length-append i.words (value ∷ []), past, l.below) })))
+
+abbrev KeptStep : Initial × List Piece → Type 0
+KeptStep r = KeptInitial r.0
+
+abbrev IfKeptStep : Result (Initial × List Piece) Fault → Type 0
+IfKeptStep r = IfOk r KeptStep
+
+item_keeps : (part : Part) (i : Initial) (ps : List Piece) → KeptInitial i → IfKeptStep (item_in part i ps)
+unfolding item_in
+item_keeps part i ps h =
+    bind_keeps (λ x. NamedSetting x.0) KeptStep (setting_at part ps) _ (setting_named part ps)
+    (λ s is. cond_keeps IfKeptStep (ends_item s.1) _ _
+    (λ _. bind_keeps KeptInitial KeptStep (judged (left_of ps) i s.0) _ (judged_keeps (left_of ps) i s.0 h is) (λ after k. k))
+    (λ _. tt))
+
+step_keeps : (part : Part) (i : Initial) (ps : List Piece) → KeptInitial i → IfKeptStep (step_in part i ps)
+unfolding step_in
+step_keeps part i ps h = there_keeps (λ x. Any x) IfKeptStep (symbol_at Semicolon ps) (λ rest. Ok (i, rest)) (item_in part i ps) (some_any _) (λ rest _. h) (item_keeps part i ps h)
+
+items_keep : (n : ℕ) (part : Part) (i : Initial) (ps : List Piece) → KeptInitial i → IfKeptStep (items_within n part i ps)
+unfolding items_within
+items_keep zero part i ps h = tt
+items_keep (suc n) part i ps h =
+    there_keeps (λ x. Any x) IfKeptStep (symbol_at CloseCurly ps) (λ rest. Ok (i, rest)) _ (some_any _) (λ rest _. h)
+    (bind_keeps KeptStep KeptStep (step_in part i ps) _ (step_keeps part i ps h) (λ read k. items_keep n part read.0 read.1 k))
+
+nothing_given : KeptInitial (initial [] [] [])
+nothing_given = record { names = record { count = omega arith; spelled = All-nil _; differ = refl }; few = omega arith }
+
+pub initial_keeps : (stop : Stop) (ps : List Piece) → IfKeptStep (initial_at stop [] ps)
+unfolding initial_at items_at
+initial_keeps stop ps =
+    bind_keeps (λ x. Any x) KeptStep (or_unfit (before_initial stop) ps (symbol_at OpenCurly ps)) _ (ok_any _)
+    (λ rest _. items_keep (length rest) (in_initial (left_of ps) stop) (initial [] [] []) rest nothing_given)
+
+-- ---- words and registers
+
+pub length-words : (n : ℕ) (words : List ℕ) → length words ≤ n → length (words_of n words) ≡ n
+length-words n words le = omega (arith, length-append words (replicate (n - length words) 0), length-replicate {A = ℕ} (n - length words) 0)
+
+abbrev pub HasLength : ℕ → List (List ℕ) → Type 0
+HasLength n xs = length xs ≡ n
+
+registers_keep : (cores : ℕ) (registers : List (List ℕ)) (given : List Given) → length registers ≡ cores → IfOk (registers_with cores registers given) (HasLength cores)
+unfolding registers_with
+registers_keep cores registers [] h = h
+registers_keep cores registers (g ∷ gs) h =
+    bind_keeps (λ core. core < cores) (HasLength cores) (core_of cores g.left g.core) _ (core_keeps cores g.left g.core)
+    (λ core lt. registers_keep cores (with_register registers core g.reg g.value) gs (length-set registers core _ ∙ h))
+
+pub all_registers_keep : (cores : ℕ) (given : List Given) → IfOk (registers_of cores given) (HasLength cores)
+all_registers_keep cores given = registers_keep cores _ given (length-replicate cores _)

@@ -1,0 +1,18 @@
+-- Units by how many negations and brackets may be open in them.
+use Rattle.std.proofs.Common.{◌≡◌, ℕ, zero, suc, ◌-◌, ◌<◌, List, cond, Err, refl, arith}
+use Rattle.litmus_tokens.specs.declared.token.Stop.{Stop}
+use Rattle.litmus_tokens.specs.Pieces.{Piece}
+use Rattle.litmus_reader.specs.declared.fault.Why.TheVariants.{TooLarge}
+use Rattle.litmus_reader.specs.Faults.{fault, left_of}
+use Rattle.litmus_reader.specs.Conditions.{opens_unit, atom_at, unit_by, unit_at}
+
+pub unit_last : (stop : Stop) (cores opens atoms : ℕ) (names : List (List ℕ)) (ps : List Piece) → opens ≡ 0
+    → unit_at stop cores opens atoms names ps ≡ cond (opens_unit ps) (Err (fault TooLarge (left_of ps))) (atom_at stop cores atoms names ps)
+unfolding unit_at
+unit_last stop cores opens atoms names ps none = rw none refl
+
+pub unit_next : (stop : Stop) (cores opens atoms : ℕ) (names : List (List ℕ)) (ps : List Piece) → 0 < opens
+    → unit_at stop cores opens atoms names ps ≡ unit_by stop cores (unit_at stop cores (opens - 1)) atoms names ps
+unfolding unit_at
+unit_next stop cores zero atoms names ps some = absurd (omega arith)
+unit_next stop cores (suc n) atoms names ps some = let e : suc n - 1 ≡ n = omega arith in rw e refl

@@ -1,0 +1,23 @@
+use Rattle.std.proofs.Common.{◌≡◌, ◌<◌, [], sym, ◌∙◌, get_or, arith}
+use Rattle.std.proofs.lemmas.Result.{err_from_is_err_and}
+use Rattle.std.proofs.lemmas.List.{length-set, get_or_read}
+use Rattle.litmus_reader.proofs.Keeps.{ok_is, core_keeps}
+use Rattle.litmus_reader.proofs.InitialLists.{registers_go_on, registers_fail, registers_done}
+use Rattle.litmus_reader.proofs.initial.registers_of.Goals as goal
+
+pub returns-in_err-core : goal.returns-in_err-core
+returns-in_err-core c =
+    let p = err_from_is_err_and c.from_residual-in_err-core.result c.from_residual-in_err-core.ensures.1 in
+    rw (p.1, p.2) (registers_fail c.in_err-core.field-0.0 c.args.cores c.loop-word.word-index c.loop-word.registers.items c.args.given.now _ _ c.loop-word-test.true (sym c.in_err-core.ensures) c.loop-word.invariant.same)
+
+pub loop-word-preserved : goal.loop-word-preserved
+loop-word-preserved c =
+    let below : c.in_ok-core.core.0 < c.args.cores = ok_is (λ core. core < c.args.cores) _ c.in_ok-core.core.0 (core_keeps c.args.cores _ _) (sym c.in_ok-core.ensures) in
+    let old : c.index_mut.result.now ≡ get_or c.loop-word.registers.items c.in_ok-core.core.0 [] = get_or_read c.loop-word.registers.items _ _ (omega (arith, below, c.loop-word.invariant.each)) c.index_mut.ensures.value [] in
+    record {
+      same = rw (old, c.index.ensures.place) (registers_go_on c.args.cores c.loop-word.word-index c.in_ok-core.core.0 c.loop-word.registers.items c.args.given.now _ _ c.loop-word-test.true (sym c.in_ok-core.ensures) c.loop-word.invariant.same);
+      each = length-set c.loop-word.registers.items c.in_ok-core.core.0 _ ∙ c.loop-word.invariant.each;
+    }
+
+pub returns : goal.returns
+returns c = registers_done c.args.cores c.loop-word.word-index c.loop-word.registers.items c.args.given.now _ c.loop-word-test.false c.loop-word.invariant.same

@@ -1,0 +1,118 @@
+ghost use Rattle.std.specs.Prelude.{◌≡◌, ◌≤◌, ◌<◌, length, IfOk, IfSome};
+ghost use Rattle.std.specs.Option.{option_map};
+ghost use Rattle.std.specs.List.{prefix_len};
+ghost use Rattle.litmus_reader.specs.Faults.{seen};
+ghost use Rattle.litmus_reader.specs.Information as spec;
+
+use crate::fault::{Fault, Why};
+use crate::header::{behind_gap, first_line};
+
+/// What stands behind the next quotation mark.
+#[tactic(auto, unfolding(crate::specs::Information::quotation_end))]
+fn after_quotation(bytes: &[u8]) -> Option<&[u8]>
+    ensures value { option_map (λ x. x.now) result ≡ spec.quotation_end bytes.now }
+    ensures shorter { IfSome result (λ x. length x.now < length bytes.now) }
+{
+    let mut rest = bytes;
+    while let Some((first, after)) = rest.split_first() {
+        if *first == b'"' {
+            return Some(after);
+        }
+        rest = after;
+    }
+    None
+}
+
+#[tactic(auto, unfolding(crate::specs::Information::continues_key))]
+fn continues_key(byte: u8) -> bool
+    ensures { result ≡ spec.continues_key byte }
+{
+    byte.is_ascii_alphanumeric() || matches!(byte, b'_' | b'-' | b' ' | b'\t')
+}
+
+fn key_len(bytes: &[u8]) -> usize
+    ensures value { result ≡ prefix_len spec.continues_key bytes.now }
+    ensures within { result ≤ length bytes.now }
+{
+    bytes.iter().take_while(|b| continues_key(**b)).count()
+}
+
+/// What stands behind the key line that begins here; `BadToken` at a key without its `=`.
+fn after_key_line(bytes: &[u8]) -> Result<&[u8], Fault>
+    ensures value { seen (λ x. x.now) result ≡ spec.key_line_end bytes.now }
+    ensures shorter { IfOk result (λ x. length x.now < length bytes.now) }
+{
+    let (_, rest) = bytes.split_at(key_len(bytes));
+    match rest.split_first() {
+        Some((b'=', value)) => {
+            let (_, behind) = first_line(value);
+            Ok(behind)
+        }
+        _ => Err(Fault {
+            why: Why::BadToken,
+            left: bytes.len(),
+        }),
+    }
+}
+
+/// What stands behind the quotation or the key line at the front.
+///
+/// `Unclosed` at a quotation that doesn't end and at the end of the text, `BadToken` at a key
+/// without its `=` and at anything else.
+#[tactic(auto, unfolding(crate::specs::Information::information_end))]
+fn after_information(bytes: &[u8]) -> Result<&[u8], Fault>
+    ensures value { seen (λ x. x.now) result ≡ spec.information_end bytes.now }
+    ensures shorter { IfOk result (λ x. length x.now < length bytes.now) }
+{
+    let left = bytes.len();
+    let Some((first, inside)) = bytes.split_first() else {
+        return Err(Fault {
+            why: Why::Unclosed,
+            left: 0,
+        });
+    };
+    if *first == b'"' {
+        return match after_quotation(inside) {
+            Some(rest) => Ok(rest),
+            None => Err(Fault {
+                why: Why::Unclosed,
+                left,
+            }),
+        };
+    }
+    if first.is_ascii_alphabetic() {
+        return after_key_line(bytes);
+    }
+    Err(Fault {
+        why: Why::BadToken,
+        left,
+    })
+}
+
+#[tactic(auto, unfolding(crate::specs::Information::begins_initial))]
+fn begins_initial(bytes: &[u8]) -> bool
+    ensures { result ≡ spec.begins_initial bytes.now }
+{
+    match bytes.first() {
+        Some(first) => *first == b'{',
+        None => false,
+    }
+}
+
+/// What stands from the `{` of the initial state on, behind all information lines.
+///
+/// `Unclosed` where the text ends before it, `BadToken` at what is no information line; a comment
+/// that doesn't end is `Unclosed` too.
+#[tactic(auto, using(crate::proofs::Informed::braces_start, crate::proofs::Informed::braces_further))]
+pub fn braces_at(bytes: &[u8]) -> Result<&[u8], Fault>
+    ensures { seen (λ x. x.now) result ≡ spec.braces_at bytes.now }
+{
+    let mut rest = bytes;
+    loop {
+        let at = behind_gap(rest)?;
+        if begins_initial(at) {
+            return Ok(at);
+        }
+        rest = after_information(at)?;
+    }
+}
