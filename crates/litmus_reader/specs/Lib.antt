@@ -14,4 +14,17 @@ pub mod Rows
 pub mod Observed
 pub mod Conditions
 pub mod Reading
+pub mod Grammar
+pub mod GrammarCells
+pub mod GrammarItems
+pub mod GrammarColumns
+pub mod GrammarNames
+pub mod GrammarConditions
+pub mod GrammarRows
+pub mod GrammarInitial
+pub mod GrammarText
+pub mod GrammarEnding
+pub mod GrammarTable
+pub mod GrammarBehind
+pub mod GrammarTest
 pub mod Spelling

@@ -5,10 +5,14 @@ use Rattle.litmus_tokens.specs.Line.{line_of}
 use Rattle.litmus_reader.specs.declared.fault.Fault.{Fault}
 use Rattle.litmus_reader.specs.declared.fault.TextFault.{TextFault}
 use Rattle.litmus_reader.specs.Reading.{reading_of}
+use Rattle.litmus_reader.specs.GrammarTest.{Written, IsText, KeepsLimits, test_written}
 
--- the text spells this test
-unfoldable pub SpellsTest : List ℕ → Litmus → Type 0
-SpellsTest text test = reading_of text ≡ Ok test
+-- the text spells this test: by the grammar of texts, within the limits
+pub record SpellsTest (text : List ℕ) (t : Litmus) : Type 0 where
+  pub written : Written
+  pub is : IsText text written
+  pub limits : KeepsLimits written
+  pub says : t ≡ test_written written
 
 -- a refusal with the line of its place
 abbrev pub refusal : List ℕ → Fault → TextFault

@@ -1,4 +1,4 @@
-ghost use Rattle.std.specs.Prelude.{◌≡◌, ◌≢◌, ◌≤◌, IfOk, IfErr, MatchResult, IsTrue};
+ghost use Rattle.std.specs.Prelude.{◌≡◌, ◌≢◌, ◌≤◌, Ok, IfOk, IfErr, MatchResult, IsTrue};
 ghost use Rattle.std.specs.Option.{option_map};
 ghost use Rattle.std.specs.Str.{IsUtf8};
 ghost use Rattle.tso_model.specs.Litmus.{Litmus, IsTest};
@@ -13,6 +13,7 @@ ghost use Rattle.litmus_reader.specs.Spelling.{SpellsTest, IsRefused};
 
 use crate::condition::condition_at;
 use crate::fault::{Fault, ReadError, TextFault, Why};
+use crate::grammar_test::texts_are_read_as_they_are_spelled;
 use crate::header::{header_at, sized};
 use crate::information::braces_at;
 use crate::initial::read_initial;
@@ -132,13 +133,23 @@ fn read_parts(alloc: Global, text: &[u8]) -> Result<TestParts, ReadError>
 ///
 /// Want of memory aside, a text that spells no test is refused for the first thing in it that is at
 /// fault, with that place's line, and no other text is refused.
-#[tactic(auto, using(crate::proofs::Within::spelled_is_test), unfolding(crate::specs::Spelling::SpellsTest, crate::specs::Spelling::IsRefused))]
 pub fn read_test(alloc: Global, text: &[u8]) -> Result<Test, TextFault>
     // What is answered is what the text spells, and a text that spells a test is answered with it.
     ensures found { IfOk result (λ test. SpellsTest text.now test) }
     ensures only { (t : Litmus) → SpellsTest text.now t → MatchResult result (λ test. test ≡ t) (λ f. f.why ≡ Why.NoMemory) }
 
     // A refusal is the one that the text gets, and a text that gets one is answered with it.
+    ensures refused { IfErr result (λ f. f.why ≢ Why.NoMemory → IsRefused text.now f) }
+    ensures refuses { (fault : TextFault) → IsRefused text.now fault → MatchResult result (λ _. ⊥) (λ f. f.why ≢ Why.NoMemory → f ≡ fault) }
+{
+    texts_are_read_as_they_are_spelled();
+    read_whole(alloc, text)
+}
+
+#[tactic(auto, using(crate::proofs::Within::spelled_is_test), unfolding(crate::specs::Spelling::IsRefused))]
+fn read_whole(alloc: Global, text: &[u8]) -> Result<Test, TextFault>
+    ensures found { IfOk result (λ test. spec.reading_of text.now ≡ Ok test) }
+    ensures only { (t : Litmus) → spec.reading_of text.now ≡ Ok t → MatchResult result (λ test. test ≡ t) (λ f. f.why ≡ Why.NoMemory) }
     ensures refused { IfErr result (λ f. f.why ≢ Why.NoMemory → IsRefused text.now f) }
     ensures refuses { (fault : TextFault) → IsRefused text.now fault → MatchResult result (λ _. ⊥) (λ f. f.why ≢ Why.NoMemory → f ≡ fault) }
 {

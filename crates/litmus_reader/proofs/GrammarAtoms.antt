@@ -1,0 +1,251 @@
+-- Atoms are read as they are spelled.
+use Rattle.std.proofs.Common.{◌≡◌, ℕ, ◌+◌, ◌≤◌, ◌<◌, ◌^◌, Bool, true, false, cond, ltb, not, ◌&&◌, List, [], ◌∷◌, ◌++◌, length, Some, None, Ok, Err, refl, sym, ap, subst, ◌∙◌, inl, inr, arith}
+use Rattle.std.specs.Prelude.{codes}
+use Rattle.std.specs.Str.{bytes_eq}
+use Rattle.std.proofs.lemmas.Bool.{ltb-true, lt-ltb, and_parts, not-true}
+use Rattle.std.proofs.lemmas.List.{length-append}
+use Rattle.std.proofs.lemmas.Slice.Eq.{bytes_eq-Decides}
+use Rattle.tso_model.specs.Condition.{Claim, TruthClaim, RegClaim, LocClaim}
+use Rattle.tso_model.specs.Names.{is_name, is_register_word, is_keyword, is_location_name}
+use Rattle.tso_model.specs.declared.instruction.Loc.{Loc}
+use Rattle.litmus_tokens.specs.declared.token.Stop.{Stop}
+use Rattle.litmus_tokens.specs.declared.token.Symbol.TheVariants.{Equals, Colon, OpenSquare, CloseSquare, OpenRound}
+use Rattle.litmus_tokens.specs.Terms.{Term, number, name, symbol, decimal}
+use Rattle.litmus_tokens.specs.Pieces.{Piece}
+use Rattle.litmus_tokens.specs.Front.{is_symbol, symbol_at, name_at}
+use Rattle.litmus_reader.specs.declared.fault.Why.TheVariants.{TooLarge, NoSuchCore}
+use Rattle.litmus_reader.specs.Faults.{fault, left_of, there}
+use Rattle.litmus_reader.specs.Keywords.{if_word, word_behind}
+use Rattle.litmus_reader.specs.Locations.{number_of, with_name, location, located}
+use Rattle.litmus_reader.specs.Items.{Setting, of_register, of_location, setting_at, or_bad_number, word_at, core_of}
+use Rattle.litmus_reader.specs.Conditions.{in_condition, claim_in, Claimed, claimed, one_more, truth_at, truth_atom, setting_atom, atom_at, negation_at}
+use Rattle.litmus_reader.specs.Grammar.{terms, Begins}
+use Rattle.litmus_reader.specs.GrammarItems.{IsSetting, sets_register, sets_location, sets_in_squares}
+use Rattle.litmus_reader.specs.GrammarNames.{numbered}
+use Rattle.litmus_reader.specs.GrammarConditions.{truth, atom, IsAtom, says_true, says_false, says_setting, named_by, SettingFits, setting_claim, IsWithin, given_by, ReadsPhrase}
+use Rattle.litmus_reader.proofs.GrammarTokens.{chosen, there_is, there_some, some_is, ok_is, ok_pair, bind_ok, opened, name_takes}
+use Rattle.litmus_reader.proofs.GrammarItems.{setting_found, setting_taken}
+use Rattle.litmus_reader.proofs.GrammarPhrases.{Finds, Taken, Takes, Anything}
+use Rattle.litmus_reader.proofs.GrammarNames.{with_name_by, place_below, place_none, known_with, number_with}
+
+-- ---- atoms
+
+one_more_ok : (left atoms n : ℕ) → one_more left atoms ≡ Ok n → (n ≡ atoms + 1) × (atoms < 256)
+one_more_ok left atoms n e =
+    elim (chosen (ltb atoms 256) (Ok (atoms + 1)) (Err (fault TooLarge left)) (Ok n) e) [
+      | inl hit ↦ (sym (ok_is (atoms + 1) n hit.1), ltb-true _ _ hit.0)
+      | inr miss ↦ absurd cc
+    ]
+
+one_more_is : (left atoms : ℕ) → atoms + 1 ≤ 256 → one_more left atoms ≡ Ok (atoms + 1)
+one_more_is left atoms few = let lt : ltb atoms 256 ≡ true = lt-ltb _ _ (omega arith) in rw lt refl
+
+pub word_ok : (left v n : ℕ) → word_at left v ≡ Ok n → (v ≡ n) × (v < 2 ^ 32)
+word_ok left v n e = by_room (ltb v (2 ^ 32)) refl e
+  where
+    by_room : (b : Bool) → ltb v (2 ^ 32) ≡ b → or_bad_number left (cond b (Some v) None) ≡ Ok n → (v ≡ n) × (v < 2 ^ 32)
+    by_room true is h = (ok_is v n h, ltb-true _ _ is)
+    by_room false is h = absurd cc
+
+pub word_is : (left v : ℕ) → v < 2 ^ 32 → word_at left v ≡ Ok v
+word_is left v small = rw (lt-ltb v (2 ^ 32) small) refl
+
+core_ok : (cores left : ℕ) (digits : List ℕ) (n : ℕ) → core_of cores left digits ≡ Ok n → (decimal digits ≡ n) × (decimal digits < cores)
+core_ok cores left digits n e =
+    elim (chosen (ltb (decimal digits) cores) (Ok (decimal digits)) (Err (fault NoSuchCore left)) (Ok n) e) [
+      | inl hit ↦ (ok_is (decimal digits) n hit.1, ltb-true _ _ hit.0)
+      | inr miss ↦ absurd cc
+    ]
+
+core_is : (cores left : ℕ) (digits : List ℕ) → decimal digits < cores → core_of cores left digits ≡ Ok (decimal digits)
+core_is cores left digits below = rw (lt-ltb (decimal digits) cores below) refl
+
+-- a setting is judged as it fits
+claim_found : (cores left : ℕ) (names : List (List ℕ)) (s : Setting) → SettingFits cores s → length (numbered names (named_by s)) ≤ 16
+    → claim_in cores left names s ≡ Ok (setting_claim (numbered names (named_by s)) s, numbered names (named_by s))
+unfolding claim_in numbered located
+claim_found cores left names (of_register digits reg v) fits room = rw (core_is cores left digits fits.0, word_is left v fits.1) refl
+claim_found cores left names (of_location x v) fits room =
+    let below = place_below (bytes_eq x) (with_name names x) (known_with names x) in
+    let few : number_of names x < 16 = omega (arith, below, number_with names x) in
+    rw (word_is left v fits, lt-ltb (number_of names x) 16 few, number_with names x) refl
+
+record ClaimTaken (cores : ℕ) (names : List (List ℕ)) (s : Setting) (c : Claim × List (List ℕ)) : Type 0 where
+  pub fits : SettingFits cores s
+  pub names_are : c.1 ≡ numbered names (named_by s)
+  pub claim_is : c.0 ≡ setting_claim (numbered names (named_by s)) s
+  pub room : length names ≤ 16 → length (numbered names (named_by s)) ≤ 16
+
+pub located_ok : (left : ℕ) (names : List (List ℕ)) (x : List ℕ) (r : Loc × List (List ℕ)) → located left names x ≡ Ok r
+    → (r.0 ≡ location (number_of names x)) × (r.1 ≡ with_name names x) × (number_of names x < 16)
+unfolding located
+located_ok left names x r e =
+    elim (chosen (ltb (number_of names x) 16) (Ok (location (number_of names x), with_name names x)) (Err (fault TooLarge left)) (Ok r) e) [
+      | inl hit ↦
+          let same = ok_pair (location (number_of names x)) r.0 (with_name names x) r.1 hit.1 in
+          (sym same.0, sym same.1, ltb-true _ _ hit.0)
+      | inr miss ↦ absurd cc
+    ]
+
+pub room_with : (names : List (List ℕ)) (x : List ℕ) → number_of names x < 16 → length names ≤ 16 → length (with_name names x) ≤ 16
+room_with names x few le =
+    with_name_by (λ l. length l ≤ 16) names x (λ _. le) (λ none. let at_end = place_none (bytes_eq x) names none in omega (arith, at_end, few, length-append names (x ∷ [])))
+
+claim_taken : (cores left : ℕ) (names : List (List ℕ)) (s : Setting) (c : Claim × List (List ℕ)) → claim_in cores left names s ≡ Ok c → ClaimTaken cores names s c
+unfolding claim_in numbered
+claim_taken cores left names (of_register digits reg v) c e =
+    let a = bind_ok (core_of cores left digits) _ c e in
+    let b = bind_ok (word_at left v) _ c a.2 in
+    let core = core_ok cores left digits a.0 a.1 in
+    let word = word_ok left v b.0 b.1 in
+    let same = ok_pair (RegClaim a.0 reg b.0) c.0 names c.1 b.2 in
+    record {
+      fits = (core.1, word.1);
+      names_are = sym same.1;
+      claim_is = sym same.0 ∙ ap (λ (n : ℕ). RegClaim n reg b.0) (sym core.0) ∙ ap (λ (n : ℕ). RegClaim (decimal digits) reg n) (sym word.0);
+      room = λ le. le;
+    }
+claim_taken cores left names (of_location x v) c e =
+    let a = bind_ok (word_at left v) _ c e in
+    let b = bind_ok (located left names x) _ c a.2 in
+    let word = word_ok left v a.0 a.1 in
+    let loc = located_ok left names x b.0 b.1 in
+    let same = ok_pair (LocClaim b.0.0.0 a.0) c.0 b.0.1 c.1 b.2 in
+    record {
+      fits = word.1;
+      names_are = sym same.1 ∙ loc.1;
+      claim_is = sym same.0 ∙ ap (λ (n : ℕ). LocClaim b.0.0.0 n) (sym word.0) ∙ ap (λ (l : Loc). LocClaim l.0 v) loc.0 ∙ ap (λ (n : ℕ). LocClaim n v) (sym (number_with names x));
+      room = λ le. room_with names x loc.2 le;
+    }
+
+-- ---- the first token of a setting
+
+no_keyword : (x word : List ℕ) → is_location_name x ≡ true → is_keyword word ≡ true → bytes_eq x word ≡ false
+no_keyword x word good bad = by_test (bytes_eq x word) refl
+  where
+    by_test : (b : Bool) → bytes_eq x word ≡ b → b ≡ false
+    by_test true is =
+        let same : x ≡ word = (bytes_eq-Decides x word).0 is in
+        let both = and_parts (is_name x && not (is_register_word x)) (not (is_keyword x)) good in
+        let none : is_keyword x ≡ false = not-true _ both.1 in
+        let some : is_keyword x ≡ true = ap is_keyword same ∙ bad in
+        absurd cc
+    by_test false is = refl
+
+-- neither a truth, a negation nor a bracket
+pub record IsPlain (ps : List Piece) : Type 0 where
+  pub no_truth : truth_at ps ≡ None
+  pub no_negation : negation_at ps ≡ None
+  pub no_bracket : symbol_at OpenRound ps ≡ None
+
+pub setting_plain : (ts back : List Term) (s : Setting) → IsSetting ts s → (ps : List Piece) → terms ps ≡ ts ++ back → IsPlain ps
+unfolding truth_at negation_at word_behind name_at symbol_at is_symbol
+setting_plain _ back _ (sets_register core word v reg good) ps e =
+    opened IsPlain ps (number core) (symbol Colon ∷ name word ∷ symbol Equals ∷ number v ∷ back) e (λ p rest is _.
+    record { no_truth = rw is refl; no_negation = rw is refl; no_bracket = rw is refl })
+setting_plain _ back _ (sets_location x v good) ps e =
+    opened IsPlain ps (name x) (symbol Equals ∷ number v ∷ back) e (λ p rest is _.
+    record {
+      no_truth = rw (is, no_keyword x (codes "true") good refl, no_keyword x (codes "false") good refl) refl;
+      no_negation = rw (is, no_keyword x (codes "not") good refl) refl;
+      no_bracket = rw is refl;
+    })
+setting_plain _ back _ (sets_in_squares x v good) ps e =
+    opened IsPlain ps (symbol OpenSquare) (name x ∷ symbol CloseSquare ∷ symbol Equals ∷ number v ∷ back) e (λ p rest is _.
+    record { no_truth = rw is refl; no_negation = rw is refl; no_bracket = rw is refl })
+
+-- ---- atoms found
+
+setting_atom_found : (stop : Stop) (cores : ℕ) (ts : List Term) (s : Setting) → IsSetting ts s → (atoms : ℕ) (names : List (List ℕ)) → IsWithin cores atoms names (atom s)
+    → (back : List Term) (ps : List Piece) → terms ps ≡ ts ++ back → ReadsPhrase (atom_at stop cores) atoms names (atom s) back ps
+unfolding atom_at setting_atom
+setting_atom_found stop cores ts s is atoms names allowed back ps e =
+    let plain = setting_plain ts back s is ps e in
+    let f = setting_found (in_condition stop) ts back s is ps e in
+    let claim = claim_found cores (left_of ps) names s allowed.fits allowed.room in
+    let done : atom_at stop cores atoms names ps ≡ Ok (given_by atoms names (atom s) f.rest) = rw (plain.no_truth, f.is, claim, one_more_is (left_of ps) atoms allowed.few) refl in
+    record { rest = f.rest; is = done; behind = f.behind }
+
+pub atom_found : (stop : Stop) (cores : ℕ) → Finds cores (atom_at stop cores) IsAtom Anything
+unfolding atom_at truth_at word_behind name_at numbered
+atom_found stop cores _ _ says_true atoms names allowed back ok ps e =
+    opened (ReadsPhrase (atom_at stop cores) atoms names (truth true) back) ps (name (codes "true")) back e (λ p rest is behind.
+    record { rest = rest; is = rw (is, one_more_is p.left atoms allowed.few) refl; behind = behind })
+atom_found stop cores _ _ says_false atoms names allowed back ok ps e =
+    opened (ReadsPhrase (atom_at stop cores) atoms names (truth false) back) ps (name (codes "false")) back e (λ p rest is behind.
+    record { rest = rest; is = rw (is, one_more_is p.left atoms allowed.few) refl; behind = behind })
+atom_found stop cores _ _ (says_setting ts s is) atoms names allowed back ok ps e = setting_atom_found stop cores ts s is atoms names allowed back ps e
+
+-- ---- atoms taken
+
+pub word_taken : (word : List ℕ) (ps rest : List Piece) → word_behind word ps ≡ Some rest → terms ps ≡ name word ∷ terms rest
+unfolding word_behind
+word_taken word ps rest e =
+    let n = there_some (name_at ps) (if_word word) rest e in
+    elim (chosen (bytes_eq n.0.0 word) (Some n.0.1) None (Some rest) n.2) [
+      | inl hit ↦
+          let is : n.0.0 ≡ word = (bytes_eq-Decides n.0.0 word).0 hit.0 in
+          name_takes ps n.0.1 n.0.0 n.1 ∙ ap (λ (x : List ℕ). name x ∷ terms n.0.1) is ∙ ap (λ (l : List Piece). name word ∷ terms l) (some_is n.0.1 rest hit.1)
+      | inr miss ↦ absurd cc
+    ]
+
+truth_taken : (ps : List Piece) (t : Bool × List Piece) → truth_at ps ≡ Some t → Begins (λ ts. IsAtom ts (truth t.0)) ps t.1
+unfolding truth_at
+truth_taken ps t e =
+    elim (there_is (word_behind (codes "true") ps) (λ rest. Some (true, rest)) (there (word_behind (codes "false") ps) (λ rest. Some (false, rest)) None) (Some t) e) [
+      | inl yes_at ↦ subst (λ (t : Bool × List Piece). Begins (λ ts. IsAtom ts (truth t.0)) ps t.1) (some_is (true, yes_at.0) t yes_at.2)
+          (record { ts = name (codes "true") ∷ []; is = says_true; parts = word_taken (codes "true") ps yes_at.0 yes_at.1 })
+      | inr no_true ↦
+          let no_at = there_some (word_behind (codes "false") ps) (λ rest. Some (false, rest)) t no_true.1 in
+          subst (λ (t : Bool × List Piece). Begins (λ ts. IsAtom ts (truth t.0)) ps t.1) (some_is (false, no_at.0) t no_at.2)
+          (record { ts = name (codes "false") ∷ []; is = says_false; parts = word_taken (codes "false") ps no_at.0 no_at.1 })
+    ]
+
+setting_atom_taken : (stop : Stop) (cores atoms : ℕ) (names : List (List ℕ)) (ps : List Piece) (c : Claimed) → setting_atom stop cores atoms names ps ≡ Ok c → Taken cores IsAtom atoms names ps c
+unfolding setting_atom
+setting_atom_taken stop cores atoms names ps c e =
+    let a = bind_ok (setting_at (in_condition stop) ps) _ c e in
+    let b = bind_ok (claim_in cores (left_of ps) names a.0.0) _ c a.2 in
+    let n = bind_ok (one_more (left_of ps) atoms) _ c b.2 in
+    let t = setting_taken (in_condition stop) ps a.0.1 a.0.0 a.1 in
+    let claim = claim_taken cores (left_of ps) names a.0.0 b.0 b.1 in
+    let count = one_more_ok (left_of ps) atoms n.0 n.1 in
+    subst (Taken cores IsAtom atoms names ps) (ok_is (claimed b.0.0 n.0 b.0.1 a.0.1) c n.2) (record {
+      ts = t.ts;
+      phrase = atom a.0.0;
+      is = says_setting t.ts a.0.0 t.is;
+      parts = t.parts;
+      fits = claim.fits;
+      names_are = claim.names_are;
+      claim_is = claim.claim_is;
+      atoms_are = count.0;
+      few = omega (arith, count.0, count.1);
+      room = claim.room;
+    })
+
+truth_atom_taken : (left cores atoms : ℕ) (names : List (List ℕ)) (ps : List Piece) (t : Bool × List Piece) (c : Claimed) → truth_at ps ≡ Some t → truth_atom left atoms names t ≡ Ok c → Taken cores IsAtom atoms names ps c
+unfolding numbered
+truth_atom_taken left cores atoms names ps t c at e =
+    let n = bind_ok (one_more left atoms) _ c e in
+    let b = truth_taken ps t at in
+    let count = one_more_ok left atoms n.0 n.1 in
+    subst (Taken cores IsAtom atoms names ps) (ok_is (claimed (TruthClaim t.0) n.0 names t.1) c n.2) (record {
+      ts = b.ts;
+      phrase = truth t.0;
+      is = b.is;
+      parts = b.parts;
+      fits = tt;
+      names_are = refl;
+      claim_is = refl;
+      atoms_are = count.0;
+      few = omega (arith, count.0, count.1);
+      room = λ le. le;
+    })
+
+pub atom_taken : (stop : Stop) (cores : ℕ) → Takes cores (atom_at stop cores) IsAtom
+unfolding atom_at
+atom_taken stop cores atoms names ps c e =
+    elim (there_is (truth_at ps) (truth_atom (left_of ps) atoms names) (setting_atom stop cores atoms names ps) (Ok c) e) [
+      | inl t ↦ truth_atom_taken (left_of ps) cores atoms names ps t.0 c t.1 t.2
+      | inr none ↦ setting_atom_taken stop cores atoms names ps c none.1
+    ]

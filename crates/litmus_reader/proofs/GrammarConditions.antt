@@ -1,0 +1,215 @@
+-- Units and propositions are read as they are spelled.
+use Rattle.std.proofs.Common.{◌≡◌, ℕ, zero, suc, ◌+◌, ◌≤◌, false, List, [], ◌∷◌, ◌++◌, length, Some, None, Ok, Err, refl, sym, ap, subst, ◌∙◌, ◌⊎◌, inl, inr, append_assoc, arith}
+use Rattle.std.specs.Prelude.{codes}
+use Rattle.tso_model.specs.Condition.{Claim, NotClaim}
+use Rattle.litmus_tokens.specs.declared.token.Stop.{Stop}
+use Rattle.litmus_tokens.specs.declared.token.Symbol.TheVariants.{OpenRound, CloseRound, And, Or, Tilde}
+use Rattle.litmus_tokens.specs.Terms.{Term, name, symbol}
+use Rattle.litmus_tokens.specs.Pieces.{Piece}
+use Rattle.litmus_tokens.specs.Front.{is_symbol, symbol_at, name_at}
+use Rattle.litmus_reader.specs.declared.fault.Why.TheVariants.{TooLarge}
+use Rattle.litmus_reader.specs.Faults.{fault, left_of, there, or_unfit}
+use Rattle.litmus_reader.specs.Keywords.{word_behind}
+use Rattle.litmus_reader.specs.Conditions.{in_condition, Claimed, claimed, atom_at, Proposition, disjunction, negation_at, opens_unit, negated, bracketed, unit_by, unit_at, proposition_at}
+use Rattle.litmus_reader.specs.Grammar.{terms}
+use Rattle.litmus_reader.specs.GrammarNames.{numbered}
+use Rattle.litmus_reader.specs.GrammarConditions.{Phrase, negation, IsAtom, says_true, says_false, says_setting, IsProposition, plain, tilde, word_not, in_brackets, IsUnit, locations_in, atoms_of, claim_of, begins_with, IsWithin, given_by, ReadsPhrase, SpellsPhrase}
+use Rattle.litmus_reader.proofs.GrammarTokens.{chosen, there_is, some_is, ok_is, bind_ok, or_unfit_ok, front, opened, symbol_takes}
+use Rattle.litmus_reader.proofs.GrammarPhrases.{Finds, Taken, Takes, Anything, proposition_takes, proposition_finds}
+use Rattle.litmus_reader.proofs.GrammarAtoms.{word_taken, setting_plain, atom_found, atom_taken}
+
+-- ---- units found
+
+atom_plain : (ts back : List Term) (p : Phrase) → IsAtom ts p → (ps : List Piece) → terms ps ≡ ts ++ back → (negation_at ps ≡ None) × (symbol_at OpenRound ps ≡ None)
+unfolding negation_at word_behind name_at symbol_at is_symbol
+atom_plain _ back _ says_true ps e =
+    opened (λ ps. (negation_at ps ≡ None) × (symbol_at OpenRound ps ≡ None)) ps (name (codes "true")) back e (λ p rest is _. (rw is refl, rw is refl))
+atom_plain _ back _ says_false ps e =
+    opened (λ ps. (negation_at ps ≡ None) × (symbol_at OpenRound ps ≡ None)) ps (name (codes "false")) back e (λ p rest is _. (rw is refl, rw is refl))
+atom_plain _ back _ (says_setting ts s is) ps e = let plain = setting_plain ts back s is ps e in (plain.no_negation, plain.no_bracket)
+
+last_found : (stop : Stop) (cores : ℕ) → Finds cores (unit_at stop cores zero) (IsUnit zero) Anything
+unfolding unit_at opens_unit
+last_found stop cores ts p is atoms names allowed back ok ps e =
+    let plain = atom_plain ts back p is ps e in
+    let f = atom_found stop cores ts p is atoms names allowed back tt ps e in
+    record { rest = f.rest; is = rw (plain.0, plain.1) f.is; behind = f.behind }
+
+abbrev negated_claim : Claimed → Claimed
+negated_claim c = claimed (NotClaim c.claim) c.atoms c.names c.rest
+
+negated_found : (inner : Proposition) (atoms : ℕ) (names : List (List ℕ)) (p : Phrase) (back : List Term) (ps : List Piece) (f : ReadsPhrase inner atoms names p back ps)
+    → negated inner atoms names ps ≡ Ok (given_by atoms names (negation p) f.rest)
+negated_found inner atoms names p back ps f = rw f.is refl
+
+plain_found : (stop : Stop) (cores n : ℕ) (ts : List Term) (p : Phrase) → IsAtom ts p → (atoms : ℕ) (names : List (List ℕ)) → IsWithin cores atoms names p
+    → (back : List Term) (ps : List Piece) → terms ps ≡ ts ++ back → ReadsPhrase (unit_at stop cores (suc n)) atoms names p back ps
+unfolding unit_at unit_by
+plain_found stop cores n ts p is atoms names allowed back ps e =
+    let plain = atom_plain ts back p is ps e in
+    let f = atom_found stop cores ts p is atoms names allowed back tt ps e in
+    record { rest = f.rest; is = rw (plain.0, plain.1) f.is; behind = f.behind }
+
+bracketed_found : (stop : Stop) (inner : Proposition) (atoms : ℕ) (names : List (List ℕ)) (p : Phrase) (ps close rest : List Piece) (r : Piece)
+    → disjunction inner atoms names ps ≡ Ok (given_by atoms names p close) → close ≡ r ∷ rest → r.term ≡ symbol CloseRound
+    → bracketed stop inner atoms names ps ≡ Ok (given_by atoms names p rest)
+unfolding symbol_at is_symbol
+bracketed_found stop inner atoms names p ps close rest r is parts is_close = rw (is, parts, is_close) refl
+
+next_found : (stop : Stop) (cores n : ℕ) → Finds cores (unit_at stop cores n) (IsUnit n) Anything → Finds cores (unit_at stop cores (suc n)) (IsUnit (suc n)) Anything
+unfolding unit_at unit_by negation_at word_behind name_at symbol_at is_symbol
+next_found stop cores n finds _ _ (plain ts p is) atoms names allowed back ok ps e = plain_found stop cores n ts p is atoms names allowed back ps e
+next_found stop cores n finds _ _ (tilde ts p is) atoms names allowed back ok ps e =
+    opened (ReadsPhrase (unit_at stop cores (suc n)) atoms names (negation p) back) ps (symbol Tilde) (ts ++ back) e (λ a rest is_tilde behind.
+    let f = finds ts p is atoms names (record { fits = allowed.fits; few = allowed.few; room = allowed.room }) back tt rest behind in
+    record { rest = f.rest; is = rw is_tilde (negated_found (unit_at stop cores n) atoms names p back rest f); behind = f.behind })
+next_found stop cores n finds _ _ (word_not ts p is) atoms names allowed back ok ps e =
+    opened (ReadsPhrase (unit_at stop cores (suc n)) atoms names (negation p) back) ps (name (codes "not")) (ts ++ back) e (λ a rest is_not behind.
+    let f = finds ts p is atoms names (record { fits = allowed.fits; few = allowed.few; room = allowed.room }) back tt rest behind in
+    record { rest = f.rest; is = rw is_not (negated_found (unit_at stop cores n) atoms names p back rest f); behind = f.behind })
+next_found stop cores n finds _ _ (in_brackets ts p is) atoms names allowed back ok ps e =
+    opened (ReadsPhrase (unit_at stop cores (suc n)) atoms names p back) ps (symbol OpenRound) ((ts ++ symbol CloseRound ∷ []) ++ back) e (λ a rest is_open behind.
+    let f = proposition_finds (IsUnit n) cores (unit_at stop cores n) finds ts p is atoms names allowed (symbol CloseRound ∷ back) ((tt, refl), refl) rest (behind ∙ append_assoc ts (symbol CloseRound ∷ []) back) in
+    let g = front f.rest (symbol CloseRound) back f.behind in
+    record { rest = g.rest; is = rw is_open (bracketed_found stop (unit_at stop cores n) atoms names p rest f.rest g.rest g.first f.is g.parts g.is); behind = g.behind })
+
+pub unit_finds : (stop : Stop) (cores n : ℕ) → Finds cores (unit_at stop cores n) (IsUnit n) Anything
+unit_finds stop cores zero = last_found stop cores
+unit_finds stop cores (suc n) = next_found stop cores n (unit_finds stop cores n)
+
+-- ---- units taken
+
+negation_taken : (ps rest : List Piece) → negation_at ps ≡ Some rest → (terms ps ≡ symbol Tilde ∷ terms rest) ⊎ (terms ps ≡ name (codes "not") ∷ terms rest)
+unfolding negation_at
+negation_taken ps rest e =
+    elim (there_is (symbol_at Tilde ps) (λ rest. Some rest) (word_behind (codes "not") ps) (Some rest) e) [
+      | inl at ↦ inl (symbol_takes Tilde ps at.0 at.1 ∙ ap (λ (l : List Piece). symbol Tilde ∷ terms l) (some_is at.0 rest at.2))
+      | inr none ↦ inr (word_taken (codes "not") ps rest none.1)
+    ]
+
+negated_taken : (cores n atoms : ℕ) (names : List (List ℕ)) (ps rest : List Piece) (c : Claimed) → negation_at ps ≡ Some rest → Taken cores (IsUnit n) atoms names rest c
+    → Taken cores (IsUnit (suc n)) atoms names ps (negated_claim c)
+negated_taken cores n atoms names ps rest c at t =
+    let claim = ap (λ (x : Claim). NotClaim x) t.claim_is in
+    elim (negation_taken ps rest at) [
+      | inl is_tilde ↦ record {
+        ts = symbol Tilde ∷ t.ts;
+        phrase = negation t.phrase;
+        is = tilde t.ts t.phrase t.is;
+        parts = is_tilde ∙ ap (λ (l : List Term). symbol Tilde ∷ l) t.parts;
+        fits = t.fits;
+        names_are = t.names_are;
+        claim_is = claim;
+        atoms_are = t.atoms_are;
+        few = t.few;
+        room = t.room;
+      }
+      | inr is_not ↦ record {
+        ts = name (codes "not") ∷ t.ts;
+        phrase = negation t.phrase;
+        is = word_not t.ts t.phrase t.is;
+        parts = is_not ∙ ap (λ (l : List Term). name (codes "not") ∷ l) t.parts;
+        fits = t.fits;
+        names_are = t.names_are;
+        claim_is = claim;
+        atoms_are = t.atoms_are;
+        few = t.few;
+        room = t.room;
+      }
+    ]
+
+bracketed_taken : (cores n atoms : ℕ) (names : List (List ℕ)) (ps inside rest : List Piece) (c : Claimed) → symbol_at OpenRound ps ≡ Some inside → Taken cores (IsProposition (IsUnit n)) atoms names inside c
+    → symbol_at CloseRound c.rest ≡ Some rest → Taken cores (IsUnit (suc n)) atoms names ps (claimed c.claim c.atoms c.names rest)
+bracketed_taken cores n atoms names ps inside rest c at t close = record {
+  ts = symbol OpenRound ∷ t.ts ++ symbol CloseRound ∷ [];
+  phrase = t.phrase;
+  is = in_brackets t.ts t.phrase t.is;
+  parts = symbol_takes OpenRound ps inside at ∙ ap (λ (l : List Term). symbol OpenRound ∷ l)
+      (t.parts ∙ ap (λ (l : List Term). t.ts ++ l) (symbol_takes CloseRound c.rest rest close) ∙ sym (append_assoc t.ts (symbol CloseRound ∷ []) (terms rest)));
+  fits = t.fits;
+  names_are = t.names_are;
+  claim_is = t.claim_is;
+  atoms_are = t.atoms_are;
+  few = t.few;
+  room = t.room;
+}
+
+last_taken : (stop : Stop) (cores : ℕ) → Takes cores (unit_at stop cores zero) (IsUnit zero)
+unfolding unit_at
+last_taken stop cores atoms names ps c e =
+    elim (chosen (opens_unit ps) (Err (fault TooLarge (left_of ps))) (atom_at stop cores atoms names ps) (Ok c) e) [
+      | inl hit ↦ absurd cc
+      | inr miss ↦ atom_taken stop cores atoms names ps c miss.1
+    ]
+
+plain_taken : (cores n atoms : ℕ) (names : List (List ℕ)) (ps : List Piece) (c : Claimed) → Taken cores IsAtom atoms names ps c → Taken cores (IsUnit (suc n)) atoms names ps c
+plain_taken cores n atoms names ps c t = record {
+  ts = t.ts;
+  phrase = t.phrase;
+  is = plain t.ts t.phrase t.is;
+  parts = t.parts;
+  fits = t.fits;
+  names_are = t.names_are;
+  claim_is = t.claim_is;
+  atoms_are = t.atoms_are;
+  few = t.few;
+  room = t.room;
+}
+
+next_taken : (stop : Stop) (cores n : ℕ) → Takes cores (unit_at stop cores n) (IsUnit n) → Takes cores (unit_at stop cores (suc n)) (IsUnit (suc n))
+unfolding unit_at unit_by
+next_taken stop cores n takes atoms names ps c e =
+    elim (there_is (negation_at ps) (negated (unit_at stop cores n) atoms names)
+    (there (symbol_at OpenRound ps) (bracketed stop (unit_at stop cores n) atoms names) (atom_at stop cores atoms names ps)) (Ok c) e) [
+      | inl at ↦
+          let b = bind_ok (unit_at stop cores n atoms names at.0) _ c at.2 in
+          subst (Taken cores (IsUnit (suc n)) atoms names ps) (ok_is (negated_claim b.0) c b.2)
+          (negated_taken cores n atoms names ps at.0 b.0 at.1 (takes atoms names at.0 b.0 b.1))
+      | inr no_negation ↦ elim (there_is (symbol_at OpenRound ps) (bracketed stop (unit_at stop cores n) atoms names) (atom_at stop cores atoms names ps) (Ok c) no_negation.1) [
+        | inl at ↦
+            let b = bind_ok (disjunction (unit_at stop cores n) atoms names at.0) _ c at.2 in
+            let r = bind_ok (or_unfit (in_condition stop) b.0.rest (symbol_at CloseRound b.0.rest)) _ c b.2 in
+            let close = or_unfit_ok (in_condition stop) b.0.rest (symbol_at CloseRound b.0.rest) r.0 r.1 in
+            subst (Taken cores (IsUnit (suc n)) atoms names ps) (ok_is (claimed b.0.claim b.0.atoms b.0.names r.0) c r.2)
+            (bracketed_taken cores n atoms names ps at.0 r.0 b.0 at.1 (proposition_takes (IsUnit n) cores (unit_at stop cores n) takes atoms names at.0 b.0 b.1) close)
+        | inr no_bracket ↦ plain_taken cores n atoms names ps c (atom_taken stop cores atoms names ps c no_bracket.1)
+      ]
+    ]
+
+pub unit_takes : (stop : Stop) (cores n : ℕ) → Takes cores (unit_at stop cores n) (IsUnit n)
+unit_takes stop cores zero = last_taken stop cores
+unit_takes stop cores (suc n) = next_taken stop cores n (unit_takes stop cores n)
+
+-- ---- both ways
+
+spelled_by : (cores : ℕ) (Is : List Term → Phrase → Type 0) (atoms : ℕ) (names : List (List ℕ)) (ps : List Piece) (c : Claimed) → length names ≤ 16 → Taken cores Is atoms names ps c → SpellsPhrase Is cores atoms names ps c
+spelled_by cores Is atoms names ps c le t =
+    let new = numbered names (locations_in t.phrase) in
+    record {
+      ts = t.ts;
+      phrase = t.phrase;
+      is = t.is;
+      parts = t.parts;
+      within = record { fits = t.fits; few = omega (arith, t.few, t.atoms_are); room = t.room le };
+      given = ap (λ (x : Claim). claimed x c.atoms c.names c.rest) t.claim_is ∙ ap (λ (n : ℕ). claimed (claim_of new t.phrase) n c.names c.rest) t.atoms_are
+          ∙ ap (λ (l : List (List ℕ)). claimed (claim_of new t.phrase) (atoms + atoms_of t.phrase) l c.rest) t.names_are;
+    }
+
+pub unit_again : (stop : Stop) (cores opens atoms : ℕ) (names : List (List ℕ)) (ps : List Piece) (ts back : List Term) (p : Phrase)
+    → IsUnit opens ts p → IsWithin cores atoms names p → terms ps ≡ ts ++ back → ReadsPhrase (unit_at stop cores opens) atoms names p back ps
+unit_again stop cores opens atoms names ps ts back p is within e = unit_finds stop cores opens ts p is atoms names within back tt ps e
+
+pub unit_spelled : (stop : Stop) (cores opens atoms : ℕ) (names : List (List ℕ)) (ps : List Piece) (c : Claimed)
+    → length names ≤ 16 → unit_at stop cores opens atoms names ps ≡ Ok c → SpellsPhrase (IsUnit opens) cores atoms names ps c
+unit_spelled stop cores opens atoms names ps c le e = spelled_by cores (IsUnit opens) atoms names ps c le (unit_takes stop cores opens atoms names ps c e)
+
+pub proposition_again : (stop : Stop) (cores opens atoms : ℕ) (names : List (List ℕ)) (ps : List Piece) (ts back : List Term) (p : Phrase)
+    → IsProposition (IsUnit opens) ts p → IsWithin cores atoms names p → terms ps ≡ ts ++ back → begins_with And back ≡ false → begins_with Or back ≡ false
+    → ReadsPhrase (proposition_at stop cores opens) atoms names p back ps
+proposition_again stop cores opens atoms names ps ts back p is within e no_and no_or =
+    proposition_finds (IsUnit opens) cores (unit_at stop cores opens) (unit_finds stop cores opens) ts p is atoms names within back ((tt, no_and), no_or) ps e
+
+pub proposition_spelled : (stop : Stop) (cores opens atoms : ℕ) (names : List (List ℕ)) (ps : List Piece) (c : Claimed)
+    → length names ≤ 16 → proposition_at stop cores opens atoms names ps ≡ Ok c → SpellsPhrase (IsProposition (IsUnit opens)) cores atoms names ps c
+proposition_spelled stop cores opens atoms names ps c le e =
+    spelled_by cores (IsProposition (IsUnit opens)) atoms names ps c le (proposition_takes (IsUnit opens) cores (unit_at stop cores opens) (unit_takes stop cores opens) atoms names ps c e)

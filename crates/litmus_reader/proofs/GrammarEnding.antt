@@ -1,0 +1,178 @@
+-- What stands behind the rows is read as it is spelled.
+use Rattle.std.proofs.Common.{◌≡◌, ℕ, ◌≤◌, Bool, true, false, List, [], ◌∷◌, ◌++◌, length, Option, Some, None, Result, Ok, Err, refl, sym, ap, subst, ◌∙◌, ◌⊎◌, inl, inr, append-nil, eqb-true, arith}
+use Rattle.std.specs.Prelude.{codes}
+use Rattle.std.specs.Str.{bytes_eq}
+use Rattle.std.proofs.lemmas.Slice.Eq.{bytes_eq-Decides}
+use Rattle.tso_model.specs.Condition.{Condition}
+use Rattle.tso_model.specs.declared.condition.Quantifier.{Quantifier}
+use Rattle.litmus_tokens.specs.declared.token.Stop.{Stop}
+use Rattle.litmus_tokens.specs.declared.token.Stop.TheVariants.{End, BadToken, Unclosed}
+use Rattle.litmus_tokens.specs.declared.token.Symbol.{Symbol}
+use Rattle.litmus_tokens.specs.declared.token.Symbol.TheVariants.{OpenSquare, Tilde}
+use Rattle.litmus_tokens.specs.Terms.{Term, number, name, symbol}
+use Rattle.litmus_tokens.specs.Pieces.{Piece, pieces_of}
+use Rattle.litmus_tokens.specs.Front.{is_symbol, symbol_at, name_then, name_at}
+use Rattle.litmus_reader.specs.declared.fault.Fault.{Fault}
+use Rattle.litmus_reader.specs.Faults.{◌>>=◌, there, or_unfit, left_of}
+use Rattle.litmus_reader.specs.Keywords.{word_behind, if_word}
+use Rattle.litmus_reader.specs.Observed.{behind_word, square_end, from_place, brackets_end, observed_end}
+use Rattle.litmus_reader.specs.Conditions.{Conditioned, conditioned, condition_at}
+use Rattle.litmus_reader.specs.Reading.{end_at, ending_at, ending_from, tail_at}
+use Rattle.litmus_reader.specs.Grammar.{terms}
+use Rattle.litmus_reader.specs.GrammarNames.{numbered}
+use Rattle.litmus_reader.specs.GrammarText.{ClosesBrackets}
+use Rattle.litmus_reader.specs.GrammarConditions.{Phrase, IsWithin, IsCondition, condition, IsQuantifier, says_exists, says_forall, says_not_exists}
+use Rattle.litmus_reader.specs.GrammarEnding.{Asked, asked, MayAsk, nothing, a_condition, EndsText, IsEnding, at_once, behind_locations, names_asked, condition_of, IsAskedWithin}
+use Rattle.litmus_reader.proofs.GrammarTokens.{there_is, ok_is, ok_pair, some_is, pair_is, chosen, bind_ok, or_unfit_ok, opened, no_terms, symbol_is}
+use Rattle.litmus_reader.proofs.GrammarQuantified.{condition_again, condition_takes}
+
+-- what an ending gives behind these names
+abbrev pub Given : Type 0
+Given = Option Condition × List (List ℕ)
+
+abbrev pub given : List (List ℕ) → Option Asked → Given
+given names c = (condition_of (numbered names (names_asked c)) c, numbered names (names_asked c))
+
+-- ---- found
+
+end_found : (stop : Stop) → stop ≡ End → end_at stop [] ≡ Ok tt
+unfolding end_at
+end_found stop ended = rw ended refl
+
+ending_found : (stop : Stop) (cores : ℕ) (names : List (List ℕ)) (ps : List Piece) (c : Option Asked) (ts : List Term) → stop ≡ End → terms ps ≡ ts → MayAsk ts c → IsAskedWithin cores names c
+    → ending_at stop cores names ps ≡ Ok (given names c)
+unfolding ending_at condition_at word_behind name_at symbol_at numbered end_at
+ending_found stop cores names ps _ _ ended e nothing within = rw (no_terms ps e, ended) refl
+ending_found stop cores names ps _ _ ended e (a_condition ts quantifier phrase is) within =
+    let f = condition_again stop cores names ps ts [] quantifier phrase is within (e ∙ sym (append-nil ts)) refl refl in
+    rw (f.is, no_terms f.rest f.behind, end_found stop ended) refl
+
+no_locations : (ps : List Piece) (c : Option Asked) (ts : List Term) → terms ps ≡ ts → MayAsk ts c → word_behind (codes "locations") ps ≡ None
+unfolding word_behind name_at
+no_locations ps _ _ e nothing = rw (no_terms ps e) refl
+no_locations ps _ _ e (a_condition _ _ _ (condition _ us _ phrase says_exists is)) =
+    opened (λ ps. word_behind (codes "locations") ps ≡ None) ps (name (codes "exists")) us e (λ p rest is behind. rw is refl)
+no_locations ps _ _ e (a_condition _ _ _ (condition _ us _ phrase says_forall is)) =
+    opened (λ ps. word_behind (codes "locations") ps ≡ None) ps (name (codes "forall")) us e (λ p rest is behind. rw is refl)
+no_locations ps _ _ e (a_condition _ _ _ (condition _ us _ phrase says_not_exists is)) =
+    opened (λ ps. word_behind (codes "locations") ps ≡ None) ps (symbol Tilde) (name (codes "exists") ∷ us) e (λ p rest is behind. rw is refl)
+
+-- the law of the brackets, as this file uses it
+abbrev pub Closes : Type 0
+Closes = (left : ℕ) (bytes rest : List ℕ) → ClosesBrackets bytes rest → square_end left bytes ≡ Ok rest
+
+abbrev pub Closed : Type 0
+Closed = (left : ℕ) (bytes rest : List ℕ) → square_end left bytes ≡ Ok rest → ClosesBrackets bytes rest
+
+observed_found : (text : List ℕ) (stop : Stop) (word opener : Piece) (ps : List Piece) (bytes : List ℕ) → Closes → word.term ≡ name (codes "locations") → opener.term ≡ symbol OpenSquare
+    → ClosesBrackets (from_place text opener.left) bytes → observed_end text stop (word ∷ opener ∷ ps) ≡ Ok (Some bytes)
+unfolding observed_end word_behind name_at brackets_end symbol_at is_symbol
+observed_found text stop word opener ps bytes closes is_word is_opener found = rw (is_word, is_opener, closes opener.left (from_place text opener.left) bytes found) refl
+
+pub tail_again : (text : List ℕ) (stop : Stop) (cores : ℕ) (names : List (List ℕ)) (ps : List Piece) (c : Option Asked) → Closes → IsEnding text stop ps c → IsAskedWithin cores names c
+    → tail_at text stop cores names ps ≡ Ok (given names c)
+unfolding tail_at observed_end
+tail_again text stop cores names _ _ closes (at_once ps c ends) within =
+    rw (no_locations ps c (terms ps) refl ends.is) (ending_found stop cores names ps c (terms ps) ends.ended refl ends.is within)
+tail_again text stop cores names _ _ closes (behind_locations word opener ps bytes c is_word is_opener found ends) within =
+    rw (observed_found text stop word opener ps bytes closes is_word is_opener found) (ending_found (pieces_of bytes).1 cores names (pieces_of bytes).0 c (terms (pieces_of bytes).0) ends.ended refl ends.is within)
+
+-- ---- taken
+
+end_taken : (stop : Stop) (ps : List Piece) (u : Unit {0}) → end_at stop ps ≡ Ok u → (stop ≡ End) × (ps ≡ [])
+unfolding end_at
+end_taken stop (p ∷ ps) u e = absurd cc
+end_taken End [] u e = (refl, refl)
+end_taken (BadToken left) [] u e = absurd cc
+end_taken (Unclosed left) [] u e = absurd cc
+
+-- what was read behind these names is what the tokens up to the end spell
+pub record Ends (stop : Stop) (cores : ℕ) (names : List (List ℕ)) (ps : List Piece) (g : Given) : Type 0 where
+  pub c : Option Asked
+  pub ends : EndsText stop ps c
+  pub within : IsAskedWithin cores names c
+  pub gives : g ≡ given names c
+
+ending_taken : (stop : Stop) (cores : ℕ) (names : List (List ℕ)) (ps : List Piece) (g : Given) → length names ≤ 16 → ending_at stop cores names ps ≡ Ok g → Ends stop cores names ps g
+unfolding ending_at numbered
+ending_taken stop cores names ps g le e =
+    let a = bind_ok (condition_at stop cores names ps) (λ c. end_at stop c.rest >>= λ end. Ok (c.condition, c.names)) g e in
+    let b = bind_ok (end_at stop a.0.rest) (λ end. Ok (a.0.condition, a.0.names)) g a.2 in
+    let ended = end_taken stop a.0.rest b.0 b.1 in
+    let gives : (a.0.condition, a.0.names) ≡ g = ok_is (a.0.condition, a.0.names) g b.2 in
+    elim (condition_takes stop cores names ps a.0 le a.1) [
+      | inl s ↦ record {
+        c = asked s.quantifier s.phrase;
+        ends = record {
+          ended = ended.0;
+          is = subst (λ ts. MayAsk ts (asked s.quantifier s.phrase)) (sym (s.parts ∙ rw ended.1 (append-nil s.ts))) (a_condition s.ts s.quantifier s.phrase s.is);
+        };
+        within = s.within;
+        gives = sym gives ∙ ap (λ (c : Conditioned). (c.condition, c.names)) s.given;
+      }
+      | inr none ↦ record {
+        c = None;
+        ends = record {
+          ended = ended.0;
+          is = let empty : ps ≡ [] = sym (ap (λ (c : Conditioned). c.rest) none) ∙ ended.1 in rw empty nothing;
+        };
+        within = le;
+        gives = sym gives ∙ ap (λ (c : Conditioned). (c.condition, c.names)) none;
+      }
+    ]
+
+word_found : (word : List ℕ) (ps rest : List Piece) → word_behind word ps ≡ Some rest → (p : Piece) × (ps ≡ p ∷ rest) × (p.term ≡ name word)
+unfolding word_behind name_at
+word_found word [] rest e = absurd cc
+word_found word (p ∷ ps) rest e = by_term p.term refl e
+  where
+    by_term : (t : Term) → p.term ≡ t → there (name_then t ps) (if_word word) None ≡ Some rest → (q : Piece) × (p ∷ ps ≡ q ∷ rest) × (q.term ≡ name word)
+    by_term (number d) is h = absurd cc
+    by_term (symbol s) is h = absurd cc
+    by_term (name x) is h =
+        elim (chosen (bytes_eq x word) (Some ps) None (Some rest) h) [
+          | inl hit ↦ let same : x ≡ word = (bytes_eq-Decides x word).0 hit.0 in let last : ps ≡ rest = some_is ps rest hit.1 in (p, ap (λ (l : List Piece). p ∷ l) last, is ∙ ap (λ (y : List ℕ). name y) same)
+          | inr miss ↦ absurd cc
+        ]
+
+symbol_found : (s : Symbol) (ps rest : List Piece) → symbol_at s ps ≡ Some rest → (p : Piece) × (ps ≡ p ∷ rest) × (p.term ≡ symbol s)
+unfolding symbol_at
+symbol_found s [] rest e = absurd cc
+symbol_found s (p ∷ ps) rest e =
+    elim (chosen (is_symbol s p) (Some ps) None (Some rest) e) [
+      | inl hit ↦ (p, ap (λ (l : List Piece). p ∷ l) (some_is ps rest hit.1), symbol_is s p hit.0)
+      | inr miss ↦ absurd cc
+    ]
+
+-- what was read behind these names is what the rest of the text spells
+pub record Tail (text : List ℕ) (stop : Stop) (cores : ℕ) (names : List (List ℕ)) (ps : List Piece) (g : Given) : Type 0 where
+  pub c : Option Asked
+  pub ending : IsEnding text stop ps c
+  pub within : IsAskedWithin cores names c
+  pub gives : g ≡ given names c
+
+pub tail_takes : (text : List ℕ) (stop : Stop) (cores : ℕ) (names : List (List ℕ)) (ps : List Piece) (g : Given) → Closed → length names ≤ 16
+    → tail_at text stop cores names ps ≡ Ok g → Tail text stop cores names ps g
+unfolding tail_at observed_end brackets_end
+tail_takes text stop cores names ps g closed le e =
+    let a = bind_ok (observed_end text stop ps) (λ behind. ending_from stop cores names ps behind) g e in
+    elim (there_is (word_behind (codes "locations") ps) (λ rest. brackets_end text stop rest >>= λ bytes. Ok (Some bytes)) (Ok None) (Ok a.0) a.1) [
+      | inl at ↦
+          let w = word_found (codes "locations") ps at.0 at.1 in
+          let b = bind_ok (brackets_end text stop at.0) (λ bytes. Ok (Some bytes)) a.0 at.2 in
+          let d = bind_ok (or_unfit (behind_word stop) at.0 (symbol_at OpenSquare at.0)) (λ rest. square_end (left_of at.0) (from_place text (left_of at.0))) b.0 b.1 in
+          let o = symbol_found OpenSquare at.0 d.0 (or_unfit_ok (behind_word stop) at.0 (symbol_at OpenSquare at.0) d.0 d.1) in
+          let bytes : Some b.0 ≡ a.0 = ok_is (Some b.0) a.0 b.2 in
+          let ends = ending_taken (pieces_of b.0).1 cores names (pieces_of b.0).0 g le (subst (λ behind. ending_from stop cores names ps behind ≡ Ok g) (sym bytes) a.2) in
+          let place : ClosesBrackets (from_place text o.0.left) b.0 = closed o.0.left (from_place text o.0.left) b.0 (subst (λ (l : List Piece). square_end (left_of l) (from_place text (left_of l)) ≡ Ok b.0) o.1 d.2) in
+          record {
+            c = ends.c;
+            ending = subst (λ l. IsEnding text stop l ends.c) (sym (w.1 ∙ ap (λ (l : List Piece). w.0 ∷ l) o.1)) (behind_locations w.0 o.0 d.0 b.0 ends.c w.2 o.2 place ends.ends);
+            within = ends.within;
+            gives = ends.gives;
+          }
+      | inr none ↦
+          let nothing_found : None ≡ a.0 = ok_is None a.0 none.1 in
+          let ends = ending_taken stop cores names ps g le (subst (λ behind. ending_from stop cores names ps behind ≡ Ok g) (sym nothing_found) a.2) in
+          record { c = ends.c; ending = at_once ps ends.c ends.ends; within = ends.within; gives = ends.gives }
+    ]

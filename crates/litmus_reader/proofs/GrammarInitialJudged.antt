@@ -1,0 +1,260 @@
+-- An item more of the initial state, and what is given so far.
+use Rattle.std.proofs.Common.{◌≡◌, ℕ, suc, ◌+◌, ◌≤◌, ◌<◌, ◌^◌, Bool, true, false, cond, ltb, not, ◌||◌, List, [], ◌∷◌, ◌++◌, length, map, Some, None, Ok, Err, refl, sym, ap, subst, ◌∙◌, inl, inr, arith}
+use Rattle.std.specs.List.{list_any, list_all}
+use Rattle.std.specs.Str.{bytes_eq}
+use Rattle.std.proofs.lemmas.Bool.{ltb-true, ltb-false, and_parts, or_parts, not-true}
+use Rattle.std.proofs.lemmas.List.{length-append, map-append}
+use Rattle.std.proofs.lemmas.List.Folds.{list_any-append, list_all-append}
+use Rattle.tso_model.specs.declared.register.Reg.{Reg}
+use Rattle.tso_model.specs.declared.instruction.Loc.{Loc}
+use Rattle.litmus_reader.specs.declared.fault.Why.TheVariants.{TwiceInit}
+use Rattle.litmus_reader.specs.Faults.{fault}
+use Rattle.litmus_reader.specs.Locations.{number_of, with_name, location, located}
+use Rattle.litmus_reader.specs.Items.{Setting, of_register, of_location, or_bad_number, word_at}
+use Rattle.litmus_reader.specs.Initial.{Given, given, Initial, initial, gives, judged}
+use Rattle.litmus_reader.specs.GrammarInitial.{value_of, same_place, each_once, names_in, Fits}
+use Rattle.litmus_reader.proofs.Maps.{list_any_map}
+use Rattle.litmus_reader.proofs.GrammarNames.{place_below, place_none}
+use Rattle.litmus_reader.proofs.GrammarTokens.{chosen, ok_is, bind_ok}
+
+-- ---- what settings give
+
+-- the words of the locations
+abbrev pub words_in : List Setting → List ℕ
+words_in [] = []
+words_in (of_register core reg v ∷ rest) = words_in rest
+words_in (of_location x v ∷ rest) = v ∷ words_in rest
+
+-- the settings of registers
+abbrev pub registers_in : List Setting → List Setting
+registers_in [] = []
+registers_in (of_register core reg v ∷ rest) = of_register core reg v ∷ registers_in rest
+registers_in (of_location x v ∷ rest) = registers_in rest
+
+abbrev pub unplaced : Given → Setting
+unplaced g = of_register g.core g.reg g.value
+
+-- what has been read is what the settings so far give
+pub record Holds (done : List Setting) (i : Initial) : Type 0 where
+  pub names : i.names ≡ names_in done
+  pub words : i.words ≡ words_in done
+  pub registers : map unplaced i.registers ≡ registers_in done
+
+pub names_in-append : (xs ys : List Setting) → names_in (xs ++ ys) ≡ names_in xs ++ names_in ys
+names_in-append [] ys = refl
+names_in-append (of_register core reg v ∷ xs) ys = names_in-append xs ys
+names_in-append (of_location x v ∷ xs) ys = ap (λ (l : List (List ℕ)). x ∷ l) (names_in-append xs ys)
+
+pub words_in-append : (xs ys : List Setting) → words_in (xs ++ ys) ≡ words_in xs ++ words_in ys
+words_in-append [] ys = refl
+words_in-append (of_register core reg v ∷ xs) ys = words_in-append xs ys
+words_in-append (of_location x v ∷ xs) ys = ap (λ (l : List ℕ). v ∷ l) (words_in-append xs ys)
+
+pub registers_in-append : (xs ys : List Setting) → registers_in (xs ++ ys) ≡ registers_in xs ++ registers_in ys
+registers_in-append [] ys = refl
+registers_in-append (of_register core reg v ∷ xs) ys = ap (λ (l : List Setting). of_register core reg v ∷ l) (registers_in-append xs ys)
+registers_in-append (of_location x v ∷ xs) ys = registers_in-append xs ys
+
+pub a_word_each : (xs : List Setting) → length (words_in xs) ≡ length (names_in xs)
+a_word_each [] = refl
+a_word_each (of_register core reg v ∷ xs) = a_word_each xs
+a_word_each (of_location x v ∷ xs) = ap suc (a_word_each xs)
+
+-- ---- given before
+
+pub location_given : (x : List ℕ) (v : ℕ) (done : List Setting) → list_any (same_place (of_location x v)) done ≡ list_any (bytes_eq x) (names_in done)
+location_given x v [] = refl
+location_given x v (of_register core reg w ∷ done) = location_given x v done
+location_given x v (of_location y w ∷ done) = ap (λ (b : Bool). bytes_eq x y || b) (location_given x v done)
+
+among_registers : (core : List ℕ) (reg : Reg) (v : ℕ) (done : List Setting) → list_any (same_place (of_register core reg v)) done ≡ list_any (same_place (of_register core reg v)) (registers_in done)
+among_registers core reg v [] = refl
+among_registers core reg v (of_register c r w ∷ done) = ap (λ (b : Bool). same_place (of_register core reg v) (of_register c r w) || b) (among_registers core reg v done)
+among_registers core reg v (of_location y w ∷ done) = among_registers core reg v done
+
+register_given : (core : List ℕ) (reg : Reg) (v : ℕ) (done : List Setting) (gs : List Given) → map unplaced gs ≡ registers_in done
+    → list_any (same_place (of_register core reg v)) done ≡ list_any (gives core reg) gs
+register_given core reg v done gs e =
+    among_registers core reg v done ∙ ap (list_any (same_place (of_register core reg v))) (sym e) ∙ list_any_map (same_place (of_register core reg v)) unplaced gs
+
+pub once_apart : (done rest : List Setting) (s : Setting) → each_once (done ++ s ∷ rest) ≡ true → list_any (same_place s) done ≡ false
+once_apart [] rest s e = refl
+once_apart (d ∷ ds) rest s e =
+    let both = and_parts (not (list_any (λ later. same_place later d) (ds ++ s ∷ rest))) (each_once (ds ++ s ∷ rest)) e in
+    let none : list_any (λ later. same_place later d) (ds ++ s ∷ rest) ≡ false = not-true _ both.0 in
+    let split = or_parts (list_any (λ later. same_place later d) ds) (list_any (λ later. same_place later d) (s ∷ rest)) (sym (list_any-append (λ later. same_place later d) ds (s ∷ rest)) ∙ none) in
+    let first = or_parts (same_place s d) (list_any (λ later. same_place later d) rest) split.1 in
+    let apart : same_place s d ≡ false = first.0 in
+    rw apart (once_apart ds rest s both.1)
+
+once_more : (done : List Setting) (s : Setting) → each_once done ≡ true → list_any (same_place s) done ≡ false → each_once (done ++ s ∷ []) ≡ true
+once_more [] s e new = refl
+once_more (d ∷ ds) s e new =
+    let both = and_parts (not (list_any (λ later. same_place later d) ds)) (each_once ds) e in
+    let none : list_any (λ later. same_place later d) ds ≡ false = not-true _ both.0 in
+    let fresh = or_parts (same_place s d) (list_any (same_place s) ds) new in
+    let apart : same_place s d ≡ false = fresh.0 in
+    let away : list_any (λ later. same_place later d) (ds ++ s ∷ []) ≡ false = list_any-append (λ later. same_place later d) ds (s ∷ []) ∙ rw (none, apart) refl in
+    rw away (once_more ds s both.1 fresh.1)
+
+-- ---- a word
+
+room_is : (left v w : ℕ) → word_at left v ≡ Ok w → (ltb v (2 ^ 32) ≡ true) × (v ≡ w)
+room_is left v w e = by_room (ltb v (2 ^ 32)) refl e
+  where
+    by_room : (b : Bool) → ltb v (2 ^ 32) ≡ b → or_bad_number left (cond b (Some v) None) ≡ Ok w → (ltb v (2 ^ 32) ≡ true) × (v ≡ w)
+    by_room true is h = (is, ok_is v w h)
+    by_room false is h = absurd cc
+
+has_room : (left v : ℕ) → ltb v (2 ^ 32) ≡ true → word_at left v ≡ Ok v
+has_room left v e = rw e refl
+
+-- ---- a location
+
+located_new : (left : ℕ) (names : List (List ℕ)) (x : List ℕ) → list_any (bytes_eq x) names ≡ false → length names < 16 → located left names x ≡ Ok (location (length names), names ++ x ∷ [])
+unfolding located
+located_new left names x new room =
+    let at_end : number_of names x ≡ length names = place_none (bytes_eq x) names new in
+    let fits : ltb (length names) 16 ≡ true = below (length names) 16 room in
+    rw (at_end, fits, new) refl
+  where
+    below : (m n : ℕ) → m < n → ltb m n ≡ true
+    below m n lt = by_test (ltb m n) refl
+      where
+        by_test : (b : Bool) → ltb m n ≡ b → ltb m n ≡ true
+        by_test true e = e
+        by_test false e = let past = ltb-false _ _ e in absurd (omega arith)
+
+-- where a location's number is none of those that have a word
+located_is : (left : ℕ) (names : List (List ℕ)) (x : List ℕ) (loc : Loc × List (List ℕ)) → located left names x ≡ Ok loc → ltb loc.0.0 (length names) ≡ false
+    → (list_any (bytes_eq x) names ≡ false) × (length names < 16) × (loc.1 ≡ names ++ x ∷ [])
+unfolding located
+located_is left names x loc e past =
+    elim (chosen (ltb (number_of names x) 16) (Ok (location (number_of names x), with_name names x)) _ (Ok loc) e) [
+      | inl hit ↦
+          let same : (location (number_of names x), with_name names x) ≡ loc = ok_is _ loc hit.1 in
+          let number : number_of names x ≡ loc.0.0 = ap (λ (l : Loc × List (List ℕ)). l.0.0) same in
+          let behind : length names ≤ number_of names x = rw number (ltb-false _ _ past) in
+          by_known (list_any (bytes_eq x) names) refl (ltb-true _ _ hit.0) behind (ap (λ (l : Loc × List (List ℕ)). l.1) same)
+      | inr miss ↦ absurd cc
+    ]
+  where
+    by_known : (b : Bool) → list_any (bytes_eq x) names ≡ b → number_of names x < 16 → length names ≤ number_of names x → cond b names (names ++ x ∷ []) ≡ loc.1
+        → (list_any (bytes_eq x) names ≡ false) × (length names < 16) × (loc.1 ≡ names ++ x ∷ [])
+    by_known true any room behind is = let below = place_below (bytes_eq x) names any in absurd (omega (arith, below, behind))
+    by_known false any room behind is = (any, omega (arith, room, behind), sym is)
+
+-- ---- judged
+
+values_split : (done rest : List Setting) (s : Setting) → list_all (λ s. ltb (value_of s) (2 ^ 32)) (done ++ s ∷ rest) ≡ true → ltb (value_of s) (2 ^ 32) ≡ true
+values_split done rest s e =
+    let both = and_parts (list_all (λ s. ltb (value_of s) (2 ^ 32)) done) (list_all (λ s. ltb (value_of s) (2 ^ 32)) (s ∷ rest)) (sym (list_all-append (λ s. ltb (value_of s) (2 ^ 32)) done (s ∷ rest)) ∙ e) in
+    (and_parts (ltb (value_of s) (2 ^ 32)) (list_all (λ s. ltb (value_of s) (2 ^ 32)) rest) both.1).0
+
+values_more : (done : List Setting) (s : Setting) → list_all (λ s. ltb (value_of s) (2 ^ 32)) done ≡ true → ltb (value_of s) (2 ^ 32) ≡ true
+    → list_all (λ s. ltb (value_of s) (2 ^ 32)) (done ++ s ∷ []) ≡ true
+values_more done s all one = list_all-append (λ s. ltb (value_of s) (2 ^ 32)) done (s ∷ []) ∙ rw (all, one) refl
+
+-- the item is taken in
+pub record Judged (left : ℕ) (i : Initial) (done : List Setting) (s : Setting) : Type 0 where
+  pub after : Initial
+  pub is : judged left i s ≡ Ok after
+  pub holds : Holds (done ++ s ∷ []) after
+
+hold_register : (done : List Setting) (i : Initial) (left : ℕ) (core : List ℕ) (reg : Reg) (v : ℕ) → Holds done i
+    → Holds (done ++ of_register core reg v ∷ []) (initial i.names i.words (i.registers ++ given left core reg v ∷ []))
+hold_register done i left core reg v h = record {
+  names = h.names ∙ sym (append_nil_names (names_in done)) ∙ sym (names_in-append done (of_register core reg v ∷ []));
+  words = h.words ∙ sym (append_nil_words (words_in done)) ∙ sym (words_in-append done (of_register core reg v ∷ []));
+  registers = map-append unplaced i.registers (given left core reg v ∷ []) ∙ ap (λ (l : List Setting). l ++ of_register core reg v ∷ []) h.registers ∙ sym (registers_in-append done (of_register core reg v ∷ []));
+}
+  where
+    append_nil_names : (l : List (List ℕ)) → l ++ [] ≡ l
+    append_nil_names [] = refl
+    append_nil_names (x ∷ xs) = ap (λ (l : List (List ℕ)). x ∷ l) (append_nil_names xs)
+
+    append_nil_words : (l : List ℕ) → l ++ [] ≡ l
+    append_nil_words [] = refl
+    append_nil_words (x ∷ xs) = ap (λ (l : List ℕ). x ∷ l) (append_nil_words xs)
+
+hold_location : (done : List Setting) (i : Initial) (x : List ℕ) (v : ℕ) (names : List (List ℕ)) → Holds done i → names ≡ names_in done ++ x ∷ []
+    → Holds (done ++ of_location x v ∷ []) (initial names (i.words ++ v ∷ []) i.registers)
+hold_location done i x v names h e = record {
+  names = e ∙ sym (names_in-append done (of_location x v ∷ []));
+  words = ap (λ (l : List ℕ). l ++ v ∷ []) h.words ∙ sym (words_in-append done (of_location x v ∷ []));
+  registers = h.registers ∙ sym (append_nil (registers_in done)) ∙ sym (registers_in-append done (of_location x v ∷ []));
+}
+  where
+    append_nil : (l : List Setting) → l ++ [] ≡ l
+    append_nil [] = refl
+    append_nil (x ∷ xs) = ap (λ (l : List Setting). x ∷ l) (append_nil xs)
+
+pub judged_found : (left : ℕ) (i : Initial) (done rest : List Setting) (s : Setting) → Holds done i → Fits (done ++ s ∷ rest) → Judged left i done s
+unfolding judged
+judged_found left i done rest (of_register core reg v) h fits =
+    let room = has_room left v (values_split done rest (of_register core reg v) fits.values) in
+    let once = sym (register_given core reg v done i.registers h.registers) ∙ once_apart done rest (of_register core reg v) fits.once in
+    record { after = initial i.names i.words (i.registers ++ given left core reg v ∷ []); is = rw (room, once) refl; holds = hold_register done i left core reg v h }
+judged_found left i done rest (of_location x v) h fits =
+    let room = has_room left v (values_split done rest (of_location x v) fits.values) in
+    let apart : list_any (bytes_eq x) i.names ≡ false = ap (list_any (bytes_eq x)) h.names ∙ sym (location_given x v done) ∙ once_apart done rest (of_location x v) fits.once in
+    let count : length (names_in (done ++ of_location x v ∷ rest)) ≡ length (names_in done) + suc (length (names_in rest)) = ap length (names_in-append done (of_location x v ∷ rest)) ∙ length-append (names_in done) (x ∷ names_in rest) in
+    let same : length i.names ≡ length (names_in done) = ap length h.names in
+    let some : length i.names < 16 = omega (arith, count, same, fits.few) in
+    let words : length i.words ≡ length i.names = ap length h.words ∙ a_word_each done ∙ sym same in
+    let found = located_new left i.names x apart some in
+    let new : ltb (length i.names) (length i.names) ≡ false = itself (length i.names) in
+    record {
+      after = initial (i.names ++ x ∷ []) (i.words ++ v ∷ []) i.registers;
+      is = rw (room, found, words, new) refl;
+      holds = hold_location done i x v (i.names ++ x ∷ []) h (ap (λ (l : List (List ℕ)). l ++ x ∷ []) h.names);
+    }
+  where
+    itself : (n : ℕ) → ltb n n ≡ false
+    itself n = by_test (ltb n n) refl
+      where
+        by_test : (b : Bool) → ltb n n ≡ b → ltb n n ≡ false
+        by_test true e = let less = ltb-true _ _ e in absurd (omega arith)
+        by_test false e = e
+
+pub judged_taken : (left : ℕ) (i after : Initial) (done : List Setting) (s : Setting) → judged left i s ≡ Ok after → Holds done i → Fits done
+    → Holds (done ++ s ∷ []) after × Fits (done ++ s ∷ [])
+unfolding judged
+judged_taken left i after done (of_register core reg v) e h fits =
+    let value = bind_ok (word_at left v) _ after e in
+    let room = room_is left v value.0 value.1 in
+    elim (chosen (list_any (gives core reg) i.registers) (Err (fault TwiceInit left)) (Ok (initial i.names i.words (i.registers ++ given left core reg value.0 ∷ []))) (Ok after) value.2) [
+      | inl twice ↦ absurd cc
+      | inr once ↦
+          let same : initial i.names i.words (i.registers ++ given left core reg value.0 ∷ []) ≡ after = ok_is _ after once.1 in
+          let is : initial i.names i.words (i.registers ++ given left core reg v ∷ []) ≡ after = ap (λ (n : ℕ). initial i.names i.words (i.registers ++ given left core reg n ∷ [])) room.1 ∙ same in
+          let apart = register_given core reg v done i.registers h.registers ∙ once.0 in (
+            subst (Holds (done ++ of_register core reg v ∷ [])) is (hold_register done i left core reg v h),
+            record {
+              once = once_more done (of_register core reg v) fits.once apart;
+              values = values_more done (of_register core reg v) fits.values room.0;
+              few = omega (arith, fits.few, ap length (names_in-append done (of_register core reg v ∷ [])), length-append (names_in done) []);
+            },
+          )
+    ]
+judged_taken left i after done (of_location x v) e h fits =
+    let value = bind_ok (word_at left v) _ after e in
+    let room = room_is left v value.0 value.1 in
+    let loc = bind_ok (located left i.names x) _ after value.2 in
+    let words : length i.words ≡ length i.names = ap length h.words ∙ a_word_each done ∙ sym (ap length h.names) in
+    elim (chosen (ltb loc.0.0.0 (length i.words)) (Err (fault TwiceInit left)) (Ok (initial loc.0.1 (i.words ++ value.0 ∷ []) i.registers)) (Ok after) loc.2) [
+      | inl twice ↦ absurd cc
+      | inr once ↦
+          let same : initial loc.0.1 (i.words ++ value.0 ∷ []) i.registers ≡ after = ok_is _ after once.1 in
+          let is : initial loc.0.1 (i.words ++ v ∷ []) i.registers ≡ after = ap (λ (n : ℕ). initial loc.0.1 (i.words ++ n ∷ []) i.registers) room.1 ∙ same in
+          let new = located_is left i.names x loc.0 loc.1 (rw (← words) once.0) in
+          let apart : list_any (same_place (of_location x v)) done ≡ false = location_given x v done ∙ ap (list_any (bytes_eq x)) (sym h.names) ∙ new.0 in
+          let known : length i.names ≡ length (names_in done) = ap length h.names in (
+            subst (Holds (done ++ of_location x v ∷ [])) is (hold_location done i x v loc.0.1 h (new.2 ∙ ap (λ (l : List (List ℕ)). l ++ x ∷ []) h.names)),
+            record {
+              once = once_more done (of_location x v) fits.once apart;
+              values = values_more done (of_location x v) fits.values room.0;
+              few = omega (arith, new.1, known, ap length (names_in-append done (of_location x v ∷ [])), length-append (names_in done) (x ∷ []));
+            },
+          )
+    ]

@@ -1,0 +1,37 @@
+-- `{ x=1; ; 1:eax=2; [y]=3 }`, an initial state with an item of each form.
+use Rattle.std.proofs.Common.{◌≡◌, ℕ, List, [], ◌∷◌, refl, arith}
+use Rattle.std.specs.Prelude.{codes}
+use Rattle.tso_model.specs.declared.register.Reg.TheVariants.{Eax}
+use Rattle.litmus_tokens.specs.declared.token.Symbol.TheVariants.{Equals, Colon, OpenSquare, CloseSquare, OpenCurly, CloseCurly, Semicolon}
+use Rattle.litmus_tokens.specs.Terms.{Term, number, name, symbol, decimal_from}
+use Rattle.litmus_reader.specs.Items.{Setting, of_register, of_location}
+use Rattle.litmus_reader.specs.GrammarItems.{sets_register, sets_location, sets_in_squares}
+use Rattle.litmus_reader.specs.GrammarInitial.{IsItem, empty, given, AreItems, last, more, IsInitialState, in_braces, Fits, has_cores, first_words, first_registers}
+
+abbrev tokens : List Term
+tokens =
+    symbol OpenCurly ∷ name (codes "x") ∷ symbol Equals ∷ number (codes "1") ∷ symbol Semicolon ∷ symbol Semicolon
+    ∷ number (codes "1") ∷ symbol Colon ∷ name (codes "eax") ∷ symbol Equals ∷ number (codes "2") ∷ symbol Semicolon
+    ∷ symbol OpenSquare ∷ name (codes "y") ∷ symbol CloseSquare ∷ symbol Equals ∷ number (codes "3") ∷ symbol CloseCurly ∷ []
+
+abbrev settings : List Setting
+settings = of_location (codes "x") 1 ∷ of_register (codes "1") Eax 2 ∷ of_location (codes "y") 3 ∷ []
+
+pub spelled : IsInitialState tokens settings
+unfolding decimal_from
+spelled =
+    in_braces _ _
+    (more _ _ _ _ (given _ _ (sets_location (codes "x") (codes "1") refl))
+    (more _ _ _ _ empty
+    (more _ _ _ _ (given _ _ (sets_register (codes "1") (codes "eax") (codes "2") Eax refl))
+    (last _ _ (given _ _ (sets_in_squares (codes "y") (codes "3") refl))))))
+
+pub fits : Fits settings
+fits = record { once = refl; values = refl; few = omega arith }
+
+pub words : first_words settings (codes "x" ∷ codes "y" ∷ codes "z" ∷ []) ≡ 1 ∷ 3 ∷ 0 ∷ []
+words = refl
+
+pub registers : first_registers settings 2 ≡ (0 ∷ 0 ∷ 0 ∷ 0 ∷ 0 ∷ 0 ∷ []) ∷ (2 ∷ 0 ∷ 0 ∷ 0 ∷ 0 ∷ 0 ∷ []) ∷ []
+unfolding decimal_from
+registers = refl

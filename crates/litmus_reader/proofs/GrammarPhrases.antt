@@ -1,0 +1,298 @@
+-- Propositions by their phrases: claims as names appear, and parts with a symbol between them.
+use Rattle.std.proofs.Common.{◌≡◌, ℕ, zero, suc, ◌+◌, ◌≤◌, false, List, [], ◌∷◌, ◌++◌, length, Some, None, Ok, refl, sym, ap, subst, ◌∙◌, inl, inr, append_assoc, eq-eqb, arith}
+use Rattle.std.proofs.lemmas.List.{length-append, length-map}
+use Rattle.tso_model.specs.Condition.{Claim, LocClaim, NotClaim}
+use Rattle.litmus_tokens.specs.declared.token.Symbol.{Symbol}
+use Rattle.litmus_tokens.specs.declared.token.Symbol.TheVariants.{And, Or}
+use Rattle.litmus_tokens.specs.Terms.{Term, symbol}
+use Rattle.litmus_tokens.specs.Pieces.{Piece}
+use Rattle.litmus_tokens.specs.Front.{code_of, is_symbol, symbol_at}
+use Rattle.litmus_reader.specs.Faults.{◌>>=◌}
+use Rattle.litmus_reader.specs.Items.{of_register, of_location}
+use Rattle.litmus_reader.specs.Conditions as reading
+use Rattle.litmus_reader.specs.Conditions.{in_condition, claim_in, Claimed, claimed, one_more, truth_at, truth_atom, setting_atom, atom_at, Proposition, joined_to, chain, chain_of, conjunction, disjunction, negation_at, opens_unit, negated, bracketed, unit_by, unit_at, proposition_at}
+use Rattle.litmus_reader.specs.Grammar.{terms}
+use Rattle.litmus_reader.specs.GrammarNames.{numbered}
+use Rattle.litmus_reader.specs.GrammarConditions.{Phrase, truth, atom, negation, both, either, AreJoined, one, more, IsConjunction, IsProposition, locations_in, atoms_of, Fits, claim_of, begins_with, IsWithin, given_by, ReadsPhrase}
+use Rattle.litmus_reader.proofs.GrammarTokens.{there_is, ok_is, bind_ok, front, symbol_takes}
+use Rattle.litmus_reader.proofs.GrammarNames.{Known, known_with, known_more, number_more, numbered_append, grows}
+
+-- ---- claims stay as more names appear
+
+abbrev AllKnown : List (List ℕ) → Phrase → Type 0
+AllKnown names (truth b) = Unit {0}
+AllKnown names (atom (of_register core reg v)) = Unit {0}
+AllKnown names (atom (of_location x v)) = Known names x
+AllKnown names (negation p) = AllKnown names p
+AllKnown names (both p q) = AllKnown names p × AllKnown names q
+AllKnown names (either p q) = AllKnown names p × AllKnown names q
+
+all_known_more : (p : Phrase) (xs names : List (List ℕ)) → AllKnown names p → AllKnown (numbered names xs) p
+all_known_more (truth b) xs names k = tt
+all_known_more (atom (of_register core reg v)) xs names k = tt
+all_known_more (atom (of_location x v)) xs names k = known_more xs names x k
+all_known_more (negation p) xs names k = all_known_more p xs names k
+all_known_more (both p q) xs names k = (all_known_more p xs names k.0, all_known_more q xs names k.1)
+all_known_more (either p q) xs names k = (all_known_more p xs names k.0, all_known_more q xs names k.1)
+
+all_known : (p : Phrase) (names : List (List ℕ)) → AllKnown (numbered names (locations_in p)) p
+unfolding numbered
+all_known (truth b) names = tt
+all_known (atom (of_register core reg v)) names = tt
+all_known (atom (of_location x v)) names = known_with names x
+all_known (negation p) names = all_known p names
+all_known (both p q) names =
+    let one = all_known_more p (locations_in q) (numbered names (locations_in p)) (all_known p names) in
+    subst (λ (l : List (List ℕ)). AllKnown l p × AllKnown l q) (sym (numbered_append (locations_in p) (locations_in q) names)) (one, all_known q (numbered names (locations_in p)))
+all_known (either p q) names =
+    let one = all_known_more p (locations_in q) (numbered names (locations_in p)) (all_known p names) in
+    subst (λ (l : List (List ℕ)). AllKnown l p × AllKnown l q) (sym (numbered_append (locations_in p) (locations_in q) names)) (one, all_known q (numbered names (locations_in p)))
+
+pub stays : (p : Phrase) (xs names : List (List ℕ)) → AllKnown names p → claim_of (numbered names xs) p ≡ claim_of names p
+stays (truth b) xs names k = refl
+stays (atom (of_register core reg v)) xs names k = refl
+stays (atom (of_location x v)) xs names k = ap (λ (n : ℕ). LocClaim n v) (number_more xs names x k)
+stays (negation p) xs names k = ap (λ (c : Claim). NotClaim c) (stays p xs names k)
+stays (both p q) xs names k = rw (stays p xs names k.0, stays q xs names k.1) refl
+stays (either p q) xs names k = rw (stays p xs names k.0, stays q xs names k.1) refl
+
+-- the first claim of two, where the second brought more names
+first_stays : (p : Phrase) (xs names : List (List ℕ)) → claim_of (numbered (numbered names (locations_in p)) xs) p ≡ claim_of (numbered names (locations_in p)) p
+first_stays p xs names = stays p xs (numbered names (locations_in p)) (all_known p names)
+
+-- ---- what is found and what is taken
+
+abbrev pub Finds : ℕ → Proposition → (List Term → Phrase → Type 0) → (List Term → Type 0) → Type 0
+Finds cores unit Is Behind = (ts : List Term) (p : Phrase) → Is ts p → (atoms : ℕ) (names : List (List ℕ)) → IsWithin cores atoms names p
+    → (back : List Term) → Behind back → (ps : List Piece) → terms ps ≡ ts ++ back → ReadsPhrase unit atoms names p back ps
+
+pub record Taken (cores : ℕ) (Is : List Term → Phrase → Type 0) (atoms : ℕ) (names : List (List ℕ)) (ps : List Piece) (c : Claimed) : Type 0 where
+  pub ts : List Term
+  pub phrase : Phrase
+  pub is : Is ts phrase
+  pub parts : terms ps ≡ ts ++ terms c.rest
+  pub fits : Fits cores phrase
+  pub names_are : c.names ≡ numbered names (locations_in phrase)
+  pub claim_is : c.claim ≡ claim_of (numbered names (locations_in phrase)) phrase
+  pub atoms_are : c.atoms ≡ atoms + atoms_of phrase
+  pub few : c.atoms ≤ 256
+  pub room : length names ≤ 16 → length (numbered names (locations_in phrase)) ≤ 16
+
+abbrev pub Takes : ℕ → Proposition → (List Term → Phrase → Type 0) → Type 0
+Takes cores unit Is = (atoms : ℕ) (names : List (List ℕ)) (ps : List Piece) (c : Claimed) → unit atoms names ps ≡ Ok c → Taken cores Is atoms names ps c
+
+-- ---- parts with a symbol between them
+
+-- phrases are joined as their claims are
+pub record Joining (join : Claim → Claim → Claim) (phrases : Phrase → Phrase → Phrase) : Type 0 where
+  pub claims : (names : List (List ℕ)) (p q : Phrase) → claim_of names (phrases p q) ≡ join (claim_of names p) (claim_of names q)
+  pub locations : (p q : Phrase) → locations_in (phrases p q) ≡ locations_in p ++ locations_in q
+  pub counts : (p q : Phrase) → atoms_of (phrases p q) ≡ atoms_of p + atoms_of q
+  pub fit : (cores : ℕ) (p q : Phrase) → Fits cores p → Fits cores q → Fits cores (phrases p q)
+  pub parts_fit : (cores : ℕ) (p q : Phrase) → Fits cores (phrases p q) → Fits cores p × Fits cores q
+
+joining_both : Joining reading.both both
+joining_both = record { claims = λ names p q. refl; locations = λ p q. refl; counts = λ p q. refl; fit = λ cores p q f g. (f, g); parts_fit = λ cores p q f. f }
+
+joining_either : Joining reading.either either
+joining_either = record { claims = λ names p q. refl; locations = λ p q. refl; counts = λ p q. refl; fit = λ cores p q f g. (f, g); parts_fit = λ cores p q f. f }
+
+names_joined : (join : Claim → Claim → Claim) (phrases : Phrase → Phrase → Phrase) → Joining join phrases → (names : List (List ℕ)) (p q : Phrase)
+    → numbered names (locations_in (phrases p q)) ≡ numbered (numbered names (locations_in p)) (locations_in q)
+names_joined join phrases j names p q = ap (λ (l : List (List ℕ)). numbered names l) (j.locations p q) ∙ numbered_append (locations_in p) (locations_in q) names
+
+claim_joined : (join : Claim → Claim → Claim) (phrases : Phrase → Phrase → Phrase) → Joining join phrases → (names : List (List ℕ)) (p q : Phrase)
+    → claim_of (numbered names (locations_in (phrases p q))) (phrases p q)
+    ≡ join (claim_of (numbered names (locations_in p)) p) (claim_of (numbered (numbered names (locations_in p)) (locations_in q)) q)
+claim_joined join phrases j names p q =
+    let new = numbered (numbered names (locations_in p)) (locations_in q) in
+    ap (λ (l : List (List ℕ)). claim_of l (phrases p q)) (names_joined join phrases j names p q) ∙ j.claims new p q
+    ∙ ap (λ (c : Claim). join c (claim_of new q)) (first_stays p (locations_in q) names)
+
+given_joined : (join : Claim → Claim → Claim) (phrases : Phrase → Phrase → Phrase) → Joining join phrases → (atoms : ℕ) (names : List (List ℕ)) (p q : Phrase) (rest : List Piece)
+    → given_by atoms names (phrases p q) rest
+    ≡ joined_to join (claim_of (numbered names (locations_in p)) p) (given_by (atoms + atoms_of p) (numbered names (locations_in p)) q rest)
+given_joined join phrases j atoms names p q rest =
+    let counted : atoms + atoms_of (phrases p q) ≡ atoms + atoms_of p + atoms_of q = omega (arith, j.counts p q) in
+    let whole = numbered names (locations_in (phrases p q)) in
+    ap (λ (c : Claim). claimed c (atoms + atoms_of (phrases p q)) whole rest) (claim_joined join phrases j names p q)
+    ∙ ap (λ (n : ℕ). claimed (join (claim_of (numbered names (locations_in p)) p) (claim_of (numbered (numbered names (locations_in p)) (locations_in q)) q)) n whole rest) counted
+    ∙ ap (λ (l : List (List ℕ)). claimed (join (claim_of (numbered names (locations_in p)) p) (claim_of (numbered (numbered names (locations_in p)) (locations_in q)) q)) (atoms + atoms_of p + atoms_of q) l rest)
+    (names_joined join phrases j names p q)
+
+-- ---- taken
+
+joined_taken : (s : Symbol) (join : Claim → Claim → Claim) (phrases : Phrase → Phrase → Phrase) (IsPart : List Term → Phrase → Type 0) → Joining join phrases
+    → (cores atoms : ℕ) (names : List (List ℕ)) (ps after : List Piece) (c right : Claimed) → Taken cores (AreJoined s phrases IsPart) atoms names ps c
+    → symbol_at s c.rest ≡ Some after → Taken cores IsPart c.atoms c.names after right → Taken cores (AreJoined s phrases IsPart) atoms names ps (joined_to join c.claim right)
+joined_taken s join phrases IsPart j cores atoms names ps after c right a at r =
+    let p = a.phrase in
+    let q = r.phrase in
+    let first = numbered names (locations_in p) in
+    let grown : numbered c.names (locations_in q) ≡ numbered first (locations_in q) = ap (λ (l : List (List ℕ)). numbered l (locations_in q)) a.names_are in
+    record {
+      ts = a.ts ++ symbol s ∷ r.ts;
+      phrase = phrases p q;
+      is = more a.ts r.ts p q a.is r.is;
+      parts = a.parts ∙ ap (λ (l : List Term). a.ts ++ l) (symbol_takes s c.rest after at ∙ ap (λ (l : List Term). symbol s ∷ l) r.parts) ∙ sym (append_assoc a.ts (symbol s ∷ r.ts) (terms right.rest));
+      fits = j.fit cores p q a.fits r.fits;
+      names_are = r.names_are ∙ grown ∙ sym (names_joined join phrases j names p q);
+      claim_is = ap (λ (x : Claim). join x right.claim) a.claim_is
+          ∙ ap (λ (x : Claim). join (claim_of first p) x) (r.claim_is ∙ ap (λ (l : List (List ℕ)). claim_of l q) grown) ∙ sym (claim_joined join phrases j names p q);
+      atoms_are = omega (arith, r.atoms_are, a.atoms_are, j.counts p q);
+      few = r.few;
+      room = λ le.
+          let before : length c.names ≤ 16 = subst (λ (l : List (List ℕ)). length l ≤ 16) (sym a.names_are) (a.room le) in
+          subst (λ (l : List (List ℕ)). length l ≤ 16) (grown ∙ sym (names_joined join phrases j names p q)) (r.room before);
+    }
+
+chain_taken : (s : Symbol) (join : Claim → Claim → Claim) (phrases : Phrase → Phrase → Phrase) (IsPart : List Term → Phrase → Type 0) → Joining join phrases
+    → (cores : ℕ) (unit : Proposition) → Takes cores unit IsPart → (n atoms : ℕ) (names : List (List ℕ)) (ps : List Piece) (c d : Claimed)
+    → Taken cores (AreJoined s phrases IsPart) atoms names ps c → chain s join unit n c ≡ Ok d → Taken cores (AreJoined s phrases IsPart) atoms names ps d
+unfolding chain
+chain_taken s join phrases IsPart j cores unit takes zero atoms names ps c d a e = subst (Taken cores (AreJoined s phrases IsPart) atoms names ps) (ok_is c d e) a
+chain_taken s join phrases IsPart j cores unit takes (suc n) atoms names ps c d a e =
+    elim (there_is (symbol_at s c.rest) (λ rest. unit c.atoms c.names rest >>= λ right. chain s join unit n (joined_to join c.claim right)) (Ok c) (Ok d) e) [
+      | inl at ↦
+          let b = bind_ok (unit c.atoms c.names at.0) (λ right. chain s join unit n (joined_to join c.claim right)) d at.2 in
+          let r = takes c.atoms c.names at.0 b.0 b.1 in
+          chain_taken s join phrases IsPart j cores unit takes n atoms names ps (joined_to join c.claim b.0) d (joined_taken s join phrases IsPart j cores atoms names ps at.0 c b.0 a at.1 r) b.2
+      | inr none ↦ subst (Taken cores (AreJoined s phrases IsPart) atoms names ps) (ok_is c d none.1) a
+    ]
+
+first_taken : (s : Symbol) (phrases : Phrase → Phrase → Phrase) (IsPart : List Term → Phrase → Type 0) (cores atoms : ℕ) (names : List (List ℕ)) (ps : List Piece) (c : Claimed)
+    → Taken cores IsPart atoms names ps c → Taken cores (AreJoined s phrases IsPart) atoms names ps c
+first_taken s phrases IsPart cores atoms names ps c a = record {
+  ts = a.ts;
+  phrase = a.phrase;
+  is = one a.ts a.phrase a.is;
+  parts = a.parts;
+  fits = a.fits;
+  names_are = a.names_are;
+  claim_is = a.claim_is;
+  atoms_are = a.atoms_are;
+  few = a.few;
+  room = a.room;
+}
+
+joined_takes : (s : Symbol) (join : Claim → Claim → Claim) (phrases : Phrase → Phrase → Phrase) (IsPart : List Term → Phrase → Type 0) → Joining join phrases
+    → (cores : ℕ) (unit : Proposition) → Takes cores unit IsPart → Takes cores (chain_of s join unit) (AreJoined s phrases IsPart)
+unfolding chain_of
+joined_takes s join phrases IsPart j cores unit takes atoms names ps d e =
+    let first = bind_ok (unit atoms names ps) (λ first. chain s join unit (length first.rest) first) d e in
+    let a = first_taken s phrases IsPart cores atoms names ps first.0 (takes atoms names ps first.0 first.1) in
+    chain_taken s join phrases IsPart j cores unit takes (length first.0.rest) atoms names ps first.0 d a first.2
+
+pub proposition_takes : (IsPart : List Term → Phrase → Type 0) (cores : ℕ) (unit : Proposition) → Takes cores unit IsPart → Takes cores (disjunction unit) (IsProposition IsPart)
+proposition_takes IsPart cores unit takes =
+    joined_takes Or reading.either either (IsConjunction IsPart) joining_either cores (conjunction unit) (joined_takes And reading.both both IsPart joining_both cores unit takes)
+
+-- ---- found
+
+-- a chain has been read so far
+record ChainAt (s : Symbol) (join : Claim → Claim → Claim) (unit : Proposition) (atoms : ℕ) (names : List (List ℕ)) (p : Phrase) (back : List Term) (ps : List Piece) : Type 0 where
+  pub rest : List Piece
+  pub count : ℕ
+  pub enough : length rest ≤ count
+  pub same : chain_of s join unit atoms names ps ≡ chain s join unit count (given_by atoms names p rest)
+  pub behind : terms rest ≡ back
+
+chain_step : (s : Symbol) (join : Claim → Claim → Claim) (unit : Proposition) (k : ℕ) (c right : Claimed) (after : List Piece) → symbol_at s c.rest ≡ Some after → unit c.atoms c.names after ≡ Ok right
+    → chain s join unit (suc k) c ≡ chain s join unit k (joined_to join c.claim right)
+unfolding chain
+chain_step s join unit k c right after at is = rw (at, is) refl
+
+chain_ends : (s : Symbol) (join : Claim → Claim → Claim) (unit : Proposition) (k : ℕ) (c : Claimed) → symbol_at s c.rest ≡ None → chain s join unit k c ≡ Ok c
+unfolding chain
+chain_ends s join unit zero c none = refl
+chain_ends s join unit (suc k) c none = rw none refl
+
+terms_length : (ps : List Piece) (ts : List Term) → terms ps ≡ ts → length ps ≡ length ts
+terms_length ps ts e = sym (length-map ps (λ p. p.term)) ∙ ap length e
+
+symbol_there : (s : Symbol) (ps rest : List Piece) (p : Piece) → ps ≡ p ∷ rest → p.term ≡ symbol s → symbol_at s ps ≡ Some rest
+unfolding symbol_at is_symbol
+symbol_there s ps rest p parts is = rw (parts, is, eq-eqb (code_of s) (code_of s) refl) refl
+
+pub no_symbol : (s : Symbol) (ps : List Piece) → begins_with s (terms ps) ≡ false → symbol_at s ps ≡ None
+unfolding symbol_at is_symbol
+no_symbol s [] none = refl
+no_symbol s (p ∷ ps) none = rw none refl
+
+chain_started : (s : Symbol) (join : Claim → Claim → Claim) (unit : Proposition) (atoms : ℕ) (names : List (List ℕ)) (p : Phrase) (back : List Term) (ps : List Piece) → ReadsPhrase unit atoms names p back ps
+    → ChainAt s join unit atoms names p back ps
+unfolding chain_of
+chain_started s join unit atoms names p back ps f =
+    let same : chain_of s join unit atoms names ps ≡ chain s join unit (length f.rest) (given_by atoms names p f.rest) = rw f.is refl in
+    record { rest = f.rest; count = length f.rest; enough = omega arith; same = same; behind = f.behind }
+
+first_allowed : (join : Claim → Claim → Claim) (phrases : Phrase → Phrase → Phrase) → Joining join phrases → (cores atoms : ℕ) (names : List (List ℕ)) (p q : Phrase)
+    → IsWithin cores atoms names (phrases p q) → IsWithin cores atoms names p
+first_allowed join phrases j cores atoms names p q a =
+    let first = numbered names (locations_in p) in
+    let more = grows (locations_in q) first in
+    let whole = ap (λ (l : List (List ℕ)). length l) (names_joined join phrases j names p q) in
+    record { fits = (j.parts_fit cores p q a.fits).0; few = omega (arith, a.few, j.counts p q); room = omega (arith, a.room, more, whole) }
+
+second_allowed : (join : Claim → Claim → Claim) (phrases : Phrase → Phrase → Phrase) → Joining join phrases → (cores atoms : ℕ) (names : List (List ℕ)) (p q : Phrase)
+    → IsWithin cores atoms names (phrases p q) → IsWithin cores (atoms + atoms_of p) (numbered names (locations_in p)) q
+second_allowed join phrases j cores atoms names p q a =
+    record {
+      fits = (j.parts_fit cores p q a.fits).1;
+      few = omega (arith, a.few, j.counts p q);
+      room = subst (λ (l : List (List ℕ)). length l ≤ 16) (names_joined join phrases j names p q) a.room;
+    }
+
+chain_further : (s : Symbol) (join : Claim → Claim → Claim) (phrases : Phrase → Phrase → Phrase) → Joining join phrases → (unit : Proposition) (atoms : ℕ) (names : List (List ℕ)) (p q : Phrase)
+    → (us back : List Term) (ps after : List Piece) (left : ChainAt s join unit atoms names p (symbol s ∷ us ++ back) ps) → symbol_at s left.rest ≡ Some after
+    → ReadsPhrase unit (atoms + atoms_of p) (numbered names (locations_in p)) q back after → ChainAt s join unit atoms names (phrases p q) back ps
+chain_further s join phrases j unit atoms names p q us back ps after left at right = by_count left.count left.enough left.same
+  where
+    by_count : (k : ℕ) → length left.rest ≤ k → chain_of s join unit atoms names ps ≡ chain s join unit k (given_by atoms names p left.rest) → ChainAt s join unit atoms names (phrases p q) back ps
+    by_count zero enough same = let long = terms_length left.rest (symbol s ∷ us ++ back) left.behind in absurd (omega arith)
+    by_count (suc k) enough same =
+        let long = terms_length left.rest (symbol s ∷ us ++ back) left.behind in
+        let sum = length-append us back in
+        let short = terms_length right.rest back right.behind in
+        record {
+          rest = right.rest;
+          count = k;
+          enough = omega (arith, long, sum, short, enough);
+          same = same ∙ chain_step s join unit k (given_by atoms names p left.rest) (given_by (atoms + atoms_of p) (numbered names (locations_in p)) q right.rest) after at right.is
+              ∙ ap (λ (c : Claimed). chain s join unit k c) (sym (given_joined join phrases j atoms names p q right.rest));
+          behind = right.behind;
+        }
+
+chain_found : (s : Symbol) (join : Claim → Claim → Claim) (phrases : Phrase → Phrase → Phrase) (IsPart : List Term → Phrase → Type 0) → Joining join phrases
+    → (cores : ℕ) (unit : Proposition) (Behind : List Term → Type 0) → Finds cores unit IsPart Behind → ((l : List Term) → Behind (symbol s ∷ l))
+    → (ts : List Term) (p : Phrase) → AreJoined s phrases IsPart ts p → (atoms : ℕ) (names : List (List ℕ)) → IsWithin cores atoms names p
+    → (back : List Term) → Behind back → (ps : List Piece) → terms ps ≡ ts ++ back → ChainAt s join unit atoms names p back ps
+chain_found s join phrases IsPart j cores unit Behind finds parted _ _ (one ts p is) atoms names allowed back ok ps e =
+    chain_started s join unit atoms names p back ps (finds ts p is atoms names allowed back ok ps e)
+chain_found s join phrases IsPart j cores unit Behind finds parted _ _ (more ts us p q are is) atoms names allowed back ok ps e =
+    let left = chain_found s join phrases IsPart j cores unit Behind finds parted ts p are atoms names (first_allowed join phrases j cores atoms names p q allowed)
+    (symbol s ∷ us ++ back) (parted (us ++ back)) ps (e ∙ append_assoc ts (symbol s ∷ us) back) in
+    let f = front left.rest (symbol s) (us ++ back) left.behind in
+    let right = finds us q is (atoms + atoms_of p) (numbered names (locations_in p)) (second_allowed join phrases j cores atoms names p q allowed) back ok f.rest f.behind in
+    chain_further s join phrases j unit atoms names p q us back ps f.rest left (symbol_there s left.rest f.rest f.first f.parts f.is) right
+
+joined_finds : (s : Symbol) (join : Claim → Claim → Claim) (phrases : Phrase → Phrase → Phrase) (IsPart : List Term → Phrase → Type 0) → Joining join phrases
+    → (cores : ℕ) (unit : Proposition) (Behind : List Term → Type 0) → Finds cores unit IsPart Behind → ((l : List Term) → Behind (symbol s ∷ l))
+    → Finds cores (chain_of s join unit) (AreJoined s phrases IsPart) (λ back. Behind back × (begins_with s back ≡ false))
+joined_finds s join phrases IsPart j cores unit Behind finds parted ts p are atoms names allowed back ok ps e =
+    let c = chain_found s join phrases IsPart j cores unit Behind finds parted ts p are atoms names allowed back ok.0 ps e in
+    let none : begins_with s (terms c.rest) ≡ false = ap (λ (l : List Term). begins_with s l) c.behind ∙ ok.1 in
+    record { rest = c.rest; is = c.same ∙ chain_ends s join unit c.count (given_by atoms names p c.rest) (no_symbol s c.rest none); behind = c.behind }
+
+-- where anything may stand behind
+abbrev pub Anything : List Term → Type 0
+Anything back = Unit {0}
+
+-- neither `/\` nor `\/` stands behind
+abbrev pub EndsThere : List Term → Type 0
+EndsThere back = (Anything back × (begins_with And back ≡ false)) × (begins_with Or back ≡ false)
+
+pub proposition_finds : (IsPart : List Term → Phrase → Type 0) (cores : ℕ) (unit : Proposition) → Finds cores unit IsPart Anything → Finds cores (disjunction unit) (IsProposition IsPart) EndsThere
+proposition_finds IsPart cores unit finds =
+    joined_finds Or reading.either either (IsConjunction IsPart) joining_either cores (conjunction unit) (λ back. Anything back × (begins_with And back ≡ false))
+    (joined_finds And reading.both both IsPart joining_both cores unit Anything finds (λ l. tt)) (λ l. (tt, refl))

@@ -1,0 +1,272 @@
+-- Rows are parted into cells as they are spelled.
+use Rattle.std.proofs.Common.{◌≡◌, ℕ, suc, ◌+◌, ◌<◌, Bool, true, false, ltb, eq-eqb, List, [], ◌∷◌, ◌++◌, length, Option, Some, None, Ok, Err, refl, sym, ap, subst, ◌∙◌, inl, inr, append_assoc, arith}
+use Rattle.std.specs.List.{slice_split, onto_first, position_or_len, before_first, after_first}
+use Rattle.std.proofs.lemmas.Bool.{ltb-true, lt-ltb}
+use Rattle.std.proofs.lemmas.List.{append-nil}
+use Rattle.std.proofs.lemmas.List.Splits.{slice_split-cons_yes, slice_split-cons_no}
+use Rattle.litmus_tokens.specs.declared.token.Stop.{Stop}
+use Rattle.litmus_tokens.specs.declared.token.Symbol.{Symbol}
+use Rattle.litmus_tokens.specs.declared.token.Symbol.TheVariants.{OpenSquare, CloseSquare, Comma, Dollar, Semicolon, Bar}
+use Rattle.litmus_tokens.specs.Terms.{Term, symbol}
+use Rattle.litmus_tokens.specs.Pieces.{Piece}
+use Rattle.litmus_tokens.specs.Front.{code_of, is_symbol_term, is_symbol, name_at}
+use Rattle.tso_model.specs.declared.register.Reg.{Reg}
+use Rattle.litmus_reader.specs.declared.fault.Why.TheVariants.{Unclosed}
+use Rattle.litmus_reader.specs.Faults.{fault, at_stop, left_of}
+use Rattle.litmus_reader.specs.Forms.{Shape, spelled_in}
+use Rattle.litmus_reader.specs.Rows.{row_at, cells_of}
+use Rattle.litmus_reader.specs.Grammar.{terms, Begins}
+use Rattle.litmus_reader.specs.GrammarCells.{IsConstant, plain, with_dollar, IsMemory, in_squares, IsRegister, named, IsMnemonic, spelled, parted, IsExchange, memory_first, register_first, IsCell, stores_constant, stores_register, loads, sets_constant, sets_register, fences, exchanges, locks_exchange, locks_add}
+use Rattle.litmus_reader.specs.GrammarRows.{ReadsRow, IsField, empty, full, AreFields, last, more, IsRow, row, IsReadAs, AreReadAs}
+use Rattle.litmus_reader.proofs.GrammarTokens.{chosen, ok_pair, symbol_is}
+use Rattle.litmus_reader.proofs.GrammarCells.{cell_again, cell_takes}
+
+-- ---- cells have no `|` and no `;`
+
+-- no such symbol among the tokens
+abbrev Lacks : Symbol → List Term → Type 0
+Lacks s [] = Unit {0}
+Lacks s (t ∷ ts) = (is_symbol_term s t ≡ false) × Lacks s ts
+
+lacks-append : (s : Symbol) (ts us : List Term) → Lacks s ts → Lacks s us → Lacks s (ts ++ us)
+lacks-append s [] us h k = k
+lacks-append s (t ∷ ts) us h k = (h.0, lacks-append s ts us h.1 k)
+
+-- a symbol that parts cells or ends rows
+record Parts (s : Symbol) : Type 0 where
+  pub no_open : is_symbol_term s (symbol OpenSquare) ≡ false
+  pub no_close : is_symbol_term s (symbol CloseSquare) ≡ false
+  pub no_comma : is_symbol_term s (symbol Comma) ≡ false
+  pub no_dollar : is_symbol_term s (symbol Dollar) ≡ false
+
+bar_parts : Parts Bar
+bar_parts = record { no_open = refl; no_close = refl; no_comma = refl; no_dollar = refl }
+
+semicolon_parts : Parts Semicolon
+semicolon_parts = record { no_open = refl; no_close = refl; no_comma = refl; no_dollar = refl }
+
+constant_lacks : (s : Symbol) → Parts s → (ts : List Term) (v : ℕ) → IsConstant ts v → Lacks s ts
+constant_lacks s p _ _ (plain v) = (refl, tt)
+constant_lacks s p _ _ (with_dollar v) = (p.no_dollar, (refl, tt))
+
+memory_lacks : (s : Symbol) → Parts s → (ts : List Term) (x : List ℕ) → IsMemory ts x → Lacks s ts
+memory_lacks s p _ _ (in_squares x good) = (p.no_open, (refl, (p.no_close, tt)))
+
+register_lacks : (s : Symbol) → Parts s → (ts : List Term) (reg : Reg) → IsRegister ts reg → Lacks s ts
+register_lacks s p _ _ (named word reg is) = (refl, tt)
+
+mnemonic_lacks : (s : Symbol) (word : List ℕ) (m : Term) → IsMnemonic word m → is_symbol_term s m ≡ false
+mnemonic_lacks s word _ (spelled letters is) = refl
+
+two_lack : (s : Symbol) → Parts s → (word : List ℕ) (m : Term) (a b : List Term) → IsMnemonic word m → Lacks s a → Lacks s b → Lacks s (m ∷ parted a b)
+two_lack s p word m a b is h k = (mnemonic_lacks s word m is, lacks-append s a (symbol Comma ∷ b) h (p.no_comma, k))
+
+exchange_lacks : (s : Symbol) → Parts s → (ts : List Term) (shape : Shape) → IsExchange ts shape → Lacks s ts
+exchange_lacks s p _ _ (memory_first m a b x reg is f g) = two_lack s p _ m a b is (memory_lacks s p a x f) (register_lacks s p b reg g)
+exchange_lacks s p _ _ (register_first m a b reg x is f g) = two_lack s p _ m a b is (register_lacks s p a reg f) (memory_lacks s p b x g)
+
+cell_lacks : (s : Symbol) → Parts s → (ts : List Term) (shape : Shape) → IsCell ts shape → Lacks s ts
+cell_lacks s p _ _ (stores_constant m a b x v is f g) = two_lack s p _ m a b is (memory_lacks s p a x f) (constant_lacks s p b v g)
+cell_lacks s p _ _ (stores_register m a b x reg is f g) = two_lack s p _ m a b is (memory_lacks s p a x f) (register_lacks s p b reg g)
+cell_lacks s p _ _ (loads m a b reg x is f g) = two_lack s p _ m a b is (register_lacks s p a reg f) (memory_lacks s p b x g)
+cell_lacks s p _ _ (sets_constant m a b reg v is f g) = two_lack s p _ m a b is (register_lacks s p a reg f) (constant_lacks s p b v g)
+cell_lacks s p _ _ (sets_register m a b reg other is f g) = two_lack s p _ m a b is (register_lacks s p a reg f) (register_lacks s p b other g)
+cell_lacks s p _ _ (fences m is) = (mnemonic_lacks s _ m is, tt)
+cell_lacks s p _ _ (exchanges ts shape is) = exchange_lacks s p ts shape is
+cell_lacks s p _ _ (locks_exchange l ts shape lock is) = (mnemonic_lacks s _ l lock, exchange_lacks s p ts shape is)
+cell_lacks s p _ _ (locks_add l m a b x reg lock is f g) = (mnemonic_lacks s _ l lock, two_lack s p _ m a b is (memory_lacks s p a x f) (register_lacks s p b reg g))
+
+field_lacks : (s : Symbol) → Parts s → (ts : List Term) (c : Option Shape) → IsField ts c → Lacks s ts
+field_lacks s p _ _ empty = tt
+field_lacks s p _ _ (full ts shape is) = cell_lacks s p ts shape is
+
+fields_lack : (ts : List Term) (cells : List (Option Shape)) → AreFields ts cells → Lacks Semicolon ts
+fields_lack _ _ (last ts c is) = field_lacks Semicolon semicolon_parts ts c is
+fields_lack _ _ (more ts us c cs is are) = lacks-append Semicolon ts (symbol Bar ∷ us) (field_lacks Semicolon semicolon_parts ts c is) (refl, fields_lack us cs are)
+
+-- ---- tokens cut at a symbol
+
+own : (s : Symbol) → is_symbol_term s (symbol s) ≡ true
+own s = eq-eqb (code_of s) (code_of s) refl
+
+-- what stands before a symbol, and what stands behind it
+record Cut (s : Symbol) (us back : List Term) (ps : List Piece) : Type 0 where
+  pub front : List Piece
+  pub rest : List Piece
+  pub split : slice_split (is_symbol s) ps ≡ front ∷ slice_split (is_symbol s) rest
+  pub there : position_or_len (is_symbol s) ps < length ps
+  pub before : before_first (is_symbol s) ps ≡ front
+  pub after : after_first (is_symbol s) ps ≡ rest
+  pub is_front : terms front ≡ us
+  pub is_rest : terms rest ≡ back
+
+hits : (s : Symbol) (p : Piece) → p.term ≡ symbol s → is_symbol s p ≡ true
+unfolding is_symbol
+hits s p is = rw is (own s)
+
+misses : (s : Symbol) (p : Piece) (t : Term) → p.term ≡ t → is_symbol_term s t ≡ false → is_symbol s p ≡ false
+unfolding is_symbol
+misses s p t is none = rw is none
+
+no_end : (s : Symbol) (us back : List Term) → [] ≡ us ++ symbol s ∷ back → ⊥
+no_end s [] back e = absurd cc
+no_end s (u ∷ us) back e = absurd cc
+
+cut_here : (s : Symbol) (back : List Term) (p : Piece) (ps : List Piece) → is_symbol s p ≡ true → terms ps ≡ back → Cut s [] back (p ∷ ps)
+cut_here s back p ps hit behind = record {
+  front = [];
+  rest = ps;
+  split = slice_split-cons_yes (is_symbol s) p ps hit;
+  there = rw hit (omega arith);
+  before = rw hit refl;
+  after = rw hit refl;
+  is_front = refl;
+  is_rest = behind;
+}
+
+before_miss : (s : Symbol) (p : Piece) (ps : List Piece) → is_symbol s p ≡ false → before_first (is_symbol s) (p ∷ ps) ≡ p ∷ before_first (is_symbol s) ps
+before_miss s p ps miss =
+    let further : 1 + position_or_len (is_symbol s) ps ≡ suc (position_or_len (is_symbol s) ps) = omega arith in
+    rw (miss, further) refl
+
+after_miss : (s : Symbol) (p : Piece) (ps : List Piece) → is_symbol s p ≡ false → after_first (is_symbol s) (p ∷ ps) ≡ after_first (is_symbol s) ps
+after_miss s p ps miss =
+    let further : 1 + position_or_len (is_symbol s) ps + 1 ≡ suc (position_or_len (is_symbol s) ps + 1) = omega arith in
+    rw (miss, further) refl
+
+cut_further : (s : Symbol) (u : Term) (us back : List Term) (p : Piece) (ps : List Piece) → is_symbol s p ≡ false → p.term ≡ u → Cut s us back ps → Cut s (u ∷ us) back (p ∷ ps)
+cut_further s u us back p ps miss is c = record {
+  front = p ∷ c.front;
+  rest = c.rest;
+  split = slice_split-cons_no (is_symbol s) p ps miss ∙ ap (onto_first p) c.split;
+  there = rw miss (omega (arith, c.there));
+  before = before_miss s p ps miss ∙ ap (λ (l : List Piece). p ∷ l) c.before;
+  after = after_miss s p ps miss ∙ c.after;
+  is_front = rw (is, c.is_front) refl;
+  is_rest = c.is_rest;
+}
+
+cut : (s : Symbol) (us back : List Term) → Lacks s us → (ps : List Piece) → terms ps ≡ us ++ symbol s ∷ back → Cut s us back ps
+cut s us back lacks [] e = absurd (no_end s us back e)
+cut s [] back lacks (p ∷ ps) e =
+    let is : p.term ≡ symbol s = cc in
+    let behind : terms ps ≡ back = cc in
+    cut_here s back p ps (hits s p is) behind
+cut s (u ∷ us) back lacks (p ∷ ps) e =
+    let is : p.term ≡ u = cc in
+    let behind : terms ps ≡ us ++ symbol s ∷ back = cc in
+    cut_further s u us back p ps (misses s p u is lacks.0) is (cut s us back lacks.1 ps behind)
+
+uncut : (s : Symbol) (ps : List Piece) → Lacks s (terms ps) → slice_split (is_symbol s) ps ≡ ps ∷ []
+uncut s [] lacks = refl
+uncut s (p ∷ ps) lacks = slice_split-cons_no (is_symbol s) p ps (misses s p p.term refl lacks.0) ∙ ap (onto_first p) (uncut s ps lacks.1)
+
+-- ---- found
+
+no_instruction : (shape : Shape) → spelled_in [] ≡ Some shape → ⊥
+unfolding spelled_in name_at
+no_instruction shape e = absurd cc
+
+field_read : (ts : List Term) (c : Option Shape) → IsField ts c → (ps : List Piece) → terms ps ≡ ts → IsReadAs ps c
+field_read _ _ empty [] e = tt
+field_read _ _ empty (p ∷ ps) e = absurd cc
+field_read _ _ (full ts shape is) [] e = no_instruction shape (cell_again [] shape (subst (λ (ts : List Term). IsCell ts shape) (sym e) is))
+field_read _ _ (full ts shape is) (p ∷ ps) e = cell_again (p ∷ ps) shape (subst (λ (ts : List Term). IsCell ts shape) (sym e) is)
+
+fields_read : (ts : List Term) (cells : List (Option Shape)) → AreFields ts cells → (ps : List Piece) → terms ps ≡ ts → AreReadAs (cells_of ps) cells
+fields_read _ _ (last ts c is) ps e =
+    let lacks : Lacks Bar (terms ps) = subst (λ (l : List Term). Lacks Bar l) (sym e) (field_lacks Bar bar_parts ts c is) in
+    subst (λ (l : List (List Piece)). AreReadAs l (c ∷ [])) (sym (uncut Bar ps lacks)) (field_read ts c is ps e, tt)
+fields_read _ _ (more ts us c cs is are) ps e =
+    let at = cut Bar ts us (field_lacks Bar bar_parts ts c is) ps e in
+    subst (λ (l : List (List Piece)). AreReadAs l (c ∷ cs)) (sym at.split) (field_read ts c is at.front at.is_front, fields_read us cs are at.rest at.is_rest)
+
+pub row_again : (stop : Stop) (cores : ℕ) (ps : List Piece) (ts back : List Term) (cells : List (Option Shape)) → IsRow cores ts cells → terms ps ≡ ts ++ back → ReadsRow stop ps cells back
+unfolding row_at
+row_again stop cores ps _ back _ (row ts cells are count) e =
+    let at = cut Semicolon ts back (fields_lack ts cells are) ps (e ∙ append_assoc ts (symbol Semicolon ∷ []) back) in
+    let closed : row_at stop ps ≡ Ok (at.front, at.rest) = rw (lt-ltb _ _ at.there, at.before, at.after) refl in
+    record { row = at.front; rest = at.rest; is = closed; cells_are = fields_read ts cells are at.front at.is_front; behind = at.is_rest }
+
+-- ---- taken
+
+row_cut : (s : Symbol) (ps : List Piece) → position_or_len (is_symbol s) ps < length ps → terms ps ≡ terms (before_first (is_symbol s) ps) ++ symbol s ∷ terms (after_first (is_symbol s) ps)
+row_cut s [] lt = absurd (omega arith)
+row_cut s (p ∷ ps) lt = by_first (λ h. row_cut s ps h) (is_symbol s p) refl
+  where
+    by_first : (position_or_len (is_symbol s) ps < length ps → terms ps ≡ terms (before_first (is_symbol s) ps) ++ symbol s ∷ terms (after_first (is_symbol s) ps)) → (b : Bool) → is_symbol s p ≡ b
+        → terms (p ∷ ps) ≡ terms (before_first (is_symbol s) (p ∷ ps)) ++ symbol s ∷ terms (after_first (is_symbol s) (p ∷ ps))
+    by_first further true is = rw (is, symbol_is s p is) refl
+    by_first further false is =
+        let lower : position_or_len (is_symbol s) (p ∷ ps) < length (p ∷ ps) = lt in
+        let apart : 1 + position_or_len (is_symbol s) ps < suc (length ps) = rw is at lower in
+        let shorter : position_or_len (is_symbol s) ps < length ps = omega (arith, apart) in
+        rw (before_miss s p ps is, after_miss s p ps is) (ap (λ (l : List Term). p.term ∷ l) (further shorter))
+
+-- cells with vertical bars between them
+abbrev behind_bars : List (List Piece) → List Term
+behind_bars [] = []
+behind_bars (ps ∷ rest) = symbol Bar ∷ terms ps ++ behind_bars rest
+
+abbrev joined : List (List Piece) → List Term
+joined [] = []
+joined (ps ∷ rest) = terms ps ++ behind_bars rest
+
+abbrev HasOne : List (List Piece) → Type 0
+HasOne [] = ⊥
+HasOne (ps ∷ rest) = Unit {0}
+
+bar_before : (parts : List (List Piece)) → HasOne parts → behind_bars parts ≡ symbol Bar ∷ joined parts
+bar_before [] some = absurd some
+bar_before (ps ∷ rest) some = refl
+
+first_grows : (p : Piece) (parts : List (List Piece)) → HasOne parts → (HasOne (onto_first p parts)) × (joined (onto_first p parts) ≡ p.term ∷ joined parts)
+first_grows p [] some = absurd some
+first_grows p (ps ∷ rest) some = (tt, refl)
+
+split_joined : (ps : List Piece) → (HasOne (slice_split (is_symbol Bar) ps)) × (joined (slice_split (is_symbol Bar) ps) ≡ terms ps)
+split_joined [] = (tt, refl)
+split_joined (p ∷ ps) = by_first (split_joined ps) (is_symbol Bar p) refl
+  where
+    by_first : (HasOne (slice_split (is_symbol Bar) ps)) × (joined (slice_split (is_symbol Bar) ps) ≡ terms ps) → (b : Bool) → is_symbol Bar p ≡ b
+        → (HasOne (slice_split (is_symbol Bar) (p ∷ ps))) × (joined (slice_split (is_symbol Bar) (p ∷ ps)) ≡ terms (p ∷ ps))
+    by_first further true is =
+        subst (λ (l : List (List Piece)). HasOne l × (joined l ≡ terms (p ∷ ps))) (sym (slice_split-cons_yes (is_symbol Bar) p ps is))
+        (tt, bar_before (slice_split (is_symbol Bar) ps) further.0 ∙ ap (λ (l : List Term). symbol Bar ∷ l) further.1 ∙ ap (λ (t : Term). t ∷ terms ps) (sym (symbol_is Bar p is)))
+    by_first further false is =
+        let grown = first_grows p (slice_split (is_symbol Bar) ps) further.0 in
+        subst (λ (l : List (List Piece)). HasOne l × (joined l ≡ terms (p ∷ ps))) (sym (slice_split-cons_no (is_symbol Bar) p ps is))
+        (grown.0, grown.1 ∙ ap (λ (l : List Term). p.term ∷ l) further.1)
+
+field_made : (ps : List Piece) (c : Option Shape) → IsReadAs ps c → IsField (terms ps) c
+field_made [] None is = empty
+field_made [] (Some shape) is = absurd is
+field_made (p ∷ ps) None is = absurd is
+field_made (p ∷ ps) (Some shape) is = full (terms (p ∷ ps)) shape (cell_takes (p ∷ ps) shape is)
+
+fields_made : (parts : List (List Piece)) (cells : List (Option Shape)) → HasOne parts → AreReadAs parts cells → AreFields (joined parts) cells
+fields_made [] cells some are = absurd some
+fields_made (ps ∷ rest) [] some are = absurd are
+fields_made (ps ∷ []) (c ∷ []) some are = subst (λ (ts : List Term). AreFields ts (c ∷ [])) (sym (append-nil (terms ps))) (last (terms ps) c (field_made ps c are.0))
+fields_made (ps ∷ []) (c ∷ d ∷ cs) some are = absurd are.1
+fields_made (ps ∷ qs ∷ rest) (c ∷ cs) some are = more (terms ps) (joined (qs ∷ rest)) c cs (field_made ps c are.0) (fields_made (qs ∷ rest) cs tt are.1)
+
+pub row_takes : (stop : Stop) (cores : ℕ) (ps front rest : List Piece) (cells : List (Option Shape)) → row_at stop ps ≡ Ok (front, rest) → AreReadAs (cells_of front) cells → length cells ≡ cores
+    → Begins (λ ts. IsRow cores ts cells) ps rest
+unfolding row_at
+row_takes stop cores ps front rest cells e are count =
+    elim (chosen (ltb (position_or_len (is_symbol Semicolon) ps) (length ps)) (Ok (before_first (is_symbol Semicolon) ps, after_first (is_symbol Semicolon) ps))
+    (Err (at_stop (fault Unclosed (left_of ps)) stop)) (Ok (front, rest)) e) [
+      | inl hit ↦
+          let same = ok_pair (before_first (is_symbol Semicolon) ps) front (after_first (is_symbol Semicolon) ps) rest hit.1 in
+          let whole = row_cut Semicolon ps (ltb-true _ _ hit.0) in
+          let split = split_joined front in
+          let fields = subst (λ (ts : List Term). AreFields ts cells) split.1 (fields_made (cells_of front) cells split.0 are) in
+          record {
+            ts = terms front ++ symbol Semicolon ∷ [];
+            is = row (terms front) cells fields count;
+            parts = whole ∙ ap (λ (l : List Piece). terms l ++ symbol Semicolon ∷ terms (after_first (is_symbol Semicolon) ps)) same.0
+                ∙ ap (λ (l : List Piece). terms front ++ symbol Semicolon ∷ terms l) same.1 ∙ sym (append_assoc (terms front) (symbol Semicolon ∷ []) (terms rest));
+          }
+      | inr miss ↦ absurd cc
+    ]

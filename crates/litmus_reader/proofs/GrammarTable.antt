@@ -1,0 +1,265 @@
+-- Rows one after the other are read as they are spelled.
+use Rattle.std.proofs.Common.{◌≡◌, ℕ, zero, suc, ◌+◌, ◌≤◌, ◌<◌, Bool, true, false, cond, eqb, eqb-true, eq-eqb, ltb, IsTrue, ◌||◌, List, [], ◌∷◌, ◌++◌, length, map, Option, Some, None, Result, Ok, Err, refl, sym, ap, subst, ◌∙◌, inl, inr, append_assoc, arith}
+use Rattle.std.specs.Prelude.{codes}
+use Rattle.std.specs.Str.{bytes_eq}
+use Rattle.std.proofs.lemmas.Slice.Eq.{bytes_eq-Decides}
+use Rattle.std.proofs.lemmas.List.{length-append, length-map, append-nil}
+use Rattle.tso_model.specs.Registers.{same_letters}
+use Rattle.litmus_tokens.specs.declared.token.Stop.{Stop}
+use Rattle.litmus_tokens.specs.declared.token.Symbol.TheVariants.{Semicolon, Bar}
+use Rattle.litmus_tokens.specs.Terms.{Term, symbol}
+use Rattle.litmus_tokens.specs.Pieces.{Piece}
+use Rattle.litmus_tokens.specs.Front.{is_symbol}
+use Rattle.litmus_reader.specs.declared.fault.Why.TheVariants.{WrongCells}
+use Rattle.litmus_reader.specs.declared.fault.Fault.{Fault}
+use Rattle.litmus_reader.specs.declared.cell.CoreInstr.{CoreInstr}
+use Rattle.litmus_reader.specs.Faults.{◌>>=◌, fault, left_of}
+use Rattle.litmus_reader.specs.Forms.{Shape}
+use Rattle.litmus_reader.specs.Cells.{cells_in}
+use Rattle.litmus_reader.specs.Rows.{row_at, cells_of, counted, row_in, ends_rows_term, ends_rows, Rows, rows, rows_within, rows_at}
+use Rattle.litmus_reader.specs.Grammar.{terms}
+use Rattle.litmus_reader.specs.GrammarCells.{IsMnemonic, spelled, parted, IsExchange, memory_first, register_first, IsCell, stores_constant, stores_register, loads, sets_constant, sets_register, fences, exchanges, locks_exchange, locks_add}
+use Rattle.litmus_reader.specs.GrammarNames.{numbered}
+use Rattle.litmus_reader.specs.GrammarRows as grammar
+use Rattle.litmus_reader.specs.GrammarRows.{IsField, empty, full, AreFields, IsRow, row, IsReadAs, AreReadAs}
+use Rattle.litmus_reader.specs.GrammarTable.{AreRows, none, more, ends_table, Placed, placed_from, placed_in, AreWithin, rows_by, ReadsPlaced, SpellsRows}
+use Rattle.litmus_reader.proofs.GrammarTokens.{chosen, ok_is, bind_ok}
+use Rattle.litmus_reader.proofs.GrammarRows.{row_again, row_takes}
+use Rattle.litmus_reader.proofs.GrammarTableEntries.{names_of, instrs_of, Read, read_of, within_first, within_none, cells_found, CellsTaken, cells_taken}
+
+-- ---- a row begins with a cell, a `|` or a `;`
+
+other_word : (letters other word : List ℕ) → IsTrue (same_letters letters word) → same_letters other word ≡ false → bytes_eq letters other ≡ false
+other_word letters other word is differs = by_test (bytes_eq letters other) refl
+  where
+    by_test : (b : Bool) → bytes_eq letters other ≡ b → b ≡ false
+    by_test true e =
+        let same : letters ≡ other = (bytes_eq-Decides letters other).0 e in
+        let both : same_letters other word ≡ true = ap (λ (l : List ℕ). same_letters l word) (sym same) ∙ is in
+        absurd cc
+    by_test false e = refl
+
+-- none of the words that end the rows
+record IsOther (word : List ℕ) : Type 0 where
+  pub no_locations : same_letters (codes "locations") word ≡ false
+  pub no_exists : same_letters (codes "exists") word ≡ false
+  pub no_forall : same_letters (codes "forall") word ≡ false
+
+mnemonic_begins : (word : List ℕ) → IsOther word → (m : Term) → IsMnemonic word m → (back : List Term) → ends_table (m ∷ back) ≡ false
+mnemonic_begins word o _ (spelled letters is) back =
+    rw (other_word letters (codes "locations") word is o.no_locations, other_word letters (codes "exists") word is o.no_exists, other_word letters (codes "forall") word is o.no_forall) refl
+
+mov_other : IsOther (codes "MOV")
+mov_other = record { no_locations = refl; no_exists = refl; no_forall = refl }
+
+fence_other : IsOther (codes "MFENCE")
+fence_other = record { no_locations = refl; no_exists = refl; no_forall = refl }
+
+xchg_other : IsOther (codes "XCHG")
+xchg_other = record { no_locations = refl; no_exists = refl; no_forall = refl }
+
+lock_other : IsOther (codes "LOCK")
+lock_other = record { no_locations = refl; no_exists = refl; no_forall = refl }
+
+exchange_begins : (ts : List Term) (shape : Shape) → IsExchange ts shape → (back : List Term) → ends_table (ts ++ back) ≡ false
+exchange_begins _ _ (memory_first m a b x reg is _ _) back = mnemonic_begins (codes "XCHG") xchg_other m is (parted a b ++ back)
+exchange_begins _ _ (register_first m a b reg x is _ _) back = mnemonic_begins (codes "XCHG") xchg_other m is (parted a b ++ back)
+
+cell_begins : (ts : List Term) (shape : Shape) → IsCell ts shape → (back : List Term) → ends_table (ts ++ back) ≡ false
+cell_begins _ _ (stores_constant m a b x v is _ _) back = mnemonic_begins (codes "MOV") mov_other m is (parted a b ++ back)
+cell_begins _ _ (stores_register m a b x reg is _ _) back = mnemonic_begins (codes "MOV") mov_other m is (parted a b ++ back)
+cell_begins _ _ (loads m a b reg x is _ _) back = mnemonic_begins (codes "MOV") mov_other m is (parted a b ++ back)
+cell_begins _ _ (sets_constant m a b reg v is _ _) back = mnemonic_begins (codes "MOV") mov_other m is (parted a b ++ back)
+cell_begins _ _ (sets_register m a b reg other is _ _) back = mnemonic_begins (codes "MOV") mov_other m is (parted a b ++ back)
+cell_begins _ _ (fences m is) back = mnemonic_begins (codes "MFENCE") fence_other m is back
+cell_begins _ _ (exchanges ts shape is) back = exchange_begins ts shape is back
+cell_begins _ _ (locks_exchange l ts shape is _) back = mnemonic_begins (codes "LOCK") lock_other l is (ts ++ back)
+cell_begins _ _ (locks_add l m a b x reg is _ _ _) back = mnemonic_begins (codes "LOCK") lock_other l is (m ∷ parted a b ++ back)
+
+field_begins : (ts : List Term) (c : Option Shape) → IsField ts c → (t : Term) (back : List Term) → ends_table (t ∷ back) ≡ false → ends_table (ts ++ t ∷ back) ≡ false
+field_begins _ _ empty t back other = other
+field_begins _ _ (full ts shape is) t back other = cell_begins ts shape is (t ∷ back)
+
+fields_begin : (ts : List Term) (cells : List (Option Shape)) → AreFields ts cells → (back : List Term) → ends_table (ts ++ symbol Semicolon ∷ back) ≡ false
+fields_begin _ _ (grammar.last ts c is) back = field_begins ts c is (symbol Semicolon) back refl
+fields_begin _ _ (grammar.more ts us c cs is are) back =
+    ap ends_table (append_assoc ts (symbol Bar ∷ us) (symbol Semicolon ∷ back)) ∙ field_begins ts c is (symbol Bar) (us ++ symbol Semicolon ∷ back) refl
+
+row_begins : (cores : ℕ) (ts : List Term) (cells : List (Option Shape)) → IsRow cores ts cells → (back : List Term) → ends_table (ts ++ back) ≡ false
+row_begins cores _ _ (row ts cells are count) back = ap ends_table (append_assoc ts (symbol Semicolon ∷ []) back) ∙ fields_begin ts cells are back
+
+row_some : (cores : ℕ) (ts : List Term) (cells : List (Option Shape)) → IsRow cores ts cells → 0 < length ts
+row_some cores _ _ (row ts cells are count) = omega (arith, length-append ts (symbol Semicolon ∷ []))
+
+row_count : (cores : ℕ) (ts : List Term) (cells : List (Option Shape)) → IsRow cores ts cells → length cells ≡ cores
+row_count cores _ _ (row ts cells are count) = count
+
+ends_is : (ps : List Piece) → ends_rows ps ≡ ends_table (terms ps)
+unfolding ends_rows is_symbol
+ends_is [] = refl
+ends_is (p ∷ ps) = refl
+
+terms_length : (ps : List Piece) (ts : List Term) → terms ps ≡ ts → length ps ≡ length ts
+terms_length ps ts e = sym (length-map ps (λ p. p.term)) ∙ ap length e
+
+-- a row is a token or more
+row_shorter : (cores : ℕ) (ts : List Term) (cells : List (Option Shape)) (ps rest : List Piece) → IsRow cores ts cells → terms ps ≡ ts ++ terms rest → length rest < length ps
+row_shorter cores ts cells ps rest is e =
+    let whole = terms_length ps (ts ++ terms rest) e in
+    let sum = length-append ts (terms rest) in
+    let left = length-map rest (λ p. p.term) in
+    let some = row_some cores ts cells is in
+    omega (arith, whole, sum, left, some)
+
+-- ---- one row
+
+as_many : (parts : List (List Piece)) (cells : List (Option Shape)) → AreReadAs parts cells → length parts ≡ length cells
+as_many [] [] are = refl
+as_many [] (c ∷ cs) are = absurd are
+as_many (ps ∷ rest) [] are = absurd are
+as_many (ps ∷ rest) (c ∷ cs) are = ap suc (as_many rest cs are.1)
+
+row_found : (cores left : ℕ) (names : List (List ℕ)) (done : List Placed) (front : List Piece) (cells : List (Option Shape)) → length cells ≡ cores → AreReadAs (cells_of front) cells
+    → AreWithin names (done ++ placed_from 0 cells) → row_in cores left (instrs_of names done) (names_of names done) front ≡ Ok (read_of names (done ++ placed_from 0 cells))
+unfolding row_in
+row_found cores left names done front cells count are h =
+    let same : eqb (length (cells_of front)) cores ≡ true = eq-eqb (length (cells_of front)) cores (as_many (cells_of front) cells are ∙ count) in
+    rw same (cells_found (cells_of front) cells are 0 names done h)
+
+record RowTaken (cores : ℕ) (names : List (List ℕ)) (done : List Placed) (front : List Piece) (r : Read) : Type 0 where
+  pub count : length (cells_of front) ≡ cores
+  pub cells : CellsTaken 0 names done (cells_of front) r
+
+row_taken : (cores left : ℕ) (names : List (List ℕ)) (done : List Placed) (front : List Piece) (r : Read) → AreWithin names done
+    → row_in cores left (instrs_of names done) (names_of names done) front ≡ Ok r → RowTaken cores names done front r
+unfolding row_in
+row_taken cores left names done front r h e =
+    let b = bind_ok (counted cores left (cells_of front)) (λ cells. cells_in 0 (instrs_of names done) (names_of names done) cells) r e in
+    elim (chosen (eqb (length (cells_of front)) cores) (Ok (cells_of front)) (Err (fault WrongCells left)) (Ok b.0) b.1) [
+      | inl hit ↦
+          let further : cells_in 0 (instrs_of names done) (names_of names done) (cells_of front) ≡ Ok r =
+          ap (λ (l : List (List Piece)). cells_in 0 (instrs_of names done) (names_of names done) l) (ok_is (cells_of front) b.0 hit.1) ∙ b.2 in
+          record { count = eqb-true _ _ hit.0; cells = cells_taken (cells_of front) 0 names done r h further }
+      | inr miss ↦ absurd cc
+    ]
+
+-- ---- rows found
+
+rows_end : (n : ℕ) (stop : Stop) (cores : ℕ) (instrs : List CoreInstr) (names : List (List ℕ)) (ps : List Piece) → ends_rows ps ≡ true → rows_within n stop cores instrs names ps ≡ Ok (rows instrs names ps)
+unfolding rows_within
+rows_end zero stop cores instrs names ps end = refl
+rows_end (suc n) stop cores instrs names ps end = rw end refl
+
+rows_step : (n : ℕ) (stop : Stop) (cores : ℕ) (instrs : List CoreInstr) (names : List (List ℕ)) (ps front rest : List Piece) (read : Read) → ends_rows ps ≡ false → row_at stop ps ≡ Ok (front, rest)
+    → row_in cores (left_of ps) instrs names front ≡ Ok read → rows_within (suc n) stop cores instrs names ps ≡ rows_within n stop cores read.0 read.1 rest
+unfolding rows_within
+rows_step n stop cores instrs names ps front rest read go at is = rw (go, at, is) refl
+
+record RowsFound (n : ℕ) (stop : Stop) (cores : ℕ) (names : List (List ℕ)) (done all : List Placed) (back : List Term) (ps : List Piece) : Type 0 where
+  pub rest : List Piece
+  pub is : rows_within n stop cores (instrs_of names done) (names_of names done) ps ≡ Ok (rows_by names all rest)
+  pub behind : terms rest ≡ back
+
+rows_found : (stop : Stop) (cores : ℕ) (names : List (List ℕ)) (ts : List Term) (table : List (List (Option Shape))) → AreRows cores ts table → (n : ℕ) (ps : List Piece) → length ps ≤ n
+    → (done : List Placed) → AreWithin names (done ++ placed_in table) → (back : List Term) → terms ps ≡ ts ++ back → ends_table back ≡ true → RowsFound n stop cores names done (done ++ placed_in table) back ps
+rows_found stop cores names _ _ none n ps enough done h back e end =
+    let here : ends_rows ps ≡ true = ends_is ps ∙ ap ends_table e ∙ end in
+    record {
+      rest = ps;
+      is = rows_end n stop cores (instrs_of names done) (names_of names done) ps here ∙ ap (λ (l : List Placed). Ok (rows_by names l ps)) (sym (append-nil done));
+      behind = e;
+    }
+rows_found stop cores names _ _ (more ts us cells others is are) n ps enough done h back e end =
+    let e' : terms ps ≡ ts ++ (us ++ back) = e ∙ append_assoc ts us back in
+    let first = row_again stop cores ps ts (us ++ back) cells is e' in
+    let one = placed_from 0 cells in
+    let regroup : (done ++ one) ++ placed_in others ≡ done ++ (one ++ placed_in others) = append_assoc done one (placed_in others) in
+    let whole : AreWithin names ((done ++ one) ++ placed_in others) = subst (λ (l : List Placed). AreWithin names l) (sym regroup) h in
+    let read = row_found cores (left_of ps) names done first.row cells (row_count cores ts cells is) first.cells_are (within_first names (done ++ one) (placed_in others) whole) in
+    let go : ends_rows ps ≡ false = ends_is ps ∙ ap ends_table e' ∙ row_begins cores ts cells is (us ++ back) in
+    let shorter = row_shorter cores ts cells ps first.rest is (e' ∙ ap (λ (l : List Term). ts ++ l) (sym first.behind)) in
+    subst (λ (l : List Placed). RowsFound n stop cores names done l back ps) regroup (by_count n enough go first.row first.rest first.is read shorter (λ k le. rows_found stop cores names us others are k first.rest le (done ++ one) whole back first.behind end))
+  where
+    by_count : (n : ℕ) → length ps ≤ n → ends_rows ps ≡ false → (front rest : List Piece) → row_at stop ps ≡ Ok (front, rest)
+        → row_in cores (left_of ps) (instrs_of names done) (names_of names done) front ≡ Ok (read_of names (done ++ placed_from 0 cells)) → length rest < length ps
+        → ((k : ℕ) → length rest ≤ k → RowsFound k stop cores names (done ++ placed_from 0 cells) ((done ++ placed_from 0 cells) ++ placed_in others) back rest)
+        → RowsFound n stop cores names done ((done ++ placed_from 0 cells) ++ placed_in others) back ps
+    by_count zero le go front rest at read shorter further = absurd (omega arith)
+    by_count (suc k) le go front rest at read shorter further =
+        let f = further k (omega arith) in
+        record {
+          rest = f.rest;
+          is = rows_step k stop cores (instrs_of names done) (names_of names done) ps front rest (read_of names (done ++ placed_from 0 cells)) go at read ∙ f.is;
+          behind = f.behind;
+        }
+
+pub rows_again : (stop : Stop) (cores : ℕ) (names : List (List ℕ)) (ps : List Piece) (ts back : List Term) (table : List (List (Option Shape))) → AreRows cores ts table
+    → AreWithin names (placed_in table) → terms ps ≡ ts ++ back → ends_table back ≡ true → ReadsPlaced (rows_at stop cores names ps) names (placed_in table) back
+unfolding rows_at numbered
+rows_again stop cores names ps ts back table are h e end =
+    let f = rows_found stop cores names ts table are (length ps) ps (omega arith) [] h back e end in
+    record { rest = f.rest; is = f.is; behind = f.behind }
+
+-- ---- rows taken
+
+record RowsTaken (cores : ℕ) (names : List (List ℕ)) (done : List Placed) (ps : List Piece) (r : Rows) : Type 0 where
+  pub ts : List Term
+  pub table : List (List (Option Shape))
+  pub are : AreRows cores ts table
+  pub parts : terms ps ≡ ts ++ terms r.rest
+  pub within : AreWithin names (done ++ placed_in table)
+  pub given : r ≡ rows_by names (done ++ placed_in table) r.rest
+  pub ended : ends_rows r.rest ≡ true
+
+no_more : (cores : ℕ) (names : List (List ℕ)) (done : List Placed) (ps : List Piece) (r : Rows) → AreWithin names done → ends_rows ps ≡ true → rows (instrs_of names done) (names_of names done) ps ≡ r
+    → RowsTaken cores names done ps r
+no_more cores names done ps r h end is =
+    let same = append-nil done in
+    subst (λ (r : Rows). RowsTaken cores names done ps r) is (record {
+      ts = [];
+      table = [];
+      are = none;
+      parts = refl;
+      within = subst (λ (l : List Placed). AreWithin names l) (sym same) h;
+      given = ap (λ (l : List Placed). rows_by names l ps) (sym same);
+      ended = end;
+    })
+
+rows_taken : (n : ℕ) (stop : Stop) (cores : ℕ) (names : List (List ℕ)) (done : List Placed) (ps : List Piece) (r : Rows) → length ps ≤ n → AreWithin names done
+    → rows_within n stop cores (instrs_of names done) (names_of names done) ps ≡ Ok r → RowsTaken cores names done ps r
+unfolding rows_within
+rows_taken zero stop cores names done [] r enough h e = no_more cores names done [] r h (ends_is []) (ok_is (rows (instrs_of names done) (names_of names done) []) r e)
+rows_taken zero stop cores names done (p ∷ ps) r enough h e = absurd (omega arith)
+rows_taken (suc n) stop cores names done ps r enough h e =
+    elim (chosen (ends_rows ps) (Ok (rows (instrs_of names done) (names_of names done) ps))
+    (row_at stop ps >>= λ row. row_in cores (left_of ps) (instrs_of names done) (names_of names done) row.0 >>= λ read. rows_within n stop cores read.0 read.1 row.1) (Ok r) e) [
+      | inl end ↦ no_more cores names done ps r h end.0 (ok_is (rows (instrs_of names done) (names_of names done) ps) r end.1)
+      | inr go ↦
+          let a = bind_ok (row_at stop ps) (λ row. row_in cores (left_of ps) (instrs_of names done) (names_of names done) row.0 >>= λ read. rows_within n stop cores read.0 read.1 row.1) r go.1 in
+          let b = bind_ok (row_in cores (left_of ps) (instrs_of names done) (names_of names done) a.0.0) (λ read. rows_within n stop cores read.0 read.1 a.0.1) r a.2 in
+          let t = row_taken cores (left_of ps) names done a.0.0 b.0 h b.1 in
+          let cells = t.cells.cells in
+          let one = placed_from 0 cells in
+          let count : length cells ≡ cores = sym (as_many (cells_of a.0.0) cells t.cells.are) ∙ t.count in
+          let front = row_takes stop cores ps a.0.0 a.0.1 cells a.1 t.cells.are count in
+          let shorter = row_shorter cores front.ts cells ps a.0.1 front.is front.parts in
+          let further : rows_within n stop cores (instrs_of names (done ++ one)) (names_of names (done ++ one)) a.0.1 ≡ Ok r =
+          ap (λ (read : Read). rows_within n stop cores read.0 read.1 a.0.1) (sym t.cells.given) ∙ b.2 in
+          let others = rows_taken n stop cores names (done ++ one) a.0.1 r (omega arith) t.cells.within further in
+          let regroup : (done ++ one) ++ placed_in others.table ≡ done ++ (one ++ placed_in others.table) = append_assoc done one (placed_in others.table) in
+          record {
+            ts = front.ts ++ others.ts;
+            table = cells ∷ others.table;
+            are = more front.ts others.ts cells others.table front.is others.are;
+            parts = front.parts ∙ ap (λ (l : List Term). front.ts ++ l) others.parts ∙ sym (append_assoc front.ts others.ts (terms r.rest));
+            within = subst (λ (l : List Placed). AreWithin names l) regroup others.within;
+            given = others.given ∙ ap (λ (l : List Placed). rows_by names l r.rest) regroup;
+            ended = others.ended;
+          }
+    ]
+
+pub rows_take : (stop : Stop) (cores : ℕ) (names : List (List ℕ)) (ps : List Piece) (r : Rows) → length names ≤ 16 → rows_at stop cores names ps ≡ Ok r → SpellsRows cores names ps r
+unfolding rows_at numbered
+rows_take stop cores names ps r le e =
+    let t = rows_taken (length ps) stop cores names [] ps r (omega arith) (within_none names le) e in
+    record { ts = t.ts; table = t.table; are = t.are; parts = t.parts; within = t.within; given = t.given; ended = t.ended }

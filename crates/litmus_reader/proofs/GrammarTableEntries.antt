@@ -1,0 +1,298 @@
+-- Entries of rows: their instructions and locations, as cells are read one after the other.
+use Rattle.std.proofs.Common.{◌≡◌, ℕ, ◌+◌, ◌≤◌, ◌<◌, ◌^◌, Bool, true, false, cond, eqb, eqb-true, eq-eqb, ltb, List, [], ◌∷◌, ◌++◌, length, map, Option, Some, None, Result, Ok, Err, refl, sym, ap, subst, ◌∙◌, inl, inr, append_assoc, arith}
+use Rattle.std.specs.Prelude.{count_by}
+use Rattle.std.specs.Str.{bytes_eq}
+use Rattle.std.proofs.lemmas.Bool.{ltb-true, lt-ltb}
+use Rattle.std.proofs.lemmas.List.{length-append, append-nil, map-append}
+use Rattle.std.proofs.lemmas.List.Sums.{sum_by-append}
+use Rattle.tso_model.specs.declared.instruction.Loc.{Loc}
+use Rattle.tso_model.specs.declared.instruction.Instr.{Instr}
+use Rattle.tso_model.specs.declared.instruction.Instr.TheVariants.{StoreImm, StoreReg, Load, SetImm, SetReg, Fence, Xchg, Xadd}
+use Rattle.litmus_tokens.specs.Pieces.{Piece}
+use Rattle.litmus_reader.specs.declared.fault.Why.TheVariants.{BadInstruction, TooLarge}
+use Rattle.litmus_reader.specs.declared.fault.Fault.{Fault}
+use Rattle.litmus_reader.specs.declared.cell.CoreInstr.{CoreInstr}
+use Rattle.litmus_reader.specs.Faults.{◌>>=◌, fault}
+use Rattle.litmus_reader.specs.Locations.{number_of, with_name, location, located}
+use Rattle.litmus_reader.specs.Items.{or_bad_number, word_at}
+use Rattle.litmus_reader.specs.Forms.{Shape, store_imm, store_reg, load, set_imm, set_reg, fence, xchg, xadd, spelled_in}
+use Rattle.litmus_reader.specs.Cells.{instr_of, count_of, of_core, or_bad_instruction, cell_in, cells_in}
+use Rattle.litmus_reader.specs.GrammarNames.{numbered}
+use Rattle.litmus_reader.specs.GrammarRows.{AreReadAs}
+use Rattle.litmus_reader.specs.GrammarTable.{Placed, placed, placed_from, location_in, locations_of, instr_with, instrs_with, ValueFits, ValuesFit, AreWithin}
+use Rattle.litmus_reader.proofs.GrammarTokens.{chosen, ok_is, ok_pair, bind_ok}
+use Rattle.litmus_reader.proofs.GrammarNames.{with_name_by, place_below, place_none, known_with, number_with, numbered_append, grows}
+use Rattle.litmus_reader.proofs.GrammarAtoms.{word_is, word_ok, located_ok, room_with}
+use Rattle.litmus_reader.proofs.GrammarShapes.{entries_known, instrs_stay}
+
+-- ---- entries so far
+
+-- the names behind those before, and the instructions
+abbrev pub names_of : List (List ℕ) → List Placed → List (List ℕ)
+names_of names entries = numbered names (locations_of entries)
+
+abbrev pub instrs_of : List (List ℕ) → List Placed → List CoreInstr
+instrs_of names entries = instrs_with (names_of names entries) entries
+
+abbrev pub Read : Type 0
+Read = List CoreInstr × List (List ℕ)
+
+abbrev pub read_of : List (List ℕ) → List Placed → Read
+read_of names entries = (instrs_of names entries, names_of names entries)
+
+locations-append : (xs ys : List Placed) → locations_of (xs ++ ys) ≡ locations_of xs ++ locations_of ys
+locations-append [] ys = refl
+locations-append (x ∷ xs) ys = ap (λ (l : List (List ℕ)). location_in x.shape ++ l) (locations-append xs ys) ∙ sym (append_assoc (location_in x.shape) (locations_of xs) (locations_of ys))
+
+names-append : (names : List (List ℕ)) (xs ys : List Placed) → names_of names (xs ++ ys) ≡ numbered (names_of names xs) (locations_of ys)
+names-append names xs ys = ap (λ (l : List (List ℕ)). numbered names l) (locations-append xs ys) ∙ numbered_append (locations_of xs) (locations_of ys) names
+
+names-push : (names : List (List ℕ)) (xs : List Placed) (core : ℕ) (shape : Shape) → names_of names (xs ++ placed core shape ∷ []) ≡ numbered (names_of names xs) (location_in shape)
+names-push names xs core shape = names-append names xs (placed core shape ∷ []) ∙ ap (λ (l : List (List ℕ)). numbered (names_of names xs) l) (append-nil (location_in shape))
+
+-- what an placed adds
+abbrev pushed : List (List ℕ) → List Placed → ℕ → Shape → Read
+pushed names xs core shape =
+    (instrs_of names xs ++ of_core core (instr_with (numbered (names_of names xs) (location_in shape)) shape) ∷ [], numbered (names_of names xs) (location_in shape))
+
+read-push : (names : List (List ℕ)) (xs : List Placed) (core : ℕ) (shape : Shape) → pushed names xs core shape ≡ read_of names (xs ++ placed core shape ∷ [])
+read-push names xs core shape =
+    let new = numbered (names_of names xs) (location_in shape) in
+    let last = of_core core (instr_with new shape) ∷ [] in
+    let instrs : instrs_with new (xs ++ placed core shape ∷ []) ≡ instrs_of names xs ++ last =
+    map-append (λ (e : Placed). of_core e.core (instr_with new e.shape)) xs (placed core shape ∷ [])
+    ∙ ap (λ (l : List CoreInstr). l ++ last) (instrs_stay xs (location_in shape) (names_of names xs) (entries_known xs names)) in
+    let pair : List CoreInstr → Read = λ l. (l, new) in
+    ap pair (sym instrs) ∙ ap (λ (l : List (List ℕ)). (let r : Read = (instrs_with l (xs ++ placed core shape ∷ []), l) in r)) (sym (names-push names xs core shape))
+
+-- ---- what fits
+
+values-append : (xs ys : List Placed) → ValuesFit xs → ValuesFit ys → ValuesFit (xs ++ ys)
+values-append [] ys h k = k
+values-append (x ∷ xs) ys h k = (h.0, values-append xs ys h.1 k)
+
+values-parts : (xs ys : List Placed) → ValuesFit (xs ++ ys) → ValuesFit xs × ValuesFit ys
+values-parts [] ys h = (tt, h)
+values-parts (x ∷ xs) ys h = let parts = values-parts xs ys h.1 in ((h.0, parts.0), parts.1)
+
+abbrev count_in : ℕ → List Placed → ℕ
+count_in core entries = count_by (λ e. eqb e.core core) entries
+
+count-append : (core : ℕ) (xs ys : List Placed) → count_in core (xs ++ ys) ≡ count_in core xs + count_in core ys
+count-append core xs ys = sum_by-append (λ (e : Placed). cond (eqb e.core core) 1 0) xs ys
+
+count-instrs : (core : ℕ) (names : List (List ℕ)) (entries : List Placed) → count_of core (instrs_with names entries) ≡ count_in core entries
+count-instrs core names [] = refl
+count-instrs core names (e ∷ others) =
+    sum_by-append (λ (i : CoreInstr). cond (eqb i.core core) 1 0) (of_core e.core (instr_with names e.shape) ∷ []) (instrs_with names others)
+    ∙ ap (λ (n : ℕ). count_in core (e ∷ []) + n) (count-instrs core names others) ∙ sym (count-append core (e ∷ []) others)
+
+pub within_first : (names : List (List ℕ)) (xs ys : List Placed) → AreWithin names (xs ++ ys) → AreWithin names xs
+within_first names xs ys h =
+    let more = grows (locations_of ys) (names_of names xs) in
+    let whole = ap (λ (l : List (List ℕ)). length l) (names-append names xs ys) in
+    record {
+      values = (values-parts xs ys h.values).0;
+      few = λ core. omega (arith, h.few core, count-append core xs ys);
+      room = omega (arith, more, whole, h.room);
+    }
+
+pub within_none : (names : List (List ℕ)) → length names ≤ 16 → AreWithin names []
+unfolding numbered
+within_none names le = record { values = tt; few = λ core. omega arith; room = le }
+
+-- ---- the instruction of a shape
+
+located_found : (left : ℕ) (names : List (List ℕ)) (x : List ℕ) → length (with_name names x) ≤ 16 → located left names x ≡ Ok (location (number_of (with_name names x) x), with_name names x)
+unfolding located
+located_found left names x room =
+    let below = place_below (bytes_eq x) (with_name names x) (known_with names x) in
+    let few : number_of names x < 16 = omega (arith, below, number_with names x) in
+    rw (lt-ltb (number_of names x) 16 few, number_with names x) refl
+
+pub instr_found : (left : ℕ) (names : List (List ℕ)) (shape : Shape) → ValueFits shape → length (numbered names (location_in shape)) ≤ 16
+    → instr_of left names shape ≡ Ok (instr_with (numbered names (location_in shape)) shape, numbered names (location_in shape))
+unfolding instr_of numbered
+instr_found left names (store_imm x v) fits room = rw (word_is left v fits, located_found left names x room) refl
+instr_found left names (store_reg x reg) fits room = rw (located_found left names x room) refl
+instr_found left names (load reg x) fits room = rw (located_found left names x room) refl
+instr_found left names (set_imm reg v) fits room = rw (word_is left v fits) refl
+instr_found left names (set_reg reg other) fits room = refl
+instr_found left names fence fits room = refl
+instr_found left names (xchg x reg) fits room = rw (located_found left names x room) refl
+instr_found left names (xadd x reg) fits room = rw (located_found left names x room) refl
+
+-- what was read of a shape
+record InstrTaken (names : List (List ℕ)) (shape : Shape) (r : Instr × List (List ℕ)) : Type 0 where
+  pub fits : ValueFits shape
+  pub instr_is : r.0 ≡ instr_with (numbered names (location_in shape)) shape
+  pub names_are : r.1 ≡ numbered names (location_in shape)
+  pub room : length names ≤ 16 → length (numbered names (location_in shape)) ≤ 16
+
+record LocatedTaken (names : List (List ℕ)) (x : List ℕ) (make : Loc → Instr) (r : Instr × List (List ℕ)) : Type 0 where
+  pub instr_is : r.0 ≡ make (location (number_of (with_name names x) x))
+  pub names_are : r.1 ≡ with_name names x
+  pub room : length names ≤ 16 → length (with_name names x) ≤ 16
+
+located_taken : (left : ℕ) (names : List (List ℕ)) (x : List ℕ) (make : Loc → Instr) (r : Instr × List (List ℕ)) → (located left names x >>= λ loc. Ok (make loc.0, loc.1)) ≡ Ok r → LocatedTaken names x make r
+located_taken left names x make r e =
+    let b = bind_ok (located left names x) (λ loc. Ok (make loc.0, loc.1)) r e in
+    let loc = located_ok left names x b.0 b.1 in
+    let same = ok_pair (make b.0.0) r.0 b.0.1 r.1 b.2 in
+    record {
+      instr_is = sym same.0 ∙ ap make (loc.0 ∙ ap location (sym (number_with names x)));
+      names_are = sym same.1 ∙ loc.1;
+      room = λ le. room_with names x loc.2 le;
+    }
+
+instr_taken : (left : ℕ) (names : List (List ℕ)) (shape : Shape) (r : Instr × List (List ℕ)) → instr_of left names shape ≡ Ok r → InstrTaken names shape r
+unfolding instr_of numbered
+instr_taken left names (store_imm x v) r e =
+    let a = bind_ok (word_at left v) _ r e in
+    let word = word_ok left v a.0 a.1 in
+    let l = located_taken left names x (λ loc. StoreImm loc a.0) r a.2 in
+    record { fits = word.1; instr_is = l.instr_is ∙ ap (λ (n : ℕ). StoreImm (location (number_of (with_name names x) x)) n) (sym word.0); names_are = l.names_are; room = l.room }
+instr_taken left names (store_reg x reg) r e =
+    let l = located_taken left names x (λ loc. StoreReg loc reg) r e in record { fits = tt; instr_is = l.instr_is; names_are = l.names_are; room = l.room }
+instr_taken left names (load reg x) r e =
+    let l = located_taken left names x (λ loc. Load reg loc) r e in record { fits = tt; instr_is = l.instr_is; names_are = l.names_are; room = l.room }
+instr_taken left names (set_imm reg v) r e =
+    let a = bind_ok (word_at left v) _ r e in
+    let word = word_ok left v a.0 a.1 in
+    let same = ok_pair (SetImm reg a.0) r.0 names r.1 a.2 in
+    record { fits = word.1; instr_is = sym same.0 ∙ ap (λ (n : ℕ). SetImm reg n) (sym word.0); names_are = sym same.1; room = λ le. le }
+instr_taken left names (set_reg reg other) r e =
+    let same = ok_pair (SetReg reg other) r.0 names r.1 e in record { fits = tt; instr_is = sym same.0; names_are = sym same.1; room = λ le. le }
+instr_taken left names fence r e =
+    let same = ok_pair Fence r.0 names r.1 e in record { fits = tt; instr_is = sym same.0; names_are = sym same.1; room = λ le. le }
+instr_taken left names (xchg x reg) r e =
+    let l = located_taken left names x (λ loc. Xchg loc reg) r e in record { fits = tt; instr_is = l.instr_is; names_are = l.names_are; room = l.room }
+instr_taken left names (xadd x reg) r e =
+    let l = located_taken left names x (λ loc. Xadd loc reg) r e in record { fits = tt; instr_is = l.instr_is; names_are = l.names_are; room = l.room }
+
+-- ---- cells
+
+or_bad_ok : (left : ℕ) (o : Option Shape) (shape : Shape) → or_bad_instruction left o ≡ Ok shape → o ≡ Some shape
+or_bad_ok left (Some other) shape e = ap (λ (s : Shape). Some s) (ok_is other shape e)
+or_bad_ok left None shape e = absurd cc
+
+cell_found : (core : ℕ) (names : List (List ℕ)) (done : List Placed) (p : Piece) (ps : List Piece) (shape : Shape) → spelled_in (p ∷ ps) ≡ Some shape → AreWithin names (done ++ placed core shape ∷ [])
+    → cell_in core (instrs_of names done) (names_of names done) (p ∷ ps) ≡ Ok (read_of names (done ++ placed core shape ∷ []))
+unfolding cell_in
+cell_found core names done p ps shape is h =
+    let value = (values-parts done (placed core shape ∷ []) h.values).1.0 in
+    let room : length (numbered (names_of names done) (location_in shape)) ≤ 16 = subst (λ (l : List (List ℕ)). length l ≤ 16) (names-push names done core shape) h.room in
+    let one : count_in core (placed core shape ∷ []) ≡ 1 = rw (eq-eqb core core refl) refl in
+    let few : count_of core (instrs_of names done) < 32 = omega (arith, h.few core, count-append core done (placed core shape ∷ []), one, count-instrs core (names_of names done) done) in
+    let read : cell_in core (instrs_of names done) (names_of names done) (p ∷ ps) ≡ Ok (pushed names done core shape) =
+    rw (is, instr_found p.left (names_of names done) shape value room, lt-ltb (count_of core (instrs_of names done)) 32 few) refl in
+    read ∙ ap (λ (r : Read). Ok r) (read-push names done core shape)
+
+-- what was read of a cell that isn't empty
+record CellTaken (core : ℕ) (names : List (List ℕ)) (done : List Placed) (ps : List Piece) (r : Read) : Type 0 where
+  pub shape : Shape
+  pub is : spelled_in ps ≡ Some shape
+  pub within : AreWithin names (done ++ placed core shape ∷ [])
+  pub given : r ≡ read_of names (done ++ placed core shape ∷ [])
+
+few-push : (core other : ℕ) (shape : Shape) (done : List Placed) → count_in core done < 32 → count_in other done ≤ 32 → count_in other (done ++ placed core shape ∷ []) ≤ 32
+few-push core other shape done room h = by_test (eqb core other) refl
+  where
+    by_test : (b : Bool) → eqb core other ≡ b → count_in other (done ++ placed core shape ∷ []) ≤ 32
+    by_test true e =
+        let same : core ≡ other = eqb-true _ _ e in
+        let below : count_in other done < 32 = subst (λ (k : ℕ). count_in k done < 32) same room in
+        let one : count_in other (placed core shape ∷ []) ≡ 1 = rw e refl in
+        omega (arith, below, count-append other done (placed core shape ∷ []), one)
+    by_test false e =
+        let nothing : count_in other (placed core shape ∷ []) ≡ 0 = rw e refl in
+        omega (arith, h, count-append other done (placed core shape ∷ []), nothing)
+
+within_push : (core : ℕ) (names : List (List ℕ)) (done : List Placed) (shape : Shape) → AreWithin names done → ValueFits shape → count_in core done < 32
+    → length (numbered (names_of names done) (location_in shape)) ≤ 16 → AreWithin names (done ++ placed core shape ∷ [])
+within_push core names done shape h fits room few = record {
+  values = values-append done (placed core shape ∷ []) h.values (fits, tt);
+  few = λ other. few-push core other shape done room (h.few other);
+  room = subst (λ (l : List (List ℕ)). length l ≤ 16) (sym (names-push names done core shape)) few;
+}
+
+cell_taken : (core : ℕ) (names : List (List ℕ)) (done : List Placed) (p : Piece) (ps : List Piece) (r : Read) → AreWithin names done
+    → cell_in core (instrs_of names done) (names_of names done) (p ∷ ps) ≡ Ok r → CellTaken core names done (p ∷ ps) r
+unfolding cell_in
+cell_taken core names done p ps r h e =
+    let before = names_of names done in
+    let s = bind_ok (or_bad_instruction p.left (spelled_in (p ∷ ps))) _ r e in
+    let i = bind_ok (instr_of p.left before s.0) _ r s.2 in
+    let t = instr_taken p.left before s.0 i.0 i.1 in
+    elim (chosen (ltb (count_of core (instrs_of names done)) 32) (Ok (instrs_of names done ++ of_core core i.0.0 ∷ [], i.0.1)) (Err (fault TooLarge p.left)) (Ok r) i.2) [
+      | inl hit ↦
+          let below = ltb-true (count_of core (instrs_of names done)) 32 hit.0 in
+          let room : count_in core done < 32 = omega (arith, below, count-instrs core before done) in
+          record {
+            shape = s.0;
+            is = or_bad_ok p.left (spelled_in (p ∷ ps)) s.0 s.1;
+            within = within_push core names done s.0 h t.fits room (t.room h.room);
+            given = sym (ok_is (instrs_of names done ++ of_core core i.0.0 ∷ [], i.0.1) r hit.1)
+                ∙ ap (λ (n : Instr). (let r : Read = (instrs_of names done ++ of_core core n ∷ [], i.0.1) in r)) t.instr_is
+                ∙ ap (λ (l : List (List ℕ)). (let r : Read = (instrs_of names done ++ of_core core (instr_with (numbered before (location_in s.0)) s.0) ∷ [], l) in r)) t.names_are
+                ∙ read-push names done core s.0;
+          }
+      | inr miss ↦ absurd cc
+    ]
+
+-- ---- cells one after the other
+
+pub cells_found : (parts : List (List Piece)) (cells : List (Option Shape)) → AreReadAs parts cells → (core : ℕ) (names : List (List ℕ)) (done : List Placed) → AreWithin names (done ++ placed_from core cells)
+    → cells_in core (instrs_of names done) (names_of names done) parts ≡ Ok (read_of names (done ++ placed_from core cells))
+unfolding cells_in cell_in
+cells_found [] [] are core names done h = ap (λ (l : List Placed). Ok (read_of names l)) (sym (append-nil done))
+cells_found [] (c ∷ cs) are core names done h = absurd are
+cells_found (ps ∷ rest) [] are core names done h = absurd are
+cells_found ([] ∷ rest) (None ∷ cs) are core names done h = cells_found rest cs are.1 (core + 1) names done h
+cells_found ([] ∷ rest) (Some shape ∷ cs) are core names done h = absurd are.0
+cells_found ((p ∷ ps) ∷ rest) (None ∷ cs) are core names done h = absurd are.0
+cells_found ((p ∷ ps) ∷ rest) (Some shape ∷ cs) are core names done h =
+    let e = placed core shape in
+    let others = placed_from (core + 1) cs in
+    let regroup : (done ++ e ∷ []) ++ others ≡ done ++ e ∷ others = append_assoc done (e ∷ []) others in
+    let whole : AreWithin names ((done ++ e ∷ []) ++ others) = subst (λ (l : List Placed). AreWithin names l) (sym regroup) h in
+    let first = cell_found core names done p ps shape are.0 (within_first names (done ++ e ∷ []) others whole) in
+    ap (λ (r : Result Read Fault). r >>= λ read. cells_in (core + 1) read.0 read.1 rest) first
+    ∙ cells_found rest cs are.1 (core + 1) names (done ++ e ∷ []) whole
+    ∙ ap (λ (l : List Placed). Ok (read_of names l)) regroup
+
+-- what was read of cells
+pub record CellsTaken (core : ℕ) (names : List (List ℕ)) (done : List Placed) (parts : List (List Piece)) (r : Read) : Type 0 where
+  pub cells : List (Option Shape)
+  pub are : AreReadAs parts cells
+  pub within : AreWithin names (done ++ placed_from core cells)
+  pub given : r ≡ read_of names (done ++ placed_from core cells)
+
+pub cells_taken : (parts : List (List Piece)) (core : ℕ) (names : List (List ℕ)) (done : List Placed) (r : Read) → AreWithin names done
+    → cells_in core (instrs_of names done) (names_of names done) parts ≡ Ok r → CellsTaken core names done parts r
+unfolding cells_in cell_in
+cells_taken [] core names done r h e =
+    let same = append-nil done in
+    record {
+      cells = [];
+      are = tt;
+      within = subst (λ (l : List Placed). AreWithin names l) (sym same) h;
+      given = sym (ok_is (read_of names done) r e) ∙ ap (λ (l : List Placed). read_of names l) (sym same);
+    }
+cells_taken ([] ∷ rest) core names done r h e =
+    let t = cells_taken rest (core + 1) names done r h e in
+    record { cells = None ∷ t.cells; are = (tt, t.are); within = t.within; given = t.given }
+cells_taken ((p ∷ ps) ∷ rest) core names done r h e =
+    let c = bind_ok (cell_in core (instrs_of names done) (names_of names done) (p ∷ ps)) (λ read. cells_in (core + 1) read.0 read.1 rest) r e in
+    let first = cell_taken core names done p ps c.0 h c.1 in
+    let one = placed core first.shape in
+    let further : cells_in (core + 1) (instrs_of names (done ++ one ∷ [])) (names_of names (done ++ one ∷ [])) rest ≡ Ok r =
+    ap (λ (read : Read). cells_in (core + 1) read.0 read.1 rest) (sym first.given) ∙ c.2 in
+    let t = cells_taken rest (core + 1) names (done ++ one ∷ []) r first.within further in
+    let regroup : (done ++ one ∷ []) ++ placed_from (core + 1) t.cells ≡ done ++ one ∷ placed_from (core + 1) t.cells = append_assoc done (one ∷ []) (placed_from (core + 1) t.cells) in
+    record {
+      cells = Some first.shape ∷ t.cells;
+      are = (first.is, t.are);
+      within = subst (λ (l : List Placed). AreWithin names l) regroup t.within;
+      given = t.given ∙ ap (λ (l : List Placed). read_of names l) regroup;
+    }

@@ -1,0 +1,288 @@
+-- A whole text is read as it is spelled.
+use Rattle.std.proofs.Common.{◌≡◌, ℕ, zero, suc, ◌≤◌, ◌<◌, ◌+◌, ◌-◌, Bool, true, false, leb, ltb, List, [], ◌∷◌, ◌++◌, length, map, drop, Option, Some, None, Result, Ok, Err, IfOk, refl, sym, ap, subst, ◌∙◌, inl, inr, append_assoc, append-nil, length-append, arith, IsTrue}
+use Rattle.std.specs.Prelude.{codes}
+use Rattle.std.proofs.lemmas.Bool.{ltb-false, le-ltb}
+use Rattle.std.proofs.lemmas.List.FromFn.{length-map-range_with_len}
+use Rattle.tso_model.specs.Litmus.{Litmus}
+use Rattle.litmus_tokens.specs.declared.token.Stop.{Stop}
+use Rattle.litmus_tokens.specs.declared.token.Symbol.TheVariants.{Tilde}
+use Rattle.litmus_tokens.specs.Terms.{Term, name, symbol}
+use Rattle.litmus_tokens.specs.Pieces.{Piece, pieces_of}
+use Rattle.litmus_reader.specs.declared.fault.Fault.{Fault}
+use Rattle.litmus_reader.specs.declared.header.TheConstants.{MAX_TEXT}
+use Rattle.litmus_reader.specs.declared.cell.CoreInstr.{CoreInstr}
+use Rattle.litmus_reader.specs.Faults.{◌>>=◌}
+use Rattle.litmus_reader.specs.Header.{sized, header_at}
+use Rattle.litmus_reader.specs.Information.{braces_at}
+use Rattle.litmus_reader.specs.Initial.{Initial, words_of, registers_of, initial_at}
+use Rattle.litmus_reader.specs.Columns.{columns_at}
+use Rattle.litmus_reader.specs.Rows.{Rows, Table, table, table_at, rows_at}
+use Rattle.litmus_reader.specs.Forms.{Shape}
+use Rattle.litmus_reader.specs.Items.{Setting}
+use Rattle.litmus_reader.specs.Locations.{with_name}
+use Rattle.litmus_reader.specs.Reading.{test_of, tail_at, body_of, reading_of, programs_from}
+use Rattle.litmus_reader.specs.Grammar.{terms, Reads, Begins}
+use Rattle.litmus_reader.specs.GrammarNames.{numbered}
+use Rattle.litmus_reader.specs.GrammarText.{IsHeaderLine, AreInformationLines}
+use Rattle.litmus_reader.specs.GrammarInitial.{IsInitialState, Fits, has_cores, names_in, first_words, first_registers, Says}
+use Rattle.litmus_reader.specs.GrammarColumns.{IsHeaderRow}
+use Rattle.litmus_reader.specs.GrammarTable.{AreRows, AreWithin, Placed, placed_in, instrs_with, instr_with, location_in, locations_of, ends_table, rows_by, ReadsPlaced, SpellsRows}
+use Rattle.litmus_reader.specs.GrammarConditions.{condition, says_exists, says_forall, says_not_exists}
+use Rattle.litmus_reader.specs.GrammarEnding.{Asked, MayAsk, nothing, a_condition, EndsText, IsEnding, at_once, behind_locations, names_asked, condition_of, IsAskedWithin}
+use Rattle.litmus_reader.specs.GrammarBehind.{AreLast}
+use Rattle.litmus_reader.specs.GrammarTest.{Written, IsBody, IsText, located_in_rows, located, test_written, KeepsLimits}
+use Rattle.litmus_reader.specs.Spelling.{SpellsTest}
+use Rattle.litmus_reader.proofs.GrammarTokens.{chosen, bind_ok, ok_is}
+use Rattle.litmus_reader.proofs.GrammarNames.{Known, known_more, number_more, known_with, numbered_append, grows, with_name_by}
+use Rattle.litmus_reader.proofs.GrammarShapes.{entries_known, instrs_stay}
+use Rattle.litmus_reader.proofs.GrammarEnding.{Closes, Closed, Given, given, tail_again, tail_takes}
+
+-- ---- lists
+
+terms_append : (xs ys : List Piece) → terms (xs ++ ys) ≡ terms xs ++ terms ys
+terms_append [] ys = refl
+terms_append (x ∷ xs) ys = ap (λ (l : List Term). x.term ∷ l) (terms_append xs ys)
+
+terms_length : (ps : List Piece) → length (terms ps) ≡ length ps
+terms_length [] = refl
+terms_length (p ∷ ps) = ap (λ n. suc n) (terms_length ps)
+
+same_length : (a b : List Piece) → terms a ≡ terms b → length a ≡ length b
+same_length a b e = sym (terms_length a) ∙ ap (λ (l : List Term). length l) e ∙ terms_length b
+
+same_end : {A : Type 0} (xs ys a b : List A) → xs ++ a ≡ ys ++ b → length a ≡ length b → a ≡ b
+same_end [] [] a b e n = e
+same_end [] (y ∷ ys) a b e n = absurd (let whole = ap (λ l. length l) e in omega (arith, whole, n, length-append ys b))
+same_end (x ∷ xs) [] a b e n = absurd (let whole = ap (λ l. length l) e in omega (arith, whole, n, length-append xs a))
+same_end (x ∷ xs) (y ∷ ys) a b e n = same_end xs ys a b (ap (λ l. drop 1 l) e) n
+
+cancel_back : (xs ys z : List Term) → xs ++ z ≡ ys ++ z → xs ≡ ys
+cancel_back [] [] z e = refl
+cancel_back [] (y ∷ ys) z e = absurd (let whole = ap (λ (l : List Term). length l) e in omega (arith, whole, length-append ys z))
+cancel_back (x ∷ xs) [] z e = absurd (let whole = ap (λ (l : List Term). length l) e in omega (arith, whole, length-append xs z))
+cancel_back (x ∷ xs) (y ∷ ys) z e =
+    let first : x ≡ y = cc in
+    let others : xs ++ z ≡ ys ++ z = cc in
+    rw first (ap (λ (l : List Term). y ∷ l) (cancel_back xs ys z others))
+
+-- ---- the laws of the parts, as this file uses them
+
+pub record Parts : Type 0 where
+  pub header_again : (text name behind : List ℕ) → IsHeaderLine text name behind → header_at text ≡ Ok (name, behind)
+  pub header_takes : (text name behind : List ℕ) → header_at text ≡ Ok (name, behind) → IsHeaderLine text name behind
+  pub information_again : (bytes braces : List ℕ) → AreInformationLines bytes braces → braces_at bytes ≡ Ok braces
+  pub information_takes : (bytes braces : List ℕ) → braces_at bytes ≡ Ok braces → AreInformationLines bytes braces
+  pub initial_again : (stop : Stop) (ps : List Piece) (ts back : List Term) (settings : List Setting) → IsInitialState ts settings → Fits settings → terms ps ≡ ts ++ back
+      → (i : Initial) × Reads (initial_at stop [] ps) i back × Says settings i
+  pub initial_takes : (stop : Stop) (ps rest : List Piece) (i : Initial) → initial_at stop [] ps ≡ Ok (i, rest)
+      → (settings : List Setting) × Begins (λ ts. IsInitialState ts settings) ps rest × Fits settings × Says settings i
+  pub columns_again : (stop : Stop) (ps : List Piece) (ts back : List Term) (cores : ℕ) → IsHeaderRow ts cores → terms ps ≡ ts ++ back → Reads (columns_at stop ps) cores back
+  pub columns_takes : (stop : Stop) (ps rest : List Piece) (cores : ℕ) → columns_at stop ps ≡ Ok (cores, rest) → Begins (λ ts. IsHeaderRow ts cores) ps rest
+  pub rows_again : (stop : Stop) (cores : ℕ) (names : List (List ℕ)) (ps : List Piece) (ts back : List Term) (table : List (List (Option Shape)))
+      → AreRows cores ts table → AreWithin names (placed_in table) → terms ps ≡ ts ++ back → ends_table back ≡ true → ReadsPlaced (rows_at stop cores names ps) names (placed_in table) back
+  pub rows_takes : (stop : Stop) (cores : ℕ) (names : List (List ℕ)) (ps : List Piece) (r : Rows) → length names ≤ 16 → rows_at stop cores names ps ≡ Ok r → SpellsRows cores names ps r
+  pub last_initial : (stop : Stop) (names : List (List ℕ)) (ps rest : List Piece) (i : Initial) → initial_at stop names ps ≡ Ok (i, rest) → AreLast ps rest
+  pub last_columns : (stop : Stop) (ps rest : List Piece) (cores : ℕ) → columns_at stop ps ≡ Ok (cores, rest) → AreLast ps rest
+  pub last_rows : (stop : Stop) (cores : ℕ) (names : List (List ℕ)) (ps : List Piece) (r : Rows) → rows_at stop cores names ps ≡ Ok r → AreLast ps r.rest
+  pub closes : Closes
+  pub closed : Closed
+
+-- ---- what is left
+
+last_of_last : (a b c : List Piece) → AreLast a b → AreLast b c → AreLast a c
+last_of_last a b c first second = record {
+  taken = first.taken ++ second.taken;
+  parts = first.parts ∙ ap (λ (l : List Piece). first.taken ++ l) second.parts ∙ sym (append_assoc first.taken second.taken c);
+}
+
+-- ---- the table ends where the ending begins
+
+ends_asked : (ts : List Term) (c : Option Asked) → MayAsk ts c → ends_table ts ≡ true
+ends_asked _ _ nothing = refl
+ends_asked _ _ (a_condition _ _ _ (condition _ us _ phrase says_exists is)) = refl
+ends_asked _ _ (a_condition _ _ _ (condition _ us _ phrase says_forall is)) = refl
+ends_asked _ _ (a_condition _ _ _ (condition _ us _ phrase says_not_exists is)) = refl
+
+ends_here : (text : List ℕ) (stop : Stop) (ps : List Piece) (c : Option Asked) → IsEnding text stop ps c → ends_table (terms ps) ≡ true
+ends_here text stop _ _ (at_once ps c ends) = ends_asked (terms ps) c ends.is
+ends_here text stop _ _ (behind_locations word opener ps bytes c is_word is_opener found ends) = rw is_word refl
+
+-- ---- what has been read is the test that is written
+
+cores_given : (settings : List Setting) (cores : ℕ) → length (first_registers settings cores) ≡ cores
+cores_given settings cores = length-map-range_with_len _ 0 cores
+
+-- what the parts give
+abbrev pub parts_give : Written → Initial → Litmus
+parts_give w i =
+    test_of w.name (given (numbered i.names (locations_of (placed_in w.table))) w.asked).1 i.words (first_registers w.settings w.cores)
+    (instrs_with (numbered i.names (locations_of (placed_in w.table))) (placed_in w.table)) (given (numbered i.names (locations_of (placed_in w.table))) w.asked).0
+
+parts_are : (w : Written) (i : Initial) → Says w.settings i → parts_give w i ≡ test_written w
+parts_are w i says =
+    let es = placed_in w.table in
+    let known = numbered i.names (locations_of es) in
+    let all = numbered known (names_asked w.asked) in
+    let words : words_of (length all) i.words ≡ first_words w.settings all =
+    subst (λ (l : List (List ℕ)). words_of (length l) i.words ≡ first_words w.settings l) (numbered_append (locations_of es) (names_asked w.asked) i.names)
+    (says.words (locations_of es ++ names_asked w.asked)) in
+    let instrs : instrs_with all es ≡ instrs_with known es = instrs_stay es (names_asked w.asked) known (entries_known es i.names) in
+    let first : i.names ≡ numbered [] (names_in w.settings) = says.names in
+    rw (cores_given w.settings w.cores, words, ← instrs, first) refl
+
+-- ---- found
+
+body_found : (braces : List ℕ) (w : Written) → Parts → IsBody braces w → KeepsLimits w → body_of w.name braces (pieces_of braces).1 (pieces_of braces).0 ≡ Ok (test_written w)
+unfolding body_of table_at
+body_found braces w laws b limits =
+    let stop = (pieces_of braces).1 in
+    let ps = (pieces_of braces).0 in
+    let es = placed_in w.table in
+    let whole : terms ps ≡ b.initial ++ (b.columns ++ (b.rows ++ terms b.ending)) =
+    ap terms b.parts ∙ terms_append b.front b.ending ∙ ap (λ (l : List Term). l ++ terms b.ending) b.tokens
+    ∙ append_assoc b.initial (b.columns ++ b.rows) (terms b.ending) ∙ ap (λ (l : List Term). b.initial ++ l) (append_assoc b.columns b.rows (terms b.ending)) in
+    let i = laws.initial_again stop ps b.initial (b.columns ++ (b.rows ++ terms b.ending)) w.settings b.is_initial limits.settings whole in
+    let c = laws.columns_again stop i.1.rest b.columns (b.rows ++ terms b.ending) w.cores b.is_header_row i.1.behind in
+    let registers : registers_of w.cores i.0.registers ≡ Ok (first_registers w.settings w.cores) = i.2.registers w.cores limits.cores in
+    let within : AreWithin i.0.names es = subst (λ names. AreWithin names es) (sym i.2.names) limits.rows in
+    let r = laws.rows_again stop w.cores i.0.names c.rest b.rows (terms b.ending) w.table b.are_rows within c.behind (ends_here braces stop b.ending w.asked b.is_ending) in
+    let known = numbered i.0.names (locations_of es) in
+    let last : AreLast ps r.rest =
+    last_of_last ps c.rest r.rest (last_of_last ps i.1.rest c.rest (laws.last_initial stop [] ps i.1.rest i.0 i.1.is) (laws.last_columns stop i.1.rest c.rest w.cores c.is))
+    (laws.last_rows stop w.cores i.0.names c.rest (rows_by i.0.names es r.rest) r.is) in
+    let same : r.rest ≡ b.ending = same_end last.taken b.front r.rest b.ending (sym last.parts ∙ b.parts) (same_length r.rest b.ending r.behind) in
+    let asked : IsAskedWithin w.cores known w.asked = subst (λ names. IsAskedWithin w.cores (numbered names (locations_of es)) w.asked) (sym i.2.names) limits.condition in
+    let tail : tail_at braces stop w.cores known r.rest ≡ Ok (given known w.asked) =
+    subst (λ (l : List Piece). tail_at braces stop w.cores known l ≡ Ok (given known w.asked)) (sym same) (tail_again braces stop w.cores known b.ending w.asked laws.closes b.is_ending asked) in
+    rw (i.1.is, c.is, registers, r.is, tail) (ap (λ (t : Litmus). Ok t) (parts_are w i.0 i.2))
+
+sized_found : (text : List ℕ) → length text ≤ MAX_TEXT → sized text ≡ Ok text
+sized_found text small = let fits : ltb MAX_TEXT (length text) ≡ false = le-ltb _ _ small in rw fits refl
+
+pub text_again : (text : List ℕ) (t : Litmus) → Parts → SpellsTest text t → reading_of text ≡ Ok t
+unfolding reading_of
+text_again text t laws s =
+    let is = s.is in
+    rw (sized_found text is.small, laws.header_again text s.written.name is.behind is.header, laws.information_again is.behind is.braces is.information)
+    (body_found is.braces s.written laws is.body s.limits ∙ ap (λ (t : Litmus). Ok t) (sym s.says))
+
+-- ---- taken
+
+abbrev pub written : List ℕ → List Setting → ℕ → List (List (Option Shape)) → Option Asked → Written
+written called settings cores table asked = record { name = called; settings = settings; cores = cores; table = table; asked = asked }
+
+-- what was read is written in these bytes, behind a header line with this name
+record Taken (braces called : List ℕ) (t : Litmus) : Type 0 where
+  w : Written
+  named : w.name ≡ called
+  body : IsBody braces w
+  limits : KeepsLimits w
+  says : t ≡ test_written w
+
+numbered_few : (xs names : List (List ℕ)) → length (numbered names xs) ≤ length names + length xs
+unfolding numbered
+numbered_few [] names = omega arith
+numbered_few (x ∷ xs) names =
+    let one : length (with_name names x) ≤ length names + 1 = with_name_by (λ l. length l ≤ length names + 1) names x (λ _. omega arith) (λ _. omega (arith, length-append names (x ∷ []))) in
+    omega (arith, one, numbered_few xs (with_name names x))
+
+body_taken : (called braces : List ℕ) (t : Litmus) → Parts → body_of called braces (pieces_of braces).1 (pieces_of braces).0 ≡ Ok t → Taken braces called t
+unfolding body_of table_at
+body_taken called braces t laws e =
+    let stop = (pieces_of braces).1 in
+    let ps = (pieces_of braces).0 in
+    let i = bind_ok (initial_at stop [] ps) _ t e in
+    let b = bind_ok (table_at stop i.0.0.registers i.0.0.names i.0.1) _ t i.2 in
+    let tail = bind_ok (tail_at braces stop b.0.cores b.0.rows.names b.0.rows.rest) _ t b.2 in
+    let c = bind_ok (columns_at stop i.0.1) _ b.0 b.1 in
+    let g = bind_ok (registers_of c.0.0 i.0.0.registers) _ b.0 c.2 in
+    let r = bind_ok (rows_at stop c.0.0 i.0.0.names c.0.1) _ b.0 g.2 in
+    let is_table : table c.0.0 g.0 r.0 ≡ b.0 = ok_is (table c.0.0 g.0 r.0) b.0 r.2 in
+    let initial = laws.initial_takes stop ps i.0.1 i.0.0 i.1 in
+    let columns = laws.columns_takes stop i.0.1 c.0.1 c.0.0 c.1 in
+    let settings = initial.0 in
+    let says = initial.3 in
+    let few : length i.0.0.names ≤ 16 = rw says.names (let count = numbered_few (names_in settings) [] in let most = initial.2.few in omega (arith, count, most)) in
+    let rows = laws.rows_takes stop c.0.0 i.0.0.names c.0.1 r.0 few r.1 in
+    let es = placed_in rows.table in
+    let known = numbered i.0.0.names (locations_of es) in
+    let tail_here : tail_at braces stop c.0.0 r.0.names r.0.rest ≡ Ok tail.0 = subst (λ (b : Table). tail_at braces stop b.cores b.rows.names b.rows.rest ≡ Ok tail.0) (sym is_table) tail.1 in
+    let names_are : r.0.names ≡ known = ap (λ (r : Rows). r.names) rows.given in
+    let instrs_are : r.0.instrs ≡ instrs_with known es = ap (λ (r : Rows). r.instrs) rows.given in
+    let ends = tail_takes braces stop c.0.0 known r.0.rest tail.0 laws.closed rows.within.room (subst (λ names. tail_at braces stop c.0.0 names r.0.rest ≡ Ok tail.0) names_are tail_here) in
+    let last : AreLast ps r.0.rest =
+    last_of_last ps c.0.1 r.0.rest (last_of_last ps i.0.1 c.0.1 (laws.last_initial stop [] ps i.0.1 i.0.0 i.1) (laws.last_columns stop i.0.1 c.0.1 c.0.0 c.1))
+    (laws.last_rows stop c.0.0 i.0.0.names c.0.1 r.0 r.1) in
+    let front : terms last.taken ≡ initial.1.ts ++ (columns.ts ++ rows.ts) =
+    cancel_back (terms last.taken) (initial.1.ts ++ (columns.ts ++ rows.ts)) (terms r.0.rest)
+    (sym (terms_append last.taken r.0.rest) ∙ sym (ap terms last.parts) ∙ initial.1.parts
+    ∙ ap (λ (l : List Term). initial.1.ts ++ l) (columns.parts ∙ ap (λ (l : List Term). columns.ts ++ l) rows.parts ∙ sym (append_assoc columns.ts rows.ts (terms r.0.rest)))
+    ∙ sym (append_assoc initial.1.ts (columns.ts ++ rows.ts) (terms r.0.rest))) in
+    let w : Written = written called settings c.0.0 rows.table ends.c in
+    let has : IsTrue (has_cores c.0.0 settings) = says.cores c.0.0 g.0 g.1 in
+    let registers : first_registers settings c.0.0 ≡ g.0 = ok_is (first_registers settings c.0.0) g.0 (sym (says.registers c.0.0 has) ∙ g.1) in
+    let read : test_of called tail.0.1 i.0.0.words b.0.registers b.0.rows.instrs tail.0.0 ≡ t = ok_is (test_of called tail.0.1 i.0.0.words b.0.registers b.0.rows.instrs tail.0.0) t tail.2 in
+    let table_read : test_of called tail.0.1 i.0.0.words g.0 r.0.instrs tail.0.0 ≡ t = subst (λ (b : Table). test_of called tail.0.1 i.0.0.words b.registers b.rows.instrs tail.0.0 ≡ t) (sym is_table) read in
+    let gives : parts_give w i.0.0 ≡ t =
+    subst (λ registers. test_of called (given known ends.c).1 i.0.0.words registers (instrs_with known es) (given known ends.c).0 ≡ t) (sym registers)
+    (subst (λ instrs. test_of called (given known ends.c).1 i.0.0.words g.0 instrs (given known ends.c).0 ≡ t) instrs_are
+    (subst (λ (g' : Given). test_of called g'.1 i.0.0.words g.0 r.0.instrs g'.0 ≡ t) ends.gives table_read)) in
+    record {
+      w = w;
+      named = refl;
+      body = record {
+        initial = initial.1.ts;
+        columns = columns.ts;
+        rows = rows.ts;
+        front = last.taken;
+        ending = r.0.rest;
+        parts = last.parts;
+        tokens = front;
+        is_initial = initial.1.is;
+        is_header_row = columns.is;
+        are_rows = rows.are;
+        is_ending = ends.ending;
+      };
+      limits = record {
+        settings = initial.2;
+        cores = has;
+        rows = subst (λ names. AreWithin names es) says.names rows.within;
+        condition = subst (λ names. IsAskedWithin c.0.0 (numbered names (locations_of es)) ends.c) says.names ends.within;
+      };
+      says = sym gives ∙ parts_are w i.0.0 says;
+    }
+
+sized_taken : (text bytes : List ℕ) → sized text ≡ Ok bytes → (length text ≤ MAX_TEXT) × (text ≡ bytes)
+sized_taken text bytes e =
+    elim (chosen (ltb MAX_TEXT (length text)) _ (Ok text) (Ok bytes) e) [
+      | inl hit ↦ absurd cc
+      | inr miss ↦ (ltb-false _ _ miss.0, ok_is text bytes miss.1)
+    ]
+
+pub text_takes : (text : List ℕ) (t : Litmus) → Parts → reading_of text ≡ Ok t → SpellsTest text t
+unfolding reading_of
+text_takes text t laws e =
+    let s = bind_ok (sized text) _ t e in
+    let small = sized_taken text s.0 s.1 in
+    let h = bind_ok (header_at s.0) _ t s.2 in
+    let b = bind_ok (braces_at h.0.1) _ t h.2 in
+    let header : header_at text ≡ Ok (h.0.0, h.0.1) = subst (λ bytes. header_at bytes ≡ Ok (h.0.0, h.0.1)) (sym small.1) h.1 in
+    let k = body_taken h.0.0 b.0 t laws b.2 in
+    record {
+      written = k.w;
+      is = record {
+        small = small.0;
+        behind = h.0.1;
+        braces = b.0;
+        header = subst (λ called. IsHeaderLine text called h.0.1) (sym k.named) (laws.header_takes text h.0.0 h.0.1 header);
+        information = laws.information_takes h.0.1 b.0 b.1;
+        body = k.body;
+      };
+      limits = k.limits;
+      says = k.says;
+    }
+
+pub spelled_where_read : {E : Type 0} (r : Result Litmus E) (text : List ℕ) → ((text : List ℕ) (t : Litmus) → reading_of text ≡ Ok t → SpellsTest text t)
+    → IfOk r (λ t. reading_of text ≡ Ok t) → IfOk r (λ t. SpellsTest text t)
+spelled_where_read (Ok t) text law is = law text t is
+spelled_where_read (Err e) text law is = tt

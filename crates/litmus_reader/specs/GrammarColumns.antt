@@ -1,0 +1,18 @@
+-- Which tokens spell a header row of so many cores. (This project's profile.)
+use Rattle.std.specs.Prelude.{◌≤◌, ℕ, ◌+◌, List, [], ◌∷◌}
+use Rattle.tso_model.specs.declared.limits.TheConstants.{MAX_CORES}
+use Rattle.litmus_tokens.specs.declared.token.Symbol.TheVariants.{Semicolon, Bar}
+use Rattle.litmus_tokens.specs.Terms.{Term, name, symbol}
+use Rattle.litmus_reader.specs.Columns.{core_name}
+
+-- the columns from this core's on, and how many cores there are with them
+pub data AreColumns : ℕ → List Term → ℕ → Type 0 where
+  -- `P3 ;`
+  last : (core : ℕ) → AreColumns core (name (core_name core) ∷ symbol Semicolon ∷ []) (core + 1)
+  -- `P2 |` and the columns of the cores behind this one
+  more : (core : ℕ) (ts : List Term) (cores : ℕ) → AreColumns (core + 1) ts cores → AreColumns core (name (core_name core) ∷ symbol Bar ∷ ts) cores
+
+-- `P0`, `P1`, .. parted by vertical bars and ended by `;`
+pub record IsHeaderRow (ts : List Term) (cores : ℕ) : Type 0 where
+  pub columns : AreColumns 0 ts cores
+  pub few : cores ≤ MAX_CORES

@@ -1,0 +1,59 @@
+-- Which tokens and bytes spell what stands behind the rows: perhaps `locations [..]`, which has no effect, and perhaps a
+-- condition, up to the end of the text. (This project's profile.)
+use Rattle.std.specs.Prelude.{◌≡◌, ◌≤◌, ℕ, List, [], ◌∷◌, length, codes, Option, Some, None}
+use Rattle.tso_model.specs.Condition.{Condition}
+use Rattle.tso_model.specs.declared.condition.Quantifier.{Quantifier}
+use Rattle.tso_model.specs.declared.limits.TheConstants.{MAX_LOCATIONS}
+use Rattle.litmus_tokens.specs.declared.token.Stop.{Stop}
+use Rattle.litmus_tokens.specs.declared.token.Stop.TheVariants.{End}
+use Rattle.litmus_tokens.specs.declared.token.Symbol.TheVariants.{OpenSquare}
+use Rattle.litmus_tokens.specs.Terms.{Term, name, symbol}
+use Rattle.litmus_tokens.specs.Pieces.{Piece, pieces_of}
+use Rattle.litmus_reader.specs.Observed.{from_place}
+use Rattle.litmus_reader.specs.Grammar.{terms}
+use Rattle.litmus_reader.specs.GrammarNames.{numbered}
+use Rattle.litmus_reader.specs.GrammarConditions.{Phrase, IsCondition, IsWithin, locations_in, claim_of}
+use Rattle.litmus_reader.specs.GrammarText.{ClosesBrackets}
+
+-- a condition as it is written
+pub record Asked : Type 0 where
+  pub quantifier : Quantifier
+  pub phrase : Phrase
+
+abbrev pub asked : Quantifier → Phrase → Option Asked
+asked quantifier phrase = Some (record { quantifier = quantifier; phrase = phrase })
+
+-- nothing, or a condition
+pub data MayAsk : List Term → Option Asked → Type 0 where
+  nothing : MayAsk [] None
+  a_condition : (ts : List Term) (quantifier : Quantifier) (phrase : Phrase) → IsCondition ts quantifier phrase → MayAsk ts (asked quantifier phrase)
+
+-- the tokens up to the end of the text are nothing, or a condition
+pub record EndsText (stop : Stop) (ps : List Piece) (c : Option Asked) : Type 0 where
+  pub ended : stop ≡ End
+  pub is : MayAsk (terms ps) c
+
+-- what stands behind the rows of a text whose tokens are these
+pub data IsEnding (text : List ℕ) (stop : Stop) : List Piece → Option Asked → Type 0 where
+  at_once : (ps : List Piece) (c : Option Asked) → EndsText stop ps c → IsEnding text stop ps c
+  -- behind `locations [..]`; any bytes may stand in the brackets, and behind them tokens begin anew
+  behind_locations : (word opener : Piece) (ps : List Piece) (bytes : List ℕ) (c : Option Asked)
+      → word.term ≡ name (codes "locations") → opener.term ≡ symbol OpenSquare → ClosesBrackets (from_place text opener.left) bytes
+      → EndsText (pieces_of bytes).1 (pieces_of bytes).0 c → IsEnding text stop (word ∷ opener ∷ ps) c
+
+-- ---- what it says
+
+-- the names of the locations in their order
+abbrev pub names_asked : Option Asked → List (List ℕ)
+names_asked None = []
+names_asked (Some c) = locations_in c.phrase
+
+-- the condition, where these are the names of the locations by their numbers
+abbrev pub condition_of : List (List ℕ) → Option Asked → Option Condition
+condition_of names None = None
+condition_of names (Some c) = Some (record { quantifier = c.quantifier; claim = claim_of names c.phrase })
+
+-- behind what named these locations, it is within the limits of a test with so many cores
+abbrev pub IsAskedWithin : ℕ → List (List ℕ) → Option Asked → Type 0
+IsAskedWithin cores names None = length names ≤ MAX_LOCATIONS
+IsAskedWithin cores names (Some c) = IsWithin cores 0 names c.phrase

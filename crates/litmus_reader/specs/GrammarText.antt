@@ -1,0 +1,71 @@
+-- Which bytes spell a header line, information lines, and the brackets of `locations [..]`. White space and comments,
+-- and that they end, are the lexical layer's. (This project's profile.)
+use Rattle.std.specs.Prelude.{◌≡◌, ℕ, Bool, List, [], ◌∷◌, ◌++◌, codes, None, Ok, IsTrue, IsFalse, ◌==◌, not}
+use Rattle.std.specs.List.{list_all}
+use Rattle.std.specs.Char.{is_ascii_alphabetic}
+use Rattle.tso_model.specs.Names.{is_test_name}
+use Rattle.litmus_tokens.specs.Gap.{gap_end}
+use Rattle.litmus_reader.specs.Header.{is_blank, is_margin}
+use Rattle.litmus_reader.specs.Information.{continues_key}
+
+-- behind white space and comments stand these bytes
+abbrev pub IsBehindGap : List ℕ → List ℕ → Type 0
+IsBehindGap bytes at = gap_end None bytes ≡ Ok at
+
+-- ---- lines
+
+-- not LF
+abbrev pub is_in_line : ℕ → Bool
+is_in_line b = not (b == 10)
+
+-- bytes that begin with this line, and what stands behind it
+pub data EndsLine : List ℕ → List ℕ → List ℕ → Type 0 where
+  with_feed : (line behind : List ℕ) → IsTrue (list_all is_in_line line) → EndsLine (line ++ 10 ∷ behind) line behind
+  at_end : (line : List ℕ) → IsTrue (list_all is_in_line line) → EndsLine line line []
+
+-- ---- the header line
+
+-- `X86`, a space or tab, and the name with spaces, tabs and CRs before and behind it
+pub record NamesTest (line name : List ℕ) : Type 0 where
+  pub blank : ℕ
+  pub before : List ℕ
+  pub after : List ℕ
+  pub parts : line ≡ codes "X86" ++ blank ∷ before ++ name ++ after
+  pub is_blank : IsTrue (is_blank blank)
+  pub margin_before : IsTrue (list_all is_margin before)
+  pub margin_after : IsTrue (list_all is_margin after)
+  pub good : IsTrue (is_test_name name)
+
+-- a text that begins with a header line of this name, and what stands behind that line
+pub record IsHeaderLine (text name behind : List ℕ) : Type 0 where
+  pub at : List ℕ
+  pub line : List ℕ
+  pub gap : IsBehindGap text at
+  pub ends : EndsLine at line behind
+  pub names : NamesTest line name
+
+-- ---- information lines
+
+-- not a quotation mark
+abbrev pub is_quoted : ℕ → Bool
+is_quoted b = not (b == 34)
+
+-- bytes that begin with a quotation or a key line, and what stands behind it
+pub data IsInformation : List ℕ → List ℕ → Type 0 where
+  -- `"..."`
+  quotation : (inside behind : List ℕ) → IsTrue (list_all is_quoted inside) → IsInformation (34 ∷ inside ++ 34 ∷ behind) behind
+  -- a letter, then letters, digits, `_`, `-`, spaces and tabs, then `=` and anything to the line's end
+  key_line : (letter : ℕ) (key rest value behind : List ℕ) → IsTrue (is_ascii_alphabetic letter) → IsTrue (list_all continues_key key) → EndsLine rest value behind
+      → IsInformation (letter ∷ key ++ 61 ∷ rest) behind
+
+-- bytes that begin with any number of these, and what stands from the `{` behind them on
+pub data AreInformationLines : List ℕ → List ℕ → Type 0 where
+  none : (bytes rest : List ℕ) → IsBehindGap bytes (123 ∷ rest) → AreInformationLines bytes (123 ∷ rest)
+  more : (bytes at behind braces : List ℕ) → IsBehindGap bytes at → IsInformation at behind → AreInformationLines behind braces → AreInformationLines bytes braces
+
+-- ---- `locations [..]`
+
+-- bytes with a `]` outside comments, and what stands behind the first
+pub data ClosesBrackets : List ℕ → List ℕ → Type 0 where
+  here : (bytes rest : List ℕ) → IsBehindGap bytes (93 ∷ rest) → ClosesBrackets bytes rest
+  further : (bytes : List ℕ) (b : ℕ) (bs rest : List ℕ) → IsBehindGap bytes (b ∷ bs) → IsFalse (b == 93) → ClosesBrackets bs rest → ClosesBrackets bytes rest
