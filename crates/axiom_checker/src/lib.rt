@@ -11,8 +11,6 @@ mod check;
 mod entries;
 pub mod laws;
 mod programs;
-#[cfg(test)]
-mod tests;
 
 pub use breach::Breach;
 pub use check::check_order;

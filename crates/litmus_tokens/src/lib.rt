@@ -16,5 +16,3 @@ pub use lexing::{tokens_of, word};
 pub use line::line_of;
 pub use token::{Lexeme, Stop, Symbol, Token, Tokens};
 
-#[cfg(test)]
-mod tests;

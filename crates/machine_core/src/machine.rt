@@ -118,6 +118,3 @@ impl<'a> Machine<'a> {
         })
     }
 }
-
-#[cfg(test)]
-mod tests;

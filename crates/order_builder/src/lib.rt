@@ -9,8 +9,6 @@ pub mod laws;
 mod lines;
 pub mod printing;
 pub mod reading;
-#[cfg(test)]
-mod tests;
 
 pub use commits::{Commits, build};
 pub use fault::OrderFault;

@@ -6,8 +6,6 @@ pub mod fault;
 mod item;
 mod numbers;
 mod seeds;
-#[cfg(test)]
-mod tests;
 mod words;
 
 pub use choices::{MAX_CHOICES, read_choices, spelled_cores_exist, texts_are_decided};

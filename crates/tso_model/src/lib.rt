@@ -14,8 +14,6 @@ pub mod litmus;
 pub mod memory;
 pub mod names;
 pub mod register;
-#[cfg(test)]
-mod tests;
 pub mod thread;
 mod validity;
 

@@ -1,7 +1,9 @@
-use crate::{ChoiceFault, MAX_CHOICES, read_choices, seeded_choices, texts_are_decided};
+//! Texts of choices: what they say, their limits, and the words of seeds.
+
 use rand_core::SeedableRng;
 use rand_core::utils::NextWord;
 use rand_pcg::Lcg64Xsh32;
+use scheduler::{ChoiceFault, MAX_CHOICES, read_choices, seeded_choices, texts_are_decided};
 use std::test::Fail;
 use tso_model::{Choice, Core};
 

@@ -1,30 +1,10 @@
-use crate::laws::order_can_be_printed;
-use crate::*;
-use std::alloc::Global;
+//! Texts of orders: printed, read, and refused.
+
+use crate::inputs::{X, Y, entry, test_of};
+use order_builder::laws::order_can_be_printed;
+use order_builder::*;
 use std::test::Fail;
-use tso_model::{Core, Entry, Execution, Kind, Loc, NoMemory, Test, TestParts};
-
-fn string(alloc: Global, text: &str) -> Result<String, NoMemory> {
-    Ok(String::from_str(alloc, text)?)
-}
-
-// A test with two cores, no instructions, and the locations x and y.
-fn parts(alloc: Global) -> Result<TestParts, NoMemory> {
-    let mut locations = Vec::new(alloc);
-    locations.push(string(alloc, "x")?)?;
-    locations.push(string(alloc, "y")?)?;
-    let mut programs = Vec::new(alloc);
-    programs.push(Vec::new(alloc))?;
-    programs.push(Vec::new(alloc))?;
-    Ok(TestParts {
-        name: string(alloc, "t")?,
-        locations,
-        words: vec![in alloc; 0, 0]?,
-        registers: vec![in alloc; [0; 6]; 2]?,
-        programs,
-        cond: None,
-    })
-}
+use tso_model::Kind;
 
 const BOTH_LOADS_PASS: &str = "Order
 P0:1 R y=0
@@ -45,7 +25,7 @@ Endorder 3
 fn an_order_is_printed_as_it_was_read(rt: HostRuntime) -> Result<(), Fail> {
     order_can_be_printed();
     let alloc = rt.alloc();
-    let test = Test::new(parts(alloc)?).ok_or("a test")?;
+    let test = test_of(alloc, &[&[], &[]])?;
     for text in [BOTH_LOADS_PASS, EACH_KIND] {
         let read = read_order(alloc, &test, text.as_bytes())?;
         let printed = order_text(alloc, &test, &read)?;
@@ -57,30 +37,11 @@ fn an_order_is_printed_as_it_was_read(rt: HostRuntime) -> Result<(), Fail> {
 #[test]
 fn entries_are_read_with_their_parts(rt: HostRuntime) -> Result<(), Fail> {
     let alloc = rt.alloc();
-    let test = Test::new(parts(alloc)?).ok_or("a test")?;
+    let test = test_of(alloc, &[&[], &[]])?;
     let read = read_order(alloc, &test, EACH_KIND.as_bytes())?;
-    let last = Core(255);
-    let load = Entry {
-        core: last,
-        place: 255,
-        kind: Kind::LR,
-        loc: Loc(0),
-        value: 4294967295,
-    };
-    let store = Entry {
-        core: last,
-        place: 255,
-        kind: Kind::LW,
-        loc: Loc(1),
-        value: 0,
-    };
-    let fence = Entry {
-        core: Core(0),
-        place: 10,
-        kind: Kind::F,
-        loc: Loc(0),
-        value: 0,
-    };
+    let load = entry(255, 255, Kind::LR, X, 4294967295);
+    let store = entry(255, 255, Kind::LW, Y, 0);
+    let fence = entry(0, 10, Kind::F, X, 0);
     assert_eq!(rt; read.order.as_slice(), [load, store, fence].as_slice());
     let printed = entry_text(alloc, &test, &fence)?;
     assert_eq!(rt; printed.as_str(), "P0:10 F");
@@ -90,7 +51,7 @@ fn entries_are_read_with_their_parts(rt: HostRuntime) -> Result<(), Fail> {
 #[test]
 fn an_order_is_read_in_the_midst_of_a_report(rt: HostRuntime) -> Result<(), Fail> {
     let alloc = rt.alloc();
-    let test = Test::new(parts(alloc)?).ok_or("a test")?;
+    let test = test_of(alloc, &[&[], &[]])?;
     let good = [
         ("P9:9 \nOrder\nP0:0 R x=0\nEndorder 1\nOrder\nnonsense\n", 1),
         ("Order\r\nP0:0 R x=0\r\nEndorder 1\r", 1),
@@ -107,7 +68,7 @@ fn an_order_is_read_in_the_midst_of_a_report(rt: HostRuntime) -> Result<(), Fail
 #[test]
 fn a_text_without_an_order_has_its_first_fault(rt: HostRuntime) -> Result<(), Fail> {
     let alloc = rt.alloc();
-    let test = Test::new(parts(alloc)?).ok_or("a test")?;
+    let test = test_of(alloc, &[&[], &[]])?;
     let report = "Test n6\nMachine flat depth=4\nOrder\nP0:1 R x=1\nP0:2 R y=";
     let bad = [
         (report, OrderFault::BadLine(5)),

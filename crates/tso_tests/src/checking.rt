@@ -1,34 +1,10 @@
-//! Tests of what no clause says: that an order is judged where memory is there. The breaches have rows
-//! of the program's own, which name them all.
+//! Orders that are judged: what rows of the program cannot show, and one that is valid.
 
-use crate::{Breach, check_order};
+use crate::inputs::{X, Y, entry, test_of};
+use axiom_checker::{Breach, check_order};
 use std::alloc::Global;
 use std::test::Fail;
-use tso_model::{Core, Entry, Execution, Instr, Kind, Loc, Reg, Test, TestParts};
-
-const X: Loc = Loc(0);
-
-const Y: Loc = Loc(1);
-
-// Two locations x and y that begin as 0, and a core for each program.
-fn test_of(alloc: Global, programs: &[&[Instr]]) -> Result<Test, Fail> {
-    let mut locations = Vec::new(alloc);
-    locations.push(String::from_str(alloc, "x")?)?;
-    locations.push(String::from_str(alloc, "y")?)?;
-    let mut parts = TestParts {
-        name: String::from_str(alloc, "t")?,
-        locations,
-        words: vec![in alloc; 0, 0]?,
-        registers: Vec::new(alloc),
-        programs: Vec::new(alloc),
-        cond: None,
-    };
-    for program in programs {
-        parts.registers.push([0; 6])?;
-        parts.programs.push(program.to_vec(alloc)?)?;
-    }
-    Ok(Test::new(parts).ok_or("within the limits")?)
-}
+use tso_model::{Core, Entry, Execution, Instr, Kind, Loc, Reg, Test};
 
 // Both cores store and then load what the other stores.
 fn store_buffering(alloc: Global) -> Result<Test, Fail> {
@@ -47,17 +23,6 @@ fn load_then_store(alloc: Global) -> Result<Test, Fail> {
         alloc,
         &[&[Instr::Load(Reg::Eax, X), Instr::StoreReg(Y, Reg::Eax)]],
     )
-}
-
-fn entry(core: u8, place: u8, kind: Kind, loc: Loc, value: u32) -> Entry {
-    let core = Core(core);
-    Entry {
-        core,
-        place,
-        kind,
-        loc,
-        value,
-    }
 }
 
 fn check(alloc: Global, test: &Test, order: &[Entry]) -> Result<Result<(), Breach>, Fail> {

@@ -1,6 +1,6 @@
-//! Tests of what no clause says: that a text has the tokens and places that one counts by hand.
+//! Tokens of a text, and their places, as one counts them by hand.
 
-use crate::{
+use litmus_tokens::{
     Stop, Symbol, Token, after_gap, after_symbol, line_of, name_at, number_at, tokens_of, word,
 };
 use std::test::Fail;

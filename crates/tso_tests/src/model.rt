@@ -1,6 +1,8 @@
-use crate::*;
+//! A test and its limits, a thread's entries, names of registers, and conditions.
+
 use std::alloc::Global;
 use std::test::Fail;
+use tso_model::*;
 
 fn string(alloc: Global, text: &str) -> Result<String, NoMemory> {
     Ok(String::from_str(alloc, text)?)
