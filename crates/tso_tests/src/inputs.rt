@@ -1,4 +1,5 @@
 //! Small tests and entries that the other modules share.
+ghost use Rattle.std.specs.Prelude.{◌≡◌};
 
 use std::alloc::Global;
 use std::test::Fail;
@@ -28,7 +29,9 @@ pub fn test_of(alloc: Global, programs: &[&[Instr]]) -> Result<Test, Fail> {
     Ok(Test::new(parts).ok_or("within the limits")?)
 }
 
-pub fn entry(core: u8, place: u8, kind: Kind, loc: Loc, value: u32) -> Entry {
+pub fn entry(core: u8, place: u8, kind: Kind, loc: Loc, value: u32) -> Entry
+    ensures { result ≡ record { core = record { 0 = core }; place = place; kind = kind; loc = loc; value = value } }
+{
     let core = Core(core);
     Entry {
         core,

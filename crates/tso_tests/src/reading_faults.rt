@@ -1,5 +1,4 @@
-//! Tests of what no clause says: that texts are refused with the lines that one counts by hand, and
-//! where the limits lie.
+//! Tests of what no clause says: that texts are refused with the lines that one counts by hand.
 
 use litmus_reader::{TextFault, Why, read_test};
 use std::test::Fail;
@@ -168,102 +167,6 @@ fn refusals(rt: HostRuntime) {
             "line {line} {why}"
         );
     }
-}
-
-#[test]
-fn limits(rt: HostRuntime) -> Result<(), Fail> {
-    let mut text = String::from_str(rt.alloc(), "X86 t\n{ }\nP0;\n")?;
-    for number in 0..16 {
-        let row = format!(in rt.alloc(); "MOV [x{number}],1;\n")?;
-        text.push_str(&row)?;
-    }
-    assert_eq!(rt; refusal(rt.alloc(), text.as_bytes()), None);
-    text.push_str("MOV [y],1;\n")?;
-    assert_eq!(rt;
-        refusal(rt.alloc(), text.as_bytes()),
-        fault(20, Why::TooLarge)
-    );
-
-    let mut text = String::from_str(rt.alloc(), "X86 t\n{ }\nP0;\n")?;
-    for _ in 0..32 {
-        text.push_str("MFENCE;;\n")?;
-    }
-    assert_eq!(rt; refusal(rt.alloc(), text.as_bytes()), None);
-    text.push_str("MFENCE;\n")?;
-    assert_eq!(rt;
-        refusal(rt.alloc(), text.as_bytes()),
-        fault(36, Why::TooLarge)
-    );
-
-    let mut text = String::from_str(rt.alloc(), "X86 t\n{ }\nP0;\nexists (x=0")?;
-    for _ in 0..255 {
-        text.push_str("\n/\\ x=1")?;
-    }
-    text.push_str(")")?;
-    assert_eq!(rt; refusal(rt.alloc(), text.as_bytes()), None);
-    text.pop();
-    text.push_str("\n/\\ x=1)")?;
-    assert_eq!(rt;
-        refusal(rt.alloc(), text.as_bytes()),
-        fault(260, Why::TooLarge)
-    );
-
-    let mut text = String::from_str(rt.alloc(), "X86 t\n{ }\nP0;\n~exists not ~ true /\\ (")?;
-    for _ in 0..31 {
-        text.push_str("~(")?;
-    }
-    text.push_str("not x=1")?;
-    for _ in 0..32 {
-        text.push_str(")")?;
-    }
-    assert_eq!(rt; refusal(rt.alloc(), text.as_bytes()), None);
-    text.push_str("/\\ (((")?;
-    for _ in 0..61 {
-        text.push_str("not ")?;
-    }
-    text.push_str("true /\\ \n (~false)")?;
-    assert_eq!(rt;
-        refusal(rt.alloc(), text.as_bytes()),
-        fault(5, Why::BadCondition)
-    );
-    text.push_str(" \\/ \n")?;
-    for _ in 0..61 {
-        text.push_str("(")?;
-    }
-    text.push_str("\n ~ true")?;
-    assert_eq!(rt;
-        refusal(rt.alloc(), text.as_bytes()),
-        fault(7, Why::TooLarge)
-    );
-
-    let mut text = String::from_str(rt.alloc(), "X86 ")?;
-    for _ in 0..64 {
-        text.push_str("n")?;
-    }
-    text.push_str("\n{ }\nP0;")?;
-    assert_eq!(rt; refusal(rt.alloc(), text.as_bytes()), None);
-    text.clear();
-    text.push_str("X86 n")?;
-    for _ in 0..64 {
-        text.push_str("n")?;
-    }
-    text.push_str("\n{ }\nP0;")?;
-    assert_eq!(rt;
-        refusal(rt.alloc(), text.as_bytes()),
-        fault(1, Why::TooLarge)
-    );
-
-    let mut text = String::from_str(rt.alloc(), "\n\nX86 t\n{ }\nP0;")?;
-    for _ in text.len()..65_536 {
-        text.push_str(" ")?;
-    }
-    assert_eq!(rt; refusal(rt.alloc(), text.as_bytes()), None);
-    text.push_str(" ")?;
-    assert_eq!(rt;
-        refusal(rt.alloc(), text.as_bytes()),
-        fault(1, Why::TooLarge)
-    );
-    Ok(())
 }
 
 #[test]
