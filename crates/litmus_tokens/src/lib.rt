@@ -15,4 +15,3 @@ pub use gap::after_gap;
 pub use lexing::{tokens_of, word};
 pub use line::line_of;
 pub use token::{Lexeme, Stop, Symbol, Token, Tokens};
-
