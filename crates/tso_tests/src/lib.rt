@@ -6,6 +6,8 @@
 #[cfg(test)]
 mod buffers;
 #[cfg(test)]
+mod bus;
+#[cfg(test)]
 mod caches;
 #[cfg(test)]
 mod checking;

@@ -1,0 +1,100 @@
+-- A write access, from what each of its steps gives.
+use Rattle.std.proofs.Common.{◌≡◌, ◌≢◌, ℕ, ◌<◌, not, ◌&&◌, Bool, true, false, nat_eq, Option, Some, None, option_map, List, length, refl, ap, ◌∙◌, slice_index, if◌then◌else◌}
+use Rattle.protocol_tables.specs.Laws.{GivesUp, in_place}
+use Rattle.protocol_tables.specs.declared.state.State.{State}
+use Rattle.protocol_tables.specs.declared.state.State.TheVariants.{I, S, E, O, M}
+use Rattle.protocol_tables.specs.declared.state.Snoop.{Snoop}
+use Rattle.cache_set.specs.declared.Line.{Line}
+use Rattle.cache_set.specs.Copy.{copy_with, with_state, with_word}
+use Rattle.snoop_bus.specs.Coherent.{Coherent}
+use Rattle.snoop_bus.specs.Copies.{Sets, copy_at}
+use Rattle.snoop_bus.specs.Bus.{seen, AllCoherent}
+use Rattle.snoop_bus.specs.Requests.{copy_if, left_by, LeftByOthers, ChangesCopy}
+use Rattle.snoop_bus.proofs.Numbers.{differ, itself}
+use Rattle.snoop_bus.proofs.Coherence.{alone}
+use Rattle.snoop_bus.proofs.OwnLemmas.{Owned}
+
+-- GetM leaves no copy
+pub gives_up : (on : State → Snoop) → GivesUp on → (o : Option Line) → left_by on o ≡ None
+gives_up on law None = refl
+gives_up on law (Some copy) = ap (λ (s : State). copy_if s copy.word) (law copy.state).0
+
+-- a copy that is written in place becomes M
+pub written_m : (s next : State) → in_place s ≡ Some next → next ≡ M
+written_m I next e = cc
+written_m S next e = cc
+written_m E next e = cc
+written_m O next e = cc
+written_m M next e = cc
+
+here_now : (core line : ℕ) (o : Option Line) (c0 c2 : List Sets) → ChangesCopy core line o c0 c2 → copy_at c2 core line ≡ o
+here_now core line o c0 c2 h = rw (itself core, itself line) at (h core line)
+
+other_core : (core line : ℕ) (o : Option Line) (c0 c2 : List Sets) → ChangesCopy core line o c0 c2 → (i k : ℕ) → i ≢ core → copy_at c2 i k ≡ copy_at c0 i k
+other_core core line o c0 c2 h i k d = let e : nat_eq i core ≡ false = differ i core d in rw e at (h i k)
+
+other_line : (core line : ℕ) (o : Option Line) (c0 c2 : List Sets) → ChangesCopy core line o c0 c2 → (i k : ℕ) → k ≢ line → copy_at c2 i k ≡ copy_at c0 i k
+other_line core line o c0 c2 h i k d = let e : nat_eq k line ≡ false = differ k line d in by_core (nat_eq i core) (rw e at (h i k))
+  where
+    by_core : (b : Bool) → copy_at c2 i k ≡ (if b && false then o else copy_at c0 i k) → copy_at c2 i k ≡ copy_at c0 i k
+    by_core true p = p
+    by_core false p = p
+
+-- a write hit: the copy was in M or E, so no other core has one
+pub hit_owned : (c0 c2 : List Sets) (m : List ℕ) (core line : ℕ) (copy : Line) (next : State) → AllCoherent c0 m → line < length m →
+    copy_at c0 core line ≡ Some copy → in_place copy.state ≡ Some next → ChangesCopy core line (option_map (with_state next) (copy_at c0 core line)) c0 c2 →
+    Owned c0 c2 m core line (seen c0 m line)
+hit_owned c0 c2 m core line copy next h within here writes to =
+    let was : Coherent (seen c0 m line) (slice_index m line) (λ i. copy_at c0 i line) = h.each line within in
+    let word : copy.word ≡ seen c0 m line = was.same core copy here in
+    let to_m : next ≡ M = written_m copy.state next writes in
+    record {
+      coherent = h;
+      line_in = within;
+      here = here_now core line (option_map (with_state next) (copy_at c0 core line)) c0 c2 to ∙ rw (here, to_m, word) refl;
+      alone = λ i d. other_core core line (option_map (with_state next) (copy_at c0 core line)) c0 c2 to i line d
+          ∙ alone (seen c0 m line) (slice_index m line) core (λ i. copy_at c0 i line) copy was here (rw to_m at writes) i d;
+      elsewhere = λ i k d. other_line core line (option_map (with_state next) (copy_at c0 core line)) c0 c2 to i k d;
+    }
+
+-- an upgrade: the others gave their copies up
+pub upgrade_owned : (on : State → Snoop) → GivesUp on → (c0 c1 c2 : List Sets) (m : List ℕ) (core line : ℕ) (copy : Line) → AllCoherent c0 m → line < length m →
+    copy_at c0 core line ≡ Some copy → LeftByOthers on core line c0 c1 → ChangesCopy core line (option_map (with_state M) (copy_at c1 core line)) c1 c2 →
+    Owned c0 c2 m core line (seen c0 m line)
+upgrade_owned on law c0 c1 c2 m core line copy h within here left to =
+    let was : Coherent (seen c0 m line) (slice_index m line) (λ i. copy_at c0 i line) = h.each line within in
+    let word : copy.word ≡ seen c0 m line = was.same core copy here in
+    record {
+      coherent = h;
+      line_in = within;
+      here = here_now core line (option_map (with_state M) (copy_at c1 core line)) c1 c2 to ∙ rw (kept, here, word) refl;
+      alone = λ i d. other_core core line (option_map (with_state M) (copy_at c1 core line)) c1 c2 to i line d ∙ lost i d;
+      elsewhere = λ i k d. other_line core line (option_map (with_state M) (copy_at c1 core line)) c1 c2 to i k d ∙ unseen i k d;
+    }
+  where
+    kept : copy_at c1 core line ≡ copy_at c0 core line
+    kept = rw (itself core) at (left core line)
+
+    lost : (i : ℕ) → i ≢ core → copy_at c1 i line ≡ None
+    lost i d = let e : nat_eq i core ≡ false = differ i core d in let a : copy_at c1 i line ≡ left_by on (copy_at c0 i line) = rw (e, itself line) at (left i line) in a ∙ gives_up on law (copy_at c0 i line)
+
+    unseen : (i k : ℕ) → k ≢ line → copy_at c1 i k ≡ copy_at c0 i k
+    unseen i k d = let e : nat_eq k line ≡ false = differ k line d in by_core (nat_eq i core) (rw e at (left i k))
+      where
+        by_core : (b : Bool) → copy_at c1 i k ≡ (if not b && false then left_by on (copy_at c0 i k) else copy_at c0 i k) → copy_at c1 i k ≡ copy_at c0 i k
+        by_core true p = p
+        by_core false p = p
+
+-- a word is written to a copy in M
+pub write_owned : (c0 c2 : List Sets) (m : List ℕ) (core line old w : ℕ) → AllCoherent c0 m → line < length m →
+    copy_at c0 core line ≡ Some (copy_with M old) → ChangesCopy core line (option_map (with_word w) (copy_at c0 core line)) c0 c2 → Owned c0 c2 m core line w
+write_owned c0 c2 m core line old w h within here to =
+    let was : Coherent (seen c0 m line) (slice_index m line) (λ i. copy_at c0 i line) = h.each line within in
+    record {
+      coherent = h;
+      line_in = within;
+      here = here_now core line (option_map (with_word w) (copy_at c0 core line)) c0 c2 to ∙ rw here refl;
+      alone = λ i d. other_core core line (option_map (with_word w) (copy_at c0 core line)) c0 c2 to i line d
+          ∙ alone (seen c0 m line) (slice_index m line) core (λ i. copy_at c0 i line) (copy_with M old) was here refl i d;
+      elsewhere = λ i k d. other_line core line (option_map (with_word w) (copy_at c0 core line)) c0 c2 to i k d;
+    }

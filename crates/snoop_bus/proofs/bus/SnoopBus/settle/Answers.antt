@@ -1,0 +1,17 @@
+use Rattle.std.proofs.Common.{rules}
+use Rattle.std.proofs.lemmas.List.{with_items_is}
+use Rattle.snoop_bus.proofs.WordLemmas.{words-same, words-all}
+use Rattle.snoop_bus.proofs.bus.SnoopBus.settle.Goals as goal
+
+pub returns-clause-words : goal.returns-clause-words
+returns-clause-words g c =
+    let cs = with_items_is c.self.inside.caches c.settle.new.caches (search rules) in
+    let ms = with_items_is c.self.inside.memory c.settle.new.memory (search rules) in
+    let keeps = rw (c.deref_mut.ensures.value, c.deref_mut-2.ensures.value) at c.settle.ensures.words in
+    rw (← c.self.view_is, cs, ms) (words-same c.self.inside.caches.items c.settle.new.caches c.self.inside.memory.items c.settle.new.memory (search rules) keeps.words)
+
+pub returns-clause-memory : goal.returns-clause-memory
+returns-clause-memory g c =
+    let ms = with_items_is c.self.inside.memory c.settle.new.memory (search rules) in
+    rw (← c.self.view_is, ms) (words-all c.self.inside.caches.items c.self.inside.memory.items c.settle.new.memory (search rules)
+    (rw (c.deref_mut.ensures.value, c.deref_mut-2.ensures.value) at c.settle.ensures.memory))

@@ -1,0 +1,136 @@
+-- What the steps of an access leave: a request is seen by the other caches, and its words are found.
+use Rattle.std.specs.Prelude.{◌≡◌, ◌<◌, ◌⊎◌, ℕ, not, ◌&&◌, List, length, map, Option, Some, None, nat_eq, nat_lt, if◌then◌else◌}
+use Rattle.protocol_tables.specs.declared.state.State.{State}
+use Rattle.protocol_tables.specs.declared.state.State.TheVariants.{I, S, E, O, M}
+use Rattle.protocol_tables.specs.declared.state.Snoop.{Snoop}
+use Rattle.protocol_tables.specs.Tables.{Table}
+use Rattle.protocol_tables.specs.Laws.{is_dirty}
+use Rattle.cache_set.specs.declared.Line.{Line}
+use Rattle.cache_set.specs.Contents.{Contents, with_changed, without}
+use Rattle.cache_set.specs.Copy.{copy_with, with_state}
+use Rattle.snoop_bus.specs.declared.snoop.Request.{Request}
+use Rattle.snoop_bus.specs.declared.snoop.Request.TheVariants.{GetS, GetM}
+use Rattle.snoop_bus.specs.Tags.{TagSet, tag_set, clean}
+use Rattle.snoop_bus.specs.declared.access.Access.{Access}
+use Rattle.snoop_bus.specs.CacheContents.{loaded, written}
+use Rattle.snoop_bus.specs.Copies.{Sets, in_set, copy_in, copy_at, cache_of, tags_of, ways_of}
+use Rattle.snoop_bus.specs.MemoryAfter.{loaded_memory, written_memory}
+use Rattle.snoop_bus.specs.Bus.{AllCoherent, seen}
+
+-- a column of the protocol's table
+abbrev pub asked : Table → Request → State → Snoop
+asked t GetS = t.on_get_s
+asked t GetM = t.on_get_m
+
+-- a set once its copy of a line went to this state: in I it leaves
+abbrev pub next_in : ℕ → State → Contents → Contents
+next_in line I s = without line s
+next_in line S s = with_changed (with_state S) line s
+next_in line E s = with_changed (with_state E) line s
+next_in line O s = with_changed (with_state O) line s
+next_in line M s = with_changed (with_state M) line s
+
+abbrev pub answered_in : (State → Snoop) → ℕ → Option Line → Sets → Sets
+answered_in on_request line None sets = sets
+answered_in on_request line (Some copy) sets = in_set line (next_in line (on_request copy.state).next) sets
+
+-- a core's sets once it saw another's request for a line
+abbrev pub answered : (State → Snoop) → ℕ → Sets → Sets
+answered on_request line sets = answered_in on_request line (copy_in sets line) sets
+
+-- a copy in this state, and none in I
+abbrev pub copy_if : State → ℕ → Option Line
+copy_if I word = None
+copy_if S word = Some (copy_with S word)
+copy_if E word = Some (copy_with E word)
+copy_if O word = Some (copy_with O word)
+copy_if M word = Some (copy_with M word)
+
+-- what another's request leaves of a copy
+abbrev pub left_by : (State → Snoop) → Option Line → Option Line
+left_by on_request None = None
+left_by on_request (Some copy) = copy_if (on_request copy.state).next copy.word
+
+-- every cache below this number has seen the request, but for the one that made it
+abbrev pub SeenBelow : ℕ → (State → Snoop) → ℕ → ℕ → List Sets → List Sets → Type 0
+SeenBelow upto on_request core line old new =
+    (i : ℕ) → cache_of new i ≡ (if nat_lt i upto && not (nat_eq i core) then answered on_request line (cache_of old i) else cache_of old i)
+
+-- the copies once those caches have seen the request
+abbrev pub LeftBelow : ℕ → (State → Snoop) → ℕ → ℕ → List Sets → List Sets → Type 0
+LeftBelow upto on_request core line old new =
+    (i k : ℕ) → copy_at new i k ≡ (if nat_lt i upto && (not (nat_eq i core) && nat_eq k line) then left_by on_request (copy_at old i k) else copy_at old i k)
+
+-- the copies once every cache but one has seen a request for a line
+abbrev pub LeftByOthers : (State → Snoop) → ℕ → ℕ → List Sets → List Sets → Type 0
+LeftByOthers on_request core line old new =
+    (i k : ℕ) → copy_at new i k ≡ (if not (nat_eq i core) && nat_eq k line then left_by on_request (copy_at old i k) else copy_at old i k)
+
+-- one core's copy of one line is this one now, and all others are as they were
+abbrev pub ChangesCopy : ℕ → ℕ → Option Line → List Sets → List Sets → Type 0
+ChangesCopy core line copy old new =
+    (i k : ℕ) → copy_at new i k ≡ (if nat_eq i core && nat_eq k line then copy else copy_at old i k)
+
+-- the copy once its word is in memory too
+abbrev pub clean_copy : Line → Line
+clean_copy copy = copy_with (clean copy.state) copy.word
+
+-- the word that memory gets of a copy: its own where it is dirty, and none of any other
+abbrev pub word_if_dirty : Option Line → ℕ → ℕ
+word_if_dirty None memory = memory
+word_if_dirty (Some copy) memory = (if is_dirty copy.state then copy.word else memory)
+
+-- a line and its state once the line with this number was settled, and once all below it were
+abbrev pub clean_tag_at : ℕ → ℕ × State → ℕ × State
+clean_tag_at line t = if nat_eq line t.0 then (t.0, clean t.1) else t
+
+abbrev pub clean_tag_below : ℕ → ℕ × State → ℕ × State
+clean_tag_below line t = if nat_lt t.0 line then (t.0, clean t.1) else t
+
+abbrev pub cleaned_at : ℕ → TagSet → TagSet
+cleaned_at line s = tag_set (map (clean_tag_at line) s.tags) s.ways
+
+abbrev pub cleaned_below : ℕ → TagSet → TagSet
+cleaned_below line s = tag_set (map (clean_tag_below line) s.tags) s.ways
+
+-- the word of a copy that supplies it
+abbrev pub supplied_of : (State → Snoop) → Option Line → Option ℕ
+supplied_of on_request None = None
+supplied_of on_request (Some copy) = (if (on_request copy.state).supplies then Some copy.word else None)
+
+-- the word of a line: that of a copy that supplies it, or memory's where none does
+abbrev pub Supplied : (State → Snoop) → List Sets → ℕ → ℕ → ℕ → Type 0
+Supplied on_request caches line memory word =
+    ((word ≡ memory) × ((i : ℕ) → i < length caches → supplied_of on_request (copy_at caches i line) ≡ None))
+    ⊎ ((i : ℕ) × (supplied_of on_request (copy_at caches i line) ≡ Some word))
+
+-- the caches and memory are coherent, the words that are seen stay, and so does the room in each set
+pub record KeepsWords (old_caches new_caches : List Sets) (old_memory new_memory : List ℕ) : Type 0 where
+  pub coherent : AllCoherent new_caches new_memory
+  pub words : (k : ℕ) → k < length old_memory → seen new_caches new_memory k ≡ seen old_caches old_memory k
+  pub ways : ways_of new_caches ≡ ways_of old_caches
+
+-- a load answered this word and was this access: what it leaves goes by the protocol's table
+pub record Loads (t : Table) (core line : ℕ) (old_caches new_caches : List Sets) (old_memory new_memory : List ℕ) (word : ℕ) (access : Access) : Type 0 where
+  pub word_is : word ≡ seen old_caches old_memory line
+  pub access_is : access ≡ (loaded t core line (tags_of old_caches)).access
+  pub tags : tags_of new_caches ≡ (loaded t core line (tags_of old_caches)).caches
+  pub memory : new_memory ≡ loaded_memory t core line old_caches old_memory
+
+-- a write access found this word and was this access: the core has the line in M, and what is left goes by
+-- the protocol's table
+pub record Acquires (t : Table) (core line : ℕ) (old_caches new_caches : List Sets) (old_memory new_memory : List ℕ) (word : ℕ) (access : Access) : Type 0 where
+  pub word_is : word ≡ seen old_caches old_memory line
+  pub own : copy_at new_caches core line ≡ Some (copy_with M word)
+  pub access_is : access ≡ (written t core line (tags_of old_caches)).access
+  pub tags : tags_of new_caches ≡ (written t core line (tags_of old_caches)).caches
+  pub memory : new_memory ≡ written_memory t core line old_caches old_memory
+
+-- a write access wrote this word, found that one and was this access: that word alone is seen to change,
+-- and what is left goes by the protocol's table
+pub record Writes (t : Table) (core line new_word : ℕ) (old_caches new_caches : List Sets) (old_memory new_memory : List ℕ) (word : ℕ) (access : Access) : Type 0 where
+  pub word_is : word ≡ seen old_caches old_memory line
+  pub words : (k : ℕ) → k < length old_memory → seen new_caches new_memory k ≡ (if nat_eq k line then new_word else seen old_caches old_memory k)
+  pub access_is : access ≡ (written t core line (tags_of old_caches)).access
+  pub tags : tags_of new_caches ≡ (written t core line (tags_of old_caches)).caches
+  pub memory : new_memory ≡ written_memory t core line old_caches old_memory

@@ -1,0 +1,140 @@
+//! The whole cache of one core. Each step says what it makes of the sets (`exact`), what is then found
+//! at each line (`copies`), and that the room in each set stays (`ways`).
+ghost use Rattle.std.specs.Prelude.{◌≡◌, ◌≢◌, ◌<◌, ℕ, [], Some, None, IsSome, IfOk, IfSome, OnErr, length, map, replicate, slice_index_or, option_copied, option_map, nat_eq, if◌then◌else◌};
+ghost use Rattle.cache_set.specs.Contents.{contents, IsCacheSet, to_front, with_new, victim_of, with_changed, without, after_fill};
+ghost use Rattle.cache_set.specs.Copy.{copy_with, with_state, with_word};
+ghost use Rattle.snoop_bus.specs.Copies.{set_at, in_set, copy_in, AtHome};
+
+use crate::shape::Shape;
+use cache_set::{CacheSet, Line, Victim};
+use protocol_tables::State;
+use std::alloc::Global;
+use std::marker::Model;
+use tso_model::NoMemory;
+
+/// The sets of one core's cache. A line lies in the set whose number is the line's modulo their count.
+#[derive(Drop)]
+pub struct Cache {
+    sets: Vec<CacheSet>,
+}
+
+impl Model for Cache {
+    ghost use Rattle.std.specs.Prelude.{List, ◌<◌, length};
+    ghost use Rattle.cache_set.specs.Contents.{Contents};
+
+    ghost Value = { List Contents };
+
+    ghost view = { λ c. c.sets.items };
+
+    ghost use Rattle.snoop_bus.specs.Copies.{AtHome};
+
+    ghost invariant = { λ c. (0 < length c.sets.items) × AtHome c.sets.items };
+}
+
+impl Cache {
+    /// An empty cache of this shape.
+    pub fn new(alloc: Global, shape: Shape) -> Result<Self, NoMemory>
+        ensures { IfOk result (λ c. c ≡ replicate shape.sets (contents [] shape.ways)) }
+    {
+        let mut sets = Vec::new(alloc);
+        for _ in 0..shape.sets() {
+            let set = CacheSet::new(alloc, shape.ways())?;
+            sets.push(set)?;
+        }
+        Ok(Cache { sets })
+    }
+
+    /// How many sets there are. A line lies in the one whose number is the line's modulo their count.
+    pub fn len(&self) -> usize
+        ensures value { result ≡ length self.now }
+        ensures home { AtHome self.now }
+    {
+        self.sets.len()
+    }
+
+    /// The set with this number.
+    pub fn set(&self, set: u8) -> &CacheSet
+        requires { set < length self.now }
+        ensures { result.now ≡ slice_index_or self.now set (contents [] 1) }
+    {
+        &self.sets[usize::from(set)]
+    }
+
+    /// The copy of a line, if there is one.
+    pub fn look(&self, line: u8) -> Option<&Line>
+        ensures found { option_copied result ≡ copy_in self.now line }
+        ensures valid { IsCacheSet (set_at self.now line) }
+        ensures home { AtHome self.now }
+        ensures not_invalid { IfSome (copy_in self.now line) (λ copy. copy.state ≢ State.I) }
+    {
+        self.sets[usize::from(line) % self.sets.len()].look(line)
+    }
+
+    /// A line that is here was used.
+    pub fn touch(&mut self, line: u8)
+        requires { IsSome (copy_in self.old line) }
+        ensures exact { self.new ≡ in_set line (to_front line) self.old }
+        ensures valid { IsCacheSet (set_at self.new line) }
+        ensures copies { (k : ℕ) → copy_in self.new k ≡ copy_in self.old k }
+        ensures ways { map (λ s. s.ways) self.new ≡ map (λ s. s.ways) self.old }
+    {
+        let at = usize::from(line) % self.sets.len();
+        let set = &mut self.sets[at];
+        set.touch(line);
+    }
+
+    /// A line that is not here comes in, and another may leave.
+    ///
+    /// Fails only for want of memory; nothing is changed then.
+    pub fn fill(&mut self, line: u8, state: State, word: u32) -> Result<Option<Victim>, NoMemory>
+        requires absent { copy_in self.old line ≡ None }
+        requires valid { state ≢ State.I }
+        ensures exact { IfOk result (λ _. self.new ≡ in_set line (with_new line (copy_with state word)) self.old) }
+        ensures victim { IfOk result (λ v. v ≡ victim_of (set_at self.old line)) }
+        ensures copies { IfOk result (λ v. (k : ℕ) → copy_in self.new k ≡ after_fill line (copy_with state word) v k (copy_in self.old k)) }
+        ensures was_here { IfOk result (λ v. IfSome v (λ x. copy_in self.old x.line ≡ Some x.content)) }
+        ensures err { OnErr result (self.new ≡ self.old) }
+        ensures ways { map (λ s. s.ways) self.new ≡ map (λ s. s.ways) self.old }
+    {
+        let at = usize::from(line) % self.sets.len();
+        let set = &mut self.sets[at];
+        set.fill(line, state, word)
+    }
+
+    /// A line that is here goes to another state than I.
+    pub fn set_state(&mut self, line: u8, state: State)
+        requires present { IsSome (copy_in self.old line) }
+        requires valid { state ≢ State.I }
+        ensures exact { self.new ≡ in_set line (with_changed (with_state state) line) self.old }
+        ensures copies { (k : ℕ) → copy_in self.new k ≡ (if nat_eq k line then option_map (with_state state) (copy_in self.old k) else copy_in self.old k) }
+        ensures ways { map (λ s. s.ways) self.new ≡ map (λ s. s.ways) self.old }
+    {
+        let at = usize::from(line) % self.sets.len();
+        let set = &mut self.sets[at];
+        set.set_state(line, state);
+    }
+
+    /// The word of a line that is here is written.
+    pub fn write_word(&mut self, line: u8, word: u32)
+        requires { IsSome (copy_in self.old line) }
+        ensures exact { self.new ≡ in_set line (with_changed (with_word word) line) self.old }
+        ensures copies { (k : ℕ) → copy_in self.new k ≡ (if nat_eq k line then option_map (with_word word) (copy_in self.old k) else copy_in self.old k) }
+        ensures ways { map (λ s. s.ways) self.new ≡ map (λ s. s.ways) self.old }
+    {
+        let at = usize::from(line) % self.sets.len();
+        let set = &mut self.sets[at];
+        set.write_word(line, word);
+    }
+
+    /// A line that is here leaves.
+    pub fn drop_line(&mut self, line: u8)
+        requires { IsSome (copy_in self.old line) }
+        ensures exact { self.new ≡ in_set line (without line) self.old }
+        ensures copies { (k : ℕ) → copy_in self.new k ≡ (if nat_eq k line then None else copy_in self.old k) }
+        ensures ways { map (λ s. s.ways) self.new ≡ map (λ s. s.ways) self.old }
+    {
+        let at = usize::from(line) % self.sets.len();
+        let set = &mut self.sets[at];
+        set.drop_line(line);
+    }
+}

@@ -1,0 +1,82 @@
+ghost use Rattle.std.specs.Prelude.{◌≡◌, ◌<◌, ◌≤◌, None, IsSome, IsOk, IfOk, OnErr, length};
+ghost use Rattle.snoop_bus.specs.Copies.{copy_at};
+ghost use Rattle.snoop_bus.specs.Bus.{AllCoherent};
+ghost use Rattle.snoop_bus.specs.Requests.{Loads, KeepsWords};
+
+use crate::access::{Access, AccessKind};
+use crate::cache::Cache;
+use crate::snoop::{Request, find_flusher, find_word, flush, is_shared, snoop_others, write_back};
+use protocol_tables::Protocol;
+use tso_model::NoMemory;
+
+/// A core's load of a line: its word, and what the access was.
+///
+/// Fails only for want of memory, which only a miss takes; nothing is changed then.
+pub fn load<P: Protocol>(
+    caches: &mut [Cache],
+    memory: &mut [u32],
+    protocol: &P,
+    core: usize,
+    line: u8,
+) -> Result<(u32, Access), NoMemory>
+    requires coherent { AllCoherent caches.old memory.old }
+    requires core { core < length caches.old }
+    requires few { length caches.old ≤ 8 }
+    requires line { line < length memory.old }
+
+    ensures ok { IfOk result (λ r. Loads (P.table protocol.now) core line caches.old caches.new memory.old memory.new r.0 r.1) }
+    ensures words { KeepsWords caches.old caches.new memory.old memory.new }
+
+    ensures succeeds { IsSome (copy_at caches.old core line) → IsOk result }
+    ensures err_caches { OnErr result (caches.new ≡ caches.old) }
+    ensures err_memory { OnErr result (memory.new ≡ memory.old) }
+{
+    if let Some(copy) = caches[core].look(line).copied() {
+        let cache = &mut caches[core];
+        cache.touch(line);
+        return Ok((copy.word, Access::quiet(AccessKind::Hit)));
+    }
+    load_miss(caches, memory, protocol, core, line)
+}
+
+/// A load of a line that the core doesn't have.
+fn load_miss<P: Protocol>(
+    caches: &mut [Cache],
+    memory: &mut [u32],
+    protocol: &P,
+    core: usize,
+    line: u8,
+) -> Result<(u32, Access), NoMemory>
+    requires coherent { AllCoherent caches.old memory.old }
+    requires core { core < length caches.old }
+    requires few { length caches.old ≤ 8 }
+    requires line { line < length memory.old }
+    requires absent { copy_at caches.old core line ≡ None }
+
+    ensures ok { IfOk result (λ r. Loads (P.table protocol.now) core line caches.old caches.new memory.old memory.new r.0 r.1) }
+    ensures words { KeepsWords caches.old caches.new memory.old memory.new }
+
+    ensures err_caches { OnErr result (caches.new ≡ caches.old) }
+    ensures err_memory { OnErr result (memory.new ≡ memory.old) }
+{
+    let word = find_word(
+        caches,
+        protocol,
+        Request::GetS,
+        line,
+        memory[usize::from(line)],
+    );
+    let state = protocol.filled(is_shared(caches, line));
+    let flushed = find_flusher(caches, protocol, line);
+    let cache = &mut caches[core];
+    let victim = cache.fill(line, state, word)?;
+    let wrote_back = write_back(memory, protocol, victim);
+    snoop_others(caches, protocol, Request::GetS, core, line);
+    flush(memory, line, word, flushed);
+    let access = Access {
+        kind: AccessKind::Miss,
+        wrote_back,
+        flushed,
+    };
+    Ok((word, access))
+}

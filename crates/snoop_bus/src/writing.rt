@@ -1,0 +1,168 @@
+ghost use Rattle.std.specs.Prelude.{◌≡◌, ◌≢◌, ◌+◌, ◌%◌, ◌^◌, ◌<◌, None, IsSome, IsOk, IfOk, OnErr, length, option_map};
+ghost use Rattle.cache_set.specs.Copy.{with_state, with_word};
+ghost use Rattle.snoop_bus.specs.CacheContents.{used_by};
+ghost use Rattle.snoop_bus.specs.Copies.{copy_at, tags_of, ways_of};
+ghost use Rattle.snoop_bus.specs.Bus.{AllCoherent};
+ghost use Rattle.snoop_bus.specs.Requests.{Acquires, Writes, KeepsWords, ChangesCopy};
+
+use crate::access::{Access, AccessKind};
+use crate::cache::Cache;
+use crate::snoop::{Request, find_word, snoop_others, write_back};
+use protocol_tables::{Protocol, State};
+use tso_model::NoMemory;
+
+/// A core's write of a word. Answers the word that was there, and what the access was.
+///
+/// Fails only for want of memory, which only a miss takes; nothing is changed then.
+pub fn swap<P: Protocol>(
+    caches: &mut [Cache],
+    memory: &mut [u32],
+    protocol: &P,
+    core: usize,
+    line: u8,
+    value: u32,
+) -> Result<(u32, Access), NoMemory>
+    requires coherent { AllCoherent caches.old memory.old }
+    requires core { core < length caches.old }
+    requires line { line < length memory.old }
+
+    ensures ok { IfOk result (λ r. Writes (P.table protocol.now) core line value caches.old caches.new memory.old memory.new r.0 r.1) }
+    ensures coherent { AllCoherent caches.new memory.new }
+    ensures ways { ways_of caches.new ≡ ways_of caches.old }
+
+    ensures succeeds { IsSome (copy_at caches.old core line) → IsOk result }
+    ensures err_caches { OnErr result (caches.new ≡ caches.old) }
+    ensures err_memory { OnErr result (memory.new ≡ memory.old) }
+{
+    let (word, access) = acquire(caches, memory, protocol, core, line)?;
+    write(caches, core, line, value);
+    Ok((word, access))
+}
+
+/// A core's addition to a word, modulo 2^32. Answers the word that was there, and what the access was.
+///
+/// Fails only for want of memory, which only a miss takes; nothing is changed then.
+pub fn add<P: Protocol>(
+    caches: &mut [Cache],
+    memory: &mut [u32],
+    protocol: &P,
+    core: usize,
+    line: u8,
+    value: u32,
+) -> Result<(u32, Access), NoMemory>
+    requires coherent { AllCoherent caches.old memory.old }
+    requires core { core < length caches.old }
+    requires line { line < length memory.old }
+
+    ensures ok { IfOk result (λ r. Writes (P.table protocol.now) core line ((r.0 + value) % 2 ^ 32) caches.old caches.new memory.old memory.new r.0 r.1) }
+    ensures coherent { AllCoherent caches.new memory.new }
+    ensures ways { ways_of caches.new ≡ ways_of caches.old }
+
+    ensures succeeds { IsSome (copy_at caches.old core line) → IsOk result }
+    ensures err_caches { OnErr result (caches.new ≡ caches.old) }
+    ensures err_memory { OnErr result (memory.new ≡ memory.old) }
+{
+    let (word, access) = acquire(caches, memory, protocol, core, line)?;
+    write(caches, core, line, word.wrapping_add(value));
+    Ok((word, access))
+}
+
+/// A core's write access to a line, but for the word that it writes: the core's copy is then in M, and
+/// no other core has one. Answers the word that the line has, and what the access was.
+///
+/// Fails only for want of memory, which only a miss takes; nothing is changed then.
+fn acquire<P: Protocol>(
+    caches: &mut [Cache],
+    memory: &mut [u32],
+    protocol: &P,
+    core: usize,
+    line: u8,
+) -> Result<(u32, Access), NoMemory>
+    requires coherent { AllCoherent caches.old memory.old }
+    requires core { core < length caches.old }
+    requires line { line < length memory.old }
+
+    ensures ok { IfOk result (λ r. Acquires (P.table protocol.now) core line caches.old caches.new memory.old memory.new r.0 r.1) }
+    ensures words { KeepsWords caches.old caches.new memory.old memory.new }
+
+    ensures succeeds { IsSome (copy_at caches.old core line) → IsOk result }
+    ensures err_caches { OnErr result (caches.new ≡ caches.old) }
+    ensures err_memory { OnErr result (memory.new ≡ memory.old) }
+{
+    if let Some(copy) = caches[core].look(line).copied() {
+        if let Some(next) = protocol.written(copy.state) {
+            enter(caches, core, line, next);
+            return Ok((copy.word, Access::quiet(AccessKind::Hit)));
+        }
+        snoop_others(caches, protocol, Request::GetM, core, line);
+        enter(caches, core, line, State::M);
+        return Ok((copy.word, Access::quiet(AccessKind::Upgrade)));
+    }
+    write_miss(caches, memory, protocol, core, line)
+}
+
+/// A core's copy of a line goes to another state than I, and to the front of its set.
+fn enter(caches: &mut [Cache], core: usize, line: u8, state: State)
+    requires core { core < length caches.old }
+    requires present { IsSome (copy_at caches.old core line) }
+    requires valid { state ≢ State.I }
+
+    ensures tags { tags_of caches.new ≡ used_by core line state (tags_of caches.old) }
+    ensures copies { ChangesCopy core line (option_map (with_state state) (copy_at caches.old core line)) caches.old caches.new }
+    ensures ways { ways_of caches.new ≡ ways_of caches.old }
+{
+    let cache = &mut caches[core];
+    cache.touch(line);
+    cache.set_state(line, state);
+}
+
+/// A write access to a line that the core doesn't have.
+fn write_miss<P: Protocol>(
+    caches: &mut [Cache],
+    memory: &mut [u32],
+    protocol: &P,
+    core: usize,
+    line: u8,
+) -> Result<(u32, Access), NoMemory>
+    requires coherent { AllCoherent caches.old memory.old }
+    requires core { core < length caches.old }
+    requires line { line < length memory.old }
+    requires absent { copy_at caches.old core line ≡ None }
+
+    ensures ok { IfOk result (λ r. Acquires (P.table protocol.now) core line caches.old caches.new memory.old memory.new r.0 r.1) }
+    ensures words { KeepsWords caches.old caches.new memory.old memory.new }
+
+    ensures err_caches { OnErr result (caches.new ≡ caches.old) }
+    ensures err_memory { OnErr result (memory.new ≡ memory.old) }
+{
+    let word = find_word(
+        caches,
+        protocol,
+        Request::GetM,
+        line,
+        memory[usize::from(line)],
+    );
+    let cache = &mut caches[core];
+    let victim = cache.fill(line, State::M, word)?;
+    let wrote_back = write_back(memory, protocol, victim);
+    snoop_others(caches, protocol, Request::GetM, core, line);
+    let access = Access {
+        kind: AccessKind::Miss,
+        wrote_back,
+        flushed: None,
+    };
+    Ok((word, access))
+}
+
+/// Writes the word of a line that the core has.
+fn write(caches: &mut [Cache], core: usize, line: u8, word: u32)
+    requires core { core < length caches.old }
+    requires present { IsSome (copy_at caches.old core line) }
+
+    ensures tags { tags_of caches.new ≡ tags_of caches.old }
+    ensures copies { ChangesCopy core line (option_map (with_word word) (copy_at caches.old core line)) caches.old caches.new }
+    ensures ways { ways_of caches.new ≡ ways_of caches.old }
+{
+    let cache = &mut caches[core];
+    cache.write_word(line, word);
+}
