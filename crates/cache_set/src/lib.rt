@@ -16,14 +16,14 @@ use tso_model::NoMemory;
 pub const MAX_WAYS: u8 = 8;
 
 /// A copy of a line: its state, and the one word that a line has.
-#[derive(Clone, Copy, Debug, PartialEq, Eq)]
+#[derive(Clone, Copy, PartialEq, Eq)]
 pub struct Line {
     pub state: State,
     pub word: u32,
 }
 
 /// A line that left a full set, with its copy.
-#[derive(Clone, Copy, Debug, PartialEq, Eq)]
+#[derive(Clone, Copy, PartialEq, Eq)]
 pub struct Victim {
     pub line: u8,
     pub content: Line,

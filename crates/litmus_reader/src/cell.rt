@@ -16,7 +16,7 @@ use tso_model::Instr;
 use tso_model::limits::MAX_INSTRUCTIONS;
 
 /// An instruction and the core in whose column it stands.
-#[derive(Clone, Copy, Debug)]
+#[derive(Clone, Copy)]
 pub struct CoreInstr {
     pub core: usize,
     pub instr: Instr,

@@ -97,7 +97,7 @@ impl fmt::Display for TextFault {
 impl Error for TextFault {}
 
 /// A refusal at a place: how many bytes of the text stand from there on.
-#[derive(Clone, Copy, Debug, PartialEq, Eq)]
+#[derive(Clone, Copy)]
 pub struct Fault {
     pub why: Why,
     pub left: usize,
@@ -105,7 +105,7 @@ pub struct Fault {
 
 /// How a part of the text refuses a token that doesn't fit, and what it answers where there is no
 /// token more.
-#[derive(Clone, Copy, Debug)]
+#[derive(Clone, Copy)]
 pub struct Part {
     pub why: Why,
     pub missing: Fault,
@@ -165,7 +165,7 @@ pub fn left_of(tokens: &[Token<'_>]) -> usize
 }
 
 /// Why a reading that takes memory fails.
-#[derive(Clone, Copy, Debug)]
+#[derive(Clone, Copy)]
 pub enum ReadError {
     NoMemory,
     Fault(Fault),

@@ -11,7 +11,7 @@ use litmus_tokens::{Token, name_at};
 use tso_model::Reg;
 
 /// An instruction as it is spelled: a location is its name, a number its digits.
-#[derive(Clone, Copy, Debug)]
+#[derive(Clone, Copy)]
 pub enum Form<'a> {
     StoreImm(&'a [u8], &'a [u8]),
     StoreReg(&'a [u8], Reg),

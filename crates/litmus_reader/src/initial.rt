@@ -17,7 +17,7 @@ use tso_model::Reg;
 
 /// A register's first word, and the place of the item that gives it. The core is its digits: it may
 /// be one that the test hasn't.
-#[derive(Clone, Copy, Debug)]
+#[derive(Clone, Copy)]
 pub struct RegisterWord<'a> {
     pub left: usize,
     pub core: &'a [u8],
@@ -26,7 +26,7 @@ pub struct RegisterWord<'a> {
 }
 
 /// What the initial state gives.
-#[derive(Debug, Drop)]
+#[derive(Drop)]
 pub struct Initial<'a> {
     /// The words of the locations that it names, by their numbers.
     pub words: Vec<u32>,

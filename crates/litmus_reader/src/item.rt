@@ -13,7 +13,7 @@ use tso_model::{Core, Reg};
 
 /// A value of a register or a location, as the initial state and conditions spell it. Cores and
 /// values are digits, of any length.
-#[derive(Clone, Copy, Debug)]
+#[derive(Clone, Copy)]
 pub enum Item<'a> {
     Register(&'a [u8], Reg, &'a [u8]),
     Location(&'a [u8], &'a [u8]),

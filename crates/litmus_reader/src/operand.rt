@@ -9,7 +9,7 @@ use litmus_tokens::{Symbol, Token, after_symbol, number_at};
 use tso_model::Reg;
 
 /// What an instruction works on. A number is its digits.
-#[derive(Clone, Copy, Debug)]
+#[derive(Clone, Copy)]
 pub enum Operand<'a> {
     Location(&'a [u8]),
     Register(Reg),

@@ -101,7 +101,7 @@ fn ends_rows(tokens: &[Token<'_>]) -> bool
 }
 
 /// What the header row and the rows give.
-#[derive(Debug, Drop)]
+#[derive(Drop)]
 pub struct Table {
     pub cores: usize,
     /// The first registers of each core.

@@ -1,5 +1,5 @@
 /// A symbol of the test texts.
-#[derive(Clone, Copy, Debug, PartialEq, Eq)]
+#[derive(Clone, Copy, PartialEq, Eq)]
 pub enum Symbol {
     /// `=`.
     Equals,
@@ -34,7 +34,7 @@ pub enum Symbol {
 }
 
 /// A token without its place.
-#[derive(Clone, Copy, Debug)]
+#[derive(Clone, Copy)]
 pub enum Lexeme<'a> {
     /// Decimal digits without the leading zeros, so that equal numbers have equal digits, and 0 has
     /// none; [`word`](crate::word) is their value.
@@ -45,7 +45,7 @@ pub enum Lexeme<'a> {
 }
 
 /// A token, and how many bytes of the text stand from its first byte on.
-#[derive(Clone, Copy, Debug)]
+#[derive(Clone, Copy)]
 pub struct Token<'a> {
     pub left: usize,
     pub lexeme: Lexeme<'a>,
@@ -53,7 +53,7 @@ pub struct Token<'a> {
 
 /// Why there are no further tokens. A number is how many bytes of the text stand from that place
 /// on.
-#[derive(Clone, Copy, Debug, PartialEq, Eq)]
+#[derive(Clone, Copy)]
 pub enum Stop {
     /// The text is at its end.
     End,
@@ -64,7 +64,7 @@ pub enum Stop {
 }
 
 /// The tokens of a text, and why there are no more.
-#[derive(Debug, Drop)]
+#[derive(Drop)]
 pub struct Tokens<'a> {
     pub items: Vec<Token<'a>>,
     pub stop: Stop,

@@ -1,5 +1,5 @@
 -- The machine's cores as the flat machine has them.
-use Rattle.std.proofs.Common.{◌≡◌, ◌<◌, ℕ, zero, suc, ◌+◌, ◌==◌, ◌&&◌, Bool, true, false, IsTrue, if◌then◌else◌, List, [], ◌∷◌, ◌++◌, map, filter, Option, None, Some, unwrap_or, length, slice_get, slice_set, slice_index_or, drop, drop-cons, add-one, append_assoc, refl, sym, ap, ◌∙◌, arith, subst, All}
+use Rattle.std.proofs.Common.{◌≡◌, ◌<◌, ℕ, zero, suc, ◌+◌, ◌==◌, ◌&&◌, Bool, true, false, IsTrue, if◌then◌else◌, List, [], ◌∷◌, ◌++◌, map, filter, Option, None, Some, unwrap_or, length, slice_get, slice_set, slice_index, slice_index_or, take, drop, drop-cons, add-one, append_assoc, refl, sym, ap, ◌∙◌, arith, subst, All}
 use Rattle.std.proofs.lemmas.List.Elements.{All-append}
 use Rattle.std.specs.Option.{option_map}
 use Rattle.std.specs.List.{last_or}
@@ -9,13 +9,15 @@ use Rattle.tso_model.specs.FlatMachine.{CoreState, stalled, fenced, locked, drai
 use Rattle.tso_model.specs.Runs.{is_none_pending, is_done, all_done}
 use Rattle.tso_model.specs.declared.register.Reg.{Reg}
 use Rattle.tso_model.specs.declared.instruction.Loc.{Loc}
+use Rattle.tso_model.specs.Thread.{value_in, sum_of}
 use Rattle.tso_model.specs.declared.instruction.Instr.{Instr}
+use Rattle.tso_model.specs.declared.instruction.Instr.TheVariants.{Xchg, Xadd}
 use Rattle.tso_model.specs.declared.choice.Stall.TheVariants as stall
 use Rattle.store_buffer.specs.declared.Pending.{Pending}
 use Rattle.store_buffer.specs.Newest.{newest_for}
 use Rattle.machine_core.specs.declared.processor.Processor.{Processor}
 use Rattle.store_buffer.specs.Stores.{stores}
-use Rattle.machine_core.specs.Cores.{store_of, core_state, core_states}
+use Rattle.machine_core.specs.Cores.{store_of, core_state, core_states, step_by}
 use Rattle.machine_core.specs.Kept.{IsCore}
 
 -- what a load sees, in the buffer and among the pending stores
@@ -33,6 +35,23 @@ pub newest_for-stores : (core loc word : ℕ) (items : List Pending)
     → unwrap_or (newest_for loc items) word ≡ last_value (filter (writes_to loc) (map (store_of core) items)) word
 newest_for-stores core loc word items = last_value-stores core loc word None items
 
+-- the value that a load sees is that of the newest buffered store, or memory's word where there is none
+pub sees_buffered : (core loc word value : ℕ) (items : List Pending) → Some value ≡ newest_for loc items → value ≡ last_value (filter (writes_to loc) (map (store_of core) items)) word
+sees_buffered core loc word value items h = ap (λ o. unwrap_or o word) h ∙ newest_for-stores core loc word items
+
+pub sees_memory : (core loc word : ℕ) (items : List Pending) → None ≡ newest_for loc items → word ≡ last_value (filter (writes_to loc) (map (store_of core) items)) word
+sees_memory core loc word items h = ap (λ o. unwrap_or o word) h ∙ newest_for-stores core loc word items
+
+pub index-got : (xs : List ℕ) (i x : ℕ) → slice_get xs i ≡ Some x → slice_index xs i ≡ x
+index-got [] i x h = absurd (let z : ⊥ = cc in z)
+index-got (y ∷ ys) zero x h = cc
+index-got (y ∷ ys) (suc i) x h = index-got ys i x h
+
+pub take-got : (xs : List ℕ) (k x : ℕ) → slice_get xs k ≡ Some x → take (k + 1) xs ≡ take k xs ++ x ∷ []
+take-got [] k x h = absurd (let z : ⊥ = cc in z)
+take-got (y ∷ ys) zero x h = ap (λ (n : ℕ). n ∷ []) (let z : y ≡ x = cc in z)
+take-got (y ∷ ys) (suc k) x h = rw add-one (ap (λ zs. y ∷ zs) (rw add-one at (take-got ys k x h)))
+
 -- something is buffered
 pub holds_some : (b : Bool) (items : List Pending) → (items ≡ [] → IsTrue b) → b ≡ false → items ≡ [] → ⊥
 holds_some b items h f e = let t : b ≡ true = h e in let z : true ≡ false = sym t ∙ f in let w : ⊥ = cc in w
@@ -41,10 +60,20 @@ pub fenced-waits : (core : ℕ) (s : CoreState) (items : List Pending) → (item
 fenced-waits core s [] h = absurd (h refl)
 fenced-waits core s (p ∷ ps) h = refl
 
-pub locked-waits : (core : ℕ) (s : CoreState) (loc : Loc) (reg : Reg) (word value : ℕ) (items : List Pending) → (items ≡ [] → ⊥)
+locked-waits : (core : ℕ) (s : CoreState) (loc : Loc) (reg : Reg) (word value : ℕ) (items : List Pending) → (items ≡ [] → ⊥)
     → locked core s loc reg word value (map (store_of core) items) ≡ stalled stall.Lock s
 locked-waits core s loc reg word value [] h = absurd (h refl)
 locked-waits core s loc reg word value (p ∷ ps) h = refl
+
+pub exchange-waits : (core : ℕ) (p : Processor) (words : List ℕ) (loc : Loc) (reg : Reg) (b : Bool) → (p.stores.items ≡ [] → IsTrue b) → b ≡ false
+    → stalled stall.Lock (core_state core p) ≡ step_by p core words (Xchg loc reg)
+exchange-waits core p words loc reg b f h =
+    sym (locked-waits core (core_state core p) loc reg (slice_index words loc.0) (value_in p.registers reg) p.stores.items (holds_some b p.stores.items f h))
+
+pub addition-waits : (core : ℕ) (p : Processor) (words : List ℕ) (loc : Loc) (reg : Reg) (b : Bool) → (p.stores.items ≡ [] → IsTrue b) → b ≡ false
+    → stalled stall.Lock (core_state core p) ≡ step_by p core words (Xadd loc reg)
+addition-waits core p words loc reg b f h =
+    sym (locked-waits core (core_state core p) loc reg (slice_index words loc.0) (sum_of (slice_index words loc.0) (value_in p.registers reg)) p.stores.items (holds_some b p.stores.items f h))
 
 pub drain_of-nothing : (core : ℕ) (s : CoreState) (items : List Pending) → slice_get items 0 ≡ None → drain_of s (map (store_of core) items) ≡ stalled stall.Empty s
 drain_of-nothing core s [] h = refl

@@ -12,6 +12,7 @@ use Rattle.tso_model.specs.declared.choice.Outcome.{Outcome}
 use Rattle.tso_model.specs.declared.choice.Outcome.TheVariants.{Stalled}
 use Rattle.tso_model.specs.declared.choice.Stall.TheVariants as stall
 use Rattle.order_builder.specs.Pairs.{IsPaired}
+use Rattle.snoop_bus.specs.Bus.{words_of, cores_of}
 use Rattle.machine_core.specs.declared.processor.Processor.{Processor}
 use Rattle.machine_core.specs.declared.parts.Parts.{Parts}
 use Rattle.machine_core.specs.Cores.{core_state, core_states, step_by, drain_by}
@@ -21,32 +22,32 @@ use Rattle.machine_core.proofs.CoreLemmas.{core_states-get_or, core_states-set}
 use Rattle.machine_core.proofs.Effects.{IsPaired-append}
 
 -- the core that a choice names, as the flat machine has it
-core_of-state_in : (m : Parts) (i : ℕ) (p : Processor) → i < length m.processors.items → p ≡ slice_index_or m.processors.items i p → core_of (state_in m) i ≡ core_state i p
+core_of-state_in : {P : Type 0} (m : Parts P) (i : ℕ) (p : Processor) → i < length m.processors.items → p ≡ slice_index_or m.processors.items i p → core_of (state_in m) i ≡ core_state i p
 core_of-state_in m i p h q = core_states-get_or m.processors.items i p h ∙ ap (core_state i) (sym q)
 
-pub effect_in-step : (t : Litmus) (m : Parts) (core : Core) (p : Processor) (instr : Instr) → core.0 < length m.processors.items → p ≡ slice_index_or m.processors.items core.0 p
-    → p.stores.depth ≡ m.config.depth → slice_get (program_of t core.0) p.place ≡ Some instr → effect_in t m (Step core) ≡ step_by p core.0 m.memory.items instr
+pub effect_in-step : {P : Type 0} (t : Litmus) (m : Parts P) (core : Core) (p : Processor) (instr : Instr) → core.0 < length m.processors.items → p ≡ slice_index_or m.processors.items core.0 p
+    → p.stores.depth ≡ m.config.depth → slice_get (program_of t core.0) p.place ≡ Some instr → effect_in t m (Step core) ≡ step_by p core.0 (words_of m.bus) instr
 effect_in-step t m core p instr h q d g =
-    ap (λ s. step_of m.config.depth m.memory.items core.0 (slice_get (program_of t core.0) s.place) s) (core_of-state_in m core.0 p h q)
-    ∙ ap (λ found. step_of m.config.depth m.memory.items core.0 found (core_state core.0 p)) g
-    ∙ ap (λ depth. step_of depth m.memory.items core.0 (Some instr) (core_state core.0 p)) (sym d)
+    ap (λ s. step_of m.config.depth (words_of m.bus) core.0 (slice_get (program_of t core.0) s.place) s) (core_of-state_in m core.0 p h q)
+    ∙ ap (λ found. step_of m.config.depth (words_of m.bus) core.0 found (core_state core.0 p)) g
+    ∙ ap (λ depth. step_of depth (words_of m.bus) core.0 (Some instr) (core_state core.0 p)) (sym d)
 
-pub effect_in-done : (t : Litmus) (m : Parts) (core : Core) (p : Processor) → core.0 < length m.processors.items → p ≡ slice_index_or m.processors.items core.0 p
+pub effect_in-done : {P : Type 0} (t : Litmus) (m : Parts P) (core : Core) (p : Processor) → core.0 < length m.processors.items → p ≡ slice_index_or m.processors.items core.0 p
     → slice_get (program_of t core.0) p.place ≡ None → effect_in t m (Step core) ≡ stalled stall.Done (core_state core.0 p)
 effect_in-done t m core p h q g =
-    ap (λ s. step_of m.config.depth m.memory.items core.0 (slice_get (program_of t core.0) s.place) s) (core_of-state_in m core.0 p h q)
-    ∙ ap (λ found. step_of m.config.depth m.memory.items core.0 found (core_state core.0 p)) g
+    ap (λ s. step_of m.config.depth (words_of m.bus) core.0 (slice_get (program_of t core.0) s.place) s) (core_of-state_in m core.0 p h q)
+    ∙ ap (λ found. step_of m.config.depth (words_of m.bus) core.0 found (core_state core.0 p)) g
 
-pub effect_in-drain : (t : Litmus) (m : Parts) (core : Core) (p : Processor) → core.0 < length m.processors.items → p ≡ slice_index_or m.processors.items core.0 p
+pub effect_in-drain : {P : Type 0} (t : Litmus) (m : Parts P) (core : Core) (p : Processor) → core.0 < length m.processors.items → p ≡ slice_index_or m.processors.items core.0 p
     → effect_in t m (Drain core) ≡ drain_by p core.0
 effect_in-drain t m core p h q = ap (λ s. drain_of s s.pending) (core_of-state_in m core.0 p h q)
 
 -- from what its core did
-pub Performs-by : (t : Litmus) (m new : Parts) (choice : Choice) (o : Outcome) (p : Processor) (f : Effect) → effect_in t m choice ≡ f → IsPaired f.commits
+pub Performs-by : {P : Type 0} (t : Litmus) (m new : Parts P) (choice : Choice) (o : Outcome) (p : Processor) (f : Effect) → effect_in t m choice ≡ f → IsPaired f.commits
     → new.processors.items ≡ slice_set m.processors.items (chosen choice) p → core_state (chosen choice) p ≡ f.after
-    → new.memory.items ≡ memory_after f.commits m.memory.items → new.commits ≡ m.commits ++ f.commits → o ≡ f.outcome → Performs t m new choice o
+    → words_of new.bus ≡ memory_after f.commits (words_of m.bus) → new.commits.entries ≡ m.commits.entries ++ f.commits → o ≡ f.outcome → Performs t m new choice o
 Performs-by t m new choice o p f e paired processors after memory commits outcome =
-    let Goal : Effect → Type 0 = λ g. (o ≡ g.outcome) × (state_in new ≡ applied (state_in m) (chosen choice) g) × (new.commits ≡ m.commits ++ g.commits) in
+    let Goal : Effect → Type 0 = λ g. (o ≡ g.outcome) × (state_in new ≡ applied (state_in m) (chosen choice) g) × (new.commits.entries ≡ m.commits.entries ++ g.commits) in
     let cores : core_states 0 new.processors.items ≡ slice_set (core_states 0 m.processors.items) (chosen choice) f.after =
     ap (core_states 0) processors ∙ core_states-set m.processors.items (chosen choice) p ∙ ap (λ s. slice_set (core_states 0 m.processors.items) (chosen choice) s) after in
     let all : Goal f = (outcome, rw (cores, memory) refl, commits) in
@@ -55,43 +56,42 @@ Performs-by t m new choice o p f e paired processors after memory commits outcom
       outcome = found.0;
       after = found.1;
       commits = found.2;
-      paired = λ before. subst IsPaired (sym commits) (IsPaired-append m.commits f.commits before paired);
+      paired = λ before. subst IsPaired (sym commits) (IsPaired-append m.commits.entries f.commits before paired);
     }
 
-pub IfOk-Performs : (r : Result Outcome NoMemory) (t : Litmus) (m new : Parts) (choice : Choice) (p : Processor) (words memory : List ℕ) (f : Effect)
-    → words ≡ m.memory.items → effect_in t m choice ≡ f → IsPaired f.commits
-    → new.processors.items ≡ slice_set m.processors.items (chosen choice) p → new.memory.items ≡ memory
+pub IfOk-Performs : {P : Type 0} (r : Result Outcome NoMemory) (t : Litmus) (m new : Parts P) (choice : Choice) (p : Processor) (f : Effect)
+    → effect_in t m choice ≡ f → IsPaired f.commits → new.processors.items ≡ slice_set m.processors.items (chosen choice) p
     → IfOk r (λ o. o ≡ f.outcome) → OnOk r (core_state (chosen choice) p ≡ f.after)
-    → OnOk r (memory ≡ memory_after f.commits words) → OnOk r (new.commits ≡ m.commits ++ f.commits) → IfOk r (Performs t m new choice)
-IfOk-Performs (Ok o) t m new choice p words memory f start e paired processors same outcome after changed commits =
-    Performs-by t m new choice o p f e paired processors after (same ∙ changed ∙ ap (memory_after f.commits) start) commits outcome
-IfOk-Performs (Err x) t m new choice p words memory f start e paired processors same outcome after changed commits = tt
+    → OnOk r (words_of new.bus ≡ memory_after f.commits (words_of m.bus)) → OnOk r (new.commits.entries ≡ m.commits.entries ++ f.commits) → IfOk r (Performs t m new choice)
+IfOk-Performs (Ok o) t m new choice p f e paired processors outcome after words commits = Performs-by t m new choice o p f e paired processors after words commits outcome
+IfOk-Performs (Err x) t m new choice p f e paired processors outcome after words commits = tt
 
 -- at the end of a program a step stalls
-pub Performs-done : (t : Litmus) (m new : Parts) (core : Core) (p : Processor) → core.0 < length m.processors.items → p ≡ slice_index_or m.processors.items core.0 p
-    → slice_get (program_of t core.0) p.place ≡ None → new.processors.items ≡ slice_set m.processors.items core.0 p → new.memory.items ≡ m.memory.items
-    → new.commits ≡ m.commits → Performs t m new (Step core) (Stalled stall.Done)
+pub Performs-done : {P : Type 0} (t : Litmus) (m new : Parts P) (core : Core) (p : Processor) → core.0 < length m.processors.items → p ≡ slice_index_or m.processors.items core.0 p
+    → slice_get (program_of t core.0) p.place ≡ None → new.processors.items ≡ slice_set m.processors.items core.0 p → words_of new.bus ≡ words_of m.bus
+    → new.commits.entries ≡ m.commits.entries → Performs t m new (Step core) (Stalled stall.Done)
 Performs-done t m new core p h q g processors memory commits =
     Performs-by t m new (Step core) (Stalled stall.Done) p (stalled stall.Done (core_state core.0 p)) (effect_in-done t m core p h q g) refl processors refl memory
-    (commits ∙ sym (append-nil m.commits)) refl
+    (commits ∙ sym (append-nil m.commits.entries)) refl
 
 -- the parts still fit the test when one core and memory have changed
-pub FitsTest-next : (t : Litmus) (m new : Parts) (i : ℕ) (p : Processor) → FitsTest t m → new.config ≡ m.config → new.processors.items ≡ slice_set m.processors.items i p
-    → length new.memory.items ≡ length m.memory.items → p.stores.depth ≡ m.config.depth → All (λ s. s.loc.0 < length m.memory.items) p.stores.items → FitsTest t new
-FitsTest-next t m new i p fits config processors size depth known = record {
+pub FitsTest-next : {P : Type 0} (t : Litmus) (m new : Parts P) (i : ℕ) (p : Processor) → FitsTest t m → new.config ≡ m.config → new.processors.items ≡ slice_set m.processors.items i p
+    → cores_of new.bus ≡ cores_of m.bus → length (words_of new.bus) ≡ length (words_of m.bus) → p.stores.depth ≡ m.config.depth → All (λ s. s.loc.0 < length (words_of m.bus)) p.stores.items → FitsTest t new
+FitsTest-next t m new i p fits config processors on_bus size depth known = record {
   some_depth = subst (λ c. 0 < c.depth) (sym config) fits.some_depth;
   cores = ap length processors ∙ length-set m.processors.items i p ∙ fits.cores;
+  on_bus = on_bus ∙ fits.on_bus;
   words = size ∙ fits.words;
   each =
-      let old : All (IsCore m.config.depth (length m.memory.items)) (slice_set m.processors.items i p) =
-      All-set (IsCore m.config.depth (length m.memory.items)) m.processors.items i p (record { depth_is = depth; known = known }) fits.each in
-      subst (λ ps. All (IsCore new.config.depth (length new.memory.items)) ps) (sym processors)
+      let old : All (IsCore m.config.depth (length (words_of m.bus))) (slice_set m.processors.items i p) =
+      All-set (IsCore m.config.depth (length (words_of m.bus))) m.processors.items i p (record { depth_is = depth; known = known }) fits.each in
+      subst (λ ps. All (IsCore new.config.depth (length (words_of new.bus))) ps) (sym processors)
       (subst (λ n. All (IsCore new.config.depth n) (slice_set m.processors.items i p)) (sym size)
-      (subst (λ c. All (IsCore c.depth (length m.memory.items)) (slice_set m.processors.items i p)) (sym config) old));
+      (subst (λ c. All (IsCore c.depth (length (words_of m.bus))) (slice_set m.processors.items i p)) (sym config) old));
 }
 
-pub within-cores : (t : Litmus) (m : Parts) (i : ℕ) → FitsTest t m → i < length t.programs → i < length m.processors.items
+pub within-cores : {P : Type 0} (t : Litmus) (m : Parts P) (i : ℕ) → FitsTest t m → i < length t.programs → i < length m.processors.items
 within-cores t m i fits h = subst (λ n. i < n) (sym fits.cores) h
 
-pub IsCore-at : (t : Litmus) (m : Parts) (i : ℕ) (p : Processor) → FitsTest t m → i < length t.programs → p ≡ slice_index_or m.processors.items i p → IsCore m.config.depth (length m.memory.items) p
-IsCore-at t m i p fits h q = subst (IsCore m.config.depth (length m.memory.items)) (sym q) (fits.each i p (within-cores t m i fits h))
+pub IsCore-at : {P : Type 0} (t : Litmus) (m : Parts P) (i : ℕ) (p : Processor) → FitsTest t m → i < length t.programs → p ≡ slice_index_or m.processors.items i p → IsCore m.config.depth (length (words_of m.bus)) p
+IsCore-at t m i p fits h q = subst (IsCore m.config.depth (length (words_of m.bus))) (sym q) (fits.each i p (within-cores t m i fits h))

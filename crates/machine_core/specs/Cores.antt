@@ -1,10 +1,8 @@
 -- A core of the machine as the flat machine has it: what its store buffer holds are its pending stores.
 -- (This project's profile.)
-use Rattle.std.specs.Prelude.{ℕ, ◌+◌, List, [], ◌∷◌, map, Some, slice_index}
+use Rattle.std.specs.Prelude.{ℕ, ◌+◌, List, [], ◌∷◌, map, Some}
 use Rattle.tso_model.specs.Thread.{entry}
-use Rattle.tso_model.specs.FlatMachine.{CoreState, State, Effect, step_of, drain_of, locked}
-use Rattle.tso_model.specs.declared.register.Reg.{Reg}
-use Rattle.tso_model.specs.declared.instruction.Loc.{Loc}
+use Rattle.tso_model.specs.FlatMachine.{CoreState, State, Effect, step_of, drain_of}
 use Rattle.tso_model.specs.declared.instruction.Instr.{Instr}
 use Rattle.tso_model.specs.declared.execution.Entry.{Entry}
 use Rattle.tso_model.specs.declared.execution.Kind.TheVariants.{W}
@@ -29,11 +27,6 @@ state_of processors memory = record { memory = memory; cores = core_states 0 pro
 -- a step of the core at this instruction, at the depth of its own buffer
 abbrev pub step_by : Processor → ℕ → List ℕ → Instr → Effect
 step_by p core memory instr = step_of p.stores.depth memory core (Some instr) (core_state core p)
-
--- a locked instruction of the core that writes this value
-abbrev pub exchange_by : Processor → ℕ → List ℕ → Reg → Loc → ℕ → Effect
-exchange_by p core memory reg loc value =
-    locked core (core_state core p) loc reg (slice_index memory loc.0) value (map (store_of core) p.stores.items)
 
 -- a drain of the core
 abbrev pub drain_by : Processor → ℕ → Effect

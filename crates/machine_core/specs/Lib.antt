@@ -5,3 +5,4 @@ pub mod Kept
 pub mod Performed
 pub use Rattle.tso_model.specs.FlatMachine
 pub use Rattle.tso_model.specs.Runs
+pub use Rattle.snoop_bus.specs.Geometry

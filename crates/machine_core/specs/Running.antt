@@ -34,11 +34,12 @@ machine_after m choice = record {
   failed = m.failed;
 }
 
--- the machine was refused memory: the flat machine's state is as it was
+-- the machine was refused memory: the flat machine's state and what was committed are as they were
 pub record IsRefused (old new : Running) : Type 0 where
   pub test : new.test ≡ old.test
   pub depth : new.depth ≡ old.depth
   pub state : new.state ≡ old.state
+  pub commits : new.commits ≡ old.commits
   pub failed : new.failed ≡ true
 
 -- whether the test has ended on a machine that was never refused memory

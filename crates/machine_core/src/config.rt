@@ -1,5 +1,8 @@
 ghost use Rattle.std.specs.Prelude.{◌≡◌, ◌≤◌, ◌↔◌, IsSome, IfSome};
+ghost use Rattle.snoop_bus.specs.Geometry.{IsWithinLimits};
 
+use snoop_bus::Shape;
+use snoop_bus::shape::{MAX_SETS, MAX_WAYS, WORDS};
 use std::marker::Model;
 
 /// The least depth of a store buffer.
@@ -8,35 +11,39 @@ pub const MIN_DEPTH: u8 = 1;
 /// The greatest depth of a store buffer.
 pub const MAX_DEPTH: u8 = store_buffer::MAX_DEPTH;
 
-/// How a machine is built: how many stores each core's buffer holds.
-#[derive(Clone, Copy, Debug, PartialEq, Eq)]
+/// How a machine is built: how many stores each core's buffer holds, and the shape of its cache.
+#[derive(Clone, Copy)]
 pub struct Config {
     depth: u8,
+    shape: Shape,
 }
 
 impl Model for Config {
     ghost use Rattle.std.specs.Prelude.{◌≤◌};
+    ghost use Rattle.snoop_bus.specs.Geometry.{IsWithinLimits};
     ghost use Rattle.machine_core.specs.Configuration.{Configuration};
     ghost use Rattle.machine_core.specs.declared.config.TheConstants.{MIN_DEPTH, MAX_DEPTH};
 
     ghost Value = { Configuration };
 
-    ghost view = { λ c. record { depth = c.depth } };
+    ghost view = { λ c. record { depth = c.depth; shape = c.shape } };
 
-    ghost inverse = { λ v. record { depth = v.depth } };
+    ghost inverse = { λ v. record { depth = v.depth; shape = v.shape } };
 
-    ghost invariant = { λ c. (MIN_DEPTH ≤ c.depth) × (c.depth ≤ MAX_DEPTH) };
+    ghost invariant = { λ c. (MIN_DEPTH ≤ c.depth) × (c.depth ≤ MAX_DEPTH) × IsWithinLimits c.shape };
 }
 
 impl Config {
-    /// The configuration with buffers of this depth. `None` exactly where it isn't from `MIN_DEPTH`
-    /// to `MAX_DEPTH`.
-    pub fn new(depth: u8) -> Option<Config>
-        ensures value { IfSome result (λ c. c.depth ≡ depth) }
+    /// The configuration with buffers of this depth and caches of this shape. `None` exactly where the
+    /// depth isn't from `MIN_DEPTH` to `MAX_DEPTH`.
+    pub fn new(depth: u8, shape: Shape) -> Option<Config>
+        ensures value { IfSome result (λ c. c ≡ record { depth = depth; shape = shape }) }
         ensures valid { IsSome result ↔ ((MIN_DEPTH ≤ depth) × (depth ≤ MAX_DEPTH)) }
     {
+        // What a shape keeps is known from its readers.
+        let _known = (shape.sets(), shape.ways(), shape.words());
         if (MIN_DEPTH..=MAX_DEPTH).contains(&depth) {
-            Some(Config { depth })
+            Some(Config { depth, shape })
         } else {
             None
         }
@@ -46,7 +53,39 @@ impl Config {
     pub fn depth(self) -> u8
         ensures value { result ≡ self.depth }
         ensures within { (MIN_DEPTH ≤ result) × (result ≤ MAX_DEPTH) }
+        ensures shape { IsWithinLimits self.shape }
     {
         self.depth
+    }
+
+    /// The shape of a core's cache.
+    pub(crate) fn shape(self) -> Shape
+        ensures { result ≡ self.shape }
+    {
+        self.shape
+    }
+
+    /// How many sets a core's cache has.
+    pub fn sets(self) -> u8
+        ensures value { result ≡ self.shape.sets }
+        ensures within { (1 ≤ result) × (result ≤ MAX_SETS) }
+    {
+        self.shape.sets()
+    }
+
+    /// For how many lines a set of a core's cache has room.
+    pub fn ways(self) -> u8
+        ensures value { result ≡ self.shape.ways }
+        ensures within { (1 ≤ result) × (result ≤ MAX_WAYS) }
+    {
+        self.shape.ways()
+    }
+
+    /// How many words a line has.
+    pub fn words(self) -> u8
+        ensures value { result ≡ self.shape.words }
+        ensures within { result ≡ WORDS }
+    {
+        self.shape.words()
     }
 }

@@ -3,14 +3,15 @@ ghost use Rattle.tso_model.specs.FlatMachine.{chosen};
 ghost use Rattle.machine_core.specs.Running.{new_machine, effect_on, machine_after, IsRefused, is_ended};
 
 use crate::config::Config;
-use crate::parts::{Parts, are_done, begin, perform, registers_of};
+use crate::parts::{Parts, are_done, begin, memory_of, perform, registers_of};
 use order_builder::build;
+use protocol_tables::Protocol;
 use std::alloc::Global;
 use std::marker::Model;
 use tso_model::{Choice, Execution, NoMemory, Outcome, Stall, Test};
 
 /// What a machine leaves when its test has ended.
-#[derive(Debug, Drop)]
+#[derive(Drop)]
 pub struct Final {
     /// The entries in the order of their commits.
     pub execution: Execution,
@@ -20,15 +21,16 @@ pub struct Final {
     pub memory: Vec<u32>,
 }
 
-/// A machine that runs a test, which it borrows, one choice at a time.
+/// A machine that runs a test, which it borrows, one choice at a time. Its caches are kept coherent by
+/// this protocol; neither the protocol nor the shape of the caches has a part in what a choice does.
 #[derive(Drop)]
-pub struct Machine<'a> {
+pub struct Machine<'a, P: Protocol> {
     test: &'a Test,
-    parts: Parts,
+    parts: Parts<P>,
     failed: bool,
 }
 
-impl<'a> Model for Machine<'a> {
+impl<'a, P: Protocol> Model for Machine<'a, P> {
     ghost use Rattle.std.specs.Coded.{codes};
     ghost use Rattle.tso_model.specs.ConditionCode.{claim_code};
     ghost use Rattle.machine_core.specs.Running.{Running};
@@ -37,24 +39,23 @@ impl<'a> Model for Machine<'a> {
 
     ghost coded = { Prim.hlevel (codes, claim_code) };
 
-    ghost use Rattle.std.specs.Prelude.{◌≡◌, false};
     ghost use Rattle.order_builder.specs.Pairs.{IsPaired};
     ghost use Rattle.machine_core.specs.Kept.{FitsTest, state_in};
 
-    ghost view = { λ m. record { test = m.test.now; depth = m.parts.config.depth; state = state_in m.parts; commits = m.parts.commits; failed = m.failed } };
+    ghost view = { λ m. record { test = m.test.now; depth = m.parts.config.depth; state = state_in m.parts; commits = m.parts.commits.entries; failed = m.failed } };
 
-    ghost invariant = { λ m. FitsTest m.test.now m.parts × (m.failed ≡ false → IsPaired m.parts.commits) };
+    ghost invariant = { λ m. FitsTest m.test.now m.parts × IsPaired m.parts.commits.entries };
 }
 
-impl<'a> Machine<'a> {
+impl<'a, P: Protocol> Machine<'a, P> {
     /// A machine at the beginning of the test: each core before its first instruction with its first
     /// registers and nothing buffered, memory with the test's first words, and nothing committed.
     ///
     /// Fails only for want of memory.
-    pub fn new(alloc: Global, test: &'a Test, config: Config) -> Result<Self, NoMemory>
+    pub fn new(alloc: Global, protocol: P, test: &'a Test, config: Config) -> Result<Self, NoMemory>
         ensures { IfOk result (λ m. m ≡ new_machine test.now config.depth) }
     {
-        let parts = begin(alloc, test, config)?;
+        let parts = begin(alloc, protocol, test, config)?;
         Ok(Machine {
             test,
             parts,
@@ -108,13 +109,15 @@ impl<'a> Machine<'a> {
         ensures cores { IfOk result (λ f. length f.registers.items ≡ length self.entry.test.programs) }
         ensures locations { IfOk result (λ f. length f.memory.items ≡ length self.entry.test.locations) }
     {
-        let parts = self.parts;
+        let mut parts = self.parts;
+        parts.bus.settle();
         let execution = build(alloc, &parts.commits)?;
         let registers = registers_of(alloc, &parts.processors)?;
+        let memory = memory_of(alloc, &parts.bus, self.test.locations())?;
         Ok(Final {
             execution,
             registers,
-            memory: parts.memory,
+            memory,
         })
     }
 }

@@ -1,6 +1,7 @@
-ghost use Rattle.std.specs.Prelude.{◌≡◌, ◌≢◌, ℕ, ◌<◌, ◌≤◌, [], IsOk, IfOk, OnErr, All, length, map, slice_get};
+ghost use Rattle.std.specs.Prelude.{◌≡◌, ◌≢◌, ℕ, ◌<◌, ◌≤◌, [], IsOk, IfOk, OnErr, All, length, map, slice_get, take};
 ghost use Rattle.tso_model.specs.FlatMachine.{chosen, started, start};
 ghost use Rattle.tso_model.specs.Runs.{all_done};
+ghost use Rattle.snoop_bus.specs.Bus.{words_of};
 ghost use Rattle.machine_core.specs.Cores.{core_states};
 ghost use Rattle.machine_core.specs.Kept.{IsCore, FitsTest, state_in};
 ghost use Rattle.machine_core.specs.Performed.{Performs, effect_in};
@@ -8,32 +9,45 @@ ghost use Rattle.machine_core.specs.Performed.{Performs, effect_in};
 use crate::config::{Config, MAX_DEPTH};
 use crate::processor::{Processor, drain as drain_core, step as step_core};
 use order_builder::Commits;
+use protocol_tables::Protocol;
+use snoop_bus::SnoopBus;
 use std::alloc::Global;
 use store_buffer::StoreBuffer;
-use tso_model::{Choice, Core, Instr, NoMemory, Outcome, Stall, Test};
+use tso_model::{Choice, Core, Instr, Loc, NoMemory, Outcome, Stall, Test};
 
-/// What a machine consists of: its cores, the word of each location, and what was committed.
+/// What a machine consists of: its cores, memory behind their caches, and what was committed.
 #[derive(Drop)]
-pub struct Parts {
+pub struct Parts<P: Protocol> {
     pub config: Config,
     pub processors: Vec<Processor>,
-    pub memory: Vec<u32>,
+    pub bus: SnoopBus<P>,
     pub commits: Commits,
 }
 
 /// The parts of a machine at the beginning of the test.
-pub fn begin(alloc: Global, test: &Test, config: Config) -> Result<Parts, NoMemory>
+pub fn begin<P: Protocol>(
+    alloc: Global,
+    protocol: P,
+    test: &Test,
+    config: Config,
+) -> Result<Parts<P>, NoMemory>
     ensures fits { IfOk result (FitsTest test.now) }
     ensures state { IfOk result (λ parts. state_in parts ≡ start test.now) }
-    ensures commits { IfOk result (λ parts. parts.commits ≡ []) }
+    ensures commits { IfOk result (λ parts. parts.commits.entries ≡ []) }
     ensures config { IfOk result (λ parts. parts.config ≡ config) }
 {
     let processors = processors_of(alloc, test, config.depth())?;
-    let memory = Vec::from_slice(alloc, test.initial_words())?;
+    let bus = SnoopBus::new(
+        alloc,
+        protocol,
+        test.cores(),
+        config.shape(),
+        test.initial_words(),
+    )?;
     Ok(Parts {
         config,
         processors,
-        memory,
+        bus,
         commits: Commits::new(alloc),
     })
 }
@@ -61,14 +75,19 @@ fn processors_of(alloc: Global, test: &Test, depth: u8) -> Result<Vec<Processor>
 
 /// Makes a choice.
 ///
-/// Fails only for want of memory, and then changes nothing but the list of commits.
-pub fn perform(parts: &mut Parts, test: &Test, choice: Choice) -> Result<Outcome, NoMemory>
+/// Fails only for want of memory, and then changes nothing.
+pub fn perform<P: Protocol>(
+    parts: &mut Parts<P>,
+    test: &Test,
+    choice: Choice,
+) -> Result<Outcome, NoMemory>
     requires core { chosen choice < length test.now.programs }
     requires fits { FitsTest test.now parts.old }
 
     ensures ok { IfOk result (Performs test.now parts.old parts.new choice) }
     ensures succeeds { (effect_in test.now parts.old choice).outcome ≢ Outcome.Committed → IsOk result }
-    ensures err { OnErr result (state_in parts.new ≡ state_in parts.old) }
+    ensures err_state { OnErr result (state_in parts.new ≡ state_in parts.old) }
+    ensures err_commits { OnErr result (parts.new.commits.entries ≡ parts.old.commits.entries) }
     ensures config { parts.new.config ≡ parts.old.config }
     ensures fits { FitsTest test.now parts.new }
 {
@@ -79,13 +98,14 @@ pub fn perform(parts: &mut Parts, test: &Test, choice: Choice) -> Result<Outcome
 }
 
 /// A step of a core at its next instruction, if there is one.
-fn step(parts: &mut Parts, test: &Test, core: Core) -> Result<Outcome, NoMemory>
+fn step<P: Protocol>(parts: &mut Parts<P>, test: &Test, core: Core) -> Result<Outcome, NoMemory>
     requires core { core.0 < length test.now.programs }
     requires fits { FitsTest test.now parts.old }
 
     ensures ok { IfOk result (Performs test.now parts.old parts.new (Choice.Step core)) }
     ensures succeeds { (effect_in test.now parts.old (Choice.Step core)).outcome ≢ Outcome.Committed → IsOk result }
-    ensures err { OnErr result (state_in parts.new ≡ state_in parts.old) }
+    ensures err_state { OnErr result (state_in parts.new ≡ state_in parts.old) }
+    ensures err_commits { OnErr result (parts.new.commits.entries ≡ parts.old.commits.entries) }
     ensures config { parts.new.config ≡ parts.old.config }
     ensures fits { FitsTest test.now parts.new }
 {
@@ -93,13 +113,7 @@ fn step(parts: &mut Parts, test: &Test, core: Core) -> Result<Outcome, NoMemory>
     let processor = &mut parts.processors[core.0 as usize];
     match instruction_at(program, processor.place) {
         None => Ok(Outcome::Stalled(Stall::Done)),
-        Some(instr) => step_core(
-            processor,
-            core,
-            instr,
-            &mut parts.memory,
-            &mut parts.commits,
-        ),
+        Some(instr) => step_core(processor, core, instr, &mut parts.bus, &mut parts.commits),
     }
 }
 
@@ -111,22 +125,23 @@ fn instruction_at(program: &[Instr], place: u8) -> Option<Instr>
 }
 
 /// A drain of a core: its oldest buffered store goes to memory, if there is one.
-fn drain(parts: &mut Parts, test: &Test, core: Core) -> Result<Outcome, NoMemory>
+fn drain<P: Protocol>(parts: &mut Parts<P>, test: &Test, core: Core) -> Result<Outcome, NoMemory>
     requires core { core.0 < length test.now.programs }
     requires fits { FitsTest test.now parts.old }
 
     ensures ok { IfOk result (Performs test.now parts.old parts.new (Choice.Drain core)) }
     ensures succeeds { (effect_in test.now parts.old (Choice.Drain core)).outcome ≢ Outcome.Committed → IsOk result }
-    ensures err { OnErr result (state_in parts.new ≡ state_in parts.old) }
+    ensures err_state { OnErr result (state_in parts.new ≡ state_in parts.old) }
+    ensures err_commits { OnErr result (parts.new.commits.entries ≡ parts.old.commits.entries) }
     ensures config { parts.new.config ≡ parts.old.config }
     ensures fits { FitsTest test.now parts.new }
 {
     let processor = &mut parts.processors[core.0 as usize];
-    drain_core(processor, core, &mut parts.memory, &mut parts.commits)
+    drain_core(processor, core, &mut parts.bus, &mut parts.commits)
 }
 
 /// Whether each core is at the end of its program with nothing buffered.
-pub fn are_done(parts: &Parts, test: &Test) -> bool
+pub fn are_done<P: Protocol>(parts: &Parts<P>, test: &Test) -> bool
     requires { length parts.now.processors.items ≡ length test.now.programs }
     ensures { result ≡ all_done test.now.programs (core_states 0 parts.now.processors.items) }
 {
@@ -147,4 +162,20 @@ pub fn registers_of(alloc: Global, processors: &[Processor]) -> Result<Vec<[u32;
         registers.push(processor.registers)?;
     }
     Ok(registers)
+}
+
+/// Memory's own words of the first so many locations.
+pub fn memory_of<P: Protocol>(
+    alloc: Global,
+    bus: &SnoopBus<P>,
+    locations: u8,
+) -> Result<Vec<u32>, NoMemory>
+    requires { locations ≤ length (words_of bus.now) }
+    ensures { IfOk result (λ memory. memory.items ≡ take locations bus.now.memory) }
+{
+    let mut memory = Vec::new(alloc);
+    for location in 0..locations {
+        memory.push(bus.memory_word(Loc(location)))?;
+    }
+    Ok(memory)
 }

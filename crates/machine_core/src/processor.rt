@@ -1,12 +1,17 @@
-ghost use Rattle.std.specs.Prelude.{◌≡◌, ◌≢◌, ℕ, ◌<◌, ◌++◌, List, [], IsOk, IfOk, OnOk, OnErr, All, length, map, filter};
+ghost use Rattle.std.specs.Prelude.{◌≡◌, ◌≢◌, ℕ, ◌<◌, ◌≤◌, ◌++◌, ◌∷◌, List, [], IsOk, IfOk, OnOk, OnErr, All, length, map, filter, slice_index};
 ghost use Rattle.tso_model.specs.Litmus.{KnownLocation};
 ghost use Rattle.tso_model.specs.ProgramOrder.{writes_to};
 ghost use Rattle.tso_model.specs.Execution.{last_value};
-ghost use Rattle.tso_model.specs.Thread.{value_in, with_value};
+ghost use Rattle.tso_model.specs.Thread.{entry, value_in, with_value};
 ghost use Rattle.tso_model.specs.FlatMachine.{memory_after};
-ghost use Rattle.machine_core.specs.Cores.{store_of, core_state, advanced, step_by, exchange_by, drain_by};
+ghost use Rattle.tso_model.specs.declared.execution.Kind.TheVariants.{LR, LW};
+ghost use Rattle.order_builder.specs.Noted.{room_for};
+ghost use Rattle.snoop_bus.specs.Bus.{words_of, cores_of};
+ghost use Rattle.machine_core.specs.Cores.{store_of, core_state, advanced, step_by, drain_by};
 
 use order_builder::Commits;
+use protocol_tables::Protocol;
+use snoop_bus::SnoopBus;
 use store_buffer::{Pending, StoreBuffer};
 use tso_model::{Core, Entry, Instr, Kind, Loc, NoMemory, Outcome, Reg, Stall};
 
@@ -40,29 +45,33 @@ impl Processor {
 
 /// A step of the core at this instruction, which is its next.
 ///
-/// Fails only for want of memory, and then changes nothing but the list of commits.
-pub fn step(
+/// Fails only for want of memory, and then changes nothing.
+pub fn step<P: Protocol>(
     processor: &mut Processor,
     core: Core,
     instr: Instr,
-    memory: &mut [u32],
+    bus: &mut SnoopBus<P>,
     commits: &mut Commits,
 ) -> Result<Outcome, NoMemory>
     requires place { processor.old.place < 32 }
     requires depth { 0 < processor.old.stores.depth }
-    requires known { KnownLocation (length memory.old) instr }
-    requires stores { All (λ s. s.loc.0 < length memory.old) processor.old.stores.items }
+    requires core { core.0 < cores_of bus.old }
+    requires known { KnownLocation (length (words_of bus.old)) instr }
+    requires stores { All (λ s. s.loc.0 < length (words_of bus.old)) processor.old.stores.items }
 
-    ensures outcome { IfOk result (λ o. o ≡ (step_by processor.old core.0 memory.old instr).outcome) }
-    ensures after { OnOk result (core_state core.0 processor.new ≡ (step_by processor.old core.0 memory.old instr).after) }
-    ensures memory { OnOk result (memory.new ≡ memory_after (step_by processor.old core.0 memory.old instr).commits memory.old) }
-    ensures commits { OnOk result (commits.new ≡ commits.old ++ (step_by processor.old core.0 memory.old instr).commits) }
-    ensures succeeds { (step_by processor.old core.0 memory.old instr).outcome ≢ Outcome.Committed → IsOk result }
+    ensures outcome { IfOk result (λ o. o ≡ (step_by processor.old core.0 (words_of bus.old) instr).outcome) }
+    ensures after { OnOk result (core_state core.0 processor.new ≡ (step_by processor.old core.0 (words_of bus.old) instr).after) }
+    ensures words { OnOk result (words_of bus.new ≡ memory_after (step_by processor.old core.0 (words_of bus.old) instr).commits (words_of bus.old)) }
+    ensures commits { OnOk result (commits.new.entries ≡ commits.old.entries ++ (step_by processor.old core.0 (words_of bus.old) instr).commits) }
+    ensures succeeds { (step_by processor.old core.0 (words_of bus.old) instr).outcome ≢ Outcome.Committed → IsOk result }
 
     ensures err_core { OnErr result (processor.new ≡ processor.old) }
-    ensures err_memory { OnErr result (memory.new ≡ memory.old) }
+    ensures err_bus { OnErr result (bus.new ≡ bus.old) }
+    ensures err_commits { OnErr result (commits.new.entries ≡ commits.old.entries) }
+    ensures cores { cores_of bus.new ≡ cores_of bus.old }
+    ensures count { length (words_of bus.new) ≡ length (words_of bus.old) }
     ensures depth { processor.new.stores.depth ≡ processor.old.stores.depth }
-    ensures stores { All (λ s. s.loc.0 < length memory.new) processor.new.stores.items }
+    ensures stores { All (λ s. s.loc.0 < length (words_of bus.old)) processor.new.stores.items }
 {
     match instr {
         Instr::StoreImm(loc, value) => Ok(buffer(processor, loc, value)),
@@ -70,21 +79,15 @@ pub fn step(
             let value = processor.register(reg);
             Ok(buffer(processor, loc, value))
         }
-        Instr::Load(reg, loc) => load(processor, core, reg, loc, memory, commits),
+        Instr::Load(reg, loc) => load(processor, core, reg, loc, bus, commits),
         Instr::SetImm(reg, value) => Ok(set(processor, reg, value)),
         Instr::SetReg(reg, other) => {
             let value = processor.register(other);
             Ok(set(processor, reg, value))
         }
         Instr::Fence => fence(processor, core, commits),
-        Instr::Xchg(loc, reg) => {
-            let value = processor.register(reg);
-            exchange(processor, core, reg, loc, value, memory, commits)
-        }
-        Instr::Xadd(loc, reg) => {
-            let value = memory[loc.0 as usize].wrapping_add(processor.register(reg));
-            exchange(processor, core, reg, loc, value, memory, commits)
-        }
+        Instr::Xchg(loc, reg) => exchange(processor, core, reg, loc, bus, commits),
+        Instr::Xadd(loc, reg) => add(processor, core, reg, loc, bus, commits),
     }
 }
 
@@ -112,23 +115,31 @@ fn buffer(processor: &mut Processor, loc: Loc, value: u32) -> Outcome
 }
 
 /// A load reads the newest own store to the location, or memory's word where none is buffered.
-fn load(
+fn load<P: Protocol>(
     processor: &mut Processor,
     core: Core,
     reg: Reg,
     loc: Loc,
-    memory: &[u32],
+    bus: &mut SnoopBus<P>,
     commits: &mut Commits,
 ) -> Result<Outcome, NoMemory>
     requires place { processor.old.place < 32 }
-    requires known { loc.0 < length memory.now }
+    requires core { core.0 < cores_of bus.old }
+    requires known { loc.0 < length (words_of bus.old) }
+
     ensures outcome { IfOk result (λ o. o ≡ Outcome.Committed) }
-    ensures after { OnOk result (core_state core.0 processor.new ≡ (step_by processor.old core.0 memory.now (Instr.Load reg loc)).after) }
-    ensures commits { OnOk result (commits.new ≡ commits.old ++ (step_by processor.old core.0 memory.now (Instr.Load reg loc)).commits) }
-    ensures err { OnErr result (processor.new ≡ processor.old) }
+    ensures after { OnOk result (core_state core.0 processor.new ≡ (step_by processor.old core.0 (words_of bus.old) (Instr.Load reg loc)).after) }
+    ensures words { words_of bus.new ≡ words_of bus.old }
+    ensures commits { OnOk result (commits.new.entries ≡ commits.old.entries ++ (step_by processor.old core.0 (words_of bus.old) (Instr.Load reg loc)).commits) }
+
+    ensures err_core { OnErr result (processor.new ≡ processor.old) }
+    ensures err_bus { OnErr result (bus.new ≡ bus.old) }
+    ensures err_commits { OnErr result (commits.new.entries ≡ commits.old.entries) }
+    ensures cores { cores_of bus.new ≡ cores_of bus.old }
     ensures stores { processor.new.stores ≡ processor.old.stores }
 {
-    let value = seen(&processor.stores, loc, memory[loc.0 as usize]);
+    commits.make_room(core, 1)?;
+    let value = see(&processor.stores, core, loc, bus)?;
     commits.note(Entry {
         core,
         place: processor.place,
@@ -140,11 +151,28 @@ fn load(
     Ok(Outcome::Committed)
 }
 
-/// The value of the newest store to the location, or this word of memory where none is buffered.
-fn seen(stores: &StoreBuffer, loc: Loc, word: u32) -> u32
-    ensures { (core : ℕ) → result ≡ last_value (filter (writes_to loc.0) (map (store_of core) stores.now.items)) word }
+/// The value of the newest store to the location, or memory's word where none is buffered.
+fn see<P: Protocol>(
+    stores: &StoreBuffer,
+    core: Core,
+    loc: Loc,
+    bus: &mut SnoopBus<P>,
+) -> Result<u32, NoMemory>
+    requires core { core.0 < cores_of bus.old }
+    requires known { loc.0 < length (words_of bus.old) }
+
+    ensures value { IfOk result (λ v. v ≡ last_value (filter (writes_to loc.0) (map (store_of core.0) stores.now.items)) (slice_index (words_of bus.old) loc.0)) }
+    ensures words { words_of bus.new ≡ words_of bus.old }
+    ensures cores { cores_of bus.new ≡ cores_of bus.old }
+    ensures err { OnErr result (bus.new ≡ bus.old) }
 {
-    stores.newest_for(loc).unwrap_or(word)
+    match stores.newest_for(loc) {
+        Some(value) => Ok(value),
+        None => {
+            let (word, _) = bus.load(core, loc)?;
+            Ok(word)
+        }
+    }
 }
 
 /// A register move.
@@ -162,10 +190,11 @@ fn fence(processor: &mut Processor, core: Core, commits: &mut Commits) -> Result
     requires { processor.old.place < 32 }
     ensures outcome { (memory : List ℕ) → IfOk result (λ o. o ≡ (step_by processor.old core.0 memory Instr.Fence).outcome) }
     ensures after { (memory : List ℕ) → OnOk result (core_state core.0 processor.new ≡ (step_by processor.old core.0 memory Instr.Fence).after) }
-    ensures commits { (memory : List ℕ) → OnOk result (commits.new ≡ commits.old ++ (step_by processor.old core.0 memory Instr.Fence).commits) }
+    ensures commits { (memory : List ℕ) → OnOk result (commits.new.entries ≡ commits.old.entries ++ (step_by processor.old core.0 memory Instr.Fence).commits) }
     ensures memory { (memory : List ℕ) → OnOk result (memory ≡ memory_after (step_by processor.old core.0 memory Instr.Fence).commits memory) }
     ensures succeeds { (memory : List ℕ) → (step_by processor.old core.0 memory Instr.Fence).outcome ≢ Outcome.Committed → IsOk result }
-    ensures err { OnErr result (processor.new ≡ processor.old) }
+    ensures err_core { OnErr result (processor.new ≡ processor.old) }
+    ensures err_commits { OnErr result (commits.new.entries ≡ commits.old.entries) }
     ensures stores { processor.new.stores ≡ processor.old.stores }
 {
     if !processor.stores.is_empty() {
@@ -182,49 +211,117 @@ fn fence(processor: &mut Processor, core: Core, commits: &mut Commits) -> Result
     Ok(Outcome::Committed)
 }
 
-/// A locked instruction waits until nothing is buffered. Then it reads the word into the register
-/// and writes this value in its place, both at once.
-fn exchange(
+/// An exchange waits until nothing is buffered. Then it reads the word into the register and writes
+/// the register's value in its place, both at once.
+fn exchange<P: Protocol>(
     processor: &mut Processor,
     core: Core,
     reg: Reg,
     loc: Loc,
-    value: u32,
-    memory: &mut [u32],
+    bus: &mut SnoopBus<P>,
     commits: &mut Commits,
 ) -> Result<Outcome, NoMemory>
     requires place { processor.old.place < 32 }
-    requires known { loc.0 < length memory.old }
-    ensures outcome { IfOk result (λ o. o ≡ (exchange_by processor.old core.0 memory.old reg loc value).outcome) }
-    ensures after { OnOk result (core_state core.0 processor.new ≡ (exchange_by processor.old core.0 memory.old reg loc value).after) }
-    ensures memory { OnOk result (memory.new ≡ memory_after (exchange_by processor.old core.0 memory.old reg loc value).commits memory.old) }
-    ensures commits { OnOk result (commits.new ≡ commits.old ++ (exchange_by processor.old core.0 memory.old reg loc value).commits) }
-    ensures succeeds { (exchange_by processor.old core.0 memory.old reg loc value).outcome ≢ Outcome.Committed → IsOk result }
+    requires core { core.0 < cores_of bus.old }
+    requires known { loc.0 < length (words_of bus.old) }
+
+    ensures outcome { IfOk result (λ o. o ≡ (step_by processor.old core.0 (words_of bus.old) (Instr.Xchg loc reg)).outcome) }
+    ensures after { OnOk result (core_state core.0 processor.new ≡ (step_by processor.old core.0 (words_of bus.old) (Instr.Xchg loc reg)).after) }
+    ensures words { OnOk result (words_of bus.new ≡ memory_after (step_by processor.old core.0 (words_of bus.old) (Instr.Xchg loc reg)).commits (words_of bus.old)) }
+    ensures commits { OnOk result (commits.new.entries ≡ commits.old.entries ++ (step_by processor.old core.0 (words_of bus.old) (Instr.Xchg loc reg)).commits) }
+    ensures succeeds { (step_by processor.old core.0 (words_of bus.old) (Instr.Xchg loc reg)).outcome ≢ Outcome.Committed → IsOk result }
+
     ensures err_core { OnErr result (processor.new ≡ processor.old) }
-    ensures err_memory { OnErr result (memory.new ≡ memory.old) }
+    ensures err_bus { OnErr result (bus.new ≡ bus.old) }
+    ensures err_commits { OnErr result (commits.new.entries ≡ commits.old.entries) }
+    ensures cores { cores_of bus.new ≡ cores_of bus.old }
+    ensures count { length (words_of bus.new) ≡ length (words_of bus.old) }
     ensures stores { processor.new.stores ≡ processor.old.stores }
 {
     if !processor.stores.is_empty() {
         return Ok(Outcome::Stalled(Stall::Lock));
     }
-    let word = memory[loc.0 as usize];
+    let value = processor.register(reg);
+    commits.make_room(core, 2)?;
+    let (word, _) = bus.swap(core, loc, value)?;
+    note_locked(commits, core, processor.place, loc, word, value)?;
+    advance(processor, reg, word);
+    Ok(Outcome::Committed)
+}
+
+/// An addition waits until nothing is buffered. Then it reads the word into the register and writes
+/// the sum of the word and the register's value in its place, both at once.
+fn add<P: Protocol>(
+    processor: &mut Processor,
+    core: Core,
+    reg: Reg,
+    loc: Loc,
+    bus: &mut SnoopBus<P>,
+    commits: &mut Commits,
+) -> Result<Outcome, NoMemory>
+    requires place { processor.old.place < 32 }
+    requires core { core.0 < cores_of bus.old }
+    requires known { loc.0 < length (words_of bus.old) }
+
+    ensures outcome { IfOk result (λ o. o ≡ (step_by processor.old core.0 (words_of bus.old) (Instr.Xadd loc reg)).outcome) }
+    ensures after { OnOk result (core_state core.0 processor.new ≡ (step_by processor.old core.0 (words_of bus.old) (Instr.Xadd loc reg)).after) }
+    ensures words { OnOk result (words_of bus.new ≡ memory_after (step_by processor.old core.0 (words_of bus.old) (Instr.Xadd loc reg)).commits (words_of bus.old)) }
+    ensures commits { OnOk result (commits.new.entries ≡ commits.old.entries ++ (step_by processor.old core.0 (words_of bus.old) (Instr.Xadd loc reg)).commits) }
+    ensures succeeds { (step_by processor.old core.0 (words_of bus.old) (Instr.Xadd loc reg)).outcome ≢ Outcome.Committed → IsOk result }
+
+    ensures err_core { OnErr result (processor.new ≡ processor.old) }
+    ensures err_bus { OnErr result (bus.new ≡ bus.old) }
+    ensures err_commits { OnErr result (commits.new.entries ≡ commits.old.entries) }
+    ensures cores { cores_of bus.new ≡ cores_of bus.old }
+    ensures count { length (words_of bus.new) ≡ length (words_of bus.old) }
+    ensures stores { processor.new.stores ≡ processor.old.stores }
+{
+    if !processor.stores.is_empty() {
+        return Ok(Outcome::Stalled(Stall::Lock));
+    }
+    let value = processor.register(reg);
+    commits.make_room(core, 2)?;
+    let (word, _) = bus.add(core, loc, value)?;
+    note_locked(
+        commits,
+        core,
+        processor.place,
+        loc,
+        word,
+        word.wrapping_add(value),
+    )?;
+    advance(processor, reg, word);
+    Ok(Outcome::Committed)
+}
+
+/// Notes both parts of a locked instruction that read this word and wrote this value.
+///
+/// Fails only for want of memory, and not where there is room for both.
+fn note_locked(
+    commits: &mut Commits,
+    core: Core,
+    place: u8,
+    loc: Loc,
+    word: u32,
+    value: u32,
+) -> Result<(), NoMemory>
+    ensures ok { OnOk result (commits.new.entries ≡ commits.old.entries ++ entry core.0 place LR loc word ∷ (entry core.0 place LW loc value ∷ [])) }
+    ensures succeeds { 2 ≤ room_for commits.old core.0 → IsOk result }
+{
     commits.note(Entry {
         core,
-        place: processor.place,
+        place,
         kind: Kind::LR,
         loc,
         value: word,
     })?;
     commits.note(Entry {
         core,
-        place: processor.place,
+        place,
         kind: Kind::LW,
         loc,
         value,
-    })?;
-    memory[loc.0 as usize] = value;
-    advance(processor, reg, word);
-    Ok(Outcome::Committed)
+    })
 }
 
 /// The core goes on to its next instruction, with this value in the register.
@@ -239,29 +336,35 @@ fn advance(processor: &mut Processor, reg: Reg, value: u32)
 /// The oldest buffered store goes to memory, if there is one.
 ///
 /// Fails only for want of memory, and then changes nothing.
-pub fn drain(
+pub fn drain<P: Protocol>(
     processor: &mut Processor,
     core: Core,
-    memory: &mut [u32],
+    bus: &mut SnoopBus<P>,
     commits: &mut Commits,
 ) -> Result<Outcome, NoMemory>
-    requires { All (λ s. s.loc.0 < length memory.old) processor.old.stores.items }
+    requires core { core.0 < cores_of bus.old }
+    requires stores { All (λ s. s.loc.0 < length (words_of bus.old)) processor.old.stores.items }
 
     ensures outcome { IfOk result (λ o. o ≡ (drain_by processor.old core.0).outcome) }
     ensures after { OnOk result (core_state core.0 processor.new ≡ (drain_by processor.old core.0).after) }
-    ensures memory { OnOk result (memory.new ≡ memory_after (drain_by processor.old core.0).commits memory.old) }
-    ensures commits { OnOk result (commits.new ≡ commits.old ++ (drain_by processor.old core.0).commits) }
+    ensures words { OnOk result (words_of bus.new ≡ memory_after (drain_by processor.old core.0).commits (words_of bus.old)) }
+    ensures commits { OnOk result (commits.new.entries ≡ commits.old.entries ++ (drain_by processor.old core.0).commits) }
     ensures succeeds { (drain_by processor.old core.0).outcome ≢ Outcome.Committed → IsOk result }
 
     ensures err_core { OnErr result (processor.new ≡ processor.old) }
-    ensures err_memory { OnErr result (memory.new ≡ memory.old) }
+    ensures err_bus { OnErr result (bus.new ≡ bus.old) }
+    ensures err_commits { OnErr result (commits.new.entries ≡ commits.old.entries) }
+    ensures cores { cores_of bus.new ≡ cores_of bus.old }
+    ensures count { length (words_of bus.new) ≡ length (words_of bus.old) }
     ensures depth { processor.new.stores.depth ≡ processor.old.stores.depth }
-    ensures stores { All (λ s. s.loc.0 < length memory.new) processor.new.stores.items }
+    ensures stores { All (λ s. s.loc.0 < length (words_of bus.old)) processor.new.stores.items }
 {
     match processor.stores.oldest() {
         None => Ok(Outcome::Stalled(Stall::Empty)),
         Some(store) => {
             let Pending { place, loc, value } = store;
+            commits.make_room(core, 1)?;
+            let _ = bus.store(core, loc, value)?;
             commits.note(Entry {
                 core,
                 place,
@@ -270,7 +373,6 @@ pub fn drain(
                 value,
             })?;
             processor.stores.take_oldest();
-            memory[loc.0 as usize] = value;
             Ok(Outcome::Committed)
         }
     }

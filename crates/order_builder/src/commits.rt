@@ -1,15 +1,16 @@
-ghost use Rattle.std.specs.Prelude.{◌≡◌, ℕ, ◌<◌, ◌^◌, [], ◌∷◌, ◌++◌, length, map, IfOk, OnOk, OnErr, slice_index_or, slice_set};
+ghost use Rattle.std.specs.Prelude.{◌≡◌, ℕ, ◌+◌, ◌<◌, ◌≤◌, ◌^◌, [], ◌∷◌, ◌++◌, length, map, IsOk, IfOk, OnOk, OnErr, slice_index, slice_index_or, slice_set};
 ghost use Rattle.tso_model.specs.Execution.{KeepsPairs};
 ghost use Rattle.order_builder.specs.Numbers.{front_below, back_from, merged, merged_with, entries_in_order};
 ghost use Rattle.order_builder.specs.Kept.{IsKept, lists_in};
+ghost use Rattle.order_builder.specs.Noted.{room_for, room_in};
 ghost use Rattle.order_builder.specs.Pairs.{IsPaired};
 
 use std::alloc::Global;
 use std::marker::Model;
-use tso_model::{Entry, Execution, NoMemory};
+use tso_model::{Core, Entry, Execution, NoMemory};
 
 /// An entry with the number of its commit, from 0.
-#[derive(Clone, Copy, Debug)]
+#[derive(Clone, Copy)]
 struct Numbered {
     number: u128,
     entry: Entry,
@@ -26,14 +27,13 @@ pub struct Commits {
 }
 
 impl Model for Commits {
-    ghost use Rattle.std.specs.Prelude.{List};
-    ghost use Rattle.tso_model.specs.declared.execution.Entry.{Entry};
     ghost use Rattle.order_builder.specs.Numbers.{entries_in_order};
     ghost use Rattle.order_builder.specs.Kept.{IsKept, lists_in};
+    ghost use Rattle.order_builder.specs.Noted.{Noted, room_in};
 
-    ghost Value = { List Entry };
+    ghost Value = { Noted };
 
-    ghost view = { λ c. entries_in_order (lists_in c.lists.items) };
+    ghost view = { λ c. record { entries = entries_in_order (lists_in c.lists.items); room = room_in c.lists.items } };
 
     ghost invariant = { λ c. IsKept (lists_in c.lists.items) c.count };
 }
@@ -41,7 +41,7 @@ impl Model for Commits {
 impl Commits {
     /// No commits. Takes no memory.
     pub fn new(alloc: Global) -> Self
-        ensures { result ≡ [] }
+        ensures { result ≡ record { entries = []; room = [] } }
     {
         Commits {
             alloc,
@@ -50,12 +50,26 @@ impl Commits {
         }
     }
 
+    /// Makes room for so many further entries of the core, so that noting them can't fail. Nothing is
+    /// noted.
+    ///
+    /// Fails only for want of memory.
+    pub fn make_room(&mut self, core: Core, entries: u8) -> Result<(), NoMemory>
+        ensures ok { OnOk result (entries ≤ room_for self.new core.0) }
+        ensures same { self.new.entries ≡ self.old.entries }
+    {
+        make_list(self.alloc, &mut self.lists, core.0)?;
+        reserve(&mut self.lists, core.0, entries)
+    }
+
     /// Notes that the entry is committed now, behind all that were noted before.
     ///
-    /// Fails only for want of memory, and then nothing is noted.
+    /// Fails only for want of memory, and not where there is room; then nothing is noted.
     pub fn note(&mut self, entry: Entry) -> Result<(), NoMemory>
-        ensures ok { OnOk result (self.new ≡ self.old ++ entry ∷ []) }
-        ensures err { OnErr result (self.new ≡ self.old) }
+        ensures ok { OnOk result (self.new.entries ≡ self.old.entries ++ entry ∷ []) }
+        ensures room { room_for self.old entry.core.0 ≤ room_for self.new entry.core.0 + 1 }
+        ensures succeeds { 0 < room_for self.old entry.core.0 → IsOk result }
+        ensures err { OnErr result (self.new.entries ≡ self.old.entries) }
     {
         let core = entry.core.0;
         make_list(self.alloc, &mut self.lists, core)?;
@@ -74,7 +88,9 @@ impl Commits {
 
 /// Makes sure that the core has a list. An added list is empty.
 fn make_list(alloc: Global, lists: &mut Vec<Vec<Numbered>>, core: u8) -> Result<(), NoMemory>
-    ensures room { OnOk result (core < length lists.new.items) }
+    ensures there { OnOk result (core < length lists.new.items) }
+    ensures room { slice_index (room_in lists.old.items) core ≤ slice_index (room_in lists.new.items) core }
+    ensures succeeds { core < length lists.old.items → IsOk result }
     ensures same { entries_in_order (lists_in lists.new.items) ≡ entries_in_order (lists_in lists.old.items) }
     ensures kept { (count : ℕ) → IsKept (lists_in lists.old.items) count → IsKept (lists_in lists.new.items) count }
 {
@@ -84,11 +100,24 @@ fn make_list(alloc: Global, lists: &mut Vec<Vec<Numbered>>, core: u8) -> Result<
     Ok(())
 }
 
+/// Makes room in the core's list.
+fn reserve(lists: &mut Vec<Vec<Numbered>>, core: u8, entries: u8) -> Result<(), NoMemory>
+    requires { core < length lists.old.items }
+    ensures ok { OnOk result (entries ≤ slice_index (room_in lists.new.items) core) }
+    ensures same { lists_in lists.new.items ≡ lists_in lists.old.items }
+{
+    let list = &mut lists[core as usize];
+    list.reserve(entries as usize)?;
+    Ok(())
+}
+
 /// Appends an entry to the core's list.
 fn append(lists: &mut Vec<Vec<Numbered>>, core: u8, x: Numbered) -> Result<(), NoMemory>
     requires { core < length lists.old.items }
     ensures ok { OnOk result (lists_in lists.new.items ≡ slice_set (lists_in lists.old.items) core (slice_index_or (lists_in lists.old.items) core [] ++ x ∷ [])) }
     ensures short { OnOk result (length (slice_index_or (lists_in lists.old.items) core [] ++ x ∷ []) < 2 ^ 64) }
+    ensures room { slice_index (room_in lists.old.items) core ≤ slice_index (room_in lists.new.items) core + 1 }
+    ensures succeeds { 0 < slice_index (room_in lists.old.items) core → IsOk result }
     ensures err { OnErr result (lists_in lists.new.items ≡ lists_in lists.old.items) }
 {
     let list = &mut lists[core as usize];
@@ -101,8 +130,8 @@ fn append(lists: &mut Vec<Vec<Numbered>>, core: u8, x: Numbered) -> Result<(), N
 ///
 /// Fails only for want of memory.
 pub fn build(alloc: Global, commits: &Commits) -> Result<Execution, NoMemory>
-    requires { IsPaired commits.now }
-    ensures order { IfOk result (λ e. e.order.items ≡ commits.now) }
+    requires { IsPaired commits.now.entries }
+    ensures order { IfOk result (λ e. e.order.items ≡ commits.now.entries) }
     ensures pairs { IfOk result (λ e. KeepsPairs e.order.items) }
 {
     let numbered = merge_all(alloc, &commits.lists)?;

@@ -2,7 +2,7 @@ ghost use Rattle.std.specs.Prelude.{◌≡◌};
 ghost use Rattle.protocol_tables.specs.Names.{protocol_name};
 
 /// Which of the three protocols a machine's caches follow.
-#[derive(Clone, Copy, Debug, PartialEq, Eq)]
+#[derive(Clone, Copy)]
 pub enum ProtocolKind {
     Msi,
     Mesi,

@@ -1,7 +1,7 @@
 /// The state of a line in a cache. M and O are the dirty states: memory may be stale.
 ///
 /// (Primer on Memory Consistency and Cache Coherence, chapter 6.)
-#[derive(Clone, Copy, Debug, PartialEq, Eq)]
+#[derive(Clone, Copy, PartialEq, Eq)]
 pub enum State {
     /// Invalid: no copy.
     I,
@@ -16,7 +16,7 @@ pub enum State {
 }
 
 /// What a copy does when another core's request for its line is seen on the bus.
-#[derive(Clone, Copy, Debug, PartialEq, Eq)]
+#[derive(Clone, Copy)]
 pub struct Snoop {
     /// The copy's state afterwards.
     pub next: State,

@@ -9,15 +9,15 @@ use crate::protocol::Protocol;
 use crate::state::{Snoop, State};
 
 /// Modified, shared, invalid: the least that a write-back cache needs.
-#[derive(Clone, Copy, Debug, PartialEq, Eq)]
+#[derive(Clone, Copy)]
 pub struct Msi;
 
 /// MSI and exclusive copies: a line that no other cache holds is written without the bus.
-#[derive(Clone, Copy, Debug, PartialEq, Eq)]
+#[derive(Clone, Copy)]
 pub struct Mesi;
 
 /// MESI and owned copies: a modified line is shared without being sent to memory.
-#[derive(Clone, Copy, Debug, PartialEq, Eq)]
+#[derive(Clone, Copy)]
 pub struct Moesi;
 
 impl Protocol for Msi {

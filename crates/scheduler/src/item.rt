@@ -9,7 +9,7 @@ use crate::seeds::push_seeded;
 use tso_model::{Choice, Core, NoMemory};
 
 /// What a core is to do.
-#[derive(Clone, Copy, Debug, PartialEq, Eq)]
+#[derive(Clone, Copy)]
 pub enum Action {
     Step,
     Drain,
@@ -38,7 +38,7 @@ impl Action {
 }
 
 /// An item: one word that is a choice, or the three words `seed N M` for the first M choices of the seed N.
-#[derive(Clone, Copy, Debug, PartialEq, Eq)]
+#[derive(Clone, Copy)]
 pub enum Item {
     One(Choice),
     Seeded(u64, usize),

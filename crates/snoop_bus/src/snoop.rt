@@ -13,7 +13,7 @@ use protocol_tables::{Protocol, Snoop, State};
 use tso_model::Core;
 
 /// A request on the bus.
-#[derive(Clone, Copy, Debug, PartialEq, Eq)]
+#[derive(Clone, Copy)]
 pub enum Request {
     /// To read a line.
     GetS,

@@ -16,7 +16,7 @@ pub const MAX_DEPTH: u8 = 32;
 
 /// A store that was issued and is not in memory yet: the number of its instruction in its program,
 /// its location and the value that it writes.
-#[derive(Clone, Copy, Debug, PartialEq, Eq)]
+#[derive(Clone, Copy, PartialEq, Eq)]
 pub struct Pending {
     pub place: u8,
     pub loc: Loc,

@@ -17,6 +17,9 @@ use Rattle.order_builder.specs.declared.fault.OrderFault.{OrderFault}
 use Rattle.axiom_checker.specs.FirstBreach.{IsFirstBreach}
 use Rattle.axiom_checker.specs.declared.breach.Breach.{Breach}
 use Rattle.axiom_checker.specs.declared.breach.Breach.TheVariants.{Extra, Twice, Missing, WrongValue, ProgramOrder, NotAdjacent, ReadValue, NoMemory}
+use Rattle.protocol_tables.specs.declared.kind.ProtocolKind.{ProtocolKind}
+use Rattle.snoop_bus.specs.Geometry.{IsWithinLimits}
+use Rattle.machine_core.specs.Configuration.{Configuration}
 use Rattle.tso_report.specs.Report.{report}
 use Rattle.tso_report.specs.Shown.{Shown}
 use Rattle.tso_cli.specs.Simulation.{shown_of}
@@ -104,9 +107,9 @@ valid-answer t text order _ _ real once never test short spelled execution (refu
 valid-answer t text order _ _ real once never test short spelled execution (judged other out status again is) =
     valid-judgement t other out status real (subst (IsTsoExecution t) (once t text order other test short spelled again) execution) is
 
-pub printed-is-valid : (t : Litmus) (depth : ℕ) (choices : List Choice) (out answer : List ℕ) (status : Status) → IsReal → IsOnce → IsNeverBoth → IsTest t
-    → length out < 2 ^ 64 → PrintsExecution t depth choices out → IsCheckAnswer t out answer status → (answer ≡ valid_line) × (status ≡ Good)
-printed-is-valid t depth choices out answer status real once never test short prints is =
+pub printed-is-valid : (t : Litmus) (kind : ProtocolKind) (c : Configuration) (choices : List Choice) (out answer : List ℕ) (status : Status) → IsReal → IsOnce → IsNeverBoth → IsTest t
+    → length out < 2 ^ 64 → PrintsExecution t kind c choices out → IsCheckAnswer t out answer status → (answer ≡ valid_line) × (status ≡ Good)
+printed-is-valid t kind c choices out answer status real once never test short prints is =
     valid-answer t out prints.shown.order answer status real once never test short prints.spelled
     (record { whole = prints.exactly_once; program_order = prints.program_order; pairs = prints.adjacent; read_values = prints.read_values }) is
 
@@ -142,12 +145,12 @@ pub order-for : (t : Litmus) (order : List Entry) → IsTest t → ((e : Entry) 
 order-for t order test fits words = λ k d lt.
     entry-for t (slice_index_or order k d) test (fits _ (k, stands-at order k d lt)) (words k d lt)
 
-pub run-spells : (t : Litmus) (depth : ℕ) (r : flat.Run) (s : Shown) (text : List ℕ) → IsTest t → depth < 2 ^ 64
-    → ((t : Litmus) (depth : ℕ) (s : Shown) → IsTest t → depth < 2 ^ 64 → IsOrderFor t s.order → SpellsOrder t (report t depth s) s.order)
+pub run-spells : (t : Litmus) (kind : ProtocolKind) (c : Configuration) (r : flat.Run) (s : Shown) (text : List ℕ) → IsTest t → c.depth < 2 ^ 64 → IsWithinLimits c.shape
+    → ((t : Litmus) (kind : ProtocolKind) (c : Configuration) (s : Shown) → IsTest t → c.depth < 2 ^ 64 → IsWithinLimits c.shape → IsOrderFor t s.order → SpellsOrder t (report t kind c s) s.order)
     → ((t : Litmus) (order : List Entry) (e : Entry) → IsTest t → IsWhole t order → StandsIn order e → FitsTest t e)
-    → IsExecution t r → s ≡ shown_of t r → text ≡ report t depth s → All HasWord s.order → SpellsOrder t text r.commits
-run-spells t depth r s text test small law fits execution same printed words =
+    → IsExecution t r → s ≡ shown_of t r → text ≡ report t kind c s → All HasWord s.order → SpellsOrder t text r.commits
+run-spells t kind c r s text test small shape law fits execution same printed words =
     let order : s.order ≡ r.commits = ap (λ (s : Shown). s.order) same in
     let whole : IsWhole t s.order = subst (IsWhole t) (sym order) execution.order.whole in
     let are : IsOrderFor t s.order = order-for t s.order test (λ e stands. fits t s.order e test whole stands) words in
-    subst (SpellsOrder t text) order (subst (λ o. SpellsOrder t o s.order) (sym printed) (law t depth s test small are))
+    subst (SpellsOrder t text) order (subst (λ o. SpellsOrder t o s.order) (sym printed) (law t kind c s test small shape are))

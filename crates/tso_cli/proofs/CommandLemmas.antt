@@ -6,6 +6,7 @@ use Rattle.litmus_reader.specs.Spelling.{SpellsTest, IsRefused as IsRefusedTest}
 use Rattle.tso_cli.specs.Parts.{parts_of}
 use Rattle.tso_cli.specs.Answers.{IsAnswer, IsInputAnswer, IsAnswerTo, too_large, refused, answered}
 use Rattle.tso_cli.specs.Headline.{Headline, InputHeadline}
+use Rattle.protocol_tables.specs.declared.kind.ProtocolKind.{ProtocolKind}
 use Rattle.machine_core.specs.declared.config.Config.{Config}
 use Rattle.tso_cli.specs.declared.settings.Settings.{Settings}
 use Rattle.tso_cli.specs.declared.settings.Settings.TheVariants as settings
@@ -36,21 +37,21 @@ IsInputAnswer-from_take s input _ _ (answered t out status small spelled answer)
 
 -- the command reads an input
 abbrev pub ReadsInput : Settings → Type 0
-ReadsInput (settings.Run config) = Unit {0}
+ReadsInput (settings.Run kind config) = Unit {0}
 ReadsInput settings.Check = Unit {0}
 ReadsInput (settings.Tables kind) = ⊥
 
-pub run-or-check : (s : Settings) → ((config : Config) × (s ≡ settings.Run config)) ⊎ (s ≡ settings.Check) → ReadsInput s
-run-or-check s (inl run) = subst ReadsInput (sym run.1) tt
+pub run-or-check : (s : Settings) → ((kind : ProtocolKind) × (config : Config) × (s ≡ settings.Run kind config)) ⊎ (s ≡ settings.Check) → ReadsInput s
+run-or-check s (inl run) = subst ReadsInput (sym run.2) tt
 run-or-check s (inr check) = subst ReadsInput (sym check) tt
 
 IsAnswer-read : (s : Settings) (input out : List ℕ) (status : Status) → ReadsInput s → IsInputAnswer s input out status → IsAnswer s input out status
-IsAnswer-read (settings.Run config) input out status reads is = is
+IsAnswer-read (settings.Run kind config) input out status reads is = is
 IsAnswer-read settings.Check input out status reads is = is
 IsAnswer-read (settings.Tables kind) input out status reads is = absurd reads
 
 Headline-read : (s : Settings) (input out : List ℕ) → ReadsInput s → (length input ≤ 1048576 → InputHeadline s input out) → Headline s input out
-Headline-read (settings.Run config) input out reads h = h
+Headline-read (settings.Run kind config) input out reads h = h
 Headline-read settings.Check input out reads h = h
 Headline-read (settings.Tables kind) input out reads h = absurd reads
 

@@ -6,6 +6,8 @@ use Rattle.tso_model.specs.declared.choice.Choice.{Choice}
 use Rattle.tso_laws.specs.EndedRuns.{IsExecution}
 use Rattle.scheduler.specs.Grammar.{SpellsChoices}
 use Rattle.order_builder.specs.Spelling.{SpellsOrder}
+use Rattle.protocol_tables.specs.declared.kind.ProtocolKind.{ProtocolKind}
+use Rattle.machine_core.specs.Configuration.{Configuration}
 use Rattle.tso_report.specs.Report.{report}
 use Rattle.tso_cli.specs.Answers.{run_text}
 use Rattle.litmus_reader.specs.Spelling.{SpellsTest, IsRefused as IsRefusedTest}
@@ -18,10 +20,10 @@ use Rattle.tso_cli.specs.Headline.{PrintsExecution, PrintsEachRun, HeadlineOf, I
 use Rattle.tso_cli.specs.Simulation.{shown_of}
 use Rattle.tso_cli.specs.declared.answer.Answer.{Answer}
 
-prints : (t : Litmus) (depth : ℕ) (choices : List Choice) (out : List ℕ) → IsExecution t (run t depth choices)
-    → out ≡ report t depth (shown_of t (run t depth choices)) → SpellsOrder t out (run t depth choices).commits → PrintsExecution t depth choices out
-prints t depth choices out e printed spelled = record {
-  shown = shown_of t (run t depth choices);
+prints : (t : Litmus) (kind : ProtocolKind) (c : Configuration) (choices : List Choice) (out : List ℕ) → IsExecution t (run t c.depth choices)
+    → out ≡ report t kind c (shown_of t (run t c.depth choices)) → SpellsOrder t out (run t c.depth choices).commits → PrintsExecution t kind c choices out
+prints t kind c choices out e printed spelled = record {
+  shown = shown_of t (run t c.depth choices);
   printed = printed;
   exactly_once = e.order.whole;
   program_order = e.order.program_order;
@@ -34,22 +36,22 @@ prints t depth choices out e printed spelled = record {
   spelled = spelled;
 }
 
-prints-one : (t : Litmus) (depth : ℕ) (choices : List Choice) (out : List ℕ) → out ≡ run_text t depth (run t depth choices)
-    → ((run t depth choices).ended ≡ true → IsExecution t (run t depth choices))
-    → ((run t depth choices).ended ≡ true → SpellsOrder t out (run t depth choices).commits)
-    → (run t depth choices).ended ≡ true → PrintsExecution t depth choices out
-prints-one t depth choices out text law spelled ended = prints t depth choices out (law ended) (rw ended at text) (spelled ended)
+prints-one : (t : Litmus) (kind : ProtocolKind) (c : Configuration) (choices : List Choice) (out : List ℕ) → out ≡ run_text t kind c (run t c.depth choices)
+    → ((run t c.depth choices).ended ≡ true → IsExecution t (run t c.depth choices))
+    → ((run t c.depth choices).ended ≡ true → SpellsOrder t out (run t c.depth choices).commits)
+    → (run t c.depth choices).ended ≡ true → PrintsExecution t kind c choices out
+prints-one t kind c choices out text law spelled ended = prints t kind c choices out (law ended) (rw ended at text) (spelled ended)
 
-pub PrintsEachRun-from_text : {E : Type 0} (r : Result Answer E) (t : Litmus) (depth : ℕ) (text : List ℕ) (made : List Choice)
-    → IfOk r (λ a. string_bytes a.text ≡ run_text t depth (run t depth made))
-    → ((run t depth made).ended ≡ true → IfOk r (λ a. SpellsOrder t (string_bytes a.text) (run t depth made).commits))
+pub PrintsEachRun-from_text : {E : Type 0} (r : Result Answer E) (t : Litmus) (kind : ProtocolKind) (c : Configuration) (text : List ℕ) (made : List Choice)
+    → IfOk r (λ a. string_bytes a.text ≡ run_text t kind c (run t c.depth made))
+    → ((run t c.depth made).ended ≡ true → IfOk r (λ a. SpellsOrder t (string_bytes a.text) (run t c.depth made).commits))
     → ((choices : List Choice) → SpellsChoices (length t.programs) text choices → made ≡ choices)
-    → ((run t depth made).ended ≡ true → IsExecution t (run t depth made))
-    → IfOk r (λ a. PrintsEachRun t depth text (string_bytes a.text))
-PrintsEachRun-from_text (Ok a) t depth text made is spelled only law = λ choices read.
-    subst (λ cs. (run t depth cs).ended ≡ true → PrintsExecution t depth cs (string_bytes a.text)) (only choices read)
-    (prints-one t depth made (string_bytes a.text) is law spelled)
-PrintsEachRun-from_text (Err e) t depth text made is spelled only law = tt
+    → ((run t c.depth made).ended ≡ true → IsExecution t (run t c.depth made))
+    → IfOk r (λ a. PrintsEachRun t kind c text (string_bytes a.text))
+PrintsEachRun-from_text (Ok a) t kind c text made is spelled only law = λ choices read.
+    subst (λ cs. (run t c.depth cs).ended ≡ true → PrintsExecution t kind c cs (string_bytes a.text)) (only choices read)
+    (prints-one t kind c made (string_bytes a.text) is law spelled)
+PrintsEachRun-from_text (Err e) t kind c text made is spelled only law = tt
 
 -- a first part that spells a test, and one that is refused
 pub headline-of-test : {E : Type 0} (r : Result Answer E) (s : Settings) (input : List ℕ) (test : Litmus) → SpellsTest (parts_of input).test test

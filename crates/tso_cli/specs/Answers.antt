@@ -18,6 +18,7 @@ use Rattle.protocol_tables.specs.Names.{protocol_name}
 use Rattle.protocol_tables.specs.Tables.{table_of}
 use Rattle.protocol_tables.specs.PrintedTable.{printed_table}
 use Rattle.protocol_tables.specs.declared.kind.ProtocolKind.{ProtocolKind}
+use Rattle.machine_core.specs.Configuration.{Configuration}
 use Rattle.tso_report.specs.Report.{report}
 use Rattle.tso_cli.specs.Parts.{parts_of}
 use Rattle.tso_cli.specs.Lines.{input_refusal, test_refusal, choices_refusal, unfinished_line}
@@ -29,18 +30,18 @@ use Rattle.tso_cli.specs.declared.answer.Status.{Status}
 use Rattle.tso_cli.specs.declared.answer.Status.TheVariants.{Good, Refused, Unended, Invalid}
 
 -- what is written of a run of the flat machine: the report where it ended, else how far it came
-abbrev pub run_text : Litmus → ℕ → flat.Run → List ℕ
-run_text t depth r = if r.ended then report t depth (shown_of t r) else unfinished_line r.used r.stalled
+abbrev pub run_text : Litmus → ProtocolKind → Configuration → flat.Run → List ℕ
+run_text t kind c r = if r.ended then report t kind c (shown_of t r) else unfinished_line r.used r.stalled
 
 abbrev pub run_status : flat.Run → Status
 run_status r = if r.ended then Good else Unended
 
 -- the answer of `run` to a test and the text of its choices
-pub data IsRunAnswer (t : Litmus) (depth : ℕ) (text : List ℕ) : List ℕ → Status → Type 0 where
+pub data IsRunAnswer (t : Litmus) (kind : ProtocolKind) (c : Configuration) (text : List ℕ) : List ℕ → Status → Type 0 where
   refused : (fault : ChoiceFault) → AreRefusedChoices (length t.programs) text fault
-      → IsRunAnswer t depth text (choices_refusal fault) Refused
+      → IsRunAnswer t kind c text (choices_refusal fault) Refused
   ran : (choices : List Choice) → SpellsChoices (length t.programs) text choices
-      → IsRunAnswer t depth text (run_text t depth (flat.run t depth choices)) (run_status (flat.run t depth choices))
+      → IsRunAnswer t kind c text (run_text t kind c (flat.run t c.depth choices)) (run_status (flat.run t c.depth choices))
 
 -- the answer of `check` to a test and an order of it
 pub data IsJudgement (t : Litmus) (order : List Entry) : List ℕ → Status → Type 0 where
@@ -60,7 +61,7 @@ pub record IsTableAnswer (kind : ProtocolKind) (out : List ℕ) (status : Status
 
 -- the answer to a test and the second part of its input
 abbrev pub IsAnswerTo : Settings → Litmus → List ℕ → List ℕ → Status → Type 0
-IsAnswerTo (settings.Run config) t text out status = IsRunAnswer t config.depth text out status
+IsAnswerTo (settings.Run kind config) t text out status = IsRunAnswer t kind config text out status
 IsAnswerTo settings.Check t text out status = IsCheckAnswer t text out status
 IsAnswerTo (settings.Tables kind) t text out status = IsTableAnswer kind out status
 
@@ -74,12 +75,12 @@ pub data IsInputAnswer (s : Settings) (input : List ℕ) : List ℕ → Status �
 
 -- the answer to an input; `tables` reads none, and answers the same to each
 abbrev pub IsAnswer : Settings → List ℕ → List ℕ → Status → Type 0
-IsAnswer (settings.Run config) input out status = IsInputAnswer (settings.Run config) input out status
+IsAnswer (settings.Run kind config) input out status = IsInputAnswer (settings.Run kind config) input out status
 IsAnswer settings.Check input out status = IsInputAnswer settings.Check input out status
 IsAnswer (settings.Tables kind) input out status = IsTableAnswer kind out status
 
 -- how many bytes of the input are read, at most
 abbrev pub most_read : Settings → ℕ
-most_read (settings.Run config) = 1048577
+most_read (settings.Run kind config) = 1048577
 most_read settings.Check = 1048577
 most_read (settings.Tables kind) = 0

@@ -17,6 +17,7 @@ use Rattle.protocol_tables.specs.Names.{protocol_name}
 use Rattle.protocol_tables.specs.Tables.{table_of}
 use Rattle.protocol_tables.specs.PrintedTable.{printed_table}
 use Rattle.protocol_tables.specs.declared.kind.ProtocolKind.{ProtocolKind}
+use Rattle.machine_core.specs.Configuration.{Configuration}
 use Rattle.tso_report.specs.Shown.{Shown}
 use Rattle.tso_report.specs.Report.{report}
 use Rattle.tso_cli.specs.Parts.{parts_of}
@@ -30,9 +31,9 @@ use Rattle.tso_cli.specs.declared.settings.Settings.TheVariants as settings
 -- once and meets every TSO axiom; its registers and memory are what the programs and that order give, and its verdict
 -- is the condition's truth in them; its order is what the machine committed under these very choices; and it can be
 -- read again, as the text of that order
-pub record PrintsExecution (t : Litmus) (depth : ℕ) (choices : List Choice) (out : List ℕ) : Type 0 where
+pub record PrintsExecution (t : Litmus) (kind : ProtocolKind) (c : Configuration) (choices : List Choice) (out : List ℕ) : Type 0 where
   pub shown : Shown
-  pub printed : out ≡ report t depth shown
+  pub printed : out ≡ report t kind c shown
   pub exactly_once : IsWhole t shown.order
   pub program_order : KeepsProgramOrder shown.order
   pub adjacent : KeepsPairs shown.order
@@ -40,14 +41,14 @@ pub record PrintsExecution (t : Litmus) (depth : ℕ) (choices : List Choice) (o
   pub registers : shown.registers ≡ final_registers t shown.order
   pub memory : shown.memory ≡ final_words t shown.order
   pub condition : shown.holds ≡ verdict t shown.registers shown.memory
-  pub under_choices : shown.order ≡ (run t depth choices).commits
+  pub under_choices : shown.order ≡ (run t c.depth choices).commits
   pub spelled : SpellsOrder t out shown.order
 
 -- for every list of choices that the text spells and that ends the test, an execution is printed
-abbrev pub PrintsEachRun : Litmus → ℕ → List ℕ → List ℕ → Type 0
-PrintsEachRun t depth text out =
-    (choices : List Choice) → SpellsChoices (length t.programs) text choices → (run t depth choices).ended ≡ true
-    → PrintsExecution t depth choices out
+abbrev pub PrintsEachRun : Litmus → ProtocolKind → Configuration → List ℕ → List ℕ → Type 0
+PrintsEachRun t kind c text out =
+    (choices : List Choice) → SpellsChoices (length t.programs) text choices → (run t c.depth choices).ended ≡ true
+    → PrintsExecution t kind c choices out
 
 -- what is written of an order is `Check valid` exactly where it is a TSO execution of the test, else its first breach
 pub record JudgesOrder (t : Litmus) (order : List Entry) (out : List ℕ) : Type 0 where
@@ -64,7 +65,7 @@ PrintsTable kind out = out ≡ printed_table (protocol_name kind) (table_of kind
 
 -- what the headline says of a test and the second part of its input
 abbrev pub HeadlineOf : Settings → Litmus → List ℕ → List ℕ → Type 0
-HeadlineOf (settings.Run config) t text out = PrintsEachRun t config.depth text out
+HeadlineOf (settings.Run kind config) t text out = PrintsEachRun t kind config text out
 HeadlineOf settings.Check t text out = JudgesEachOrder t text out
 HeadlineOf (settings.Tables kind) t text out = PrintsTable kind out
 
@@ -76,6 +77,6 @@ pub record InputHeadline (s : Settings) (input out : List ℕ) : Type 0 where
 
 -- of an input within its size; `tables` reads none
 abbrev pub Headline : Settings → List ℕ → List ℕ → Type 0
-Headline (settings.Run config) input out = length input ≤ 1048576 → InputHeadline (settings.Run config) input out
+Headline (settings.Run kind config) input out = length input ≤ 1048576 → InputHeadline (settings.Run kind config) input out
 Headline settings.Check input out = length input ≤ 1048576 → InputHeadline settings.Check input out
 Headline (settings.Tables kind) input out = PrintsTable kind out

@@ -26,7 +26,7 @@ use tso_report::laws::report_spells_its_order;
 use tso_report::report_text;
 
 /// How a command ended.
-#[derive(Clone, Copy, Debug, PartialEq, Eq)]
+#[derive(Clone, Copy, PartialEq, Eq)]
 pub enum Status {
     /// The test ended, the order is valid, or what was asked for was printed.
     Good,
@@ -39,7 +39,7 @@ pub enum Status {
 }
 
 /// What is to be written, and how the command ended.
-#[derive(Debug, Drop)]
+#[derive(Drop)]
 pub struct Answer {
     pub text: String,
     pub status: Status,
@@ -120,7 +120,7 @@ fn answer_of(
     ensures headline { IfOk result (λ a. HeadlineOf settings.now test.now text.now (string_bytes a.text)) }
 {
     match settings {
-        Settings::Run { config } => run_answer(alloc, test, *config, text),
+        Settings::Run { protocol, config } => run_answer(alloc, test, *protocol, *config, text),
         Settings::Check => check_answer(alloc, test, text),
         Settings::Tables(kind) => table_answer(alloc, *kind),
     }
@@ -140,14 +140,20 @@ pub fn table_answer(alloc: Global, kind: ProtocolKind) -> Result<Answer, NoMemor
     })
 }
 
-fn run_answer(alloc: Global, test: &Test, config: Config, text: &[u8]) -> Result<Answer, NoMemory>
-    ensures exact { IfOk result (λ a. IsRunAnswer test.now config.depth text.now (string_bytes a.text) a.status) }
-    ensures headline { IfOk result (λ a. PrintsEachRun test.now config.depth text.now (string_bytes a.text)) }
+fn run_answer(
+    alloc: Global,
+    test: &Test,
+    protocol: ProtocolKind,
+    config: Config,
+    text: &[u8],
+) -> Result<Answer, NoMemory>
+    ensures exact { IfOk result (λ a. IsRunAnswer test.now protocol config text.now (string_bytes a.text) a.status) }
+    ensures headline { IfOk result (λ a. PrintsEachRun test.now protocol config text.now (string_bytes a.text)) }
 {
     ended_runs_are_executions();
     spelled_cores_exist();
     match read_choices(alloc, test.cores(), text) {
-        Ok(choices) => run_under(alloc, test, config, &choices),
+        Ok(choices) => run_under(alloc, test, protocol, config, &choices),
         Err(fault) => refused_choices(alloc, fault),
     }
 }
@@ -155,11 +161,12 @@ fn run_answer(alloc: Global, test: &Test, config: Config, text: &[u8]) -> Result
 fn run_under(
     alloc: Global,
     test: &Test,
+    protocol: ProtocolKind,
     config: Config,
     choices: &[Choice],
 ) -> Result<Answer, NoMemory>
     requires { CoresExist (length test.now.programs) choices.now }
-    ensures text { IfOk result (λ a. string_bytes a.text ≡ run_text test.now config.depth (run test.now config.depth choices.now)) }
+    ensures text { IfOk result (λ a. string_bytes a.text ≡ run_text test.now protocol config (run test.now config.depth choices.now)) }
     ensures status { IfOk result (λ a. a.status ≡ run_status (run test.now config.depth choices.now)) }
     ensures spelled { (run test.now config.depth choices.now).ended ≡ true → IfOk result (λ a. SpellsOrder test.now (string_bytes a.text) (run test.now config.depth choices.now).commits) }
 {
@@ -168,9 +175,9 @@ fn run_under(
     report_spells_its_order();
     let _cores = test.cores();
     let _depth = config.depth();
-    match simulate(alloc, test, config, choices) {
+    match simulate(alloc, test, protocol, config, choices) {
         Ok(Ending::Ended(run)) => {
-            let text = report_text(alloc, test, config, &run)?;
+            let text = report_text(alloc, test, protocol, config, &run)?;
             Ok(Answer {
                 text,
                 status: Status::Good,

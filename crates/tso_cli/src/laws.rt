@@ -3,6 +3,8 @@
 ghost use Rattle.std.specs.Prelude.{◌≡◌, ◌<◌, ◌^◌, ℕ, List, length};
 ghost use Rattle.tso_model.specs.Litmus.{Litmus, IsTest};
 ghost use Rattle.tso_model.specs.declared.choice.Choice.{Choice};
+ghost use Rattle.protocol_tables.specs.declared.kind.ProtocolKind.{ProtocolKind};
+ghost use Rattle.machine_core.specs.Configuration.{Configuration};
 ghost use Rattle.tso_cli.specs.Answers.{IsCheckAnswer};
 ghost use Rattle.tso_cli.specs.CheckLines.{valid_line};
 ghost use Rattle.tso_cli.specs.Headline.{PrintsExecution};
@@ -15,8 +17,8 @@ use order_builder::laws::order_is_spelled_once;
 /// What `run` prints of a run that ended, handed to `check` with the same test, is answered `Check
 /// valid`, with the status of success.
 pub fn printed_runs_are_valid()
-    ensures { (t : Litmus) (depth : ℕ) (choices : List Choice) (out answer : List ℕ) (status : Status)
-        → IsTest t → length out < 2 ^ 64 → PrintsExecution t depth choices out → IsCheckAnswer t out answer status
+    ensures { (t : Litmus) (kind : ProtocolKind) (c : Configuration) (choices : List Choice) (out answer : List ℕ) (status : Status)
+        → IsTest t → length out < 2 ^ 64 → PrintsExecution t kind c choices out → IsCheckAnswer t out answer status
         → (answer ≡ valid_line) × (status ≡ Good) }
 {
     first_breach_is_real();

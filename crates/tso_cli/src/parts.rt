@@ -3,7 +3,7 @@ ghost use Rattle.std.specs.Option.{option_map};
 ghost use Rattle.tso_cli.specs.Parts as words;
 
 /// The two parts of an input: the text of a test, and choices or an order.
-#[derive(Clone, Copy, Debug)]
+#[derive(Clone, Copy)]
 pub struct Parts<'a> {
     pub test: &'a [u8],
     pub rest: &'a [u8],

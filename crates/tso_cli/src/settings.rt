@@ -3,16 +3,19 @@ ghost use Rattle.tso_cli.specs.Limits.{IsWithinLimits};
 
 use clap::builder::ValueParser;
 use clap::{Arg, ArgMatches, Command};
-use machine_core::Config;
+use machine_core::{Config, Shape};
 use protocol_tables::ProtocolKind;
-use std::alloc::Global;
+use std::alloc::{AllocError, Global};
 use thiserror::Error;
 
 /// What a command line asks for.
-#[derive(Clone, Copy, Debug, PartialEq, Eq)]
+#[derive(Clone, Copy)]
 pub enum Settings {
-    /// Run a test under choices, on a machine of this configuration.
-    Run { config: Config },
+    /// Run a test under choices, on a machine of this protocol and configuration.
+    Run {
+        protocol: ProtocolKind,
+        config: Config,
+    },
     /// Check an order of a test against the axioms.
     Check,
     /// Print a protocol's table.
@@ -40,7 +43,7 @@ pub enum LineFault {
 pub fn settings_of(alloc: Global, words: &[&str]) -> Result<Settings, LineFault>
     ensures { IfOk result IsWithinLimits }
 {
-    let command = command_line(alloc)?;
+    let command = command_line(alloc).map_err(clap::Error::from)?;
     let matches = command.try_get_matches_from(words)?;
     match matches.subcommand() {
         Some((name, inner)) => settings_in(name, inner).ok_or(LineFault::Range),
@@ -48,21 +51,33 @@ pub fn settings_of(alloc: Global, words: &[&str]) -> Result<Settings, LineFault>
     }
 }
 
-fn command_line<'a>(alloc: Global) -> Result<Command<'a>, clap::Error> {
-    let run = Command::new(alloc, "run")
-        .about("Runs a test under a list of choices")
-        .arg(depth_option(alloc))?;
-    let check = Command::new(alloc, "check").about("Checks an order of a test against the axioms");
-    let tables = Command::new(alloc, "tables")
-        .about("Prints the table of a protocol")
-        .arg(protocol_option(alloc))?;
-    let command = Command::new(alloc, "tso")
+fn command_line<'a>(alloc: Global) -> Result<Command<'a>, AllocError> {
+    Command::new(alloc, "tso")
         .about("Runs x86 litmus tests on a simulated multiprocessor under total store order")
         .subcommand_required(true)
-        .subcommand(run)?
-        .subcommand(check)?
-        .subcommand(tables)?;
-    Ok(command)
+        .subcommand(run_line(alloc)?)?
+        .subcommand(check_line(alloc))?
+        .subcommand(tables_line(alloc)?)
+}
+
+fn run_line<'a>(alloc: Global) -> Result<Command<'a>, AllocError> {
+    Command::new(alloc, "run")
+        .about("Runs a test under a list of choices")
+        .arg(protocol_option(alloc))?
+        .arg(depth_option(alloc))?
+        .arg(sets_option(alloc))?
+        .arg(ways_option(alloc))?
+        .arg(words_option(alloc))
+}
+
+fn check_line<'a>(alloc: Global) -> Command<'a> {
+    Command::new(alloc, "check").about("Checks an order of a test against the axioms")
+}
+
+fn tables_line<'a>(alloc: Global) -> Result<Command<'a>, AllocError> {
+    Command::new(alloc, "tables")
+        .about("Prints the table of a protocol")
+        .arg(protocol_option(alloc))
 }
 
 fn depth_option<'a>(alloc: Global) -> Arg<'a> {
@@ -71,6 +86,30 @@ fn depth_option<'a>(alloc: Global) -> Arg<'a> {
         .help("How many stores each core's buffer holds")
         .value_parser(clap::value_parser!(u8).range(1..=32))
         .default_value("4")
+}
+
+fn sets_option<'a>(alloc: Global) -> Arg<'a> {
+    Arg::new(alloc, "sets")
+        .long("sets")
+        .help("How many sets each core's cache has")
+        .value_parser(clap::value_parser!(u8).range(1..=8))
+        .default_value("1")
+}
+
+fn ways_option<'a>(alloc: Global) -> Arg<'a> {
+    Arg::new(alloc, "ways")
+        .long("ways")
+        .help("For how many lines each set has room")
+        .value_parser(clap::value_parser!(u8).range(1..=8))
+        .default_value("2")
+}
+
+fn words_option<'a>(alloc: Global) -> Arg<'a> {
+    Arg::new(alloc, "words")
+        .long("words")
+        .help("How many words a line has")
+        .value_parser(clap::value_parser!(u8).range(1..=4))
+        .default_value("1")
 }
 
 fn protocol_option<'a>(alloc: Global) -> Arg<'a> {
@@ -96,9 +135,18 @@ fn settings_in(name: &str, matches: &ArgMatches<'_>) -> Option<Settings>
 fn run_settings(matches: &ArgMatches<'_>) -> Option<Settings>
     ensures { IfSome result IsWithinLimits }
 {
+    let protocol = protocol_in(matches)?;
     let depth = matches.get_one::<u8>("depth")?;
-    let config = Config::new(depth)?;
-    Some(Settings::Run { config })
+    let config = Config::new(depth, shape_in(matches)?)?;
+    let _known = config.depth();
+    Some(Settings::Run { protocol, config })
+}
+
+fn shape_in(matches: &ArgMatches<'_>) -> Option<Shape> {
+    let sets = matches.get_one::<u8>("sets")?;
+    let ways = matches.get_one::<u8>("ways")?;
+    let words = matches.get_one::<u8>("words")?;
+    Shape::new(sets, ways, words)
 }
 
 fn protocol_in(matches: &ArgMatches<'_>) -> Option<ProtocolKind> {

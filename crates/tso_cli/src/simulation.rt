@@ -6,6 +6,7 @@ ghost use Rattle.tso_laws.specs.Rounds.{CanBeCutIntoRounds};
 ghost use Rattle.tso_laws.specs.Counting.{longest};
 
 use machine_core::{Choice, Config, Final, Machine, Outcome};
+use protocol_tables::{Mesi, Moesi, Msi, Protocol, ProtocolKind};
 use std::alloc::Global;
 use thiserror::Error;
 use tso_laws::{
@@ -15,7 +16,7 @@ use tso_model::{NoMemory, Test, cond_holds};
 use tso_report::Run;
 
 /// How a list of choices left a test.
-#[derive(Debug, Drop)]
+#[derive(Drop)]
 pub enum Ending {
     /// The test ended within the list.
     Ended(Run),
@@ -37,12 +38,15 @@ impl From<NoMemory> for SimFault {
     }
 }
 
-/// Runs a test under a list of choices, up to the first moment at which it has ended.
+/// Runs a test under a list of choices, up to the first moment at which it has ended, on a machine of
+/// this protocol and configuration. Neither the protocol nor the shape of the caches has a part in the
+/// answer.
 ///
 /// Fails only for want of memory.
 pub fn simulate(
     alloc: Global,
     test: &Test,
+    protocol: ProtocolKind,
     config: Config,
     choices: &[Choice],
 ) -> Result<Ending, SimFault>
@@ -59,12 +63,31 @@ pub fn simulate(
     runs_are_counted();
     fair_rounds_end();
     let _known = config.depth();
-    run_to_the_end(alloc, test, config, choices)
+    run_with(alloc, test, protocol, config, choices)
 }
 
-fn run_to_the_end(
+fn run_with(
     alloc: Global,
     test: &Test,
+    protocol: ProtocolKind,
+    config: Config,
+    choices: &[Choice],
+) -> Result<Ending, SimFault>
+    requires { CoresExist (length test.now.programs) choices.now }
+    ensures ending { IfOk result (IsEndingOf test.now (flat.run test.now config.depth choices.now)) }
+    ensures fits { IfOk result (FitsEnding test.now) }
+{
+    match protocol {
+        ProtocolKind::Msi => run_to_the_end(alloc, test, Msi, config, choices),
+        ProtocolKind::Mesi => run_to_the_end(alloc, test, Mesi, config, choices),
+        ProtocolKind::Moesi => run_to_the_end(alloc, test, Moesi, config, choices),
+    }
+}
+
+fn run_to_the_end<P: Protocol>(
+    alloc: Global,
+    test: &Test,
+    protocol: P,
     config: Config,
     choices: &[Choice],
 ) -> Result<Ending, SimFault>
@@ -75,7 +98,7 @@ fn run_to_the_end(
     ended_runs_are_executions();
     whole_orders_have_each_entry_once();
     let _known = test.cores();
-    let mut machine = Machine::new(alloc, test, config)?;
+    let mut machine = Machine::new(alloc, protocol, test, config)?;
     let progress = drive(&mut machine, choices)?;
     if !machine.is_ended() {
         return Ok(Ending::Unfinished {
@@ -97,14 +120,17 @@ fn run_to_the_end(
 }
 
 /// How many choices were made, and how many of them stalled.
-#[derive(Clone, Copy, Debug)]
+#[derive(Clone, Copy)]
 struct Progress {
     used: usize,
     stalled: usize,
 }
 
 /// Makes the choices one after the other, until the test has ended.
-fn drive(machine: &mut Machine<'_>, choices: &[Choice]) -> Result<Progress, NoMemory>
+fn drive<P: Protocol>(
+    machine: &mut Machine<'_, P>,
+    choices: &[Choice],
+) -> Result<Progress, NoMemory>
     requires fresh { machine.old.failed ≡ false }
     requires cores { CoresExist (length machine.old.test.programs) choices.now }
     ensures drives { IfOk result (λ p. Drives machine.old machine.new choices.now p.used p.stalled) }

@@ -1,7 +1,7 @@
 use crate::instruction::Core;
 
 /// One step of a schedule: which core acts, and how.
-#[derive(Clone, Copy, Debug, PartialEq, Eq)]
+#[derive(Clone, Copy, PartialEq, Eq)]
 pub enum Choice {
     /// The core's next instruction is to take effect.
     Step(Core),
@@ -10,7 +10,7 @@ pub enum Choice {
 }
 
 /// Why a choice changed nothing.
-#[derive(Clone, Copy, Debug, PartialEq, Eq)]
+#[derive(Clone, Copy, PartialEq, Eq)]
 pub enum Stall {
     /// The core's program is at its end.
     Done,
@@ -25,7 +25,7 @@ pub enum Stall {
 }
 
 /// What a choice did.
-#[derive(Clone, Copy, Debug, PartialEq, Eq)]
+#[derive(Clone, Copy, PartialEq, Eq)]
 pub enum Outcome {
     /// One memory action took effect, or both parts of a locked instruction.
     Committed,

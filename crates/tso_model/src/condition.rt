@@ -6,7 +6,7 @@ use crate::register::Reg;
 
 /// How a condition speaks of the final states. The truth of a proposition in one state doesn't
 /// depend on it.
-#[derive(Clone, Copy, Debug, PartialEq, Eq)]
+#[derive(Clone, Copy)]
 pub enum Quantifier {
     /// `exists`.
     Exists,
@@ -17,7 +17,7 @@ pub enum Quantifier {
 }
 
 /// A proposition on a final state.
-#[derive(Debug, Drop)]
+#[derive(Drop)]
 pub enum Prop {
     /// `true` or `false`.
     Truth(bool),
@@ -31,7 +31,7 @@ pub enum Prop {
 }
 
 /// The condition of a test.
-#[derive(Debug, Drop)]
+#[derive(Drop)]
 pub struct Cond {
     pub quantifier: Quantifier,
     pub prop: Prop,

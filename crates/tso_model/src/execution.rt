@@ -28,7 +28,7 @@ pub struct Entry {
 }
 
 /// The memory actions of all cores in one order, the first in memory first.
-#[derive(Debug, Drop)]
+#[derive(Drop)]
 pub struct Execution {
     pub order: Vec<Entry>,
 }

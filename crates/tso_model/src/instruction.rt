@@ -9,7 +9,7 @@ pub struct Core(pub u8);
 pub struct Loc(pub u8);
 
 /// An instruction of a core's straight-line program.
-#[derive(Clone, Copy, Debug, PartialEq, Eq)]
+#[derive(Clone, Copy)]
 pub enum Instr {
     /// `MOV [x],$v`: a plain store of a number.
     StoreImm(Loc, u32),

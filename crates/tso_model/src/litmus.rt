@@ -12,7 +12,7 @@ use crate::validity::parts_fit;
 use std::marker::Model;
 
 /// What a test is made of, before its limits are known to hold.
-#[derive(Debug, Drop)]
+#[derive(Drop)]
 pub struct TestParts {
     pub name: String,
     /// The names of the locations, in the order of their numbers.
@@ -26,7 +26,7 @@ pub struct TestParts {
 }
 
 /// A litmus test within the limits: each name that its programs and its condition use exists.
-#[derive(Debug, Drop)]
+#[derive(Drop)]
 pub struct Test {
     parts: TestParts,
 }

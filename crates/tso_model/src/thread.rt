@@ -9,7 +9,7 @@ use crate::memory::NoMemory;
 use std::alloc::Global;
 
 /// What a core's program does: its entries in program order, and its registers at the end.
-#[derive(Debug, Drop)]
+#[derive(Drop)]
 pub struct Thread {
     pub entries: Vec<Entry>,
     pub registers: [u32; 6],

@@ -19,7 +19,12 @@ use Rattle.order_builder.specs.Lines.{is_line}
 use Rattle.order_builder.specs.PrintedOrder.{printed_lines, printed_order}
 use Rattle.order_builder.specs.Spelling.{IsBefore, IsOrderFor, SpellsOrder}
 use Rattle.tso_report.specs.Shown.{Shown}
-use Rattle.tso_report.specs.Report.{report, line, test_line, machine_line, register_lines, memory_line, condition_line, choices_line}
+use Rattle.protocol_tables.specs.Names.{protocol_name}
+use Rattle.protocol_tables.specs.declared.kind.ProtocolKind.{ProtocolKind}
+use Rattle.protocol_tables.specs.declared.kind.ProtocolKind.TheVariants.{Msi, Mesi, Moesi}
+use Rattle.snoop_bus.specs.Geometry.{Geometry, IsWithinLimits}
+use Rattle.machine_core.specs.Configuration.{Configuration}
+use Rattle.tso_report.specs.Report.{report, line, test_line, machine_line, shape_text, register_lines, memory_line, condition_line, choices_line}
 
 -- ---- no line feed
 
@@ -55,9 +60,33 @@ line_of_name : (t : Litmus) → IsTest t → is_line (codes "Test " ++ t.name) �
 unfolding is_no_feed
 line_of_name t test = weaker is_printable is_no_feed t.name printable_is_no_feed (printable_name t.name test.name_spelled)
 
-line_of_depth : (depth : ℕ) → depth < 2 ^ 64 → is_line (codes "Machine flat depth=" ++ decimal depth) ≡ true
+line_of_number : (n : ℕ) → n < 2 ^ 64 → is_line (decimal n) ≡ true
 unfolding is_no_feed
-line_of_depth depth small = weaker is_ascii_digit is_no_feed (decimal depth) digit_is_no_feed (digits_decimal own depth small)
+line_of_number n small = weaker is_ascii_digit is_no_feed (decimal n) digit_is_no_feed (digits_decimal own n small)
+
+two_parts : (a b : List ℕ) → is_line a ≡ true → is_line b ≡ true → is_line (a ++ b) ≡ true
+two_parts a b p q = list_all-append _ a b ∙ and_from _ _ p q
+
+-- the machine's line without its end
+machine_text : ProtocolKind → Configuration → List ℕ
+machine_text kind c = codes "Machine " ++ (protocol_name kind ++ (codes " depth=" ++ (decimal c.depth ++ shape_text c.shape)))
+
+line_of_shape : (g : Geometry) → IsWithinLimits g → is_line (shape_text g) ≡ true
+line_of_shape g fits =
+    let sets = line_of_number g.sets (omega (arith, fits.few_sets)) in
+    let ways = line_of_number g.ways (omega (arith, fits.few_ways)) in
+    let words = line_of_number g.words (omega (arith, fits.one_word)) in
+    two_parts (decimal g.sets) (codes " ways=" ++ (decimal g.ways ++ (codes " words=" ++ decimal g.words))) sets
+    (two_parts (decimal g.ways) (codes " words=" ++ decimal g.words) ways words)
+
+line_of_depth : (c : Configuration) → c.depth < 2 ^ 64 → IsWithinLimits c.shape → is_line (codes " depth=" ++ (decimal c.depth ++ shape_text c.shape)) ≡ true
+line_of_depth c small fits = two_parts (decimal c.depth) (shape_text c.shape) (line_of_number c.depth small) (line_of_shape c.shape fits)
+
+line_of_machine : (kind : ProtocolKind) (c : Configuration) → c.depth < 2 ^ 64 → IsWithinLimits c.shape → is_line (machine_text kind c) ≡ true
+unfolding machine_text
+line_of_machine Msi c small fits = line_of_depth c small fits
+line_of_machine Mesi c small fits = line_of_depth c small fits
+line_of_machine Moesi c small fits = line_of_depth c small fits
 
 -- ---- no line `Order`
 
@@ -71,9 +100,10 @@ before_name t test = record {
   other_returned = λ same. omega (arith, heads 84 79 _ _ same);
 }
 
-before_depth : (depth : ℕ) → depth < 2 ^ 64 → IsBefore (codes "Machine flat depth=" ++ decimal depth)
-before_depth depth small = record {
-  whole = line_of_depth depth small;
+before_machine : (kind : ProtocolKind) (c : Configuration) → c.depth < 2 ^ 64 → IsWithinLimits c.shape → IsBefore (machine_text kind c)
+unfolding machine_text
+before_machine kind c small fits = record {
+  whole = line_of_machine kind c small fits;
   other = λ same. omega (arith, heads 77 79 _ _ same);
   other_returned = λ same. omega (arith, heads 77 79 _ _ same);
 }
@@ -81,8 +111,12 @@ before_depth depth small = record {
 -- ---- the report
 
 -- the lines before the order
-front_of : Litmus → ℕ → List (List ℕ)
-front_of t depth = (codes "Test " ++ t.name) ∷ ((codes "Machine flat depth=" ++ decimal depth) ∷ [])
+front_of : Litmus → ProtocolKind → Configuration → List (List ℕ)
+front_of t kind c = (codes "Test " ++ t.name) ∷ (machine_text kind c ∷ [])
+
+line_of_text : (name depth shape : List ℕ) → codes "Machine " ++ (name ++ (codes " depth=" ++ (depth ++ line shape)))
+    ≡ line (codes "Machine " ++ (name ++ (codes " depth=" ++ (depth ++ shape))))
+line_of_text name depth shape = simp append_assoc
 
 joined : (first second order rest : List ℕ)
     → (first ++ 10 ∷ []) ++ ((second ++ 10 ∷ []) ++ (order ++ rest)) ≡ (first ++ 10 ∷ (second ++ 10 ∷ [])) ++ (order ++ rest)
@@ -91,12 +125,14 @@ joined first second order rest = simp append_assoc
 pub report_spells : ((t : Litmus) (order : List Entry) (front : List (List ℕ)) (rest text : List ℕ)
     → IsTest t → IsOrderFor t order → All IsBefore front
     → text ≡ printed_lines front ++ (printed_order t order ++ rest) → SpellsOrder t text order)
-    → (t : Litmus) (depth : ℕ) (s : Shown) → IsTest t → depth < 2 ^ 64 → IsOrderFor t s.order → SpellsOrder t (report t depth s) s.order
-unfolding front_of
-report_spells amid t depth s test small are =
+    → (t : Litmus) (kind : ProtocolKind) (c : Configuration) (s : Shown) → IsTest t → c.depth < 2 ^ 64 → IsWithinLimits c.shape → IsOrderFor t s.order
+    → SpellsOrder t (report t kind c s) s.order
+unfolding front_of machine_text
+report_spells amid t kind c s test small fits are =
     let rest = register_lines 0 s.registers ++ (memory_line t s.memory ++ (condition_line t s.holds ++ choices_line s.used s.stalled s.unused)) in
-    let front : All IsBefore (front_of t depth) =
-    All-cons IsBefore (codes "Test " ++ t.name) ((codes "Machine flat depth=" ++ decimal depth) ∷ []) (before_name t test)
-    (All-cons IsBefore (codes "Machine flat depth=" ++ decimal depth) [] (before_depth depth small) (All-nil IsBefore)) in
-    amid t s.order (front_of t depth) rest (report t depth s) test are front
-    (joined (codes "Test " ++ t.name) (codes "Machine flat depth=" ++ decimal depth) (printed_order t s.order) rest)
+    let front : All IsBefore (front_of t kind c) =
+    All-cons IsBefore (codes "Test " ++ t.name) (machine_text kind c ∷ []) (before_name t test)
+    (All-cons IsBefore (machine_text kind c) [] (before_machine kind c small fits) (All-nil IsBefore)) in
+    amid t s.order (front_of t kind c) rest (report t kind c s) test are front
+    (ap (λ second. test_line t ++ (second ++ (printed_order t s.order ++ rest))) (line_of_text (protocol_name kind) (decimal c.depth) (shape_text c.shape))
+    ∙ joined (codes "Test " ++ t.name) (machine_text kind c) (printed_order t s.order) rest)

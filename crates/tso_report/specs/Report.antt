@@ -10,6 +10,10 @@ use Rattle.tso_model.specs.declared.register.Reg.TheVariants.{Eax, Ebx, Ecx, Edx
 use Rattle.tso_model.specs.declared.condition.Quantifier.{Quantifier}
 use Rattle.tso_model.specs.declared.condition.Quantifier.TheVariants.{Exists, NotExists, Forall}
 use Rattle.order_builder.specs.PrintedOrder.{printed_order}
+use Rattle.protocol_tables.specs.Names.{protocol_name}
+use Rattle.protocol_tables.specs.declared.kind.ProtocolKind.{ProtocolKind}
+use Rattle.snoop_bus.specs.Geometry.{Geometry}
+use Rattle.machine_core.specs.Configuration.{Configuration}
 use Rattle.tso_report.specs.Shown.{Shown}
 
 abbrev pub line : List ℕ → List ℕ
@@ -19,9 +23,13 @@ line text = text ++ 10 ∷ []
 abbrev pub test_line : Litmus → List ℕ
 test_line t = codes "Test " ++ line t.name
 
--- `Machine flat depth=D`
-abbrev pub machine_line : ℕ → List ℕ
-machine_line depth = codes "Machine flat depth=" ++ line (decimal depth)
+-- ` sets=S ways=W words=L`
+abbrev pub shape_text : Geometry → List ℕ
+shape_text g = codes " sets=" ++ (decimal g.sets ++ (codes " ways=" ++ (decimal g.ways ++ (codes " words=" ++ decimal g.words))))
+
+-- `Machine msi depth=D sets=S ways=W words=L`
+abbrev pub machine_line : ProtocolKind → Configuration → List ℕ
+machine_line kind c = codes "Machine " ++ (protocol_name kind ++ (codes " depth=" ++ (decimal c.depth ++ line (shape_text c.shape))))
 
 -- ` EAX=v`
 abbrev pub printed_register : List ℕ → Reg → List ℕ
@@ -77,8 +85,8 @@ abbrev pub choices_line : ℕ → ℕ → ℕ → List ℕ
 choices_line used stalled unused =
     codes "Choices used=" ++ (decimal used ++ (codes " stalled=" ++ (decimal stalled ++ (codes " unused=" ++ line (decimal unused)))))
 
--- the report of a run of the test at this depth
-abbrev pub report : Litmus → ℕ → Shown → List ℕ
-report t depth s =
-    test_line t ++ (machine_line depth ++ (printed_order t s.order ++ (register_lines 0 s.registers
+-- the report of a run of the test on a machine of this protocol and configuration
+abbrev pub report : Litmus → ProtocolKind → Configuration → Shown → List ℕ
+report t kind c s =
+    test_line t ++ (machine_line kind c ++ (printed_order t s.order ++ (register_lines 0 s.registers
     ++ (memory_line t s.memory ++ (condition_line t s.holds ++ choices_line s.used s.stalled s.unused)))))

@@ -1,15 +1,16 @@
 ghost use Rattle.std.specs.Prelude.{◌≡◌, ◌++◌, ◌∷◌, [], IfOk, OnOk, string_bytes, length, slice_index_or, Option, is_some, All};
 ghost use Rattle.order_builder.specs.PrintedOrder.{HasWord};
 ghost use Rattle.tso_report.specs.Shown.{shown, IsOf};
-ghost use Rattle.tso_report.specs.Report.{report, line, test_line, machine_line, printed_register, printed_registers, all_registers, register_line, register_lines, printed_words, memory_line, printed_verdict, condition_line, choices_line, printed_quantifier, printed_truth};
+ghost use Rattle.tso_report.specs.Report.{report, line, test_line, machine_line, shape_text, printed_register, printed_registers, all_registers, register_line, register_lines, printed_words, memory_line, printed_verdict, condition_line, choices_line, printed_quantifier, printed_truth};
 
 use crate::run::Run;
 use machine_core::Config;
 use order_builder::order_text;
+use protocol_tables::ProtocolKind;
 use std::alloc::Global;
 use tso_model::{Loc, NoMemory, Quantifier, Reg, Test};
 
-/// The report of a run: the test, the machine, the order in which memory saw the run, the final
+/// The report of a run: the test, the machine with its protocol, the order in which memory saw the run, the final
 /// state, the verdict and the counts of choices, each on lines of its own. That the values of the
 /// order are words is told along with it, for those who read the text again.
 ///
@@ -17,16 +18,17 @@ use tso_model::{Loc, NoMemory, Quantifier, Reg, Test};
 pub fn report_text(
     alloc: Global,
     test: &Test,
+    protocol: ProtocolKind,
     config: Config,
     run: &Run,
 ) -> Result<String, NoMemory>
     requires { IsOf test.now (shown run.now) }
-    ensures text { IfOk result (λ text. string_bytes text ≡ report test.now config.depth (shown run.now)) }
+    ensures text { IfOk result (λ text. string_bytes text ≡ report test.now protocol config (shown run.now)) }
     ensures words { OnOk result (All HasWord run.now.execution.order.items) }
 {
     let mut text = String::new(alloc);
     write_test(&mut text, test)?;
-    write_machine(&mut text, config)?;
+    write_machine(&mut text, protocol, config)?;
     text.push_str(&order_text(alloc, test, &run.execution)?)?;
     write_registers(&mut text, &run.registers)?;
     write_memory(&mut text, test, &run.memory)?;
@@ -43,11 +45,24 @@ fn write_test(text: &mut String, test: &Test) -> Result<(), NoMemory>
     Ok(())
 }
 
-fn write_machine(text: &mut String, config: Config) -> Result<(), NoMemory>
-    ensures { OnOk result (string_bytes text.new ≡ string_bytes text.old ++ machine_line config.depth) }
+fn write_machine(text: &mut String, protocol: ProtocolKind, config: Config) -> Result<(), NoMemory>
+    ensures { OnOk result (string_bytes text.new ≡ string_bytes text.old ++ machine_line protocol config) }
 {
+    let name = protocol.name();
     let depth = config.depth();
-    write!(text, "Machine flat depth={depth}\n")?;
+    write!(text, "Machine {name} depth={depth}")?;
+    write_shape(text, config)?;
+    text.push('\n')?;
+    Ok(())
+}
+
+fn write_shape(text: &mut String, config: Config) -> Result<(), NoMemory>
+    ensures { OnOk result (string_bytes text.new ≡ string_bytes text.old ++ shape_text config.shape) }
+{
+    let sets = config.sets();
+    let ways = config.ways();
+    let words = config.words();
+    write!(text, " sets={sets} ways={ways} words={words}")?;
     Ok(())
 }
 

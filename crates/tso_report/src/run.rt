@@ -1,7 +1,7 @@
 use tso_model::Execution;
 
 /// What a run that ended left.
-#[derive(Debug, Drop)]
+#[derive(Drop)]
 pub struct Run {
     /// The order in which memory saw the run.
     pub execution: Execution,

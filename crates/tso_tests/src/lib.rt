@@ -1,35 +1,24 @@
-//! Tests, of what no clause says: outside vectors, printed texts, each public call once where memory is
-//! ample, and the command over streams that fail or give little at a time. Those of the lower crates
-//! stand here too, since a crate with tests is proved twice.
+//! Tests, of what neither a clause nor a row of the program says: outside vectors, calls that the program doesn't make
+//! with ample memory, and the command over streams that fail or give little at a time. A test is proved like any
+//! function, and many calls on one value in one function cost minutes: each call stands in a helper of its own, which
+//! promises little.
 #![tactic(auto)]
 
-#[cfg(test)]
-mod buffers;
 #[cfg(test)]
 mod bus;
 #[cfg(test)]
 mod caches;
 #[cfg(test)]
-mod checking;
-#[cfg(test)]
 mod choices;
-#[cfg(test)]
-mod commits;
 #[cfg(test)]
 mod inputs;
 #[cfg(test)]
 mod machine;
 #[cfg(test)]
-mod model;
+mod orders;
 #[cfg(test)]
-mod order_texts;
-#[cfg(test)]
-mod reading;
-#[cfg(test)]
-mod reading_faults;
+mod settings;
 #[cfg(test)]
 mod streams;
 #[cfg(test)]
-mod tables;
-#[cfg(test)]
-mod tokens;
+mod threads;

@@ -1,7 +1,10 @@
-use machine_core::Config;
+//! The command over a reader and a writer that fail or give little at a time.
+use machine_core::{Config, Shape};
+use protocol_tables::ProtocolKind;
 use std::alloc::Global;
 use std::io;
 use std::io::{Read, Write};
+use std::process::Abort;
 use std::test::Fail;
 use tso_cli::{Counted, RunFault, Settings, Status, run_command};
 
@@ -9,7 +12,7 @@ const INPUT: &[u8] =
     b"X86 SB\n{ }\n P0          | P1          ;\n MOV [x],$1  | MOV [y],$1  ;\n MOV EAX,[y] | MOV EAX,[x] ;\nexists (0:EAX=0 /\\ 1:EAX=0)\n====\n0s 1s 0s 1s 0d 1d\n";
 
 const REPORT: &[u8] =
-    b"Test SB\nMachine flat depth=4\nOrder\nP0:1 R y=0\nP1:1 R x=0\nP0:0 W x=1\nP1:0 W y=1\nEndorder 4\nRegisters P0 EAX=0 EBX=0 ECX=0 EDX=0 ESI=0 EDI=0\nRegisters P1 EAX=0 EBX=0 ECX=0 EDX=0 ESI=0 EDI=0\nMemory x=1 y=1\nCondition exists true\nChoices used=6 stalled=0 unused=0\n";
+    b"Test SB\nMachine msi depth=4 sets=1 ways=2 words=1\nOrder\nP0:1 R y=0\nP1:1 R x=0\nP0:0 W x=1\nP1:0 W y=1\nEndorder 4\nRegisters P0 EAX=0 EBX=0 ECX=0 EDX=0 ESI=0 EDI=0\nRegisters P1 EAX=0 EBX=0 ECX=0 EDX=0 ESI=0 EDI=0\nMemory x=1 y=1\nCondition exists true\nChoices used=6 stalled=0 unused=0\n";
 
 /// A reader over bytes that gives so many a call, and whose call of one number fails. It would work
 /// at the next, so a call that comes again shows.
@@ -42,6 +45,7 @@ struct Sink {
     calls: u64,
     failing: u64,
     refusing: u64,
+    flushes: u64,
 }
 
 impl Write for Sink {
@@ -61,91 +65,123 @@ impl Write for Sink {
     }
 
     fn flush(&mut self) -> io::Result<()> {
+        self.flushes = self.flushes.wrapping_add(1);
         Ok(())
     }
 }
 
-fn reader_that(most: usize, failing: u64) -> Counted<Source<'static>> {
-    Counted::new(Source {
+/// A reader of the input that gives so many bytes a call, and whose call of this number fails.
+fn reader_of(most: usize, failing: u64) -> Source<'static> {
+    Source {
         left: INPUT,
         most,
         calls: 0,
         failing,
-    })
+    }
 }
 
-fn writer_that(alloc: Global, most: usize, failing: u64, refusing: u64) -> Counted<Sink> {
-    Counted::new(Sink {
+/// A writer that takes so many bytes a call, and whose call of the one number fails, of the other takes none.
+fn writer_of(alloc: Global, most: usize, failing: u64, refusing: u64) -> Sink {
+    Sink {
         taken: Vec::new(alloc),
         most,
         calls: 0,
         failing,
         refusing,
+        flushes: 0,
+    }
+}
+
+/// What a command left: its answer, and of both sides the calls and how many of them failed.
+#[derive(Drop)]
+struct Left {
+    result: Result<Status, RunFault>,
+    read_failures: u32,
+    write_failures: u32,
+    reads: u64,
+    sink: Sink,
+}
+
+fn run(rt: &impl Abort, alloc: Global, source: Source<'_>, sink: Sink) -> Result<Left, Fail> {
+    let config = Config::new(4, Shape::default()).ok_or("a configuration")?;
+    let settings = Settings::Run {
+        protocol: ProtocolKind::Msi,
+        config,
+    };
+    let mut reader = Counted::new(source);
+    let mut writer = Counted::new(sink);
+    assert!(rt; reader.failures() == 0 && writer.failures() == 0);
+    let result = run_command(alloc, &mut reader, &mut writer, &settings);
+    Ok(Left {
+        result,
+        read_failures: reader.failures(),
+        write_failures: writer.failures(),
+        reads: reader.into_inner().calls,
+        sink: writer.into_inner(),
     })
 }
 
-fn settings() -> Option<Settings> {
-    let config = Config::new(4)?;
-    Some(Settings::Run { config })
+fn failures_are(rt: &impl Abort, left: &Left, reading: u32, writing: u32) {
+    assert!(rt; left.result == Err(RunFault::Device));
+    assert!(rt; left.read_failures == reading);
+    assert!(rt; left.write_failures == writing);
+}
+
+fn took(rt: &impl Abort, sink: &Sink, calls: u64, bytes: &[u8]) {
+    assert!(rt; sink.calls == calls);
+    assert!(rt; sink.taken.as_slice() == bytes);
+    assert!(rt; sink.flushes == 0);
 }
 
 #[test]
 fn a_readers_fault_ends_the_command(rt: HostRuntime) -> Result<(), Fail> {
-    let settings = settings().ok_or("settings")?;
-    let mut reader = reader_that(64, 1);
-    let mut writer = writer_that(rt.alloc(), 64, 0, 0);
-    assert_eq!(rt; reader.failures(), 0);
-    assert_eq!(rt; writer.failures(), 0);
-    let result = run_command(rt.alloc(), &mut reader, &mut writer, &settings);
-    assert_eq!(rt; result, Err(RunFault::Device));
-    assert_eq!(rt; reader.failures(), 1);
-    assert_eq!(rt; reader.into_inner().calls, 1);
-    let writer = writer.into_inner();
-    assert_eq!(rt; writer.calls, 0);
-    assert_eq!(rt; writer.taken.len(), 0);
+    let left = run(
+        &rt,
+        rt.alloc(),
+        reader_of(64, 1),
+        writer_of(rt.alloc(), 64, 0, 0),
+    )?;
+    failures_are(&rt, &left, 1, 0);
+    assert!(rt; left.reads == 1);
+    took(&rt, &left.sink, 0, b"");
     Ok(())
 }
 
 #[test]
 fn a_writers_fault_leaves_a_beginning(rt: HostRuntime) -> Result<(), Fail> {
-    let settings = settings().ok_or("settings")?;
-    let mut reader = reader_that(64, 0);
-    let mut writer = writer_that(rt.alloc(), 10, 2, 0);
-    assert_eq!(rt; reader.failures(), 0);
-    assert_eq!(rt; writer.failures(), 0);
-    let result = run_command(rt.alloc(), &mut reader, &mut writer, &settings);
-    assert_eq!(rt; result, Err(RunFault::Device));
-    assert_eq!(rt; writer.failures(), 1);
-    let writer = writer.into_inner();
-    assert_eq!(rt; writer.calls, 2);
-    assert_eq!(rt; writer.taken.as_slice(), b"Test SB\nMa".as_slice());
+    let left = run(
+        &rt,
+        rt.alloc(),
+        reader_of(64, 0),
+        writer_of(rt.alloc(), 10, 2, 0),
+    )?;
+    failures_are(&rt, &left, 0, 1);
+    took(&rt, &left.sink, 2, b"Test SB\nMa");
     Ok(())
 }
 
 #[test]
 fn a_write_of_no_byte_is_a_fault(rt: HostRuntime) -> Result<(), Fail> {
-    let settings = settings().ok_or("settings")?;
-    let mut reader = reader_that(64, 0);
-    let mut writer = writer_that(rt.alloc(), 64, 0, 1);
-    assert_eq!(rt; reader.failures(), 0);
-    assert_eq!(rt; writer.failures(), 0);
-    let result = run_command(rt.alloc(), &mut reader, &mut writer, &settings);
-    assert_eq!(rt; result, Err(RunFault::Device));
-    let writer = writer.into_inner();
-    assert_eq!(rt; writer.calls, 1);
-    assert_eq!(rt; writer.taken.len(), 0);
+    let left = run(
+        &rt,
+        rt.alloc(),
+        reader_of(64, 0),
+        writer_of(rt.alloc(), 64, 0, 1),
+    )?;
+    failures_are(&rt, &left, 0, 1);
+    took(&rt, &left.sink, 1, b"");
     Ok(())
 }
 
 #[test]
 fn one_byte_a_call_is_enough(rt: HostRuntime) -> Result<(), Fail> {
-    let settings = settings().ok_or("settings")?;
-    let mut reader = reader_that(1, 0);
-    let mut writer = writer_that(rt.alloc(), 1, 0, 0);
-    assert_eq!(rt; reader.failures(), 0);
-    assert_eq!(rt; writer.failures(), 0);
-    let result = run_command(rt.alloc(), &mut reader, &mut writer, &settings);
-    assert_eq!(rt; result, Ok(Status::Good));
-    assert_eq!(rt; writer.into_inner().taken.as_slice(), REPORT);
+    let left = run(
+        &rt,
+        rt.alloc(),
+        reader_of(1, 0),
+        writer_of(rt.alloc(), 1, 0, 0),
+    )?;
+    assert!(rt; left.result == Ok(Status::Good));
+    took(&rt, &left.sink, REPORT.len() as u64, REPORT);
     Ok(())
 }

@@ -1,18 +1,17 @@
-use Rattle.std.proofs.Common.{◌≡◌, ◌<◌, ap, sym, ◌++◌, append-nil, ◌∙◌, length, drop, length-set, subst, All}
+use Rattle.std.proofs.Common.{◌≡◌, ◌<◌, ap, sym, ◌++◌, append-nil, ◌∙◌, length, drop, subst, All}
 use Rattle.std.proofs.lemmas.List.Elements.{All-drop}
+use Rattle.snoop_bus.specs.Bus.{words_of}
 use Rattle.machine_core.specs.Cores.{core_state}
 use Rattle.machine_core.proofs.CoreLemmas.{drain_of-nothing}
 use Rattle.machine_core.proofs.processor.drain.Goals as goal
 
 pub returns-in-None-clause-commits : goal.returns-in-None-clause-commits
-returns-in-None-clause-commits c =
-    sym (append-nil c.args.commits.now)
-    ∙ ap (λ f. c.args.commits.now ++ f.commits) (sym (drain_of-nothing c.args.core.0 (core_state c.args.core.0 c.args.processor.now) c.args.processor.now.stores.items (sym c.in-None.ensures)))
+returns-in-None-clause-commits g c =
+    sym (append-nil c.args.commits.now.entries)
+    ∙ ap (λ f. c.args.commits.now.entries ++ f.commits) (sym (drain_of-nothing c.args.core.0 (core_state c.args.core.0 c.args.processor.now) c.args.processor.now.stores.items (sym c.in-None.ensures)))
 
 pub returns-in_ok-note-in-Some-clause-stores : goal.returns-in_ok-note-in-Some-clause-stores
-returns-in_ok-note-in-Some-clause-stores c =
+returns-in_ok-note-in-Some-clause-stores g c =
     let items : c.take_oldest.new.self.items ≡ drop 1 c.args.processor.now.stores.items = ap (λ s. s.items) c.take_oldest.ensures.rest in
-    λ k d h.
-    rw length-set
-    (subst (λ stores. All (λ s. s.loc.0 < length c.args.memory.now) stores) (sym items)
-    (All-drop (λ s. s.loc.0 < length c.args.memory.now) 1 c.args.processor.now.stores.items c.requires) k d h)
+    subst (λ stores. All (λ s. s.loc.0 < length (words_of c.args.bus.now)) stores) (sym items)
+    (All-drop (λ s. s.loc.0 < length (words_of c.args.bus.now)) 1 c.args.processor.now.stores.items c.requires.stores)

@@ -1,24 +1,26 @@
-use Rattle.std.proofs.Common.{◌≡◌, ap, sym, slice_index, ◌++◌, append-nil, ◌∙◌}
-use Rattle.tso_model.specs.FlatMachine.{stalled, memory_after}
-use Rattle.tso_model.specs.declared.choice.Stall.TheVariants as stall
-use Rattle.machine_core.specs.Cores.{core_state, exchange_by}
-use Rattle.machine_core.proofs.CoreLemmas.{holds_some, locked-waits}
+use Rattle.std.proofs.Common.{◌∙◌, ◌++◌, append-nil, ap, sym}
+use Rattle.tso_model.specs.FlatMachine.{memory_after}
+use Rattle.snoop_bus.specs.Bus.{words_of}
+use Rattle.machine_core.proofs.CoreLemmas.{exchange-waits}
 use Rattle.machine_core.proofs.processor.exchange.Goals as goal
 
-waits : (c : goal.Then-not-is_empty) → stalled stall.Lock (core_state c.args.core.0 c.args.processor.now)
-    ≡ exchange_by c.args.processor.now c.args.core.0 c.args.memory.now c.args.reg c.args.loc c.args.value
-waits c =
-    sym (locked-waits c.args.core.0 (core_state c.args.core.0 c.args.processor.now) c.args.loc c.args.reg (slice_index c.args.memory.now c.args.loc.0) c.args.value c.args.processor.now.stores.items
-    (holds_some c.is_empty.result c.args.processor.now.stores.items c.is_empty.ensures.1 c.if-not-is_empty.true))
-
 pub returns-then-not-is_empty-clause-outcome : goal.returns-then-not-is_empty-clause-outcome
-returns-then-not-is_empty-clause-outcome c = ap (λ f. f.outcome) (waits c)
+returns-then-not-is_empty-clause-outcome g c =
+    ap (λ f. f.outcome)
+    (exchange-waits c.args.core.0 c.args.processor.now (words_of c.args.bus.now) c.args.loc c.args.reg c.is_empty.result c.is_empty.ensures.1 c.if-not-is_empty.true)
 
 pub returns-then-not-is_empty-clause-after : goal.returns-then-not-is_empty-clause-after
-returns-then-not-is_empty-clause-after c = ap (λ f. f.after) (waits c)
+returns-then-not-is_empty-clause-after g c =
+    ap (λ f. f.after)
+    (exchange-waits c.args.core.0 c.args.processor.now (words_of c.args.bus.now) c.args.loc c.args.reg c.is_empty.result c.is_empty.ensures.1 c.if-not-is_empty.true)
 
-pub returns-then-not-is_empty-clause-memory : goal.returns-then-not-is_empty-clause-memory
-returns-then-not-is_empty-clause-memory c = ap (λ f. memory_after f.commits c.args.memory.now) (waits c)
+pub returns-then-not-is_empty-clause-words : goal.returns-then-not-is_empty-clause-words
+returns-then-not-is_empty-clause-words g c =
+    ap (λ f. memory_after f.commits (words_of c.args.bus.now))
+    (exchange-waits c.args.core.0 c.args.processor.now (words_of c.args.bus.now) c.args.loc c.args.reg c.is_empty.result c.is_empty.ensures.1 c.if-not-is_empty.true)
 
 pub returns-then-not-is_empty-clause-commits : goal.returns-then-not-is_empty-clause-commits
-returns-then-not-is_empty-clause-commits c = sym (append-nil c.args.commits.now) ∙ ap (λ f. c.args.commits.now ++ f.commits) (waits c)
+returns-then-not-is_empty-clause-commits g c =
+    sym (append-nil c.args.commits.now.entries)
+    ∙ ap (λ f. c.args.commits.now.entries ++ f.commits)
+    (exchange-waits c.args.core.0 c.args.processor.now (words_of c.args.bus.now) c.args.loc c.args.reg c.is_empty.result c.is_empty.ensures.1 c.if-not-is_empty.true)

@@ -10,7 +10,7 @@ returns-clause-order c =
     c.in_ok-order.ensures
     ∙ ap (λ xs. map (λ x. x.entry) xs)
     (c.deref-2.ensures.value ∙ c.in_ok-numbered.ensures ∙ ap (λ lists. merged_with [] (lists_in lists)) c.deref.ensures.value)
-    ∙ c.commits.view_is
+    ∙ ap (λ n. n.entries) c.commits.view_is
 
 pub returns-clause-pairs : goal.returns-clause-pairs
-returns-clause-pairs c = subst KeepsPairs (sym (returns-clause-order c)) (KeepsPairs-paired c.args.commits.now c.requires)
+returns-clause-pairs c = subst KeepsPairs (sym (returns-clause-order c)) (KeepsPairs-paired c.args.commits.now.entries c.requires)

@@ -11,24 +11,24 @@ use Rattle.tso_cli.proofs.answer.run_answer.Goals as goal
 pub returns-in-Ok-clause-exact : goal.returns-in-Ok-clause-exact
 returns-in-Ok-clause-exact c =
     let t = c.args.test.now in
-    let depth = c.args.config.depth in
-    let r = flat.run t depth c.in-Ok.choices.items in
-    answer-is (IsRunAnswer t depth c.args.text.now) c.run_under.result (run_text t depth r) (run_status r)
+    let config = c.args.config in
+    let r = flat.run t config.depth c.in-Ok.choices.items in
+    answer-is (IsRunAnswer t c.args.protocol config c.args.text.now) c.run_under.result (run_text t c.args.protocol config r) (run_status r)
     (rw c.deref.ensures.value at c.run_under.ensures.text) (rw c.deref.ensures.value at c.run_under.ensures.status)
     (ran c.in-Ok.choices.items (rw c.cores.ensures.value at c.in-Ok.ensures.found))
 
 pub returns-in-Err-clause-exact : goal.returns-in-Err-clause-exact
 returns-in-Err-clause-exact c =
-    refusal-is (IsRunAnswer c.args.test.now c.args.config.depth c.args.text.now) (c.in-Err.fault ≢ faults.NoMemory) c.refused_choices.result
+    refusal-is (IsRunAnswer c.args.test.now c.args.protocol c.args.config c.args.text.now) (c.in-Err.fault ≢ faults.NoMemory) c.refused_choices.result
     (choices_refusal c.in-Err.fault) Refused c.refused_choices.ensures.text c.refused_choices.ensures.status c.refused_choices.ensures.real
     (λ real. refused c.in-Err.fault (rw c.cores.ensures.value at (c.in-Err.ensures.refused real)))
 
 pub returns-in-Ok-clause-headline : goal.returns-in-Ok-clause-headline
 returns-in-Ok-clause-headline c =
     let t = c.args.test.now in
-    let depth = c.args.config.depth in
-    PrintsEachRun-from_text c.run_under.result t depth c.args.text.now c.in-Ok.choices.items
+    let config = c.args.config in
+    PrintsEachRun-from_text c.run_under.result t c.args.protocol config c.args.text.now c.in-Ok.choices.items
     (rw c.deref.ensures.value at c.run_under.ensures.text)
     (rw c.deref.ensures.value at c.run_under.ensures.spelled)
     (rw c.cores.ensures.value at c.in-Ok.ensures.only)
-    (c.ended_runs_are_executions.ensures t depth c.in-Ok.choices.items c.cores.ensures.test)
+    (c.ended_runs_are_executions.ensures t config.depth c.in-Ok.choices.items c.cores.ensures.test)

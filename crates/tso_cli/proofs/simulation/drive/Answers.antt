@@ -4,14 +4,14 @@ use Rattle.tso_cli.proofs.RunLemmas.{chosen-at, run_from-ended}
 use Rattle.tso_cli.proofs.simulation.drive.Goals as goal
 
 pub choose-requires : goal.choose-requires
-choose-requires c =
+choose-requires g c =
     let m = c.loop-used.machine in
     let exist : CoresExist (length m.test.programs) c.args.choices.now =
     subst (λ t. CoresExist (length t.programs) c.args.choices.now) (sym c.loop-used.invariant.test) c.requires.cores in
     chosen-at (length m.test.programs) c.args.choices.now c.loop-used.used _ exist (omega arith)
 
 pub returns-else-not-is_ended-clause-drives : goal.returns-else-not-is_ended-clause-drives
-returns-else-not-is_ended-clause-drives c =
+returns-else-not-is_ended-clause-drives g c =
     let old = c.args.machine.now in
     let m = c.loop-used.machine in
     let i = c.loop-used.invariant in

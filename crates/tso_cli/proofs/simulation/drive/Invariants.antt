@@ -4,7 +4,7 @@ use Rattle.tso_cli.proofs.simulation.drive.Given as goal
 
 -- the whole run is what was done so far and the run from here on
 abbrev pub invariant-loop-used : goal.invariant-loop-used
-invariant-loop-used l =
+invariant-loop-used g l =
     let t = l.initial.machine.test in
     let depth = l.initial.machine.depth in
     let whole = run_from t depth l.initial.machine.state l.choices in
@@ -22,4 +22,4 @@ invariant-loop-used l =
     }
 
 abbrev pub decreases-loop-used : goal.decreases-loop-used
-decreases-loop-used l = length l.choices - l.used
+decreases-loop-used g l = length l.choices - l.used

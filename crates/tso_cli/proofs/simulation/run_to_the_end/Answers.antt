@@ -6,19 +6,19 @@ use Rattle.tso_cli.proofs.SimulationLemmas.{unfinished-is, ended-is, locations-k
 use Rattle.tso_cli.proofs.simulation.run_to_the_end.Goals as goal
 
 pub returns-then-not-is_ended-clause-ending : goal.returns-then-not-is_ended-clause-ending
-returns-then-not-is_ended-clause-ending c =
+returns-then-not-is_ended-clause-ending g c =
     unfinished-is c.args.test.now c.args.config.depth _ _ c.args.choices.now _ _ c.in_ok-machine.ensures c.in_ok-progress.ensures.drives
     (sym c.is_ended.ensures ∙ (let q : c.is_ended.result ≡ false = grind arith in q))
 
 pub returns-clause-ending : goal.returns-clause-ending
-returns-clause-ending c =
+returns-clause-ending g c =
     let ended : c.is_ended.result ≡ true = grind arith in
     ended-is c.args.test.now c.args.config.depth _ _ c.args.choices.now _ _ _ c.in_ok-machine.ensures c.in_ok-progress.ensures.drives
     (sym c.is_ended.ensures ∙ ended) c.in_ok-left.ensures.order c.in_ok-left.ensures.registers c.in_ok-left.ensures.memory
     c.verdict_of-holds.ensures refl refl refl
 
 pub returns-clause-fits : goal.returns-clause-fits
-returns-clause-fits c =
+returns-clause-fits g c =
     let t = c.args.test.now in
     let order = c.in_ok-left.left.execution.order.items in
     let r = flat.run t c.args.config.depth c.args.choices.now in

@@ -9,14 +9,14 @@ use Rattle.machine_core.proofs.RunningLemmas.{Running-same}
 use Rattle.machine_core.proofs.machine.Machine.choose.Goals as goal
 
 pub returns-clause-stall : goal.returns-clause-stall
-returns-clause-stall c = λ why h.
+returns-clause-stall g c = λ why h.
     let t = c.self.inside.test.now in
     let parts = c.self.inside.parts in
     let done : Performs t parts c.perform-outcome.new.parts c.args.choice (Stalled why) =
     IfOk-at_ok (λ o. Performs t parts c.perform-outcome.new.parts c.args.choice o) h c.perform-outcome.ensures.ok in
     let state = done.after ∙ after_choice-stall t parts.config.depth (state_in parts) c.args.choice why (sym done.outcome) in
-    let commits = done.commits ∙ ap (λ es. parts.commits ++ es) (effect_of-stall t parts.config.depth (state_in parts) c.args.choice why (sym done.outcome)) ∙ append-nil parts.commits in
+    let commits = done.commits ∙ ap (λ es. parts.commits.entries ++ es) (effect_of-stall t parts.config.depth (state_in parts) c.args.choice why (sym done.outcome)) ∙ append-nil parts.commits.entries in
     let failed = c.is_err-self-inside.ensures.value ∙ ap (λ r. is_err r) h ∙ sym c.if-self.false in
     Running-same c.args.self.now t parts.config.depth c.perform-outcome.new.parts.config.depth (state_in parts) (state_in c.perform-outcome.new.parts)
-    parts.commits c.perform-outcome.new.parts.commits c.self.inside.failed c.is_err-self-inside.result
+    parts.commits.entries c.perform-outcome.new.parts.commits.entries c.self.inside.failed c.is_err-self-inside.result
     c.self.view_is (ap (λ config. config.depth) c.perform-outcome.ensures.config) state commits failed

@@ -11,15 +11,15 @@ overflow_add-self c = omega (arith, count-fits (lists_in c.self.inside.lists.ite
 
 pub invariant_of-self-2 : goal.invariant_of-self-2
 invariant_of-self-2 c =
-    let room : c.args.entry.core.0 < length (lists_in c.make_list.new.lists.items) = rw length-map c.in_ok-make_list.ensures.room in
+    let room : c.args.entry.core.0 < length (lists_in c.make_list.new.lists.items) = rw length-map c.in_ok-make_list.ensures.there in
     subst (λ lists. IsKept lists (c.self.inside.count + 1)) (sym c.in_ok-append.ensures.ok)
     (IsKept-append_at (lists_in c.make_list.new.lists.items) c.self.inside.count c.args.entry.core.0 (record { number = c.self.inside.count; entry = c.args.entry })
     (c.in_ok-make_list.ensures.kept c.self.inside.count c.self.invariant) refl room c.in_ok-append.ensures.short)
 
 pub returns-clause-ok : goal.returns-clause-ok
 returns-clause-ok c =
-    let room : c.args.entry.core.0 < length (lists_in c.make_list.new.lists.items) = rw length-map c.in_ok-make_list.ensures.room in
+    let room : c.args.entry.core.0 < length (lists_in c.make_list.new.lists.items) = rw length-map c.in_ok-make_list.ensures.there in
     ap entries_in_order c.in_ok-append.ensures.ok
     ∙ entries_in_order-append_at (lists_in c.make_list.new.lists.items) c.self.inside.count c.args.entry.core.0 (record { number = c.self.inside.count; entry = c.args.entry })
     (c.in_ok-make_list.ensures.kept c.self.inside.count c.self.invariant) refl room
-    ∙ ap (λ entries. entries ++ c.args.entry ∷ []) (c.in_ok-make_list.ensures.same ∙ c.self.view_is)
+    ∙ ap (λ entries. entries ++ c.args.entry ∷ []) (c.in_ok-make_list.ensures.same ∙ ap (λ n. n.entries) c.self.view_is)

@@ -1,0 +1,8 @@
+use Rattle.std.proofs.Common.{◌∙◌, ◌++◌, ◌∷◌, [], ap, sym}
+use Rattle.machine_core.proofs.CoreLemmas.{take-got}
+use Rattle.machine_core.proofs.parts.memory_of.Goals as goal
+
+pub loop-location-preserved : goal.loop-location-preserved
+loop-location-preserved g c =
+    c.in_ok-push.ensures.items ∙ ap (λ xs. xs ++ c.memory_word.result ∷ []) c.loop-location.invariant
+    ∙ sym (take-got c.args.bus.now.memory c.loop-location.location c.memory_word.result c.memory_word.ensures)

@@ -1,0 +1,5 @@
+use Rattle.std.proofs.Common.{◌≡◌, take}
+use Rattle.machine_core.proofs.parts.memory_of.Given as goal
+
+abbrev pub invariant-loop-location : goal.invariant-loop-location
+invariant-loop-location g l = l.memory.items ≡ take l.location l.bus.memory
