@@ -24,22 +24,6 @@ once_tells order at x h w =
     let f : same_action x w.1 ≡ false = none_passes (λ y. same_action x y) (take at order) h w.0 w.1 (in_front order at w.0 w.1 w.2 w.3) in
     let t = w.4 in let z : ⊥ = cc in z
 
--- an entry passes the test that it strays exactly if it does
-pub stray_tells : (made order : List Entry) (at : ℕ) (x : Entry) (b : Bool) → list_any (λ e. same_but_value e x) made ≡ true → b ≡ list_any (λ y. same_action x y) (take at order)
-    → (b ≡ true → IsStray made order at x) × (IsStray made order at x → b ≡ true)
-stray_tells made order at x true e f = (λ t. inr (twice_tells order at x (sym f)), λ s. refl)
-stray_tells made order at x false e f =
-    (λ t. absurd (let z : ⊥ = cc in z), λ s. elim s [ inl q ↦ absurd (made_tells made x e q) | inr q ↦ absurd (once_tells order at x (sym f) q) ])
-
-pub missing_tells : (order : List Entry) (e : Entry) (b : Bool) → b ≡ list_any (λ y. same_action e y) order
-    → (not b ≡ true → IsMissing order 0 e) × (IsMissing order 0 e → not b ≡ true)
-missing_tells order e false h = (λ t. none_passes (λ y. same_action e y) order (sym h), λ m. refl)
-missing_tells order e true h = (
-  λ t. absurd (let z : ⊥ = cc in z),
-  λ m.
-      let r = any_at (λ y. same_action e y) order (sym h) in let f : same_action e r.1 ≡ false = m r.0 r.1 r.2 in let t = r.3 in absurd (let z : ⊥ = cc in z),
-)
-
 -- entries that overtook another
 pub overtaking_found : (order : List Entry) (at : ℕ) (a b : Entry) → find (λ y. must_stand_before a y) (take at order) ≡ Some b → (j : ℕ) × IsFirst order (Overtakes at a) j b
 overtaking_found order at a b h =
@@ -59,13 +43,8 @@ overtaking_none order at a h l =
     let f : must_stand_before a l.1 ≡ false = found_none (λ y. must_stand_before a y) (take at order) h l.0 l.1 (in_front order at l.0 l.1 o.sooner l.2) in
     let t = o.swapped in let z : ⊥ = cc in z
 
-pub overtaking_tells : (order : List Entry) (at : ℕ) (a : Entry) (r : Option Entry) → r ≡ find (λ y. must_stand_before a y) (take at order)
-    → IfSome r (λ b. (j : ℕ) × IsFirst order (Overtakes at a) j b) × (IsNone r → IsLate order at a → ⊥)
-overtaking_tells order at a None h = (tt, λ n. overtaking_none order at a (sym h))
-overtaking_tells order at a (Some b) h = (overtaking_found order at a b (sym h), λ n. absurd (let z : ⊥ = cc in z))
-
 -- the last of the writes that count, found by going over what stands before the read and then what stands behind it
-last_value-append : (xs ys : List Entry) (w : ℕ) → last_value (xs ++ ys) w ≡ last_value ys (last_value xs w)
+pub last_value-append : (xs ys : List Entry) (w : ℕ) → last_value (xs ++ ys) w ≡ last_value ys (last_value xs w)
 last_value-append [] ys w = refl
 last_value-append (x ∷ xs) ys w = last_value-append xs ys x.value
 
@@ -73,7 +52,7 @@ cond-append : (b : Bool) (x : Entry) (xs ys : List Entry) → cond b (x ∷ (xs 
 cond-append true x xs ys = refl
 cond-append false x xs ys = refl
 
-filter-append : (p : Entry → Bool) (xs ys : List Entry) → filter p (xs ++ ys) ≡ filter p xs ++ filter p ys
+pub filter-append : (p : Entry → Bool) (xs ys : List Entry) → filter p (xs ++ ys) ≡ filter p xs ++ filter p ys
 filter-append p [] ys = refl
 filter-append p (x ∷ xs) ys = rw (filter-append p xs ys) (cond-append (p x) x (filter p xs) (filter p ys))
 

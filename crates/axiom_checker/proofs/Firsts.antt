@@ -101,9 +101,3 @@ from_front [] (suc at) k y e = absurd (let z : ⊥ = cc in z)
 from_front (x ∷ xs) zero k y e = absurd (let z : ⊥ = cc in z)
 from_front (x ∷ xs) (suc at) zero y e = (omega arith, e)
 from_front (x ∷ xs) (suc at) (suc k) y e = let r = from_front xs at k y e in (let l = r.0 in omega arith, r.1)
-
--- one more entry in a loop, which doesn't pass the test for the fact
-pub one_more_untrue : (list : List Entry) (Fact : ℕ → Entry → Type 0) (at : ℕ) (d : Entry) (b : Bool) → at < length list → NoneBefore list Fact at
-    → (Fact at (slice_index_or list at d) → b ≡ true) → b ≡ false → NoneBefore list Fact (at + 1)
-one_more_untrue list Fact at d b within before tells untrue =
-    one_more list Fact at (slice_index_or list at d) (slice_get-get_or list at d within) before (λ f. let t = tells f in let z : ⊥ = cc in z)

@@ -16,6 +16,7 @@ use Rattle.axiom_checker.specs.declared.breach.Breach.TheVariants.{Extra, Twice,
 use Rattle.axiom_checker.proofs.Firsts.{NoneBefore, one_more, none_at_all, none_in_nothing, any_at, none_passes}
 use Rattle.axiom_checker.proofs.Finds.{extra_tells, made_tells, twice_tells, once_tells, overtaking_found, overtaking_none}
 use Rattle.axiom_checker.proofs.Keeps.{equal-or-not, next-of}
+use Rattle.axiom_checker.proofs.Coming.{true-or-false, there-or-not, past}
 use Rattle.axiom_checker.proofs.Named.{names-extra, names-twice, names-missing, names-wrong, names-late, names-parted, names-read, names-none}
 
 -- whether the fact holds can be told
@@ -26,18 +27,9 @@ Told Fact = (k : ℕ) (x : Entry) → Fact k x ⊎ (Fact k x → ⊥)
 abbrev Search : List Entry → (ℕ → Entry → Type 0) → Type 0
 Search list Fact = ((x : Entry) × IsEarliest list Fact x) ⊎ IsNowhere list Fact
 
-element : (o : Option Entry) → (o ≡ None) ⊎ ((x : Entry) × (o ≡ Some x))
-element None = inl refl
-element (Some x) = inr (x, refl)
-
-past : (list : List Entry) (k : ℕ) → slice_get list k ≡ None → length list ≤ k
-past [] k e = omega arith
-past (x ∷ xs) zero e = absurd (let z : ⊥ = cc in z)
-past (x ∷ xs) (suc k) e = let l = past xs k e in omega arith
-
 search-from : (list : List Entry) (Fact : ℕ → Entry → Type 0) → Told Fact → (left at : ℕ) → length list ≤ at + left → NoneBefore list Fact at → Search list Fact
 search-from list Fact told zero at l before = inr (none_at_all list Fact at (omega arith) before)
-search-from list Fact told (suc left) at l before = elim (element (slice_get list at)) [
+search-from list Fact told (suc left) at l before = elim (there-or-not (slice_get list at)) [
   | inl n ↦ inr (none_at_all list Fact at (past list at n) before)
   | inr s ↦ elim (told at s.0) [
     | inl f ↦ inl (s.0, (at, record { stands = s.1; holds = f; earliest = before }))
@@ -49,10 +41,6 @@ searched : (list : List Entry) (Fact : ℕ → Entry → Type 0) → Told Fact �
 searched list Fact told = search-from list Fact told (length list) 0 (omega arith) (none_in_nothing list Fact)
 
 -- each fact can be told
-true-or-false : (b : Bool) → (b ≡ true) ⊎ (b ≡ false)
-true-or-false true = inl refl
-true-or-false false = inr refl
-
 told-extra : (made : List Entry) (x : Entry) → IsExtra made x ⊎ (IsExtra made x → ⊥)
 told-extra made x = elim (true-or-false (list_any (λ e. same_but_value e x) made)) [
   | inl h ↦ inr (made_tells made x h)

@@ -10,3 +10,11 @@ pub mod Known
 pub mod Breaches
 pub mod Named
 pub mod Judged
+pub mod Ascending
+pub mod Shapes
+pub mod Coming
+pub mod Reading
+pub mod Marking
+pub mod Following
+pub mod Meeting
+pub mod Judging

@@ -37,7 +37,7 @@ apart-append [] ys h k a = k
 apart-append (x ∷ xs) ys h k a = (each-append (λ y. same_action x y ≡ false) xs ys h.0 a.0, apart-append xs ys h.1 k a.1)
 
 -- of this core, from this place on
-record IsFrom (core place : ℕ) (e : Entry) : Type 0 where
+pub record IsFrom (core place : ℕ) (e : Entry) : Type 0 where
   pub same : e.core.0 ≡ core
   pub on : place ≤ e.place
 
@@ -50,7 +50,7 @@ from-here core place e c p = record { same = c; on = omega arith }
 all-from : (core place : ℕ) (xs : List Entry) → Each (IsFrom core (place + 1)) xs → Each (IsFrom core place) xs
 all-from core place xs h = each-map (IsFrom core (place + 1)) (IsFrom core place) xs (from-later core place) h
 
-entries-from : (core place : ℕ) (program : List Instr) (registers reads : List ℕ) → Each (IsFrom core place) (entries_of core place program registers reads)
+pub entries-from : (core place : ℕ) (program : List Instr) (registers reads : List ℕ) → Each (IsFrom core place) (entries_of core place program registers reads)
 entries-from core place [] registers reads = tt
 entries-from core place (StoreImm loc value ∷ rest) registers reads =
     (from-here core place _ refl refl, all-from core place _ (entries-from core (place + 1) rest registers reads))

@@ -22,17 +22,17 @@ pub record IsClean (made order : List Entry) : Type 0 where
   pub no_missing : IsNowhere made (IsMissing order)
   pub no_wrong : IsNowhere order (IsWrongWrite made)
 
-none-twice : (made order : List Entry) → IsNowhere order (IsStray made order) → NoneTwice order
+pub none-twice : (made order : List Entry) → IsNowhere order (IsStray made order) → NoneTwice order
 none-twice made order n i j x y l e f s = n i x e (inr (j, y, l, f, same-from x y s))
 
 -- an entry of the programs, the same as x but for its value
-record Made (made : List Entry) (x : Entry) : Type 0 where
+pub record Made (made : List Entry) (x : Entry) : Type 0 where
   pub place : ℕ
   pub entry : Entry
   pub stands : slice_get made place ≡ Some entry
   pub same : SameButValue entry x
 
-made-of : (made : List Entry) (x : Entry) → (IsExtra made x → ⊥) → Made made x
+pub made-of : (made : List Entry) (x : Entry) → (IsExtra made x → ⊥) → Made made x
 made-of made x n = go (list_any (λ e. same_but_value e x) made) refl
   where
     go : (b : Bool) → list_any (λ e. same_but_value e x) made ≡ b → Made made x

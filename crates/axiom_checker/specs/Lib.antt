@@ -2,5 +2,11 @@ pub mod First
 pub mod Entries
 pub mod Axioms
 pub mod FirstBreach
+pub mod Programs
+pub mod Slots
+pub mod Sources
+pub mod Progress
+pub mod Passing
 pub use Rattle.tso_model.specs.Litmus
 pub use Rattle.tso_model.specs.Execution
+pub use Rattle.tso_model.specs.Watched

@@ -1,15 +1,22 @@
-ghost use Rattle.std.specs.Prelude.{◌≡◌, ◌≢◌, OnOk, IfErr, IsOkUnless, IfSome, IsNone};
-ghost use Rattle.tso_model.specs.Litmus.{IsTest};
+ghost use Rattle.std.specs.Prelude.{◌≡◌, ◌≢◌, ◌+◌, ◌*◌, ◌<◌, ◌≤◌, ℕ, None, length, OnOk, IfErr, IfOk, IsOkUnless, IfSome, IsNone};
+ghost use Rattle.tso_model.specs.Litmus.{Litmus, IsTest};
 ghost use Rattle.tso_model.specs.Execution.{IsTsoExecution};
 ghost use Rattle.tso_model.specs.Execution as execution;
+ghost use Rattle.axiom_checker.specs.Passing.{IsMatched, HasMet};
+ghost use Rattle.axiom_checker.specs.Programs.{shape_from, kept_in};
+ghost use Rattle.axiom_checker.specs.Slots.{IsIndex};
 ghost use Rattle.axiom_checker.specs.FirstBreach.{IsFirstBreach};
 
-use crate::axioms::{first_late, first_parted, first_wrong_read};
+use crate::arrivals::{first_missing, first_stray};
 use crate::breach::Breach;
-use crate::entries::{first_missing, first_stray, first_wrong_write, is_made};
-use crate::programs::made_entries;
+use crate::index::index_of;
+use crate::passing::{Met, Programs, first_overtaking, pass};
+use crate::programs::{made_entries, reads_in_order, shape};
+use crate::sources::own_writes;
 use std::alloc::Global;
-use tso_model::{Entry, Execution, Test};
+use std::marker::Brand;
+use std::sync::ledger::{Blank, Ledger};
+use tso_model::{Entry, Execution, NoMemory, Test, Watched};
 
 /// Whether the order is a TSO execution of the test: it holds each memory action of the programs
 /// exactly once, with the values that the programs give, keeps program order but for a plain store
@@ -24,41 +31,142 @@ pub fn check_order(alloc: Global, test: &Test, execution: &Execution) -> Result<
     ensures accepted { IsTsoExecution test.now execution.now.order.items → IsOkUnless result Breach.NoMemory }
     ensures first { IfErr result (λ b. b ≢ Breach.NoMemory → IsFirstBreach test.now execution.now.order.items b) }
 {
-    let order = execution.order.as_slice();
-    let made = made_entries(alloc, test, order)?;
-    match first_breach(test, &made, order) {
+    check_on::<Brand>(Blank::new(1), alloc, test, execution)
+}
+
+/// The same, with the looks counted on a ledger.
+fn check_on<L: Ledger>(
+    blank: Blank,
+    alloc: Global,
+    test: &Test,
+    execution: &Execution,
+) -> Result<(), Breach>
+    requires name { blank.name ≡ L.name }
+    requires parts { blank.parts ≡ L.parts }
+    requires some { 0 < blank.parts }
+    ensures valid { OnOk result (IsTsoExecution test.now execution.now.order.items) }
+    ensures accepted { IsTsoExecution test.now execution.now.order.items → IsOkUnless result Breach.NoMemory }
+    ensures first { IfErr result (λ b. b ≢ Breach.NoMemory → IsFirstBreach test.now execution.now.order.items b) }
+{
+    let mut order = Watched::<L>::new(blank, execution);
+    check_counted(alloc, test, &mut order)
+}
+
+/// The same as [`check_order`] of a watched order, with at most three looks for each entry: two
+/// passes over the order, and one look back for the entry that a late one should have come before.
+pub fn check_counted<L: Ledger>(
+    alloc: Global,
+    test: &Test,
+    order: &mut Watched<'_, L>,
+) -> Result<(), Breach>
+    ensures valid { OnOk result (IsTsoExecution test.now order.old.order) }
+    ensures accepted { IsTsoExecution test.now order.old.order → IsOkUnless result Breach.NoMemory }
+    ensures first { IfErr result (λ b. b ≢ Breach.NoMemory → IsFirstBreach test.now order.old.order b) }
+    ensures same { order.new.order ≡ order.old.order }
+    ensures looks { order.new.looks ≤ order.old.looks + 3 * length order.old.order }
+{
+    match first_breach(alloc, test, order)? {
         Some(breach) => Err(breach),
         None => Ok(()),
     }
 }
 
-/// The first breach of the order, given what the programs make with its own read values.
-fn first_breach(test: &Test, made: &[Entry], order: &[Entry]) -> Option<Breach>
-    requires test { IsTest test.now }
-    requires made { made.now ≡ execution.made test.now order.now }
-    ensures found { IfSome result (IsFirstBreach test.now order.now) }
-    ensures none { IsNone result → IsTsoExecution test.now order.now }
+/// The first breach of the order. Fails only for want of memory.
+fn first_breach<L: Ledger>(
+    alloc: Global,
+    test: &Test,
+    order: &mut Watched<'_, L>,
+) -> Result<Option<Breach>, NoMemory>
+    ensures found { IfOk result (λ r. IfSome r (IsFirstBreach test.now order.old.order)) }
+    ensures none { IfOk result (λ r. IsNone r → IsTsoExecution test.now order.old.order) }
+    ensures same { order.new.order ≡ order.old.order }
+    ensures looks { order.new.looks ≤ order.old.looks + 3 * length order.old.order }
 {
-    if let Some(x) = first_stray(made, order) {
-        if is_made(made, &x) {
-            return Some(Breach::Twice(x));
-        }
-        return Some(Breach::Extra(x));
+    let shape = shape(alloc, test)?;
+    let slots = index_of(alloc, test.cores(), &shape)?;
+    let mut came = vec![in alloc; None; shape.len()]?;
+    breach_by_shape(alloc, test, &shape, &slots, &mut came, order)
+}
+
+/// The first breach of the order, given the shape of what the programs make.
+fn breach_by_shape<L: Ledger>(
+    alloc: Global,
+    test: &Test,
+    shape: &[Entry],
+    slots: &[Option<usize>],
+    came: &mut [Option<u32>],
+    order: &mut Watched<'_, L>,
+) -> Result<Option<Breach>, NoMemory>
+    requires test { IsTest test.now }
+    requires shape { shape.now ≡ shape_from 0 test.now.programs test.now.registers }
+    requires index { IsIndex shape.now slots.now }
+    requires size { length came.old ≡ length shape.now }
+    requires fresh { (i : ℕ) → kept_in came.old i ≡ None }
+    ensures found { IfOk result (λ r. IfSome r (IsFirstBreach test.now order.old.order)) }
+    ensures none { IfOk result (λ r. IsNone r → IsTsoExecution test.now order.old.order) }
+    ensures same { order.new.order ≡ order.old.order }
+    ensures looks { order.new.looks ≤ order.old.looks + 3 * length order.old.order }
+{
+    if let Some(stray) = first_stray(shape, slots, came, order) {
+        return Ok(Some(stray));
     }
-    if let Some(e) = first_missing(made, order) {
-        return Some(Breach::Missing(e.core, e.place, e.kind, e.loc));
+    if let Some(e) = first_missing(shape, came) {
+        return Ok(Some(Breach::Missing(e.core, e.place, e.kind, e.loc)));
     }
-    if let Some((x, due)) = first_wrong_write(made, order) {
+    let reads = reads_in_order(alloc, shape, came)?;
+    let made = made_entries(alloc, test, &reads)?;
+    breach_of_all(alloc, test, &made, slots, order)
+}
+
+/// The first breach of an order that has each action of the programs once.
+fn breach_of_all<L: Ledger>(
+    alloc: Global,
+    test: &Test,
+    made: &[Entry],
+    slots: &[Option<usize>],
+    order: &mut Watched<'_, L>,
+) -> Result<Option<Breach>, NoMemory>
+    requires made { made.now ≡ execution.made test.now order.old.order }
+    requires index { IsIndex made.now slots.now }
+    requires matched { IsMatched test.now order.old.order }
+    requires test { IsTest test.now }
+    ensures found { IfOk result (λ r. IfSome r (IsFirstBreach test.now order.old.order)) }
+    ensures none { IfOk result (λ r. IsNone r → IsTsoExecution test.now order.old.order) }
+    ensures same { order.new.order ≡ order.old.order }
+    ensures looks { order.new.looks ≤ order.old.looks + 2 * length order.old.order }
+{
+    let sources = own_writes(alloc, test.locations(), made)?;
+    let programs = Programs {
+        made,
+        slots,
+        sources: &sources,
+    };
+    let mut reached = vec![in alloc; 0u32; usize::from(test.cores())]?;
+    let mut settled = vec![in alloc; 0u32; usize::from(test.cores())]?;
+    let mut words = Vec::new(alloc);
+    words.extend_from_slice(test.initial_words())?;
+    let met = pass(programs, &mut reached, &mut settled, &mut words, order);
+    Ok(first_met(met, order))
+}
+
+/// The first of the axioms' order among what was met.
+fn first_met<L: Ledger>(met: Met, order: &mut Watched<'_, L>) -> Option<Breach>
+    requires { IfSome met.late (λ a. a.0 < length order.old.order) }
+    ensures found { (t : Litmus) → IsMatched t order.old.order → HasMet t order.old.order met → IfSome result (IsFirstBreach t order.old.order) }
+    ensures none { (t : Litmus) → IsMatched t order.old.order → HasMet t order.old.order met → IsNone result → IsTsoExecution t order.old.order }
+    ensures same { order.new.order ≡ order.old.order }
+    ensures looks { order.new.looks ≤ order.old.looks + length order.old.order }
+{
+    if let Some((x, due)) = met.wrong_write {
         return Some(Breach::WrongValue(x, due));
     }
-    if let Some((a, b)) = first_late(order) {
+    if let Some((at, a)) = met.late {
+        let b = first_overtaking(order, at, &a)?;
         return Some(Breach::ProgramOrder(a, b));
     }
-    if let Some(x) = first_parted(order) {
+    if let Some(x) = met.parted {
         return Some(Breach::NotAdjacent(x));
     }
-    if let Some((x, due)) = first_wrong_read(test, order) {
-        return Some(Breach::ReadValue(x, due));
-    }
-    None
+    let (x, due) = met.wrong_read?;
+    Some(Breach::ReadValue(x, due))
 }

@@ -1,108 +1,31 @@
-ghost use Rattle.std.specs.Prelude.{◌≡◌, ◌≤◌, ◌↔◌, IsTrue, length, IsNone, IfSome, ℕ};
-ghost use Rattle.std.specs.List.{list_any};
+ghost use Rattle.std.specs.Prelude.{◌≡◌, ◌≤◌, ◌↔◌, IsTrue};
 ghost use Rattle.tso_model.specs.ProgramOrder as program_order;
-ghost use Rattle.axiom_checker.specs.First.{IsEarliest, IsNowhere};
-ghost use Rattle.axiom_checker.specs.Entries.{same_action, same_but_value, IsStray, IsMissing, IsWrongWrite};
+ghost use Rattle.tso_model.specs.Execution.{IsStorePart};
 ghost use Rattle.axiom_checker.specs.Entries as entries;
+ghost use Rattle.axiom_checker.specs.Axioms as axioms;
 
-use crate::programs::{is_at, read_value};
 use tso_model::{Entry, Kind};
 
-/// The earliest entry of the order that isn't one of those that the programs made, or whose core,
-/// place and kind stood before.
-pub fn first_stray(made: &[Entry], order: &[Entry]) -> Option<Entry>
-    ensures found { IfSome result (λ x. IsEarliest order.now (IsStray made.now order.now) x) }
-    ensures none { IsNone result → IsNowhere order.now (IsStray made.now order.now) }
-{
-    for (at, x) in order.iter().enumerate() {
-        if is_stray(made, order, at, x) {
-            return Some(*x);
-        }
-    }
-    None
-}
-
-/// Whether the entry at this place isn't one of those that the programs made, or its core, place
-/// and kind stood before.
-fn is_stray(made: &[Entry], order: &[Entry], at: usize, x: &Entry) -> bool
-    requires { at ≤ length order.now }
-    ensures { IsTrue result ↔ IsStray made.now order.now at x.now }
-{
-    if !is_made(made, x) {
-        return true;
-    }
-    has_action(&order[..at], x)
-}
-
-/// Whether x is one of the entries that the programs made, but for its value.
-pub fn is_made(made: &[Entry], x: &Entry) -> bool
-    ensures { result ≡ list_any (λ e. same_but_value e x.now) made.now }
-{
-    made.iter().any(|e| is_same_but_value(e, x))
-}
-
-/// Whether an entry of x's core, place and kind is among these.
-fn has_action(entries: &[Entry], x: &Entry) -> bool
-    ensures { result ≡ list_any (λ y. same_action x.now y) entries.now }
-{
-    entries.iter().any(|y| is_same_action(x, y))
-}
-
-fn is_same_action(x: &Entry, y: &Entry) -> bool
-    ensures { result ≡ same_action x.now y.now }
-{
-    is_at(x.core, x.place, x.kind, y)
-}
-
-fn is_same_but_value(e: &Entry, x: &Entry) -> bool
-    ensures { result ≡ same_but_value e.now x.now }
+/// Whether e and x differ at most in the value that they read or write. A fence does neither, so
+/// its value counts.
+pub fn is_same_but_value(e: &Entry, x: &Entry) -> bool
+    ensures { result ≡ entries.same_but_value e.now x.now }
 {
     is_same_action(e, x) && x.loc == e.loc && (x.kind != Kind::F || x.value == e.value)
 }
 
-/// The first of the entries that the programs made whose core, place and kind the order doesn't
-/// have.
-pub fn first_missing(made: &[Entry], order: &[Entry]) -> Option<Entry>
-    ensures found { IfSome result (λ e. IsEarliest made.now (IsMissing order.now) e) }
-    ensures none { IsNone result → IsNowhere made.now (IsMissing order.now) }
+/// Whether both are of one core, place and kind.
+fn is_same_action(x: &Entry, y: &Entry) -> bool
+    ensures { result ≡ entries.same_action x.now y.now }
 {
-    for e in made {
-        if is_missing(order, e) {
-            return Some(*e);
-        }
-    }
-    None
+    y.core == x.core && y.place == x.place && y.kind == x.kind
 }
 
-/// Whether the order has no entry of e's core, place and kind.
-fn is_missing(order: &[Entry], e: &Entry) -> bool
-    ensures { IsTrue result ↔ IsMissing order.now 0 e.now }
+/// Whether x is a load, or the load part of a locked instruction.
+pub fn is_read(x: &Entry) -> bool
+    ensures { result ≡ program_order.is_read x.now }
 {
-    !has_action(order, e)
-}
-
-/// The earliest write of the order that has another value than its program gives it, and that
-/// value.
-pub fn first_wrong_write(made: &[Entry], order: &[Entry]) -> Option<(Entry, u32)>
-    ensures found { IfSome result (λ w. IsEarliest order.now (IsWrongWrite made.now) w.0) }
-    ensures due { IfSome result (λ w. w.1 ≡ entries.written_value made.now w.0) }
-    ensures none { IsNone result → IsNowhere order.now (IsWrongWrite made.now) }
-{
-    for x in order {
-        if is_write(x) {
-            let due = written_value(made, x);
-            if x.value != due {
-                return Some((*x, due));
-            }
-        }
-    }
-    None
-}
-
-fn written_value(made: &[Entry], x: &Entry) -> u32
-    ensures { result ≡ entries.written_value made.now x.now }
-{
-    read_value(x.core, x.place, x.kind, made)
+    matches!(x.kind, Kind::R | Kind::LR)
 }
 
 /// Whether x is a store, or the store part of a locked instruction.
@@ -110,4 +33,43 @@ pub fn is_write(x: &Entry) -> bool
     ensures { result ≡ program_order.is_write x.now }
 {
     matches!(x.kind, Kind::W | Kind::LW)
+}
+
+/// Whether y is the store part of the locked instruction whose load part is x.
+pub fn is_store_part(x: &Entry, y: &Entry) -> bool
+    ensures { IsTrue result ↔ IsStorePart x.now y.now }
+{
+    y.core == x.core && y.place == x.place && y.kind == Kind::LW
+}
+
+/// Where an entry stands among those of its program: the store part of a locked instruction
+/// behind its load part.
+pub fn rank(x: &Entry) -> u32
+    ensures value { result ≡ program_order.rank x.now }
+    ensures small { result ≤ 511 }
+{
+    let place = u32::from(x.place);
+    place + place + u32::from(x.kind == Kind::LW)
+}
+
+/// Whether a must stand before b: it does in their program, and isn't a plain store that a plain
+/// load b may pass.
+pub fn must_stand_before(a: &Entry, b: &Entry) -> bool
+    ensures { result ≡ axioms.must_stand_before a.now b.now }
+{
+    is_before(a, b) && !may_be_passed(a, b)
+}
+
+/// Whether x stands before y in the program of their core.
+fn is_before(x: &Entry, y: &Entry) -> bool
+    ensures { result ≡ program_order.is_before x.now y.now }
+{
+    x.core == y.core && rank(x) < rank(y)
+}
+
+/// Whether y may pass x in the order: a plain load may pass a plain store.
+fn may_be_passed(x: &Entry, y: &Entry) -> bool
+    ensures { result ≡ program_order.may_be_passed x.now y.now }
+{
+    x.kind == Kind::W && y.kind == Kind::R
 }

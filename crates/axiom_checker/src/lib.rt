@@ -1,16 +1,21 @@
 //! Whether an order of memory actions is a TSO execution of a test, and if not, which breach is the
 //! first.
 //!
-//! The checker is the axioms read as a program: it compares entries in pairs. What a breach is and
-//! which one is the first stands in `specs/`, as facts about orders.
+//! What a breach is and which one is the first stands in `specs/`, as facts about orders. The
+//! checker goes over the order twice, and looks back once where an entry came too late: at most
+//! three looks for each entry.
 #![tactic(auto)]
 
-mod axioms;
+mod arrivals;
 pub mod breach;
 mod check;
 mod entries;
+mod index;
 pub mod laws;
+mod passing;
 mod programs;
+mod progress;
+mod sources;
 
 pub use breach::Breach;
-pub use check::check_order;
+pub use check::{check_counted, check_order};

@@ -1,70 +1,65 @@
-ghost use Rattle.std.specs.Prelude.{◌≡◌, ◌<◌, ◌≤◌, ◌+◌, ◌++◌, [], length, slice_index_or, IfOk};
+ghost use Rattle.std.specs.Prelude.{◌≡◌, ◌≤◌, length, IfOk};
 ghost use Rattle.tso_model.specs.Litmus.{IsTest};
-ghost use Rattle.tso_model.specs.Thread.{reads_in};
-ghost use Rattle.tso_model.specs.Execution as execution;
+ghost use Rattle.axiom_checker.specs.Programs.{shape_from, reads_that_came, reads_of_all, made_reading};
 
+use crate::entries::is_read;
+use crate::index::kept;
 use std::alloc::Global;
-use tso_model::{Core, Entry, Instr, Kind, NoMemory, Test, thread_entries};
+use tso_model::{Core, Entry, NoMemory, Test, read_count, thread_entries};
 
-/// What the programs make with the order's own read values: the entries of all cores, core by core
-/// and in program order.
+/// What the programs make where each read returns 0: the entries of all cores, core by core and in
+/// program order. With other reads only the values differ.
 ///
 /// Fails only for want of memory.
-pub fn made_entries(alloc: Global, test: &Test, order: &[Entry]) -> Result<Vec<Entry>, NoMemory>
-    ensures entries { IfOk result (λ entries. entries.items ≡ execution.made test.now order.now) }
+pub fn shape(alloc: Global, test: &Test) -> Result<Vec<Entry>, NoMemory>
+    ensures entries { IfOk result (λ es. es.items ≡ shape_from 0 test.now.programs test.now.registers) }
     ensures test { IsTest test.now }
 {
     let mut entries = Vec::new(alloc);
     for number in 0..test.cores() {
         let core = Core(number);
-        let reads = read_values(alloc, test.program(core), core, order)?;
-        let thread = thread_entries(alloc, test, core, &reads)?;
+        let zeros = vec![in alloc; 0u32; read_count(test, core)]?;
+        let thread = thread_entries(alloc, test, core, &zeros)?;
         entries.extend_from_slice(&thread.entries)?;
     }
     Ok(entries)
 }
 
-/// The order's own values for the reads of a core's program, in program order.
-fn read_values(
+/// The values with which the reads among the programs' entries came, in the order of these entries.
+///
+/// Fails only for want of memory.
+pub fn reads_in_order(
     alloc: Global,
-    program: &[Instr],
-    core: Core,
-    order: &[Entry],
+    shape: &[Entry],
+    came: &[Option<u32>],
 ) -> Result<Vec<u32>, NoMemory>
-    requires { length program.now ≤ 32 }
-    ensures values { IfOk result (λ values. values.items ≡ execution.read_values core.0 0 program.now order.now) }
-    ensures count { IfOk result (λ values. length values.items ≡ reads_in program.now) }
+    ensures { IfOk result (λ values. values.items ≡ reads_that_came 0 came.now shape.now) }
 {
     let mut values = Vec::new(alloc);
-    let mut place = 0;
-    for instr in program {
-        match instr {
-            Instr::Load(..) => values.push(read_value(core, place, Kind::R, order))?,
-            Instr::Xchg(..) | Instr::Xadd(..) => {
-                values.push(read_value(core, place, Kind::LR, order))?;
-            }
-            _ => {}
+    for (i, e) in shape.iter().enumerate() {
+        if is_read(e) {
+            values.push(kept(came, i).unwrap_or(0))?;
         }
-        place += 1;
     }
     Ok(values)
 }
 
-/// The value of the first entry of this core, place and kind, or 0 where there is none.
-pub fn read_value(core: Core, place: u8, kind: Kind, order: &[Entry]) -> u32
-    ensures { result ≡ execution.read_value core.0 place kind order.now }
+/// What the programs make where their reads, core by core and in program order, return these values.
+///
+/// Fails only for want of memory.
+pub fn made_entries(alloc: Global, test: &Test, reads: &[u32]) -> Result<Vec<Entry>, NoMemory>
+    requires { reads_of_all test.now.programs ≤ length reads.now }
+    ensures { IfOk result (λ es. es.items ≡ made_reading 0 test.now.programs test.now.registers reads.now) }
 {
-    for e in order {
-        if is_at(core, place, kind, e) {
-            return e.value;
-        }
+    let mut entries = Vec::new(alloc);
+    let mut left = reads;
+    for number in 0..test.cores() {
+        let core = Core(number);
+        let count = read_count(test, core);
+        let (own, rest) = left.split_at(count);
+        let thread = thread_entries(alloc, test, core, own)?;
+        entries.extend_from_slice(&thread.entries)?;
+        left = rest;
     }
-    0
-}
-
-/// Whether the entry is of this core, place and kind.
-pub fn is_at(core: Core, place: u8, kind: Kind, e: &Entry) -> bool
-    ensures { result ≡ execution.is_at core.0 place kind e.now }
-{
-    e.core == core && e.place == place && e.kind == kind
+    Ok(entries)
 }

@@ -4,7 +4,11 @@
 #![tactic(auto)]
 
 ghost use Rattle.std.specs.Prelude.{◌≡◌, ◌≢◌, ◌<◌, ◌≤◌, ℕ, [], Some, None, IsSome, IfSome, IfOk, OnErr, option_map, option_copied, nat_eq, if◌then◌else◌};
+ghost use Rattle.cache_set.specs.Limits.{most_ways, most_words};
 
+mod hashing;
+
+use crate::hashing::LineHasher;
 use lru::LruCache;
 use protocol_tables::State;
 use std::alloc::Global;
@@ -15,11 +19,20 @@ use tso_model::NoMemory;
 /// How many lines a set may be made for, at most.
 pub const MAX_WAYS: u8 = 8;
 
-/// A copy of a line: its state, and the one word that a line has.
+/// How many words a line has room for.
+pub const MAX_WORDS: usize = 4;
+
+/// Each limit is the number that the definitions have: a law, with nothing to run.
+pub fn limits_are_as_defined()
+    ensures ways { MAX_WAYS ≡ most_ways }
+    ensures words { MAX_WORDS ≡ most_words }
+{}
+
+/// A copy of a line: its state, and its words. Those past the line's size are 0.
 #[derive(Clone, Copy, PartialEq, Eq)]
 pub struct Line {
     pub state: State,
-    pub word: u32,
+    pub words: [u32; MAX_WORDS],
 }
 
 /// A line that left a full set, with its copy.
@@ -36,7 +49,7 @@ pub struct Victim {
 /// (`copies`), and that the above still holds (`valid`).
 #[derive(Drop)]
 pub struct CacheSet {
-    lines: LruCache<u8, Line>,
+    lines: LruCache<u8, Line, LineHasher>,
 }
 
 impl Model for CacheSet {
@@ -58,11 +71,11 @@ impl CacheSet {
     ///
     /// Fails only for want of memory.
     pub fn new(alloc: Global, ways: u8) -> Result<Self, NoMemory>
-        requires { (0 < ways) × (ways ≤ MAX_WAYS) }
+        requires { (0 < ways) × (ways ≤ most_ways) }
         ensures { IfOk result (λ s. s ≡ contents [] ways) }
     {
         let capacity = NonZeroUsize::new(usize::from(ways)).unwrap();
-        let lines = LruCache::new(alloc, capacity)?;
+        let lines = LruCache::with_hasher(alloc, capacity, LineHasher::new())?;
         Ok(CacheSet { lines })
     }
 
@@ -89,17 +102,22 @@ impl CacheSet {
     /// last line back.
     ///
     /// Fails only for want of memory; nothing is changed then.
-    pub fn fill(&mut self, line: u8, state: State, word: u32) -> Result<Option<Victim>, NoMemory>
+    pub fn fill(
+        &mut self,
+        line: u8,
+        state: State,
+        words: [u32; MAX_WORDS],
+    ) -> Result<Option<Victim>, NoMemory>
         requires absent { copy_of self.old line ≡ None }
         requires valid { state ≢ State.I }
-        ensures exact { IfOk result (λ _. self.new ≡ with_new line (copy_with state word) self.old) }
+        ensures exact { IfOk result (λ _. self.new ≡ with_new line (copy_with state words) self.old) }
         ensures victim { IfOk result (λ v. v ≡ victim_of self.old) }
-        ensures copies { IfOk result (λ v. (k : ℕ) → copy_of self.new k ≡ after_fill line (copy_with state word) v k (copy_of self.old k)) }
+        ensures copies { IfOk result (λ v. (k : ℕ) → copy_of self.new k ≡ after_fill line (copy_with state words) v k (copy_of self.old k)) }
         ensures was_here { IfOk result (λ v. IfSome v (λ x. copy_of self.old x.line ≡ Some x.content)) }
         ensures err { OnErr result (self.new ≡ self.old) }
         ensures valid { IsCacheSet self.new }
     {
-        let victim = self.lines.push(line, Line { state, word })?;
+        let victim = self.lines.push(line, Line { state, words })?;
         Ok(victim.map(|(line, content)| Victim { line, content }))
     }
 
@@ -115,15 +133,17 @@ impl CacheSet {
         copy.state = state;
     }
 
-    /// The word of a line that is here is written, and the line keeps its place and state.
-    pub fn write_word(&mut self, line: u8, word: u32)
-        requires { IsSome (copy_of self.old line) }
-        ensures exact { self.new ≡ with_changed (with_word word) line self.old }
+    /// The word at this place of a line that is here is written, and the line keeps its place in the set and
+    /// its state.
+    pub fn write_word(&mut self, line: u8, place: u8, value: u32)
+        requires present { IsSome (copy_of self.old line) }
+        requires place { place < most_words }
+        ensures exact { self.new ≡ with_changed (with_word place value) line self.old }
         ensures valid { IsCacheSet self.new }
-        ensures copies { (k : ℕ) → copy_of self.new k ≡ (if nat_eq k line then option_map (with_word word) (copy_of self.old k) else copy_of self.old k) }
+        ensures copies { (k : ℕ) → copy_of self.new k ≡ (if nat_eq k line then option_map (with_word place value) (copy_of self.old k) else copy_of self.old k) }
     {
         let copy = self.lines.peek_mut(&line).unwrap();
-        copy.word = word;
+        copy.words[usize::from(place)] = value;
     }
 
     /// A line that is here leaves, and the others stay in their order. Answers its copy.

@@ -13,8 +13,8 @@ use Rattle.litmus_reader.specs.declared.fault.ReadError.TheVariants as errors
 use Rattle.litmus_reader.specs.declared.cell.CoreInstr.{CoreInstr}
 use Rattle.litmus_reader.specs.Faults.{Fails}
 use Rattle.litmus_reader.specs.Cells.{cell_pieces, cell_in, cells_in}
-use Rattle.litmus_reader.specs.Rows.{cells_of}
 use Rattle.litmus_reader.proofs.Maps.{slice_split-map, map-map}
+use Rattle.litmus_reader.specs.RefusedTable.{cells_of}
 
 abbrev pub Read : Type 0
 Read = Result (List CoreInstr × List (List ℕ)) Fault

@@ -13,14 +13,16 @@ use Rattle.litmus_tokens.specs.declared.token.Symbol.TheVariants.{OpenRound, Clo
 use Rattle.litmus_tokens.specs.Pieces.{Piece}
 use Rattle.litmus_tokens.specs.Front.{symbol_at}
 use Rattle.litmus_reader.specs.declared.fault.Fault.{Fault}
-use Rattle.litmus_reader.specs.Faults.{◌>>=◌, or_unfit, left_of}
+use Rattle.litmus_reader.specs.Faults.{◌>>=◌, or_unfit}
 use Rattle.litmus_reader.specs.Locations.{located}
-use Rattle.litmus_reader.specs.Items.{Setting, of_register, of_location, setting_at, word_at, core_of}
-use Rattle.litmus_reader.specs.Conditions.{in_condition, claim_in, Claimed, claimed, one_more, truth_at, truth_atom, setting_atom, atom_at, Proposition, joined_to, chain, chain_of, both, either, conjunction, disjunction, negation_at, opens_unit, negated, bracketed, unit_by, unit_at, proposition_at, Conditioned, with_claim, quantified, not_exists, condition_at}
+use Rattle.litmus_reader.specs.Items.{setting_at, word_at, core_of}
+use Rattle.litmus_reader.specs.Conditions.{claim_in, Claimed, claimed, one_more, truth_at, truth_atom, setting_atom, atom_at, Proposition, joined_to, chain, chain_of, both, either, conjunction, disjunction, negation_at, opens_unit, negated, bracketed, unit_by, unit_at, proposition_at, Conditioned, with_claim, quantified, not_exists, condition_at}
 use Rattle.litmus_reader.specs.Keywords.{word_behind}
 use Rattle.litmus_reader.proofs.Keeps.{Any, ok_any, some_any, bind_keeps, there_keeps, cond_keeps, core_keeps}
 use Rattle.litmus_reader.proofs.Named.{NamedSetting, setting_named}
 use Rattle.litmus_reader.proofs.Known.{AreNames, Grown, same_names, grown_further, LocatesIn, located_keeps}
+use Rattle.litmus_reader.specs.Places.{left_of, in_condition}
+use Rattle.litmus_reader.specs.Written.{Setting, of_register, of_location}
 
 exist_further : (cores m n : ℕ) (c : Claim) → m ≤ n → NamesExist cores m c → NamesExist cores n c
 exist_further cores m n (TruthClaim truth) le h = tt

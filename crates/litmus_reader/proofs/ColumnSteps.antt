@@ -3,8 +3,9 @@ use Rattle.std.proofs.Common.{◌≡◌, ℕ, suc, zero, ◌+◌, ◌-◌, ◌�
 use Rattle.litmus_tokens.specs.declared.token.Stop.{Stop}
 use Rattle.litmus_tokens.specs.Pieces.{Piece}
 use Rattle.litmus_reader.specs.declared.fault.Why.TheVariants.{TooLarge}
-use Rattle.litmus_reader.specs.Faults.{◌>>=◌, fault, left_of, or_unfit}
-use Rattle.litmus_reader.specs.Columns.{columns, in_columns, core_at, parting_at}
+use Rattle.litmus_reader.specs.Faults.{◌>>=◌, or_unfit}
+use Rattle.litmus_reader.specs.Columns.{columns, core_at, parting_at}
+use Rattle.litmus_reader.specs.Places.{fault, left_of, in_columns}
 
 pub columns_next : (stop : Stop) (core : ℕ) (ps : List Piece) → core < 4 → columns stop (4 - core) core ps ≡
     (or_unfit (in_columns stop) ps (core_at core ps) >>= λ rest.

@@ -14,19 +14,22 @@ use Rattle.litmus_tokens.specs.Terms.{Term, number, name, symbol, decimal}
 use Rattle.litmus_tokens.specs.Pieces.{Piece}
 use Rattle.litmus_tokens.specs.Front.{is_symbol, symbol_at, name_at}
 use Rattle.litmus_reader.specs.declared.fault.Why.TheVariants.{TooLarge, NoSuchCore}
-use Rattle.litmus_reader.specs.Faults.{fault, left_of, there}
+use Rattle.litmus_reader.specs.Faults.{there}
 use Rattle.litmus_reader.specs.Keywords.{if_word, word_behind}
-use Rattle.litmus_reader.specs.Locations.{number_of, with_name, location, located}
-use Rattle.litmus_reader.specs.Items.{Setting, of_register, of_location, setting_at, or_bad_number, word_at, core_of}
-use Rattle.litmus_reader.specs.Conditions.{in_condition, claim_in, Claimed, claimed, one_more, truth_at, truth_atom, setting_atom, atom_at, negation_at}
-use Rattle.litmus_reader.specs.Grammar.{terms, Begins}
+use Rattle.litmus_reader.specs.Locations.{located}
+use Rattle.litmus_reader.specs.Items.{setting_at, or_bad_number, word_at, core_of}
+use Rattle.litmus_reader.specs.Conditions.{claim_in, Claimed, claimed, one_more, truth_at, truth_atom, setting_atom, atom_at, negation_at}
+use Rattle.litmus_reader.specs.Grammar.{terms}
 use Rattle.litmus_reader.specs.GrammarItems.{IsSetting, sets_register, sets_location, sets_in_squares}
-use Rattle.litmus_reader.specs.GrammarNames.{numbered}
-use Rattle.litmus_reader.specs.GrammarConditions.{truth, atom, IsAtom, says_true, says_false, says_setting, named_by, SettingFits, setting_claim, IsWithin, given_by, ReadsPhrase}
+use Rattle.litmus_reader.specs.GrammarNames.{numbered, number_of, with_name, location}
+use Rattle.litmus_reader.specs.GrammarConditions.{IsAtom, says_true, says_false, says_setting, named_by, SettingFits, setting_claim, IsWithin}
 use Rattle.litmus_reader.proofs.GrammarTokens.{chosen, there_is, there_some, some_is, ok_is, ok_pair, bind_ok, opened, name_takes}
 use Rattle.litmus_reader.proofs.GrammarItems.{setting_found, setting_taken}
 use Rattle.litmus_reader.proofs.GrammarPhrases.{Finds, Taken, Takes, Anything}
 use Rattle.litmus_reader.proofs.GrammarNames.{with_name_by, place_below, place_none, known_with, number_with}
+use Rattle.litmus_reader.proofs.Readings.{Begins, given_by, ReadsPhrase}
+use Rattle.litmus_reader.specs.Places.{fault, left_of, in_condition}
+use Rattle.litmus_reader.specs.Written.{Setting, of_register, of_location, truth, atom}
 
 -- ---- atoms
 
@@ -70,7 +73,7 @@ claim_found cores left names (of_location x v) fits room =
     let few : number_of names x < 16 = omega (arith, below, number_with names x) in
     rw (word_is left v fits, lt-ltb (number_of names x) 16 few, number_with names x) refl
 
-record ClaimTaken (cores : ℕ) (names : List (List ℕ)) (s : Setting) (c : Claim × List (List ℕ)) : Type 0 where
+pub record ClaimTaken (cores : ℕ) (names : List (List ℕ)) (s : Setting) (c : Claim × List (List ℕ)) : Type 0 where
   pub fits : SettingFits cores s
   pub names_are : c.1 ≡ numbered names (named_by s)
   pub claim_is : c.0 ≡ setting_claim (numbered names (named_by s)) s
@@ -91,7 +94,7 @@ pub room_with : (names : List (List ℕ)) (x : List ℕ) → number_of names x <
 room_with names x few le =
     with_name_by (λ l. length l ≤ 16) names x (λ _. le) (λ none. let at_end = place_none (bytes_eq x) names none in omega (arith, at_end, few, length-append names (x ∷ [])))
 
-claim_taken : (cores left : ℕ) (names : List (List ℕ)) (s : Setting) (c : Claim × List (List ℕ)) → claim_in cores left names s ≡ Ok c → ClaimTaken cores names s c
+pub claim_taken : (cores left : ℕ) (names : List (List ℕ)) (s : Setting) (c : Claim × List (List ℕ)) → claim_in cores left names s ≡ Ok c → ClaimTaken cores names s c
 unfolding claim_in numbered
 claim_taken cores left names (of_register digits reg v) c e =
     let a = bind_ok (core_of cores left digits) _ c e in
@@ -189,7 +192,7 @@ word_taken word ps rest e =
       | inr miss ↦ absurd cc
     ]
 
-truth_taken : (ps : List Piece) (t : Bool × List Piece) → truth_at ps ≡ Some t → Begins (λ ts. IsAtom ts (truth t.0)) ps t.1
+pub truth_taken : (ps : List Piece) (t : Bool × List Piece) → truth_at ps ≡ Some t → Begins (λ ts. IsAtom ts (truth t.0)) ps t.1
 unfolding truth_at
 truth_taken ps t e =
     elim (there_is (word_behind (codes "true") ps) (λ rest. Some (true, rest)) (there (word_behind (codes "false") ps) (λ rest. Some (false, rest)) None) (Some t) e) [

@@ -1,6 +1,6 @@
 -- What readings leave are the last tokens.
-use Rattle.std.proofs.Common.{◌≡◌, ℕ, zero, suc, ◌+◌, Bool, true, false, cond, ltb, List, [], ◌∷◌, ◌++◌, length, take, drop, Option, Some, None, Result, Ok, Err, IfOk, IfSome, refl, sym, ap, ◌∙◌, append_assoc}
-use Rattle.std.specs.List.{position_or_len, before_first, after_first}
+use Rattle.std.proofs.Common.{◌≡◌, ℕ, zero, suc, ◌+◌, Bool, true, false, ltb, List, [], ◌∷◌, ◌++◌, length, take, Option, Some, None, Result, Ok, Err, IfOk, IfSome, refl, sym, ap, ◌∙◌, append_assoc}
+use Rattle.std.specs.List.{position_or_len}
 use Rattle.std.proofs.lemmas.List.{take-append-drop}
 use Rattle.tso_model.specs.Registers.{register_named}
 use Rattle.tso_model.specs.declared.register.Reg.{Reg}
@@ -8,41 +8,44 @@ use Rattle.tso_model.specs.Names.{is_location_name}
 use Rattle.litmus_tokens.specs.declared.token.Stop.{Stop}
 use Rattle.litmus_tokens.specs.declared.token.Symbol.{Symbol}
 use Rattle.litmus_tokens.specs.declared.token.Symbol.TheVariants.{Equals, Semicolon, Colon, OpenSquare, CloseSquare, OpenCurly, CloseCurly, Bar}
-use Rattle.litmus_tokens.specs.Terms.{Term, number, name, symbol, decimal}
+use Rattle.litmus_tokens.specs.Terms.{Term, number, name, symbol}
 use Rattle.litmus_tokens.specs.Pieces.{Piece}
 use Rattle.litmus_tokens.specs.Front.{is_symbol, symbol_at, name_then, name_at, number_then, number_at}
-use Rattle.litmus_reader.specs.declared.fault.Why.TheVariants.{TooLarge}
 use Rattle.litmus_reader.specs.declared.fault.Fault.{Fault}
 use Rattle.litmus_reader.specs.declared.fault.Part.{Part}
 use Rattle.litmus_reader.specs.declared.cell.CoreInstr.{CoreInstr}
-use Rattle.litmus_reader.specs.Faults.{◌>>=◌, fault, left_of, or_unfit, there}
-use Rattle.litmus_reader.specs.Items.{Setting, of_location, if_location, location_at, if_register, register_at, value_at, register_setting, square_setting, plain_setting, setting_at}
-use Rattle.litmus_reader.specs.Initial.{before_initial, in_initial, Initial, initial, judged, ends_item, item_in, step_in, items_within, items_at, initial_at}
-use Rattle.litmus_reader.specs.Columns.{in_columns, if_core, core_at, parting_at, columns, columns_at}
-use Rattle.litmus_reader.specs.Rows.{Rows, rows, row_at, row_in, ends_rows, rows_within, rows_at}
-use Rattle.litmus_reader.specs.GrammarBehind.{AreLast}
+use Rattle.litmus_reader.specs.Faults.{◌>>=◌, or_unfit}
+use Rattle.litmus_reader.specs.Items.{if_location, location_at, if_register, register_at, value_at, register_setting, square_setting, plain_setting, setting_at}
+use Rattle.litmus_reader.specs.Initial.{before_initial, Initial, initial, judged, item_in, step_in, items_within, items_at, initial_at}
+use Rattle.litmus_reader.specs.Columns.{if_core, core_at, parting_at, columns, columns_at}
+use Rattle.litmus_reader.specs.Rows.{Rows, row_at, row_in, rows_within, rows_at}
 use Rattle.litmus_reader.proofs.Keeps.{Any, ok_any, some_any, ok_is, bind_keeps, there_keeps, cond_keeps, or_unfit_keeps}
+use Rattle.litmus_reader.proofs.Readings.{AreLast}
+use Rattle.litmus_reader.specs.Places.{left_of, in_initial, in_columns}
+use Rattle.litmus_reader.specs.Written.{Setting, of_location}
+use Rattle.litmus_reader.specs.RefusedInitial.{ends_item}
+use Rattle.litmus_reader.specs.GrammarTable.{ends_rows}
 
-all_last : (ps : List Piece) → AreLast ps ps
+pub all_last : (ps : List Piece) → AreLast ps ps
 all_last ps = record { taken = []; parts = refl }
 
-last_further : (ps qs rest : List Piece) → AreLast ps qs → AreLast qs rest → AreLast ps rest
+pub last_further : (ps qs rest : List Piece) → AreLast ps qs → AreLast qs rest → AreLast ps rest
 last_further ps qs rest a b = record { taken = a.taken ++ b.taken; parts = a.parts ∙ ap (λ (l : List Piece). a.taken ++ l) b.parts ∙ sym (append_assoc a.taken b.taken rest) }
 
-one_taken : (p : Piece) (ps : List Piece) → AreLast (p ∷ ps) ps
+pub one_taken : (p : Piece) (ps : List Piece) → AreLast (p ∷ ps) ps
 one_taken p ps = record { taken = p ∷ []; parts = refl }
 
-abbrev Leaves : {A : Type 0} → List Piece → A × List Piece → Type 0
+abbrev pub Leaves : {A : Type 0} → List Piece → A × List Piece → Type 0
 Leaves ps found = AreLast ps found.1
 
 -- ---- tokens
 
-symbol_leaves : (s : Symbol) (ps : List Piece) → IfSome (symbol_at s ps) (AreLast ps)
+pub symbol_leaves : (s : Symbol) (ps : List Piece) → IfSome (symbol_at s ps) (AreLast ps)
 unfolding symbol_at
 symbol_leaves s [] = tt
 symbol_leaves s (p ∷ ps) = cond_keeps (λ (o : Option (List Piece)). IfSome o (AreLast (p ∷ ps))) (is_symbol s p) (Some ps) None (λ _. one_taken p ps) (λ _. tt)
 
-name_leaves : (ps : List Piece) → IfSome (name_at ps) (λ found. Leaves ps found)
+pub name_leaves : (ps : List Piece) → IfSome (name_at ps) (λ found. Leaves ps found)
 unfolding name_at
 name_leaves [] = tt
 name_leaves (p ∷ ps) = by_term p.term
@@ -52,7 +55,7 @@ name_leaves (p ∷ ps) = by_term p.term
     by_term (name x) = one_taken p ps
     by_term (symbol s) = tt
 
-number_leaves : (ps : List Piece) → IfSome (number_at ps) (λ found. Leaves ps found)
+pub number_leaves : (ps : List Piece) → IfSome (number_at ps) (λ found. Leaves ps found)
 unfolding number_at
 number_leaves [] = tt
 number_leaves (p ∷ ps) = by_term p.term
@@ -108,14 +111,14 @@ plain_setting_leaves part ps =
     bind_keeps (λ found. Leaves ps found) (λ found. Leaves ps found) (or_unfit part ps (location_at ps)) _ (or_unfit_keeps (λ found. Leaves ps found) part ps (location_at ps) (location_leaves ps))
     (λ x a. value_further part ps x.1 (of_location x.0) a)
 
-abbrev LeavesSetting : List Piece → Result (Setting × List Piece) Fault → Type 0
+abbrev pub LeavesSetting : List Piece → Result (Setting × List Piece) Fault → Type 0
 LeavesSetting ps r = IfOk r (λ found. Leaves ps found)
 
 leaves_behind : (ps qs : List Piece) (r : Result (Setting × List Piece) Fault) → AreLast ps qs → LeavesSetting qs r → LeavesSetting ps r
 leaves_behind ps qs (Ok found) a b = last_further ps qs found.1 a b
 leaves_behind ps qs (Err e) a b = tt
 
-setting_leaves : (part : Part) (ps : List Piece) → LeavesSetting ps (setting_at part ps)
+pub setting_leaves : (part : Part) (ps : List Piece) → LeavesSetting ps (setting_at part ps)
 unfolding setting_at
 setting_leaves part ps =
     there_keeps (λ found. Leaves ps found) (LeavesSetting ps) (number_at ps) (λ core. register_setting part core.0 core.1) _ (number_leaves ps)
@@ -125,14 +128,14 @@ setting_leaves part ps =
 
 -- ---- the initial state
 
-abbrev LeavesItems : List Piece → Result (Initial × List Piece) Fault → Type 0
+abbrev pub LeavesItems : List Piece → Result (Initial × List Piece) Fault → Type 0
 LeavesItems ps r = IfOk r (λ found. Leaves ps found)
 
 items_behind : (ps qs : List Piece) (r : Result (Initial × List Piece) Fault) → AreLast ps qs → LeavesItems qs r → LeavesItems ps r
 items_behind ps qs (Ok found) a b = last_further ps qs found.1 a b
 items_behind ps qs (Err e) a b = tt
 
-item_leaves : (part : Part) (i : Initial) (ps : List Piece) → LeavesItems ps (item_in part i ps)
+pub item_leaves : (part : Part) (i : Initial) (ps : List Piece) → LeavesItems ps (item_in part i ps)
 unfolding item_in
 item_leaves part i ps =
     bind_keeps (λ found. Leaves ps found) (λ found. Leaves ps found) (setting_at part ps) _ (setting_leaves part ps)
@@ -140,7 +143,7 @@ item_leaves part i ps =
     (λ _. bind_keeps (λ x. Any x) (λ found. Leaves ps found) (judged (left_of ps) i s.0) _ (ok_any _) (λ after _. a))
     (λ _. tt))
 
-step_leaves : (part : Part) (i : Initial) (ps : List Piece) → LeavesItems ps (step_in part i ps)
+pub step_leaves : (part : Part) (i : Initial) (ps : List Piece) → LeavesItems ps (step_in part i ps)
 unfolding step_in
 step_leaves part i ps = there_keeps (AreLast ps) (LeavesItems ps) (symbol_at Semicolon ps) (λ rest. Ok (i, rest)) (item_in part i ps) (symbol_leaves Semicolon ps) (λ rest a. a) (item_leaves part i ps)
 

@@ -8,15 +8,19 @@ use Rattle.litmus_tokens.specs.Terms.{Term, name, symbol}
 use Rattle.litmus_tokens.specs.Pieces.{Piece}
 use Rattle.litmus_tokens.specs.Front.{is_symbol, symbol_at, name_at}
 use Rattle.litmus_reader.specs.declared.fault.Why.TheVariants.{TooLarge}
-use Rattle.litmus_reader.specs.Faults.{fault, left_of, there, or_unfit}
+use Rattle.litmus_reader.specs.Faults.{there, or_unfit}
 use Rattle.litmus_reader.specs.Keywords.{word_behind}
-use Rattle.litmus_reader.specs.Conditions.{in_condition, Claimed, claimed, atom_at, Proposition, disjunction, negation_at, opens_unit, negated, bracketed, unit_by, unit_at, proposition_at}
+use Rattle.litmus_reader.specs.Conditions.{Claimed, claimed, atom_at, Proposition, disjunction, negation_at, opens_unit, negated, bracketed, unit_by, unit_at, proposition_at}
 use Rattle.litmus_reader.specs.Grammar.{terms}
 use Rattle.litmus_reader.specs.GrammarNames.{numbered}
-use Rattle.litmus_reader.specs.GrammarConditions.{Phrase, negation, IsAtom, says_true, says_false, says_setting, IsProposition, plain, tilde, word_not, in_brackets, IsUnit, locations_in, atoms_of, claim_of, begins_with, IsWithin, given_by, ReadsPhrase, SpellsPhrase}
+use Rattle.litmus_reader.specs.GrammarConditions.{IsAtom, says_true, says_false, says_setting, IsProposition, plain, tilde, word_not, in_brackets, IsUnit, locations_in, atoms_of, claim_of, begins_with, IsWithin}
 use Rattle.litmus_reader.proofs.GrammarTokens.{chosen, there_is, some_is, ok_is, bind_ok, or_unfit_ok, front, opened, symbol_takes}
 use Rattle.litmus_reader.proofs.GrammarPhrases.{Finds, Taken, Takes, Anything, proposition_takes, proposition_finds}
+use Rattle.litmus_reader.proofs.GrammarLast.{unit_leaves}
 use Rattle.litmus_reader.proofs.GrammarAtoms.{word_taken, setting_plain, atom_found, atom_taken}
+use Rattle.litmus_reader.proofs.Readings.{given_by, ReadsPhrase, SpellsPhrase}
+use Rattle.litmus_reader.specs.Places.{fault, left_of, in_condition}
+use Rattle.litmus_reader.specs.Written.{Phrase, negation}
 
 -- ---- units found
 
@@ -69,7 +73,7 @@ next_found stop cores n finds _ _ (word_not ts p is) atoms names allowed back ok
     record { rest = f.rest; is = rw is_not (negated_found (unit_at stop cores n) atoms names p back rest f); behind = f.behind })
 next_found stop cores n finds _ _ (in_brackets ts p is) atoms names allowed back ok ps e =
     opened (ReadsPhrase (unit_at stop cores (suc n)) atoms names p back) ps (symbol OpenRound) ((ts ++ symbol CloseRound ∷ []) ++ back) e (λ a rest is_open behind.
-    let f = proposition_finds (IsUnit n) cores (unit_at stop cores n) finds ts p is atoms names allowed (symbol CloseRound ∷ back) ((tt, refl), refl) rest (behind ∙ append_assoc ts (symbol CloseRound ∷ []) back) in
+    let f = proposition_finds (IsUnit n) cores (unit_at stop cores n) finds (unit_leaves stop cores n) ts p is atoms names allowed (symbol CloseRound ∷ back) ((tt, refl), refl) rest (behind ∙ append_assoc ts (symbol CloseRound ∷ []) back) in
     let g = front f.rest (symbol CloseRound) back f.behind in
     record { rest = g.rest; is = rw is_open (bracketed_found stop (unit_at stop cores n) atoms names p rest f.rest g.rest g.first f.is g.parts g.is); behind = g.behind })
 
@@ -182,7 +186,7 @@ unit_takes stop cores (suc n) = next_taken stop cores n (unit_takes stop cores n
 
 -- ---- both ways
 
-spelled_by : (cores : ℕ) (Is : List Term → Phrase → Type 0) (atoms : ℕ) (names : List (List ℕ)) (ps : List Piece) (c : Claimed) → length names ≤ 16 → Taken cores Is atoms names ps c → SpellsPhrase Is cores atoms names ps c
+pub spelled_by : (cores : ℕ) (Is : List Term → Phrase → Type 0) (atoms : ℕ) (names : List (List ℕ)) (ps : List Piece) (c : Claimed) → length names ≤ 16 → Taken cores Is atoms names ps c → SpellsPhrase Is cores atoms names ps c
 spelled_by cores Is atoms names ps c le t =
     let new = numbered names (locations_in t.phrase) in
     record {
@@ -207,7 +211,7 @@ pub proposition_again : (stop : Stop) (cores opens atoms : ℕ) (names : List (L
     → IsProposition (IsUnit opens) ts p → IsWithin cores atoms names p → terms ps ≡ ts ++ back → begins_with And back ≡ false → begins_with Or back ≡ false
     → ReadsPhrase (proposition_at stop cores opens) atoms names p back ps
 proposition_again stop cores opens atoms names ps ts back p is within e no_and no_or =
-    proposition_finds (IsUnit opens) cores (unit_at stop cores opens) (unit_finds stop cores opens) ts p is atoms names within back ((tt, no_and), no_or) ps e
+    proposition_finds (IsUnit opens) cores (unit_at stop cores opens) (unit_finds stop cores opens) (unit_leaves stop cores opens) ts p is atoms names within back ((tt, no_and), no_or) ps e
 
 pub proposition_spelled : (stop : Stop) (cores opens atoms : ℕ) (names : List (List ℕ)) (ps : List Piece) (c : Claimed)
     → length names ≤ 16 → proposition_at stop cores opens atoms names ps ≡ Ok c → SpellsPhrase (IsProposition (IsUnit opens)) cores atoms names ps c

@@ -1,10 +1,9 @@
 -- What stands behind the rows is read as it is spelled.
-use Rattle.std.proofs.Common.{◌≡◌, ℕ, ◌≤◌, Bool, true, false, List, [], ◌∷◌, ◌++◌, length, Option, Some, None, Result, Ok, Err, refl, sym, ap, subst, ◌∙◌, ◌⊎◌, inl, inr, append-nil, eqb-true, arith}
+use Rattle.std.proofs.Common.{◌≡◌, ℕ, ◌≤◌, List, [], ◌∷◌, length, Option, Some, None, Ok, refl, sym, ap, subst, ◌∙◌, inl, inr, append-nil}
 use Rattle.std.specs.Prelude.{codes}
 use Rattle.std.specs.Str.{bytes_eq}
 use Rattle.std.proofs.lemmas.Slice.Eq.{bytes_eq-Decides}
 use Rattle.tso_model.specs.Condition.{Condition}
-use Rattle.tso_model.specs.declared.condition.Quantifier.{Quantifier}
 use Rattle.litmus_tokens.specs.declared.token.Stop.{Stop}
 use Rattle.litmus_tokens.specs.declared.token.Stop.TheVariants.{End, BadToken, Unclosed}
 use Rattle.litmus_tokens.specs.declared.token.Symbol.{Symbol}
@@ -12,19 +11,20 @@ use Rattle.litmus_tokens.specs.declared.token.Symbol.TheVariants.{OpenSquare, Ti
 use Rattle.litmus_tokens.specs.Terms.{Term, number, name, symbol}
 use Rattle.litmus_tokens.specs.Pieces.{Piece, pieces_of}
 use Rattle.litmus_tokens.specs.Front.{is_symbol, symbol_at, name_then, name_at}
-use Rattle.litmus_reader.specs.declared.fault.Fault.{Fault}
-use Rattle.litmus_reader.specs.Faults.{◌>>=◌, there, or_unfit, left_of}
+use Rattle.litmus_reader.specs.Faults.{◌>>=◌, there, or_unfit}
 use Rattle.litmus_reader.specs.Keywords.{word_behind, if_word}
-use Rattle.litmus_reader.specs.Observed.{behind_word, square_end, from_place, brackets_end, observed_end}
-use Rattle.litmus_reader.specs.Conditions.{Conditioned, conditioned, condition_at}
+use Rattle.litmus_reader.specs.Observed.{square_end, brackets_end, observed_end}
+use Rattle.litmus_reader.specs.Conditions.{Conditioned, condition_at}
 use Rattle.litmus_reader.specs.Reading.{end_at, ending_at, ending_from, tail_at}
 use Rattle.litmus_reader.specs.Grammar.{terms}
 use Rattle.litmus_reader.specs.GrammarNames.{numbered}
 use Rattle.litmus_reader.specs.GrammarText.{ClosesBrackets}
-use Rattle.litmus_reader.specs.GrammarConditions.{Phrase, IsWithin, IsCondition, condition, IsQuantifier, says_exists, says_forall, says_not_exists}
-use Rattle.litmus_reader.specs.GrammarEnding.{Asked, asked, MayAsk, nothing, a_condition, EndsText, IsEnding, at_once, behind_locations, names_asked, condition_of, IsAskedWithin}
-use Rattle.litmus_reader.proofs.GrammarTokens.{there_is, ok_is, ok_pair, some_is, pair_is, chosen, bind_ok, or_unfit_ok, opened, no_terms, symbol_is}
+use Rattle.litmus_reader.specs.GrammarConditions.{condition, says_exists, says_forall, says_not_exists}
+use Rattle.litmus_reader.specs.GrammarEnding.{MayAsk, nothing, a_condition, EndsText, IsEnding, at_once, behind_locations, names_asked, condition_of, IsAskedWithin}
+use Rattle.litmus_reader.proofs.GrammarTokens.{there_is, ok_is, some_is, chosen, bind_ok, or_unfit_ok, opened, no_terms, symbol_is}
 use Rattle.litmus_reader.proofs.GrammarQuantified.{condition_again, condition_takes}
+use Rattle.litmus_reader.specs.Places.{left_of, behind_word, from_place}
+use Rattle.litmus_reader.specs.Written.{Asked, asked}
 
 -- what an ending gives behind these names
 abbrev pub Given : Type 0
@@ -64,7 +64,7 @@ Closes = (left : ℕ) (bytes rest : List ℕ) → ClosesBrackets bytes rest → 
 abbrev pub Closed : Type 0
 Closed = (left : ℕ) (bytes rest : List ℕ) → square_end left bytes ≡ Ok rest → ClosesBrackets bytes rest
 
-observed_found : (text : List ℕ) (stop : Stop) (word opener : Piece) (ps : List Piece) (bytes : List ℕ) → Closes → word.term ≡ name (codes "locations") → opener.term ≡ symbol OpenSquare
+pub observed_found : (text : List ℕ) (stop : Stop) (word opener : Piece) (ps : List Piece) (bytes : List ℕ) → Closes → word.term ≡ name (codes "locations") → opener.term ≡ symbol OpenSquare
     → ClosesBrackets (from_place text opener.left) bytes → observed_end text stop (word ∷ opener ∷ ps) ≡ Ok (Some bytes)
 unfolding observed_end word_behind name_at brackets_end symbol_at is_symbol
 observed_found text stop word opener ps bytes closes is_word is_opener found = rw (is_word, is_opener, closes opener.left (from_place text opener.left) bytes found) refl
@@ -121,7 +121,7 @@ ending_taken stop cores names ps g le e =
       }
     ]
 
-word_found : (word : List ℕ) (ps rest : List Piece) → word_behind word ps ≡ Some rest → (p : Piece) × (ps ≡ p ∷ rest) × (p.term ≡ name word)
+pub word_found : (word : List ℕ) (ps rest : List Piece) → word_behind word ps ≡ Some rest → (p : Piece) × (ps ≡ p ∷ rest) × (p.term ≡ name word)
 unfolding word_behind name_at
 word_found word [] rest e = absurd cc
 word_found word (p ∷ ps) rest e = by_term p.term refl e
@@ -135,7 +135,7 @@ word_found word (p ∷ ps) rest e = by_term p.term refl e
           | inr miss ↦ absurd cc
         ]
 
-symbol_found : (s : Symbol) (ps rest : List Piece) → symbol_at s ps ≡ Some rest → (p : Piece) × (ps ≡ p ∷ rest) × (p.term ≡ symbol s)
+pub symbol_found : (s : Symbol) (ps rest : List Piece) → symbol_at s ps ≡ Some rest → (p : Piece) × (ps ≡ p ∷ rest) × (p.term ≡ symbol s)
 unfolding symbol_at
 symbol_found s [] rest e = absurd cc
 symbol_found s (p ∷ ps) rest e =

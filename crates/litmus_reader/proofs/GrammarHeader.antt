@@ -9,8 +9,8 @@ use Rattle.std.proofs.lemmas.List.Folds.{list_all-append}
 use Rattle.std.proofs.lemmas.Slice.Eq.{starts_is}
 use Rattle.tso_model.specs.Names.{is_test_name, is_printable, last_byte}
 use Rattle.litmus_tokens.specs.Gap.{gap_end}
-use Rattle.litmus_reader.specs.Header.{from_gap, is_blank, is_margin, without_margin_behind, trimmed, begins_blank, name_in, first_line, judged, header_at}
-use Rattle.litmus_reader.specs.GrammarText.{EndsLine, NamesTest, IsHeaderLine}
+use Rattle.litmus_reader.specs.Header.{from_gap, first_line, judged, header_at}
+use Rattle.litmus_reader.specs.GrammarText.{EndsLine, NamesTest, IsHeaderLine, is_blank, is_margin, without_margin_behind, trimmed, begins_blank, name_in}
 use Rattle.litmus_reader.proofs.GrammarTokens.{chosen, some_is, ok_is, ok_pair, bind_ok}
 use Rattle.litmus_reader.proofs.GrammarGaps.{from_gap_ok}
 use Rattle.litmus_reader.proofs.GrammarRuns.{both, differs, Stops, run, run_len, run_behind, line_again, line_takes}
@@ -101,7 +101,7 @@ trimmed_again blank before (c ∷ cs) after is all_before all_after e =
     ap without_margin_behind (run_behind is_margin (blank ∷ before) (c ∷ cs ++ after) (and_from _ _ (blank_is_margin blank is) all_before) g.first)
     ∙ cut_behind is_margin (c ∷ cs) after all_after (stops_behind c cs g.last)
 
-name_again : (line name : List ℕ) → NamesTest line name → name_in line ≡ Some name
+pub name_again : (line name : List ℕ) → NamesTest line name → name_in line ≡ Some name
 unfolding name_in
 name_again line name n =
     let parts : line ≡ codes "X86" ++ (n.blank ∷ n.before ++ (name ++ n.after)) = n.parts ∙ ap (λ (l : List ℕ). codes "X86" ++ (n.blank ∷ l)) (append_assoc n.before name n.after) in
@@ -127,7 +127,7 @@ by_rest (c ∷ cs) name is e h =
       good = h;
     }
 
-name_takes : (line name : List ℕ) → name_in line ≡ Some name → is_test_name name ≡ true → NamesTest line name
+pub name_takes : (line name : List ℕ) → name_in line ≡ Some name → is_test_name name ≡ true → NamesTest line name
 unfolding name_in
 name_takes line name e h =
     elim (chosen (starts_with nat_eq line (codes "X86") && begins_blank (drop 3 line)) (Some (trimmed (drop 3 line))) None (Some name) e) [

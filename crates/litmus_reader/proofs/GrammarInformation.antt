@@ -9,8 +9,8 @@ use Rattle.litmus_tokens.specs.Gap.{gap_end}
 use Rattle.litmus_reader.specs.declared.fault.Fault.{Fault}
 use Rattle.litmus_reader.specs.Header.{from_gap, first_line}
 use Rattle.litmus_reader.specs.Faults.{◌>>=◌}
-use Rattle.litmus_reader.specs.Information.{quotation_end, closed_quotation, continues_key, key_value, key_line_end, information_end, begins_initial, braces_within, braces_at}
-use Rattle.litmus_reader.specs.GrammarText.{is_quoted, EndsLine, IsInformation, quotation, key_line, AreInformationLines, none, more}
+use Rattle.litmus_reader.specs.Information.{quotation_end, closed_quotation, key_value, key_line_end, information_end, begins_initial, braces_within, braces_at}
+use Rattle.litmus_reader.specs.GrammarText.{is_quoted, EndsLine, IsInformation, quotation, key_line, AreInformationLines, none, more, continues_key}
 use Rattle.litmus_reader.proofs.GrammarTokens.{chosen, some_is, ok_is, bind_ok}
 use Rattle.litmus_reader.proofs.GrammarGaps.{gap_within, from_gap_ok}
 use Rattle.litmus_reader.proofs.GrammarRuns.{both, differs, Stops, run, run_behind, line_again, line_takes, line_within}
@@ -34,7 +34,7 @@ quotation_takes (b ∷ bs) rest e =
       | inr miss ↦ let q = quotation_takes bs rest miss.1 in record { inside = b ∷ q.inside; parts = ap (λ (l : List ℕ). b ∷ l) q.parts; all = rw miss.0 q.all }
     ]
 
-quotation_again : (inside behind : List ℕ) → list_all is_quoted inside ≡ true → quotation_end (inside ++ 34 ∷ behind) ≡ Some behind
+pub quotation_again : (inside behind : List ℕ) → list_all is_quoted inside ≡ true → quotation_end (inside ++ 34 ∷ behind) ≡ Some behind
 unfolding quotation_end
 quotation_again [] behind all = refl
 quotation_again (b ∷ bs) behind all =
@@ -109,7 +109,7 @@ information_again _ _ (key_line letter key rest value behind is all ends) =
     ap (key_value (length (letter ∷ key ++ 61 ∷ rest))) (key_behind letter key (61 ∷ rest) is all equals_ends) in
     rw (differs is_ascii_alphabetic letter 34 refl is, is) (found ∙ ap (λ (q : List ℕ × List ℕ). (let r : Result (List ℕ) Fault = Ok q.1 in r)) (line_again rest value behind ends))
 
-information_shorter : (at behind : List ℕ) → IsInformation at behind → length behind < length at
+pub information_shorter : (at behind : List ℕ) → IsInformation at behind → length behind < length at
 information_shorter _ _ (quotation inside behind all) = omega (arith, length-append inside (34 ∷ behind))
 information_shorter _ _ (key_line letter key rest value behind is all ends) = omega (arith, length-append key (61 ∷ rest), line_within rest value behind ends)
 
@@ -144,7 +144,7 @@ unfolding braces_at
 lines_take bytes braces e = within_takes (suc (length bytes)) bytes braces e
 
 -- what begins an information line doesn't begin the initial state
-no_braces : (at behind : List ℕ) → IsInformation at behind → begins_initial at ≡ false
+pub no_braces : (at behind : List ℕ) → IsInformation at behind → begins_initial at ≡ false
 unfolding begins_initial
 no_braces _ _ (quotation inside behind all) = refl
 no_braces _ _ (key_line letter key rest value behind is all ends) = differs is_ascii_alphabetic letter 123 refl is

@@ -7,25 +7,29 @@ use Rattle.litmus_tokens.specs.Terms.{Term, number, name, symbol}
 use Rattle.litmus_tokens.specs.Pieces.{Piece}
 use Rattle.litmus_tokens.specs.Front.{is_symbol, symbol_at}
 use Rattle.litmus_reader.specs.declared.fault.Part.{Part}
-use Rattle.litmus_reader.specs.Faults.{◌>>=◌, unfit, left_of}
-use Rattle.litmus_reader.specs.Items.{Setting, setting_at}
-use Rattle.litmus_reader.specs.Initial.{Initial, initial, judged, ends_item, item_in, step_in, items_within, items_at, before_initial, in_initial, opened_at, initial_at}
-use Rattle.litmus_reader.specs.Grammar.{terms, Reads, Begins}
+use Rattle.litmus_reader.specs.Faults.{◌>>=◌}
+use Rattle.litmus_reader.specs.Items.{setting_at}
+use Rattle.litmus_reader.specs.Initial.{Initial, initial, judged, item_in, step_in, items_within, items_at, before_initial, opened_at, initial_at}
+use Rattle.litmus_reader.specs.Grammar.{terms}
 use Rattle.litmus_reader.specs.GrammarItems.{IsSetting, sets_register, sets_location, sets_in_squares}
 use Rattle.litmus_reader.specs.GrammarInitial.{IsItem, empty, given, AreItems, last, more, IsInitialState, in_braces, Fits}
 use Rattle.litmus_reader.proofs.ItemSteps.{ReadItems, ItemsBehind, items_start, items_end, items_go_on}
 use Rattle.litmus_reader.proofs.GrammarTokens.{chosen, there_is, bind_ok, or_unfit_ok, ok_pair, opened, symbol_takes}
 use Rattle.litmus_reader.proofs.GrammarItems.{setting_found, setting_taken}
 use Rattle.litmus_reader.proofs.GrammarInitialJudged.{Holds, judged_found, judged_taken}
+use Rattle.litmus_reader.proofs.Readings.{Reads, Begins}
+use Rattle.litmus_reader.specs.Places.{unfit, left_of, in_initial}
+use Rattle.litmus_reader.specs.Written.{Setting}
+use Rattle.litmus_reader.specs.RefusedInitial.{ends_item}
 
 -- ---- found
 
 -- a setting begins with neither `;` nor `}`
-record NoEnd (ps : List Piece) : Type 0 where
+pub record NoEnd (ps : List Piece) : Type 0 where
   pub semicolon : symbol_at Semicolon ps ≡ None
   pub curly : symbol_at CloseCurly ps ≡ None
 
-no_end : (ts back : List Term) (s : Setting) → IsSetting ts s → (ps : List Piece) → terms ps ≡ ts ++ back → NoEnd ps
+pub no_end : (ts back : List Term) (s : Setting) → IsSetting ts s → (ps : List Piece) → terms ps ≡ ts ++ back → NoEnd ps
 unfolding symbol_at is_symbol
 no_end _ back _ (sets_register core word v reg good) ps e =
     opened NoEnd ps (number core) _ e (λ p rest is behind. record { semicolon = rw is refl; curly = rw is refl })
@@ -34,26 +38,26 @@ no_end _ back _ (sets_location x v good) ps e =
 no_end _ back _ (sets_in_squares x v good) ps e =
     opened NoEnd ps _ _ e (λ p rest is behind. record { semicolon = rw is refl; curly = rw is refl })
 
-length-terms : (ps : List Piece) → length (terms ps) ≡ length ps
+pub length-terms : (ps : List Piece) → length (terms ps) ≡ length ps
 length-terms ps = length-map ps (λ p. p.term)
 
-setting_long : (ts : List Term) (s : Setting) → IsSetting ts s → 0 < length ts
-setting_long _ _ (sets_register core word v reg good) = omega arith
-setting_long _ _ (sets_location x v good) = omega arith
-setting_long _ _ (sets_in_squares x v good) = omega arith
+pub setting_some : (ts : List Term) (s : Setting) → IsSetting ts s → 0 < length ts
+setting_some _ _ (sets_register core word v reg good) = omega arith
+setting_some _ _ (sets_location x v good) = omega arith
+setting_some _ _ (sets_in_squares x v good) = omega arith
 
 -- what ends an item
-data IsEnd : Term → Type 0 where
+pub data IsEnd : Term → Type 0 where
   at_semicolon : IsEnd (symbol Semicolon)
   at_curly : IsEnd (symbol CloseCurly)
 
-ended : (t : Term) (back : List Term) → IsEnd t → (ps : List Piece) → terms ps ≡ t ∷ back → ends_item ps ≡ true
+pub ended : (t : Term) (back : List Term) → IsEnd t → (ps : List Piece) → terms ps ≡ t ∷ back → ends_item ps ≡ true
 unfolding ends_item is_symbol
 ended _ back at_semicolon ps e = opened (λ ps. ends_item ps ≡ true) ps (symbol Semicolon) back e (λ p rest is behind. rw is refl)
 ended _ back at_curly ps e = opened (λ ps. ends_item ps ≡ true) ps (symbol CloseCurly) back e (λ p rest is behind. rw is refl)
 
 -- an item is taken in, and what stands from its end on
-record Stepped (part : Part) (i : Initial) (ps : List Piece) (done : List Setting) (behind : List Term) : Type 0 where
+pub record Stepped (part : Part) (i : Initial) (ps : List Piece) (done : List Setting) (behind : List Term) : Type 0 where
   pub after : Initial
   pub rest : List Piece
   pub is : step_in part i ps ≡ Ok (after, rest)
@@ -62,7 +66,7 @@ record Stepped (part : Part) (i : Initial) (ps : List Piece) (done : List Settin
   pub parts : terms rest ≡ behind
   pub holds : Holds done after
 
-item_stepped : (part : Part) (i : Initial) (ps : List Piece) (done others : List Setting) (s : Setting) (ts back : List Term) (t : Term) → IsEnd t → IsSetting ts s → terms ps ≡ ts ++ t ∷ back
+pub item_stepped : (part : Part) (i : Initial) (ps : List Piece) (done others : List Setting) (s : Setting) (ts back : List Term) (t : Term) → IsEnd t → IsSetting ts s → terms ps ≡ ts ++ t ∷ back
     → Holds done i → Fits (done ++ s ∷ others) → Stepped part i ps (done ++ s ∷ []) (t ∷ back)
 unfolding step_in item_in
 item_stepped part i ps done others s ts back t end is e h fits =
@@ -70,7 +74,7 @@ item_stepped part i ps done others s ts back t end is e h fits =
     let none = no_end ts (t ∷ back) s is ps e in
     let j = judged_found (left_of ps) i done others s h fits in
     let ends = ended t back end found.rest found.behind in
-    let long = setting_long ts s is in
+    let long = setting_some ts s is in
     record {
       after = j.after;
       rest = found.rest;
@@ -81,7 +85,7 @@ item_stepped part i ps done others s ts back t end is e h fits =
       holds = j.holds;
     }
 
-semicolon_stepped : (part : Part) (i : Initial) (ps : List Piece) (done : List Setting) (back : List Term) → terms ps ≡ symbol Semicolon ∷ back → Holds done i → Stepped part i ps done back
+pub semicolon_stepped : (part : Part) (i : Initial) (ps : List Piece) (done : List Setting) (back : List Term) → terms ps ≡ symbol Semicolon ∷ back → Holds done i → Stepped part i ps done back
 unfolding step_in symbol_at is_symbol
 semicolon_stepped part i ps done back e h =
     opened (λ ps. Stepped part i ps done back) ps (symbol Semicolon) back e (λ p rest is behind.
@@ -95,7 +99,7 @@ record Found (total : ReadItems) (settings : List Setting) (back : List Term) : 
   pub parts : terms rest ≡ back
   pub holds : Holds settings after
 
-go_on : (part : Part) (i : Initial) (ps : List Piece) (done : List Setting) (behind : List Term) (total : ReadItems) → (s : Stepped part i ps done behind) → ItemsBehind part i ps total → ItemsBehind part s.after s.rest total
+pub go_on : (part : Part) (i : Initial) (ps : List Piece) (done : List Setting) (behind : List Term) (total : ReadItems) → (s : Stepped part i ps done behind) → ItemsBehind part i ps total → ItemsBehind part s.after s.rest total
 go_on part i ps done behind total s b = items_go_on part i s.after ps s.rest total s.goes_on s.is s.shorter b
 
 closed : (part : Part) (i : Initial) (ps : List Piece) (total : ReadItems) (done : List Setting) (back : List Term) → terms ps ≡ symbol CloseCurly ∷ back → Holds done i → ItemsBehind part i ps total → Found total done back
@@ -124,7 +128,7 @@ items_found _ _ (more _ others _ settings (given ts s is) are) part i ps total d
     subst (λ (l : List Setting). Found total l back) all
     (items_found others settings are part end.after end.rest total (done ++ s ∷ []) back end.parts end.holds (subst Fits (sym all) fits) b2)
 
-nothing : Holds [] (initial [] [] [])
+pub nothing : Holds [] (initial [] [] [])
 nothing = record { names = refl; words = refl; registers = refl }
 
 pub record InitialFound (stop : Stop) (ps : List Piece) (settings : List Setting) (back : List Term) : Type 0 where
@@ -161,7 +165,7 @@ record ItemsTaken (ts : List Term) (item done : List Setting) (ps rest : List Pi
   pub holds : Holds (done ++ settings) i
   pub fits : Fits (done ++ settings)
 
-not_ended : (ps : List Piece) → symbol_at CloseCurly ps ≡ None → symbol_at Semicolon ps ≡ None → ends_item ps ≡ true → ⊥
+pub not_ended : (ps : List Piece) → symbol_at CloseCurly ps ≡ None → symbol_at Semicolon ps ≡ None → ends_item ps ≡ true → ⊥
 unfolding ends_item symbol_at
 not_ended [] curly semicolon e = cc
 not_ended (p ∷ ps) curly semicolon e = by_tests (is_symbol Semicolon p) (is_symbol CloseCurly p) semicolon curly e
@@ -172,7 +176,7 @@ not_ended (p ∷ ps) curly semicolon e = by_tests (is_symbol Semicolon p) (is_sy
     by_tests false false s c h = cc
 
 -- an item that was taken in
-record ItemTaken (ps rest : List Piece) (done : List Setting) (after : Initial) : Type 0 where
+pub record ItemTaken (ps rest : List Piece) (done : List Setting) (after : Initial) : Type 0 where
   pub ts : List Term
   pub s : Setting
   pub is : IsSetting ts s
@@ -181,7 +185,7 @@ record ItemTaken (ps rest : List Piece) (done : List Setting) (after : Initial) 
   pub holds : Holds (done ++ s ∷ []) after
   pub fits : Fits (done ++ s ∷ [])
 
-item_taken : (part : Part) (i : Initial) (ps : List Piece) (done : List Setting) (after : Initial × List Piece) → item_in part i ps ≡ Ok after → Holds done i → Fits done → ItemTaken ps after.1 done after.0
+pub item_taken : (part : Part) (i : Initial) (ps : List Piece) (done : List Setting) (after : Initial × List Piece) → item_in part i ps ≡ Ok after → Holds done i → Fits done → ItemTaken ps after.1 done after.0
 unfolding item_in
 item_taken part i ps done after e h fits =
     let found = bind_ok (setting_at part ps) _ after e in

@@ -8,14 +8,16 @@ use Rattle.std.proofs.lemmas.List.Folds.{list_any-append, list_all-append}
 use Rattle.tso_model.specs.declared.register.Reg.{Reg}
 use Rattle.tso_model.specs.declared.instruction.Loc.{Loc}
 use Rattle.litmus_reader.specs.declared.fault.Why.TheVariants.{TwiceInit}
-use Rattle.litmus_reader.specs.Faults.{fault}
-use Rattle.litmus_reader.specs.Locations.{number_of, with_name, location, located}
-use Rattle.litmus_reader.specs.Items.{Setting, of_register, of_location, or_bad_number, word_at}
+use Rattle.litmus_reader.specs.Locations.{located}
+use Rattle.litmus_reader.specs.Items.{or_bad_number, word_at}
 use Rattle.litmus_reader.specs.Initial.{Given, given, Initial, initial, gives, judged}
 use Rattle.litmus_reader.specs.GrammarInitial.{value_of, same_place, each_once, names_in, Fits}
 use Rattle.litmus_reader.proofs.Maps.{list_any_map}
 use Rattle.litmus_reader.proofs.GrammarNames.{place_below, place_none}
 use Rattle.litmus_reader.proofs.GrammarTokens.{chosen, ok_is, bind_ok}
+use Rattle.litmus_reader.specs.Places.{fault}
+use Rattle.litmus_reader.specs.GrammarNames.{number_of, with_name, location}
+use Rattle.litmus_reader.specs.Written.{Setting, of_register, of_location}
 
 -- ---- what settings give
 
@@ -72,7 +74,7 @@ among_registers core reg v [] = refl
 among_registers core reg v (of_register c r w ∷ done) = ap (λ (b : Bool). same_place (of_register core reg v) (of_register c r w) || b) (among_registers core reg v done)
 among_registers core reg v (of_location y w ∷ done) = among_registers core reg v done
 
-register_given : (core : List ℕ) (reg : Reg) (v : ℕ) (done : List Setting) (gs : List Given) → map unplaced gs ≡ registers_in done
+pub register_given : (core : List ℕ) (reg : Reg) (v : ℕ) (done : List Setting) (gs : List Given) → map unplaced gs ≡ registers_in done
     → list_any (same_place (of_register core reg v)) done ≡ list_any (gives core reg) gs
 register_given core reg v done gs e =
     among_registers core reg v done ∙ ap (list_any (same_place (of_register core reg v))) (sym e) ∙ list_any_map (same_place (of_register core reg v)) unplaced gs
@@ -87,7 +89,7 @@ once_apart (d ∷ ds) rest s e =
     let apart : same_place s d ≡ false = first.0 in
     rw apart (once_apart ds rest s both.1)
 
-once_more : (done : List Setting) (s : Setting) → each_once done ≡ true → list_any (same_place s) done ≡ false → each_once (done ++ s ∷ []) ≡ true
+pub once_more : (done : List Setting) (s : Setting) → each_once done ≡ true → list_any (same_place s) done ≡ false → each_once (done ++ s ∷ []) ≡ true
 once_more [] s e new = refl
 once_more (d ∷ ds) s e new =
     let both = and_parts (not (list_any (λ later. same_place later d) ds)) (each_once ds) e in
@@ -151,7 +153,7 @@ values_split done rest s e =
     let both = and_parts (list_all (λ s. ltb (value_of s) (2 ^ 32)) done) (list_all (λ s. ltb (value_of s) (2 ^ 32)) (s ∷ rest)) (sym (list_all-append (λ s. ltb (value_of s) (2 ^ 32)) done (s ∷ rest)) ∙ e) in
     (and_parts (ltb (value_of s) (2 ^ 32)) (list_all (λ s. ltb (value_of s) (2 ^ 32)) rest) both.1).0
 
-values_more : (done : List Setting) (s : Setting) → list_all (λ s. ltb (value_of s) (2 ^ 32)) done ≡ true → ltb (value_of s) (2 ^ 32) ≡ true
+pub values_more : (done : List Setting) (s : Setting) → list_all (λ s. ltb (value_of s) (2 ^ 32)) done ≡ true → ltb (value_of s) (2 ^ 32) ≡ true
     → list_all (λ s. ltb (value_of s) (2 ^ 32)) (done ++ s ∷ []) ≡ true
 values_more done s all one = list_all-append (λ s. ltb (value_of s) (2 ^ 32)) done (s ∷ []) ∙ rw (all, one) refl
 

@@ -14,15 +14,17 @@ use Rattle.tso_model.specs.declared.register.Reg.TheVariants.{Eax, Ebx, Ecx, Edx
 use Rattle.litmus_tokens.specs.Terms.{decimal}
 use Rattle.litmus_reader.specs.declared.fault.Fault.{Fault}
 use Rattle.litmus_reader.specs.declared.fault.Why.TheVariants.{NoSuchCore}
-use Rattle.litmus_reader.specs.Faults.{◌>>=◌, fault}
-use Rattle.litmus_reader.specs.Locations.{with_name}
-use Rattle.litmus_reader.specs.Items.{Setting, of_register, of_location, core_of}
+use Rattle.litmus_reader.specs.Faults.{◌>>=◌}
+use Rattle.litmus_reader.specs.Items.{core_of}
 use Rattle.litmus_reader.specs.Initial.{Given, Initial, no_registers, with_register, registers_with, words_of}
-use Rattle.litmus_reader.specs.GrammarInitial.{same_place, each_once, names_in, Fits, has_core, first_word, first_register, first_words, first_registers_of, first_registers, Says}
+use Rattle.litmus_reader.specs.GrammarInitial.{same_place, each_once, names_in, Fits, has_core, first_word, first_register, first_words, first_registers_of, first_registers}
 use Rattle.litmus_reader.proofs.GrammarTokens.{bind_ok}
-use Rattle.litmus_reader.specs.GrammarNames.{numbered}
+use Rattle.litmus_reader.specs.GrammarNames.{numbered, with_name}
 use Rattle.litmus_reader.proofs.GrammarNames.{same_bytes}
 use Rattle.litmus_reader.proofs.GrammarInitialJudged.{words_in, registers_in, unplaced, Holds, names_in-append, a_word_each, location_given, once_apart}
+use Rattle.litmus_reader.proofs.Readings.{Says}
+use Rattle.litmus_reader.specs.Places.{fault}
+use Rattle.litmus_reader.specs.Written.{Setting, of_register, of_location}
 
 -- ---- names
 
@@ -235,7 +237,7 @@ rows_alone settings (core ∷ cores) = with_first (first_registers_of (registers
     e : (reg : Reg) → first_register core reg 0 (registers_in settings) ≡ first_register core reg 0 settings
     e reg = of_registers_alone core reg 0 settings
 
-cores_alone : (cores : ℕ) (settings : List Setting) → list_all (has_core cores) (registers_in settings) ≡ list_all (has_core cores) settings
+pub cores_alone : (cores : ℕ) (settings : List Setting) → list_all (has_core cores) (registers_in settings) ≡ list_all (has_core cores) settings
 cores_alone cores [] = refl
 cores_alone cores (of_register c r v ∷ rest) = ap (λ (b : Bool). has_core cores (of_register c r v) && b) (cores_alone cores rest)
 cores_alone cores (of_location y v ∷ rest) = cores_alone cores rest

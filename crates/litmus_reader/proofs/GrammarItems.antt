@@ -6,11 +6,13 @@ use Rattle.litmus_tokens.specs.Pieces.{Piece}
 use Rattle.litmus_tokens.specs.Front.{is_symbol, symbol_at, name_at, number_at}
 use Rattle.litmus_reader.specs.declared.fault.Part.{Part}
 use Rattle.litmus_reader.specs.Faults.{there, or_unfit}
-use Rattle.litmus_reader.specs.Items.{Setting, of_register, of_location, location_at, register_at, value_at, register_setting, square_setting, plain_setting, setting_at}
-use Rattle.litmus_reader.specs.Grammar.{terms, Reads, Begins}
+use Rattle.litmus_reader.specs.Items.{location_at, register_at, value_at, register_setting, square_setting, plain_setting, setting_at}
+use Rattle.litmus_reader.specs.Grammar.{terms}
 use Rattle.litmus_reader.specs.GrammarItems.{IsSetting, sets_register, sets_location, sets_in_squares}
 use Rattle.litmus_reader.proofs.GrammarTokens.{there_is, ok_pair, bind_ok, or_unfit_ok, opened, number_takes, symbol_takes}
 use Rattle.litmus_reader.proofs.GrammarCells.{location_takes, register_takes}
+use Rattle.litmus_reader.proofs.Readings.{Reads, Begins}
+use Rattle.litmus_reader.specs.Written.{Setting, of_register, of_location}
 
 abbrev Found : Part → Setting → List Term → List Piece → Type 0
 Found part s back ps = Reads (setting_at part ps) s back

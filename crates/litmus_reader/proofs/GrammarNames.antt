@@ -4,8 +4,7 @@ use Rattle.std.specs.List.{list_any, position_or_len}
 use Rattle.std.specs.Str.{bytes_eq}
 use Rattle.std.proofs.lemmas.Slice.Eq.{bytes_eq-Decides}
 use Rattle.std.proofs.lemmas.List.{length-append}
-use Rattle.litmus_reader.specs.Locations.{number_of, with_name}
-use Rattle.litmus_reader.specs.GrammarNames.{numbered}
+use Rattle.litmus_reader.specs.GrammarNames.{numbered, number_of, with_name}
 
 abbrev pub Known : List (List ℕ) → List ℕ → Type 0
 Known names x = list_any (bytes_eq x) names ≡ true
@@ -56,7 +55,7 @@ with_name_by P names y old new = by_test (list_any (bytes_eq y) names) refl
 with_by : (P : List (List ℕ) → Type 0) (names : List (List ℕ)) (y : List ℕ) → (list_any (bytes_eq y) names ≡ true → P names) → P (names ++ y ∷ []) → P (with_name names y)
 with_by P names y old new = with_name_by P names y old (λ _. new)
 
-pub place_below : (p : List ℕ → Bool) (names : List (List ℕ)) → list_any p names ≡ true → position_or_len p names < length names
+pub place_below : {A : Type 0} (p : A → Bool) (names : List A) → list_any p names ≡ true → position_or_len p names < length names
 place_below p [] e = absurd cc
 place_below p (n ∷ ns) e = by_first (λ h. place_below p ns h) (p n) refl e
   where
@@ -64,7 +63,7 @@ place_below p (n ∷ ns) e = by_first (λ h. place_below p ns h) (p n) refl e
     by_first further true is h = rw is (omega arith)
     by_first further false is h = let below = further h in rw is (omega (arith, below))
 
-pub place_none : (p : List ℕ → Bool) (names : List (List ℕ)) → list_any p names ≡ false → position_or_len p names ≡ length names
+pub place_none : {A : Type 0} (p : A → Bool) (names : List A) → list_any p names ≡ false → position_or_len p names ≡ length names
 place_none p [] e = refl
 place_none p (n ∷ ns) e = by_first (λ h. place_none p ns h) (p n) refl e
   where

@@ -8,14 +8,18 @@ use Rattle.litmus_tokens.specs.Terms.{Term, symbol}
 use Rattle.litmus_tokens.specs.Pieces.{Piece}
 use Rattle.litmus_tokens.specs.Front.{code_of, is_symbol, symbol_at}
 use Rattle.litmus_reader.specs.Faults.{◌>>=◌}
-use Rattle.litmus_reader.specs.Items.{of_register, of_location}
 use Rattle.litmus_reader.specs.Conditions as reading
-use Rattle.litmus_reader.specs.Conditions.{in_condition, claim_in, Claimed, claimed, one_more, truth_at, truth_atom, setting_atom, atom_at, Proposition, joined_to, chain, chain_of, conjunction, disjunction, negation_at, opens_unit, negated, bracketed, unit_by, unit_at, proposition_at}
+use Rattle.litmus_reader.specs.Conditions.{claim_in, Claimed, claimed, one_more, truth_at, truth_atom, setting_atom, atom_at, Proposition, joined_to, chain, chain_of, conjunction, disjunction, negation_at, opens_unit, negated, bracketed, unit_by, unit_at, proposition_at}
 use Rattle.litmus_reader.specs.Grammar.{terms}
 use Rattle.litmus_reader.specs.GrammarNames.{numbered}
-use Rattle.litmus_reader.specs.GrammarConditions.{Phrase, truth, atom, negation, both, either, AreJoined, one, more, IsConjunction, IsProposition, locations_in, atoms_of, Fits, claim_of, begins_with, IsWithin, given_by, ReadsPhrase}
+use Rattle.litmus_reader.specs.GrammarConditions.{AreJoined, one, more, IsConjunction, IsProposition, locations_in, atoms_of, Fits, claim_of, begins_with, IsWithin}
+use Rattle.litmus_reader.proofs.Keeps.{ok_is as keeps_ok, some_is as keeps_some}
+use Rattle.litmus_reader.proofs.GrammarBehind.{last_further, symbol_leaves}
+use Rattle.litmus_reader.proofs.GrammarLast.{LeavesLast, chain_leaves}
 use Rattle.litmus_reader.proofs.GrammarTokens.{there_is, ok_is, bind_ok, front, symbol_takes}
 use Rattle.litmus_reader.proofs.GrammarNames.{Known, known_with, known_more, number_more, numbered_append, grows}
+use Rattle.litmus_reader.proofs.Readings.{given_by, ReadsPhrase, AreLast}
+use Rattle.litmus_reader.specs.Written.{of_register, of_location, Phrase, truth, atom, negation, both, either}
 
 -- ---- claims stay as more names appear
 
@@ -91,10 +95,10 @@ pub record Joining (join : Claim → Claim → Claim) (phrases : Phrase → Phra
   pub fit : (cores : ℕ) (p q : Phrase) → Fits cores p → Fits cores q → Fits cores (phrases p q)
   pub parts_fit : (cores : ℕ) (p q : Phrase) → Fits cores (phrases p q) → Fits cores p × Fits cores q
 
-joining_both : Joining reading.both both
+pub joining_both : Joining reading.both both
 joining_both = record { claims = λ names p q. refl; locations = λ p q. refl; counts = λ p q. refl; fit = λ cores p q f g. (f, g); parts_fit = λ cores p q f. f }
 
-joining_either : Joining reading.either either
+pub joining_either : Joining reading.either either
 joining_either = record { claims = λ names p q. refl; locations = λ p q. refl; counts = λ p q. refl; fit = λ cores p q f g. (f, g); parts_fit = λ cores p q f. f }
 
 names_joined : (join : Claim → Claim → Claim) (phrases : Phrase → Phrase → Phrase) → Joining join phrases → (names : List (List ℕ)) (p q : Phrase)
@@ -122,7 +126,7 @@ given_joined join phrases j atoms names p q rest =
 
 -- ---- taken
 
-joined_taken : (s : Symbol) (join : Claim → Claim → Claim) (phrases : Phrase → Phrase → Phrase) (IsPart : List Term → Phrase → Type 0) → Joining join phrases
+pub joined_taken : (s : Symbol) (join : Claim → Claim → Claim) (phrases : Phrase → Phrase → Phrase) (IsPart : List Term → Phrase → Type 0) → Joining join phrases
     → (cores atoms : ℕ) (names : List (List ℕ)) (ps after : List Piece) (c right : Claimed) → Taken cores (AreJoined s phrases IsPart) atoms names ps c
     → symbol_at s c.rest ≡ Some after → Taken cores IsPart c.atoms c.names after right → Taken cores (AreJoined s phrases IsPart) atoms names ps (joined_to join c.claim right)
 joined_taken s join phrases IsPart j cores atoms names ps after c right a at r =
@@ -160,7 +164,7 @@ chain_taken s join phrases IsPart j cores unit takes (suc n) atoms names ps c d 
       | inr none ↦ subst (Taken cores (AreJoined s phrases IsPart) atoms names ps) (ok_is c d none.1) a
     ]
 
-first_taken : (s : Symbol) (phrases : Phrase → Phrase → Phrase) (IsPart : List Term → Phrase → Type 0) (cores atoms : ℕ) (names : List (List ℕ)) (ps : List Piece) (c : Claimed)
+pub first_taken : (s : Symbol) (phrases : Phrase → Phrase → Phrase) (IsPart : List Term → Phrase → Type 0) (cores atoms : ℕ) (names : List (List ℕ)) (ps : List Piece) (c : Claimed)
     → Taken cores IsPart atoms names ps c → Taken cores (AreJoined s phrases IsPart) atoms names ps c
 first_taken s phrases IsPart cores atoms names ps c a = record {
   ts = a.ts;
@@ -183,19 +187,23 @@ joined_takes s join phrases IsPart j cores unit takes atoms names ps d e =
     let a = first_taken s phrases IsPart cores atoms names ps first.0 (takes atoms names ps first.0 first.1) in
     chain_taken s join phrases IsPart j cores unit takes (length first.0.rest) atoms names ps first.0 d a first.2
 
+pub conjunction_takes : (IsPart : List Term → Phrase → Type 0) (cores : ℕ) (unit : Proposition) → Takes cores unit IsPart → Takes cores (conjunction unit) (IsConjunction IsPart)
+conjunction_takes IsPart cores unit takes = joined_takes And reading.both both IsPart joining_both cores unit takes
+
 pub proposition_takes : (IsPart : List Term → Phrase → Type 0) (cores : ℕ) (unit : Proposition) → Takes cores unit IsPart → Takes cores (disjunction unit) (IsProposition IsPart)
 proposition_takes IsPart cores unit takes =
-    joined_takes Or reading.either either (IsConjunction IsPart) joining_either cores (conjunction unit) (joined_takes And reading.both both IsPart joining_both cores unit takes)
+    joined_takes Or reading.either either (IsConjunction IsPart) joining_either cores (conjunction unit) (conjunction_takes IsPart cores unit takes)
 
 -- ---- found
 
 -- a chain has been read so far
-record ChainAt (s : Symbol) (join : Claim → Claim → Claim) (unit : Proposition) (atoms : ℕ) (names : List (List ℕ)) (p : Phrase) (back : List Term) (ps : List Piece) : Type 0 where
+pub record ChainAt (s : Symbol) (join : Claim → Claim → Claim) (unit : Proposition) (atoms : ℕ) (names : List (List ℕ)) (p : Phrase) (back : List Term) (ps : List Piece) : Type 0 where
   pub rest : List Piece
   pub count : ℕ
   pub enough : length rest ≤ count
   pub same : chain_of s join unit atoms names ps ≡ chain s join unit count (given_by atoms names p rest)
   pub behind : terms rest ≡ back
+  pub last : AreLast ps rest
 
 chain_step : (s : Symbol) (join : Claim → Claim → Claim) (unit : Proposition) (k : ℕ) (c right : Claimed) (after : List Piece) → symbol_at s c.rest ≡ Some after → unit c.atoms c.names after ≡ Ok right
     → chain s join unit (suc k) c ≡ chain s join unit k (joined_to join c.claim right)
@@ -210,7 +218,7 @@ chain_ends s join unit (suc k) c none = rw none refl
 terms_length : (ps : List Piece) (ts : List Term) → terms ps ≡ ts → length ps ≡ length ts
 terms_length ps ts e = sym (length-map ps (λ p. p.term)) ∙ ap length e
 
-symbol_there : (s : Symbol) (ps rest : List Piece) (p : Piece) → ps ≡ p ∷ rest → p.term ≡ symbol s → symbol_at s ps ≡ Some rest
+pub symbol_there : (s : Symbol) (ps rest : List Piece) (p : Piece) → ps ≡ p ∷ rest → p.term ≡ symbol s → symbol_at s ps ≡ Some rest
 unfolding symbol_at is_symbol
 symbol_there s ps rest p parts is = rw (parts, is, eq-eqb (code_of s) (code_of s) refl) refl
 
@@ -219,14 +227,17 @@ unfolding symbol_at is_symbol
 no_symbol s [] none = refl
 no_symbol s (p ∷ ps) none = rw none refl
 
-chain_started : (s : Symbol) (join : Claim → Claim → Claim) (unit : Proposition) (atoms : ℕ) (names : List (List ℕ)) (p : Phrase) (back : List Term) (ps : List Piece) → ReadsPhrase unit atoms names p back ps
+pub last_of : (unit : Proposition) → LeavesLast unit → (atoms : ℕ) (names : List (List ℕ)) (ps : List Piece) (c : Claimed) → unit atoms names ps ≡ Ok c → AreLast ps c.rest
+last_of unit leaves atoms names ps c e = keeps_ok (λ c. AreLast ps c.rest) (unit atoms names ps) c (leaves atoms names ps) e
+
+chain_started : (s : Symbol) (join : Claim → Claim → Claim) (unit : Proposition) (atoms : ℕ) (names : List (List ℕ)) (p : Phrase) (back : List Term) (ps : List Piece) → LeavesLast unit → ReadsPhrase unit atoms names p back ps
     → ChainAt s join unit atoms names p back ps
 unfolding chain_of
-chain_started s join unit atoms names p back ps f =
+chain_started s join unit atoms names p back ps leaves f =
     let same : chain_of s join unit atoms names ps ≡ chain s join unit (length f.rest) (given_by atoms names p f.rest) = rw f.is refl in
-    record { rest = f.rest; count = length f.rest; enough = omega arith; same = same; behind = f.behind }
+    record { rest = f.rest; count = length f.rest; enough = omega arith; same = same; behind = f.behind; last = last_of unit leaves atoms names ps (given_by atoms names p f.rest) f.is }
 
-first_allowed : (join : Claim → Claim → Claim) (phrases : Phrase → Phrase → Phrase) → Joining join phrases → (cores atoms : ℕ) (names : List (List ℕ)) (p q : Phrase)
+pub first_allowed : (join : Claim → Claim → Claim) (phrases : Phrase → Phrase → Phrase) → Joining join phrases → (cores atoms : ℕ) (names : List (List ℕ)) (p q : Phrase)
     → IsWithin cores atoms names (phrases p q) → IsWithin cores atoms names p
 first_allowed join phrases j cores atoms names p q a =
     let first = numbered names (locations_in p) in
@@ -245,8 +256,8 @@ second_allowed join phrases j cores atoms names p q a =
 
 chain_further : (s : Symbol) (join : Claim → Claim → Claim) (phrases : Phrase → Phrase → Phrase) → Joining join phrases → (unit : Proposition) (atoms : ℕ) (names : List (List ℕ)) (p q : Phrase)
     → (us back : List Term) (ps after : List Piece) (left : ChainAt s join unit atoms names p (symbol s ∷ us ++ back) ps) → symbol_at s left.rest ≡ Some after
-    → ReadsPhrase unit (atoms + atoms_of p) (numbered names (locations_in p)) q back after → ChainAt s join unit atoms names (phrases p q) back ps
-chain_further s join phrases j unit atoms names p q us back ps after left at right = by_count left.count left.enough left.same
+    → LeavesLast unit → ReadsPhrase unit (atoms + atoms_of p) (numbered names (locations_in p)) q back after → ChainAt s join unit atoms names (phrases p q) back ps
+chain_further s join phrases j unit atoms names p q us back ps after left at leaves right = by_count left.count left.enough left.same
   where
     by_count : (k : ℕ) → length left.rest ≤ k → chain_of s join unit atoms names ps ≡ chain s join unit k (given_by atoms names p left.rest) → ChainAt s join unit atoms names (phrases p q) back ps
     by_count zero enough same = let long = terms_length left.rest (symbol s ∷ us ++ back) left.behind in absurd (omega arith)
@@ -261,26 +272,28 @@ chain_further s join phrases j unit atoms names p q us back ps after left at rig
           same = same ∙ chain_step s join unit k (given_by atoms names p left.rest) (given_by (atoms + atoms_of p) (numbered names (locations_in p)) q right.rest) after at right.is
               ∙ ap (λ (c : Claimed). chain s join unit k c) (sym (given_joined join phrases j atoms names p q right.rest));
           behind = right.behind;
+          last = last_further ps left.rest right.rest left.last (last_further left.rest after right.rest (keeps_some (AreLast left.rest) (symbol_at s left.rest) after (symbol_leaves s left.rest) at)
+              (last_of unit leaves (atoms + atoms_of p) (numbered names (locations_in p)) after (given_by (atoms + atoms_of p) (numbered names (locations_in p)) q right.rest) right.is));
         }
 
-chain_found : (s : Symbol) (join : Claim → Claim → Claim) (phrases : Phrase → Phrase → Phrase) (IsPart : List Term → Phrase → Type 0) → Joining join phrases
-    → (cores : ℕ) (unit : Proposition) (Behind : List Term → Type 0) → Finds cores unit IsPart Behind → ((l : List Term) → Behind (symbol s ∷ l))
+pub chain_found : (s : Symbol) (join : Claim → Claim → Claim) (phrases : Phrase → Phrase → Phrase) (IsPart : List Term → Phrase → Type 0) → Joining join phrases
+    → (cores : ℕ) (unit : Proposition) (Behind : List Term → Type 0) → Finds cores unit IsPart Behind → LeavesLast unit → ((l : List Term) → Behind (symbol s ∷ l))
     → (ts : List Term) (p : Phrase) → AreJoined s phrases IsPart ts p → (atoms : ℕ) (names : List (List ℕ)) → IsWithin cores atoms names p
     → (back : List Term) → Behind back → (ps : List Piece) → terms ps ≡ ts ++ back → ChainAt s join unit atoms names p back ps
-chain_found s join phrases IsPart j cores unit Behind finds parted _ _ (one ts p is) atoms names allowed back ok ps e =
-    chain_started s join unit atoms names p back ps (finds ts p is atoms names allowed back ok ps e)
-chain_found s join phrases IsPart j cores unit Behind finds parted _ _ (more ts us p q are is) atoms names allowed back ok ps e =
-    let left = chain_found s join phrases IsPart j cores unit Behind finds parted ts p are atoms names (first_allowed join phrases j cores atoms names p q allowed)
+chain_found s join phrases IsPart j cores unit Behind finds leaves parted _ _ (one ts p is) atoms names allowed back ok ps e =
+    chain_started s join unit atoms names p back ps leaves (finds ts p is atoms names allowed back ok ps e)
+chain_found s join phrases IsPart j cores unit Behind finds leaves parted _ _ (more ts us p q are is) atoms names allowed back ok ps e =
+    let left = chain_found s join phrases IsPart j cores unit Behind finds leaves parted ts p are atoms names (first_allowed join phrases j cores atoms names p q allowed)
     (symbol s ∷ us ++ back) (parted (us ++ back)) ps (e ∙ append_assoc ts (symbol s ∷ us) back) in
     let f = front left.rest (symbol s) (us ++ back) left.behind in
     let right = finds us q is (atoms + atoms_of p) (numbered names (locations_in p)) (second_allowed join phrases j cores atoms names p q allowed) back ok f.rest f.behind in
-    chain_further s join phrases j unit atoms names p q us back ps f.rest left (symbol_there s left.rest f.rest f.first f.parts f.is) right
+    chain_further s join phrases j unit atoms names p q us back ps f.rest left (symbol_there s left.rest f.rest f.first f.parts f.is) leaves right
 
 joined_finds : (s : Symbol) (join : Claim → Claim → Claim) (phrases : Phrase → Phrase → Phrase) (IsPart : List Term → Phrase → Type 0) → Joining join phrases
-    → (cores : ℕ) (unit : Proposition) (Behind : List Term → Type 0) → Finds cores unit IsPart Behind → ((l : List Term) → Behind (symbol s ∷ l))
+    → (cores : ℕ) (unit : Proposition) (Behind : List Term → Type 0) → Finds cores unit IsPart Behind → LeavesLast unit → ((l : List Term) → Behind (symbol s ∷ l))
     → Finds cores (chain_of s join unit) (AreJoined s phrases IsPart) (λ back. Behind back × (begins_with s back ≡ false))
-joined_finds s join phrases IsPart j cores unit Behind finds parted ts p are atoms names allowed back ok ps e =
-    let c = chain_found s join phrases IsPart j cores unit Behind finds parted ts p are atoms names allowed back ok.0 ps e in
+joined_finds s join phrases IsPart j cores unit Behind finds leaves parted ts p are atoms names allowed back ok ps e =
+    let c = chain_found s join phrases IsPart j cores unit Behind finds leaves parted ts p are atoms names allowed back ok.0 ps e in
     let none : begins_with s (terms c.rest) ≡ false = ap (λ (l : List Term). begins_with s l) c.behind ∙ ok.1 in
     record { rest = c.rest; is = c.same ∙ chain_ends s join unit c.count (given_by atoms names p c.rest) (no_symbol s c.rest none); behind = c.behind }
 
@@ -292,7 +305,11 @@ Anything back = Unit {0}
 abbrev pub EndsThere : List Term → Type 0
 EndsThere back = (Anything back × (begins_with And back ≡ false)) × (begins_with Or back ≡ false)
 
-pub proposition_finds : (IsPart : List Term → Phrase → Type 0) (cores : ℕ) (unit : Proposition) → Finds cores unit IsPart Anything → Finds cores (disjunction unit) (IsProposition IsPart) EndsThere
-proposition_finds IsPart cores unit finds =
+pub conjunction_finds : (IsPart : List Term → Phrase → Type 0) (cores : ℕ) (unit : Proposition) → Finds cores unit IsPart Anything → LeavesLast unit
+    → Finds cores (conjunction unit) (IsConjunction IsPart) (λ back. Anything back × (begins_with And back ≡ false))
+conjunction_finds IsPart cores unit finds leaves = joined_finds And reading.both both IsPart joining_both cores unit Anything finds leaves (λ l. tt)
+
+pub proposition_finds : (IsPart : List Term → Phrase → Type 0) (cores : ℕ) (unit : Proposition) → Finds cores unit IsPart Anything → LeavesLast unit → Finds cores (disjunction unit) (IsProposition IsPart) EndsThere
+proposition_finds IsPart cores unit finds leaves =
     joined_finds Or reading.either either (IsConjunction IsPart) joining_either cores (conjunction unit) (λ back. Anything back × (begins_with And back ≡ false))
-    (joined_finds And reading.both both IsPart joining_both cores unit Anything finds (λ l. tt)) (λ l. (tt, refl))
+    (conjunction_finds IsPart cores unit finds leaves) (chain_leaves And reading.both unit leaves) (λ l. (tt, refl))

@@ -8,24 +8,27 @@ use Rattle.litmus_tokens.specs.declared.token.Symbol.TheVariants.{And, Or, Tilde
 use Rattle.litmus_tokens.specs.Terms.{Term, name, symbol}
 use Rattle.litmus_tokens.specs.Pieces.{Piece}
 use Rattle.litmus_tokens.specs.Front.{is_symbol, symbol_at, name_at}
-use Rattle.litmus_reader.specs.declared.condition.TheConstants.{MAX_OPEN}
+use Rattle.tso_model.specs.Limits.{most_open}
 use Rattle.litmus_reader.specs.Faults.{there, or_unfit}
 use Rattle.litmus_reader.specs.Keywords.{word_behind}
-use Rattle.litmus_reader.specs.Conditions.{in_condition, Conditioned, conditioned, with_claim, quantified, not_exists, condition_at, proposition_at}
+use Rattle.litmus_reader.specs.Conditions.{Conditioned, conditioned, with_claim, quantified, not_exists, condition_at, proposition_at}
 use Rattle.litmus_reader.specs.Grammar.{terms}
-use Rattle.litmus_reader.specs.GrammarConditions.{Phrase, IsUnit, IsProposition, IsWithin, begins_with, IsQuantifier, says_exists, says_forall, says_not_exists, IsCondition, condition, condition_by, ReadsCondition, SpellsCondition, ReadsNone}
+use Rattle.litmus_reader.specs.GrammarConditions.{IsUnit, IsProposition, IsWithin, begins_with, IsQuantifier, says_exists, says_forall, says_not_exists, IsCondition, condition}
 use Rattle.litmus_reader.proofs.GrammarTokens.{there_is, ok_is, bind_ok, or_unfit_ok, opened, symbol_takes}
 use Rattle.litmus_reader.proofs.GrammarAtoms.{word_taken}
 use Rattle.litmus_reader.proofs.GrammarConditions.{proposition_again, proposition_spelled}
+use Rattle.litmus_reader.proofs.Readings.{condition_by, ReadsCondition, SpellsCondition, ReadsNone}
+use Rattle.litmus_reader.specs.Places.{in_condition}
+use Rattle.litmus_reader.specs.Written.{Phrase}
 
 -- ---- found
 
 quantified_found : (stop : Stop) (cores : ℕ) (quantifier : Quantifier) (names : List (List ℕ)) (ps : List Piece) (us back : List Term) (p : Phrase)
-    → IsProposition (IsUnit MAX_OPEN) us p → IsWithin cores 0 names p → terms ps ≡ us ++ back → begins_with And back ≡ false → begins_with Or back ≡ false
+    → IsProposition (IsUnit most_open) us p → IsWithin cores 0 names p → terms ps ≡ us ++ back → begins_with And back ≡ false → begins_with Or back ≡ false
     → ReadsCondition (quantified stop cores quantifier names ps) names quantifier p back
 unfolding quantified
 quantified_found stop cores quantifier names ps us back p is within e no_and no_or =
-    let f = proposition_again stop cores MAX_OPEN 0 names ps us back p is within e no_and no_or in
+    let f = proposition_again stop cores most_open 0 names ps us back p is within e no_and no_or in
     let whole : quantified stop cores quantifier names ps ≡ Ok (condition_by names quantifier p f.rest) = rw f.is refl in
     record { rest = f.rest; is = whole; behind = f.behind }
 
@@ -57,8 +60,8 @@ quantified_taken : (stop : Stop) (cores : ℕ) (quantifier : Quantifier) (names 
     → terms all ≡ ts ++ terms ps → quantified stop cores quantifier names ps ≡ Ok c → SpellsCondition cores names all c
 unfolding quantified
 quantified_taken stop cores quantifier names all ps ts c le is front e =
-    let a = bind_ok (proposition_at stop cores MAX_OPEN 0 names ps) (λ c. Ok (with_claim quantifier c)) c e in
-    let t = proposition_spelled stop cores MAX_OPEN 0 names ps a.0 le a.1 in
+    let a = bind_ok (proposition_at stop cores most_open 0 names ps) (λ c. Ok (with_claim quantifier c)) c e in
+    let t = proposition_spelled stop cores most_open 0 names ps a.0 le a.1 in
     subst (SpellsCondition cores names all) (ok_is (with_claim quantifier a.0) c a.2) (record {
       ts = ts ++ t.ts;
       quantifier = quantifier;

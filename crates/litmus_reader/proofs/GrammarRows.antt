@@ -12,14 +12,17 @@ use Rattle.litmus_tokens.specs.Pieces.{Piece}
 use Rattle.litmus_tokens.specs.Front.{code_of, is_symbol_term, is_symbol, name_at}
 use Rattle.tso_model.specs.declared.register.Reg.{Reg}
 use Rattle.litmus_reader.specs.declared.fault.Why.TheVariants.{Unclosed}
-use Rattle.litmus_reader.specs.Faults.{fault, at_stop, left_of}
-use Rattle.litmus_reader.specs.Forms.{Shape, spelled_in}
-use Rattle.litmus_reader.specs.Rows.{row_at, cells_of}
-use Rattle.litmus_reader.specs.Grammar.{terms, Begins}
+use Rattle.litmus_reader.specs.Forms.{spelled_in}
+use Rattle.litmus_reader.specs.Rows.{row_at}
+use Rattle.litmus_reader.specs.Grammar.{terms}
 use Rattle.litmus_reader.specs.GrammarCells.{IsConstant, plain, with_dollar, IsMemory, in_squares, IsRegister, named, IsMnemonic, spelled, parted, IsExchange, memory_first, register_first, IsCell, stores_constant, stores_register, loads, sets_constant, sets_register, fences, exchanges, locks_exchange, locks_add}
-use Rattle.litmus_reader.specs.GrammarRows.{ReadsRow, IsField, empty, full, AreFields, last, more, IsRow, row, IsReadAs, AreReadAs}
+use Rattle.litmus_reader.specs.GrammarRows.{IsField, empty, full, AreFields, last, more, IsRow, row}
 use Rattle.litmus_reader.proofs.GrammarTokens.{chosen, ok_pair, symbol_is}
 use Rattle.litmus_reader.proofs.GrammarCells.{cell_again, cell_takes}
+use Rattle.litmus_reader.proofs.Readings.{Begins, ReadsRow, IsReadAs, AreReadAs}
+use Rattle.litmus_reader.specs.Places.{fault, at_stop, left_of}
+use Rattle.litmus_reader.specs.Written.{Shape}
+use Rattle.litmus_reader.specs.RefusedTable.{cells_of}
 
 -- ---- cells have no `|` and no `;`
 
@@ -167,7 +170,7 @@ no_instruction : (shape : Shape) → spelled_in [] ≡ Some shape → ⊥
 unfolding spelled_in name_at
 no_instruction shape e = absurd cc
 
-field_read : (ts : List Term) (c : Option Shape) → IsField ts c → (ps : List Piece) → terms ps ≡ ts → IsReadAs ps c
+pub field_read : (ts : List Term) (c : Option Shape) → IsField ts c → (ps : List Piece) → terms ps ≡ ts → IsReadAs ps c
 field_read _ _ empty [] e = tt
 field_read _ _ empty (p ∷ ps) e = absurd cc
 field_read _ _ (full ts shape is) [] e = no_instruction shape (cell_again [] shape (subst (λ (ts : List Term). IsCell ts shape) (sym e) is))
@@ -238,7 +241,7 @@ split_joined (p ∷ ps) = by_first (split_joined ps) (is_symbol Bar p) refl
         subst (λ (l : List (List Piece)). HasOne l × (joined l ≡ terms (p ∷ ps))) (sym (slice_split-cons_no (is_symbol Bar) p ps is))
         (grown.0, grown.1 ∙ ap (λ (l : List Term). p.term ∷ l) further.1)
 
-field_made : (ps : List Piece) (c : Option Shape) → IsReadAs ps c → IsField (terms ps) c
+pub field_made : (ps : List Piece) (c : Option Shape) → IsReadAs ps c → IsField (terms ps) c
 field_made [] None is = empty
 field_made [] (Some shape) is = absurd is
 field_made (p ∷ ps) None is = absurd is

@@ -1,5 +1,5 @@
 -- Rows one after the other are read as they are spelled.
-use Rattle.std.proofs.Common.{◌≡◌, ℕ, zero, suc, ◌+◌, ◌≤◌, ◌<◌, Bool, true, false, cond, eqb, eqb-true, eq-eqb, ltb, IsTrue, ◌||◌, List, [], ◌∷◌, ◌++◌, length, map, Option, Some, None, Result, Ok, Err, refl, sym, ap, subst, ◌∙◌, inl, inr, append_assoc, arith}
+use Rattle.std.proofs.Common.{◌≡◌, ℕ, zero, suc, ◌≤◌, ◌<◌, Bool, true, false, eqb, eqb-true, eq-eqb, IsTrue, List, [], ◌∷◌, ◌++◌, length, Option, Ok, Err, refl, sym, ap, subst, ◌∙◌, inl, inr, append_assoc, arith}
 use Rattle.std.specs.Prelude.{codes}
 use Rattle.std.specs.Str.{bytes_eq}
 use Rattle.std.proofs.lemmas.Slice.Eq.{bytes_eq-Decides}
@@ -11,21 +11,23 @@ use Rattle.litmus_tokens.specs.Terms.{Term, symbol}
 use Rattle.litmus_tokens.specs.Pieces.{Piece}
 use Rattle.litmus_tokens.specs.Front.{is_symbol}
 use Rattle.litmus_reader.specs.declared.fault.Why.TheVariants.{WrongCells}
-use Rattle.litmus_reader.specs.declared.fault.Fault.{Fault}
 use Rattle.litmus_reader.specs.declared.cell.CoreInstr.{CoreInstr}
-use Rattle.litmus_reader.specs.Faults.{◌>>=◌, fault, left_of}
-use Rattle.litmus_reader.specs.Forms.{Shape}
+use Rattle.litmus_reader.specs.Faults.{◌>>=◌}
 use Rattle.litmus_reader.specs.Cells.{cells_in}
-use Rattle.litmus_reader.specs.Rows.{row_at, cells_of, counted, row_in, ends_rows_term, ends_rows, Rows, rows, rows_within, rows_at}
+use Rattle.litmus_reader.specs.Rows.{row_at, counted, row_in, Rows, rows, rows_within, rows_at}
 use Rattle.litmus_reader.specs.Grammar.{terms}
 use Rattle.litmus_reader.specs.GrammarCells.{IsMnemonic, spelled, parted, IsExchange, memory_first, register_first, IsCell, stores_constant, stores_register, loads, sets_constant, sets_register, fences, exchanges, locks_exchange, locks_add}
 use Rattle.litmus_reader.specs.GrammarNames.{numbered}
 use Rattle.litmus_reader.specs.GrammarRows as grammar
-use Rattle.litmus_reader.specs.GrammarRows.{IsField, empty, full, AreFields, IsRow, row, IsReadAs, AreReadAs}
-use Rattle.litmus_reader.specs.GrammarTable.{AreRows, none, more, ends_table, Placed, placed_from, placed_in, AreWithin, rows_by, ReadsPlaced, SpellsRows}
+use Rattle.litmus_reader.specs.GrammarRows.{IsField, empty, full, AreFields, IsRow, row}
+use Rattle.litmus_reader.specs.GrammarTable.{AreRows, none, more, ends_table, Placed, placed_from, placed_in, AreWithin, ends_rows}
 use Rattle.litmus_reader.proofs.GrammarTokens.{chosen, ok_is, bind_ok}
 use Rattle.litmus_reader.proofs.GrammarRows.{row_again, row_takes}
 use Rattle.litmus_reader.proofs.GrammarTableEntries.{names_of, instrs_of, Read, read_of, within_first, within_none, cells_found, CellsTaken, cells_taken}
+use Rattle.litmus_reader.proofs.Readings.{AreReadAs, rows_by, ReadsPlaced, SpellsRows}
+use Rattle.litmus_reader.specs.Places.{fault, left_of}
+use Rattle.litmus_reader.specs.Written.{Shape}
+use Rattle.litmus_reader.specs.RefusedTable.{cells_of}
 
 -- ---- a row begins with a cell, a `|` or a `;`
 
@@ -85,16 +87,16 @@ fields_begin _ _ (grammar.last ts c is) back = field_begins ts c is (symbol Semi
 fields_begin _ _ (grammar.more ts us c cs is are) back =
     ap ends_table (append_assoc ts (symbol Bar ∷ us) (symbol Semicolon ∷ back)) ∙ field_begins ts c is (symbol Bar) (us ++ symbol Semicolon ∷ back) refl
 
-row_begins : (cores : ℕ) (ts : List Term) (cells : List (Option Shape)) → IsRow cores ts cells → (back : List Term) → ends_table (ts ++ back) ≡ false
+pub row_begins : (cores : ℕ) (ts : List Term) (cells : List (Option Shape)) → IsRow cores ts cells → (back : List Term) → ends_table (ts ++ back) ≡ false
 row_begins cores _ _ (row ts cells are count) back = ap ends_table (append_assoc ts (symbol Semicolon ∷ []) back) ∙ fields_begin ts cells are back
 
 row_some : (cores : ℕ) (ts : List Term) (cells : List (Option Shape)) → IsRow cores ts cells → 0 < length ts
 row_some cores _ _ (row ts cells are count) = omega (arith, length-append ts (symbol Semicolon ∷ []))
 
-row_count : (cores : ℕ) (ts : List Term) (cells : List (Option Shape)) → IsRow cores ts cells → length cells ≡ cores
+pub row_count : (cores : ℕ) (ts : List Term) (cells : List (Option Shape)) → IsRow cores ts cells → length cells ≡ cores
 row_count cores _ _ (row ts cells are count) = count
 
-ends_is : (ps : List Piece) → ends_rows ps ≡ ends_table (terms ps)
+pub ends_is : (ps : List Piece) → ends_rows ps ≡ ends_table (terms ps)
 unfolding ends_rows is_symbol
 ends_is [] = refl
 ends_is (p ∷ ps) = refl
@@ -103,7 +105,7 @@ terms_length : (ps : List Piece) (ts : List Term) → terms ps ≡ ts → length
 terms_length ps ts e = sym (length-map ps (λ p. p.term)) ∙ ap length e
 
 -- a row is a token or more
-row_shorter : (cores : ℕ) (ts : List Term) (cells : List (Option Shape)) (ps rest : List Piece) → IsRow cores ts cells → terms ps ≡ ts ++ terms rest → length rest < length ps
+pub row_shorter : (cores : ℕ) (ts : List Term) (cells : List (Option Shape)) (ps rest : List Piece) → IsRow cores ts cells → terms ps ≡ ts ++ terms rest → length rest < length ps
 row_shorter cores ts cells ps rest is e =
     let whole = terms_length ps (ts ++ terms rest) e in
     let sum = length-append ts (terms rest) in
@@ -113,24 +115,24 @@ row_shorter cores ts cells ps rest is e =
 
 -- ---- one row
 
-as_many : (parts : List (List Piece)) (cells : List (Option Shape)) → AreReadAs parts cells → length parts ≡ length cells
+pub as_many : (parts : List (List Piece)) (cells : List (Option Shape)) → AreReadAs parts cells → length parts ≡ length cells
 as_many [] [] are = refl
 as_many [] (c ∷ cs) are = absurd are
 as_many (ps ∷ rest) [] are = absurd are
 as_many (ps ∷ rest) (c ∷ cs) are = ap suc (as_many rest cs are.1)
 
-row_found : (cores left : ℕ) (names : List (List ℕ)) (done : List Placed) (front : List Piece) (cells : List (Option Shape)) → length cells ≡ cores → AreReadAs (cells_of front) cells
+pub row_found : (cores left : ℕ) (names : List (List ℕ)) (done : List Placed) (front : List Piece) (cells : List (Option Shape)) → length cells ≡ cores → AreReadAs (cells_of front) cells
     → AreWithin names (done ++ placed_from 0 cells) → row_in cores left (instrs_of names done) (names_of names done) front ≡ Ok (read_of names (done ++ placed_from 0 cells))
 unfolding row_in
 row_found cores left names done front cells count are h =
     let same : eqb (length (cells_of front)) cores ≡ true = eq-eqb (length (cells_of front)) cores (as_many (cells_of front) cells are ∙ count) in
     rw same (cells_found (cells_of front) cells are 0 names done h)
 
-record RowTaken (cores : ℕ) (names : List (List ℕ)) (done : List Placed) (front : List Piece) (r : Read) : Type 0 where
+pub record RowTaken (cores : ℕ) (names : List (List ℕ)) (done : List Placed) (front : List Piece) (r : Read) : Type 0 where
   pub count : length (cells_of front) ≡ cores
   pub cells : CellsTaken 0 names done (cells_of front) r
 
-row_taken : (cores left : ℕ) (names : List (List ℕ)) (done : List Placed) (front : List Piece) (r : Read) → AreWithin names done
+pub row_taken : (cores left : ℕ) (names : List (List ℕ)) (done : List Placed) (front : List Piece) (r : Read) → AreWithin names done
     → row_in cores left (instrs_of names done) (names_of names done) front ≡ Ok r → RowTaken cores names done front r
 unfolding row_in
 row_taken cores left names done front r h e =

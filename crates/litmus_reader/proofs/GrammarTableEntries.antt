@@ -1,29 +1,31 @@
 -- Entries of rows: their instructions and locations, as cells are read one after the other.
-use Rattle.std.proofs.Common.{◌≡◌, ℕ, ◌+◌, ◌≤◌, ◌<◌, ◌^◌, Bool, true, false, cond, eqb, eqb-true, eq-eqb, ltb, List, [], ◌∷◌, ◌++◌, length, map, Option, Some, None, Result, Ok, Err, refl, sym, ap, subst, ◌∙◌, inl, inr, append_assoc, arith}
+use Rattle.std.proofs.Common.{◌≡◌, ℕ, ◌+◌, ◌≤◌, ◌<◌, Bool, true, false, cond, eqb, eqb-true, eq-eqb, ltb, List, [], ◌∷◌, ◌++◌, length, Option, Some, None, Result, Ok, Err, refl, sym, ap, subst, ◌∙◌, inl, inr, append_assoc, arith}
 use Rattle.std.specs.Prelude.{count_by}
 use Rattle.std.specs.Str.{bytes_eq}
 use Rattle.std.proofs.lemmas.Bool.{ltb-true, lt-ltb}
-use Rattle.std.proofs.lemmas.List.{length-append, append-nil, map-append}
+use Rattle.std.proofs.lemmas.List.{append-nil, map-append}
 use Rattle.std.proofs.lemmas.List.Sums.{sum_by-append}
 use Rattle.tso_model.specs.declared.instruction.Loc.{Loc}
 use Rattle.tso_model.specs.declared.instruction.Instr.{Instr}
 use Rattle.tso_model.specs.declared.instruction.Instr.TheVariants.{StoreImm, StoreReg, Load, SetImm, SetReg, Fence, Xchg, Xadd}
 use Rattle.litmus_tokens.specs.Pieces.{Piece}
-use Rattle.litmus_reader.specs.declared.fault.Why.TheVariants.{BadInstruction, TooLarge}
+use Rattle.litmus_reader.specs.declared.fault.Why.TheVariants.{TooLarge}
 use Rattle.litmus_reader.specs.declared.fault.Fault.{Fault}
 use Rattle.litmus_reader.specs.declared.cell.CoreInstr.{CoreInstr}
-use Rattle.litmus_reader.specs.Faults.{◌>>=◌, fault}
-use Rattle.litmus_reader.specs.Locations.{number_of, with_name, location, located}
-use Rattle.litmus_reader.specs.Items.{or_bad_number, word_at}
-use Rattle.litmus_reader.specs.Forms.{Shape, store_imm, store_reg, load, set_imm, set_reg, fence, xchg, xadd, spelled_in}
-use Rattle.litmus_reader.specs.Cells.{instr_of, count_of, of_core, or_bad_instruction, cell_in, cells_in}
-use Rattle.litmus_reader.specs.GrammarNames.{numbered}
-use Rattle.litmus_reader.specs.GrammarRows.{AreReadAs}
-use Rattle.litmus_reader.specs.GrammarTable.{Placed, placed, placed_from, location_in, locations_of, instr_with, instrs_with, ValueFits, ValuesFit, AreWithin}
+use Rattle.litmus_reader.specs.Faults.{◌>>=◌}
+use Rattle.litmus_reader.specs.Locations.{located}
+use Rattle.litmus_reader.specs.Items.{word_at}
+use Rattle.litmus_reader.specs.Forms.{spelled_in}
+use Rattle.litmus_reader.specs.Cells.{instr_of, count_of, or_bad_instruction, cell_in, cells_in}
+use Rattle.litmus_reader.specs.GrammarNames.{numbered, number_of, with_name, location}
+use Rattle.litmus_reader.specs.GrammarTable.{Placed, placed, placed_from, location_in, locations_of, instr_with, instrs_with, ValueFits, ValuesFit, AreWithin, of_core}
 use Rattle.litmus_reader.proofs.GrammarTokens.{chosen, ok_is, ok_pair, bind_ok}
-use Rattle.litmus_reader.proofs.GrammarNames.{with_name_by, place_below, place_none, known_with, number_with, numbered_append, grows}
+use Rattle.litmus_reader.proofs.GrammarNames.{place_below, known_with, number_with, numbered_append, grows}
 use Rattle.litmus_reader.proofs.GrammarAtoms.{word_is, word_ok, located_ok, room_with}
 use Rattle.litmus_reader.proofs.GrammarShapes.{entries_known, instrs_stay}
+use Rattle.litmus_reader.proofs.Readings.{AreReadAs}
+use Rattle.litmus_reader.specs.Places.{fault}
+use Rattle.litmus_reader.specs.Written.{Shape, store_imm, store_reg, load, set_imm, set_reg, fence, xchg, xadd}
 
 -- ---- entries so far
 
@@ -176,7 +178,7 @@ or_bad_ok : (left : ℕ) (o : Option Shape) (shape : Shape) → or_bad_instructi
 or_bad_ok left (Some other) shape e = ap (λ (s : Shape). Some s) (ok_is other shape e)
 or_bad_ok left None shape e = absurd cc
 
-cell_found : (core : ℕ) (names : List (List ℕ)) (done : List Placed) (p : Piece) (ps : List Piece) (shape : Shape) → spelled_in (p ∷ ps) ≡ Some shape → AreWithin names (done ++ placed core shape ∷ [])
+pub cell_found : (core : ℕ) (names : List (List ℕ)) (done : List Placed) (p : Piece) (ps : List Piece) (shape : Shape) → spelled_in (p ∷ ps) ≡ Some shape → AreWithin names (done ++ placed core shape ∷ [])
     → cell_in core (instrs_of names done) (names_of names done) (p ∷ ps) ≡ Ok (read_of names (done ++ placed core shape ∷ []))
 unfolding cell_in
 cell_found core names done p ps shape is h =
@@ -189,7 +191,7 @@ cell_found core names done p ps shape is h =
     read ∙ ap (λ (r : Read). Ok r) (read-push names done core shape)
 
 -- what was read of a cell that isn't empty
-record CellTaken (core : ℕ) (names : List (List ℕ)) (done : List Placed) (ps : List Piece) (r : Read) : Type 0 where
+pub record CellTaken (core : ℕ) (names : List (List ℕ)) (done : List Placed) (ps : List Piece) (r : Read) : Type 0 where
   pub shape : Shape
   pub is : spelled_in ps ≡ Some shape
   pub within : AreWithin names (done ++ placed core shape ∷ [])
@@ -216,7 +218,7 @@ within_push core names done shape h fits room few = record {
   room = subst (λ (l : List (List ℕ)). length l ≤ 16) (sym (names-push names done core shape)) few;
 }
 
-cell_taken : (core : ℕ) (names : List (List ℕ)) (done : List Placed) (p : Piece) (ps : List Piece) (r : Read) → AreWithin names done
+pub cell_taken : (core : ℕ) (names : List (List ℕ)) (done : List Placed) (p : Piece) (ps : List Piece) (r : Read) → AreWithin names done
     → cell_in core (instrs_of names done) (names_of names done) (p ∷ ps) ≡ Ok r → CellTaken core names done (p ∷ ps) r
 unfolding cell_in
 cell_taken core names done p ps r h e =

@@ -1,62 +1,55 @@
 -- A whole text is read as it is spelled.
-use Rattle.std.proofs.Common.{◌≡◌, ℕ, zero, suc, ◌≤◌, ◌<◌, ◌+◌, ◌-◌, Bool, true, false, leb, ltb, List, [], ◌∷◌, ◌++◌, length, map, drop, Option, Some, None, Result, Ok, Err, IfOk, refl, sym, ap, subst, ◌∙◌, inl, inr, append_assoc, append-nil, length-append, arith, IsTrue}
-use Rattle.std.specs.Prelude.{codes}
+use Rattle.std.proofs.Common.{◌≡◌, ℕ, suc, ◌≤◌, ◌+◌, true, false, ltb, List, [], ◌∷◌, ◌++◌, length, drop, Option, Result, Ok, Err, IfOk, refl, sym, ap, subst, ◌∙◌, inl, inr, append_assoc, length-append, arith, IsTrue}
 use Rattle.std.proofs.lemmas.Bool.{ltb-false, le-ltb}
 use Rattle.std.proofs.lemmas.List.FromFn.{length-map-range_with_len}
 use Rattle.tso_model.specs.Litmus.{Litmus}
 use Rattle.litmus_tokens.specs.declared.token.Stop.{Stop}
-use Rattle.litmus_tokens.specs.declared.token.Symbol.TheVariants.{Tilde}
-use Rattle.litmus_tokens.specs.Terms.{Term, name, symbol}
+use Rattle.litmus_tokens.specs.Terms.{Term}
 use Rattle.litmus_tokens.specs.Pieces.{Piece, pieces_of}
-use Rattle.litmus_reader.specs.declared.fault.Fault.{Fault}
-use Rattle.litmus_reader.specs.declared.header.TheConstants.{MAX_TEXT}
-use Rattle.litmus_reader.specs.declared.cell.CoreInstr.{CoreInstr}
-use Rattle.litmus_reader.specs.Faults.{◌>>=◌}
+use Rattle.litmus_reader.specs.Limits.{longest_text}
 use Rattle.litmus_reader.specs.Header.{sized, header_at}
 use Rattle.litmus_reader.specs.Information.{braces_at}
 use Rattle.litmus_reader.specs.Initial.{Initial, words_of, registers_of, initial_at}
 use Rattle.litmus_reader.specs.Columns.{columns_at}
 use Rattle.litmus_reader.specs.Rows.{Rows, Table, table, table_at, rows_at}
-use Rattle.litmus_reader.specs.Forms.{Shape}
-use Rattle.litmus_reader.specs.Items.{Setting}
-use Rattle.litmus_reader.specs.Locations.{with_name}
-use Rattle.litmus_reader.specs.Reading.{test_of, tail_at, body_of, reading_of, programs_from}
-use Rattle.litmus_reader.specs.Grammar.{terms, Reads, Begins}
-use Rattle.litmus_reader.specs.GrammarNames.{numbered}
+use Rattle.litmus_reader.specs.Reading.{test_of, tail_at, body_of, reading_of}
+use Rattle.litmus_reader.specs.Grammar.{terms}
+use Rattle.litmus_reader.specs.GrammarNames.{numbered, with_name}
 use Rattle.litmus_reader.specs.GrammarText.{IsHeaderLine, AreInformationLines}
-use Rattle.litmus_reader.specs.GrammarInitial.{IsInitialState, Fits, has_cores, names_in, first_words, first_registers, Says}
+use Rattle.litmus_reader.specs.GrammarInitial.{IsInitialState, Fits, has_cores, names_in, first_words, first_registers}
 use Rattle.litmus_reader.specs.GrammarColumns.{IsHeaderRow}
-use Rattle.litmus_reader.specs.GrammarTable.{AreRows, AreWithin, Placed, placed_in, instrs_with, instr_with, location_in, locations_of, ends_table, rows_by, ReadsPlaced, SpellsRows}
+use Rattle.litmus_reader.specs.GrammarTable.{AreRows, AreWithin, placed_in, instrs_with, locations_of, ends_table}
 use Rattle.litmus_reader.specs.GrammarConditions.{condition, says_exists, says_forall, says_not_exists}
-use Rattle.litmus_reader.specs.GrammarEnding.{Asked, MayAsk, nothing, a_condition, EndsText, IsEnding, at_once, behind_locations, names_asked, condition_of, IsAskedWithin}
-use Rattle.litmus_reader.specs.GrammarBehind.{AreLast}
-use Rattle.litmus_reader.specs.GrammarTest.{Written, IsBody, IsText, located_in_rows, located, test_written, KeepsLimits}
+use Rattle.litmus_reader.specs.GrammarEnding.{MayAsk, nothing, a_condition, IsEnding, at_once, behind_locations, names_asked, IsAskedWithin}
+use Rattle.litmus_reader.specs.GrammarTest.{IsBody, test_written, KeepsLimits}
 use Rattle.litmus_reader.specs.Spelling.{SpellsTest}
 use Rattle.litmus_reader.proofs.GrammarTokens.{chosen, bind_ok, ok_is}
-use Rattle.litmus_reader.proofs.GrammarNames.{Known, known_more, number_more, known_with, numbered_append, grows, with_name_by}
+use Rattle.litmus_reader.proofs.GrammarNames.{numbered_append, with_name_by}
 use Rattle.litmus_reader.proofs.GrammarShapes.{entries_known, instrs_stay}
 use Rattle.litmus_reader.proofs.GrammarEnding.{Closes, Closed, Given, given, tail_again, tail_takes}
+use Rattle.litmus_reader.proofs.Readings.{Reads, Begins, Says, rows_by, ReadsPlaced, SpellsRows, AreLast}
+use Rattle.litmus_reader.specs.Written.{Shape, Setting, Asked, Written}
 
 -- ---- lists
 
-terms_append : (xs ys : List Piece) → terms (xs ++ ys) ≡ terms xs ++ terms ys
+pub terms_append : (xs ys : List Piece) → terms (xs ++ ys) ≡ terms xs ++ terms ys
 terms_append [] ys = refl
 terms_append (x ∷ xs) ys = ap (λ (l : List Term). x.term ∷ l) (terms_append xs ys)
 
-terms_length : (ps : List Piece) → length (terms ps) ≡ length ps
+pub terms_length : (ps : List Piece) → length (terms ps) ≡ length ps
 terms_length [] = refl
 terms_length (p ∷ ps) = ap (λ n. suc n) (terms_length ps)
 
-same_length : (a b : List Piece) → terms a ≡ terms b → length a ≡ length b
+pub same_length : (a b : List Piece) → terms a ≡ terms b → length a ≡ length b
 same_length a b e = sym (terms_length a) ∙ ap (λ (l : List Term). length l) e ∙ terms_length b
 
-same_end : {A : Type 0} (xs ys a b : List A) → xs ++ a ≡ ys ++ b → length a ≡ length b → a ≡ b
+pub same_end : {A : Type 0} (xs ys a b : List A) → xs ++ a ≡ ys ++ b → length a ≡ length b → a ≡ b
 same_end [] [] a b e n = e
 same_end [] (y ∷ ys) a b e n = absurd (let whole = ap (λ l. length l) e in omega (arith, whole, n, length-append ys b))
 same_end (x ∷ xs) [] a b e n = absurd (let whole = ap (λ l. length l) e in omega (arith, whole, n, length-append xs a))
 same_end (x ∷ xs) (y ∷ ys) a b e n = same_end xs ys a b (ap (λ l. drop 1 l) e) n
 
-cancel_back : (xs ys z : List Term) → xs ++ z ≡ ys ++ z → xs ≡ ys
+pub cancel_back : (xs ys z : List Term) → xs ++ z ≡ ys ++ z → xs ≡ ys
 cancel_back [] [] z e = refl
 cancel_back [] (y ∷ ys) z e = absurd (let whole = ap (λ (l : List Term). length l) e in omega (arith, whole, length-append ys z))
 cancel_back (x ∷ xs) [] z e = absurd (let whole = ap (λ (l : List Term). length l) e in omega (arith, whole, length-append xs z))
@@ -156,8 +149,8 @@ body_found braces w laws b limits =
     subst (λ (l : List Piece). tail_at braces stop w.cores known l ≡ Ok (given known w.asked)) (sym same) (tail_again braces stop w.cores known b.ending w.asked laws.closes b.is_ending asked) in
     rw (i.1.is, c.is, registers, r.is, tail) (ap (λ (t : Litmus). Ok t) (parts_are w i.0 i.2))
 
-sized_found : (text : List ℕ) → length text ≤ MAX_TEXT → sized text ≡ Ok text
-sized_found text small = let fits : ltb MAX_TEXT (length text) ≡ false = le-ltb _ _ small in rw fits refl
+pub sized_found : (text : List ℕ) → length text ≤ longest_text → sized text ≡ Ok text
+sized_found text small = let fits : ltb longest_text (length text) ≡ false = le-ltb _ _ small in rw fits refl
 
 pub text_again : (text : List ℕ) (t : Litmus) → Parts → SpellsTest text t → reading_of text ≡ Ok t
 unfolding reading_of
@@ -179,7 +172,7 @@ record Taken (braces called : List ℕ) (t : Litmus) : Type 0 where
   limits : KeepsLimits w
   says : t ≡ test_written w
 
-numbered_few : (xs names : List (List ℕ)) → length (numbered names xs) ≤ length names + length xs
+pub numbered_few : (xs names : List (List ℕ)) → length (numbered names xs) ≤ length names + length xs
 unfolding numbered
 numbered_few [] names = omega arith
 numbered_few (x ∷ xs) names =
@@ -252,9 +245,9 @@ body_taken called braces t laws e =
       says = sym gives ∙ parts_are w i.0.0 says;
     }
 
-sized_taken : (text bytes : List ℕ) → sized text ≡ Ok bytes → (length text ≤ MAX_TEXT) × (text ≡ bytes)
+pub sized_taken : (text bytes : List ℕ) → sized text ≡ Ok bytes → (length text ≤ longest_text) × (text ≡ bytes)
 sized_taken text bytes e =
-    elim (chosen (ltb MAX_TEXT (length text)) _ (Ok text) (Ok bytes) e) [
+    elim (chosen (ltb longest_text (length text)) _ (Ok text) (Ok bytes) e) [
       | inl hit ↦ absurd cc
       | inr miss ↦ (ltb-false _ _ miss.0, ok_is text bytes miss.1)
     ]

@@ -9,9 +9,10 @@ use Rattle.litmus_reader.specs.declared.fault.Fault.{Fault}
 use Rattle.litmus_reader.specs.declared.fault.Part.{Part}
 use Rattle.litmus_reader.specs.declared.fault.ReadError.{ReadError}
 use Rattle.litmus_reader.specs.declared.fault.ReadError.TheVariants as errors
-use Rattle.litmus_reader.specs.Faults.{◌>>=◌, Fails, unfit, left_of}
+use Rattle.litmus_reader.specs.Faults.{◌>>=◌, Fails}
 use Rattle.litmus_reader.specs.Items.{location_at, plain_setting, setting_at}
-use Rattle.litmus_reader.specs.Initial.{Initial, initial, item_in, step_in, items_within, items_at, in_initial, opened_at, initial_at}
+use Rattle.litmus_reader.specs.Initial.{Initial, initial, item_in, step_in, items_within, items_at, opened_at, initial_at}
+use Rattle.litmus_reader.specs.Places.{unfit, left_of, in_initial}
 
 abbrev pub ReadItems : Type 0
 ReadItems = Result (Initial × List Piece) Fault

@@ -48,3 +48,7 @@ ok_is Q (Err f) x h e = absurd cc
 
 pub core_keeps : (cores left : ℕ) (digits : List ℕ) → IfOk (core_of cores left digits) (λ core. core < cores)
 core_keeps cores left digits = cond_keeps (λ (r : Result ℕ Fault). IfOk r (λ core. core < cores)) (ltb (decimal digits) cores) _ _ (λ lt. ltb-true _ _ lt) (λ _. tt)
+
+pub some_is : {A : Type 0} (Q : A → Type 0) (o : Option A) (x : A) → IfSome o Q → o ≡ Some x → Q x
+some_is Q (Some y) x h e = let same : y ≡ x = cc in rw (← same) h
+some_is Q None x h e = absurd cc

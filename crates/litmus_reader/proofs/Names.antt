@@ -4,8 +4,9 @@ use Rattle.std.specs.Prelude.{position}
 use Rattle.std.specs.List.{list_any}
 use Rattle.std.specs.Str.{bytes_eq}
 use denote.Ref.{Bor}
-use Rattle.litmus_reader.specs.Locations.{texts, number_of, with_name}
+use Rattle.litmus_reader.specs.Locations.{texts}
 use Rattle.litmus_reader.proofs.Maps.{position_or_len-map, with-map, position_found, position_none}
+use Rattle.litmus_reader.specs.GrammarNames.{number_of, with_name}
 
 pub number_known : (names : List (Bor (List ℕ))) (x : List ℕ) (n : ℕ) → Some n ≡ position (λ k. bytes_eq x k.now) names → n ≡ number_of (texts names) x
 number_known names x n at = position_found _ names n at ∙ sym (position_or_len-map (bytes_eq x) (λ (k : Bor (List ℕ)). k.now) names)

@@ -2,17 +2,20 @@
 use Rattle.std.specs.Prelude.{ℕ, ◌+◌, List, [], ◌∷◌, ◌++◌, map, count_by, Option, Some, None, Result, Ok, Err, nat_lt, ◌==◌, if◌then◌else◌}
 use Rattle.tso_model.specs.declared.instruction.Instr.{Instr}
 use Rattle.tso_model.specs.declared.instruction.Instr.TheVariants.{StoreImm, StoreReg, Load, SetImm, SetReg, Fence, Xchg, Xadd}
-use Rattle.tso_model.specs.declared.limits.TheConstants.{MAX_INSTRUCTIONS}
+use Rattle.tso_model.specs.Limits.{most_instructions}
 use Rattle.litmus_tokens.specs.Pieces.{Piece, pieces}
 use Rattle.litmus_tokens.specs.declared.token.Token.{Token}
 use denote.Ref.{Bor}
 use Rattle.litmus_reader.specs.declared.fault.Why.TheVariants.{BadInstruction, TooLarge}
 use Rattle.litmus_reader.specs.declared.fault.Fault.{Fault}
 use Rattle.litmus_reader.specs.declared.cell.CoreInstr.{CoreInstr}
-use Rattle.litmus_reader.specs.Faults.{◌>>=◌, fault}
+use Rattle.litmus_reader.specs.Faults.{◌>>=◌}
 use Rattle.litmus_reader.specs.Locations.{located}
 use Rattle.litmus_reader.specs.Items.{word_at}
-use Rattle.litmus_reader.specs.Forms.{Shape, store_imm, store_reg, load, set_imm, set_reg, fence, xchg, xadd, spelled_in}
+use Rattle.litmus_reader.specs.Forms.{spelled_in}
+use Rattle.litmus_reader.specs.Places.{fault}
+use Rattle.litmus_reader.specs.Written.{Shape, store_imm, store_reg, load, set_imm, set_reg, fence, xchg, xadd}
+use Rattle.litmus_reader.specs.GrammarTable.{of_core}
 
 -- cells of the code, each as its tokens say
 abbrev pub cell_pieces : List (Bor (List Token)) → List (List Piece)
@@ -46,9 +49,6 @@ instr_of left names (xadd x reg) = do
 abbrev pub count_of : ℕ → List CoreInstr → ℕ
 count_of core instrs = count_by (λ i. i.core == core) instrs
 
-abbrev pub of_core : ℕ → Instr → CoreInstr
-of_core core instr = record { core = core; instr = instr }
-
 abbrev pub or_bad_instruction : ℕ → Option Shape → Result Shape Fault
 or_bad_instruction left (Some shape) = Ok shape
 or_bad_instruction left None = Err (fault BadInstruction left)
@@ -60,7 +60,7 @@ cell_in core instrs names [] = Ok (instrs, names)
 cell_in core instrs names (p ∷ ps) = do
   shape ← or_bad_instruction p.left (spelled_in (p ∷ ps))
   instr ← instr_of p.left names shape
-  if nat_lt (count_of core instrs) MAX_INSTRUCTIONS then Ok (instrs ++ of_core core instr.0 ∷ [], instr.1) else Err (fault TooLarge p.left)
+  if nat_lt (count_of core instrs) most_instructions then Ok (instrs ++ of_core core instr.0 ∷ [], instr.1) else Err (fault TooLarge p.left)
 
 -- the cells of a row from this core on
 unfoldable pub cells_in : ℕ → List CoreInstr → List (List ℕ) → List (List Piece) → Result (List CoreInstr × List (List ℕ)) Fault

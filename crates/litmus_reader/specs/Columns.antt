@@ -1,22 +1,16 @@
 -- The header row: `P0`, `P1`, .. parted by vertical bars and ended by `;`. (This project's profile.)
-use Rattle.std.specs.Prelude.{ℕ, zero, suc, ◌+◌, Bool, true, false, List, [], ◌∷◌, Option, Some, None, Result, Ok, Err, if◌then◌else◌}
+use Rattle.std.specs.Prelude.{ℕ, zero, suc, ◌+◌, Bool, true, false, List, Option, Some, None, Result, Ok, Err, if◌then◌else◌}
 use Rattle.std.specs.Str.{bytes_eq}
 use Rattle.litmus_tokens.specs.declared.token.Stop.{Stop}
 use Rattle.litmus_tokens.specs.declared.token.Symbol.TheVariants.{Semicolon, Bar}
 use Rattle.litmus_tokens.specs.Pieces.{Piece}
 use Rattle.litmus_tokens.specs.Front.{symbol_at, name_at}
-use Rattle.tso_model.specs.declared.limits.TheConstants.{MAX_CORES}
-use Rattle.litmus_reader.specs.declared.fault.Why.TheVariants.{BadHeaderRow, TooLarge}
+use Rattle.tso_model.specs.Limits.{most_cores}
+use Rattle.litmus_reader.specs.declared.fault.Why.TheVariants.{TooLarge}
 use Rattle.litmus_reader.specs.declared.fault.Fault.{Fault}
-use Rattle.litmus_reader.specs.declared.fault.Part.{Part}
-use Rattle.litmus_reader.specs.Faults.{◌>>=◌, fault, at_stop, left_of, or_unfit, there}
-
-abbrev pub in_columns : Stop → Part
-in_columns stop = record { why = BadHeaderRow; missing = at_stop (fault BadHeaderRow 0) stop }
-
--- `P` and the core's number, which has one digit
-abbrev pub core_name : ℕ → List ℕ
-core_name core = 80 ∷ (48 + core) ∷ []
+use Rattle.litmus_reader.specs.Faults.{◌>>=◌, or_unfit, there}
+use Rattle.litmus_reader.specs.Places.{fault, left_of, in_columns}
+use Rattle.litmus_reader.specs.GrammarColumns.{core_name}
 
 abbrev pub if_core : ℕ → List ℕ × List Piece → Option (List Piece)
 if_core core found = if bytes_eq found.0 (core_name core) then Some found.1 else None
@@ -41,4 +35,4 @@ columns stop (suc n) core ps = do
 
 -- how many cores the header row has, and what stands behind it
 abbrev pub columns_at : Stop → List Piece → Result (ℕ × List Piece) Fault
-columns_at stop ps = columns stop MAX_CORES 0 ps
+columns_at stop ps = columns stop most_cores 0 ps

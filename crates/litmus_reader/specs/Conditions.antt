@@ -3,23 +3,20 @@ use Rattle.std.specs.Prelude.{ℕ, zero, suc, ◌+◌, Bool, true, false, List, 
 use Rattle.tso_model.specs.Condition.{Claim, TruthClaim, RegClaim, LocClaim, NotClaim, AndClaim, OrClaim, Condition}
 use Rattle.tso_model.specs.declared.condition.Quantifier.{Quantifier}
 use Rattle.tso_model.specs.declared.condition.Quantifier.TheVariants.{Exists, NotExists, Forall}
-use Rattle.tso_model.specs.declared.limits.TheConstants.{MAX_ATOMS}
+use Rattle.tso_model.specs.Limits.{most_atoms, most_open}
 use Rattle.litmus_tokens.specs.declared.token.Stop.{Stop}
 use Rattle.litmus_tokens.specs.declared.token.Symbol.{Symbol}
 use Rattle.litmus_tokens.specs.declared.token.Symbol.TheVariants.{OpenRound, CloseRound, And, Or, Tilde}
 use Rattle.litmus_tokens.specs.Pieces.{Piece}
 use Rattle.litmus_tokens.specs.Front.{symbol_at}
-use Rattle.litmus_reader.specs.declared.fault.Why.TheVariants.{BadCondition, TooLarge}
+use Rattle.litmus_reader.specs.declared.fault.Why.TheVariants.{TooLarge}
 use Rattle.litmus_reader.specs.declared.fault.Fault.{Fault}
-use Rattle.litmus_reader.specs.declared.fault.Part.{Part}
-use Rattle.litmus_reader.specs.declared.condition.TheConstants.{MAX_OPEN}
-use Rattle.litmus_reader.specs.Faults.{◌>>=◌, fault, at_stop, left_of, or_unfit, there}
+use Rattle.litmus_reader.specs.Faults.{◌>>=◌, or_unfit, there}
 use Rattle.litmus_reader.specs.Keywords.{word_behind}
 use Rattle.litmus_reader.specs.Locations.{located}
-use Rattle.litmus_reader.specs.Items.{Setting, of_register, of_location, setting_at, word_at, core_of}
-
-abbrev pub in_condition : Stop → Part
-in_condition stop = record { why = BadCondition; missing = at_stop (fault BadCondition 0) stop }
+use Rattle.litmus_reader.specs.Items.{setting_at, word_at, core_of}
+use Rattle.litmus_reader.specs.Places.{fault, left_of, in_condition}
+use Rattle.litmus_reader.specs.Written.{Setting, of_register, of_location}
 
 -- the claim of a setting, and the names with its location's
 unfoldable pub claim_in : ℕ → ℕ → List (List ℕ) → Setting → Result (Claim × List (List ℕ)) Fault
@@ -45,7 +42,7 @@ claimed claim atoms names rest = record { claim = claim; atoms = atoms; names = 
 
 -- how many atoms there are with one more; one too many is refused at `left`
 abbrev pub one_more : ℕ → ℕ → Result ℕ Fault
-one_more left atoms = if nat_lt atoms MAX_ATOMS then Ok (atoms + 1) else Err (fault TooLarge left)
+one_more left atoms = if nat_lt atoms most_atoms then Ok (atoms + 1) else Err (fault TooLarge left)
 
 -- `true` or `false`
 unfoldable pub truth_at : List Piece → Option (Bool × List Piece)
@@ -158,7 +155,7 @@ with_claim quantifier c = conditioned (Some (record { quantifier = quantifier; c
 -- the proposition behind this quantifier
 unfoldable pub quantified : Stop → ℕ → Quantifier → List (List ℕ) → List Piece → Result Conditioned Fault
 quantified stop cores quantifier names ps = do
-  c ← proposition_at stop cores MAX_OPEN 0 names ps
+  c ← proposition_at stop cores most_open 0 names ps
   Ok (with_claim quantifier c)
 
 -- `exists` behind a `~`

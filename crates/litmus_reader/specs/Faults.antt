@@ -1,39 +1,16 @@
 -- Readings that may fail, and what a function that reads returns.
-use Rattle.std.specs.Prelude.{◌≡◌, ℕ, List, [], ◌∷◌, Option, Some, None, Result, Ok, Err}
-use Rattle.litmus_tokens.specs.declared.token.Stop.{Stop}
-use Rattle.litmus_tokens.specs.declared.token.Stop.TheVariants as stops
+use Rattle.std.specs.Prelude.{◌≡◌, List, Option, Some, None, Result, Ok, Err}
 use Rattle.litmus_tokens.specs.Pieces.{Piece}
-use Rattle.litmus_reader.specs.declared.fault.Why.{Why}
-use Rattle.litmus_reader.specs.declared.fault.Why.TheVariants.{BadToken, Unclosed}
 use Rattle.litmus_reader.specs.declared.fault.Fault.{Fault}
 use Rattle.litmus_reader.specs.declared.fault.Part.{Part}
 use Rattle.litmus_reader.specs.declared.fault.ReadError.{ReadError}
 use Rattle.litmus_reader.specs.declared.fault.ReadError.TheVariants as errors
+use Rattle.litmus_reader.specs.Places.{unfit}
 
 infixl 10 ◌>>=◌
 abbrev pub ◌>>=◌ : {A B : Type 0} → Result A Fault → (A → Result B Fault) → Result B Fault
 (Ok x) >>= f = f x
 (Err e) >>= f = Err e
-
--- a refusal, at the place from which so many bytes of the text stand
-abbrev pub fault : Why → ℕ → Fault
-fault why left = record { why = why; left = left }
-
--- where the tokens run out: the lexical fault that ended them, or at the end of the text this one
-abbrev pub at_stop : Fault → Stop → Fault
-at_stop end stops.End = end
-at_stop end (stops.BadToken left) = fault BadToken left
-at_stop end (stops.Unclosed left) = fault Unclosed left
-
--- the place of the first token, or of the end
-abbrev pub left_of : List Piece → ℕ
-left_of [] = 0
-left_of (p ∷ ps) = p.left
-
--- what a part of the text answers where the token at the front doesn't fit, or where there is none
-abbrev pub unfit : Part → List Piece → Fault
-unfit part [] = part.missing
-unfit part (p ∷ ps) = fault part.why p.left
 
 -- what is there, and else the token at the front doesn't fit
 abbrev pub or_unfit : {A : Type 0} → Part → List Piece → Option A → Result A Fault

@@ -1,7 +1,6 @@
 -- The instructions as they are spelled in cells. (This project's profile.)
 use Rattle.std.specs.Prelude.{ℕ, List, [], ◌∷◌, codes, Option, Some, None, if◌then◌else◌}
 use Rattle.tso_model.specs.Registers.{same_letters}
-use Rattle.tso_model.specs.declared.register.Reg.{Reg}
 use Rattle.litmus_tokens.specs.Terms.{decimal}
 use Rattle.litmus_tokens.specs.Pieces.{Piece}
 use Rattle.litmus_tokens.specs.Front.{name_at}
@@ -9,17 +8,7 @@ use Rattle.litmus_reader.specs.declared.form.Form.{Form}
 use Rattle.litmus_reader.specs.declared.form.Form.TheVariants as code
 use Rattle.litmus_reader.specs.Faults.{there}
 use Rattle.litmus_reader.specs.Operands.{Place, in_memory, in_register, constant, two_operands}
-
--- an instruction with the name of its location; a number of any size
-pub data Shape : Type 0 where
-  store_imm : (name : List ℕ) → (value : ℕ) → Shape
-  store_reg : (name : List ℕ) → (reg : Reg) → Shape
-  load : (reg : Reg) → (name : List ℕ) → Shape
-  set_imm : (reg : Reg) → (value : ℕ) → Shape
-  set_reg : (reg other : Reg) → Shape
-  fence : Shape
-  xchg : (name : List ℕ) → (reg : Reg) → Shape
-  xadd : (name : List ℕ) → (reg : Reg) → Shape
+use Rattle.litmus_reader.specs.Written.{Shape, store_imm, store_reg, load, set_imm, set_reg, fence, xchg, xadd}
 
 abbrev pub shape_of : Form → Shape
 shape_of (code.StoreImm name digits) = store_imm name.now (decimal digits.now)

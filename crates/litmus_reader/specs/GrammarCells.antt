@@ -5,7 +5,7 @@ use Rattle.tso_model.specs.Registers.{register_named, same_letters}
 use Rattle.tso_model.specs.declared.register.Reg.{Reg}
 use Rattle.litmus_tokens.specs.declared.token.Symbol.TheVariants.{OpenSquare, CloseSquare, Comma, Dollar}
 use Rattle.litmus_tokens.specs.Terms.{Term, number, name, symbol, decimal}
-use Rattle.litmus_reader.specs.Forms.{Shape, store_imm, store_reg, load, set_imm, set_reg, fence, xchg, xadd}
+use Rattle.litmus_reader.specs.Written.{Shape, store_imm, store_reg, load, set_imm, set_reg, fence, xchg, xadd}
 
 -- `v` or `$v`
 pub data IsConstant : List Term → ℕ → Type 0 where

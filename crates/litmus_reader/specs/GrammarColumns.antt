@@ -1,9 +1,12 @@
 -- Which tokens spell a header row of so many cores. (This project's profile.)
 use Rattle.std.specs.Prelude.{◌≤◌, ℕ, ◌+◌, List, [], ◌∷◌}
-use Rattle.tso_model.specs.declared.limits.TheConstants.{MAX_CORES}
+use Rattle.tso_model.specs.Limits.{most_cores}
 use Rattle.litmus_tokens.specs.declared.token.Symbol.TheVariants.{Semicolon, Bar}
 use Rattle.litmus_tokens.specs.Terms.{Term, name, symbol}
-use Rattle.litmus_reader.specs.Columns.{core_name}
+
+-- `P` and the core's number, which has one digit
+abbrev pub core_name : ℕ → List ℕ
+core_name core = 80 ∷ (48 + core) ∷ []
 
 -- the columns from this core's on, and how many cores there are with them
 pub data AreColumns : ℕ → List Term → ℕ → Type 0 where
@@ -15,4 +18,4 @@ pub data AreColumns : ℕ → List Term → ℕ → Type 0 where
 -- `P0`, `P1`, .. parted by vertical bars and ended by `;`
 pub record IsHeaderRow (ts : List Term) (cores : ℕ) : Type 0 where
   pub columns : AreColumns 0 ts cores
-  pub few : cores ≤ MAX_CORES
+  pub few : cores ≤ most_cores

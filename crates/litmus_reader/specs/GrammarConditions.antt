@@ -1,30 +1,16 @@
 -- Which tokens spell which proposition. (This project's profile.)
-use Rattle.std.specs.Prelude.{◌≡◌, ◌<◌, ◌≤◌, ℕ, zero, suc, ◌+◌, ◌^◌, Bool, true, false, List, [], ◌∷◌, ◌++◌, length, codes, None, Result, Ok}
+use Rattle.std.specs.Prelude.{◌<◌, ◌≤◌, ℕ, zero, suc, ◌+◌, ◌^◌, Bool, true, false, List, [], ◌∷◌, ◌++◌, length, codes}
 use Rattle.tso_model.specs.Condition.{Claim, TruthClaim, RegClaim, LocClaim, NotClaim, AndClaim, OrClaim}
 use Rattle.litmus_tokens.specs.declared.token.Symbol.{Symbol}
 use Rattle.litmus_tokens.specs.declared.token.Symbol.TheVariants.{OpenRound, CloseRound, And, Or, Tilde}
 use Rattle.litmus_tokens.specs.Terms.{Term, name, symbol, decimal}
 use Rattle.litmus_tokens.specs.Front.{is_symbol_term}
-use Rattle.litmus_tokens.specs.Pieces.{Piece}
-use Rattle.tso_model.specs.declared.limits.TheConstants.{MAX_ATOMS, MAX_LOCATIONS}
-use Rattle.litmus_reader.specs.Conditions.{Claimed, claimed, Proposition, Conditioned, conditioned, with_claim}
-use Rattle.litmus_reader.specs.declared.fault.Fault.{Fault}
-use Rattle.litmus_reader.specs.declared.condition.TheConstants.{MAX_OPEN}
+use Rattle.tso_model.specs.Limits.{most_atoms, most_locations, most_open}
 use Rattle.tso_model.specs.declared.condition.Quantifier.{Quantifier}
 use Rattle.tso_model.specs.declared.condition.Quantifier.TheVariants.{Exists, NotExists, Forall}
-use Rattle.litmus_reader.specs.Locations.{number_of}
-use Rattle.litmus_reader.specs.Grammar.{terms}
-use Rattle.litmus_reader.specs.GrammarNames.{numbered}
-use Rattle.litmus_reader.specs.Items.{Setting, of_register, of_location}
+use Rattle.litmus_reader.specs.GrammarNames.{numbered, number_of}
 use Rattle.litmus_reader.specs.GrammarItems.{IsSetting}
-
--- a proposition as it is spelled: a location is its name, a core its digits, and a number of any size
-pub data Phrase : Type 0 where
-  truth : Bool → Phrase
-  atom : Setting → Phrase
-  negation : Phrase → Phrase
-  both : Phrase → Phrase → Phrase
-  either : Phrase → Phrase → Phrase
+use Rattle.litmus_reader.specs.Written.{Setting, of_register, of_location, Phrase, truth, atom, negation, both, either}
 
 -- `true`, `false`, `c:REG=v`, `x=v` or `[x]=v`
 pub data IsAtom : List Term → Phrase → Type 0 where
@@ -112,8 +98,8 @@ begins_with s (t ∷ ts) = is_symbol_term s t
 -- behind so many atoms, and behind what named these locations, a phrase is within the limits of a test with so many cores
 pub record IsWithin (cores atoms : ℕ) (names : List (List ℕ)) (p : Phrase) : Type 0 where
   pub fits : Fits cores p
-  pub few : atoms + atoms_of p ≤ MAX_ATOMS
-  pub room : length (numbered names (locations_in p)) ≤ MAX_LOCATIONS
+  pub few : atoms + atoms_of p ≤ most_atoms
+  pub room : length (numbered names (locations_in p)) ≤ most_locations
 
 -- `exists`, `forall` or `~ exists`
 pub data IsQuantifier : List Term → Quantifier → Type 0 where
@@ -123,49 +109,4 @@ pub data IsQuantifier : List Term → Quantifier → Type 0 where
 
 -- a condition: a quantifier and a proposition
 pub data IsCondition : List Term → Quantifier → Phrase → Type 0 where
-  condition : (ts us : List Term) (quantifier : Quantifier) (p : Phrase) → IsQuantifier ts quantifier → IsProposition (IsUnit MAX_OPEN) us p → IsCondition (ts ++ us) quantifier p
-
--- ---- held against readings
-
--- what is read of a phrase, where this stands behind it
-abbrev pub given_by : ℕ → List (List ℕ) → Phrase → List Piece → Claimed
-given_by atoms names p rest = claimed (claim_of (numbered names (locations_in p)) p) (atoms + atoms_of p) (numbered names (locations_in p)) rest
-
--- a reading gives this phrase, and leaves these tokens
-pub record ReadsPhrase (reading : Proposition) (atoms : ℕ) (names : List (List ℕ)) (p : Phrase) (back : List Term) (ps : List Piece) : Type 0 where
-  pub rest : List Piece
-  pub is : reading atoms names ps ≡ Ok (given_by atoms names p rest)
-  pub behind : terms rest ≡ back
-
--- what was read is a phrase within the limits that the tokens at the front spell
-pub record SpellsPhrase (Is : List Term → Phrase → Type 0) (cores atoms : ℕ) (names : List (List ℕ)) (ps : List Piece) (c : Claimed) : Type 0 where
-  pub ts : List Term
-  pub phrase : Phrase
-  pub is : Is ts phrase
-  pub parts : terms ps ≡ ts ++ terms c.rest
-  pub within : IsWithin cores atoms names phrase
-  pub given : c ≡ given_by atoms names phrase c.rest
-
--- what is read of a condition, where this stands behind it
-abbrev pub condition_by : List (List ℕ) → Quantifier → Phrase → List Piece → Conditioned
-condition_by names quantifier p rest = with_claim quantifier (given_by 0 names p rest)
-
--- a reading gives this condition, and leaves these tokens
-pub record ReadsCondition (reading : Result Conditioned Fault) (names : List (List ℕ)) (quantifier : Quantifier) (p : Phrase) (back : List Term) : Type 0 where
-  pub rest : List Piece
-  pub is : reading ≡ Ok (condition_by names quantifier p rest)
-  pub behind : terms rest ≡ back
-
--- what was read is a condition within the limits that the tokens at the front spell
-pub record SpellsCondition (cores : ℕ) (names : List (List ℕ)) (ps : List Piece) (c : Conditioned) : Type 0 where
-  pub ts : List Term
-  pub quantifier : Quantifier
-  pub phrase : Phrase
-  pub is : IsCondition ts quantifier phrase
-  pub parts : terms ps ≡ ts ++ terms c.rest
-  pub within : IsWithin cores 0 names phrase
-  pub given : c ≡ condition_by names quantifier phrase c.rest
-
--- what was read is no condition: nothing was taken
-abbrev pub ReadsNone : List (List ℕ) → List Piece → Conditioned → Type 0
-ReadsNone names ps c = c ≡ conditioned None names ps
+  condition : (ts us : List Term) (quantifier : Quantifier) (p : Phrase) → IsQuantifier ts quantifier → IsProposition (IsUnit most_open) us p → IsCondition (ts ++ us) quantifier p

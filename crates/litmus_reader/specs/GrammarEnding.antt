@@ -3,25 +3,17 @@
 use Rattle.std.specs.Prelude.{◌≡◌, ◌≤◌, ℕ, List, [], ◌∷◌, length, codes, Option, Some, None}
 use Rattle.tso_model.specs.Condition.{Condition}
 use Rattle.tso_model.specs.declared.condition.Quantifier.{Quantifier}
-use Rattle.tso_model.specs.declared.limits.TheConstants.{MAX_LOCATIONS}
+use Rattle.tso_model.specs.Limits.{most_locations}
 use Rattle.litmus_tokens.specs.declared.token.Stop.{Stop}
 use Rattle.litmus_tokens.specs.declared.token.Stop.TheVariants.{End}
 use Rattle.litmus_tokens.specs.declared.token.Symbol.TheVariants.{OpenSquare}
 use Rattle.litmus_tokens.specs.Terms.{Term, name, symbol}
 use Rattle.litmus_tokens.specs.Pieces.{Piece, pieces_of}
-use Rattle.litmus_reader.specs.Observed.{from_place}
 use Rattle.litmus_reader.specs.Grammar.{terms}
-use Rattle.litmus_reader.specs.GrammarNames.{numbered}
-use Rattle.litmus_reader.specs.GrammarConditions.{Phrase, IsCondition, IsWithin, locations_in, claim_of}
+use Rattle.litmus_reader.specs.GrammarConditions.{IsCondition, IsWithin, locations_in, claim_of}
 use Rattle.litmus_reader.specs.GrammarText.{ClosesBrackets}
-
--- a condition as it is written
-pub record Asked : Type 0 where
-  pub quantifier : Quantifier
-  pub phrase : Phrase
-
-abbrev pub asked : Quantifier → Phrase → Option Asked
-asked quantifier phrase = Some (record { quantifier = quantifier; phrase = phrase })
+use Rattle.litmus_reader.specs.Places.{from_place}
+use Rattle.litmus_reader.specs.Written.{Phrase, Asked, asked}
 
 -- nothing, or a condition
 pub data MayAsk : List Term → Option Asked → Type 0 where
@@ -55,5 +47,5 @@ condition_of names (Some c) = Some (record { quantifier = c.quantifier; claim = 
 
 -- behind what named these locations, it is within the limits of a test with so many cores
 abbrev pub IsAskedWithin : ℕ → List (List ℕ) → Option Asked → Type 0
-IsAskedWithin cores names None = length names ≤ MAX_LOCATIONS
+IsAskedWithin cores names None = length names ≤ most_locations
 IsAskedWithin cores names (Some c) = IsWithin cores 0 names c.phrase

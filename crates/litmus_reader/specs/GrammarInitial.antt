@@ -1,17 +1,15 @@
 -- Which tokens spell which initial state, and what it says of a test. (This project's profile.)
-use Rattle.std.specs.Prelude.{◌≡◌, ℕ, ◌^◌, ◌≤◌, Bool, true, false, not, List, [], ◌∷◌, ◌++◌, length, map, Ok, nat_lt, IsTrue, ◌==◌, ◌&&◌, if◌then◌else◌}
+use Rattle.std.specs.Prelude.{ℕ, ◌^◌, ◌≤◌, Bool, true, false, not, List, [], ◌∷◌, ◌++◌, length, map, nat_lt, IsTrue, ◌==◌, ◌&&◌, if◌then◌else◌}
 use Rattle.std.specs.List.{list_any, list_all, range_with_len}
 use Rattle.std.specs.Str.{bytes_eq}
 use Rattle.tso_model.specs.Registers.{index_of}
 use Rattle.tso_model.specs.declared.register.Reg.{Reg}
 use Rattle.tso_model.specs.declared.register.Reg.TheVariants.{Eax, Ebx, Ecx, Edx, Esi, Edi}
-use Rattle.tso_model.specs.declared.limits.TheConstants.{MAX_LOCATIONS}
+use Rattle.tso_model.specs.Limits.{most_locations}
 use Rattle.litmus_tokens.specs.declared.token.Symbol.TheVariants.{OpenCurly, CloseCurly, Semicolon}
 use Rattle.litmus_tokens.specs.Terms.{Term, symbol, decimal}
-use Rattle.litmus_reader.specs.Items.{Setting, of_register, of_location}
-use Rattle.litmus_reader.specs.Initial.{Initial, words_of, registers_of}
 use Rattle.litmus_reader.specs.GrammarItems.{IsSetting}
-use Rattle.litmus_reader.specs.GrammarNames.{numbered}
+use Rattle.litmus_reader.specs.Written.{Setting, of_register, of_location}
 
 -- ---- what is spelled
 
@@ -57,7 +55,7 @@ names_in (of_location x v ∷ rest) = x ∷ names_in rest
 pub record Fits (settings : List Setting) : Type 0 where
   pub once : IsTrue (each_once settings)
   pub values : IsTrue (list_all (λ s. nat_lt (value_of s) (2 ^ 32)) settings)
-  pub few : length (names_in settings) ≤ MAX_LOCATIONS
+  pub few : length (names_in settings) ≤ most_locations
 
 abbrev pub has_core : ℕ → Setting → Bool
 has_core cores (of_register core reg v) = nat_lt (decimal core) cores
@@ -92,11 +90,3 @@ first_registers_of settings core = map (λ reg. first_register core reg 0 settin
 -- each core's first registers, 0 where none is given
 abbrev pub first_registers : List Setting → ℕ → List (List ℕ)
 first_registers settings cores = map (first_registers_of settings) (range_with_len 0 cores)
-
--- What has been read is what the settings say: the names; the first words, whatever names come behind these; and the first
--- registers of a test that has all their cores, where no other test has any.
-pub record Says (settings : List Setting) (i : Initial) : Type 0 where
-  pub names : i.names ≡ numbered [] (names_in settings)
-  pub words : (others : List (List ℕ)) → words_of (length (numbered i.names others)) i.words ≡ first_words settings (numbered i.names others)
-  pub registers : (cores : ℕ) → IsTrue (has_cores cores settings) → registers_of cores i.registers ≡ Ok (first_registers settings cores)
-  pub cores : (cores : ℕ) (registers : List (List ℕ)) → registers_of cores i.registers ≡ Ok registers → IsTrue (has_cores cores settings)

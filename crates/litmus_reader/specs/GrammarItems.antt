@@ -6,7 +6,7 @@ use Rattle.tso_model.specs.Registers.{register_named}
 use Rattle.tso_model.specs.declared.register.Reg.{Reg}
 use Rattle.litmus_tokens.specs.declared.token.Symbol.TheVariants.{Equals, Colon, OpenSquare, CloseSquare}
 use Rattle.litmus_tokens.specs.Terms.{Term, number, name, symbol, decimal}
-use Rattle.litmus_reader.specs.Items.{Setting, of_register, of_location}
+use Rattle.litmus_reader.specs.Written.{Setting, of_register, of_location}
 
 pub data IsSetting : List Term → Setting → Type 0 where
   -- `c:REG=v`

@@ -1,26 +1,33 @@
 -- Which tokens spell which rows, and the instructions that these say. (This project's profile.)
-use Rattle.std.specs.Prelude.{◌≡◌, ◌<◌, ◌≤◌, ℕ, ◌+◌, ◌^◌, Bool, true, List, [], ◌∷◌, ◌++◌, length, map, count_by, Option, Some, None, Result, Ok, ◌==◌, ◌||◌}
+use Rattle.std.specs.Prelude.{◌<◌, ◌≤◌, ℕ, ◌+◌, ◌^◌, Bool, true, List, [], ◌∷◌, ◌++◌, length, map, count_by, Option, Some, None, ◌==◌, ◌||◌, false, codes}
 use Rattle.tso_model.specs.declared.instruction.Instr.{Instr}
 use Rattle.tso_model.specs.declared.instruction.Instr.TheVariants.{StoreImm, StoreReg, Load, SetImm, SetReg, Fence, Xchg, Xadd}
-use Rattle.tso_model.specs.declared.limits.TheConstants.{MAX_INSTRUCTIONS, MAX_LOCATIONS}
+use Rattle.tso_model.specs.Limits.{most_instructions, most_locations}
 use Rattle.litmus_tokens.specs.declared.token.Symbol.TheVariants.{Tilde}
-use Rattle.litmus_tokens.specs.Terms.{Term}
-use Rattle.litmus_tokens.specs.Front.{is_symbol_term}
-use Rattle.litmus_tokens.specs.Pieces.{Piece}
-use Rattle.litmus_reader.specs.declared.fault.Fault.{Fault}
+use Rattle.litmus_tokens.specs.Terms.{Term, number, name, symbol}
+use Rattle.litmus_tokens.specs.Front.{is_symbol_term, is_symbol}
 use Rattle.litmus_reader.specs.declared.cell.CoreInstr.{CoreInstr}
-use Rattle.litmus_reader.specs.Locations.{location, number_of}
-use Rattle.litmus_reader.specs.Forms.{Shape, store_imm, store_reg, load, set_imm, set_reg, fence, xchg, xadd}
-use Rattle.litmus_reader.specs.Cells.{of_core}
-use Rattle.litmus_reader.specs.Rows.{ends_rows_term, ends_rows, Rows, rows}
-use Rattle.litmus_reader.specs.Grammar.{terms}
-use Rattle.litmus_reader.specs.GrammarNames.{numbered}
+use Rattle.litmus_reader.specs.GrammarNames.{numbered, location, number_of}
 use Rattle.litmus_reader.specs.GrammarRows.{IsRow}
+use Rattle.std.specs.Str.{bytes_eq}
+use Rattle.litmus_tokens.specs.Pieces.{Piece}
+use Rattle.litmus_reader.specs.Written.{Shape, store_imm, store_reg, load, set_imm, set_reg, fence, xchg, xadd}
 
 -- rows one after the other
 pub data AreRows (cores : ℕ) : List Term → List (List (Option Shape)) → Type 0 where
   none : AreRows cores [] []
   more : (ts us : List Term) (row : List (Option Shape)) (others : List (List (Option Shape))) → IsRow cores ts row → AreRows cores us others → AreRows cores (ts ++ us) (row ∷ others)
+
+-- `locations`, `exists` and `forall`
+abbrev pub ends_rows_term : Term → Bool
+ends_rows_term (number n) = false
+ends_rows_term (name x) = bytes_eq x (codes "locations") || bytes_eq x (codes "exists") || bytes_eq x (codes "forall")
+ends_rows_term (symbol s) = false
+
+-- the end of the tokens, or a token with which no row begins
+unfoldable pub ends_rows : List Piece → Bool
+ends_rows [] = true
+ends_rows (p ∷ ps) = ends_rows_term p.term || is_symbol Tilde p
 
 -- nothing stands there, or a token with which no row begins
 abbrev pub ends_table : List Term → Bool
@@ -75,6 +82,9 @@ instr_with names fence = Fence
 instr_with names (xchg x reg) = Xchg (location (number_of names x)) reg
 instr_with names (xadd x reg) = Xadd (location (number_of names x)) reg
 
+abbrev pub of_core : ℕ → Instr → CoreInstr
+of_core core instr = record { core = core; instr = instr }
+
 -- all instructions, each with its core
 abbrev pub instrs_with : List (List ℕ) → List Placed → List CoreInstr
 instrs_with names entries = map (λ e. of_core e.core (instr_with names e.shape)) entries
@@ -99,27 +109,5 @@ ValuesFit (e ∷ others) = ValueFits e.shape × ValuesFit others
 -- behind what named these locations, entries are within the limits of a test
 pub record AreWithin (names : List (List ℕ)) (entries : List Placed) : Type 0 where
   pub values : ValuesFit entries
-  pub few : (core : ℕ) → count_by (λ e. e.core == core) entries ≤ MAX_INSTRUCTIONS
-  pub room : length (numbered names (locations_of entries)) ≤ MAX_LOCATIONS
-
--- ---- held against readings
-
--- what is read of entries behind these names, where this stands behind them
-abbrev pub rows_by : List (List ℕ) → List Placed → List Piece → Rows
-rows_by names entries rest = rows (instrs_with (numbered names (locations_of entries)) entries) (numbered names (locations_of entries)) rest
-
--- a reading gives these entries, and leaves these tokens
-pub record ReadsPlaced (reading : Result Rows Fault) (names : List (List ℕ)) (entries : List Placed) (back : List Term) : Type 0 where
-  pub rest : List Piece
-  pub is : reading ≡ Ok (rows_by names entries rest)
-  pub behind : terms rest ≡ back
-
--- what was read are rows within the limits that the tokens at the front spell, and no row stands behind them
-pub record SpellsRows (cores : ℕ) (names : List (List ℕ)) (ps : List Piece) (r : Rows) : Type 0 where
-  pub ts : List Term
-  pub table : List (List (Option Shape))
-  pub are : AreRows cores ts table
-  pub parts : terms ps ≡ ts ++ terms r.rest
-  pub within : AreWithin names (placed_in table)
-  pub given : r ≡ rows_by names (placed_in table) r.rest
-  pub ended : ends_rows r.rest ≡ true
+  pub few : (core : ℕ) → count_by (λ e. e.core == core) entries ≤ most_instructions
+  pub room : length (numbered names (locations_of entries)) ≤ most_locations

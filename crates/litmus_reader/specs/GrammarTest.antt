@@ -1,27 +1,19 @@
 -- Which text spells which test. (This project's profile.)
-use Rattle.std.specs.Prelude.{◌≡◌, ◌≤◌, ℕ, List, [], ◌++◌, length, Option, IsTrue}
+use Rattle.std.specs.Prelude.{◌≡◌, ◌≤◌, ℕ, List, [], ◌++◌, length, IsTrue, ◌+◌, zero, suc, ◌∷◌, map, filter, ◌==◌}
 use Rattle.tso_model.specs.Litmus.{Litmus}
 use Rattle.litmus_tokens.specs.Terms.{Term}
 use Rattle.litmus_tokens.specs.Pieces.{Piece, pieces_of}
-use Rattle.litmus_reader.specs.declared.header.TheConstants.{MAX_TEXT}
-use Rattle.litmus_reader.specs.Items.{Setting}
-use Rattle.litmus_reader.specs.Forms.{Shape}
-use Rattle.litmus_reader.specs.Reading.{programs_from}
+use Rattle.litmus_reader.specs.Limits.{longest_text}
 use Rattle.litmus_reader.specs.Grammar.{terms}
 use Rattle.litmus_reader.specs.GrammarNames.{numbered}
 use Rattle.litmus_reader.specs.GrammarText.{IsHeaderLine, AreInformationLines}
 use Rattle.litmus_reader.specs.GrammarInitial.{IsInitialState, Fits, has_cores, names_in, first_words, first_registers}
 use Rattle.litmus_reader.specs.GrammarColumns.{IsHeaderRow}
 use Rattle.litmus_reader.specs.GrammarTable.{AreRows, AreWithin, placed_in, instrs_with, locations_of}
-use Rattle.litmus_reader.specs.GrammarEnding.{Asked, IsEnding, IsAskedWithin, names_asked, condition_of}
-
--- a test as it is written: locations by their names, cores by their digits, numbers of any size
-pub record Written : Type 0 where
-  pub name : List ℕ
-  pub settings : List Setting
-  pub cores : ℕ
-  pub table : List (List (Option Shape))
-  pub asked : Option Asked
+use Rattle.litmus_reader.specs.GrammarEnding.{IsEnding, IsAskedWithin, names_asked, condition_of}
+use Rattle.tso_model.specs.declared.instruction.Instr.{Instr}
+use Rattle.litmus_reader.specs.declared.cell.CoreInstr.{CoreInstr}
+use Rattle.litmus_reader.specs.Written.{Written}
 
 -- ---- the text
 
@@ -41,7 +33,7 @@ pub record IsBody (braces : List ℕ) (w : Written) : Type 0 where
 
 -- a text is a header line, information lines and a body
 pub record IsText (text : List ℕ) (w : Written) : Type 0 where
-  pub small : length text ≤ MAX_TEXT
+  pub small : length text ≤ longest_text
   pub behind : List ℕ
   pub braces : List ℕ
   pub header : IsHeaderLine text w.name behind
@@ -57,6 +49,15 @@ located_in_rows w = numbered (numbered [] (names_in w.settings)) (locations_of (
 -- all locations: those of the condition stand last
 abbrev pub located : Written → List (List ℕ)
 located w = numbered (located_in_rows w) (names_asked w.asked)
+
+-- a core's program: its instructions, in the order of the rows
+abbrev pub program_of : List CoreInstr → ℕ → List Instr
+program_of instrs core = map (λ i. i.instr) (filter (λ i. i.core == core) instrs)
+
+-- the programs of n cores from this one on
+abbrev pub programs_from : ℕ → ℕ → List CoreInstr → List (List Instr)
+programs_from core zero instrs = []
+programs_from core (suc n) instrs = program_of instrs core ∷ programs_from (core + 1) n instrs
 
 -- the test that is written
 abbrev pub test_written : Written → Litmus

@@ -1,12 +1,10 @@
 -- Which bytes spell a header line, information lines, and the brackets of `locations [..]`. White space and comments,
 -- and that they end, are the lexical layer's. (This project's profile.)
-use Rattle.std.specs.Prelude.{◌≡◌, ℕ, Bool, List, [], ◌∷◌, ◌++◌, codes, None, Ok, IsTrue, IsFalse, ◌==◌, not}
-use Rattle.std.specs.List.{list_all}
-use Rattle.std.specs.Char.{is_ascii_alphabetic}
+use Rattle.std.specs.Prelude.{◌≡◌, ℕ, Bool, List, [], ◌∷◌, ◌++◌, codes, None, Ok, IsTrue, IsFalse, ◌==◌, not, ◌-◌, false, length, take, drop, nat_eq, Option, Some, ◌&&◌, ◌||◌, if◌then◌else◌}
+use Rattle.std.specs.List.{list_all, prefix_len, suffix_len, starts_with}
+use Rattle.std.specs.Char.{is_ascii_alphabetic, is_ascii_alphanumeric}
 use Rattle.tso_model.specs.Names.{is_test_name}
 use Rattle.litmus_tokens.specs.Gap.{gap_end}
-use Rattle.litmus_reader.specs.Header.{is_blank, is_margin}
-use Rattle.litmus_reader.specs.Information.{continues_key}
 
 -- behind white space and comments stand these bytes
 abbrev pub IsBehindGap : List ℕ → List ℕ → Type 0
@@ -24,6 +22,28 @@ pub data EndsLine : List ℕ → List ℕ → List ℕ → Type 0 where
   at_end : (line : List ℕ) → IsTrue (list_all is_in_line line) → EndsLine line line []
 
 -- ---- the header line
+
+-- space and tab
+abbrev pub is_blank : ℕ → Bool
+is_blank b = (b == 32) || (b == 9)
+
+-- what is taken off both ends of a name: space, tab and CR
+abbrev pub is_margin : ℕ → Bool
+is_margin b = is_blank b || (b == 13)
+
+abbrev pub without_margin_behind : List ℕ → List ℕ
+without_margin_behind bytes = take (length bytes - suffix_len is_margin bytes) bytes
+
+unfoldable pub trimmed : List ℕ → List ℕ
+trimmed bytes = without_margin_behind (drop (prefix_len is_margin bytes) bytes)
+
+abbrev pub begins_blank : List ℕ → Bool
+begins_blank [] = false
+begins_blank (b ∷ bs) = is_blank b
+
+-- the name in a header line: behind `X86` and at least one space or tab
+unfoldable pub name_in : List ℕ → Option (List ℕ)
+name_in line = if starts_with nat_eq line (codes "X86") && begins_blank (drop 3 line) then Some (trimmed (drop 3 line)) else None
 
 -- `X86`, a space or tab, and the name with spaces, tabs and CRs before and behind it
 pub record NamesTest (line name : List ℕ) : Type 0 where
@@ -45,6 +65,10 @@ pub record IsHeaderLine (text name behind : List ℕ) : Type 0 where
   pub names : NamesTest line name
 
 -- ---- information lines
+
+-- letters, digits, `_`, `-`, spaces and tabs
+unfoldable pub continues_key : ℕ → Bool
+continues_key b = is_ascii_alphanumeric b || (b == 95) || (b == 45) || (b == 32) || (b == 9)
 
 -- not a quotation mark
 abbrev pub is_quoted : ℕ → Bool

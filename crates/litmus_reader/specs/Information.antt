@@ -1,12 +1,14 @@
 -- Information lines, between the header line and the initial state. (This project's profile.)
-use Rattle.std.specs.Prelude.{ℕ, zero, suc, Bool, false, List, [], ◌∷◌, length, drop, Option, Some, None, Result, Ok, Err, ◌==◌, ◌||◌, if◌then◌else◌}
+use Rattle.std.specs.Prelude.{ℕ, zero, suc, Bool, false, List, [], ◌∷◌, length, drop, Option, Some, None, Result, Ok, Err, ◌==◌, if◌then◌else◌}
 use Rattle.std.specs.List.{prefix_len}
-use Rattle.std.specs.Char.{is_ascii_alphabetic, is_ascii_alphanumeric}
+use Rattle.std.specs.Char.{is_ascii_alphabetic}
 use Rattle.litmus_tokens.specs.Gap.{gap_end}
 use Rattle.litmus_reader.specs.declared.fault.Why.TheVariants.{Unclosed, BadToken}
 use Rattle.litmus_reader.specs.declared.fault.Fault.{Fault}
-use Rattle.litmus_reader.specs.Faults.{◌>>=◌, fault}
+use Rattle.litmus_reader.specs.Faults.{◌>>=◌}
 use Rattle.litmus_reader.specs.Header.{from_gap, first_line}
+use Rattle.litmus_reader.specs.Places.{fault}
+use Rattle.litmus_reader.specs.GrammarText.{continues_key}
 
 -- what stands behind the next quotation mark; no comment is looked for before it
 unfoldable pub quotation_end : List ℕ → Option (List ℕ)
@@ -17,10 +19,6 @@ quotation_end (b ∷ bs) = if b == 34 then Some bs else quotation_end bs
 abbrev pub closed_quotation : ℕ → Option (List ℕ) → Result (List ℕ) Fault
 closed_quotation left (Some rest) = Ok rest
 closed_quotation left None = Err (fault Unclosed left)
-
--- letters, digits, `_`, `-`, spaces and tabs
-unfoldable pub continues_key : ℕ → Bool
-continues_key b = is_ascii_alphanumeric b || (b == 95) || (b == 45) || (b == 32) || (b == 9)
 
 -- what stands behind a key's `=` and the rest of its line
 abbrev pub key_value : ℕ → List ℕ → Result (List ℕ) Fault

@@ -1,5 +1,5 @@
 -- The initial state. (This project's profile.)
-use Rattle.std.specs.Prelude.{ℕ, ◌-◌, zero, suc, Bool, false, List, [], ◌∷◌, ◌++◌, length, replicate, Result, Ok, Err, nat_lt, slice_index_or, slice_set, ◌==◌, ◌&&◌, ◌||◌, if◌then◌else◌}
+use Rattle.std.specs.Prelude.{ℕ, ◌-◌, zero, suc, Bool, List, [], ◌∷◌, ◌++◌, length, replicate, Result, Ok, Err, nat_lt, slice_index_or, slice_set, ◌==◌, ◌&&◌, if◌then◌else◌}
 use Rattle.std.specs.List.{list_any}
 use Rattle.std.specs.Str.{bytes_eq}
 use Rattle.tso_model.specs.Registers.{index_of}
@@ -8,22 +8,21 @@ use Rattle.tso_model.specs.declared.register.Reg.{Reg}
 use Rattle.litmus_tokens.specs.declared.token.Stop.{Stop}
 use Rattle.litmus_tokens.specs.declared.token.Symbol.TheVariants.{OpenCurly, CloseCurly, Semicolon}
 use Rattle.litmus_tokens.specs.Pieces.{Piece}
-use Rattle.litmus_tokens.specs.Front.{is_symbol, symbol_at}
-use Rattle.litmus_reader.specs.declared.fault.Why.TheVariants.{BadToken, BadInit, Unclosed, TwiceInit}
+use Rattle.litmus_tokens.specs.Front.{symbol_at}
+use Rattle.litmus_reader.specs.declared.fault.Why.TheVariants.{BadToken, Unclosed, TwiceInit}
 use Rattle.litmus_reader.specs.declared.fault.Fault.{Fault}
 use Rattle.litmus_reader.specs.declared.fault.Part.{Part}
 use Rattle.litmus_reader.specs.declared.initial.RegisterWord.{RegisterWord}
-use Rattle.litmus_reader.specs.Faults.{◌>>=◌, fault, at_stop, left_of, unfit, or_unfit, there}
+use Rattle.litmus_reader.specs.Faults.{◌>>=◌, or_unfit, there}
 use Rattle.litmus_reader.specs.Locations.{located}
-use Rattle.litmus_reader.specs.Items.{Setting, of_register, of_location, setting_at, word_at, core_of}
+use Rattle.litmus_reader.specs.Items.{setting_at, word_at, core_of}
+use Rattle.litmus_reader.specs.Places.{fault, at_stop, left_of, unfit, in_initial}
+use Rattle.litmus_reader.specs.Written.{Setting, of_register, of_location}
+use Rattle.litmus_reader.specs.RefusedInitial.{ends_item}
 
 -- before its `{`
 abbrev pub before_initial : Stop → Part
 before_initial stop = record { why = BadToken; missing = at_stop (fault Unclosed 0) stop }
-
--- in the initial state, whose `{` stands at `left`
-abbrev pub in_initial : ℕ → Stop → Part
-in_initial left stop = record { why = BadInit; missing = at_stop (fault Unclosed left) stop }
 
 -- a register's first word, and the place of the item that gives it; the core is its digits
 pub record Given : Type 0 where
@@ -63,11 +62,6 @@ judged left i (of_location x v) =
     located left i.names x >>= λ loc.
     if nat_lt loc.0.0 (length i.words) then Err (fault TwiceInit left)
     else Ok (initial loc.1 (i.words ++ value ∷ []) i.registers)
-
--- whether an item ends here, by `;` or `}`
-unfoldable pub ends_item : List Piece → Bool
-ends_item [] = false
-ends_item (p ∷ ps) = is_symbol Semicolon p || is_symbol CloseCurly p
 
 -- the item at the front, judged once its end is there, and what stands from that end on
 unfoldable pub item_in : Part → Initial → List Piece → Result (Initial × List Piece) Fault

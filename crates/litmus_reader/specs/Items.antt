@@ -12,12 +12,9 @@ use Rattle.litmus_reader.specs.declared.fault.Fault.{Fault}
 use Rattle.litmus_reader.specs.declared.fault.Part.{Part}
 use Rattle.litmus_reader.specs.declared.item.Item.{Item}
 use Rattle.litmus_reader.specs.declared.item.Item.TheVariants as code
-use Rattle.litmus_reader.specs.Faults.{◌>>=◌, fault, or_unfit, there}
-
--- A register's or a location's value, of any size. The core is its digits, without leading zeros.
-pub data Setting : Type 0 where
-  of_register : (core : List ℕ) → (reg : Reg) → (value : ℕ) → Setting
-  of_location : (name : List ℕ) → (value : ℕ) → Setting
+use Rattle.litmus_reader.specs.Faults.{◌>>=◌, or_unfit, there}
+use Rattle.litmus_reader.specs.Places.{fault}
+use Rattle.litmus_reader.specs.Written.{Setting, of_register, of_location}
 
 abbrev pub setting_of : Item → Setting
 setting_of (code.Register core reg value) = of_register core.now reg (decimal value.now)

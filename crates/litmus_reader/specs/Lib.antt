@@ -1,3 +1,6 @@
+pub mod Limits
+pub mod Written
+pub mod Places
 pub mod Why
 pub mod Faults
 pub mod Header
@@ -25,6 +28,12 @@ pub mod GrammarInitial
 pub mod GrammarText
 pub mod GrammarEnding
 pub mod GrammarTable
-pub mod GrammarBehind
 pub mod GrammarTest
+pub mod Misfits
+pub mod RefusedBytes
+pub mod RefusedInitial
+pub mod RefusedTable
+pub mod RefusedConditions
+pub mod RefusedEnding
+pub mod Refusals
 pub mod Spelling

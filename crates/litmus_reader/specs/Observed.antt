@@ -1,20 +1,16 @@
 -- `locations [..]`, which is read and has no effect. (This project's profile.)
-use Rattle.std.specs.Prelude.{ℕ, zero, suc, ◌-◌, List, [], ◌∷◌, length, drop, codes, Option, Some, None, Result, Ok, Err, ◌==◌, if◌then◌else◌}
+use Rattle.std.specs.Prelude.{ℕ, zero, suc, List, [], ◌∷◌, length, codes, Option, Some, None, Result, Ok, Err, ◌==◌, if◌then◌else◌}
 use Rattle.litmus_tokens.specs.declared.token.Stop.{Stop}
 use Rattle.litmus_tokens.specs.declared.token.Symbol.TheVariants.{OpenSquare}
 use Rattle.litmus_tokens.specs.Gap.{gap_end}
 use Rattle.litmus_tokens.specs.Pieces.{Piece}
 use Rattle.litmus_tokens.specs.Front.{symbol_at}
-use Rattle.litmus_reader.specs.declared.fault.Why.TheVariants.{BadToken, Unclosed}
+use Rattle.litmus_reader.specs.declared.fault.Why.TheVariants.{Unclosed}
 use Rattle.litmus_reader.specs.declared.fault.Fault.{Fault}
-use Rattle.litmus_reader.specs.declared.fault.Part.{Part}
-use Rattle.litmus_reader.specs.Faults.{◌>>=◌, fault, at_stop, left_of, or_unfit, there}
+use Rattle.litmus_reader.specs.Faults.{◌>>=◌, or_unfit, there}
 use Rattle.litmus_reader.specs.Header.{from_gap}
 use Rattle.litmus_reader.specs.Keywords.{word_behind}
-
--- behind the word, where a `[` has to be
-abbrev pub behind_word : Stop → Part
-behind_word stop = record { why = BadToken; missing = at_stop (fault BadToken 0) stop }
+use Rattle.litmus_reader.specs.Places.{fault, left_of, behind_word, from_place}
 
 -- the first byte: the `]`, or one that is passed over; where there is none, the `[` at `left` is unclosed
 abbrev pub square_by : (List ℕ → Result (List ℕ) Fault) → ℕ → List ℕ → Result (List ℕ) Fault
@@ -29,10 +25,6 @@ square_within (suc n) left bytes = from_gap (gap_end None bytes) >>= λ at. squa
 -- what stands behind the next `]`
 unfoldable pub square_end : ℕ → List ℕ → Result (List ℕ) Fault
 square_end left bytes = square_within (suc (length bytes)) left bytes
-
--- the bytes from the place on from which so many stand
-abbrev pub from_place : List ℕ → ℕ → List ℕ
-from_place text left = drop (length text - left) text
 
 -- what stands behind the brackets, any bytes being allowed in them
 unfoldable pub brackets_end : List ℕ → Stop → List Piece → Result (List ℕ) Fault

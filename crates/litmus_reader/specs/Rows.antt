@@ -1,19 +1,20 @@
 -- The rows of the table. (This project's profile.)
-use Rattle.std.specs.Prelude.{ℕ, zero, suc, Bool, true, false, List, [], ◌∷◌, length, codes, Result, Ok, Err, nat_lt, ◌==◌, ◌||◌, if◌then◌else◌}
-use Rattle.std.specs.List.{slice_split, position_or_len, before_first, after_first}
-use Rattle.std.specs.Str.{bytes_eq}
-use Rattle.litmus_tokens.specs.declared.token.Symbol.TheVariants.{Semicolon, Bar, Tilde}
+use Rattle.std.specs.Prelude.{ℕ, zero, suc, List, [], length, Result, Ok, Err, nat_lt, ◌==◌, if◌then◌else◌}
+use Rattle.std.specs.List.{position_or_len, before_first, after_first}
+use Rattle.litmus_tokens.specs.declared.token.Symbol.TheVariants.{Semicolon}
 use Rattle.litmus_tokens.specs.declared.token.Stop.{Stop}
-use Rattle.litmus_tokens.specs.Terms.{Term, number, name, symbol}
 use Rattle.litmus_tokens.specs.Pieces.{Piece}
 use Rattle.litmus_tokens.specs.Front.{is_symbol}
 use Rattle.litmus_reader.specs.declared.fault.Why.TheVariants.{Unclosed, WrongCells}
 use Rattle.litmus_reader.specs.declared.fault.Fault.{Fault}
 use Rattle.litmus_reader.specs.declared.cell.CoreInstr.{CoreInstr}
-use Rattle.litmus_reader.specs.Faults.{◌>>=◌, fault, at_stop, left_of}
+use Rattle.litmus_reader.specs.Faults.{◌>>=◌}
 use Rattle.litmus_reader.specs.Initial.{Given, registers_of}
 use Rattle.litmus_reader.specs.Columns.{columns_at}
 use Rattle.litmus_reader.specs.Cells.{cells_in}
+use Rattle.litmus_reader.specs.Places.{fault, at_stop, left_of}
+use Rattle.litmus_reader.specs.RefusedTable.{cells_of}
+use Rattle.litmus_reader.specs.GrammarTable.{ends_rows}
 
 -- a row, and what stands behind its `;`; one without a `;` is unclosed
 unfoldable pub row_at : Stop → List Piece → Result (List Piece × List Piece) Fault
@@ -21,9 +22,6 @@ row_at stop ps =
     if nat_lt (position_or_len (is_symbol Semicolon) ps) (length ps)
     then Ok (before_first (is_symbol Semicolon) ps, after_first (is_symbol Semicolon) ps)
     else Err (at_stop (fault Unclosed (left_of ps)) stop)
-
-abbrev pub cells_of : List Piece → List (List Piece)
-cells_of row = slice_split (is_symbol Bar) row
 
 -- as many cells as cores, or the row is refused at its first token
 abbrev pub counted : ℕ → ℕ → List (List Piece) → Result (List (List Piece)) Fault
@@ -34,17 +32,6 @@ unfoldable pub row_in : ℕ → ℕ → List CoreInstr → List (List ℕ) → L
 row_in cores left instrs names row = do
   cells ← counted cores left (cells_of row)
   cells_in 0 instrs names cells
-
--- `locations`, `exists` and `forall`
-abbrev pub ends_rows_term : Term → Bool
-ends_rows_term (number n) = false
-ends_rows_term (name x) = bytes_eq x (codes "locations") || bytes_eq x (codes "exists") || bytes_eq x (codes "forall")
-ends_rows_term (symbol s) = false
-
--- the end of the tokens, or a token with which no row begins
-unfoldable pub ends_rows : List Piece → Bool
-ends_rows [] = true
-ends_rows (p ∷ ps) = ends_rows_term p.term || is_symbol Tilde p
 
 -- what all rows give: the instructions, the names of locations, and what stands behind the rows
 pub record Rows : Type 0 where

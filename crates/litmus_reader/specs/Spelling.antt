@@ -1,11 +1,12 @@
 -- Which text spells which test, and which refusal every other text gets.
-use Rattle.std.specs.Prelude.{◌≡◌, ℕ, List, Option, Some, None, Result, Ok, Err}
+use Rattle.std.specs.Prelude.{◌≡◌, ◌⊎◌, ℕ, List}
 use Rattle.tso_model.specs.Litmus.{Litmus}
 use Rattle.litmus_tokens.specs.Line.{line_of}
 use Rattle.litmus_reader.specs.declared.fault.Fault.{Fault}
 use Rattle.litmus_reader.specs.declared.fault.TextFault.{TextFault}
-use Rattle.litmus_reader.specs.Reading.{reading_of}
-use Rattle.litmus_reader.specs.GrammarTest.{Written, IsText, KeepsLimits, test_written}
+use Rattle.litmus_reader.specs.GrammarTest.{IsText, KeepsLimits, test_written}
+use Rattle.litmus_reader.specs.Refusals.{IsFault}
+use Rattle.litmus_reader.specs.Written.{Written}
 
 -- the text spells this test: by the grammar of texts, within the limits
 pub record SpellsTest (text : List ℕ) (t : Litmus) : Type 0 where
@@ -14,18 +15,16 @@ pub record SpellsTest (text : List ℕ) (t : Litmus) : Type 0 where
   pub limits : KeepsLimits written
   pub says : t ≡ test_written written
 
--- a refusal with the line of its place
-abbrev pub refusal : List ℕ → Fault → TextFault
-refusal text f = record { line = line_of text f.left; why = f.why }
+-- the text is refused so: something is at fault where nothing before it is, and the line is that of its place
+pub record IsRefused (text : List ℕ) (refusal : TextFault) : Type 0 where
+  pub at_fault : Fault
+  pub is : IsFault text at_fault
+  pub line : refusal.line ≡ line_of text at_fault.left
+  pub why : refusal.why ≡ at_fault.why
 
-abbrev pub refusal_in : List ℕ → Result Litmus Fault → Option TextFault
-refusal_in text (Ok test) = None
-refusal_in text (Err f) = Some (refusal text f)
-
--- the refusal of a text that spells no test
-abbrev pub refusal_of : List ℕ → Option TextFault
-refusal_of text = refusal_in text (reading_of text)
-
--- a text that spells no test is refused so
-unfoldable pub IsRefused : List ℕ → TextFault → Type 0
-IsRefused text fault = refusal_of text ≡ Some fault
+-- each text spells one test or gets one refusal, and never both
+pub record IsDecided (text : List ℕ) : Type 0 where
+  pub one_test : (t other : Litmus) → SpellsTest text t → SpellsTest text other → t ≡ other
+  pub one_refusal : (refusal other : TextFault) → IsRefused text refusal → IsRefused text other → refusal ≡ other
+  pub never_both : (t : Litmus) (refusal : TextFault) → SpellsTest text t → IsRefused text refusal → ⊥
+  pub always : ((t : Litmus) × SpellsTest text t) ⊎ ((refusal : TextFault) × IsRefused text refusal)

@@ -3,13 +3,14 @@ ghost use Rattle.std.specs.Option.{option_map};
 ghost use Rattle.litmus_tokens.specs.Pieces.{pieces};
 ghost use Rattle.litmus_reader.specs.Faults.{seen};
 ghost use Rattle.litmus_reader.specs.Columns as spec;
+ghost use Rattle.litmus_reader.specs.Places as places;
 
 use crate::fault::{Fault, Part, Why, at_stop, left_of};
 use litmus_tokens::{Stop, Symbol, Token, after_symbol, name_at};
 use tso_model::limits::MAX_CORES;
 
 fn in_columns(stop: Stop) -> Part
-    ensures { result ≡ spec.in_columns stop }
+    ensures { result ≡ places.in_columns stop }
 {
     let end = Fault {
         why: Why::BadHeaderRow,

@@ -7,10 +7,12 @@ ghost use Rattle.litmus_reader.specs.Locations.{texts};
 ghost use Rattle.litmus_reader.specs.Items.{setting_of};
 ghost use Rattle.litmus_reader.specs.Conditions as spec;
 ghost use Rattle.litmus_reader.specs.Conditions.{claimed, conditioned};
+ghost use Rattle.litmus_reader.specs.Places as places;
 
 use crate::fault::{Fault, Part, ReadError, Why, at_stop, left_of};
 use crate::item::{Item, core_of, item_at, word_at};
 use crate::keyword::after_word;
+use crate::limits::MAX_OPEN;
 use crate::location::located;
 use indexmap::IndexSet;
 use litmus_tokens::{Stop, Symbol, Token, after_symbol};
@@ -18,11 +20,8 @@ use std::alloc::Global;
 use tso_model::limits::MAX_ATOMS;
 use tso_model::{Cond, Prop, Quantifier};
 
-/// So many negations and brackets of a condition may be open at once.
-pub const MAX_OPEN: usize = 64;
-
 fn in_condition(stop: Stop) -> Part
-    ensures { result ≡ spec.in_condition stop }
+    ensures { result ≡ places.in_condition stop }
 {
     let end = Fault {
         why: Why::BadCondition,

@@ -4,6 +4,7 @@ ghost use Rattle.litmus_tokens.specs.Pieces.{pieces};
 ghost use Rattle.litmus_reader.specs.Why.{name_of};
 ghost use Rattle.litmus_reader.specs.Faults as spec;
 ghost use Rattle.litmus_reader.specs.declared.fault.ReadError.TheVariants as errors;
+ghost use Rattle.litmus_reader.specs.Places as places;
 
 use litmus_tokens::{Stop, Token};
 use std::alloc::{AllocError, AllocFailed};
@@ -114,7 +115,7 @@ pub struct Part {
 impl Part {
     /// The refusal of the token at the front, or of its absence.
     pub fn unfit(self, tokens: &[Token<'_>]) -> Fault
-        ensures { result ≡ spec.unfit self (pieces tokens.now) }
+        ensures { result ≡ places.unfit self (pieces tokens.now) }
     {
         match tokens.first() {
             Some(first) => Fault {
@@ -139,7 +140,7 @@ impl Part {
 /// The refusal where the tokens run out: the lexical fault that ended them, or at the end of the
 /// text `end`.
 pub fn at_stop(end: Fault, stop: Stop) -> Fault
-    ensures { result ≡ spec.at_stop end stop }
+    ensures { result ≡ places.at_stop end stop }
 {
     match stop {
         Stop::End => end,
@@ -156,7 +157,7 @@ pub fn at_stop(end: Fault, stop: Stop) -> Fault
 
 /// The place of the first token, or of the end.
 pub fn left_of(tokens: &[Token<'_>]) -> usize
-    ensures { result ≡ spec.left_of (pieces tokens.now) }
+    ensures { result ≡ places.left_of (pieces tokens.now) }
 {
     match tokens.first() {
         Some(first) => first.left,

@@ -4,26 +4,9 @@ ghost use Rattle.tso_model.specs.Litmus.{Litmus};
 ghost use Rattle.litmus_reader.specs.Reading.{reading_of};
 ghost use Rattle.litmus_reader.specs.Spelling.{SpellsTest};
 
-use crate::grammar::header_rows_are_read_as_they_are_spelled;
-use crate::grammar_behind::parts_leave_the_last_tokens;
-use crate::grammar_initial::initial_states_are_read_as_they_are_spelled;
-use crate::grammar_table::tables_are_read_as_they_are_spelled;
-use crate::grammar_text::{
-    brackets_are_read_as_they_are_spelled, header_lines_are_read_as_they_are_spelled,
-    information_is_read_as_it_is_spelled,
-};
-
 /// A text is read as the test that it spells, and spells the test as which it is read; so a text
 /// spells one test at most. A law of the definitions, with nothing to run.
 pub fn texts_are_read_as_they_are_spelled()
     ensures again { (text : List ℕ) (t : Litmus) → SpellsTest text t → reading_of text ≡ Ok t }
     ensures takes { (text : List ℕ) (t : Litmus) → reading_of text ≡ Ok t → SpellsTest text t }
-{
-    header_lines_are_read_as_they_are_spelled();
-    information_is_read_as_it_is_spelled();
-    initial_states_are_read_as_they_are_spelled();
-    header_rows_are_read_as_they_are_spelled();
-    tables_are_read_as_they_are_spelled();
-    parts_leave_the_last_tokens();
-    brackets_are_read_as_they_are_spelled();
-}
+{}

@@ -1,19 +1,17 @@
 ghost use Rattle.std.specs.Prelude.{◌≡◌, ◌≤◌, ◌==◌, ◌&&◌, nat_lt, length, position, None, IfOk};
 ghost use Rattle.std.specs.Option.{option_map};
 ghost use Rattle.std.specs.List.{prefix_len, suffix_len, list_all};
+ghost use Rattle.tso_model.specs.Limits.{longest_test_name};
 ghost use Rattle.tso_model.specs.Names as names;
 ghost use Rattle.litmus_tokens.specs.Gap.{gap_end};
 ghost use Rattle.litmus_reader.specs.Header as header;
 ghost use Rattle.litmus_reader.specs.Faults.{seen};
+ghost use Rattle.litmus_reader.specs.GrammarText as grammar;
 
 use crate::fault::{Fault, Why, at_stop};
+use crate::limits::{MAX_TEST_NAME, MAX_TEXT};
 use litmus_tokens::after_gap;
 use tso_model::names::is_test_name;
-
-/// A text has at most so many bytes.
-pub const MAX_TEXT: usize = 65_536;
-
-const MAX_TEST_NAME: usize = 64;
 
 /// The text, if it isn't too large.
 pub fn sized(text: &[u8]) -> Result<&[u8], Fault>
@@ -46,35 +44,35 @@ pub fn behind_gap(bytes: &[u8]) -> Result<&[u8], Fault>
 }
 
 fn is_blank(byte: u8) -> bool
-    ensures { result ≡ header.is_blank byte }
+    ensures { result ≡ grammar.is_blank byte }
 {
     byte == b' ' || byte == b'\t'
 }
 
 fn is_margin(byte: u8) -> bool
-    ensures { result ≡ header.is_margin byte }
+    ensures { result ≡ grammar.is_margin byte }
 {
     is_blank(byte) || byte == b'\r'
 }
 
 fn margin_in_front(bytes: &[u8]) -> usize
-    ensures value { result ≡ prefix_len header.is_margin bytes.now }
+    ensures value { result ≡ prefix_len grammar.is_margin bytes.now }
     ensures within { result ≤ length bytes.now }
 {
     bytes.iter().take_while(|b| is_margin(**b)).count()
 }
 
 fn margin_behind(bytes: &[u8]) -> usize
-    ensures value { result ≡ suffix_len header.is_margin bytes.now }
+    ensures value { result ≡ suffix_len grammar.is_margin bytes.now }
     ensures within { result ≤ length bytes.now }
 {
     bytes.iter().rev().take_while(|b| is_margin(**b)).count()
 }
 
 /// The bytes without spaces, tabs and CRs at the two ends.
-#[tactic(auto, unfolding(crate::specs::Header::trimmed))]
+#[tactic(auto, unfolding(crate::specs::GrammarText::trimmed))]
 fn trimmed(bytes: &[u8]) -> &[u8]
-    ensures { result.now ≡ header.trimmed bytes.now }
+    ensures { result.now ≡ grammar.trimmed bytes.now }
 {
     let (_, rest) = bytes.split_at(margin_in_front(bytes));
     let (front, _) = rest.split_at(rest.len() - margin_behind(rest));
@@ -100,7 +98,7 @@ pub fn first_line(bytes: &[u8]) -> (&[u8], &[u8])
 }
 
 fn begins_blank(bytes: &[u8]) -> bool
-    ensures { result ≡ header.begins_blank bytes.now }
+    ensures { result ≡ grammar.begins_blank bytes.now }
 {
     match bytes.first() {
         Some(first) => is_blank(*first),
@@ -109,9 +107,9 @@ fn begins_blank(bytes: &[u8]) -> bool
 }
 
 /// The name that a header line gives, if it has the header's form.
-#[tactic(auto, unfolding(crate::specs::Header::name_in))]
+#[tactic(auto, unfolding(crate::specs::GrammarText::name_in))]
 fn name_in(line: &[u8]) -> Option<&[u8]>
-    ensures { option_map (λ x. x.now) result ≡ header.name_in line.now }
+    ensures { option_map (λ x. x.now) result ≡ grammar.name_in line.now }
 {
     if !line.starts_with(b"X86") {
         return None;
@@ -136,7 +134,7 @@ fn is_all_printable(bytes: &[u8]) -> bool
 }
 
 fn is_long_name(name: &[u8]) -> bool
-    ensures { result ≡ (nat_lt 64 (length name.now) && list_all names.is_printable name.now) }
+    ensures { result ≡ (nat_lt longest_test_name (length name.now) && list_all names.is_printable name.now) }
 {
     name.len() > MAX_TEST_NAME && is_all_printable(name)
 }

@@ -3,6 +3,7 @@ ghost use Rattle.std.specs.Option.{option_map};
 ghost use Rattle.std.specs.List.{prefix_len};
 ghost use Rattle.litmus_reader.specs.Faults.{seen};
 ghost use Rattle.litmus_reader.specs.Information as spec;
+ghost use Rattle.litmus_reader.specs.GrammarText as grammar;
 
 use crate::fault::{Fault, Why};
 use crate::header::{behind_gap, first_line};
@@ -23,15 +24,15 @@ fn after_quotation(bytes: &[u8]) -> Option<&[u8]>
     None
 }
 
-#[tactic(auto, unfolding(crate::specs::Information::continues_key))]
+#[tactic(auto, unfolding(crate::specs::GrammarText::continues_key))]
 fn continues_key(byte: u8) -> bool
-    ensures { result ≡ spec.continues_key byte }
+    ensures { result ≡ grammar.continues_key byte }
 {
     byte.is_ascii_alphanumeric() || matches!(byte, b'_' | b'-' | b' ' | b'\t')
 }
 
 fn key_len(bytes: &[u8]) -> usize
-    ensures value { result ≡ prefix_len spec.continues_key bytes.now }
+    ensures value { result ≡ prefix_len grammar.continues_key bytes.now }
     ensures within { result ≤ length bytes.now }
 {
     bytes.iter().take_while(|b| continues_key(**b)).count()

@@ -6,6 +6,8 @@ ghost use Rattle.litmus_reader.specs.Locations.{texts};
 ghost use Rattle.litmus_reader.specs.Items.{setting_of};
 ghost use Rattle.litmus_reader.specs.Initial as spec;
 ghost use Rattle.litmus_reader.specs.Initial.{given_of, initial};
+ghost use Rattle.litmus_reader.specs.Places as places;
+ghost use Rattle.litmus_reader.specs.RefusedInitial as refused;
 
 use crate::fault::{Fault, Part, ReadError, Why, at_stop, left_of};
 use crate::item::{Item, core_of, item_at, word_at};
@@ -49,7 +51,7 @@ fn before_initial(stop: Stop) -> Part
 }
 
 fn in_initial(left: usize, stop: Stop) -> Part
-    ensures { result ≡ spec.in_initial left stop }
+    ensures { result ≡ places.in_initial left stop }
 {
     Part {
         why: Why::BadInit,
@@ -117,9 +119,9 @@ fn note_item<'a>(
     Ok(())
 }
 
-#[tactic(auto, unfolding(crate::specs::Initial::ends_item))]
+#[tactic(auto, unfolding(crate::specs::RefusedInitial::ends_item))]
 fn ends_item(tokens: &[Token<'_>]) -> bool
-    ensures { result ≡ spec.ends_item (pieces tokens.now) }
+    ensures { result ≡ refused.ends_item (pieces tokens.now) }
 {
     match tokens.first() {
         Some(first) => {

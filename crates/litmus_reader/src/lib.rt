@@ -6,28 +6,28 @@
 //! it found and the tokens behind it, or the first fault.
 #![tactic(auto)]
 
-pub mod cell;
-pub mod columns;
-pub mod condition;
-pub mod fault;
-pub mod form;
-pub mod grammar;
-pub mod grammar_behind;
-pub mod grammar_initial;
-pub mod grammar_table;
-pub mod grammar_test;
-pub mod grammar_text;
-pub mod header;
-pub mod information;
-pub mod initial;
-pub mod item;
-pub mod keyword;
-pub mod location;
-pub mod observed;
-pub mod operand;
+mod cell;
+mod columns;
+mod condition;
+mod fault;
+mod form;
+mod grammar_test;
+mod header;
+mod information;
+mod initial;
+mod item;
+mod keyword;
+pub mod laws;
+mod limits;
+mod location;
+mod observed;
+mod operand;
 mod parts;
-pub mod reader;
-pub mod row;
+mod reader;
+mod refusals;
+mod row;
 
 pub use fault::{TextFault, Why};
+pub use limits::{MAX_OPEN, MAX_TEST_NAME, MAX_TEXT, limits_are_as_defined};
 pub use reader::read_test;
+pub use refusals::texts_are_decided;

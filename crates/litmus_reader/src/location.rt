@@ -2,6 +2,7 @@ ghost use Rattle.std.specs.Prelude.{◌≡◌, OnOk};
 ghost use Rattle.litmus_reader.specs.Faults.{Gives};
 ghost use Rattle.litmus_reader.specs.Locations as spec;
 ghost use Rattle.litmus_reader.specs.Locations.{texts};
+ghost use Rattle.litmus_reader.specs.GrammarNames as grammar;
 
 use crate::fault::{Fault, ReadError, Why};
 use indexmap::IndexSet;
@@ -10,7 +11,7 @@ use tso_model::{Loc, NoMemory};
 
 /// The number of a name: its own, or the next.
 fn number_of(names: &IndexSet<&[u8]>, name: &[u8]) -> usize
-    ensures { result ≡ spec.number_of (texts names.now.keys) name.now }
+    ensures { result ≡ grammar.number_of (texts names.now.keys) name.now }
 {
     match names.get_index_of(name) {
         Some(number) => number,
@@ -20,7 +21,7 @@ fn number_of(names: &IndexSet<&[u8]>, name: &[u8]) -> usize
 
 /// Puts a name behind the others where it is new.
 fn note<'a>(names: &mut IndexSet<&'a [u8]>, name: &'a [u8]) -> Result<(), NoMemory>
-    ensures { OnOk result (texts names.new.keys ≡ spec.with_name (texts names.old.keys) name.now) }
+    ensures { OnOk result (texts names.new.keys ≡ grammar.with_name (texts names.old.keys) name.now) }
 {
     names.insert(name)?;
     Ok(())

@@ -3,6 +3,7 @@ ghost use Rattle.std.specs.Option.{option_map};
 ghost use Rattle.litmus_tokens.specs.Pieces.{pieces};
 ghost use Rattle.litmus_reader.specs.Faults.{seen};
 ghost use Rattle.litmus_reader.specs.Observed as spec;
+ghost use Rattle.litmus_reader.specs.Places as places;
 
 use crate::fault::{Fault, Part, Why, at_stop, left_of};
 use crate::header::behind_gap;
@@ -10,7 +11,7 @@ use crate::keyword::after_word;
 use litmus_tokens::{Stop, Symbol, Token, after_symbol};
 
 fn behind_word(stop: Stop) -> Part
-    ensures { result ≡ spec.behind_word stop }
+    ensures { result ≡ places.behind_word stop }
 {
     let end = Fault {
         why: Why::BadToken,
@@ -44,7 +45,7 @@ fn after_square(left: usize, bytes: &[u8]) -> Result<&[u8], Fault>
 }
 
 fn from_place(text: &[u8], left: usize) -> &[u8]
-    ensures { result.now ≡ spec.from_place text.now left }
+    ensures { result.now ≡ places.from_place text.now left }
 {
     let (_, rest) = text.split_at(text.len().saturating_sub(left));
     rest

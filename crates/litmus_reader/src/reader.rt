@@ -1,4 +1,4 @@
-ghost use Rattle.std.specs.Prelude.{◌≡◌, ◌≢◌, ◌≤◌, Ok, IfOk, IfErr, MatchResult, IsTrue};
+ghost use Rattle.std.specs.Prelude.{◌≡◌, ◌≢◌, ◌≤◌, Some, Ok, IfOk, IfErr, MatchResult, IsTrue};
 ghost use Rattle.std.specs.Option.{option_map};
 ghost use Rattle.std.specs.Str.{IsUtf8};
 ghost use Rattle.tso_model.specs.Litmus.{Litmus, IsTest};
@@ -9,6 +9,7 @@ ghost use Rattle.litmus_tokens.specs.Pieces.{pieces};
 ghost use Rattle.litmus_reader.specs.Faults.{seen, Gives};
 ghost use Rattle.litmus_reader.specs.Locations.{texts};
 ghost use Rattle.litmus_reader.specs.Reading as spec;
+ghost use Rattle.litmus_reader.specs.Reading.{refusal};
 ghost use Rattle.litmus_reader.specs.Spelling.{SpellsTest, IsRefused};
 
 use crate::condition::condition_at;
@@ -19,6 +20,7 @@ use crate::information::braces_at;
 use crate::initial::read_initial;
 use crate::observed::after_observed;
 use crate::parts::parts_of;
+use crate::refusals::texts_are_refused_as_they_are_read;
 use crate::row::read_table;
 use indexmap::IndexSet;
 use litmus_tokens::{Stop, Token, line_of, tokens_of};
@@ -141,18 +143,23 @@ pub fn read_test(alloc: Global, text: &[u8]) -> Result<Test, TextFault>
     // A refusal is the one that the text gets, and a text that gets one is answered with it.
     ensures refused { IfErr result (λ f. f.why ≢ Why.NoMemory → IsRefused text.now f) }
     ensures refuses { (fault : TextFault) → IsRefused text.now fault → MatchResult result (λ _. ⊥) (λ f. f.why ≢ Why.NoMemory → f ≡ fault) }
+    // Want of memory stands at no line.
+    ensures no_memory { IfErr result (λ f. f.why ≡ Why.NoMemory → f.line ≡ 0) }
 {
     texts_are_read_as_they_are_spelled();
+    texts_are_refused_as_they_are_read();
     read_whole(alloc, text)
 }
 
-#[tactic(auto, using(crate::proofs::Within::spelled_is_test), unfolding(crate::specs::Spelling::IsRefused))]
+#[tactic(auto, using(crate::proofs::Within::spelled_is_test), unfolding(crate::specs::Reading::refusal_of))]
 fn read_whole(alloc: Global, text: &[u8]) -> Result<Test, TextFault>
     ensures found { IfOk result (λ test. spec.reading_of text.now ≡ Ok test) }
     ensures only { (t : Litmus) → spec.reading_of text.now ≡ Ok t → MatchResult result (λ test. test ≡ t) (λ f. f.why ≡ Why.NoMemory) }
-    ensures refused { IfErr result (λ f. f.why ≢ Why.NoMemory → IsRefused text.now f) }
-    ensures refuses { (fault : TextFault) → IsRefused text.now fault → MatchResult result (λ _. ⊥) (λ f. f.why ≢ Why.NoMemory → f ≡ fault) }
+    ensures refused { IfErr result (λ f. f.why ≢ Why.NoMemory → spec.refusal_of text.now ≡ Some f) }
+    ensures refuses { (fault : TextFault) → spec.refusal_of text.now ≡ Some fault → MatchResult result (λ _. ⊥) (λ f. f.why ≢ Why.NoMemory → f ≡ fault) }
+    ensures no_memory { IfErr result (λ f. f.why ≡ Why.NoMemory → f.line ≡ 0) }
 {
+    texts_are_read_as_they_are_spelled();
     match read_parts(alloc, text) {
         Ok(parts) => {
             let test = Test::new(parts).unwrap();
@@ -162,11 +169,22 @@ fn read_whole(alloc: Global, text: &[u8]) -> Result<Test, TextFault>
             line: 0,
             why: Why::NoMemory,
         }),
-        Err(ReadError::Fault(fault)) => {
-            Err(TextFault {
-                line: line_of(text, fault.left),
-                why: fault.why,
-            })
-        }
+        Err(ReadError::Fault(fault)) => Err(refusal_for(text, fault)),
+    }
+}
+
+/// The refusal for a fault, with the line of its place; want of memory stands at no line.
+fn refusal_for(text: &[u8], fault: Fault) -> TextFault
+    ensures refusal { fault.why ≢ Why.NoMemory → result ≡ refusal text.now fault }
+    ensures why { result.why ≡ fault.why }
+    ensures no_memory { result.why ≡ Why.NoMemory → result.line ≡ 0 }
+{
+    let line = match fault.why {
+        Why::NoMemory => 0,
+        _ => line_of(text, fault.left),
+    };
+    TextFault {
+        line,
+        why: fault.why,
     }
 }

@@ -3,12 +3,15 @@ ghost use Rattle.litmus_tokens.specs.declared.token.Symbol.TheVariants.{Semicolo
 ghost use Rattle.litmus_tokens.specs.Pieces.{piece_of, pieces};
 ghost use Rattle.litmus_tokens.specs.Terms.{term_of};
 ghost use Rattle.litmus_tokens.specs.Front as front;
-ghost use Rattle.litmus_reader.specs.Faults.{seen, Gives, left_of};
+ghost use Rattle.litmus_reader.specs.Faults.{seen, Gives};
 ghost use Rattle.litmus_reader.specs.Locations.{texts};
 ghost use Rattle.litmus_reader.specs.Initial.{given_of};
 ghost use Rattle.litmus_reader.specs.Cells.{cell_pieces};
 ghost use Rattle.litmus_reader.specs.Rows as spec;
 ghost use Rattle.litmus_reader.specs.Rows.{rows, table};
+ghost use Rattle.litmus_reader.specs.Places.{left_of};
+ghost use Rattle.litmus_reader.specs.RefusedTable as refused;
+ghost use Rattle.litmus_reader.specs.GrammarTable as grammar;
 
 use crate::cell::{CoreInstr, read_cells};
 use crate::columns::columns_at;
@@ -47,7 +50,7 @@ fn row_at<'a, 'b>(
 
 /// The cells of a row.
 fn cells_of<'a, 'b>(alloc: Global, row: &'b [Token<'a>]) -> Result<Vec<&'b [Token<'a>]>, AllocError>
-    ensures { IfOk result (λ v. cell_pieces v.items ≡ spec.cells_of (pieces row.now)) }
+    ensures { IfOk result (λ v. cell_pieces v.items ≡ refused.cells_of (pieces row.now)) }
 {
     row.split(|t| is_symbol(Symbol::Bar, t)).collect(alloc)
 }
@@ -77,7 +80,7 @@ fn read_row<'a>(
 }
 
 fn ends_rows_term(lexeme: Lexeme<'_>) -> bool
-    ensures { result ≡ spec.ends_rows_term (term_of lexeme.entry) }
+    ensures { result ≡ grammar.ends_rows_term (term_of lexeme.entry) }
 {
     match lexeme {
         Lexeme::Name(name) => {
@@ -90,9 +93,9 @@ fn ends_rows_term(lexeme: Lexeme<'_>) -> bool
 }
 
 /// Whether no row begins with the token at the front, or no token is there.
-#[tactic(auto, unfolding(crate::specs::Rows::ends_rows))]
+#[tactic(auto, unfolding(crate::specs::GrammarTable::ends_rows))]
 fn ends_rows(tokens: &[Token<'_>]) -> bool
-    ensures { result ≡ spec.ends_rows (pieces tokens.now) }
+    ensures { result ≡ grammar.ends_rows (pieces tokens.now) }
 {
     match tokens.first() {
         Some(first) => ends_rows_term(first.lexeme) || is_symbol(Symbol::Tilde, first),

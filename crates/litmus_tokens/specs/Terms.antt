@@ -2,6 +2,7 @@
 use Rattle.std.specs.Prelude.{ℕ, ◌+◌, ◌-◌, ◌*◌, ◌^◌, Bool, List, [], ◌∷◌, length, take, drop, Option, Some, None, Result, Ok, Err, nat_lt, ◌==◌, ◌&&◌, if◌then◌else◌}
 use Rattle.std.specs.List.{prefix_len}
 use Rattle.std.specs.Char.{is_ascii_digit}
+use Rattle.tso_model.specs.Limits.{longest_name}
 use Rattle.tso_model.specs.Names.{begins_name, continues_name}
 use Rattle.litmus_tokens.specs.declared.token.Stop.{Stop}
 use Rattle.litmus_tokens.specs.declared.token.Stop.TheVariants.{End, BadToken}
@@ -79,9 +80,9 @@ run_of p bytes = (take (prefix_len p bytes) bytes, drop (prefix_len p bytes) byt
 abbrev pub number_of : List ℕ × List ℕ → Result (Term × List ℕ) Stop
 number_of run = Ok (number (without_zeros run.0), run.1)
 
--- a name has 32 bytes at most
+-- a name is no longer than a location's may be
 abbrev pub name_of : ℕ → List ℕ × List ℕ → Result (Term × List ℕ) Stop
-name_of left run = if nat_lt 32 (length run.0) then Err (BadToken left) else Ok (name run.0, run.1)
+name_of left run = if nat_lt longest_name (length run.0) then Err (BadToken left) else Ok (name run.0, run.1)
 
 abbrev pub symbol_or_bad : ℕ → Option (Symbol × List ℕ) → Result (Term × List ℕ) Stop
 symbol_or_bad left (Some found) = Ok (symbol found.0, found.1)

@@ -2,6 +2,7 @@ ghost use Rattle.std.specs.Prelude.{◌≡◌, ◌≤◌, ◌<◌, ◌==◌, len
 ghost use Rattle.std.specs.Option.{option_map};
 ghost use Rattle.std.specs.List.{prefix_len};
 ghost use Rattle.std.specs.Char as char;
+ghost use Rattle.tso_model.specs.Limits.{longest_name};
 ghost use Rattle.tso_model.specs.Names as names;
 ghost use Rattle.litmus_tokens.specs.Gap.{seen};
 ghost use Rattle.litmus_tokens.specs.Terms as terms;
@@ -17,6 +18,11 @@ use tso_model::names::{begins_name, continues_name};
 
 /// A longest name has so many bytes.
 pub const MAX_NAME: usize = 32;
+
+/// The limit is the number that the definitions have: a law, with nothing to run.
+pub fn limits_are_as_defined()
+    ensures { MAX_NAME ≡ longest_name }
+{}
 
 #[tactic(auto, using(crate::proofs::Pieces::prefix_len_some))]
 fn digits_len(bytes: &[u8]) -> usize

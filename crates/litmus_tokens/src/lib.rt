@@ -12,6 +12,6 @@ mod token;
 
 pub use front::{after_symbol, is_symbol, name_at, number_at};
 pub use gap::after_gap;
-pub use lexing::{tokens_of, word};
+pub use lexing::{limits_are_as_defined, tokens_of, word};
 pub use line::line_of;
 pub use token::{Lexeme, Stop, Symbol, Token, Tokens};

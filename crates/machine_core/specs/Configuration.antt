@@ -1,8 +1,14 @@
 -- What a contract sees of a machine's configuration. (This project's profile.)
-use Rattle.std.specs.Prelude.{ℕ}
+use Rattle.std.specs.Prelude.{ℕ, ◌≤◌}
+use Rattle.tso_model.specs.Limits.{least_depth, most_depth}
 use Rattle.snoop_bus.specs.Geometry.{Geometry}
+use Rattle.snoop_bus.specs.Geometry as shape
 
 -- how many stores each core's buffer holds, and the shape of each core's cache
 pub record Configuration : Type 0 where
   pub depth : ℕ
   pub shape : Geometry
+
+-- the depth and the shape of the caches are within their limits
+abbrev pub IsWithinLimits : Configuration → Type 0
+IsWithinLimits c = (least_depth ≤ c.depth) × (c.depth ≤ most_depth) × shape.IsWithinLimits c.shape

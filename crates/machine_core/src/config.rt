@@ -1,15 +1,12 @@
 ghost use Rattle.std.specs.Prelude.{◌≡◌, ◌≤◌, ◌↔◌, IsSome, IfSome};
-ghost use Rattle.snoop_bus.specs.Geometry.{IsWithinLimits};
+ghost use Rattle.snoop_bus.specs.Geometry.{IsLineSize};
+ghost use Rattle.tso_model.specs.Limits.{least_depth, most_depth};
+ghost use Rattle.machine_core.specs.Configuration.{IsWithinLimits};
 
 use snoop_bus::Shape;
-use snoop_bus::shape::{MAX_SETS, MAX_WAYS, WORDS};
+use snoop_bus::shape::{MAX_SETS, MAX_WAYS};
 use std::marker::Model;
-
-/// The least depth of a store buffer.
-pub const MIN_DEPTH: u8 = 1;
-
-/// The greatest depth of a store buffer.
-pub const MAX_DEPTH: u8 = store_buffer::MAX_DEPTH;
+use tso_model::limits::{MAX_DEPTH, MIN_DEPTH};
 
 /// How a machine is built: how many stores each core's buffer holds, and the shape of its cache.
 #[derive(Clone, Copy)]
@@ -19,10 +16,7 @@ pub struct Config {
 }
 
 impl Model for Config {
-    ghost use Rattle.std.specs.Prelude.{◌≤◌};
-    ghost use Rattle.snoop_bus.specs.Geometry.{IsWithinLimits};
-    ghost use Rattle.machine_core.specs.Configuration.{Configuration};
-    ghost use Rattle.machine_core.specs.declared.config.TheConstants.{MIN_DEPTH, MAX_DEPTH};
+    ghost use Rattle.machine_core.specs.Configuration.{Configuration, IsWithinLimits};
 
     ghost Value = { Configuration };
 
@@ -30,7 +24,7 @@ impl Model for Config {
 
     ghost inverse = { λ v. record { depth = v.depth; shape = v.shape } };
 
-    ghost invariant = { λ c. (MIN_DEPTH ≤ c.depth) × (c.depth ≤ MAX_DEPTH) × IsWithinLimits c.shape };
+    ghost invariant = { λ c. IsWithinLimits (record { depth = c.depth; shape = c.shape }) };
 }
 
 impl Config {
@@ -38,7 +32,7 @@ impl Config {
     /// depth isn't from `MIN_DEPTH` to `MAX_DEPTH`.
     pub fn new(depth: u8, shape: Shape) -> Option<Config>
         ensures value { IfSome result (λ c. c ≡ record { depth = depth; shape = shape }) }
-        ensures valid { IsSome result ↔ ((MIN_DEPTH ≤ depth) × (depth ≤ MAX_DEPTH)) }
+        ensures valid { IsSome result ↔ ((least_depth ≤ depth) × (depth ≤ most_depth)) }
     {
         // What a shape keeps is known from its readers.
         let _known = (shape.sets(), shape.ways(), shape.words());
@@ -52,8 +46,7 @@ impl Config {
     /// How many stores a core's buffer holds.
     pub fn depth(self) -> u8
         ensures value { result ≡ self.depth }
-        ensures within { (MIN_DEPTH ≤ result) × (result ≤ MAX_DEPTH) }
-        ensures shape { IsWithinLimits self.shape }
+        ensures within { IsWithinLimits self }
     {
         self.depth
     }
@@ -84,7 +77,7 @@ impl Config {
     /// How many words a line has.
     pub fn words(self) -> u8
         ensures value { result ≡ self.shape.words }
-        ensures within { result ≡ WORDS }
+        ensures within { IsLineSize result }
     {
         self.shape.words()
     }

@@ -1,12 +1,14 @@
 ghost use Rattle.std.specs.Prelude.{◌≡◌, ◌≢◌, ℕ, ◌<◌, ◌≤◌, [], IsOk, IfOk, OnErr, All, length, map, slice_get, take};
+ghost use Rattle.tso_model.specs.Limits.{least_depth, most_depth};
 ghost use Rattle.tso_model.specs.FlatMachine.{chosen, started, start};
 ghost use Rattle.tso_model.specs.Runs.{all_done};
 ghost use Rattle.snoop_bus.specs.Bus.{words_of};
+ghost use Rattle.snoop_bus.specs.Accesses.{memory_words_of};
 ghost use Rattle.machine_core.specs.Cores.{core_states};
 ghost use Rattle.machine_core.specs.Kept.{IsCore, FitsTest, state_in};
 ghost use Rattle.machine_core.specs.Performed.{Performs, effect_in};
 
-use crate::config::{Config, MAX_DEPTH};
+use crate::config::Config;
 use crate::processor::{Processor, drain as drain_core, step as step_core};
 use order_builder::Commits;
 use protocol_tables::Protocol;
@@ -55,7 +57,7 @@ pub fn begin<P: Protocol>(
 /// Each core of the test before its first instruction, with its first registers and an empty buffer
 /// of this depth.
 fn processors_of(alloc: Global, test: &Test, depth: u8) -> Result<Vec<Processor>, NoMemory>
-    requires { (0 < depth) × (depth ≤ MAX_DEPTH) }
+    requires { (least_depth ≤ depth) × (depth ≤ most_depth) }
     ensures states { IfOk result (λ ps. core_states 0 ps.items ≡ started 0 test.now.programs test.now.registers) }
     ensures depths { IfOk result (λ ps. (locations : ℕ) → All (IsCore depth locations) ps.items) }
     ensures count { IfOk result (λ ps. length ps.items ≡ length test.now.programs) }
@@ -171,7 +173,7 @@ pub fn memory_of<P: Protocol>(
     locations: u8,
 ) -> Result<Vec<u32>, NoMemory>
     requires { locations ≤ length (words_of bus.now) }
-    ensures { IfOk result (λ memory. memory.items ≡ take locations bus.now.memory) }
+    ensures { IfOk result (λ memory. memory.items ≡ take locations (memory_words_of bus.now)) }
 {
     let mut memory = Vec::new(alloc);
     for location in 0..locations {

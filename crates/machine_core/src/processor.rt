@@ -1,11 +1,11 @@
 ghost use Rattle.std.specs.Prelude.{◌≡◌, ◌≢◌, ℕ, ◌<◌, ◌≤◌, ◌++◌, ◌∷◌, List, [], IsOk, IfOk, OnOk, OnErr, All, length, map, filter, slice_index};
+ghost use Rattle.tso_model.specs.Limits.{most_instructions};
 ghost use Rattle.tso_model.specs.Litmus.{KnownLocation};
 ghost use Rattle.tso_model.specs.ProgramOrder.{writes_to};
 ghost use Rattle.tso_model.specs.Execution.{last_value};
 ghost use Rattle.tso_model.specs.Thread.{entry, value_in, with_value};
 ghost use Rattle.tso_model.specs.FlatMachine.{memory_after};
 ghost use Rattle.tso_model.specs.declared.execution.Kind.TheVariants.{LR, LW};
-ghost use Rattle.order_builder.specs.Noted.{room_for};
 ghost use Rattle.snoop_bus.specs.Bus.{words_of, cores_of};
 ghost use Rattle.machine_core.specs.Cores.{store_of, core_state, advanced, step_by, drain_by};
 
@@ -53,7 +53,7 @@ pub fn step<P: Protocol>(
     bus: &mut SnoopBus<P>,
     commits: &mut Commits,
 ) -> Result<Outcome, NoMemory>
-    requires place { processor.old.place < 32 }
+    requires place { processor.old.place < most_instructions }
     requires depth { 0 < processor.old.stores.depth }
     requires core { core.0 < cores_of bus.old }
     requires known { KnownLocation (length (words_of bus.old)) instr }
@@ -93,7 +93,7 @@ pub fn step<P: Protocol>(
 
 /// A plain store waits in the buffer, or stalls where that is full.
 fn buffer(processor: &mut Processor, loc: Loc, value: u32) -> Outcome
-    requires place { processor.old.place < 32 }
+    requires place { processor.old.place < most_instructions }
     requires depth { 0 < processor.old.stores.depth }
     ensures outcome { (core : ℕ) (memory : List ℕ) → result ≡ (step_by processor.old core memory (Instr.StoreImm loc value)).outcome }
     ensures after { (core : ℕ) (memory : List ℕ) → core_state core processor.new ≡ (step_by processor.old core memory (Instr.StoreImm loc value)).after }
@@ -123,7 +123,7 @@ fn load<P: Protocol>(
     bus: &mut SnoopBus<P>,
     commits: &mut Commits,
 ) -> Result<Outcome, NoMemory>
-    requires place { processor.old.place < 32 }
+    requires place { processor.old.place < most_instructions }
     requires core { core.0 < cores_of bus.old }
     requires known { loc.0 < length (words_of bus.old) }
 
@@ -138,7 +138,7 @@ fn load<P: Protocol>(
     ensures cores { cores_of bus.new ≡ cores_of bus.old }
     ensures stores { processor.new.stores ≡ processor.old.stores }
 {
-    commits.make_room(core, 1)?;
+    commits.make_room(1)?;
     let value = see(&processor.stores, core, loc, bus)?;
     commits.note(Entry {
         core,
@@ -177,7 +177,7 @@ fn see<P: Protocol>(
 
 /// A register move.
 fn set(processor: &mut Processor, reg: Reg, value: u32) -> Outcome
-    requires { processor.old.place < 32 }
+    requires { processor.old.place < most_instructions }
     ensures outcome { result ≡ Outcome.Moved }
     ensures after { processor.new ≡ advanced processor.old (with_value processor.old.registers reg value) }
 {
@@ -187,7 +187,7 @@ fn set(processor: &mut Processor, reg: Reg, value: u32) -> Outcome
 
 /// A fence waits until nothing is buffered.
 fn fence(processor: &mut Processor, core: Core, commits: &mut Commits) -> Result<Outcome, NoMemory>
-    requires { processor.old.place < 32 }
+    requires { processor.old.place < most_instructions }
     ensures outcome { (memory : List ℕ) → IfOk result (λ o. o ≡ (step_by processor.old core.0 memory Instr.Fence).outcome) }
     ensures after { (memory : List ℕ) → OnOk result (core_state core.0 processor.new ≡ (step_by processor.old core.0 memory Instr.Fence).after) }
     ensures commits { (memory : List ℕ) → OnOk result (commits.new.entries ≡ commits.old.entries ++ (step_by processor.old core.0 memory Instr.Fence).commits) }
@@ -221,7 +221,7 @@ fn exchange<P: Protocol>(
     bus: &mut SnoopBus<P>,
     commits: &mut Commits,
 ) -> Result<Outcome, NoMemory>
-    requires place { processor.old.place < 32 }
+    requires place { processor.old.place < most_instructions }
     requires core { core.0 < cores_of bus.old }
     requires known { loc.0 < length (words_of bus.old) }
 
@@ -242,7 +242,7 @@ fn exchange<P: Protocol>(
         return Ok(Outcome::Stalled(Stall::Lock));
     }
     let value = processor.register(reg);
-    commits.make_room(core, 2)?;
+    commits.make_room(2)?;
     let (word, _) = bus.swap(core, loc, value)?;
     note_locked(commits, core, processor.place, loc, word, value)?;
     advance(processor, reg, word);
@@ -259,7 +259,7 @@ fn add<P: Protocol>(
     bus: &mut SnoopBus<P>,
     commits: &mut Commits,
 ) -> Result<Outcome, NoMemory>
-    requires place { processor.old.place < 32 }
+    requires place { processor.old.place < most_instructions }
     requires core { core.0 < cores_of bus.old }
     requires known { loc.0 < length (words_of bus.old) }
 
@@ -280,7 +280,7 @@ fn add<P: Protocol>(
         return Ok(Outcome::Stalled(Stall::Lock));
     }
     let value = processor.register(reg);
-    commits.make_room(core, 2)?;
+    commits.make_room(2)?;
     let (word, _) = bus.add(core, loc, value)?;
     note_locked(
         commits,
@@ -306,7 +306,7 @@ fn note_locked(
     value: u32,
 ) -> Result<(), NoMemory>
     ensures ok { OnOk result (commits.new.entries ≡ commits.old.entries ++ entry core.0 place LR loc word ∷ (entry core.0 place LW loc value ∷ [])) }
-    ensures succeeds { 2 ≤ room_for commits.old core.0 → IsOk result }
+    ensures succeeds { 2 ≤ commits.old.room → IsOk result }
 {
     commits.note(Entry {
         core,
@@ -326,7 +326,7 @@ fn note_locked(
 
 /// The core goes on to its next instruction, with this value in the register.
 fn advance(processor: &mut Processor, reg: Reg, value: u32)
-    requires { processor.old.place < 32 }
+    requires { processor.old.place < most_instructions }
     ensures { processor.new ≡ advanced processor.old (with_value processor.old.registers reg value) }
 {
     processor.registers[reg.index()] = value;
@@ -363,7 +363,7 @@ pub fn drain<P: Protocol>(
         None => Ok(Outcome::Stalled(Stall::Empty)),
         Some(store) => {
             let Pending { place, loc, value } = store;
-            commits.make_room(core, 1)?;
+            commits.make_room(1)?;
             let _ = bus.store(core, loc, value)?;
             commits.note(Entry {
                 core,

@@ -1,8 +1,4 @@
-pub mod Merging
-pub mod Keeping
-pub mod Appending
 pub mod Pairing
-pub mod Room
 pub mod Choosing
 pub mod DecimalLemmas
 pub mod LineLemmas

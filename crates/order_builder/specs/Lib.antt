@@ -1,6 +1,4 @@
 pub mod Pairs
-pub mod Numbers
-pub mod Kept
 pub mod Noted
 pub mod PrintedOrder
 pub mod Lines

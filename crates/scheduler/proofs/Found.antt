@@ -14,7 +14,8 @@ use Rattle.scheduler.specs.declared.item.Item.{Item}
 use Rattle.scheduler.specs.declared.item.Item.TheVariants.{Seeded}
 use Rattle.scheduler.specs.Words.{is_numeral, decimal}
 use Rattle.scheduler.specs.Seeds.{seeded_choices, first_words, generator, choice_of_word}
-use Rattle.scheduler.specs.Grammar.{most_choices, IsChoiceWord, core_of, IsItem, one, seeded}
+use Rattle.scheduler.specs.Limits.{most_choices}
+use Rattle.scheduler.specs.Grammar.{IsChoiceWord, core_of, IsItem, one, seeded}
 use Rattle.scheduler.specs.Refusals.{IsFault, bad_form, cut_seed, bad_seed, bad_count, no_core, too_many}
 use Rattle.scheduler.specs.Reading.{made_of, words_in, one_of, seed_of, seeded_from, seeded_of, item_of}
 use Rattle.scheduler.proofs.ChoiceWords.{either, number_in, number_out, reads_absent, reads_full, reads_there, not_a_choice, word_cases}

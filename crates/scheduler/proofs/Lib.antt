@@ -6,3 +6,6 @@ pub mod Found
 pub mod Whole
 pub mod Loop
 pub mod Cores
+mod Counted
+mod AlongLemmas
+mod Fitting

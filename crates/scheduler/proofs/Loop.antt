@@ -7,7 +7,8 @@ use Rattle.std.proofs.lemmas.List.{append-nil, length-append, length-drop, lengt
 use Rattle.tso_model.specs.declared.choice.Choice.{Choice}
 use Rattle.scheduler.specs.declared.fault.ChoiceFault.{ChoiceFault}
 use Rattle.scheduler.specs.declared.item.Item.{Item}
-use Rattle.scheduler.specs.Grammar.{most_choices, IsItem, AreItems, none, more}
+use Rattle.scheduler.specs.Limits.{most_choices}
+use Rattle.scheduler.specs.Grammar.{IsItem, AreItems, none, more}
 use Rattle.scheduler.specs.Refusals.{IsFault, AreRefused}
 use Rattle.scheduler.specs.Reading.{texts, made_of, words_in, item_of}
 use Rattle.scheduler.proofs.Found.{Fits, IsRead, item_read}

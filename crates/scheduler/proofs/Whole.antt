@@ -11,7 +11,8 @@ use Rattle.scheduler.specs.declared.fault.ChoiceFault.TheVariants.{BadWord, NoMe
 use Rattle.scheduler.specs.declared.item.Item.{Item}
 use Rattle.scheduler.specs.declared.item.Item.TheVariants.{One, Seeded}
 use Rattle.scheduler.specs.Words.{words_of, decimal}
-use Rattle.scheduler.specs.Grammar.{most_choices, IsChoiceWord, IsItem, one, seeded, AreItems, none, more, WordsSpell}
+use Rattle.scheduler.specs.Limits.{most_choices}
+use Rattle.scheduler.specs.Grammar.{IsChoiceWord, IsItem, one, seeded, AreItems, none, more, WordsSpell}
 use Rattle.scheduler.specs.Refusals.{IsFault, bad_form, cut_seed, bad_seed, bad_count, no_core, too_many, AreRefused, IsDecided}
 use Rattle.scheduler.specs.Reading.{made_of, words_in, one_of, seeded_of, item_of}
 use Rattle.scheduler.proofs.ChoiceWords.{number_in, number_out, reads_absent, reads_full, reads_there, word_cases, choice_is_no_seed}

@@ -2,12 +2,9 @@
 use Rattle.std.specs.Prelude.{◌<◌, ◌≤◌, ◌^◌, ◌++◌, ℕ, List, [], ◌∷◌, length, codes, IsTrue}
 use Rattle.tso_model.specs.declared.choice.Choice.{Choice}
 use Rattle.tso_model.specs.declared.choice.Choice.TheVariants.{Step, Drain}
+use Rattle.scheduler.specs.Limits.{most_choices}
 use Rattle.scheduler.specs.Words.{words_of, is_numeral, decimal}
 use Rattle.scheduler.specs.Seeds.{seeded_choices}
-
--- the greatest number of choices of a text
-abbrev pub most_choices : ℕ
-most_choices = 100000
 
 -- a word of digits and `s`, or digits and `d`: a choice of the core that the digits say, be it there or not
 pub data IsChoiceWord : List ℕ → Choice → Type 0 where

@@ -4,7 +4,8 @@ use Rattle.tso_model.specs.declared.choice.Choice.{Choice}
 use Rattle.scheduler.specs.declared.fault.ChoiceFault.{ChoiceFault}
 use Rattle.scheduler.specs.declared.fault.ChoiceFault.TheVariants.{BadWord, NoSuchCore, TooMany}
 use Rattle.scheduler.specs.Words.{words_of, is_numeral, decimal}
-use Rattle.scheduler.specs.Grammar.{most_choices, IsChoiceWord, core_of, IsItem, AreItems, SpellsChoices}
+use Rattle.scheduler.specs.Limits.{most_choices}
+use Rattle.scheduler.specs.Grammar.{IsChoiceWord, core_of, IsItem, AreItems, SpellsChoices}
 
 -- the fault of the item at which words begin, where `before` choices stand before it and its first word has this number
 pub data IsFault (cores before number : ℕ) : List (List ℕ) → ChoiceFault → Type 0 where

@@ -2,6 +2,7 @@
 
 ghost use Rattle.std.specs.Prelude.{◌≡◌, ◌≢◌, ◌<◌, ℕ, List, IfOk, IfErr, MatchResult};
 ghost use Rattle.tso_model.specs.Runs.{CoresExist};
+ghost use Rattle.scheduler.specs.Limits.{most_choices};
 ghost use Rattle.scheduler.specs.Grammar.{WordsSpell, SpellsChoices};
 ghost use Rattle.scheduler.specs.Refusals.{AreRefused, IsRefused, IsDecided};
 ghost use Rattle.scheduler.specs.Reading.{texts};
@@ -16,6 +17,11 @@ use tso_model::Choice;
 
 /// Choices of a text, at most.
 pub const MAX_CHOICES: usize = 100_000;
+
+/// The limit of choices is the number that the definitions have: a law, with nothing to run.
+pub fn limits_are_as_defined()
+    ensures { MAX_CHOICES ≡ most_choices }
+{}
 
 fn choices_of_words(alloc: Global, cores: u8, words: &[&[u8]]) -> Result<Vec<Choice>, ChoiceFault>
     requires { 0 < cores }

@@ -1,7 +1,8 @@
-//! Why a text spells no choices.
+//! Why a text spells no choices, and why an order isn't reached.
 
 ghost use Rattle.std.specs.Prelude.{◌≡◌};
 ghost use Rattle.scheduler.specs.declared.fault.ChoiceFault.TheVariants as fault;
+ghost use Rattle.scheduler.specs.declared.fault.WitnessFault.TheVariants as witness_fault;
 
 use std::alloc::{AllocError, AllocFailed};
 use std::error::Error;
@@ -54,5 +55,33 @@ impl From<tso_model::NoMemory> for ChoiceFault {
 
     fn from(_: tso_model::NoMemory) -> ChoiceFault {
         ChoiceFault::NoMemory
+    }
+}
+
+/// Why no choices are made that reach an order.
+#[derive(Clone, Copy, Debug, PartialEq, Eq)]
+pub enum WitnessFault {
+    /// The order needs store buffers of this depth, which is greater than the one asked for.
+    Depth(u8),
+    /// The allocator refused a growth. It is answered for no other reason.
+    NoMemory,
+}
+
+impl fmt::Display for WitnessFault {
+    fn fmt<W: fmt::Write>(&self, f: &mut fmt::Formatter<W>) -> fmt::Result {
+        match self {
+            WitnessFault::Depth(needed) => write!(f, "the order needs a depth of {needed}"),
+            WitnessFault::NoMemory => write!(f, "out of memory"),
+        }
+    }
+}
+
+impl Error for WitnessFault {}
+
+impl From<tso_model::NoMemory> for WitnessFault {
+    ghost from_gives = { λ _ e. e ≡ witness_fault.NoMemory };
+
+    fn from(_: tso_model::NoMemory) -> WitnessFault {
+        WitnessFault::NoMemory
     }
 }

@@ -1,13 +1,17 @@
 //! What is chosen next, and by which core: the texts that say it, and the choices of a seed.
 #![tactic(auto)]
 
+mod along;
 mod choices;
+mod depth;
 pub mod fault;
 mod item;
 mod numbers;
+mod reaching;
 mod seeds;
 mod words;
 
 pub use choices::{MAX_CHOICES, read_choices, spelled_cores_exist, texts_are_decided};
-pub use fault::ChoiceFault;
+pub use fault::{ChoiceFault, WitnessFault};
+pub use reaching::witness;
 pub use seeds::seeded_choices;

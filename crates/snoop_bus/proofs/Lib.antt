@@ -1,4 +1,5 @@
 pub mod Numbers
+pub mod RowLemmas
 pub mod Coherence
 pub mod SeenLemmas
 pub mod TagLemmas
@@ -11,11 +12,13 @@ pub mod LoadLemmas
 pub mod LoadMiss
 pub mod OwnLemmas
 pub mod WordLemmas
+pub mod LineLemmas
 pub mod NewLemmas
 pub mod WriteLemmas
 pub mod WriteMiss
 pub mod HitLemmas
 pub mod WordWritten
+pub mod CallLemmas
 pub mod SettleLemmas
 pub mod SettleTags
 pub mod SettleSteps

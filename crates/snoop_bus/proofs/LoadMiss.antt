@@ -1,6 +1,6 @@
 -- What a load that misses answers and leaves.
 use Rattle.std.proofs.lemmas.List.{get_or-set_same, get_or-set_other, length-set}
-use Rattle.std.proofs.Common.{◌≡◌, ◌≢◌, ◌⊎◌, inl, inr, ℕ, ◌<◌, Bool, true, false, Option, Some, None, is_some, option_map, IfSome, List, map, length, refl, sym, ap, subst, ◌∙◌, slice_set, slice_index, if◌then◌else◌}
+use Rattle.std.proofs.Common.{◌≡◌, ◌≢◌, ◌⊎◌, inl, inr, ℕ, ◌<◌, Bool, true, false, Option, Some, None, is_some, option_map, IfSome, List, [], map, length, refl, sym, ap, subst, ◌∙◌, slice_set, slice_index, if◌then◌else◌}
 use Rattle.protocol_tables.specs.Laws.{is_dirty, Shares, CleansByMemory, Supplies, FillsExclusiveOnlyAlone, WritesBackDirty}
 use Rattle.protocol_tables.specs.Tables.{Table}
 use Rattle.protocol_tables.specs.declared.state.State.{State}
@@ -11,6 +11,7 @@ use Rattle.cache_set.specs.declared.Line.{Line}
 use Rattle.cache_set.specs.declared.Victim.{Victim}
 use Rattle.cache_set.specs.Contents.{with_new, after_fill}
 use Rattle.cache_set.specs.Copy.{copy_with}
+use Rattle.snoop_bus.specs.Lines.{Words, line_in}
 use Rattle.snoop_bus.specs.Coherent.{Coherent, state_of}
 use Rattle.std.specs.List.{list_any}
 use Rattle.snoop_bus.specs.declared.access.AccessKind.TheVariants.{Miss}
@@ -19,13 +20,13 @@ use Rattle.snoop_bus.specs.CacheContents.{Accessed, is_held, flusher_from, dirty
 use Rattle.snoop_bus.specs.Copies.{Sets, in_set, copy_in, copy_at, cache_of, tags_of, ways_of}
 use Rattle.snoop_bus.specs.Bus.{seen, AllCoherent}
 use Rattle.snoop_bus.specs.Requests.{left_by, LeftByOthers, Supplied, KeepsWords, Loads}
-use Rattle.snoop_bus.specs.MemoryAfter.{written_back, flushed, sent_word, victim_at, loaded_memory}
+use Rattle.snoop_bus.specs.MemoryAfter.{written_back, flushed, sent_words, victim_at, loaded_memory}
 use Rattle.snoop_bus.proofs.CacheTags.{is_held-copies}
 use Rattle.snoop_bus.proofs.UseLemmas.{ways-set_cache, tags-filled}
 use Rattle.snoop_bus.proofs.AccessLemmas.{loaded-miss, writes_back-tags}
 use Rattle.snoop_bus.proofs.Coherence.{shared-coherent, fill-coherent}
 use Rattle.snoop_bus.proofs.MissLemmas.{Missed, length-written_back, written_back-other, others_line, own_line, away, missed-coherent, missed-seen}
-use Rattle.snoop_bus.proofs.LoadLemmas.{SendsOrNot, sends, found_word, fill_shares}
+use Rattle.snoop_bus.proofs.LoadLemmas.{SendsOrNot, sends, found_words, fill_shares}
 
 -- nothing is sent by no copy
 quiet_none : (on : State → Snoop) → CleansByMemory on → (o : Option Line) → ((copy : Line) → o ≡ Some copy → (on copy.state).to_memory ≡ false) → (on (state_of o)).to_memory ≡ false
@@ -40,14 +41,14 @@ abbrev missed_access : Bool → Option Core → Access
 missed_access wrote_back flushed = record { kind = Miss; wrote_back = wrote_back; flushed = flushed }
 
 module _ (t : Table) (fills : FillsExclusiveOnlyAlone t.filled) (shares : Shares t.on_get_s) (cleans : CleansByMemory t.on_get_s) (supplies : Supplies t.on_get_s) (back : WritesBackDirty t.evicts_dirty)
-    (c0 c2 : List Sets) (m0 m2 : List ℕ) (core line w : ℕ) (x : State) (v : Option Victim) (own : Sets) (f : Option Core) (wrote_back : Bool) where
+    (c0 c2 : List Sets) (m0 m2 : List Words) (core line : ℕ) (w : Words) (x : State) (v : Option Victim) (own : Sets) (f : Option Core) (wrote_back : Bool) where
   -- the steps of a load that misses
   pub record Steps : Type 0 where
     pub coherent : AllCoherent c0 m0
     pub core_in : core < length c0
-    pub line_in : line < length m0
+    pub within : line < length m0
     pub absent : copy_at c0 core line ≡ None
-    pub word : Supplied t.on_get_s c0 line (slice_index m0 line) w
+    pub words : Supplied t.on_get_s c0 line (line_in m0 line) w
     pub state : x ≡ t.filled (list_any (λ sets. is_some (copy_in sets line)) c0)
     pub own_exact : own ≡ in_set line (with_new line (copy_with x w)) (cache_of c0 core)
     pub own_ways : map (λ s. s.ways) own ≡ map (λ s. s.ways) (cache_of c0 core)
@@ -62,8 +63,8 @@ module _ (t : Table) (fills : FillsExclusiveOnlyAlone t.filled) (shares : Shares
     pub memory : m2 ≡ (if is_some f then slice_set (written_back t v m0) line w else written_back t v m0)
 
   module _ (h : Steps) where
-    pub word_is : w ≡ seen c0 m0 line
-    word_is = found_word t.on_get_s supplies c0 line (slice_index m0 line) w (seen c0 m0 line) h.word (h.coherent.each line h.line_in)
+    pub words_are : w ≡ seen c0 m0 line
+    words_are = found_words t.on_get_s supplies c0 line (line_in m0 line) w (seen c0 m0 line) h.words (h.coherent.each line h.within)
 
     state_is : x ≡ t.filled (is_held line (tags_of c0))
     state_is = h.state ∙ ap t.filled (is_held-copies line c0)
@@ -72,59 +73,59 @@ module _ (t : Table) (fills : FillsExclusiveOnlyAlone t.filled) (shares : Shares
     missed = record {
       coherent = h.coherent;
       core_in = h.core_in;
-      line_in = h.line_in;
+      within = h.within;
       absent = h.absent;
       filled = h.filled;
       was_here = h.was_here;
       left = h.left;
       size = ap length h.memory ∙ size (is_some f);
-      elsewhere = λ k d. ap (λ (m : List ℕ). slice_index m k) h.memory ∙ elsewhere k d (is_some f);
+      elsewhere = λ k d. ap (λ (m : List Words). line_in m k) h.memory ∙ elsewhere k d (is_some f);
     }
       where
         size : (b : Bool) → length (if b then slice_set (written_back t v m0) line w else written_back t v m0) ≡ length m0
         size true = length-set (written_back t v m0) line w ∙ length-written_back t v m0
         size false = length-written_back t v m0
 
-        elsewhere : (k : ℕ) → k ≢ line → (b : Bool) → slice_index (if b then slice_set (written_back t v m0) line w else written_back t v m0) k ≡ slice_index (written_back t v m0) k
-        elsewhere k d true = get_or-set_other (written_back t v m0) line k w 0 d
+        elsewhere : (k : ℕ) → k ≢ line → (b : Bool) → line_in (if b then slice_set (written_back t v m0) line w else written_back t v m0) k ≡ line_in (written_back t v m0) k
+        elsewhere k d true = get_or-set_other (written_back t v m0) line k w [] d
         elsewhere k d false = refl
 
-    was : Coherent w (slice_index m0 line) (λ i. copy_at c0 i line)
-    was = subst (λ (u : ℕ). Coherent u (slice_index m0 line) (λ i. copy_at c0 i line)) (sym word_is) (h.coherent.each line h.line_in)
+    was : Coherent w (line_in m0 line) (λ i. copy_at c0 i line)
+    was = subst (λ (u : Words). Coherent u (line_in m0 line) (λ i. copy_at c0 i line)) (sym words_are) (h.coherent.each line h.within)
 
-    same_line : slice_index (written_back t v m0) line ≡ slice_index m0 line
+    same_line : line_in (written_back t v m0) line ≡ line_in m0 line
     same_line = by_victim v refl
       where
-        by_victim : (o : Option Victim) → v ≡ o → slice_index (written_back t o m0) line ≡ slice_index m0 line
+        by_victim : (o : Option Victim) → v ≡ o → line_in (written_back t o m0) line ≡ line_in m0 line
         by_victim None e = refl
         by_victim (Some y) e = written_back-other t y m0 line (λ d. (away t back t.on_get_s c0 c2 m0 m2 core line w x v own missed y e).1 (sym d))
 
     flusher : (o : Option Core) → SendsOrNot t.on_get_s line c0 o → f ≡ o →
-        ((slice_index m2 line ≡ w) × (m2 ≡ flushed line (sent_word t.on_get_s line c0) (written_back t v m0)))
-        ⊎ ((slice_index m2 line ≡ slice_index m0 line) × (m2 ≡ flushed line (sent_word t.on_get_s line c0) (written_back t v m0)) × ((i : ℕ) → (t.on_get_s (state_of (copy_at c0 i line))).to_memory ≡ false))
+        ((line_in m2 line ≡ w) × (m2 ≡ flushed line (sent_words t.on_get_s line c0) (written_back t v m0)))
+        ⊎ ((line_in m2 line ≡ line_in m0 line) × (m2 ≡ flushed line (sent_words t.on_get_s line c0) (written_back t v m0)) × ((i : ℕ) → (t.on_get_s (state_of (copy_at c0 i line))).to_memory ≡ false))
     flusher o (inl p) e =
         let quiet : m2 ≡ written_back t v m0 = rw (e, p.0) at h.memory in
-        inr (ap (λ (m : List ℕ). slice_index m line) quiet ∙ same_line, rw p.1 quiet, λ i. quiet_none t.on_get_s cleans (copy_at c0 i line) (p.2 i))
+        inr (ap (λ (m : List Words). line_in m line) quiet ∙ same_line, rw p.1 quiet, λ i. quiet_none t.on_get_s cleans (copy_at c0 i line) (p.2 i))
     flusher o (inr p) e =
-        let copied : p.1.word ≡ w = was.same p.0 p.1 p.2 in
+        let copied : p.1.words ≡ w = was.same p.0 p.1 p.2 in
         let sent : m2 ≡ slice_set (written_back t v m0) line w = rw (e, p.4) at h.memory in
-        let within : line < length (written_back t v m0) = rw (length-written_back t v m0) h.line_in in
-        inl (ap (λ (m : List ℕ). slice_index m line) sent ∙ get_or-set_same (written_back t v m0) line w 0 within, rw (p.3, copied) sent)
+        let within : line < length (written_back t v m0) = rw (length-written_back t v m0) h.within in
+        inl (ap (λ (m : List Words). line_in m line) sent ∙ get_or-set_same (written_back t v m0) line w [] within, rw (p.3, copied) sent)
 
-    flushing : ((slice_index m2 line ≡ w) × (m2 ≡ flushed line (sent_word t.on_get_s line c0) (written_back t v m0)))
-        ⊎ ((slice_index m2 line ≡ slice_index m0 line) × (m2 ≡ flushed line (sent_word t.on_get_s line c0) (written_back t v m0)) × ((i : ℕ) → (t.on_get_s (state_of (copy_at c0 i line))).to_memory ≡ false))
+    flushing : ((line_in m2 line ≡ w) × (m2 ≡ flushed line (sent_words t.on_get_s line c0) (written_back t v m0)))
+        ⊎ ((line_in m2 line ≡ line_in m0 line) × (m2 ≡ flushed line (sent_words t.on_get_s line c0) (written_back t v m0)) × ((i : ℕ) → (t.on_get_s (state_of (copy_at c0 i line))).to_memory ≡ false))
     flushing = flusher (flusher_from 0 t.on_get_s line (tags_of c0)) (sends t.on_get_s line 0 c0) h.flusher
 
-    pub memory_is : m2 ≡ flushed line (sent_word t.on_get_s line c0) (written_back t v m0)
+    pub memory_is : m2 ≡ flushed line (sent_words t.on_get_s line c0) (written_back t v m0)
     memory_is = elim flushing [ inl p ↦ p.1 | inr p ↦ p.1 ]
 
-    at_line : Coherent (seen c0 m0 line) (slice_index m2 line) (λ i. copy_at c2 i line)
+    at_line : Coherent (seen c0 m0 line) (line_in m2 line) (λ i. copy_at c2 i line)
     at_line =
         let may = fill_shares t.filled fills t.on_get_s shares c0 line x state_is in
-        let shared : Coherent w (slice_index m2 line) (λ i. left_by t.on_get_s (copy_at c0 i line)) =
-        shared-coherent t.on_get_s shares cleans w (slice_index m0 line) (slice_index m2 line) (λ i. copy_at c0 i line) was (elim flushing [ inl p ↦ inl p.0 | inr p ↦ inr (p.0, p.2) ]) in
-        subst (λ (u : ℕ). Coherent u (slice_index m2 line) (λ i. copy_at c2 i line)) word_is
-        (fill-coherent w (slice_index m2 line) core x (λ i. left_by t.on_get_s (copy_at c0 i line)) (λ i. copy_at c2 i line) shared (rw h.absent refl) may.0 (λ i d. may.1 i)
+        let shared : Coherent w (line_in m2 line) (λ i. left_by t.on_get_s (copy_at c0 i line)) =
+        shared-coherent t.on_get_s shares cleans w (line_in m0 line) (line_in m2 line) (λ i. copy_at c0 i line) was (elim flushing [ inl p ↦ inl p.0 | inr p ↦ inr (p.0, p.2) ]) in
+        subst (λ (u : Words). Coherent u (line_in m2 line) (λ i. copy_at c2 i line)) words_are
+        (fill-coherent w (line_in m2 line) core x (λ i. left_by t.on_get_s (copy_at c0 i line)) (λ i. copy_at c2 i line) shared (rw h.absent refl) may.0 (λ i d. may.1 i)
         (record { here = own_line t back t.on_get_s c0 c2 m0 m2 core line w x v own missed; others = others_line t back t.on_get_s c0 c2 m0 m2 core line w x v own missed }))
 
     pub coherent_after : AllCoherent c2 m2
@@ -152,5 +153,5 @@ module _ (t : Table) (fills : FillsExclusiveOnlyAlone t.filled) (shares : Shares
     pub memory_after : m2 ≡ loaded_memory t core line c0 m0
     memory_after = memory_is ∙ rw (h.absent, h.victim) refl
 
-  pub load_missed : Steps → Loads t core line c0 c2 m0 m2 w (missed_access wrote_back f) × KeepsWords c0 c2 m0 m2
-  load_missed h = (record { word_is = word_is h; access_is = access_is h; tags = tags_after h; memory = memory_after h }, keeps h)
+  pub load_missed : (place : ℕ) → Steps → Loads t core line place c0 c2 m0 m2 (slice_index w place) (missed_access wrote_back f) × KeepsWords c0 c2 m0 m2
+  load_missed place h = (record { word_is = ap (λ (u : Words). slice_index u place) (words_are h); access_is = access_is h; tags = tags_after h; memory = memory_after h }, keeps h)

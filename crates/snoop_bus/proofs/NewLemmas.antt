@@ -1,14 +1,25 @@
 -- A new bus, and what holds of a bus from one access to the next.
-use Rattle.std.proofs.Common.{arith, ◌≡◌, ◌⊎◌, inl, inr, ℕ, zero, suc, ◌<◌, ◌≤◌, ◌%◌, None, List, [], ◌∷◌, length, map, replicate, slice_index, slice_index_or, refl, sym, ap, ◌∙◌}
+use Rattle.std.proofs.Common.{arith, ◌≡◌, ◌⊎◌, inl, inr, ℕ, zero, suc, ◌+◌, ◌*◌, ◌/◌, ◌<◌, ◌≤◌, ◌%◌, nat_lt, true, None, Result, Ok, Err, IfOk, OnErr, List, [], ◌∷◌, length, map, replicate, slice_index, slice_index_or, refl, sym, ap, ◌∙◌}
 use Rattle.std.proofs.lemmas.List.{length-map}
+use Rattle.std.proofs.lemmas.List.FromFn.{length-map-range_with_len, get_or-map-range_with_len, fill_by_all}
+use Rattle.std.proofs.lemmas.Nat.{div-add-mod', mod_below, mul-le}
+use Rattle.std.proofs.lemmas.Bool.{cases_lt}
+use Rattle.std.proofs.lemmas.Bool.Decides.{nat_tests}
 use Rattle.std.proofs.Math.ListN.{get_or-map}
 use Rattle.cache_set.specs.Contents.{Contents, contents, copy_of}
+use Rattle.protocol_tables.specs.Tables.{Table}
+use Rattle.cache_set.specs.Limits.{most_words}
+use Rattle.snoop_bus.specs.Limits.{most_bus_cores}
 use Rattle.snoop_bus.specs.Geometry.{Geometry}
+use Rattle.snoop_bus.specs.Lines.{Words, line_in, word_at, words_in, place_of, line_of_words, lines_of_words}
 use Rattle.snoop_bus.specs.Coherent.{Coherent}
 use Rattle.snoop_bus.specs.Copies.{Sets, copy_in, copy_at, cache_of, ways_of}
-use Rattle.snoop_bus.specs.Bus.{words_from, AllCoherent, IsBus, empty_caches}
+use Rattle.snoop_bus.specs.Bus.{seen, AllCoherent, HasWholeLines, IsBus, empty_caches}
 use Rattle.snoop_bus.proofs.SeenLemmas.{seen_is, all_coherent}
-use Rattle.snoop_bus.proofs.WordLemmas.{words-all}
+use Rattle.snoop_bus.specs.declared.access.Access.{Access}
+use Rattle.snoop_bus.specs.Requests.{KeepsWords, Writes}
+use Rattle.snoop_bus.proofs.LineLemmas.{lines-same, lines-set}
+use Rattle.snoop_bus.proofs.WordLemmas.{words-same, line_below}
 
 replicate-at : {A : Type 0} (n i : ℕ) (x d : A) → (slice_index_or (replicate n x) i d ≡ x) ⊎ (slice_index_or (replicate n x) i d ≡ d)
 replicate-at zero i x d = inr refl
@@ -36,7 +47,7 @@ empty_copy cores shape i k = elim (replicate-at cores i (replicate shape.sets (c
   | inr p ↦ ap (λ (sets : Sets). copy_in sets k) p
 ]
 
-new-line : (cores : ℕ) (shape : Geometry) (w k : ℕ) → Coherent w w (λ i. copy_at (empty_caches cores shape) i k)
+new-line : (cores : ℕ) (shape : Geometry) (w : Words) (k : ℕ) → Coherent w w (λ i. copy_at (empty_caches cores shape) i k)
 new-line cores shape w k = record {
   valid = λ i copy e. let none : copy_at (empty_caches cores shape) i k ≡ None = empty_copy cores shape i k in cc;
   same = λ i copy e. let none : copy_at (empty_caches cores shape) i k ≡ None = empty_copy cores shape i k in cc;
@@ -44,23 +55,62 @@ new-line cores shape w k = record {
   clean = λ none. refl;
 }
 
-pub new-words : (cores : ℕ) (shape : Geometry) (init : List ℕ) → words_from 0 (empty_caches cores shape) init ≡ init
-new-words cores shape init = sym (words-all (empty_caches cores shape) init init refl
-    (λ k b. sym (seen_is (empty_caches cores shape) init k (slice_index init k) (new-line cores shape (slice_index init k) k))))
+-- the lines of these words have these words
+lines-of_words : (words lines : ℕ) (init : List ℕ) → 0 < words → words ≤ most_words → length init ≤ lines * words → words_in words (line_in (lines_of_words words init lines)) (length init) ≡ init
+lines-of_words words lines init some few enough = sym (fill_by_all (word_at words (line_in (lines_of_words words init lines))) init (length init) 0 refl each)
+  where
+    each : (i : ℕ) → i < length init → slice_index_or init i 0 ≡ word_at words (line_in (lines_of_words words init lines)) i
+    each i b =
+        let line : line_in (lines_of_words words init lines) (i / words) ≡ line_of_words words init (i / words) =
+        get_or-map-range_with_len (line_of_words words init) 0 lines (i / words) (i / words) [] (line_below words (length init) lines i some enough b) (omega arith) in
+        let low : i % words < words = mod_below i words some in
+        let place : slice_index (line_of_words words init (i / words)) (i % words) ≡ place_of words init (i / words) (i % words) =
+        get_or-map-range_with_len (place_of words init (i / words)) 0 most_words (i % words) (i % words) 0 (omega arith) (omega arith) in
+        let yes : nat_lt (i % words) words ≡ true = grind (arith, nat_tests) in
+        sym (ap (λ (w : Words). slice_index w (i % words)) line ∙ place ∙ rw (yes, div-add-mod' i words) refl)
+
+pub new-words : (words lines cores : ℕ) (shape : Geometry) (init : List ℕ) → 0 < words → words ≤ most_words → length init ≤ lines * words →
+    words_in words (seen (empty_caches cores shape) (lines_of_words words init lines)) (length init) ≡ init
+new-words words lines cores shape init some few enough =
+    let memory : List Words = lines_of_words words init lines in
+    words-same words (length init) (length memory) (line_in memory) (seen (empty_caches cores shape) memory) some
+    (rw (length-map-range_with_len (line_of_words words init) 0 lines) enough)
+    (λ k b. seen_is (empty_caches cores shape) memory k (line_in memory k) (new-line cores shape (line_in memory k) k))
+    ∙ lines-of_words words lines init some few enough
 
 pub new-cores : (cores : ℕ) (shape : Geometry) → length (empty_caches cores shape) ≡ cores
 new-cores cores shape = length-replicate cores (replicate shape.sets (contents [] shape.ways))
 
-pub new-bus : (cores : ℕ) (shape : Geometry) (init : List ℕ) → 1 ≤ cores → cores ≤ 8 → length init ≤ 16 → IsBus shape (empty_caches cores shape) init
-new-bus cores shape init some few words = record {
-  coherent = all_coherent (empty_caches cores shape) init (λ k. slice_index init k) (λ k b. new-line cores shape (slice_index init k) k) (λ k i b. empty_copy cores shape i k);
+-- no more lines than locations
+lines_few : (lines words n : ℕ) → 1 ≤ words → lines * words < n + words → n ≤ 16 → lines ≤ 16
+lines_few lines words n some close few = elim (cases_lt 16 lines) [
+  | inl p ↦ let more : 17 * words ≤ lines * words = mul-le 17 words lines words (omega arith) (omega arith) in absurd (omega arith)
+  | inr p ↦ p
+]
+
+pub new-bus : (cores lines : ℕ) (shape : Geometry) (init : List ℕ) → 1 ≤ cores → cores ≤ most_bus_cores → 1 ≤ shape.words → shape.words ≤ most_words → length init ≤ 16 → length init ≤ lines * shape.words → lines * shape.words < length init + shape.words →
+    IsBus shape (length init) (empty_caches cores shape) (lines_of_words shape.words init lines)
+new-bus cores lines shape init some few words small locations enough close = record {
+  coherent = all_coherent (empty_caches cores shape) memory (λ k. line_in memory k) (λ k b. new-line cores shape (line_in memory k) k) (λ k i b. empty_copy cores shape i k);
+  lines = λ k b. seen_is (empty_caches cores shape) memory k (line_in memory k) (new-line cores shape (line_in memory k) k)
+      ∙ get_or-map-range_with_len (line_of_words shape.words init) 0 lines k k [] (rw lines_are at b) (omega arith)
+      ∙ ap (λ (ws : List ℕ). line_of_words shape.words ws k) (sym (new-words shape.words lines cores shape init words small enough));
   shaped = rw size (map-replicate (map (λ s. s.ways)) cores (replicate shape.sets (contents [] shape.ways))
       ∙ ap (replicate cores) (map-replicate (λ (s : Contents). s.ways) shape.sets (contents [] shape.ways)));
   some_core = rw size (omega arith);
   few_cores = rw size few;
-  few_words = words;
+  few_locations = locations;
+  some_word = words;
+  few_lines = rw lines_are (lines_few lines shape.words (length init) words close locations);
+  enough_lines = rw lines_are enough;
 }
   where
+    memory : List Words
+    memory = lines_of_words shape.words init lines
+
+    lines_are : length (lines_of_words shape.words init lines) ≡ lines
+    lines_are = length-map-range_with_len (line_of_words shape.words init) 0 lines
+
     size : length (empty_caches cores shape) ≡ cores
     size = length-replicate cores (replicate shape.sets (contents [] shape.ways))
 
@@ -68,18 +118,36 @@ new-bus cores shape init some few words = record {
 pub same_cores : (c0 c2 : List Sets) → ways_of c2 ≡ ways_of c0 → length c2 ≡ length c0
 same_cores c0 c2 same = sym (length-map c2 (map (λ (s : Contents). s.ways))) ∙ ap length same ∙ length-map c0 (map (λ (s : Contents). s.ways))
 
-pub bus-after : (shape : Geometry) (c0 c2 : List Sets) (m0 m2 : List ℕ) → IsBus shape c0 m0 → length m2 ≡ length m0 → AllCoherent c2 m2 → ways_of c2 ≡ ways_of c0 → IsBus shape c2 m2
-bus-after shape c0 c2 m0 m2 h size coherent ways = record {
+pub bus-after : (shape : Geometry) (locations : ℕ) (c0 c2 : List Sets) (m0 m2 : List Words) → IsBus shape locations c0 m0 → length m2 ≡ length m0 → AllCoherent c2 m2 → ways_of c2 ≡ ways_of c0 →
+    HasWholeLines shape locations c2 m2 → IsBus shape locations c2 m2
+bus-after shape locations c0 c2 m0 m2 h size coherent ways lines = record {
   coherent = coherent;
+  lines = lines;
   shaped = ways ∙ rw (same_cores c0 c2 ways) h.shaped;
   some_core = rw (same_cores c0 c2 ways) h.some_core;
   few_cores = rw (same_cores c0 c2 ways) h.few_cores;
-  few_words = rw size h.few_words;
+  few_locations = h.few_locations;
+  some_word = h.some_word;
+  few_lines = rw size h.few_lines;
+  enough_lines = rw size h.enough_lines;
 }
 
+-- a bus whose words stay
+pub bus-kept : (shape : Geometry) (locations : ℕ) (c0 c2 : List Sets) (m0 m2 : List Words) → IsBus shape locations c0 m0 → length m2 ≡ length m0 → KeepsWords c0 c2 m0 m2 → IsBus shape locations c2 m2
+bus-kept shape locations c0 c2 m0 m2 h size keeps = bus-after shape locations c0 c2 m0 m2 h size keeps.coherent keeps.ways
+    (λ k b. lines-same shape.words locations (length m0) (seen c0 m0) (seen c2 m2) h.some_word h.enough_lines keeps.words h.lines k (rw size at b))
+
+-- a bus once a write access was made, or was refused
+pub bus-written : {E : Type 0} (t : Table) (new : ℕ → ℕ) (r : Result (ℕ × Access) E) (shape : Geometry) (locations : ℕ) (c0 c2 : List Sets) (m0 m2 : List Words) (core loc : ℕ) →
+    IsBus shape locations c0 m0 → length m2 ≡ length m0 → loc < locations → AllCoherent c2 m2 → ways_of c2 ≡ ways_of c0 →
+    IfOk r (λ r. Writes t core (loc / shape.words) (loc % shape.words) (new r.0) c0 c2 m0 m2 r.0 r.1) → OnErr r (c2 ≡ c0) → OnErr r (m2 ≡ m0) → IsBus shape locations c2 m2
+bus-written t new (Ok x) shape locations c0 c2 m0 m2 core loc h size within coherent ways writes caches memory = bus-after shape locations c0 c2 m0 m2 h size coherent ways
+    (λ k b. lines-set shape.words locations (length m0) (seen c0 m0) (seen c2 m2) loc (new x.0) h.some_word h.enough_lines within writes.place_in writes.lines h.lines k (rw size at b))
+bus-written t new (Err e) shape locations c0 c2 m0 m2 core loc h size within coherent ways writes caches memory = rw (caches, memory) h
+
 -- each core has as many sets as the shape says
-pub cache-sets : (shape : Geometry) (caches : List Sets) (memory : List ℕ) (core : ℕ) → IsBus shape caches memory → core < length caches → length (cache_of caches core) ≡ shape.sets
-cache-sets shape caches memory core h within =
+pub cache-sets : (shape : Geometry) (locations : ℕ) (caches : List Sets) (memory : List Words) (core : ℕ) → IsBus shape locations caches memory → core < length caches → length (cache_of caches core) ≡ shape.sets
+cache-sets shape locations caches memory core h within =
     sym (length-map (cache_of caches core) (λ (s : Contents). s.ways))
     ∙ ap length (sym (get_or-map (map (λ (s : Contents). s.ways)) caches core []))
     ∙ ap (λ (l : List (List ℕ)). length (slice_index_or l core [])) h.shaped

@@ -1,11 +1,12 @@
 -- A write access, from what each of its steps gives.
-use Rattle.std.proofs.Common.{◌≡◌, ◌≢◌, ℕ, ◌<◌, not, ◌&&◌, Bool, true, false, nat_eq, Option, Some, None, option_map, List, length, refl, ap, ◌∙◌, slice_index, if◌then◌else◌}
+use Rattle.std.proofs.Common.{◌≡◌, ◌≢◌, ℕ, ◌<◌, not, ◌&&◌, Bool, true, false, nat_eq, Option, Some, None, option_map, List, length, slice_set, refl, ap, ◌∙◌, if◌then◌else◌}
 use Rattle.protocol_tables.specs.Laws.{GivesUp, in_place}
 use Rattle.protocol_tables.specs.declared.state.State.{State}
 use Rattle.protocol_tables.specs.declared.state.State.TheVariants.{I, S, E, O, M}
 use Rattle.protocol_tables.specs.declared.state.Snoop.{Snoop}
 use Rattle.cache_set.specs.declared.Line.{Line}
 use Rattle.cache_set.specs.Copy.{copy_with, with_state, with_word}
+use Rattle.snoop_bus.specs.Lines.{Words, line_in}
 use Rattle.snoop_bus.specs.Coherent.{Coherent}
 use Rattle.snoop_bus.specs.Copies.{Sets, copy_at}
 use Rattle.snoop_bus.specs.Bus.{seen, AllCoherent}
@@ -17,7 +18,7 @@ use Rattle.snoop_bus.proofs.OwnLemmas.{Owned}
 -- GetM leaves no copy
 pub gives_up : (on : State → Snoop) → GivesUp on → (o : Option Line) → left_by on o ≡ None
 gives_up on law None = refl
-gives_up on law (Some copy) = ap (λ (s : State). copy_if s copy.word) (law copy.state).0
+gives_up on law (Some copy) = ap (λ (s : State). copy_if s copy.words) (law copy.state).0
 
 -- a copy that is written in place becomes M
 pub written_m : (s next : State) → in_place s ≡ Some next → next ≡ M
@@ -41,33 +42,33 @@ other_line core line o c0 c2 h i k d = let e : nat_eq k line ≡ false = differ 
     by_core false p = p
 
 -- a write hit: the copy was in M or E, so no other core has one
-pub hit_owned : (c0 c2 : List Sets) (m : List ℕ) (core line : ℕ) (copy : Line) (next : State) → AllCoherent c0 m → line < length m →
+pub hit_owned : (c0 c2 : List Sets) (m : List Words) (core line : ℕ) (copy : Line) (next : State) → AllCoherent c0 m → line < length m →
     copy_at c0 core line ≡ Some copy → in_place copy.state ≡ Some next → ChangesCopy core line (option_map (with_state next) (copy_at c0 core line)) c0 c2 →
     Owned c0 c2 m core line (seen c0 m line)
 hit_owned c0 c2 m core line copy next h within here writes to =
-    let was : Coherent (seen c0 m line) (slice_index m line) (λ i. copy_at c0 i line) = h.each line within in
-    let word : copy.word ≡ seen c0 m line = was.same core copy here in
+    let was : Coherent (seen c0 m line) (line_in m line) (λ i. copy_at c0 i line) = h.each line within in
+    let words : copy.words ≡ seen c0 m line = was.same core copy here in
     let to_m : next ≡ M = written_m copy.state next writes in
     record {
       coherent = h;
-      line_in = within;
-      here = here_now core line (option_map (with_state next) (copy_at c0 core line)) c0 c2 to ∙ rw (here, to_m, word) refl;
+      within = within;
+      here = here_now core line (option_map (with_state next) (copy_at c0 core line)) c0 c2 to ∙ rw (here, to_m, words) refl;
       alone = λ i d. other_core core line (option_map (with_state next) (copy_at c0 core line)) c0 c2 to i line d
-          ∙ alone (seen c0 m line) (slice_index m line) core (λ i. copy_at c0 i line) copy was here (rw to_m at writes) i d;
+          ∙ alone (seen c0 m line) (line_in m line) core (λ i. copy_at c0 i line) copy was here (rw to_m at writes) i d;
       elsewhere = λ i k d. other_line core line (option_map (with_state next) (copy_at c0 core line)) c0 c2 to i k d;
     }
 
 -- an upgrade: the others gave their copies up
-pub upgrade_owned : (on : State → Snoop) → GivesUp on → (c0 c1 c2 : List Sets) (m : List ℕ) (core line : ℕ) (copy : Line) → AllCoherent c0 m → line < length m →
+pub upgrade_owned : (on : State → Snoop) → GivesUp on → (c0 c1 c2 : List Sets) (m : List Words) (core line : ℕ) (copy : Line) → AllCoherent c0 m → line < length m →
     copy_at c0 core line ≡ Some copy → LeftByOthers on core line c0 c1 → ChangesCopy core line (option_map (with_state M) (copy_at c1 core line)) c1 c2 →
     Owned c0 c2 m core line (seen c0 m line)
 upgrade_owned on law c0 c1 c2 m core line copy h within here left to =
-    let was : Coherent (seen c0 m line) (slice_index m line) (λ i. copy_at c0 i line) = h.each line within in
-    let word : copy.word ≡ seen c0 m line = was.same core copy here in
+    let was : Coherent (seen c0 m line) (line_in m line) (λ i. copy_at c0 i line) = h.each line within in
+    let words : copy.words ≡ seen c0 m line = was.same core copy here in
     record {
       coherent = h;
-      line_in = within;
-      here = here_now core line (option_map (with_state M) (copy_at c1 core line)) c1 c2 to ∙ rw (kept, here, word) refl;
+      within = within;
+      here = here_now core line (option_map (with_state M) (copy_at c1 core line)) c1 c2 to ∙ rw (kept, here, words) refl;
       alone = λ i d. other_core core line (option_map (with_state M) (copy_at c1 core line)) c1 c2 to i line d ∙ lost i d;
       elsewhere = λ i k d. other_line core line (option_map (with_state M) (copy_at c1 core line)) c1 c2 to i k d ∙ unseen i k d;
     }
@@ -86,15 +87,15 @@ upgrade_owned on law c0 c1 c2 m core line copy h within here left to =
         by_core false p = p
 
 -- a word is written to a copy in M
-pub write_owned : (c0 c2 : List Sets) (m : List ℕ) (core line old w : ℕ) → AllCoherent c0 m → line < length m →
-    copy_at c0 core line ≡ Some (copy_with M old) → ChangesCopy core line (option_map (with_word w) (copy_at c0 core line)) c0 c2 → Owned c0 c2 m core line w
-write_owned c0 c2 m core line old w h within here to =
-    let was : Coherent (seen c0 m line) (slice_index m line) (λ i. copy_at c0 i line) = h.each line within in
+pub write_owned : (c0 c2 : List Sets) (m : List Words) (core line place value : ℕ) (old : Words) → AllCoherent c0 m → line < length m →
+    copy_at c0 core line ≡ Some (copy_with M old) → ChangesCopy core line (option_map (with_word place value) (copy_at c0 core line)) c0 c2 → Owned c0 c2 m core line (slice_set old place value)
+write_owned c0 c2 m core line place value old h within here to =
+    let was : Coherent (seen c0 m line) (line_in m line) (λ i. copy_at c0 i line) = h.each line within in
     record {
       coherent = h;
-      line_in = within;
-      here = here_now core line (option_map (with_word w) (copy_at c0 core line)) c0 c2 to ∙ rw here refl;
-      alone = λ i d. other_core core line (option_map (with_word w) (copy_at c0 core line)) c0 c2 to i line d
-          ∙ alone (seen c0 m line) (slice_index m line) core (λ i. copy_at c0 i line) (copy_with M old) was here refl i d;
-      elsewhere = λ i k d. other_line core line (option_map (with_word w) (copy_at c0 core line)) c0 c2 to i k d;
+      within = within;
+      here = here_now core line (option_map (with_word place value) (copy_at c0 core line)) c0 c2 to ∙ rw here refl;
+      alone = λ i d. other_core core line (option_map (with_word place value) (copy_at c0 core line)) c0 c2 to i line d
+          ∙ alone (seen c0 m line) (line_in m line) core (λ i. copy_at c0 i line) (copy_with M old) was here refl i d;
+      elsewhere = λ i k d. other_line core line (option_map (with_word place value) (copy_at c0 core line)) c0 c2 to i k d;
     }

@@ -1,5 +1,5 @@
 -- What a write access that misses answers and leaves.
-use Rattle.std.proofs.Common.{◌≡◌, ℕ, ◌<◌, Bool, Option, Some, None, IfSome, option_map, List, length, map, refl, sym, ap, subst, ◌∙◌, slice_set, slice_index}
+use Rattle.std.proofs.Common.{◌≡◌, ℕ, ◌<◌, Bool, Option, Some, None, IfSome, option_map, List, length, map, refl, sym, ap, subst, ◌∙◌, slice_set}
 use Rattle.protocol_tables.specs.Laws.{GivesUp, Supplies, WritesBackDirty}
 use Rattle.protocol_tables.specs.Tables.{Table}
 use Rattle.protocol_tables.specs.declared.state.State.TheVariants.{M}
@@ -8,6 +8,7 @@ use Rattle.cache_set.specs.Contents.{with_new, after_fill}
 use Rattle.cache_set.specs.Copy.{copy_with}
 use Rattle.snoop_bus.specs.declared.access.AccessKind.TheVariants.{Miss}
 use Rattle.snoop_bus.specs.declared.access.Access.{Access}
+use Rattle.snoop_bus.specs.Lines.{Words, line_in}
 use Rattle.snoop_bus.specs.Coherent.{Coherent}
 use Rattle.snoop_bus.specs.CacheContents.{Accessed, dirty_in, requested, written}
 use Rattle.snoop_bus.specs.Copies.{Sets, in_set, copy_in, copy_at, cache_of, tags_of, ways_of}
@@ -18,21 +19,21 @@ use Rattle.snoop_bus.proofs.UseLemmas.{ways-set_cache, tags-filled}
 use Rattle.snoop_bus.proofs.AccessLemmas.{written-miss, writes_back-tags}
 use Rattle.snoop_bus.proofs.Coherence.{write-coherent}
 use Rattle.snoop_bus.proofs.MissLemmas.{Missed, length-written_back, others_line, own_line, missed-coherent, missed-seen}
-use Rattle.snoop_bus.proofs.LoadLemmas.{found_word}
+use Rattle.snoop_bus.proofs.LoadLemmas.{found_words}
 use Rattle.snoop_bus.proofs.WriteLemmas.{gives_up}
 
 abbrev missed_access : Bool → Access
 missed_access wrote_back = record { kind = Miss; wrote_back = wrote_back; flushed = None }
 
 module _ (t : Table) (gives : GivesUp t.on_get_m) (supplies : Supplies t.on_get_m) (back : WritesBackDirty t.evicts_dirty)
-    (c0 c2 : List Sets) (m0 m2 : List ℕ) (core line w : ℕ) (v : Option Victim) (own : Sets) (wrote_back : Bool) where
+    (c0 c2 : List Sets) (m0 m2 : List Words) (core line : ℕ) (w : Words) (v : Option Victim) (own : Sets) (wrote_back : Bool) where
   -- the steps of a write access that misses
   pub record Steps : Type 0 where
     pub coherent : AllCoherent c0 m0
     pub core_in : core < length c0
-    pub line_in : line < length m0
+    pub within : line < length m0
     pub absent : copy_at c0 core line ≡ None
-    pub word : Supplied t.on_get_m c0 line (slice_index m0 line) w
+    pub words : Supplied t.on_get_m c0 line (line_in m0 line) w
     pub own_exact : own ≡ in_set line (with_new line (copy_with M w)) (cache_of c0 core)
     pub own_ways : map (λ s. s.ways) own ≡ map (λ s. s.ways) (cache_of c0 core)
     pub victim : v ≡ victim_at c0 core line
@@ -45,28 +46,28 @@ module _ (t : Table) (gives : GivesUp t.on_get_m) (supplies : Supplies t.on_get_
     pub memory : m2 ≡ written_back t v m0
 
   module _ (h : Steps) where
-    pub word_is : w ≡ seen c0 m0 line
-    word_is = found_word t.on_get_m supplies c0 line (slice_index m0 line) w (seen c0 m0 line) h.word (h.coherent.each line h.line_in)
+    pub words_are : w ≡ seen c0 m0 line
+    words_are = found_words t.on_get_m supplies c0 line (line_in m0 line) w (seen c0 m0 line) h.words (h.coherent.each line h.within)
 
     missed : Missed t back t.on_get_m c0 c2 m0 m2 core line w M v own
     missed = record {
       coherent = h.coherent;
       core_in = h.core_in;
-      line_in = h.line_in;
+      within = h.within;
       absent = h.absent;
       filled = h.filled;
       was_here = h.was_here;
       left = h.left;
       size = ap length h.memory ∙ length-written_back t v m0;
-      elsewhere = λ k d. ap (λ (m : List ℕ). slice_index m k) h.memory;
+      elsewhere = λ k d. ap (λ (m : List Words). line_in m k) h.memory;
     }
 
     pub owns : copy_at c2 core line ≡ Some (copy_with M w)
     owns = own_line t back t.on_get_m c0 c2 m0 m2 core line w M v own missed
 
-    at_line : Coherent (seen c0 m0 line) (slice_index m2 line) (λ i. copy_at c2 i line)
-    at_line = subst (λ (u : ℕ). Coherent u (slice_index m2 line) (λ i. copy_at c2 i line)) word_is
-        (write-coherent w (slice_index m2 line) core (λ i. copy_at c2 i line) owns
+    at_line : Coherent (seen c0 m0 line) (line_in m2 line) (λ i. copy_at c2 i line)
+    at_line = subst (λ (u : Words). Coherent u (line_in m2 line) (λ i. copy_at c2 i line)) words_are
+        (write-coherent w (line_in m2 line) core (λ i. copy_at c2 i line) owns
         (λ i d. others_line t back t.on_get_m c0 c2 m0 m2 core line w M v own missed i d ∙ gives_up t.on_get_m gives (copy_at c0 i line)))
 
     pub coherent_after : AllCoherent c2 m2
@@ -94,4 +95,4 @@ module _ (t : Table) (gives : GivesUp t.on_get_m) (supplies : Supplies t.on_get_
     memory_after = h.memory ∙ rw (h.absent, h.victim) refl
 
   pub write_missed : Steps → Acquires t core line c0 c2 m0 m2 w (missed_access wrote_back) × KeepsWords c0 c2 m0 m2
-  write_missed h = (record { word_is = word_is h; own = owns h; access_is = access_is h; tags = tags_after h; memory = memory_after h }, keeps h)
+  write_missed h = (record { words_are = words_are h; own = owns h; access_is = access_is h; tags = tags_after h; memory = memory_after h }, keeps h)

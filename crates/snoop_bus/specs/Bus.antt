@@ -1,63 +1,79 @@
 -- What a contract sees of a bus: the caches of all cores and memory, and the words that a program sees.
-use Rattle.std.specs.Prelude.{◌≡◌, ◌+◌, ◌≤◌, ◌<◌, ℕ, List, [], ◌∷◌, length, replicate, slice_index, Option, None, unwrap_or, option_map}
+use Rattle.std.specs.Prelude.{◌≡◌, ◌*◌, ◌≤◌, ◌<◌, ℕ, List, [], ◌∷◌, length, replicate, Option, None, unwrap_or, option_map}
 use Rattle.std.specs.Option.{option_or}
 use Rattle.cache_set.specs.Contents.{contents}
+use Rattle.tso_model.specs.Limits.{most_locations}
+use Rattle.snoop_bus.specs.Limits.{most_bus_cores}
 use Rattle.snoop_bus.specs.Geometry.{Geometry}
+use Rattle.snoop_bus.specs.Rows.{Rows}
+use Rattle.snoop_bus.specs.Lines.{Words, line_in, words_in, line_of_words}
 use Rattle.snoop_bus.specs.Copies.{Sets, copy_in, copy_at, ways_of}
 use Rattle.snoop_bus.specs.Coherent.{Coherent}
 
--- the protocol, the shape of the caches, the sets of each core's cache with the copies in them, and the
--- word of each location in memory
-pub record Bus (P : Type 0) : Type 0 where
-  pub protocol : P
+-- the rows of the protocol's table, the shape of the caches, how many locations there are, the sets of each core's
+-- cache with the copies in them, and the lines in memory
+pub record Bus : Type 0 where
+  pub rows : Rows
   pub shape : Geometry
+  pub locations : ℕ
   pub caches : List Sets
-  pub memory : List ℕ
+  pub memory : List Words
 
--- the word of a line in the first core's cache that has a copy
-abbrev pub word_among : List Sets → ℕ → Option ℕ
-word_among [] line = None
-word_among (sets ∷ caches) line = option_or (option_map (λ copy. copy.word) (copy_in sets line)) (word_among caches line)
+-- the words of a line in the first core's cache that has a copy
+abbrev pub words_among : List Sets → ℕ → Option Words
+words_among [] line = None
+words_among (sets ∷ caches) line = option_or (option_map (λ copy. copy.words) (copy_in sets line)) (words_among caches line)
 
--- the word of a line that is seen: a copy's where there is one, else memory's
-abbrev pub seen : List Sets → List ℕ → ℕ → ℕ
-seen caches memory line = unwrap_or (word_among caches line) (slice_index memory line)
-
-abbrev pub words_from : ℕ → List Sets → List ℕ → List ℕ
-words_from line caches [] = []
-words_from line caches (word ∷ memory) = unwrap_or (word_among caches line) word ∷ words_from (line + 1) caches memory
+-- the words of a line that are seen: a copy's where there is one, else memory's
+abbrev pub seen : List Sets → List Words → ℕ → Words
+seen caches memory line = unwrap_or (words_among caches line) (line_in memory line)
 
 -- the words that a program sees, one for each location: a copy's where there is one, else memory's
-abbrev pub words_of : {P : Type 0} → Bus P → List ℕ
-words_of b = words_from 0 b.caches b.memory
+abbrev pub words_of : Bus → List ℕ
+words_of b = words_in b.shape.words (seen b.caches b.memory) b.locations
 
 -- every line is coherent, and no cache has a line past memory
-pub record AllCoherent (caches : List Sets) (memory : List ℕ) : Type 0 where
-  pub each : (line : ℕ) → line < length memory → Coherent (seen caches memory line) (slice_index memory line) (λ i. copy_at caches i line)
+pub record AllCoherent (caches : List Sets) (memory : List Words) : Type 0 where
+  pub each : (line : ℕ) → line < length memory → Coherent (seen caches memory line) (line_in memory line) (λ i. copy_at caches i line)
   pub within : (line i : ℕ) → length memory ≤ line → copy_at caches i line ≡ None
 
--- what holds of every bus: coherent, each cache of the bus's shape, 1 to 8 cores and at most 16 locations
-pub record IsBus (shape : Geometry) (caches : List Sets) (memory : List ℕ) : Type 0 where
+-- each line that is seen has its words of the list of words, and 0 at every other place
+abbrev pub HasWholeLines : Geometry → ℕ → List Sets → List Words → Type 0
+HasWholeLines shape locations caches memory =
+    (line : ℕ) → line < length memory → seen caches memory line ≡ line_of_words shape.words (words_in shape.words (seen caches memory) locations) line
+
+-- what holds of every bus: coherent, each cache of the bus's shape, cores and locations within their limits, and a
+-- line for each location
+pub record IsBus (shape : Geometry) (locations : ℕ) (caches : List Sets) (memory : List Words) : Type 0 where
   pub coherent : AllCoherent caches memory
+  pub lines : HasWholeLines shape locations caches memory
   pub shaped : ways_of caches ≡ replicate (length caches) (replicate shape.sets shape.ways)
   pub some_core : 0 < length caches
-  pub few_cores : length caches ≤ 8
-  pub few_words : length memory ≤ 16
+  pub few_cores : length caches ≤ most_bus_cores
+  pub few_locations : locations ≤ most_locations
+  pub some_word : 1 ≤ shape.words
+  pub few_lines : length memory ≤ most_locations
+  pub enough_lines : locations ≤ length memory * shape.words
 
 -- how many cores there are
-abbrev pub cores_of : {P : Type 0} → Bus P → ℕ
+abbrev pub cores_of : Bus → ℕ
 cores_of b = length b.caches
 
 -- the caches are coherent with memory
-abbrev pub IsCoherent : {P : Type 0} → Bus P → Type 0
+abbrev pub IsCoherent : Bus → Type 0
 IsCoherent b = AllCoherent b.caches b.memory
+
+-- each line has its words, and 0 at every other place
+abbrev pub HasLines : Bus → Type 0
+HasLines b = HasWholeLines b.shape b.locations b.caches b.memory
 
 -- empty caches of this shape for so many cores
 abbrev pub empty_caches : ℕ → Geometry → List Sets
 empty_caches cores shape = replicate cores (replicate shape.sets (contents [] shape.ways))
 
--- what no call changes: the protocol, the shape and the number of cores
-pub record IsSameMachine {P : Type 0} (old new : Bus P) : Type 0 where
-  pub protocol : new.protocol ≡ old.protocol
+-- what no call changes: the protocol's table, the shape, and how many cores and locations there are
+pub record IsSameMachine (old new : Bus) : Type 0 where
+  pub rows : new.rows ≡ old.rows
   pub shape : new.shape ≡ old.shape
   pub cores : cores_of new ≡ cores_of old
+  pub locations : new.locations ≡ old.locations

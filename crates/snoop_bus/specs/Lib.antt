@@ -1,8 +1,12 @@
+pub mod Limits
 pub mod Geometry
+pub mod Rows
+pub mod Lines
 pub mod Tags
 pub mod CacheContents
 pub mod Copies
 pub mod Coherent
 pub mod Bus
 pub mod MemoryAfter
+pub mod Accesses
 pub mod Requests

@@ -1,5 +1,5 @@
 -- What the steps of an access leave: a request is seen by the other caches, and its words are found.
-use Rattle.std.specs.Prelude.{◌≡◌, ◌<◌, ◌⊎◌, ℕ, not, ◌&&◌, List, length, map, Option, Some, None, nat_eq, nat_lt, if◌then◌else◌}
+use Rattle.std.specs.Prelude.{◌≡◌, ◌<◌, ◌⊎◌, ℕ, not, ◌&&◌, List, length, map, slice_set, slice_index, Option, Some, None, nat_eq, nat_lt, if◌then◌else◌}
 use Rattle.protocol_tables.specs.declared.state.State.{State}
 use Rattle.protocol_tables.specs.declared.state.State.TheVariants.{I, S, E, O, M}
 use Rattle.protocol_tables.specs.declared.state.Snoop.{Snoop}
@@ -10,6 +10,7 @@ use Rattle.cache_set.specs.Contents.{Contents, with_changed, without}
 use Rattle.cache_set.specs.Copy.{copy_with, with_state}
 use Rattle.snoop_bus.specs.declared.snoop.Request.{Request}
 use Rattle.snoop_bus.specs.declared.snoop.Request.TheVariants.{GetS, GetM}
+use Rattle.snoop_bus.specs.Lines.{Words}
 use Rattle.snoop_bus.specs.Tags.{TagSet, tag_set, clean}
 use Rattle.snoop_bus.specs.declared.access.Access.{Access}
 use Rattle.snoop_bus.specs.CacheContents.{loaded, written}
@@ -39,17 +40,17 @@ abbrev pub answered : (State → Snoop) → ℕ → Sets → Sets
 answered on_request line sets = answered_in on_request line (copy_in sets line) sets
 
 -- a copy in this state, and none in I
-abbrev pub copy_if : State → ℕ → Option Line
-copy_if I word = None
-copy_if S word = Some (copy_with S word)
-copy_if E word = Some (copy_with E word)
-copy_if O word = Some (copy_with O word)
-copy_if M word = Some (copy_with M word)
+abbrev pub copy_if : State → Words → Option Line
+copy_if I words = None
+copy_if S words = Some (copy_with S words)
+copy_if E words = Some (copy_with E words)
+copy_if O words = Some (copy_with O words)
+copy_if M words = Some (copy_with M words)
 
 -- what another's request leaves of a copy
 abbrev pub left_by : (State → Snoop) → Option Line → Option Line
 left_by on_request None = None
-left_by on_request (Some copy) = copy_if (on_request copy.state).next copy.word
+left_by on_request (Some copy) = copy_if (on_request copy.state).next copy.words
 
 -- every cache below this number has seen the request, but for the one that made it
 abbrev pub SeenBelow : ℕ → (State → Snoop) → ℕ → ℕ → List Sets → List Sets → Type 0
@@ -71,14 +72,14 @@ abbrev pub ChangesCopy : ℕ → ℕ → Option Line → List Sets → List Sets
 ChangesCopy core line copy old new =
     (i k : ℕ) → copy_at new i k ≡ (if nat_eq i core && nat_eq k line then copy else copy_at old i k)
 
--- the copy once its word is in memory too
+-- the copy once its words are in memory too
 abbrev pub clean_copy : Line → Line
-clean_copy copy = copy_with (clean copy.state) copy.word
+clean_copy copy = copy_with (clean copy.state) copy.words
 
--- the word that memory gets of a copy: its own where it is dirty, and none of any other
-abbrev pub word_if_dirty : Option Line → ℕ → ℕ
-word_if_dirty None memory = memory
-word_if_dirty (Some copy) memory = (if is_dirty copy.state then copy.word else memory)
+-- the words that memory gets of a copy: its own where it is dirty, and none of any other
+abbrev pub words_if_dirty : Option Line → Words → Words
+words_if_dirty None memory = memory
+words_if_dirty (Some copy) memory = (if is_dirty copy.state then copy.words else memory)
 
 -- a line and its state once the line with this number was settled, and once all below it were
 abbrev pub clean_tag_at : ℕ → ℕ × State → ℕ × State
@@ -93,44 +94,45 @@ cleaned_at line s = tag_set (map (clean_tag_at line) s.tags) s.ways
 abbrev pub cleaned_below : ℕ → TagSet → TagSet
 cleaned_below line s = tag_set (map (clean_tag_below line) s.tags) s.ways
 
--- the word of a copy that supplies it
-abbrev pub supplied_of : (State → Snoop) → Option Line → Option ℕ
+-- the words of a copy that supplies them
+abbrev pub supplied_of : (State → Snoop) → Option Line → Option Words
 supplied_of on_request None = None
-supplied_of on_request (Some copy) = (if (on_request copy.state).supplies then Some copy.word else None)
+supplied_of on_request (Some copy) = (if (on_request copy.state).supplies then Some copy.words else None)
 
--- the word of a line: that of a copy that supplies it, or memory's where none does
-abbrev pub Supplied : (State → Snoop) → List Sets → ℕ → ℕ → ℕ → Type 0
-Supplied on_request caches line memory word =
-    ((word ≡ memory) × ((i : ℕ) → i < length caches → supplied_of on_request (copy_at caches i line) ≡ None))
-    ⊎ ((i : ℕ) × (supplied_of on_request (copy_at caches i line) ≡ Some word))
+-- the words of a line: those of a copy that supplies them, or memory's where none does
+abbrev pub Supplied : (State → Snoop) → List Sets → ℕ → Words → Words → Type 0
+Supplied on_request caches line memory words =
+    ((words ≡ memory) × ((i : ℕ) → i < length caches → supplied_of on_request (copy_at caches i line) ≡ None))
+    ⊎ ((i : ℕ) × (supplied_of on_request (copy_at caches i line) ≡ Some words))
 
 -- the caches and memory are coherent, the words that are seen stay, and so does the room in each set
-pub record KeepsWords (old_caches new_caches : List Sets) (old_memory new_memory : List ℕ) : Type 0 where
+pub record KeepsWords (old_caches new_caches : List Sets) (old_memory new_memory : List Words) : Type 0 where
   pub coherent : AllCoherent new_caches new_memory
   pub words : (k : ℕ) → k < length old_memory → seen new_caches new_memory k ≡ seen old_caches old_memory k
   pub ways : ways_of new_caches ≡ ways_of old_caches
 
--- a load answered this word and was this access: what it leaves goes by the protocol's table
-pub record Loads (t : Table) (core line : ℕ) (old_caches new_caches : List Sets) (old_memory new_memory : List ℕ) (word : ℕ) (access : Access) : Type 0 where
-  pub word_is : word ≡ seen old_caches old_memory line
+-- a load answered the word at this place of a line and was this access: what it leaves goes by the protocol's table
+pub record Loads (t : Table) (core line place : ℕ) (old_caches new_caches : List Sets) (old_memory new_memory : List Words) (word : ℕ) (access : Access) : Type 0 where
+  pub word_is : word ≡ slice_index (seen old_caches old_memory line) place
   pub access_is : access ≡ (loaded t core line (tags_of old_caches)).access
   pub tags : tags_of new_caches ≡ (loaded t core line (tags_of old_caches)).caches
   pub memory : new_memory ≡ loaded_memory t core line old_caches old_memory
 
--- a write access found this word and was this access: the core has the line in M, and what is left goes by
+-- a write access found these words and was this access: the core has the line in M, and what is left goes by
 -- the protocol's table
-pub record Acquires (t : Table) (core line : ℕ) (old_caches new_caches : List Sets) (old_memory new_memory : List ℕ) (word : ℕ) (access : Access) : Type 0 where
-  pub word_is : word ≡ seen old_caches old_memory line
-  pub own : copy_at new_caches core line ≡ Some (copy_with M word)
+pub record Acquires (t : Table) (core line : ℕ) (old_caches new_caches : List Sets) (old_memory new_memory : List Words) (words : Words) (access : Access) : Type 0 where
+  pub words_are : words ≡ seen old_caches old_memory line
+  pub own : copy_at new_caches core line ≡ Some (copy_with M words)
   pub access_is : access ≡ (written t core line (tags_of old_caches)).access
   pub tags : tags_of new_caches ≡ (written t core line (tags_of old_caches)).caches
   pub memory : new_memory ≡ written_memory t core line old_caches old_memory
 
--- a write access wrote this word, found that one and was this access: that word alone is seen to change,
--- and what is left goes by the protocol's table
-pub record Writes (t : Table) (core line new_word : ℕ) (old_caches new_caches : List Sets) (old_memory new_memory : List ℕ) (word : ℕ) (access : Access) : Type 0 where
-  pub word_is : word ≡ seen old_caches old_memory line
-  pub words : (k : ℕ) → k < length old_memory → seen new_caches new_memory k ≡ (if nat_eq k line then new_word else seen old_caches old_memory k)
+-- a write access wrote this value at a place of a line, found that word there and was this access: that word alone is
+-- seen to change, and what is left goes by the protocol's table
+pub record Writes (t : Table) (core line place value : ℕ) (old_caches new_caches : List Sets) (old_memory new_memory : List Words) (word : ℕ) (access : Access) : Type 0 where
+  pub place_in : place < length (seen old_caches old_memory line)
+  pub word_is : word ≡ slice_index (seen old_caches old_memory line) place
+  pub lines : (k : ℕ) → k < length old_memory → seen new_caches new_memory k ≡ (if nat_eq k line then slice_set (seen old_caches old_memory line) place value else seen old_caches old_memory k)
   pub access_is : access ≡ (written t core line (tags_of old_caches)).access
   pub tags : tags_of new_caches ≡ (written t core line (tags_of old_caches)).caches
   pub memory : new_memory ≡ written_memory t core line old_caches old_memory

@@ -1,18 +1,17 @@
-ghost use Rattle.std.specs.Prelude.{◌≡◌, ◌≢◌, ◌+◌, ◌%◌, ◌^◌, ◌<◌, ◌≤◌, Some, [], IsOk, IfOk, OnOk, OnErr, length, slice_get, slice_set, slice_index_or};
-ghost use Rattle.cache_set.specs.Contents.{contents};
-ghost use Rattle.snoop_bus.specs.CacheContents.{loaded, written, settled};
-ghost use Rattle.snoop_bus.specs.Copies.{cache_of, tags_of};
-ghost use Rattle.snoop_bus.specs.Bus.{words_of, cores_of, empty_caches, IsCoherent, IsSameMachine};
-ghost use Rattle.snoop_bus.specs.MemoryAfter.{loaded_memory, written_memory};
-ghost use Rattle.snoop_bus.specs.declared.access.AccessKind.TheVariants.{Miss};
+ghost use Rattle.std.specs.Prelude.{◌≡◌, ◌+◌, ◌%◌, ◌^◌, ◌<◌, ◌≤◌, Some, IfOk, OnErr, length, slice_get};
+ghost use Rattle.tso_model.specs.Limits.{most_locations};
+ghost use Rattle.snoop_bus.specs.Limits.{most_bus_cores};
+ghost use Rattle.snoop_bus.specs.Bus.{words_of, cores_of, IsCoherent, HasLines, IsSameMachine};
+ghost use Rattle.snoop_bus.specs.Accesses.{new_bus, contents_of, contents_settled, copies_of, memory_words_of, load_of, write_of, LoadsAt, WritesAt, IsRefused};
 
 use crate::access::Access;
 use crate::cache::Cache;
+use crate::lines::lines_of;
 use crate::loading::load;
 use crate::settling::settle;
 use crate::shape::Shape;
 use crate::writing::{add, swap};
-use cache_set::CacheSet;
+use cache_set::{CacheSet, MAX_WORDS};
 use protocol_tables::Protocol;
 use std::alloc::Global;
 use std::marker::Model;
@@ -22,9 +21,10 @@ use tso_model::{Core, Loc, NoMemory};
 pub const MAX_CORES: u8 = 8;
 
 /// How many locations memory has, at most.
-pub const MAX_LOCATIONS: usize = 16;
+pub const MAX_LOCATIONS: usize = tso_model::limits::MAX_LOCATIONS;
 
-/// The caches of all cores on one bus, and memory behind them. Location `l` lies in line `l`.
+/// The caches of all cores on one bus, and memory behind them. Where a line has so many words, location `l`
+/// lies in line `l / words` at place `l % words`.
 ///
 /// Each access is whole when its call returns: first the copy of the core itself, if it has one; then,
 /// on a miss, the words from the copy that supplies them or from memory, and a victim to memory if it is
@@ -33,18 +33,20 @@ pub const MAX_LOCATIONS: usize = 16;
 pub struct SnoopBus<P: Protocol> {
     protocol: P,
     shape: Shape,
+    locations: usize,
     caches: Vec<Cache>,
-    memory: Vec<u32>,
+    memory: Vec<[u32; MAX_WORDS]>,
 }
 
 impl<P: Protocol> Model for SnoopBus<P> {
+    ghost use Rattle.snoop_bus.specs.Rows.{rows_of};
     ghost use Rattle.snoop_bus.specs.Bus.{Bus, IsBus};
 
-    ghost Value = { Bus P };
+    ghost Value = { Bus };
 
-    ghost view = { λ b. record { protocol = b.protocol; shape = b.shape; caches = b.caches.items; memory = b.memory.items } };
+    ghost view = { λ b. record { rows = rows_of (P.table b.protocol); shape = b.shape; locations = b.locations; caches = b.caches.items; memory = b.memory.items } };
 
-    ghost invariant = { λ b. IsBus b.shape b.caches.items b.memory.items };
+    ghost invariant = { λ b. IsBus b.shape b.locations b.caches.items b.memory.items };
 }
 
 impl<P: Protocol> SnoopBus<P> {
@@ -59,22 +61,23 @@ impl<P: Protocol> SnoopBus<P> {
         shape: Shape,
         init: &[u32],
     ) -> Result<Self, NoMemory>
-        requires cores { (1 ≤ cores) × (cores ≤ MAX_CORES) }
-        requires init { length init.now ≤ MAX_LOCATIONS }
+        requires cores { (1 ≤ cores) × (cores ≤ most_bus_cores) }
+        requires init { length init.now ≤ most_locations }
         ensures words { IfOk result (λ b. words_of b ≡ init.now) }
         ensures cores { IfOk result (λ b. cores_of b ≡ cores) }
         ensures coherent { IfOk result (λ b. IsCoherent b) }
-        ensures exact { IfOk result (λ b. b ≡ record { protocol = protocol; shape = shape; caches = empty_caches cores shape; memory = init.now }) }
+        ensures exact { IfOk result (λ b. b ≡ new_bus (P.table protocol) cores shape init.now) }
     {
         let mut caches = Vec::new(alloc);
         for _ in 0..cores {
             let cache = Cache::new(alloc, shape)?;
             caches.push(cache)?;
         }
-        let memory = Vec::from_slice(alloc, init)?;
+        let memory = lines_of(alloc, shape, init)?;
         Ok(SnoopBus {
             protocol,
             shape,
+            locations: init.len(),
             caches,
             memory,
         })
@@ -87,23 +90,20 @@ impl<P: Protocol> SnoopBus<P> {
         requires core { core.0 < cores_of self.old }
         requires loc { loc.0 < length (words_of self.old) }
 
-        ensures word { IfOk result (λ r. slice_get (words_of self.old) loc.0 ≡ Some r.0) }
-        ensures words { words_of self.new ≡ words_of self.old }
-        ensures access { IfOk result (λ r. r.1 ≡ (loaded (P.table self.old.protocol) core.0 loc.0 (tags_of self.old.caches)).access) }
-        ensures tags { OnOk result (tags_of self.new.caches ≡ (loaded (P.table self.old.protocol) core.0 loc.0 (tags_of self.old.caches)).caches) }
-        ensures memory { OnOk result (self.new.memory ≡ loaded_memory (P.table self.old.protocol) core.0 loc.0 self.old.caches self.old.memory) }
+        ensures done { IfOk result (λ r. LoadsAt self.old self.new core.0 loc.0 r.0 r.1) }
+        ensures refused { OnErr result (IsRefused self.old self.new (load_of self.old core.0 loc.0).access) }
         ensures coherent { IsCoherent self.new }
         ensures machine { IsSameMachine self.old self.new }
-
-        ensures succeeds { (loaded (P.table self.old.protocol) core.0 loc.0 (tags_of self.old.caches)).access.kind ≢ Miss → IsOk result }
-        ensures err { OnErr result (self.new ≡ self.old) }
     {
+        let line = self.shape.line_of(loc);
+        let place = self.shape.place_of(loc);
         load(
             &mut self.caches,
             &mut self.memory,
             &self.protocol,
             usize::from(core.0),
-            loc.0,
+            line,
+            place,
         )
     }
 
@@ -114,15 +114,10 @@ impl<P: Protocol> SnoopBus<P> {
         requires core { core.0 < cores_of self.old }
         requires loc { loc.0 < length (words_of self.old) }
 
-        ensures words { OnOk result (words_of self.new ≡ slice_set (words_of self.old) loc.0 value) }
-        ensures access { IfOk result (λ a. a ≡ (written (P.table self.old.protocol) core.0 loc.0 (tags_of self.old.caches)).access) }
-        ensures tags { OnOk result (tags_of self.new.caches ≡ (written (P.table self.old.protocol) core.0 loc.0 (tags_of self.old.caches)).caches) }
-        ensures memory { OnOk result (self.new.memory ≡ written_memory (P.table self.old.protocol) core.0 loc.0 self.old.caches self.old.memory) }
+        ensures done { IfOk result (λ access. WritesAt self.old self.new core.0 loc.0 value access) }
+        ensures refused { OnErr result (IsRefused self.old self.new (write_of self.old core.0 loc.0).access) }
         ensures coherent { IsCoherent self.new }
         ensures machine { IsSameMachine self.old self.new }
-
-        ensures succeeds { (written (P.table self.old.protocol) core.0 loc.0 (tags_of self.old.caches)).access.kind ≢ Miss → IsOk result }
-        ensures err { OnErr result (self.new ≡ self.old) }
     {
         let (_, access) = self.swap(core, loc, value)?;
         Ok(access)
@@ -136,22 +131,20 @@ impl<P: Protocol> SnoopBus<P> {
         requires loc { loc.0 < length (words_of self.old) }
 
         ensures word { IfOk result (λ r. slice_get (words_of self.old) loc.0 ≡ Some r.0) }
-        ensures words { OnOk result (words_of self.new ≡ slice_set (words_of self.old) loc.0 value) }
-        ensures access { IfOk result (λ r. r.1 ≡ (written (P.table self.old.protocol) core.0 loc.0 (tags_of self.old.caches)).access) }
-        ensures tags { OnOk result (tags_of self.new.caches ≡ (written (P.table self.old.protocol) core.0 loc.0 (tags_of self.old.caches)).caches) }
-        ensures memory { OnOk result (self.new.memory ≡ written_memory (P.table self.old.protocol) core.0 loc.0 self.old.caches self.old.memory) }
+        ensures done { IfOk result (λ r. WritesAt self.old self.new core.0 loc.0 value r.1) }
+        ensures refused { OnErr result (IsRefused self.old self.new (write_of self.old core.0 loc.0).access) }
         ensures coherent { IsCoherent self.new }
         ensures machine { IsSameMachine self.old self.new }
-
-        ensures succeeds { (written (P.table self.old.protocol) core.0 loc.0 (tags_of self.old.caches)).access.kind ≢ Miss → IsOk result }
-        ensures err { OnErr result (self.new ≡ self.old) }
     {
+        let line = self.shape.line_of(loc);
+        let place = self.shape.place_of(loc);
         swap(
             &mut self.caches,
             &mut self.memory,
             &self.protocol,
             usize::from(core.0),
-            loc.0,
+            line,
+            place,
             value,
         )
     }
@@ -165,22 +158,20 @@ impl<P: Protocol> SnoopBus<P> {
         requires loc { loc.0 < length (words_of self.old) }
 
         ensures word { IfOk result (λ r. slice_get (words_of self.old) loc.0 ≡ Some r.0) }
-        ensures words { IfOk result (λ r. words_of self.new ≡ slice_set (words_of self.old) loc.0 ((r.0 + value) % 2 ^ 32)) }
-        ensures access { IfOk result (λ r. r.1 ≡ (written (P.table self.old.protocol) core.0 loc.0 (tags_of self.old.caches)).access) }
-        ensures tags { OnOk result (tags_of self.new.caches ≡ (written (P.table self.old.protocol) core.0 loc.0 (tags_of self.old.caches)).caches) }
-        ensures memory { OnOk result (self.new.memory ≡ written_memory (P.table self.old.protocol) core.0 loc.0 self.old.caches self.old.memory) }
+        ensures done { IfOk result (λ r. WritesAt self.old self.new core.0 loc.0 ((r.0 + value) % 2 ^ 32) r.1) }
+        ensures refused { OnErr result (IsRefused self.old self.new (write_of self.old core.0 loc.0).access) }
         ensures coherent { IsCoherent self.new }
         ensures machine { IsSameMachine self.old self.new }
-
-        ensures succeeds { (written (P.table self.old.protocol) core.0 loc.0 (tags_of self.old.caches)).access.kind ≢ Miss → IsOk result }
-        ensures err { OnErr result (self.new ≡ self.old) }
     {
+        let line = self.shape.line_of(loc);
+        let place = self.shape.place_of(loc);
         add(
             &mut self.caches,
             &mut self.memory,
             &self.protocol,
             usize::from(core.0),
-            loc.0,
+            line,
+            place,
             value,
         )
     }
@@ -189,8 +180,8 @@ impl<P: Protocol> SnoopBus<P> {
     /// memory has the words that are seen. This is no access, and takes no memory.
     pub fn settle(&mut self)
         ensures words { words_of self.new ≡ words_of self.old }
-        ensures memory { self.new.memory ≡ words_of self.old }
-        ensures tags { tags_of self.new.caches ≡ settled (tags_of self.old.caches) }
+        ensures memory { memory_words_of self.new ≡ words_of self.old }
+        ensures contents { contents_of self.new ≡ contents_settled self.old }
         ensures coherent { IsCoherent self.new }
         ensures machine { IsSameMachine self.old self.new }
     {
@@ -200,17 +191,21 @@ impl<P: Protocol> SnoopBus<P> {
     /// Memory's own word at a location, which may be stale where a cache has a dirty copy.
     pub fn memory_word(&self, loc: Loc) -> u32
         requires { loc.0 < length (words_of self.now) }
-        ensures { slice_get self.now.memory loc.0 ≡ Some result }
+        ensures { slice_get (memory_words_of self.now) loc.0 ≡ Some result }
     {
-        self.memory[usize::from(loc.0)]
+        let line = self.shape.line_of(loc);
+        let place = self.shape.place_of(loc);
+        self.memory[usize::from(line)][usize::from(place)]
     }
 
-    /// A core's set with this number, in which its copies stand with their words.
+    /// A core's set with this number, in which its copies stand with their words: all those of their lines,
+    /// and 0 past them.
     pub fn set_of(&self, core: Core, set: u8) -> &CacheSet
         requires core { core.0 < cores_of self.now }
         requires set { set < self.now.shape.sets }
-        ensures set { result.now ≡ slice_index_or (cache_of self.now.caches core.0) set (contents [] 1) }
+        ensures set { result.now ≡ copies_of self.now core.0 set }
         ensures coherent { IsCoherent self.now }
+        ensures lines { HasLines self.now }
     {
         self.caches[usize::from(core.0)].set(set)
     }

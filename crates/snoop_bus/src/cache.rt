@@ -1,12 +1,13 @@
 //! The whole cache of one core. Each step says what it makes of the sets (`exact`), what is then found
 //! at each line (`copies`), and that the room in each set stays (`ways`).
 ghost use Rattle.std.specs.Prelude.{◌≡◌, ◌≢◌, ◌<◌, ℕ, [], Some, None, IsSome, IfOk, IfSome, OnErr, length, map, replicate, slice_index_or, option_copied, option_map, nat_eq, if◌then◌else◌};
+ghost use Rattle.cache_set.specs.Limits.{most_words};
 ghost use Rattle.cache_set.specs.Contents.{contents, IsCacheSet, to_front, with_new, victim_of, with_changed, without, after_fill};
 ghost use Rattle.cache_set.specs.Copy.{copy_with, with_state, with_word};
 ghost use Rattle.snoop_bus.specs.Copies.{set_at, in_set, copy_in, AtHome};
 
 use crate::shape::Shape;
-use cache_set::{CacheSet, Line, Victim};
+use cache_set::{CacheSet, Line, MAX_WORDS, Victim};
 use protocol_tables::State;
 use std::alloc::Global;
 use std::marker::Model;
@@ -86,19 +87,24 @@ impl Cache {
     /// A line that is not here comes in, and another may leave.
     ///
     /// Fails only for want of memory; nothing is changed then.
-    pub fn fill(&mut self, line: u8, state: State, word: u32) -> Result<Option<Victim>, NoMemory>
+    pub fn fill(
+        &mut self,
+        line: u8,
+        state: State,
+        words: [u32; MAX_WORDS],
+    ) -> Result<Option<Victim>, NoMemory>
         requires absent { copy_in self.old line ≡ None }
         requires valid { state ≢ State.I }
-        ensures exact { IfOk result (λ _. self.new ≡ in_set line (with_new line (copy_with state word)) self.old) }
+        ensures exact { IfOk result (λ _. self.new ≡ in_set line (with_new line (copy_with state words)) self.old) }
         ensures victim { IfOk result (λ v. v ≡ victim_of (set_at self.old line)) }
-        ensures copies { IfOk result (λ v. (k : ℕ) → copy_in self.new k ≡ after_fill line (copy_with state word) v k (copy_in self.old k)) }
+        ensures copies { IfOk result (λ v. (k : ℕ) → copy_in self.new k ≡ after_fill line (copy_with state words) v k (copy_in self.old k)) }
         ensures was_here { IfOk result (λ v. IfSome v (λ x. copy_in self.old x.line ≡ Some x.content)) }
         ensures err { OnErr result (self.new ≡ self.old) }
         ensures ways { map (λ s. s.ways) self.new ≡ map (λ s. s.ways) self.old }
     {
         let at = usize::from(line) % self.sets.len();
         let set = &mut self.sets[at];
-        set.fill(line, state, word)
+        set.fill(line, state, words)
     }
 
     /// A line that is here goes to another state than I.
@@ -114,16 +120,17 @@ impl Cache {
         set.set_state(line, state);
     }
 
-    /// The word of a line that is here is written.
-    pub fn write_word(&mut self, line: u8, word: u32)
-        requires { IsSome (copy_in self.old line) }
-        ensures exact { self.new ≡ in_set line (with_changed (with_word word) line) self.old }
-        ensures copies { (k : ℕ) → copy_in self.new k ≡ (if nat_eq k line then option_map (with_word word) (copy_in self.old k) else copy_in self.old k) }
+    /// The word at this place of a line that is here is written.
+    pub fn write_word(&mut self, line: u8, place: u8, value: u32)
+        requires present { IsSome (copy_in self.old line) }
+        requires place { place < most_words }
+        ensures exact { self.new ≡ in_set line (with_changed (with_word place value) line) self.old }
+        ensures copies { (k : ℕ) → copy_in self.new k ≡ (if nat_eq k line then option_map (with_word place value) (copy_in self.old k) else copy_in self.old k) }
         ensures ways { map (λ s. s.ways) self.new ≡ map (λ s. s.ways) self.old }
     {
         let at = usize::from(line) % self.sets.len();
         let set = &mut self.sets[at];
-        set.write_word(line, word);
+        set.write_word(line, place, value);
     }
 
     /// A line that is here leaves.

@@ -9,6 +9,7 @@
 pub mod access;
 pub mod bus;
 mod cache;
+mod lines;
 mod loading;
 mod settling;
 pub mod shape;

@@ -1,30 +1,35 @@
 ghost use Rattle.std.specs.Prelude.{◌≡◌, ◌<◌, ◌≤◌, None, IsSome, IsOk, IfOk, OnErr, length};
+ghost use Rattle.cache_set.specs.Limits.{most_words};
+ghost use Rattle.snoop_bus.specs.Limits.{most_bus_cores};
 ghost use Rattle.snoop_bus.specs.Copies.{copy_at};
 ghost use Rattle.snoop_bus.specs.Bus.{AllCoherent};
 ghost use Rattle.snoop_bus.specs.Requests.{Loads, KeepsWords};
 
 use crate::access::{Access, AccessKind};
 use crate::cache::Cache;
-use crate::snoop::{Request, find_flusher, find_word, flush, is_shared, snoop_others, write_back};
+use crate::snoop::{Request, find_flusher, find_words, flush, is_shared, snoop_others, write_back};
+use cache_set::MAX_WORDS;
 use protocol_tables::Protocol;
 use tso_model::NoMemory;
 
-/// A core's load of a line: its word, and what the access was.
+/// A core's load of a word of a line: the word, and what the access was.
 ///
 /// Fails only for want of memory, which only a miss takes; nothing is changed then.
 pub fn load<P: Protocol>(
     caches: &mut [Cache],
-    memory: &mut [u32],
+    memory: &mut [[u32; MAX_WORDS]],
     protocol: &P,
     core: usize,
     line: u8,
+    place: u8,
 ) -> Result<(u32, Access), NoMemory>
     requires coherent { AllCoherent caches.old memory.old }
     requires core { core < length caches.old }
-    requires few { length caches.old ≤ 8 }
+    requires few { length caches.old ≤ most_bus_cores }
     requires line { line < length memory.old }
+    requires place { place < most_words }
 
-    ensures ok { IfOk result (λ r. Loads (P.table protocol.now) core line caches.old caches.new memory.old memory.new r.0 r.1) }
+    ensures ok { IfOk result (λ r. Loads (P.table protocol.now) core line place caches.old caches.new memory.old memory.new r.0 r.1) }
     ensures words { KeepsWords caches.old caches.new memory.old memory.new }
 
     ensures succeeds { IsSome (copy_at caches.old core line) → IsOk result }
@@ -34,32 +39,37 @@ pub fn load<P: Protocol>(
     if let Some(copy) = caches[core].look(line).copied() {
         let cache = &mut caches[core];
         cache.touch(line);
-        return Ok((copy.word, Access::quiet(AccessKind::Hit)));
+        return Ok((
+            copy.words[usize::from(place)],
+            Access::quiet(AccessKind::Hit),
+        ));
     }
-    load_miss(caches, memory, protocol, core, line)
+    load_miss(caches, memory, protocol, core, line, place)
 }
 
 /// A load of a line that the core doesn't have.
 fn load_miss<P: Protocol>(
     caches: &mut [Cache],
-    memory: &mut [u32],
+    memory: &mut [[u32; MAX_WORDS]],
     protocol: &P,
     core: usize,
     line: u8,
+    place: u8,
 ) -> Result<(u32, Access), NoMemory>
     requires coherent { AllCoherent caches.old memory.old }
     requires core { core < length caches.old }
-    requires few { length caches.old ≤ 8 }
+    requires few { length caches.old ≤ most_bus_cores }
     requires line { line < length memory.old }
+    requires place { place < most_words }
     requires absent { copy_at caches.old core line ≡ None }
 
-    ensures ok { IfOk result (λ r. Loads (P.table protocol.now) core line caches.old caches.new memory.old memory.new r.0 r.1) }
+    ensures ok { IfOk result (λ r. Loads (P.table protocol.now) core line place caches.old caches.new memory.old memory.new r.0 r.1) }
     ensures words { KeepsWords caches.old caches.new memory.old memory.new }
 
     ensures err_caches { OnErr result (caches.new ≡ caches.old) }
     ensures err_memory { OnErr result (memory.new ≡ memory.old) }
 {
-    let word = find_word(
+    let words = find_words(
         caches,
         protocol,
         Request::GetS,
@@ -69,14 +79,14 @@ fn load_miss<P: Protocol>(
     let state = protocol.filled(is_shared(caches, line));
     let flushed = find_flusher(caches, protocol, line);
     let cache = &mut caches[core];
-    let victim = cache.fill(line, state, word)?;
+    let victim = cache.fill(line, state, words)?;
     let wrote_back = write_back(memory, protocol, victim);
     snoop_others(caches, protocol, Request::GetS, core, line);
-    flush(memory, line, word, flushed);
+    flush(memory, line, words, flushed);
     let access = Access {
         kind: AccessKind::Miss,
         wrote_back,
         flushed,
     };
-    Ok((word, access))
+    Ok((words[usize::from(place)], access))
 }

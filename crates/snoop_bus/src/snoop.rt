@@ -2,13 +2,14 @@
 //! caches make of their copies.
 ghost use Rattle.std.specs.Prelude.{◌≡◌, ◌<◌, ◌≤◌, ℕ, IfSome, length, map, slice_set, is_some, option_map, nat_eq, not, ◌&&◌, if◌then◌else◌};
 ghost use Rattle.std.specs.List.{list_any};
+ghost use Rattle.snoop_bus.specs.Limits.{most_bus_cores};
 ghost use Rattle.snoop_bus.specs.CacheContents.{flusher_from, sends_in, requested, dirty_in};
 ghost use Rattle.snoop_bus.specs.Copies.{copy_in, copy_at, cache_of, tags_of, ways_of};
 ghost use Rattle.snoop_bus.specs.Requests.{asked, answered, left_by, LeftByOthers, supplied_of, Supplied};
 ghost use Rattle.snoop_bus.specs.MemoryAfter.{written_back};
 
 use crate::cache::Cache;
-use cache_set::Victim;
+use cache_set::{MAX_WORDS, Victim};
 use protocol_tables::{Protocol, Snoop, State};
 use tso_model::Core;
 
@@ -38,36 +39,36 @@ pub fn is_shared(caches: &[Cache], line: u8) -> bool
     caches.iter().any(|cache| cache.look(line).is_some())
 }
 
-/// The word of a cache's copy of the line, if it supplies it.
-fn supplied_word<P: Protocol>(
+/// The words of a cache's copy of the line, if it supplies them.
+fn supplied_words<P: Protocol>(
     cache: &Cache,
     protocol: &P,
     request: Request,
     line: u8,
-) -> Option<u32>
+) -> Option<[u32; MAX_WORDS]>
     ensures { result ≡ supplied_of (asked (P.table protocol.now) request) (copy_in cache.now line) }
 {
     let copy = cache.look(line)?;
     if answer(protocol, request, copy.state).supplies {
-        Some(copy.word)
+        Some(copy.words)
     } else {
         None
     }
 }
 
 /// The words of a line: those of a copy that supplies them, else memory's.
-pub fn find_word<P: Protocol>(
+pub fn find_words<P: Protocol>(
     caches: &[Cache],
     protocol: &P,
     request: Request,
     line: u8,
-    memory: u32,
-) -> u32
+    memory: [u32; MAX_WORDS],
+) -> [u32; MAX_WORDS]
     ensures { Supplied (asked (P.table protocol.now) request) caches.now line memory result }
 {
     for cache in caches {
-        if let Some(word) = supplied_word(cache, protocol, request, line) {
-            return word;
+        if let Some(words) = supplied_words(cache, protocol, request, line) {
+            return words;
         }
     }
     memory
@@ -85,7 +86,7 @@ fn is_sent<P: Protocol>(cache: &Cache, protocol: &P, line: u8) -> bool
 
 /// The core whose copy of the line is sent to memory on GetS, if there is one.
 pub fn find_flusher<P: Protocol>(caches: &[Cache], protocol: &P, line: u8) -> Option<Core>
-    requires { length caches.now ≤ 8 }
+    requires { length caches.now ≤ most_bus_cores }
     ensures { result ≡ flusher_from 0 (P.table protocol.now).on_get_s line (tags_of caches.now) }
 {
     for core in 0..caches.len() {
@@ -150,26 +151,36 @@ pub fn snoop_others<P: Protocol>(
 }
 
 /// A victim is written to memory if it is dirty. Answers whether it was.
-pub fn write_back<P: Protocol>(memory: &mut [u32], protocol: &P, victim: Option<Victim>) -> bool
+pub fn write_back<P: Protocol>(
+    memory: &mut [[u32; MAX_WORDS]],
+    protocol: &P,
+    victim: Option<Victim>,
+) -> bool
     requires { IfSome victim (λ v. v.line < length memory.old) }
     ensures memory { memory.new ≡ written_back (P.table protocol.now) victim memory.old }
     ensures dirty { result ≡ dirty_in (P.table protocol.now) (option_map (λ v. (v.line, v.content.state)) victim) }
 {
     if let Some(victim) = victim {
         if protocol.evicts_dirty(victim.content.state) {
-            memory[usize::from(victim.line)] = victim.content.word;
+            let words = victim.content.words;
+            memory[usize::from(victim.line)] = words;
             return true;
         }
     }
     false
 }
 
-/// The word of a copy that is sent to memory on GetS goes there, if there is one.
-pub fn flush(memory: &mut [u32], line: u8, word: u32, flusher: Option<Core>)
+/// The words of a copy that is sent to memory on GetS go there, if there is one.
+pub fn flush(
+    memory: &mut [[u32; MAX_WORDS]],
+    line: u8,
+    words: [u32; MAX_WORDS],
+    flusher: Option<Core>,
+)
     requires { line < length memory.old }
-    ensures { memory.new ≡ (if is_some flusher then slice_set memory.old line word else memory.old) }
+    ensures { memory.new ≡ (if is_some flusher then slice_set memory.old line words else memory.old) }
 {
     if flusher.is_some() {
-        memory[usize::from(line)] = word;
+        memory[usize::from(line)] = words;
     }
 }

@@ -1,4 +1,5 @@
 ghost use Rattle.std.specs.Prelude.{◌≡◌, ◌≢◌, ◌+◌, ◌%◌, ◌^◌, ◌<◌, None, IsSome, IsOk, IfOk, OnErr, length, option_map};
+ghost use Rattle.cache_set.specs.Limits.{most_words};
 ghost use Rattle.cache_set.specs.Copy.{with_state, with_word};
 ghost use Rattle.snoop_bus.specs.CacheContents.{used_by};
 ghost use Rattle.snoop_bus.specs.Copies.{copy_at, tags_of, ways_of};
@@ -7,26 +8,29 @@ ghost use Rattle.snoop_bus.specs.Requests.{Acquires, Writes, KeepsWords, Changes
 
 use crate::access::{Access, AccessKind};
 use crate::cache::Cache;
-use crate::snoop::{Request, find_word, snoop_others, write_back};
+use crate::snoop::{Request, find_words, snoop_others, write_back};
+use cache_set::MAX_WORDS;
 use protocol_tables::{Protocol, State};
 use tso_model::NoMemory;
 
-/// A core's write of a word. Answers the word that was there, and what the access was.
+/// A core's write of a word of a line. Answers the word that was there, and what the access was.
 ///
 /// Fails only for want of memory, which only a miss takes; nothing is changed then.
 pub fn swap<P: Protocol>(
     caches: &mut [Cache],
-    memory: &mut [u32],
+    memory: &mut [[u32; MAX_WORDS]],
     protocol: &P,
     core: usize,
     line: u8,
+    place: u8,
     value: u32,
 ) -> Result<(u32, Access), NoMemory>
     requires coherent { AllCoherent caches.old memory.old }
     requires core { core < length caches.old }
     requires line { line < length memory.old }
+    requires place { place < most_words }
 
-    ensures ok { IfOk result (λ r. Writes (P.table protocol.now) core line value caches.old caches.new memory.old memory.new r.0 r.1) }
+    ensures ok { IfOk result (λ r. Writes (P.table protocol.now) core line place value caches.old caches.new memory.old memory.new r.0 r.1) }
     ensures coherent { AllCoherent caches.new memory.new }
     ensures ways { ways_of caches.new ≡ ways_of caches.old }
 
@@ -34,27 +38,29 @@ pub fn swap<P: Protocol>(
     ensures err_caches { OnErr result (caches.new ≡ caches.old) }
     ensures err_memory { OnErr result (memory.new ≡ memory.old) }
 {
-    let (word, access) = acquire(caches, memory, protocol, core, line)?;
-    write(caches, core, line, value);
-    Ok((word, access))
+    let (words, access) = acquire(caches, memory, protocol, core, line)?;
+    write(caches, core, line, place, value);
+    Ok((words[usize::from(place)], access))
 }
 
-/// A core's addition to a word, modulo 2^32. Answers the word that was there, and what the access was.
+/// A core's addition to a word of a line, modulo 2^32. Answers the word that was there, and what the access was.
 ///
 /// Fails only for want of memory, which only a miss takes; nothing is changed then.
 pub fn add<P: Protocol>(
     caches: &mut [Cache],
-    memory: &mut [u32],
+    memory: &mut [[u32; MAX_WORDS]],
     protocol: &P,
     core: usize,
     line: u8,
+    place: u8,
     value: u32,
 ) -> Result<(u32, Access), NoMemory>
     requires coherent { AllCoherent caches.old memory.old }
     requires core { core < length caches.old }
     requires line { line < length memory.old }
+    requires place { place < most_words }
 
-    ensures ok { IfOk result (λ r. Writes (P.table protocol.now) core line ((r.0 + value) % 2 ^ 32) caches.old caches.new memory.old memory.new r.0 r.1) }
+    ensures ok { IfOk result (λ r. Writes (P.table protocol.now) core line place ((r.0 + value) % 2 ^ 32) caches.old caches.new memory.old memory.new r.0 r.1) }
     ensures coherent { AllCoherent caches.new memory.new }
     ensures ways { ways_of caches.new ≡ ways_of caches.old }
 
@@ -62,22 +68,23 @@ pub fn add<P: Protocol>(
     ensures err_caches { OnErr result (caches.new ≡ caches.old) }
     ensures err_memory { OnErr result (memory.new ≡ memory.old) }
 {
-    let (word, access) = acquire(caches, memory, protocol, core, line)?;
-    write(caches, core, line, word.wrapping_add(value));
+    let (words, access) = acquire(caches, memory, protocol, core, line)?;
+    let word = words[usize::from(place)];
+    write(caches, core, line, place, word.wrapping_add(value));
     Ok((word, access))
 }
 
 /// A core's write access to a line, but for the word that it writes: the core's copy is then in M, and
-/// no other core has one. Answers the word that the line has, and what the access was.
+/// no other core has one. Answers the words that the line has, and what the access was.
 ///
 /// Fails only for want of memory, which only a miss takes; nothing is changed then.
 fn acquire<P: Protocol>(
     caches: &mut [Cache],
-    memory: &mut [u32],
+    memory: &mut [[u32; MAX_WORDS]],
     protocol: &P,
     core: usize,
     line: u8,
-) -> Result<(u32, Access), NoMemory>
+) -> Result<([u32; MAX_WORDS], Access), NoMemory>
     requires coherent { AllCoherent caches.old memory.old }
     requires core { core < length caches.old }
     requires line { line < length memory.old }
@@ -90,13 +97,14 @@ fn acquire<P: Protocol>(
     ensures err_memory { OnErr result (memory.new ≡ memory.old) }
 {
     if let Some(copy) = caches[core].look(line).copied() {
+        let words = copy.words;
         if let Some(next) = protocol.written(copy.state) {
             enter(caches, core, line, next);
-            return Ok((copy.word, Access::quiet(AccessKind::Hit)));
+            return Ok((words, Access::quiet(AccessKind::Hit)));
         }
         snoop_others(caches, protocol, Request::GetM, core, line);
         enter(caches, core, line, State::M);
-        return Ok((copy.word, Access::quiet(AccessKind::Upgrade)));
+        return Ok((words, Access::quiet(AccessKind::Upgrade)));
     }
     write_miss(caches, memory, protocol, core, line)
 }
@@ -119,11 +127,11 @@ fn enter(caches: &mut [Cache], core: usize, line: u8, state: State)
 /// A write access to a line that the core doesn't have.
 fn write_miss<P: Protocol>(
     caches: &mut [Cache],
-    memory: &mut [u32],
+    memory: &mut [[u32; MAX_WORDS]],
     protocol: &P,
     core: usize,
     line: u8,
-) -> Result<(u32, Access), NoMemory>
+) -> Result<([u32; MAX_WORDS], Access), NoMemory>
     requires coherent { AllCoherent caches.old memory.old }
     requires core { core < length caches.old }
     requires line { line < length memory.old }
@@ -135,7 +143,7 @@ fn write_miss<P: Protocol>(
     ensures err_caches { OnErr result (caches.new ≡ caches.old) }
     ensures err_memory { OnErr result (memory.new ≡ memory.old) }
 {
-    let word = find_word(
+    let words = find_words(
         caches,
         protocol,
         Request::GetM,
@@ -143,7 +151,7 @@ fn write_miss<P: Protocol>(
         memory[usize::from(line)],
     );
     let cache = &mut caches[core];
-    let victim = cache.fill(line, State::M, word)?;
+    let victim = cache.fill(line, State::M, words)?;
     let wrote_back = write_back(memory, protocol, victim);
     snoop_others(caches, protocol, Request::GetM, core, line);
     let access = Access {
@@ -151,18 +159,19 @@ fn write_miss<P: Protocol>(
         wrote_back,
         flushed: None,
     };
-    Ok((word, access))
+    Ok((words, access))
 }
 
-/// Writes the word of a line that the core has.
-fn write(caches: &mut [Cache], core: usize, line: u8, word: u32)
+/// Writes the word at a place of a line that the core has.
+fn write(caches: &mut [Cache], core: usize, line: u8, place: u8, value: u32)
     requires core { core < length caches.old }
     requires present { IsSome (copy_at caches.old core line) }
+    requires place { place < most_words }
 
     ensures tags { tags_of caches.new ≡ tags_of caches.old }
-    ensures copies { ChangesCopy core line (option_map (with_word word) (copy_at caches.old core line)) caches.old caches.new }
+    ensures copies { ChangesCopy core line (option_map (with_word place value) (copy_at caches.old core line)) caches.old caches.new }
     ensures ways { ways_of caches.new ≡ ways_of caches.old }
 {
     let cache = &mut caches[core];
-    cache.write_word(line, word);
+    cache.write_word(line, place, value);
 }

@@ -4,15 +4,13 @@
 #![tactic(auto)]
 
 ghost use Rattle.std.specs.Prelude.{◌≡◌, ◌<◌, ◌≤◌, ◌↔◌, [], ◌∷◌, ◌++◌, IsTrue, IfOk, OnOk, IfErr, length, drop, fold, slice_get};
+ghost use Rattle.tso_model.specs.Limits.{least_depth, most_depth};
 ghost use Rattle.store_buffer.specs.Newest.{newer};
 
 use circular_buffer::HeapCircularBuffer;
 use std::alloc::Global;
 use std::marker::Model;
 use tso_model::{Loc, NoMemory};
-
-/// How many stores a buffer may be made for, at most.
-pub const MAX_DEPTH: u8 = 32;
 
 /// A store that was issued and is not in memory yet: the number of its instruction in its program,
 /// its location and the value that it writes.
@@ -44,11 +42,11 @@ impl StoreBuffer {
     ghost use Rattle.store_buffer.specs.Stores.{stores};
     ghost use Rattle.store_buffer.specs.Newest.{newest_for};
 
-    /// An empty buffer for `depth` stores, from 1 to `MAX_DEPTH`. No other call takes memory.
+    /// An empty buffer for `depth` stores, from `MIN_DEPTH` to `MAX_DEPTH` of `tso_model`. No other call takes memory.
     ///
     /// Fails only for want of memory.
     pub fn new(alloc: Global, depth: u8) -> Result<Self, NoMemory>
-        requires { (0 < depth) × (depth ≤ MAX_DEPTH) }
+        requires { (least_depth ≤ depth) × (depth ≤ most_depth) }
         ensures { IfOk result (λ b. b ≡ stores [] depth) }
     {
         let ring = HeapCircularBuffer::with_capacity(alloc, usize::from(depth))?;

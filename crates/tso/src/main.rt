@@ -4,6 +4,8 @@
 //! `tso_cli::run_command`; here stand the streams, the words of the line and the exit status.
 #![tactic(auto)]
 
+ghost use Rattle.std.specs.Prelude.{◌≡◌};
+
 use std::alloc::AllocError;
 use std::io::Write;
 use std::process::ExitCode;
@@ -87,7 +89,13 @@ fn run(rt: &HostRuntime, settings: &Settings) -> u8 {
     }
 }
 
-fn exit_status(status: Status) -> u8 {
+/// The exit status of a command that came to an answer.
+fn exit_status(status: Status) -> u8
+    ensures good { status ≡ Status.Good → result ≡ 0 }
+    ensures refused { status ≡ Status.Refused → result ≡ 1 }
+    ensures unended { status ≡ Status.Unended → result ≡ 3 }
+    ensures invalid { status ≡ Status.Invalid → result ≡ 4 }
+{
     match status {
         Status::Good => 0,
         Status::Refused => 1,

@@ -1,5 +1,5 @@
 -- What `check` answers, and what that means.
-use Rattle.std.proofs.Common.{◌≡◌, ◌≢◌, ℕ, ◌<◌, ◌≤◌, ◌^◌, List, [], length, get_or, Some, slice_get, slice_index_or, All, Result, Ok, Err, IfOk, string_bytes, refl, sym, ap, subst, arith}
+use Rattle.std.proofs.Common.{◌≡◌, ◌≢◌, ℕ, ◌<◌, ◌≤◌, ◌^◌, List, [], length, get_or, Some, slice_get, slice_index_or, All, refl, sym, ap, subst, arith}
 use Rattle.std.proofs.lemmas.Option.{get_or_from_slice_get, slice_get-get_or, slice_get_within}
 use Rattle.tso_model.specs.Litmus.{Litmus, IsTest}
 use Rattle.tso_model.specs.Execution.{made, StandsIn, IsWhole, IsTsoExecution}
@@ -26,7 +26,6 @@ use Rattle.tso_cli.specs.Simulation.{shown_of}
 use Rattle.tso_cli.specs.Answers.{IsCheckAnswer, IsJudgement, refused, judged, valid, invalid}
 use Rattle.tso_cli.specs.CheckLines.{valid_line, invalid_line, CanBeNamed}
 use Rattle.tso_cli.specs.Headline.{JudgesOrder, JudgesEachOrder, PrintsExecution}
-use Rattle.tso_cli.specs.declared.answer.Answer.{Answer}
 use Rattle.tso_cli.specs.declared.answer.Status.{Status}
 use Rattle.tso_cli.specs.declared.answer.Status.TheVariants.{Good}
 
@@ -78,7 +77,7 @@ abbrev pub IsNeverBoth : Type 0
 IsNeverBoth = (t : Litmus) (text : List ℕ) (order : List Entry) (fault : OrderFault) → IsTest t → length text < 2 ^ 64
     → SpellsOrder t text order → HasFault t text fault → ⊥
 
-judgement-means : (t : Litmus) (order : List Entry) (out : List ℕ) (status : Status) → IsReal → IsOne
+pub judgement-means : (t : Litmus) (order : List Entry) (out : List ℕ) (status : Status) → IsReal → IsOne
     → IsJudgement t order out status → JudgesOrder t order out
 judgement-means t order _ _ real one (valid is) = record {
   valid = (λ _. is, λ _. refl);
@@ -100,7 +99,7 @@ valid-judgement : (t : Litmus) (order : List Entry) (out : List ℕ) (status : S
 valid-judgement t order _ _ real execution (valid is) = (refl, refl)
 valid-judgement t order _ _ real execution (invalid b first) = absurd (real t order b first execution)
 
-valid-answer : (t : Litmus) (text : List ℕ) (order : List Entry) (out : List ℕ) (status : Status) → IsReal → IsOnce → IsNeverBoth → IsTest t
+pub valid-answer : (t : Litmus) (text : List ℕ) (order : List Entry) (out : List ℕ) (status : Status) → IsReal → IsOnce → IsNeverBoth → IsTest t
     → length text < 2 ^ 64 → SpellsOrder t text order → IsTsoExecution t order → IsCheckAnswer t text out status
     → (out ≡ valid_line) × (status ≡ Good)
 valid-answer t text order _ _ real once never test short spelled execution (refused fault has) = absurd (never t text order fault test short spelled has)
@@ -112,11 +111,6 @@ pub printed-is-valid : (t : Litmus) (kind : ProtocolKind) (c : Configuration) (c
 printed-is-valid t kind c choices out answer status real once never test short prints is =
     valid-answer t out prints.shown.order answer status real once never test short prints.spelled
     (record { whole = prints.exactly_once; program_order = prints.program_order; pairs = prints.adjacent; read_values = prints.read_values }) is
-
-pub answer-means-judged : {E : Type 0} (r : Result Answer E) (t : Litmus) (text : List ℕ) → IsReal → IsOne → IsOnce → IsNeverBoth → IsTest t → length text < 2 ^ 64
-    → IfOk r (λ a. IsCheckAnswer t text (string_bytes a.text) a.status) → IfOk r (λ a. JudgesEachOrder t text (string_bytes a.text))
-answer-means-judged (Ok a) t text real one once never test short is = check-means t text (string_bytes a.text) a.status real one once never test short is
-answer-means-judged (Err e) t text real one once never test short is = tt
 
 -- ---- the order of an ended run has all that the text of an order needs
 

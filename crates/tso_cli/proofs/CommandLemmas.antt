@@ -1,15 +1,11 @@
 -- From the bytes that were read and written to what the definitions say of the whole input.
-use Rattle.std.proofs.Common.{◌≡◌, ℕ, ◌≤◌, ◌⊎◌, inl, inr, List, [], ◌∷◌, length, take, Option, Some, None, IfSome, arith, ap, sym, refl, subst, length-take, zero, suc}
-use Rattle.std.specs.Io.KnownBytes.{Appends}
-use Rattle.tso_cli.specs.Streams.{Writes, WritesBeginning, AppendsBeginning}
+use Rattle.std.proofs.Common.{◌≡◌, ◌+◌, ℕ, ◌≤◌, ◌<◌, List, [], ◌∷◌, length, take, Option, Some, None, IfSome, arith, ap, refl, subst, length-take, zero, suc}
 use Rattle.litmus_reader.specs.Spelling.{SpellsTest, IsRefused as IsRefusedTest}
+use Rattle.tso_cli.specs.Limits.{longest_input}
 use Rattle.tso_cli.specs.Parts.{parts_of}
-use Rattle.tso_cli.specs.Answers.{IsAnswer, IsInputAnswer, IsAnswerTo, too_large, refused, answered}
-use Rattle.tso_cli.specs.Headline.{Headline, InputHeadline}
-use Rattle.protocol_tables.specs.declared.kind.ProtocolKind.{ProtocolKind}
-use Rattle.machine_core.specs.declared.config.Config.{Config}
-use Rattle.tso_cli.specs.declared.settings.Settings.{Settings}
-use Rattle.tso_cli.specs.declared.settings.Settings.TheVariants as settings
+use Rattle.tso_cli.specs.Answers.{IsInputAnswer, IsAnswerTo, too_large, refused, answered}
+use Rattle.tso_cli.specs.Headline.{InputHeadline, PartsHeadline}
+use Rattle.tso_cli.specs.declared.task.Task.{Task}
 use Rattle.tso_cli.specs.declared.answer.Status.{Status}
 
 take-short : (n : ℕ) (xs : List ℕ) → length xs ≤ n → take n xs ≡ xs
@@ -18,68 +14,46 @@ take-short zero (x ∷ xs) h = absurd (omega arith)
 take-short (suc n) [] h = refl
 take-short (suc n) (x ∷ xs) h = ap (λ r. x ∷ r) (take-short n xs (omega arith))
 
--- what the first bytes show of the size of an input
-short : (input : List ℕ) → length (take 1048577 input) ≤ 1048576 → length input ≤ 1048576
-short input h = omega (arith, length-take 1048577 input)
+-- the bytes that are read, which show the size of the input
+abbrev read : List ℕ → List ℕ
+read input = take (longest_input + 1) input
 
-whole : (input : List ℕ) → length input ≤ 1048576 → take 1048577 input ≡ input
-whole input h = take-short 1048577 input (omega arith)
+short : (input : List ℕ) → length (read input) ≤ longest_input → length input ≤ longest_input
+short input h = omega (arith, length-take (longest_input + 1) input)
 
-IsInputAnswer-from_take : (s : Settings) (input out : List ℕ) (status : Status) → IsInputAnswer s (take 1048577 input) out status → IsInputAnswer s input out status
-IsInputAnswer-from_take s input _ _ (too_large large) = too_large (omega (arith, length-take 1048577 input))
-IsInputAnswer-from_take s input _ _ (refused fault small is) =
+long : (input : List ℕ) → longest_input < length input → longest_input < length (read input)
+long input h = omega (arith, length-take (longest_input + 1) input)
+
+whole : (input : List ℕ) → length input ≤ longest_input → read input ≡ input
+whole input h = take-short (longest_input + 1) input (omega arith)
+
+IsInputAnswer-from_read : (task : Task) (input out : List ℕ) (status : Status) → IsInputAnswer task (read input) out status → IsInputAnswer task input out status
+IsInputAnswer-from_read task input _ _ (too_large large) = too_large (omega (arith, length-take (longest_input + 1) input))
+IsInputAnswer-from_read task input _ _ (refused fault small is) =
     let fits = short input small in
     refused fault fits (subst (λ i. IsRefusedTest (parts_of i).test fault) (whole input fits) is)
-IsInputAnswer-from_take s input _ _ (answered t out status small spelled answer) =
+IsInputAnswer-from_read task input _ _ (answered t out status small spelled answer) =
     let fits = short input small in
     answered t out status fits (subst (λ i. SpellsTest (parts_of i).test t) (whole input fits) spelled)
-    (subst (λ i. IsAnswerTo s t (parts_of i).rest out status) (whole input fits) answer)
+    (subst (λ i. IsAnswerTo task t (parts_of i).rest out status) (whole input fits) answer)
 
--- the command reads an input
-abbrev pub ReadsInput : Settings → Type 0
-ReadsInput (settings.Run kind config) = Unit {0}
-ReadsInput settings.Check = Unit {0}
-ReadsInput (settings.Tables kind) = ⊥
-
-pub run-or-check : (s : Settings) → ((kind : ProtocolKind) × (config : Config) × (s ≡ settings.Run kind config)) ⊎ (s ≡ settings.Check) → ReadsInput s
-run-or-check s (inl run) = subst ReadsInput (sym run.2) tt
-run-or-check s (inr check) = subst ReadsInput (sym check) tt
-
-IsAnswer-read : (s : Settings) (input out : List ℕ) (status : Status) → ReadsInput s → IsInputAnswer s input out status → IsAnswer s input out status
-IsAnswer-read (settings.Run kind config) input out status reads is = is
-IsAnswer-read settings.Check input out status reads is = is
-IsAnswer-read (settings.Tables kind) input out status reads is = absurd reads
-
-Headline-read : (s : Settings) (input out : List ℕ) → ReadsInput s → (length input ≤ 1048576 → InputHeadline s input out) → Headline s input out
-Headline-read (settings.Run kind config) input out reads h = h
-Headline-read settings.Check input out reads h = h
-Headline-read (settings.Tables kind) input out reads h = absurd reads
+InputHeadline-from_read : (task : Task) (input out : List ℕ) → InputHeadline task (read input) out → InputHeadline task input out
+InputHeadline-from_read task input out h = record {
+  within = λ fits.
+      let first : length (read input) ≤ longest_input = rw (whole input fits) fits in
+      subst (λ i. PartsHeadline task (parts_of i) out) (whole input fits) (h.within first);
+  above = λ large. h.above (long input large);
+}
 
 -- what is said of the first bytes of an input is said of the input
-pub answer-read : (s : Settings) (old : Option (List ℕ)) (items out : List ℕ) (status : Status) → ReadsInput s
-    → IfSome old (λ input. items ≡ take 1048577 input) → IsInputAnswer s items out status → IfSome old (λ input. IsAnswer s input out status)
-answer-read s None items out status reads read is = tt
-answer-read s (Some input) items out status reads read is =
-    IsAnswer-read s input out status reads (IsInputAnswer-from_take s input out status (subst (λ i. IsInputAnswer s i out status) read is))
+pub answer-read : (task : Task) (known : Option (List ℕ)) (items out : List ℕ) (status : Status)
+    → IfSome known (λ input. items ≡ take (longest_input + 1) input) → IsInputAnswer task items out status → IfSome known (λ input. IsInputAnswer task input out status)
+answer-read task None items out status is-read is = tt
+answer-read task (Some input) items out status is-read is =
+    IsInputAnswer-from_read task input out status (subst (λ i. IsInputAnswer task i out status) is-read is)
 
-pub headline-read : (s : Settings) (old : Option (List ℕ)) (items out : List ℕ) → ReadsInput s
-    → IfSome old (λ input. items ≡ take 1048577 input) → (length items ≤ 1048576 → InputHeadline s items out) → IfSome old (λ input. Headline s input out)
-headline-read s None items out reads read h = tt
-headline-read s (Some input) items out reads read h =
-    Headline-read s input out reads
-    (λ fits.
-    let same = whole input fits in
-    let first : length (take 1048577 input) ≤ 1048576 → InputHeadline s (take 1048577 input) out = subst (λ i. length i ≤ 1048576 → InputHeadline s i out) read h in
-    subst (λ i. InputHeadline s i out) same (first (rw same fits)))
-
--- ---- what was written
-
-pub known-written : (old a b : Option (List ℕ)) (bytes : List ℕ) (P : List ℕ → List ℕ → Type 0) → Appends a b bytes
-    → IfSome old (λ input. P input bytes) → IfSome old (λ input. Writes a b (P input))
-known-written None a b bytes P written known = tt
-known-written (Some input) a b bytes P written known = (bytes, known, written)
-
-pub known-begun : (old a b : Option (List ℕ)) (bytes : List ℕ) (status : Status) (P : List ℕ → List ℕ → Status → Type 0) → AppendsBeginning a b bytes
-    → IfSome old (λ input. P input bytes status) → IfSome old (λ input. (s : Status) × WritesBeginning a b (λ out. P input out s))
-known-begun None a b bytes status P written known = tt
-known-begun (Some input) a b bytes status P written known = (status, (bytes, known, written))
+pub headline-read : (task : Task) (known : Option (List ℕ)) (items out : List ℕ)
+    → IfSome known (λ input. items ≡ take (longest_input + 1) input) → InputHeadline task items out → IfSome known (λ input. InputHeadline task input out)
+headline-read task None items out is-read h = tt
+headline-read task (Some input) items out is-read h =
+    InputHeadline-from_read task input out (subst (λ i. InputHeadline task i out) is-read h)

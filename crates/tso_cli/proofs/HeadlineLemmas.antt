@@ -1,24 +1,32 @@
--- From a run that is a TSO execution to what the headline says of its report.
-use Rattle.std.proofs.Common.{◌≡◌, ◌≢◌, ◌≤◌, ℕ, List, Result, Ok, Err, IfOk, OnOk, string_bytes, length, true, subst, refl}
-use Rattle.tso_model.specs.Litmus.{Litmus}
+-- The headline holds of each answer.
+use Rattle.std.proofs.Common.{◌≡◌, ◌≤◌, ◌<◌, ◌^◌, ℕ, List, length, true, Option, Some, None, IfSome, subst, refl, arith}
+use Rattle.tso_model.specs.Litmus.{Litmus, IsTest}
+use Rattle.tso_model.specs.Execution.{IsWhole, StandsIn}
 use Rattle.tso_model.specs.Runs.{run}
 use Rattle.tso_model.specs.declared.choice.Choice.{Choice}
-use Rattle.tso_laws.specs.EndedRuns.{IsExecution}
-use Rattle.scheduler.specs.Grammar.{SpellsChoices}
-use Rattle.order_builder.specs.Spelling.{SpellsOrder}
+use Rattle.tso_model.specs.declared.execution.Entry.{Entry}
+use Rattle.tso_laws.specs.Entries.{FitsTest}
+use Rattle.tso_laws.specs.EndedRuns.{End, IsExecution}
+use Rattle.tso_laws.specs.Words.{HoldsWords}
+use Rattle.scheduler.specs.Refusals.{IsDecided}
+use Rattle.order_builder.specs.Spelling.{IsOrderFor, SpellsOrder}
 use Rattle.protocol_tables.specs.declared.kind.ProtocolKind.{ProtocolKind}
-use Rattle.machine_core.specs.Configuration.{Configuration}
+use Rattle.snoop_bus.specs.Geometry.{IsWithinLimits as IsShape}
+use Rattle.machine_core.specs.Configuration.{Configuration, IsWithinLimits}
 use Rattle.tso_report.specs.Report.{report}
-use Rattle.tso_cli.specs.Answers.{run_text}
-use Rattle.litmus_reader.specs.Spelling.{SpellsTest, IsRefused as IsRefusedTest}
-use Rattle.litmus_reader.specs.declared.fault.TextFault.{TextFault}
-use Rattle.litmus_reader.specs.declared.fault.Why.TheVariants as whys
+use Rattle.tso_report.specs.Shown.{Shown}
+use Rattle.tso_cli.specs.Answers.{run_text, IsRunAnswer, IsAnswerTo, IsInputAnswer, IsAnswer, too_large, refused, answered, ran}
+use Rattle.tso_cli.specs.Limits.{IsTaskWithinLimits, IsWithinLimits as IsSettingsWithinLimits}
 use Rattle.tso_cli.specs.Parts.{parts_of}
-use Rattle.tso_cli.specs.Lines.{test_refusal}
-use Rattle.tso_cli.specs.declared.settings.Settings.{Settings}
-use Rattle.tso_cli.specs.Headline.{PrintsExecution, PrintsEachRun, HeadlineOf, InputHeadline}
+use Rattle.tso_cli.specs.Headline.{PrintsExecution, PrintsEachRun, HeadlineOf, InputHeadline, Headline}
 use Rattle.tso_cli.specs.Simulation.{shown_of}
-use Rattle.tso_cli.specs.declared.answer.Answer.{Answer}
+use Rattle.tso_cli.specs.declared.task.Task.{Task}
+use Rattle.tso_cli.specs.declared.task.Task.TheVariants as tasks
+use Rattle.tso_cli.specs.declared.settings.Settings.{Settings}
+use Rattle.tso_cli.specs.declared.settings.Settings.TheVariants as settings
+use Rattle.tso_cli.specs.declared.answer.Status.{Status}
+use Rattle.tso_cli.proofs.CheckLemmas.{check-means, run-spells}
+use Rattle.tso_cli.proofs.OneAnswer.{Texts, short_rest}
 
 prints : (t : Litmus) (kind : ProtocolKind) (c : Configuration) (choices : List Choice) (out : List ℕ) → IsExecution t (run t c.depth choices)
     → out ≡ report t kind c (shown_of t (run t c.depth choices)) → SpellsOrder t out (run t c.depth choices).commits → PrintsExecution t kind c choices out
@@ -42,32 +50,63 @@ prints-one : (t : Litmus) (kind : ProtocolKind) (c : Configuration) (choices : L
     → (run t c.depth choices).ended ≡ true → PrintsExecution t kind c choices out
 prints-one t kind c choices out text law spelled ended = prints t kind c choices out (law ended) (rw ended at text) (spelled ended)
 
-pub PrintsEachRun-from_text : {E : Type 0} (r : Result Answer E) (t : Litmus) (kind : ProtocolKind) (c : Configuration) (text : List ℕ) (made : List Choice)
-    → IfOk r (λ a. string_bytes a.text ≡ run_text t kind c (run t c.depth made))
-    → ((run t c.depth made).ended ≡ true → IfOk r (λ a. SpellsOrder t (string_bytes a.text) (run t c.depth made).commits))
-    → ((choices : List Choice) → SpellsChoices (length t.programs) text choices → made ≡ choices)
-    → ((run t c.depth made).ended ≡ true → IsExecution t (run t c.depth made))
-    → IfOk r (λ a. PrintsEachRun t kind c text (string_bytes a.text))
-PrintsEachRun-from_text (Ok a) t kind c text made is spelled only law = λ choices read.
-    subst (λ cs. (run t c.depth cs).ended ≡ true → PrintsExecution t kind c cs (string_bytes a.text)) (only choices read)
-    (prints-one t kind c made (string_bytes a.text) is law spelled)
-PrintsEachRun-from_text (Err e) t kind c text made is spelled only law = tt
+run-means : (t : Litmus) (kind : ProtocolKind) (c : Configuration) (text out : List ℕ) (status : Status) → IsDecided (length t.programs) text
+    → ((choices : List Choice) → (run t c.depth choices).ended ≡ true → IsExecution t (run t c.depth choices))
+    → ((choices : List Choice) (out : List ℕ) → out ≡ run_text t kind c (run t c.depth choices) → (run t c.depth choices).ended ≡ true → SpellsOrder t out (run t c.depth choices).commits)
+    → IsRunAnswer t kind c text out status → PrintsEachRun t kind c text out
+run-means t kind c text _ _ decided law spells (refused fault h) = λ choices spelled. absurd (decided.never_both choices fault spelled h)
+run-means t kind c text _ _ decided law spells (ran made spelled) = λ choices read.
+    subst (λ cs. (run t c.depth cs).ended ≡ true → PrintsExecution t kind c cs (run_text t kind c (run t c.depth made))) (decided.one_list made choices spelled read)
+    (prints-one t kind c made (run_text t kind c (run t c.depth made)) refl (law made) (spells made (run_text t kind c (run t c.depth made)) refl))
 
--- a first part that spells a test, and one that is refused
-pub headline-of-test : {E : Type 0} (r : Result Answer E) (s : Settings) (input : List ℕ) (test : Litmus) → SpellsTest (parts_of input).test test
-    → ((t : Litmus) → SpellsTest (parts_of input).test t → test ≡ t) → IfOk r (λ a. HeadlineOf s test (parts_of input).rest (string_bytes a.text))
-    → IfOk r (λ a. length input ≤ 1048576 → InputHeadline s input (string_bytes a.text))
-headline-of-test (Ok a) s input test found only h = λ _. record {
-  every_test = λ t spelled. subst (λ (t : Litmus). HeadlineOf s t (parts_of input).rest (string_bytes a.text)) (only t spelled) h;
-  every_other = λ none. absurd (none test found);
-}
-headline-of-test (Err e) s input test found only h = tt
+-- what the crates below say of runs and reports
+pub record Runs : Type 0 where
+  pub executions : (t : Litmus) (depth : ℕ) (choices : List Choice) → IsTest t → End t depth choices → IsExecution t (run t depth choices)
+  pub fits : (t : Litmus) (order : List Entry) (e : Entry) → IsTest t → IsWhole t order → StandsIn order e → FitsTest t e
+  pub words : (t : Litmus) (depth : ℕ) (choices : List Choice) → IsTest t → HoldsWords (run t depth choices).commits (run t depth choices).state
+  pub report_spells : (t : Litmus) (kind : ProtocolKind) (c : Configuration) (s : Shown) → IsTest t → c.depth < 2 ^ 64 → IsShape c.shape → IsOrderFor t s.order → SpellsOrder t (report t kind c s) s.order
 
-pub headline-of-refusal : {E : Type 0} (r : Result Answer E) (s : Settings) (input : List ℕ) (fault : TextFault)
-    → IfOk r (λ a. string_bytes a.text ≡ test_refusal fault) → OnOk r (fault.why ≢ whys.NoMemory) → (fault.why ≢ whys.NoMemory → IsRefusedTest (parts_of input).test fault)
-    → ((t : Litmus) → SpellsTest (parts_of input).test t → fault.why ≡ whys.NoMemory) → IfOk r (λ a. length input ≤ 1048576 → InputHeadline s input (string_bytes a.text))
-headline-of-refusal (Ok a) s input fault text real refused only = λ _. record {
-  every_test = λ t spelled. absurd (real (only t spelled));
-  every_other = λ none. (fault, refused real, text);
+pub report-spells : (t : Litmus) (kind : ProtocolKind) (c : Configuration) (choices : List Choice) (out : List ℕ) → Runs → IsTest t → IsWithinLimits c
+    → out ≡ run_text t kind c (run t c.depth choices) → (run t c.depth choices).ended ≡ true → SpellsOrder t out (run t c.depth choices).commits
+report-spells t kind c choices out laws test within is ended =
+    let depth : c.depth < 2 ^ 64 = let d = within.1 in omega arith in
+    run-spells t kind c (run t c.depth choices) (shown_of t (run t c.depth choices)) out test depth within.2 laws.report_spells laws.fits
+    (laws.executions t c.depth choices test ended) refl (rw ended at is) (laws.words t c.depth choices test).values
+
+answer-means : (task : Task) (t : Litmus) (text out : List ℕ) (status : Status) → Texts → Runs → IsTaskWithinLimits task → IsTest t → length text < 2 ^ 64
+    → IsAnswerTo task t text out status → HeadlineOf task t text out
+answer-means (tasks.Run kind c) t text out status texts runs within test short is =
+    run-means t kind c text out status (texts.decided (length t.programs) text test.some_core) (λ choices ended. runs.executions t c.depth choices test ended)
+    (λ choices out. report-spells t kind c choices out runs test within) is
+answer-means tasks.Check t text out status texts runs within test short is =
+    check-means t text out status texts.real texts.one texts.once texts.never_both test short is
+
+pub input-means : (task : Task) (input out : List ℕ) (status : Status) → Texts → Runs → IsTaskWithinLimits task
+    → IsInputAnswer task input out status → InputHeadline task input out
+input-means task input _ _ texts runs within (too_large large) = record { within = λ small. absurd (omega arith); above = λ _. refl }
+input-means task input _ _ texts runs within (refused fault small is) = record {
+  within = λ _. record {
+    every_test = λ t spelled. absurd (texts.refused_or_not _ t fault spelled is);
+    every_other = λ none. (fault, is, refl);
+  };
+  above = λ large. absurd (omega arith);
 }
-headline-of-refusal (Err e) s input fault text real refused only = tt
+input-means task input _ _ texts runs within (answered t out status small spelled is) = record {
+  within = λ _. record {
+    every_test = λ other too. subst (λ (t : Litmus). HeadlineOf task t (parts_of input).rest out) (texts.one_test _ t other spelled too)
+        (answer-means task t (parts_of input).rest out status texts runs within (texts.test _ t spelled) (short_rest input small) is);
+    every_other = λ none. absurd (none t spelled);
+  };
+  above = λ large. absurd (omega arith);
+}
+
+known-means : (task : Task) (known : Option (List ℕ)) (out : List ℕ) (status : Status) → Texts → Runs → IsTaskWithinLimits task
+    → IfSome known (λ input. IsInputAnswer task input out status) → IfSome known (λ input. InputHeadline task input out)
+known-means task None out status texts runs within is = tt
+known-means task (Some input) out status texts runs within is = input-means task input out status texts runs within is
+
+pub command-means : (s : Settings) (known : Option (List ℕ)) (out : List ℕ) (status : Status) → Texts → Runs → IsSettingsWithinLimits s
+    → IsAnswer s known out status → Headline s known out
+command-means (settings.Run kind c) known out status texts runs within is = known-means (tasks.Run kind c) known out status texts runs within is
+command-means settings.Check known out status texts runs within is = known-means tasks.Check known out status texts runs within is
+command-means (settings.Tables kind) known out status texts runs within is = is.text

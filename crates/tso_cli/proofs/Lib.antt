@@ -1,7 +1,11 @@
 pub mod KnownLemmas
 pub mod RunLemmas
 pub mod AnswerLemmas
+pub mod PartLemmas
+pub mod OneAnswer
 pub mod HeadlineLemmas
 pub mod CheckLemmas
 pub mod CommandLemmas
 pub mod SimulationLemmas
+pub mod Joined
+pub mod Rechecked

@@ -1,5 +1,5 @@
 -- The answer to an input: what is written, and the status. (This project's profile.)
-use Rattle.std.specs.Prelude.{ℕ, ◌<◌, ◌≤◌, ◌≡◌, if◌then◌else◌, List, length}
+use Rattle.std.specs.Prelude.{ℕ, ◌+◌, ◌<◌, ◌≤◌, ◌≡◌, if◌then◌else◌, List, length, Option, IfSome}
 use Rattle.tso_model.specs.Litmus.{Litmus}
 use Rattle.tso_model.specs.Execution.{IsTsoExecution}
 use Rattle.tso_model.specs.Runs as flat
@@ -20,10 +20,13 @@ use Rattle.protocol_tables.specs.PrintedTable.{printed_table}
 use Rattle.protocol_tables.specs.declared.kind.ProtocolKind.{ProtocolKind}
 use Rattle.machine_core.specs.Configuration.{Configuration}
 use Rattle.tso_report.specs.Report.{report}
+use Rattle.tso_cli.specs.Limits.{longest_input}
 use Rattle.tso_cli.specs.Parts.{parts_of}
 use Rattle.tso_cli.specs.Lines.{input_refusal, test_refusal, choices_refusal, unfinished_line}
 use Rattle.tso_cli.specs.CheckLines.{order_refusal, valid_line, invalid_line}
 use Rattle.tso_cli.specs.Simulation.{shown_of}
+use Rattle.tso_cli.specs.declared.task.Task.{Task}
+use Rattle.tso_cli.specs.declared.task.Task.TheVariants as tasks
 use Rattle.tso_cli.specs.declared.settings.Settings.{Settings}
 use Rattle.tso_cli.specs.declared.settings.Settings.TheVariants as settings
 use Rattle.tso_cli.specs.declared.answer.Status.{Status}
@@ -54,33 +57,33 @@ pub data IsCheckAnswer (t : Litmus) (text : List ℕ) : List ℕ → Status → 
   judged : (order : List Entry) (out : List ℕ) (status : Status) → SpellsOrder t text order → IsJudgement t order out status
       → IsCheckAnswer t text out status
 
+-- the answer to a test and the second part of its input
+abbrev pub IsAnswerTo : Task → Litmus → List ℕ → List ℕ → Status → Type 0
+IsAnswerTo (tasks.Run kind config) t text out status = IsRunAnswer t kind config text out status
+IsAnswerTo tasks.Check t text out status = IsCheckAnswer t text out status
+
+-- the answer to an input: its size is judged first, then its first part, then the second
+pub data IsInputAnswer (task : Task) (input : List ℕ) : List ℕ → Status → Type 0 where
+  too_large : longest_input < length input → IsInputAnswer task input input_refusal Refused
+  refused : (fault : TextFault) → length input ≤ longest_input → IsRefusedTest (parts_of input).test fault
+      → IsInputAnswer task input (test_refusal fault) Refused
+  answered : (t : Litmus) (out : List ℕ) (status : Status) → length input ≤ longest_input → SpellsTest (parts_of input).test t
+      → IsAnswerTo task t (parts_of input).rest out status → IsInputAnswer task input out status
+
 -- the answer of `tables`
 pub record IsTableAnswer (kind : ProtocolKind) (out : List ℕ) (status : Status) : Type 0 where
   pub text : out ≡ printed_table (protocol_name kind) (table_of kind)
   pub status_is : status ≡ Good
 
--- the answer to a test and the second part of its input
-abbrev pub IsAnswerTo : Settings → Litmus → List ℕ → List ℕ → Status → Type 0
-IsAnswerTo (settings.Run kind config) t text out status = IsRunAnswer t kind config text out status
-IsAnswerTo settings.Check t text out status = IsCheckAnswer t text out status
-IsAnswerTo (settings.Tables kind) t text out status = IsTableAnswer kind out status
+-- the answer of a command to the bytes that its reader has, where they are known; `tables` reads none, and answers
+-- the same to every reader
+abbrev pub IsAnswer : Settings → Option (List ℕ) → List ℕ → Status → Type 0
+IsAnswer (settings.Run kind config) known out status = IfSome known (λ input. IsInputAnswer (tasks.Run kind config) input out status)
+IsAnswer settings.Check known out status = IfSome known (λ input. IsInputAnswer tasks.Check input out status)
+IsAnswer (settings.Tables kind) known out status = IsTableAnswer kind out status
 
--- the answer to an input that was read: its size is judged first, then its first part, then the second
-pub data IsInputAnswer (s : Settings) (input : List ℕ) : List ℕ → Status → Type 0 where
-  too_large : 1048576 < length input → IsInputAnswer s input input_refusal Refused
-  refused : (fault : TextFault) → length input ≤ 1048576 → IsRefusedTest (parts_of input).test fault
-      → IsInputAnswer s input (test_refusal fault) Refused
-  answered : (t : Litmus) (out : List ℕ) (status : Status) → length input ≤ 1048576 → SpellsTest (parts_of input).test t
-      → IsAnswerTo s t (parts_of input).rest out status → IsInputAnswer s input out status
-
--- the answer to an input; `tables` reads none, and answers the same to each
-abbrev pub IsAnswer : Settings → List ℕ → List ℕ → Status → Type 0
-IsAnswer (settings.Run kind config) input out status = IsInputAnswer (settings.Run kind config) input out status
-IsAnswer settings.Check input out status = IsInputAnswer settings.Check input out status
-IsAnswer (settings.Tables kind) input out status = IsTableAnswer kind out status
-
--- how many bytes of the input are read, at most
+-- how many bytes are read, at most: one more than an input may have shows that it has too many
 abbrev pub most_read : Settings → ℕ
-most_read (settings.Run kind config) = 1048577
-most_read settings.Check = 1048577
+most_read (settings.Run kind config) = longest_input + 1
+most_read settings.Check = longest_input + 1
 most_read (settings.Tables kind) = 0

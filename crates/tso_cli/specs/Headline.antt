@@ -1,6 +1,6 @@
 -- The headline: what is printed is a TSO execution of the test, with what it leaves; every other text is refused.
 -- (Primer, chapter 4, for the axioms; x86-TSO, section 3, for fences and locked instructions.)
-use Rattle.std.specs.Prelude.{ℕ, ◌≤◌, ◌≡◌, ◌↔◌, true, List, length}
+use Rattle.std.specs.Prelude.{ℕ, ◌<◌, ◌≤◌, ◌≡◌, ◌↔◌, true, List, length, Option, IfSome}
 use Rattle.tso_model.specs.Litmus.{Litmus}
 use Rattle.tso_model.specs.Execution.{IsWhole, KeepsProgramOrder, KeepsPairs, HasReadValues, IsTsoExecution}
 use Rattle.tso_model.specs.FinalState.{final_words, final_registers}
@@ -20,10 +20,13 @@ use Rattle.protocol_tables.specs.declared.kind.ProtocolKind.{ProtocolKind}
 use Rattle.machine_core.specs.Configuration.{Configuration}
 use Rattle.tso_report.specs.Shown.{Shown}
 use Rattle.tso_report.specs.Report.{report}
-use Rattle.tso_cli.specs.Parts.{parts_of}
-use Rattle.tso_cli.specs.Lines.{test_refusal}
+use Rattle.tso_cli.specs.Limits.{longest_input}
+use Rattle.tso_cli.specs.Parts.{Parts, parts_of}
+use Rattle.tso_cli.specs.Lines.{input_refusal, test_refusal}
 use Rattle.tso_cli.specs.CheckLines.{valid_line, invalid_line}
 use Rattle.tso_cli.specs.Simulation.{verdict}
+use Rattle.tso_cli.specs.declared.task.Task.{Task}
+use Rattle.tso_cli.specs.declared.task.Task.TheVariants as tasks
 use Rattle.tso_cli.specs.declared.settings.Settings.{Settings}
 use Rattle.tso_cli.specs.declared.settings.Settings.TheVariants as settings
 
@@ -59,24 +62,28 @@ pub record JudgesOrder (t : Litmus) (order : List Entry) (out : List ℕ) : Type
 abbrev pub JudgesEachOrder : Litmus → List ℕ → List ℕ → Type 0
 JudgesEachOrder t text out = (order : List Entry) → SpellsOrder t text order → JudgesOrder t order out
 
+-- what the headline says of a test and the second part of its input
+abbrev pub HeadlineOf : Task → Litmus → List ℕ → List ℕ → Type 0
+HeadlineOf (tasks.Run kind config) t text out = PrintsEachRun t kind config text out
+HeadlineOf tasks.Check t text out = JudgesEachOrder t text out
+
+-- this is so for every test text; every other text is refused with its line
+pub record PartsHeadline (task : Task) (parts : Parts) (out : List ℕ) : Type 0 where
+  pub every_test : (t : Litmus) → SpellsTest parts.test t → HeadlineOf task t parts.rest out
+  pub every_other : ((t : Litmus) → ¬ (SpellsTest parts.test t))
+      → (fault : TextFault) × IsRefusedTest parts.test fault × (out ≡ test_refusal fault)
+
+-- of an input within its size; a larger one is refused
+pub record InputHeadline (task : Task) (input out : List ℕ) : Type 0 where
+  pub within : length input ≤ longest_input → PartsHeadline task (parts_of input) out
+  pub above : longest_input < length input → out ≡ input_refusal
+
 -- the table of the protocol is printed
 abbrev pub PrintsTable : ProtocolKind → List ℕ → Type 0
 PrintsTable kind out = out ≡ printed_table (protocol_name kind) (table_of kind)
 
--- what the headline says of a test and the second part of its input
-abbrev pub HeadlineOf : Settings → Litmus → List ℕ → List ℕ → Type 0
-HeadlineOf (settings.Run kind config) t text out = PrintsEachRun t kind config text out
-HeadlineOf settings.Check t text out = JudgesEachOrder t text out
-HeadlineOf (settings.Tables kind) t text out = PrintsTable kind out
-
--- this is so for every test text; every other text is refused with its line
-pub record InputHeadline (s : Settings) (input out : List ℕ) : Type 0 where
-  pub every_test : (t : Litmus) → SpellsTest (parts_of input).test t → HeadlineOf s t (parts_of input).rest out
-  pub every_other : ((t : Litmus) → ¬ (SpellsTest (parts_of input).test t))
-      → (fault : TextFault) × IsRefusedTest (parts_of input).test fault × (out ≡ test_refusal fault)
-
--- of an input within its size; `tables` reads none
-abbrev pub Headline : Settings → List ℕ → List ℕ → Type 0
-Headline (settings.Run kind config) input out = length input ≤ 1048576 → InputHeadline (settings.Run kind config) input out
-Headline settings.Check input out = length input ≤ 1048576 → InputHeadline settings.Check input out
-Headline (settings.Tables kind) input out = PrintsTable kind out
+-- of the bytes that the reader has, where they are known; `tables` reads none, and prints the same for every reader
+abbrev pub Headline : Settings → Option (List ℕ) → List ℕ → Type 0
+Headline (settings.Run kind config) known out = IfSome known (λ input. InputHeadline (tasks.Run kind config) input out)
+Headline settings.Check known out = IfSome known (λ input. InputHeadline tasks.Check input out)
+Headline (settings.Tables kind) known out = PrintsTable kind out

@@ -1,5 +1,5 @@
 -- The two parts of an input: before and behind the first line that is `====`. (This project's profile.)
-use Rattle.std.specs.Prelude.{ℕ, ◌==◌, Bool, true, if◌then◌else◌, List, [], ◌∷◌, drop, Option, Some, None, nat_eq, codes}
+use Rattle.std.specs.Prelude.{ℕ, ◌≡◌, ◌==◌, Bool, true, if◌then◌else◌, List, [], ◌∷◌, ◌++◌, drop, Option, Some, None, nat_eq, codes}
 use Rattle.std.specs.List.{starts_with}
 
 -- what is behind a line feed
@@ -36,3 +36,17 @@ parts_from at_line (c ∷ cs) =
 
 abbrev pub parts_of : List ℕ → Parts
 parts_of input = parts_from true input
+
+-- ---- put together
+
+-- the input of these two parts
+abbrev pub joined : List ℕ → List ℕ → List ℕ
+joined test rest = test ++ (codes "====\n" ++ rest)
+
+-- no line of the text is `====`: the first part of it is all of it
+abbrev pub HasNoDivider : List ℕ → Type 0
+HasNoDivider text = (parts_of text).test ≡ text
+
+-- the text ends in a line feed
+abbrev pub EndsInFeed : List ℕ → Type 0
+EndsInFeed text = (front : List ℕ) × (text ≡ front ++ 10 ∷ [])

@@ -1,28 +1,22 @@
-ghost use Rattle.std.specs.Prelude.{◌≡◌, ◌≢◌, ◌<◌, ◌≤◌, true, List, IfOk, OnOk, length, string_bytes};
+ghost use Rattle.std.specs.Prelude.{◌≡◌, ◌≢◌, IfOk, OnOk, length, string_bytes};
 ghost use Rattle.tso_model.specs.Runs.{run, CoresExist};
-ghost use Rattle.tso_model.specs.Litmus.{IsTest};
-ghost use Rattle.tso_model.specs.declared.choice.Choice.{Choice};
-ghost use Rattle.scheduler.specs.Grammar.{SpellsChoices};
-ghost use Rattle.order_builder.specs.Spelling.{SpellsOrder};
-ghost use Rattle.tso_report.specs.Report.{report};
 ghost use Rattle.tso_cli.specs.Answers.{run_text, run_status, IsRunAnswer, IsTableAnswer, IsAnswerTo, IsInputAnswer};
-ghost use Rattle.tso_cli.specs.Headline.{PrintsEachRun, PrintsTable, HeadlineOf, InputHeadline};
+ghost use Rattle.tso_cli.specs.Headline.{InputHeadline};
+ghost use Rattle.tso_cli.specs.Limits.{IsTaskWithinLimits};
 ghost use Rattle.tso_cli.specs.Lines.{test_refusal, choices_refusal, unfinished_line, input_refusal};
-ghost use Rattle.tso_cli.specs.Simulation.{shown_of};
 
 use crate::checking::check_answer;
+use crate::laws::answers_meet_the_headline;
 use crate::parts::parts_of;
-use crate::settings::Settings;
 use crate::simulation::{Ending, SimFault, simulate};
 use crate::streams::MAX_INPUT;
+use crate::task::Task;
 use litmus_reader::{TextFault, Why, read_test};
 use machine_core::{Choice, Config};
 use protocol_tables::{ProtocolKind, table_text};
 use scheduler::{ChoiceFault, read_choices, spelled_cores_exist};
 use std::alloc::Global;
-use tso_laws::{ended_runs_are_executions, whole_orders_have_each_entry_once};
 use tso_model::{NoMemory, Test};
-use tso_report::laws::report_spells_its_order;
 use tso_report::report_text;
 
 /// How a command ended.
@@ -92,37 +86,50 @@ fn refused_input(alloc: Global) -> Result<Answer, NoMemory>
     })
 }
 
-/// The answer to an input that was read: its size is judged first, then the test that is its first
-/// part, then the second part.
+/// The answer to an input: its size is judged first, then the test that is its first part, then the
+/// second part.
 ///
 /// Fails only for want of memory.
-pub fn answer_to(alloc: Global, settings: &Settings, input: &[u8]) -> Result<Answer, NoMemory>
-    ensures exact { IfOk result (λ a. IsInputAnswer settings.now input.now (string_bytes a.text) a.status) }
-    ensures headline { IfOk result (λ a. length input.now ≤ 1048576 → InputHeadline settings.now input.now (string_bytes a.text)) }
+pub fn answer_to(alloc: Global, task: &Task, input: &[u8]) -> Result<Answer, NoMemory>
+    ensures exact { IfOk result (λ a. IsInputAnswer task.now input.now (string_bytes a.text) a.status) }
+    ensures headline { IfOk result (λ a. InputHeadline task.now input.now (string_bytes a.text)) }
+{
+    answers_meet_the_headline();
+    know_limits(task);
+    judged_answer(alloc, task, input)
+}
+
+/// The machine of a task is within its limits: a configuration is. Nothing is done.
+fn know_limits(task: &Task)
+    ensures { IsTaskWithinLimits task.now }
+{
+    match task {
+        Task::Run { config, .. } => {
+            let _known = config.depth();
+        }
+        Task::Check => {}
+    }
+}
+
+fn judged_answer(alloc: Global, task: &Task, input: &[u8]) -> Result<Answer, NoMemory>
+    ensures { IfOk result (λ a. IsInputAnswer task.now input.now (string_bytes a.text) a.status) }
 {
     if input.len() > MAX_INPUT {
         return refused_input(alloc);
     }
     let parts = parts_of(input);
     match read_test(alloc, parts.test) {
-        Ok(test) => answer_of(alloc, settings, &test, parts.rest),
+        Ok(test) => answer_of(alloc, task, &test, parts.rest),
         Err(fault) => refused_test(alloc, fault),
     }
 }
 
-fn answer_of(
-    alloc: Global,
-    settings: &Settings,
-    test: &Test,
-    text: &[u8],
-) -> Result<Answer, NoMemory>
-    ensures exact { IfOk result (λ a. IsAnswerTo settings.now test.now text.now (string_bytes a.text) a.status) }
-    ensures headline { IfOk result (λ a. HeadlineOf settings.now test.now text.now (string_bytes a.text)) }
+fn answer_of(alloc: Global, task: &Task, test: &Test, text: &[u8]) -> Result<Answer, NoMemory>
+    ensures { IfOk result (λ a. IsAnswerTo task.now test.now text.now (string_bytes a.text) a.status) }
 {
-    match settings {
-        Settings::Run { protocol, config } => run_answer(alloc, test, *protocol, *config, text),
-        Settings::Check => check_answer(alloc, test, text),
-        Settings::Tables(kind) => table_answer(alloc, *kind),
+    match task {
+        Task::Run { protocol, config } => run_answer(alloc, test, *protocol, *config, text),
+        Task::Check => check_answer(alloc, test, text),
     }
 }
 
@@ -130,8 +137,7 @@ fn answer_of(
 ///
 /// Fails only for want of memory.
 pub fn table_answer(alloc: Global, kind: ProtocolKind) -> Result<Answer, NoMemory>
-    ensures exact { IfOk result (λ a. IsTableAnswer kind (string_bytes a.text) a.status) }
-    ensures headline { IfOk result (λ a. PrintsTable kind (string_bytes a.text)) }
+    ensures { IfOk result (λ a. IsTableAnswer kind (string_bytes a.text) a.status) }
 {
     let text = table_text(alloc, kind)?;
     Ok(Answer {
@@ -147,10 +153,8 @@ fn run_answer(
     config: Config,
     text: &[u8],
 ) -> Result<Answer, NoMemory>
-    ensures exact { IfOk result (λ a. IsRunAnswer test.now protocol config text.now (string_bytes a.text) a.status) }
-    ensures headline { IfOk result (λ a. PrintsEachRun test.now protocol config text.now (string_bytes a.text)) }
+    ensures { IfOk result (λ a. IsRunAnswer test.now protocol config text.now (string_bytes a.text) a.status) }
 {
-    ended_runs_are_executions();
     spelled_cores_exist();
     match read_choices(alloc, test.cores(), text) {
         Ok(choices) => run_under(alloc, test, protocol, config, &choices),
@@ -168,13 +172,7 @@ fn run_under(
     requires { CoresExist (length test.now.programs) choices.now }
     ensures text { IfOk result (λ a. string_bytes a.text ≡ run_text test.now protocol config (run test.now config.depth choices.now)) }
     ensures status { IfOk result (λ a. a.status ≡ run_status (run test.now config.depth choices.now)) }
-    ensures spelled { (run test.now config.depth choices.now).ended ≡ true → IfOk result (λ a. SpellsOrder test.now (string_bytes a.text) (run test.now config.depth choices.now).commits) }
 {
-    ended_runs_are_executions();
-    whole_orders_have_each_entry_once();
-    report_spells_its_order();
-    let _cores = test.cores();
-    let _depth = config.depth();
     match simulate(alloc, test, protocol, config, choices) {
         Ok(Ending::Ended(run)) => {
             let text = report_text(alloc, test, protocol, config, &run)?;

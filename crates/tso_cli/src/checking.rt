@@ -4,12 +4,10 @@ ghost use Rattle.order_builder.specs.PrintedOrder.{printed_entry, HasLocation, I
 ghost use Rattle.order_builder.specs.Spelling.{IsOrderFor};
 ghost use Rattle.tso_cli.specs.Answers.{IsCheckAnswer, IsJudgement};
 ghost use Rattle.tso_cli.specs.CheckLines.{order_refusal, missing_action, missing_access, breach_text, valid_line, invalid_line, CanBeNamed};
-ghost use Rattle.tso_cli.specs.Headline.{JudgesEachOrder};
 
 use crate::answer::{Answer, Status};
-use axiom_checker::laws::{first_breach_is_one, first_breach_is_real};
 use axiom_checker::{Breach, check_order};
-use order_builder::laws::{order_can_be_printed, order_is_spelled_once};
+use order_builder::laws::order_can_be_printed;
 use order_builder::{OrderFault, entry_text, letters_of, read_order};
 use std::alloc::Global;
 use tso_laws::made_entries_fit_the_test;
@@ -19,17 +17,6 @@ use tso_model::{Core, Entry, Execution, Kind, Loc, NoMemory, Test};
 ///
 /// Fails only for want of memory.
 pub fn check_answer(alloc: Global, test: &Test, text: &[u8]) -> Result<Answer, NoMemory>
-    ensures exact { IfOk result (λ a. IsCheckAnswer test.now text.now (string_bytes a.text) a.status) }
-    ensures headline { IfOk result (λ a. JudgesEachOrder test.now text.now (string_bytes a.text)) }
-{
-    order_is_spelled_once();
-    first_breach_is_one();
-    first_breach_is_real();
-    let _known = test.cores();
-    answer_of_text(alloc, test, text)
-}
-
-fn answer_of_text(alloc: Global, test: &Test, text: &[u8]) -> Result<Answer, NoMemory>
     ensures { IfOk result (λ a. IsCheckAnswer test.now text.now (string_bytes a.text) a.status) }
 {
     match read_order(alloc, test, text) {

@@ -1,26 +1,87 @@
 //! Laws of the commands. Each is the contract of a function that does nothing: who calls it knows it.
 
-ghost use Rattle.std.specs.Prelude.{◌≡◌, ◌<◌, ◌^◌, ℕ, List, length};
+ghost use Rattle.std.specs.Prelude.{◌≡◌, ◌<◌, ◌^◌, ℕ, List, Option, Some, length};
 ghost use Rattle.tso_model.specs.Litmus.{Litmus, IsTest};
 ghost use Rattle.tso_model.specs.declared.choice.Choice.{Choice};
 ghost use Rattle.protocol_tables.specs.declared.kind.ProtocolKind.{ProtocolKind};
 ghost use Rattle.machine_core.specs.Configuration.{Configuration};
-ghost use Rattle.tso_cli.specs.Answers.{IsCheckAnswer};
+ghost use Rattle.tso_cli.specs.Answers.{IsCheckAnswer, IsInputAnswer, IsAnswer};
 ghost use Rattle.tso_cli.specs.CheckLines.{valid_line};
-ghost use Rattle.tso_cli.specs.Headline.{PrintsExecution};
+ghost use Rattle.tso_cli.specs.Headline.{PrintsExecution, InputHeadline, Headline};
+ghost use Rattle.tso_cli.specs.Limits.{IsTaskWithinLimits, IsWithinLimits};
+ghost use Rattle.tso_cli.specs.Parts.{parts_of, joined, HasNoDivider, EndsInFeed};
 ghost use Rattle.tso_cli.specs.declared.answer.Status.{Status};
 ghost use Rattle.tso_cli.specs.declared.answer.Status.TheVariants.{Good};
+ghost use Rattle.tso_cli.specs.declared.settings.Settings.{Settings};
+ghost use Rattle.tso_cli.specs.declared.task.Task.{Task};
 
-use axiom_checker::laws::first_breach_is_real;
+use axiom_checker::laws::{first_breach_is_one, first_breach_is_real};
+use litmus_reader::laws::test_is_spelled_once;
 use order_builder::laws::order_is_spelled_once;
+use scheduler::texts_are_decided;
+use tso_laws::{ended_runs_are_executions, values_are_words, whole_orders_have_each_entry_once};
+use tso_report::laws::{report_spells_its_order, reports_are_short};
+
+/// There is one answer to an input: the same bytes, and the same status.
+pub fn inputs_have_one_answer()
+    ensures tasks { (task : Task) (input out other : List ℕ) (status again : Status)
+        → IsInputAnswer task input out status → IsInputAnswer task input other again → (out ≡ other) × (status ≡ again) }
+    ensures commands { (s : Settings) (input out other : List ℕ) (status again : Status)
+        → IsAnswer s (Some input) out status → IsAnswer s (Some input) other again → (out ≡ other) × (status ≡ again) }
+{
+    test_is_spelled_once();
+    texts_are_decided();
+    order_is_spelled_once();
+    first_breach_is_one();
+    first_breach_is_real();
+}
+
+/// The headline holds of each answer that is made within the limits.
+pub fn answers_meet_the_headline()
+    ensures tasks { (task : Task) (input out : List ℕ) (status : Status)
+        → IsTaskWithinLimits task → IsInputAnswer task input out status → InputHeadline task input out }
+    ensures commands { (s : Settings) (known : Option (List ℕ)) (out : List ℕ) (status : Status)
+        → IsWithinLimits s → IsAnswer s known out status → Headline s known out }
+{
+    test_is_spelled_once();
+    texts_are_decided();
+    order_is_spelled_once();
+    first_breach_is_one();
+    first_breach_is_real();
+    ended_runs_are_executions();
+    whole_orders_have_each_entry_once();
+    values_are_words();
+    report_spells_its_order();
+}
+
+/// A first part that ends in a line feed and has no dividing line, put before a dividing line and a
+/// second part, is parted from it again.
+pub fn joined_parts_are_parted()
+    ensures { (test rest : List ℕ) → EndsInFeed test → HasNoDivider test → parts_of (joined test rest) ≡ record { test = test; rest = rest } }
+{}
 
 /// What `run` prints of a run that ended, handed to `check` with the same test, is answered `Check
-/// valid`, with the status of success.
+/// valid`, with the status of success: of one test, and of the whole inputs, where the second has the
+/// first part of the first, the dividing line and what was printed.
 pub fn printed_runs_are_valid()
-    ensures { (t : Litmus) (kind : ProtocolKind) (c : Configuration) (choices : List Choice) (out answer : List ℕ) (status : Status)
+    ensures tests { (t : Litmus) (kind : ProtocolKind) (c : Configuration) (choices : List Choice) (out answer : List ℕ) (status : Status)
         → IsTest t → length out < 2 ^ 64 → PrintsExecution t kind c choices out → IsCheckAnswer t out answer status
         → (answer ≡ valid_line) × (status ≡ Good) }
+    ensures inputs { (kind : ProtocolKind) (c : Configuration) (input out answer : List ℕ) (status : Status)
+        → IsWithinLimits (Settings.Run kind c) → EndsInFeed (parts_of input).test → HasNoDivider (parts_of input).test
+        → IsAnswer (Settings.Run kind c) (Some input) out Good
+        → IsAnswer Settings.Check (Some (joined (parts_of input).test out)) answer status
+        → (answer ≡ valid_line) × (status ≡ Good) }
 {
-    first_breach_is_real();
+    test_is_spelled_once();
+    texts_are_decided();
     order_is_spelled_once();
+    first_breach_is_one();
+    first_breach_is_real();
+    ended_runs_are_executions();
+    whole_orders_have_each_entry_once();
+    values_are_words();
+    report_spells_its_order();
+    reports_are_short();
+    joined_parts_are_parted();
 }

@@ -10,6 +10,7 @@ pub mod parts;
 pub mod settings;
 pub mod simulation;
 pub mod streams;
+pub mod task;
 
 pub use answer::{Answer, Status};
 pub use command::run_command;
@@ -17,3 +18,4 @@ pub use counted::Counted;
 pub use settings::{LineFault, Settings, settings_of};
 pub use simulation::{Ending, SimFault, simulate};
 pub use streams::RunFault;
+pub use task::Task;

@@ -1,5 +1,6 @@
 ghost use Rattle.std.specs.Prelude.{◌≡◌, ℕ, ◌+◌, ◌-◌, ◌^◌, ◌<◌, ◌≤◌, length, IfOk, OnOk, MatchResult};
 ghost use Rattle.std.specs.Io.KnownBytes.{Consumes, Appends, IsAtEnd};
+ghost use Rattle.tso_cli.specs.Limits.{longest_input};
 ghost use Rattle.tso_cli.specs.Streams.{AppendsBeginning, ConsumesAtMost};
 
 use crate::counted::Counted;
@@ -8,11 +9,17 @@ use std::io::{Read, Write};
 use thiserror::Error;
 use tso_model::NoMemory;
 
-/// The greatest input that is judged, in bytes.
+/// Bytes of an input, at most.
 pub const MAX_INPUT: usize = 1_048_576;
 
-/// How many bytes are read, at most: one more than the greatest input, which shows that there is one.
-const READ_LIMIT: usize = 1_048_577;
+/// How many bytes are read, at most: one more than an input may have shows that it has too many.
+pub const READ_LIMIT: usize = MAX_INPUT + 1;
+
+/// The limit of inputs is the number that the definitions have: a law, with nothing to run.
+pub fn limits_are_as_defined()
+    ensures input { MAX_INPUT ≡ longest_input }
+    ensures read { READ_LIMIT ≡ longest_input + 1 }
+{}
 
 /// Why a command came to no answer.
 #[derive(Clone, Copy, Debug, PartialEq, Eq, Error)]
@@ -58,14 +65,14 @@ impl From<NoMemory> for RunFault {
     }
 }
 
-/// All bytes of the reader, or the first 1,048,577 of them. No call is tried again.
+/// All bytes of the reader, or the first [`READ_LIMIT`] of them. No call is tried again.
 pub fn read_input<R: Read>(alloc: Global, reader: &mut Counted<R>) -> Result<Vec<u8>, RunFault>
     requires { reader.old.1 < 2 ^ 32 - 1 }
 
     ensures bytes { IfOk result (λ v. Consumes (R.remaining reader.old.0) (R.remaining reader.new.0) v.items) }
-    ensures size { IfOk result (λ v. length v.items ≤ 1048577) }
-    ensures end { IfOk result (λ v. length v.items < 1048577 → IsAtEnd (R.remaining reader.new.0)) }
-    ensures most { ConsumesAtMost (R.remaining reader.old.0) (R.remaining reader.new.0) 1048577 }
+    ensures size { IfOk result (λ v. length v.items ≤ longest_input + 1) }
+    ensures end { IfOk result (λ v. length v.items < longest_input + 1 → IsAtEnd (R.remaining reader.new.0)) }
+    ensures most { ConsumesAtMost (R.remaining reader.old.0) (R.remaining reader.new.0) (longest_input + 1) }
 
     ensures faults { MatchResult result (λ _. reader.new.1 ≡ reader.old.1) (λ e. (e ≡ RunFault.Device → reader.new.1 ≡ reader.old.1 + 1) × (e ≡ RunFault.NoMemory → reader.new.1 ≡ reader.old.1)) }
 {

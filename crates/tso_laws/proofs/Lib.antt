@@ -22,3 +22,4 @@ pub mod Stopping
 pub mod Fits
 pub mod SoFar
 pub mod Reaching
+pub mod Words

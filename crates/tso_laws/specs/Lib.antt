@@ -8,6 +8,7 @@ pub mod Rounds
 pub mod Depth
 pub mod Along
 pub mod Reached
+pub mod Words
 pub mod WorkedRuns
 pub use Rattle.tso_model.specs.Litmus
 pub use Rattle.tso_model.specs.Execution

@@ -95,3 +95,17 @@ wordless = record {
 -- 0s 0d 0s
 abbrev pub wordless_choices : List Choice
 wordless_choices = step 0 ∷ (drain 0 ∷ (step 0 ∷ []))
+
+-- ---- orders that TSO doesn't allow, one for each part of an execution
+
+-- store buffering, not whole: the last store is missing
+abbrev pub short_order : List Entry
+short_order = entry 0 1 R loc_y 0 ∷ (entry 1 1 R loc_x 0 ∷ (entry 0 0 W loc_x 1 ∷ []))
+
+-- n6, program order broken: the two stores of one core are turned round
+abbrev pub turned_order : List Entry
+turned_order = entry 0 1 R loc_x 1 ∷ (entry 0 2 R loc_y 0 ∷ (entry 1 1 W loc_x 2 ∷ (entry 1 0 W loc_y 2 ∷ (entry 0 0 W loc_x 1 ∷ []))))
+
+-- store buffering, a wrong value: the first load returns what nobody has written before it
+abbrev pub wrong_order : List Entry
+wrong_order = entry 0 1 R loc_y 1 ∷ (entry 1 1 R loc_x 0 ∷ (entry 0 0 W loc_x 1 ∷ (entry 1 0 W loc_y 1 ∷ [])))

@@ -9,12 +9,14 @@
 //! machine. Rounds, the depth that an order needs and the choices along an order are this project's.
 #![tactic(auto)]
 
-ghost use Rattle.std.specs.Prelude.{ℕ, max, ◌+◌, ◌*◌, ◌<◌, ◌≤◌, ◌≡◌, ◌≢◌, ◌↔◌, true, false, List, [], ◌∷◌, ◌++◌, length, slice_get, Some};
+ghost use Rattle.std.specs.Prelude.{ℕ, max, ◌+◌, ◌*◌, ◌<◌, ◌≤◌, ◌≡◌, ◌≢◌, ◌↔◌, true, false, List, [], ◌∷◌, ◌++◌, length, slice_get, Some, All};
+ghost use Rattle.tso_model.specs.Limits.{most_depth};
 ghost use Rattle.tso_model.specs.Litmus.{Litmus, IsTest};
 ghost use Rattle.tso_model.specs.Execution.{made, StandsIn, IsWhole, IsTsoExecution, KeepsAllOrder};
 ghost use Rattle.tso_model.specs.FlatMachine.{State, start, effect_of, after_choice};
 ghost use Rattle.tso_model.specs.Runs.{run};
-ghost use Rattle.tso_model.specs.Examples.{sb, sb_order, sb_choices, n6, n6_order};
+ghost use Rattle.tso_model.specs.Examples.{sb, sb_order, sb_choices, n6, n6_order, added, parted_order, zeros};
+ghost use Rattle.tso_model.specs.FinalState.{final_words, final_registers};
 ghost use Rattle.tso_model.specs.declared.execution.Entry.{Entry};
 ghost use Rattle.tso_model.specs.declared.choice.Choice.{Choice};
 ghost use Rattle.tso_model.specs.declared.choice.Stall.{Stall};
@@ -29,7 +31,8 @@ ghost use Rattle.tso_laws.specs.Rounds.{CanBeCutIntoRounds};
 ghost use Rattle.tso_laws.specs.Depth.{needed, asked};
 ghost use Rattle.tso_laws.specs.Along.{choices_along, LeadTo};
 ghost use Rattle.tso_laws.specs.Reached.{IsReached};
-ghost use Rattle.tso_laws.specs.WorkedRuns.{n6_along, sb_along, sb_rounds, two_stores, two_passed, two_stalled, moved_last, moved_order, moved_along, one_store, one_round, wordless, wordless_choices};
+ghost use Rattle.tso_laws.specs.Words.{HasWord, HoldsWords};
+ghost use Rattle.tso_laws.specs.WorkedRuns.{n6_along, sb_along, sb_rounds, two_stores, two_passed, two_stalled, moved_last, moved_order, moved_along, one_store, one_round, wordless, wordless_choices, short_order, turned_order, wrong_order};
 
 /// The states that choices can lead to, with what was committed on the way: the first state is one,
 /// each choice leads from one to one, and each run leads to one.
@@ -122,18 +125,27 @@ pub fn needed_is_the_most_that_is_asked()
 {}
 
 /// A TSO execution needs no more depth than the most plain stores of one program, and so never more
-/// than 32.
+/// than the greatest depth of a store buffer.
 pub fn most_stores_are_depth_enough()
     ensures of_a_program { (t : Litmus) (order : List Entry) → IsTsoExecution t order → needed order ≤ most_stores t.programs }
-    ensures greatest { (t : Litmus) (order : List Entry) → IsTest t → IsTsoExecution t order → needed order ≤ 32 }
+    ensures greatest { (t : Litmus) (order : List Entry) → IsTest t → IsTsoExecution t order → needed order ≤ most_depth }
 {}
 
 /// The orders that runs end with, at a depth of 1 or more, are exactly the TSO executions that need
 /// no more; at the greatest depth they are exactly the TSO executions.
 pub fn runs_reach_exactly_the_executions()
     ensures by_depth { (t : Litmus) (depth : ℕ) (order : List Entry) → IsTest t → 0 < depth → IsReached t depth order ↔ (IsTsoExecution t order × (needed order ≤ depth)) }
-    ensures at_the_greatest { (t : Litmus) (order : List Entry) → IsTest t → IsReached t 32 order ↔ IsTsoExecution t order }
+    ensures at_the_greatest { (t : Litmus) (order : List Entry) → IsTest t → IsReached t most_depth order ↔ IsTsoExecution t order }
 {}
+
+/// Every value is a word, and each core has its six registers: in what a run commits and leaves,
+/// whether the test has ended or not, and so in each TSO execution.
+pub fn values_are_words()
+    ensures in_runs { (t : Litmus) (depth : ℕ) (choices : List Choice) → IsTest t → HoldsWords (run t depth choices).commits (run t depth choices).state }
+    ensures in_executions { (t : Litmus) (order : List Entry) → IsTest t → IsTsoExecution t order → All HasWord order }
+{
+    every_execution_is_reached();
+}
 
 /// Worked runs, and the choices along worked orders.
 pub fn worked_runs()
@@ -151,6 +163,20 @@ pub fn worked_runs()
     ensures two_passed_at_two { (run two_stores 2 (choices_along two_stores two_passed)).commits ≡ two_passed }
     ensures full_is_counted { (run two_stores 1 two_stalled).stalled ≡ 1 }
     ensures moved_at_the_end { choices_along moved_last moved_order ≡ moved_along }
+{}
+
+/// Worked orders: two that TSO allows, one in which both loads pass their own core's store and one in
+/// which a core reads its own store before memory has it; and four that it doesn't, each spoiled for
+/// one part of what makes an execution.
+pub fn worked_orders()
+    ensures sb_is_allowed { IsTsoExecution sb sb_order }
+    ensures sb_memory { final_words sb sb_order ≡ 1 ∷ (1 ∷ []) }
+    ensures sb_registers { final_registers sb sb_order ≡ zeros ∷ (zeros ∷ []) }
+    ensures n6_is_allowed { IsTsoExecution n6 n6_order }
+    ensures short_is_not_whole { IsTsoExecution sb short_order → ⊥ }
+    ensures turned_breaks_program_order { IsTsoExecution n6 turned_order → ⊥ }
+    ensures parted_is_not_adjacent { IsTsoExecution added parted_order → ⊥ }
+    ensures wrong_has_another_value { IsTsoExecution sb wrong_order → ⊥ }
 {}
 
 /// The laws' premises are met: the store-buffering test is within the limits, its first run ends,

@@ -1,4 +1,2 @@
 pub mod LitmusLemmas
 pub mod ListLemmas
-pub mod Deciding
-pub mod WorkedOrders

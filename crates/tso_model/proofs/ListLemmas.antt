@@ -1,4 +1,5 @@
-use Rattle.std.proofs.Common.{◌≡◌, ◌<◌, ℕ, suc, zero, List, [], ◌∷◌, length, map, All, slice_index_or, arith, subst, refl}
+use Rattle.std.proofs.Common.{◌≡◌, ◌<◌, ℕ, suc, zero, List, [], ◌∷◌, length, map, All, slice_index_or, get_or, arith, subst, refl}
+use Rattle.std.specs.List.{HoldsAt}
 use Rattle.std.proofs.lemmas.List.{length-map}
 
 slice_index_or-map : {X Y : Type 0} (f : X → Y) (xs : List X) (k : ℕ) (d : X) (e : Y) → k < length xs → slice_index_or (map f xs) k e ≡ f (slice_index_or xs k d)
@@ -10,3 +11,9 @@ slice_index_or-map f (x ∷ xs) (suc k) d e h = slice_index_or-map f xs k d e (o
 pub All-from_map : {X Y : Type 0} (P : Y → Type 0) (f : X → Y) (xs : List X) → All P (map f xs) → All (λ x. P (f x)) xs
 All-from_map P f xs h =
     λ k d l. subst P (slice_index_or-map f xs k d (f d) l) (h k (f d) (let q = length-map xs f in omega arith))
+
+-- what is said of the element at an index, whatever stands for one that isn't there
+pub HoldsAt-from_one : {X : Type 0} (P : X → Type 0) (xs : List X) (i : ℕ) (d : X) → i < length xs → P (get_or xs i d) → HoldsAt P xs i
+HoldsAt-from_one P [] i d l h = absurd (omega arith)
+HoldsAt-from_one P (x ∷ xs) zero d l h = λ e. h
+HoldsAt-from_one P (x ∷ xs) (suc i) d l h = HoldsAt-from_one P xs i d (omega arith) h

@@ -1,3 +1,4 @@
+pub mod Limits
 pub mod Registers
 pub mod Condition
 pub mod Names
@@ -11,3 +12,4 @@ pub mod FinalState
 pub mod FlatMachine
 pub mod Runs
 pub mod Examples
+pub mod Watched

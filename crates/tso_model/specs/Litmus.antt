@@ -2,11 +2,12 @@
 use Rattle.std.specs.Prelude.{ℕ, ◌<◌, ◌≤◌, ◌≡◌, ◌&&◌, Bool, IsTrue, true, not, List, [], ◌∷◌, length, Option, All}
 use Rattle.std.specs.Option.{ForSome}
 use Rattle.std.specs.List.{list_all}
+use Rattle.tso_model.specs.Limits.{most_cores, most_locations, most_instructions, most_atoms, most_open}
+use Rattle.tso_model.specs.Registers.{IsWord, AreRegisters}
 use Rattle.tso_model.specs.Condition.{Condition, NamesExist, atoms_in, negations_in}
 use Rattle.tso_model.specs.Names.{is_test_name, is_location_name, is_among}
 use Rattle.tso_model.specs.declared.instruction.Instr.{Instr}
 use Rattle.tso_model.specs.declared.instruction.Instr.TheVariants.{StoreImm, StoreReg, Load, SetImm, SetReg, Fence, Xchg, Xadd}
-use Rattle.tso_model.specs.declared.limits.TheConstants.{MAX_CORES, MAX_LOCATIONS, MAX_INSTRUCTIONS, MAX_ATOMS, MAX_NEGATIONS}
 
 -- a test: the names of its locations and their first words, and for each core its first registers and its program
 pub record Litmus : Type 0 where
@@ -28,31 +29,49 @@ KnownLocation locations Fence = Unit {0}
 KnownLocation locations (Xchg loc reg) = loc.0 < locations
 KnownLocation locations (Xadd loc reg) = loc.0 < locations
 
+-- the constant of the instruction, if it has one, is a word
+abbrev pub ConstantIsWord : Instr → Type 0
+ConstantIsWord (StoreImm loc value) = IsWord value
+ConstantIsWord (StoreReg loc reg) = Unit {0}
+ConstantIsWord (Load reg loc) = Unit {0}
+ConstantIsWord (SetImm reg value) = IsWord value
+ConstantIsWord (SetReg reg other) = Unit {0}
+ConstantIsWord Fence = Unit {0}
+ConstantIsWord (Xchg loc reg) = Unit {0}
+ConstantIsWord (Xadd loc reg) = Unit {0}
+
 -- a program within the limits, over so many locations
 pub record IsProgram (locations : ℕ) (program : List Instr) : Type 0 where
-  pub size : length program ≤ MAX_INSTRUCTIONS
+  pub size : length program ≤ most_instructions
   pub locations_known : All (KnownLocation locations) program
 
 -- a condition within the limits, over so many cores and locations
 pub record IsCondition (cores locations : ℕ) (c : Condition) : Type 0 where
   pub names_known : NamesExist cores locations c.claim
-  pub atoms : atoms_in c.claim ≤ MAX_ATOMS
-  pub negations : negations_in c.claim ≤ MAX_NEGATIONS
+  pub atoms : atoms_in c.claim ≤ most_atoms
+  pub negations : negations_in c.claim ≤ most_open
 
 -- whether no name stands twice
 abbrev pub are_distinct : List (List ℕ) → Bool
 are_distinct [] = true
 are_distinct (x ∷ xs) = not (is_among x xs) && are_distinct xs
 
+-- what every value of a test is: a word; and each core has its six registers
+pub record HasWords (t : Litmus) : Type 0 where
+  pub words : All IsWord t.words
+  pub registers : All AreRegisters t.registers
+  pub constants : All (λ program. All ConstantIsWord program) t.programs
+
 -- what every test keeps
 pub record IsTest (t : Litmus) : Type 0 where
   pub name_spelled : IsTrue (is_test_name t.name)
   pub some_core : 0 < length t.programs
-  pub cores : length t.programs ≤ MAX_CORES
+  pub cores : length t.programs ≤ most_cores
   pub registers_given : length t.registers ≡ length t.programs
-  pub location_count : length t.locations ≤ MAX_LOCATIONS
+  pub location_count : length t.locations ≤ most_locations
   pub locations_spelled : IsTrue (list_all is_location_name t.locations)
   pub locations_differ : IsTrue (are_distinct t.locations)
   pub words_given : length t.words ≡ length t.locations
+  pub values : HasWords t
   pub programs_fit : All (IsProgram (length t.locations)) t.programs
   pub condition_fits : ForSome t.condition (IsCondition (length t.programs) (length t.locations))

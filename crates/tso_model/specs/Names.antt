@@ -3,6 +3,7 @@ use Rattle.std.specs.Prelude.{ℕ, ◌==◌, ◌&&◌, ◌||◌, nat_le, Bool, f
 use Rattle.std.specs.List.{list_all, list_any}
 use Rattle.std.specs.Str.{bytes_eq}
 use Rattle.std.specs.Char.{is_ascii_alphabetic, is_ascii_alphanumeric}
+use Rattle.tso_model.specs.Limits.{longest_name, longest_test_name}
 use Rattle.tso_model.specs.Registers.{register_named, same_letters}
 
 -- a letter or an underscore
@@ -13,10 +14,10 @@ begins_name c = is_ascii_alphabetic c || (c == 95)
 abbrev pub continues_name : ℕ → Bool
 continues_name c = is_ascii_alphanumeric c || (c == 95)
 
--- a letter or an underscore, then letters, digits and underscores, 32 bytes at most
+-- a letter or an underscore, then letters, digits and underscores, of no more bytes than a name may have
 abbrev pub is_name : List ℕ → Bool
 is_name [] = false
-is_name (c ∷ cs) = begins_name c && list_all continues_name cs && nat_le (length (c ∷ cs)) 32
+is_name (c ∷ cs) = begins_name c && list_all continues_name cs && nat_le (length (c ∷ cs)) longest_name
 
 -- a register's name, or a stack register's, in any case of letters
 abbrev pub is_register_word : List ℕ → Bool
@@ -41,11 +42,11 @@ abbrev pub last_byte : ℕ → List ℕ → ℕ
 last_byte c [] = c
 last_byte c (d ∷ ds) = last_byte d ds
 
--- a name that a test may have: 1 to 64 printable bytes, and no space at either end
+-- a name that a test may have: printable bytes, one or more, and no space at either end
 abbrev pub is_test_name : List ℕ → Bool
 is_test_name [] = false
 is_test_name (c ∷ cs) =
-    not (c == 32) && not (last_byte c cs == 32) && list_all is_printable (c ∷ cs) && nat_le (length (c ∷ cs)) 64
+    not (c == 32) && not (last_byte c cs == 32) && list_all is_printable (c ∷ cs) && nat_le (length (c ∷ cs)) longest_test_name
 
 -- whether the name stands in the list
 abbrev pub is_among : List ℕ → List (List ℕ) → Bool

@@ -1,9 +1,18 @@
--- The six general registers: their numbers and their names. (This project's profile.)
-use Rattle.std.specs.Prelude.{ℕ, List, map, Bool, Option, Some, None, if◌then◌else◌, codes}
+-- Words, and the six general registers: their numbers and their names. (This project's profile.)
+use Rattle.std.specs.Prelude.{ℕ, ◌<◌, ◌≡◌, ◌^◌, List, length, map, All, Bool, Option, Some, None, if◌then◌else◌, codes}
 use Rattle.std.specs.Str.{bytes_eq}
 use Rattle.std.specs.Char.{to_ascii_lowercase}
 use Rattle.tso_model.specs.declared.register.Reg.{Reg}
 use Rattle.tso_model.specs.declared.register.Reg.TheVariants.{Eax, Ebx, Ecx, Edx, Esi, Edi}
+
+-- what a location or a register holds: 32 bits
+abbrev pub IsWord : ℕ → Type 0
+IsWord n = n < 2 ^ 32
+
+-- the six registers of a core
+pub record AreRegisters (registers : List ℕ) : Type 0 where
+  pub six : length registers ≡ 6
+  pub words : All IsWord registers
 
 -- the register's place in a list of six
 abbrev pub index_of : Reg → ℕ

@@ -16,6 +16,8 @@ pub mod names;
 pub mod register;
 pub mod thread;
 mod validity;
+pub mod watched;
+mod words;
 
 pub use choice::{Choice, Outcome, Stall};
 pub use condition::{Cond, Prop, Quantifier, cond_holds};
@@ -25,3 +27,4 @@ pub use litmus::{Test, TestParts};
 pub use memory::NoMemory;
 pub use register::Reg;
 pub use thread::{Thread, read_count, thread_entries};
+pub use watched::Watched;

@@ -1,6 +1,7 @@
 ghost use Rattle.std.specs.Prelude.{◌≡◌, ◌<◌, ◌≤◌, ◌↔◌, length, slice_index, slice_index_or, [], IsSome, IfSome, All};
 ghost use Rattle.std.specs.Option.{option_map};
 ghost use Rattle.tso_model.specs.Condition.{condition_of};
+ghost use Rattle.tso_model.specs.Limits.{most_instructions};
 ghost use Rattle.tso_model.specs.Registers.{index_of};
 ghost use Rattle.tso_model.specs.Litmus.{IsTest, KnownLocation};
 ghost use Rattle.tso_model.specs.LitmusParts.{litmus_of};
@@ -53,7 +54,7 @@ impl Test {
     /// grammar can't spell or a location's name that stands twice, no core or more than
     /// `MAX_CORES`, more than `MAX_LOCATIONS` locations, lists that aren't as long as they must be,
     /// a program of more than `MAX_INSTRUCTIONS`, a condition of more than `MAX_ATOMS` atoms or
-    /// with more than `MAX_NEGATIONS` negations within one another, or a core or location that an
+    /// with more than `MAX_OPEN` negations within one another, or a core or location that an
     /// instruction or an atom names and that isn't there.
     pub fn new(parts: TestParts) -> Option<Test>
         ensures value { IfSome result (λ t. t ≡ litmus_of parts) }
@@ -93,7 +94,7 @@ impl Test {
     pub fn program(&self, core: Core) -> &[Instr]
         requires { core.0 < length self.now.programs }
         ensures value { result.now ≡ slice_index_or self.now.programs core.0 [] }
-        ensures size { length result.now ≤ 32 }
+        ensures size { length result.now ≤ most_instructions }
         ensures locations { All (KnownLocation (length self.now.locations)) result.now }
         ensures words { length self.now.words ≡ length self.now.locations }
     {

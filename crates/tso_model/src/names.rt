@@ -2,16 +2,19 @@ ghost use Rattle.std.specs.Prelude.{◌≡◌, nat_le, length};
 ghost use Rattle.std.specs.List.{list_all};
 ghost use Rattle.tso_model.specs.Names as words;
 
+use crate::limits::{MAX_NAME, MAX_TEST_NAME};
 use crate::register::Reg;
 
 /// Whether the bytes are a name: a letter or an underscore, then letters, digits and underscores,
-/// 32 bytes at most.
+/// `MAX_NAME` bytes at most.
 pub fn is_name(text: &[u8]) -> bool
     ensures { result ≡ words.is_name text.now }
 {
     match text.split_first() {
         None => false,
-        Some((first, rest)) => begins_name(*first) && all_continue(rest) && has_at_most(text, 32),
+        Some((first, rest)) => begins_name(*first)
+            && all_continue(rest)
+            && has_at_most(text, MAX_NAME),
     }
 }
 
@@ -56,8 +59,8 @@ fn is_keyword(text: &[u8]) -> bool
         || text == b"locations".as_slice()
 }
 
-/// Whether the bytes are a name that a test may have: 1 to 64 bytes from space to `~`, with no
-/// space at either end.
+/// Whether the bytes are a name that a test may have: 1 to `MAX_TEST_NAME` bytes from space to `~`,
+/// with no space at either end.
 pub fn is_test_name(text: &[u8]) -> bool
     ensures { result ≡ words.is_test_name text.now }
 {
@@ -67,7 +70,7 @@ pub fn is_test_name(text: &[u8]) -> bool
             *first != b' '
                 && last_byte(*first, rest) != b' '
                 && is_all_printable(text)
-                && has_at_most(text, 64)
+                && has_at_most(text, MAX_TEST_NAME)
         }
     }
 }

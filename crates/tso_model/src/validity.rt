@@ -9,14 +9,16 @@ ghost use Rattle.tso_model.specs.LitmusParts.{litmus_of};
 
 use crate::condition::{Cond, Prop};
 use crate::instruction::Instr;
-use crate::limits::{MAX_ATOMS, MAX_CORES, MAX_INSTRUCTIONS, MAX_LOCATIONS, MAX_NEGATIONS};
+use crate::limits::{MAX_ATOMS, MAX_CORES, MAX_INSTRUCTIONS, MAX_LOCATIONS, MAX_OPEN};
 use crate::litmus::TestParts;
 use crate::names::{is_location_name, is_test_name};
+use crate::words::know_values;
 
 /// Whether the parts make a test within the limits.
 pub fn parts_fit(parts: &TestParts) -> bool
     ensures { IsTrue result ↔ IsTest (litmus_of parts.now) }
 {
+    know_values(parts);
     let cores = parts.programs.len();
     let locations = parts.locations.len();
     if !is_test_name(parts.name.as_bytes()) {
@@ -120,7 +122,7 @@ fn condition_fits(cond: &Option<Cond>, cores: usize, locations: usize) -> bool
 fn claim_fits(cond: &Cond, cores: usize, locations: usize) -> bool
     ensures { IsTrue result ↔ IsCondition cores locations (condition_of cond.now) }
 {
-    if !has_negations_within(&cond.prop, MAX_NEGATIONS) {
+    if !has_negations_within(&cond.prop, MAX_OPEN) {
         return false;
     }
     if !has_atoms_within(&cond.prop, MAX_ATOMS) {

@@ -1,1 +1,2 @@
 pub mod OrderLaw
+pub mod Short

@@ -1,5 +1,5 @@
 -- The lines of a report before its order are none that an order could begin with.
-use Rattle.std.proofs.Common.{◌≡◌, ◌≢◌, ℕ, ◌<◌, ◌^◌, ◌&&◌, Bool, true, false, not, eqb, List, [], ◌∷◌, ◌++◌, length, get_or, All, refl, sym, ap, ◌∙◌, arith, rules}
+use Rattle.std.proofs.Common.{◌≡◌, ◌≢◌, ℕ, ◌<◌, ◌^◌, ◌&&◌, Bool, true, false, not, eqb, List, [], ◌∷◌, ◌++◌, length, get_or, All, inl, inr, refl, sym, ap, ◌∙◌, arith, rules}
 use Rattle.std.specs.Prelude.{codes}
 use Rattle.std.specs.Fmt.{decimal}
 use Rattle.std.specs.List.{list_all}
@@ -22,7 +22,7 @@ use Rattle.tso_report.specs.Shown.{Shown}
 use Rattle.protocol_tables.specs.Names.{protocol_name}
 use Rattle.protocol_tables.specs.declared.kind.ProtocolKind.{ProtocolKind}
 use Rattle.protocol_tables.specs.declared.kind.ProtocolKind.TheVariants.{Msi, Mesi, Moesi}
-use Rattle.snoop_bus.specs.Geometry.{Geometry, IsWithinLimits}
+use Rattle.snoop_bus.specs.Geometry.{Geometry, IsLineSize, IsWithinLimits}
 use Rattle.machine_core.specs.Configuration.{Configuration}
 use Rattle.tso_report.specs.Report.{report, line, test_line, machine_line, shape_text, register_lines, memory_line, condition_line, choices_line}
 
@@ -71,11 +71,16 @@ two_parts a b p q = list_all-append _ a b ∙ and_from _ _ p q
 machine_text : ProtocolKind → Configuration → List ℕ
 machine_text kind c = codes "Machine " ++ (protocol_name kind ++ (codes " depth=" ++ (decimal c.depth ++ shape_text c.shape)))
 
+line_size_is_small : (words : ℕ) → IsLineSize words → words < 2 ^ 64
+line_size_is_small words (inl e) = omega (arith, e)
+line_size_is_small words (inr (inl e)) = omega (arith, e)
+line_size_is_small words (inr (inr e)) = omega (arith, e)
+
 line_of_shape : (g : Geometry) → IsWithinLimits g → is_line (shape_text g) ≡ true
 line_of_shape g fits =
     let sets = line_of_number g.sets (omega (arith, fits.few_sets)) in
     let ways = line_of_number g.ways (omega (arith, fits.few_ways)) in
-    let words = line_of_number g.words (omega (arith, fits.one_word)) in
+    let words = line_of_number g.words (line_size_is_small g.words fits.line_size) in
     two_parts (decimal g.sets) (codes " ways=" ++ (decimal g.ways ++ (codes " words=" ++ decimal g.words))) sets
     (two_parts (decimal g.ways) (codes " words=" ++ decimal g.words) ways words)
 

@@ -1,2 +1,3 @@
 pub mod Shown
 pub mod Report
+pub mod Limits

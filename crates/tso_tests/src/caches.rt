@@ -7,7 +7,10 @@ use std::process::Abort;
 use std::test::Fail;
 
 fn copy(state: State, word: u32) -> Line {
-    Line { state, word }
+    Line {
+        state,
+        words: [word, 0, 0, 0],
+    }
 }
 
 fn has(rt: &impl Abort, set: &CacheSet, line: u8, state: State, word: u32) {
@@ -28,7 +31,7 @@ fn fill(
     requires { state ≢ State.I }
 {
     assert!(rt; set.look(line).is_none());
-    Ok(set.fill(line, state, word)?)
+    Ok(set.fill(line, state, [word, 0, 0, 0])?)
 }
 
 fn touch(rt: &impl Abort, set: &mut CacheSet, line: u8) {
@@ -44,7 +47,7 @@ fn drop_line(rt: &impl Abort, set: &mut CacheSet, line: u8) -> Line {
 fn write(rt: &impl Abort, set: &mut CacheSet, line: u8, word: u32) {
     assert!(rt; set.look(line).is_some());
     set.set_state(line, State::M);
-    set.write_word(line, word);
+    set.write_word(line, 0, word);
 }
 
 fn left(rt: &impl Abort, victim: Option<Victim>, line: u8, state: State, word: u32) {

@@ -37,7 +37,8 @@ impl Read for Source<'_> {
     }
 }
 
-/// A writer that takes so many bytes a call, and whose call of one number fails or takes none.
+/// A writer that takes so many bytes a call, and whose call of one number fails or takes none. It
+/// counts the flushes.
 #[derive(Drop)]
 struct Sink {
     taken: Vec<u8>,

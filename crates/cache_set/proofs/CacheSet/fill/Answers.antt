@@ -8,13 +8,13 @@ use Rattle.cache_set.proofs.CacheSet.fill.Goals as goal
 pub invariant_of-self-2 : goal.invariant_of-self-2
 invariant_of-self-2 c =
     let absent : lookup (nat_eq c.args.line) c.self.inside.lines.entries ≡ None = rw (← c.self.view_is) at c.requires.absent in
-    rw (c.in_ok-victim.ensures.entries, put_entries-with_new c.args.line (copy_with c.args.state c.args.word) c.self.inside.lines.entries c.self.inside.lines.cap c.self.invariant.room absent)
-    (IsCacheSet-with_new c.args.line (copy_with c.args.state c.args.word) _ absent c.requires.valid c.self.invariant)
+    rw (c.in_ok-victim.ensures.entries, put_entries-with_new c.args.line (copy_with c.args.state c.args.words) c.self.inside.lines.entries c.self.inside.lines.cap c.self.invariant.room absent)
+    (IsCacheSet-with_new c.args.line (copy_with c.args.state c.args.words) _ absent c.requires.valid c.self.invariant)
 
 pub returns-clause-exact : goal.returns-clause-exact
 returns-clause-exact c =
     let absent : lookup (nat_eq c.args.line) c.self.inside.lines.entries ≡ None = rw (← c.self.view_is) at c.requires.absent in
-    rw (c.in_ok-victim.ensures.entries, ← c.self.view_is) (put_entries-with_new c.args.line (copy_with c.args.state c.args.word) c.self.inside.lines.entries c.self.inside.lines.cap c.self.invariant.room absent)
+    rw (c.in_ok-victim.ensures.entries, ← c.self.view_is) (put_entries-with_new c.args.line (copy_with c.args.state c.args.words) c.self.inside.lines.entries c.self.inside.lines.cap c.self.invariant.room absent)
 
 pub returns-clause-victim : goal.returns-clause-victim
 returns-clause-victim c =
@@ -25,7 +25,7 @@ returns-clause-victim c =
 pub returns-clause-copies : goal.returns-clause-copies
 returns-clause-copies c = λ k.
     let was : IsCacheSet c.args.self.now = rw c.self.view_is at c.self.invariant in
-    copy_of-with_new c.args.line (copy_with c.args.state c.args.word) c.map.result k c.args.self.now _ was (returns-clause-exact c) (returns-clause-victim c)
+    copy_of-with_new c.args.line (copy_with c.args.state c.args.words) c.map.result k c.args.self.now _ was (returns-clause-exact c) (returns-clause-victim c)
 
 pub returns-clause-was_here : goal.returns-clause-was_here
 returns-clause-was_here c =

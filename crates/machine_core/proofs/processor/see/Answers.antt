@@ -9,5 +9,5 @@ returns-in-Some-clause-value g c =
 
 pub returns-in_ok-word-in-None-clause-value : goal.returns-in_ok-word-in-None-clause-value
 returns-in_ok-word-in-None-clause-value g c =
-    sym (index-got (words_of c.args.bus.now) c.args.loc.0 _ c.in_ok-word-in-None.ensures.word)
+    sym (index-got (words_of c.args.bus.now) c.args.loc.0 _ c.in_ok-word-in-None.ensures.done.word_is)
     ∙ sees_memory c.args.core.0 c.args.loc.0 (slice_index (words_of c.args.bus.now) c.args.loc.0) c.args.stores.now.items c.in-None.ensures

@@ -1,5 +1,6 @@
 use Rattle.std.proofs.Common.{◌≤◌, ◌-◌, length, take}
-use Rattle.scheduler.specs.Grammar.{AreItems, most_choices}
+use Rattle.scheduler.specs.Limits.{most_choices}
+use Rattle.scheduler.specs.Grammar.{AreItems}
 use Rattle.scheduler.specs.Reading.{texts}
 use Rattle.scheduler.proofs.choices.choices_of_words.Given as goal
 

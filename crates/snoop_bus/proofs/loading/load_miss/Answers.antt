@@ -8,15 +8,16 @@ returns-clause-ok g c =
     let t = g.P.Protocol.table c.args.protocol.now in
     let p = c.args.protocol.now in
     let here = get_or_default c.args.caches.now c.args.core c.index-caches-core.result [] c.requires.core in
+    rw c.from-2.ensures
     (load_missed t (g.met.P.Protocol.fills_exclusive_only_alone p) (g.met.P.Protocol.shares p) (g.met.P.Protocol.cleans_by_memory p) (g.met.P.Protocol.supplies_to_readers p) (g.met.P.Protocol.writes_back_dirty p)
-    c.args.caches.now c.snoop_others.new.caches c.args.memory.now c.flush.new.memory c.args.core c.args.line c.find_word-word.result c.filled-state.result c.in_ok-victim.victim c.fill.new.self
-    c.find_flusher-flushed.result c.write_back-wrote_back.result
+    c.args.caches.now c.snoop_others.new.caches c.args.memory.now c.flush.new.memory c.args.core c.args.line c.find_words-words.result c.filled-state.result c.in_ok-victim.victim c.fill.new.self
+    c.find_flusher-flushed.result c.write_back-wrote_back.result c.args.place
     (record {
       coherent = c.requires.coherent;
       core_in = c.requires.core;
-      line_in = c.requires.line;
+      within = c.requires.line;
       absent = c.requires.absent;
-      word = rw c.from.ensures at c.find_word-word.ensures;
+      words = rw c.from.ensures at c.find_words-words.ensures;
       state = rw c.is_shared.ensures at c.filled-state.ensures;
       own_exact = rw here at c.in_ok-victim.ensures.exact;
       own_ways = rw here at c.fill.ensures.ways;
@@ -37,14 +38,14 @@ returns-clause-words g c =
     let p = c.args.protocol.now in
     let here = get_or_default c.args.caches.now c.args.core c.index-caches-core.result [] c.requires.core in
     (load_missed t (g.met.P.Protocol.fills_exclusive_only_alone p) (g.met.P.Protocol.shares p) (g.met.P.Protocol.cleans_by_memory p) (g.met.P.Protocol.supplies_to_readers p) (g.met.P.Protocol.writes_back_dirty p)
-    c.args.caches.now c.snoop_others.new.caches c.args.memory.now c.flush.new.memory c.args.core c.args.line c.find_word-word.result c.filled-state.result c.in_ok-victim.victim c.fill.new.self
-    c.find_flusher-flushed.result c.write_back-wrote_back.result
+    c.args.caches.now c.snoop_others.new.caches c.args.memory.now c.flush.new.memory c.args.core c.args.line c.find_words-words.result c.filled-state.result c.in_ok-victim.victim c.fill.new.self
+    c.find_flusher-flushed.result c.write_back-wrote_back.result c.args.place
     (record {
       coherent = c.requires.coherent;
       core_in = c.requires.core;
-      line_in = c.requires.line;
+      within = c.requires.line;
       absent = c.requires.absent;
-      word = rw c.from.ensures at c.find_word-word.ensures;
+      words = rw c.from.ensures at c.find_words-words.ensures;
       state = rw c.is_shared.ensures at c.filled-state.ensures;
       own_exact = rw here at c.in_ok-victim.ensures.exact;
       own_ways = rw here at c.fill.ensures.ways;

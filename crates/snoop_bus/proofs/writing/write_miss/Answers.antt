@@ -9,13 +9,13 @@ returns-clause-ok g c =
     let p = c.args.protocol.now in
     let here = get_or_default c.args.caches.now c.args.core c.index-caches-core.result [] c.requires.core in
     (write_missed t (g.met.P.Protocol.gives_up p) (g.met.P.Protocol.supplies_to_writers p) (g.met.P.Protocol.writes_back_dirty p)
-    c.args.caches.now c.snoop_others.new.caches c.args.memory.now c.write_back-wrote_back.new.memory c.args.core c.args.line c.find_word-word.result c.in_ok-victim.victim c.fill.new.self c.write_back-wrote_back.result
+    c.args.caches.now c.snoop_others.new.caches c.args.memory.now c.write_back-wrote_back.new.memory c.args.core c.args.line c.find_words-words.result c.in_ok-victim.victim c.fill.new.self c.write_back-wrote_back.result
     (record {
       coherent = c.requires.coherent;
       core_in = c.requires.core;
-      line_in = c.requires.line;
+      within = c.requires.line;
       absent = c.requires.absent;
-      word = rw c.from.ensures at c.find_word-word.ensures;
+      words = rw c.from.ensures at c.find_words-words.ensures;
       own_exact = rw here at c.in_ok-victim.ensures.exact;
       own_ways = rw here at c.fill.ensures.ways;
       victim = rw here at c.in_ok-victim.ensures.victim;
@@ -34,13 +34,13 @@ returns-clause-words g c =
     let p = c.args.protocol.now in
     let here = get_or_default c.args.caches.now c.args.core c.index-caches-core.result [] c.requires.core in
     (write_missed t (g.met.P.Protocol.gives_up p) (g.met.P.Protocol.supplies_to_writers p) (g.met.P.Protocol.writes_back_dirty p)
-    c.args.caches.now c.snoop_others.new.caches c.args.memory.now c.write_back-wrote_back.new.memory c.args.core c.args.line c.find_word-word.result c.in_ok-victim.victim c.fill.new.self c.write_back-wrote_back.result
+    c.args.caches.now c.snoop_others.new.caches c.args.memory.now c.write_back-wrote_back.new.memory c.args.core c.args.line c.find_words-words.result c.in_ok-victim.victim c.fill.new.self c.write_back-wrote_back.result
     (record {
       coherent = c.requires.coherent;
       core_in = c.requires.core;
-      line_in = c.requires.line;
+      within = c.requires.line;
       absent = c.requires.absent;
-      word = rw c.from.ensures at c.find_word-word.ensures;
+      words = rw c.from.ensures at c.find_words-words.ensures;
       own_exact = rw here at c.in_ok-victim.ensures.exact;
       own_ways = rw here at c.fill.ensures.ways;
       victim = rw here at c.in_ok-victim.ensures.victim;

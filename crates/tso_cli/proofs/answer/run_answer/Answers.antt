@@ -5,11 +5,10 @@ use Rattle.tso_cli.specs.declared.answer.Status.TheVariants.{Refused}
 use Rattle.tso_cli.specs.Answers.{run_text, run_status, IsRunAnswer, refused, ran}
 use Rattle.tso_cli.specs.Lines.{choices_refusal}
 use Rattle.tso_cli.proofs.AnswerLemmas.{answer-is, refusal-is}
-use Rattle.tso_cli.proofs.HeadlineLemmas.{PrintsEachRun-from_text}
 use Rattle.tso_cli.proofs.answer.run_answer.Goals as goal
 
-pub returns-in-Ok-clause-exact : goal.returns-in-Ok-clause-exact
-returns-in-Ok-clause-exact c =
+pub returns-in-Ok : goal.returns-in-Ok
+returns-in-Ok c =
     let t = c.args.test.now in
     let config = c.args.config in
     let r = flat.run t config.depth c.in-Ok.choices.items in
@@ -17,18 +16,8 @@ returns-in-Ok-clause-exact c =
     (rw c.deref.ensures.value at c.run_under.ensures.text) (rw c.deref.ensures.value at c.run_under.ensures.status)
     (ran c.in-Ok.choices.items (rw c.cores.ensures.value at c.in-Ok.ensures.found))
 
-pub returns-in-Err-clause-exact : goal.returns-in-Err-clause-exact
-returns-in-Err-clause-exact c =
+pub returns-in-Err : goal.returns-in-Err
+returns-in-Err c =
     refusal-is (IsRunAnswer c.args.test.now c.args.protocol c.args.config c.args.text.now) (c.in-Err.fault ≢ faults.NoMemory) c.refused_choices.result
     (choices_refusal c.in-Err.fault) Refused c.refused_choices.ensures.text c.refused_choices.ensures.status c.refused_choices.ensures.real
     (λ real. refused c.in-Err.fault (rw c.cores.ensures.value at (c.in-Err.ensures.refused real)))
-
-pub returns-in-Ok-clause-headline : goal.returns-in-Ok-clause-headline
-returns-in-Ok-clause-headline c =
-    let t = c.args.test.now in
-    let config = c.args.config in
-    PrintsEachRun-from_text c.run_under.result t c.args.protocol config c.args.text.now c.in-Ok.choices.items
-    (rw c.deref.ensures.value at c.run_under.ensures.text)
-    (rw c.deref.ensures.value at c.run_under.ensures.spelled)
-    (rw c.cores.ensures.value at c.in-Ok.ensures.only)
-    (c.ended_runs_are_executions.ensures t config.depth c.in-Ok.choices.items c.cores.ensures.test)

@@ -1,8 +1,20 @@
-use Rattle.std.proofs.Common.{arith}
-use Rattle.tso_cli.proofs.CheckLemmas.{answer-means-judged}
+use Rattle.std.proofs.Common.{◌≢◌}
+use Rattle.order_builder.specs.declared.fault.OrderFault.TheVariants as faults
+use Rattle.tso_cli.specs.Answers.{IsCheckAnswer, IsJudgement, refused, judged}
+use Rattle.tso_cli.specs.CheckLines.{order_refusal}
+use Rattle.tso_cli.specs.declared.answer.Status.TheVariants.{Refused}
+use Rattle.tso_cli.proofs.AnswerLemmas.{answer-means, refusal-is}
 use Rattle.tso_cli.proofs.checking.check_answer.Goals as goal
 
-pub returns-clause-headline : goal.returns-clause-headline
-returns-clause-headline c =
-    answer-means-judged c.answer_of_text.result c.args.test.now c.args.text.now c.first_breach_is_real.ensures c.first_breach_is_one.ensures
-    c.order_is_spelled_once.ensures.once c.order_is_spelled_once.ensures.never_both c.cores-known.ensures.test (omega arith) c.answer_of_text.ensures
+pub returns-in-Ok : goal.returns-in-Ok
+returns-in-Ok c =
+    let t = c.args.test.now in
+    let order = c.in-Ok.execution.order.items in
+    answer-means (IsJudgement t order) (IsCheckAnswer t c.args.text.now) c.judgement.result
+    (λ out status is. judged order out status c.in-Ok.ensures.found is) c.judgement.ensures
+
+pub returns-in-Err : goal.returns-in-Err
+returns-in-Err c =
+    refusal-is (IsCheckAnswer c.args.test.now c.args.text.now) (c.in-Err.fault ≢ faults.NoMemory) c.refused_order.result
+    (order_refusal c.in-Err.fault) Refused c.refused_order.ensures.text c.refused_order.ensures.status c.refused_order.ensures.real
+    (λ real. refused c.in-Err.fault (c.in-Err.ensures.fault real))

@@ -24,6 +24,7 @@ returns c =
         locations_spelled = grind (arith, common_steps);
         locations_differ = grind (arith, common_steps);
         words_given = grind (arith, common_steps);
+        values = c.know_values.ensures;
         programs_fit = subst (λ n. All (IsProgram n) t.programs) locations programs;
         condition_fits = subst (λ n. ForSome t.condition (IsCondition (length t.programs) n)) locations
             (subst (λ m. ForSome t.condition (IsCondition m c.len-locations.result)) cores (c.condition_fits.ensures.0 fits));

@@ -1,30 +1,36 @@
-use Rattle.std.proofs.Common.{rules, ℕ}
+use Rattle.std.proofs.Common.{rules, ◌<◌, length}
 use Rattle.std.proofs.lemmas.List.{with_items_is}
-use Rattle.snoop_bus.specs.declared.access.Access.{Access}
-use Rattle.snoop_bus.specs.Requests.{Loads}
-use Rattle.snoop_bus.proofs.AccessLemmas.{loaded_copy}
-use Rattle.snoop_bus.proofs.WordLemmas.{loc_in, words-same}
-use Rattle.snoop_bus.proofs.WordWritten.{answered_word}
+use Rattle.snoop_bus.proofs.WordLemmas.{line_below}
+use Rattle.snoop_bus.proofs.CallLemmas.{loc_in, load_done, load_refused}
+use Rattle.snoop_bus.proofs.NewLemmas.{bus-kept}
 use Rattle.snoop_bus.proofs.bus.SnoopBus.load.Goals as goal
 
 pub load-requires-clause-line : goal.load-requires-clause-line
-load-requires-clause-line g c = rw c.deref_mut-2.ensures.value (loc_in c.self.inside.caches.items c.self.inside.memory.items c.args.loc.0 (rw (← c.self.view_is) at c.requires.loc))
+load-requires-clause-line g c =
+    let within : c.args.loc.0 < c.self.inside.locations = loc_in c.self.inside.shape.words c.self.inside.locations c.self.inside.caches.items c.self.inside.memory.items c.args.loc.0 (rw (← c.self.view_is) at c.requires.loc) in
+    rw (c.deref_mut-2.ensures.value, c.line_of-line.ensures.value) (line_below c.self.inside.shape.words c.self.inside.locations (length c.self.inside.memory.items) c.args.loc.0 c.self.invariant.some_word c.self.invariant.enough_lines within)
 
-pub returns-clause-word : goal.returns-clause-word
-returns-clause-word g c =
-    let within = loc_in c.self.inside.caches.items c.self.inside.memory.items c.args.loc.0 (rw (← c.self.view_is) at c.requires.loc) in
-    rw (← c.self.view_is)
-    (answered_word (λ (w : ℕ) (a : Access). Loads (g.P.Protocol.table c.self.inside.protocol) c.from.result c.args.loc.0 c.self.inside.caches.items c.load.new.caches c.self.inside.memory.items c.load.new.memory w a)
-    c.load.result c.self.inside.caches.items c.self.inside.memory.items c.args.loc.0 within (λ w a h. h.word_is)
-    (rw (c.deref_mut.ensures.value, c.deref_mut-2.ensures.value) at c.load.ensures.ok))
-
-pub returns-clause-words : goal.returns-clause-words
-returns-clause-words g c =
+pub returns-clause-done : goal.returns-clause-done
+returns-clause-done g c =
     let cs = with_items_is c.self.inside.caches c.load.new.caches (search rules) in
     let ms = with_items_is c.self.inside.memory c.load.new.memory (search rules) in
-    let keeps = rw (c.deref_mut.ensures.value, c.deref_mut-2.ensures.value) at c.load.ensures.words in
-    rw (← c.self.view_is, cs, ms) (words-same c.self.inside.caches.items c.load.new.caches c.self.inside.memory.items c.load.new.memory (search rules) keeps.words)
+    let within : c.args.loc.0 < c.self.inside.locations = loc_in c.self.inside.shape.words c.self.inside.locations c.self.inside.caches.items c.self.inside.memory.items c.args.loc.0 (rw (← c.self.view_is) at c.requires.loc) in
+    rw (← c.self.view_is, cs, ms)
+    (load_done (g.P.Protocol.table c.self.inside.protocol) c.self.inside.shape c.self.inside.locations c.self.inside.caches.items c.load.new.caches c.self.inside.memory.items c.load.new.memory c.args.core.0 c.args.loc.0 c.load.result c.self.invariant.some_word c.self.invariant.enough_lines within
+    (rw (c.deref_mut.ensures.value, c.deref_mut-2.ensures.value, c.from.ensures, c.line_of-line.ensures.value, c.place_of-place.ensures.value) at c.load.ensures.ok)
+    (rw (c.deref_mut.ensures.value, c.deref_mut-2.ensures.value) at c.load.ensures.words))
 
-pub returns-clause-succeeds : goal.returns-clause-succeeds
-returns-clause-succeeds g c = rw (← c.self.view_is) (λ k.
-    (rw (c.deref_mut.ensures.value, c.from.ensures) at c.load.ensures.succeeds) (loaded_copy (g.P.Protocol.table c.self.inside.protocol) c.self.inside.caches.items c.args.core.0 c.args.loc.0 k))
+pub returns-clause-refused : goal.returns-clause-refused
+returns-clause-refused g c =
+    let cs = with_items_is c.self.inside.caches c.load.new.caches (search rules) in
+    let ms = with_items_is c.self.inside.memory c.load.new.memory (search rules) in
+    rw (← c.self.view_is, cs, ms)
+    (load_refused (g.P.Protocol.table c.self.inside.protocol) c.self.inside.shape c.self.inside.locations c.self.inside.caches.items c.load.new.caches c.self.inside.memory.items c.load.new.memory c.args.core.0 c.args.loc.0 c.load.result
+    (rw (c.deref_mut.ensures.value, c.from.ensures, c.line_of-line.ensures.value) at c.load.ensures.succeeds)
+    (rw c.deref_mut.ensures.value at c.load.ensures.err_caches) (rw c.deref_mut-2.ensures.value at c.load.ensures.err_memory))
+
+pub invariant_of-self : goal.invariant_of-self
+invariant_of-self g c =
+    let cs = with_items_is c.self.inside.caches c.load.new.caches (search rules) in
+    let ms = with_items_is c.self.inside.memory c.load.new.memory (search rules) in
+    rw (cs, ms) (bus-kept c.self.inside.shape c.self.inside.locations c.self.inside.caches.items c.load.new.caches c.self.inside.memory.items c.load.new.memory c.self.invariant (search rules) (rw (c.deref_mut.ensures.value, c.deref_mut-2.ensures.value) at c.load.ensures.words))

@@ -1,0 +1,198 @@
+-- What the second pass has met among the entries so far.
+use Rattle.std.proofs.Common.{◌≡◌, ◌≢◌, ◌<◌, ◌≤◌, ℕ, ◌+◌, suc, zero, List, [], ◌∷◌, length, Option, Some, None, IfSome, IsNone, if◌then◌else◌, slice_get, slice_index, take, filter, Bool, true, false, arith, ap, sym, ◌∙◌, ◌⊎◌, inl, inr, subst, refl}
+use Rattle.std.specs.Option.{unwrap_or}
+use Rattle.std.proofs.lemmas.Option.{slice_get-get_or}
+use Rattle.std.proofs.lemmas.Bool.Decides.{leb_tells}
+use Rattle.tso_model.specs.Litmus.{Litmus, IsTest}
+use Rattle.tso_model.specs.ProgramOrder.{is_read, writes_to}
+use Rattle.tso_model.specs.Execution.{made, IsWhole, KeepsProgramOrder, IsStorePart, last_value}
+use Rattle.tso_model.specs.declared.execution.Entry.{Entry}
+use Rattle.tso_model.specs.declared.execution.Kind.TheVariants.{LR, LW}
+use Rattle.axiom_checker.specs.First.{IsFirst, IsEarliest, IsNowhere}
+use Rattle.axiom_checker.specs.Entries.{IsWrongWrite, written_value}
+use Rattle.axiom_checker.specs.Axioms.{IsLate, IsParted, IsWrongRead, due_at}
+use Rattle.axiom_checker.specs.Progress.{is_late}
+use Rattle.axiom_checker.specs.Sources.{IsSource}
+use Rattle.axiom_checker.specs.Passing.{HasMet, first_of, due_from}
+use Rattle.axiom_checker.proofs.Marking.{AreMarks, AreWords, of_core, past_loads, late-tells}
+use Rattle.axiom_checker.proofs.Following.{due-right}
+use Rattle.axiom_checker.specs.declared.passing.Met.{Met}
+use Rattle.axiom_checker.proofs.Firsts.{NoneBefore, one_more, none_at_all, none_in_nothing}
+
+-- what is named is the first of which the fact holds; where nothing is, it holds of none before this place
+pub record SoFar {X : Type 0} (list : List Entry) (Fact : ℕ → Entry → Type 0) (at : ℕ) (Names : X → Type 0) (found : Option X) : Type 0 where
+  pub named : IfSome found Names
+  pub none : IsNone found → NoneBefore list Fact at
+
+pub record HasMetSoFar (t : Litmus) (order : List Entry) (at : ℕ) (met : Met) : Type 0 where
+  pub wrong_write : SoFar order (IsWrongWrite (made t order)) at (λ w. IsEarliest order (IsWrongWrite (made t order)) w.0 × (w.1 ≡ written_value (made t order) w.0)) met.wrong_write
+  pub late : SoFar order (IsLate order) at (λ a. IsFirst order (IsLate order) a.0 a.1) met.late
+  pub parted : SoFar order (IsParted order) at (λ x. IsEarliest order (IsParted order) x) met.parted
+  pub wrong_read : IsWhole t order → KeepsProgramOrder order
+      → SoFar order (IsWrongRead t order) at (λ w. (at : ℕ) × IsFirst order (IsWrongRead t order) at w.0 × (w.1 ≡ due_at t order at w.0)) met.wrong_read
+
+pub nothing-so-far : {X : Type 0} (list : List Entry) (Fact : ℕ → Entry → Type 0) (Names : X → Type 0) → SoFar list Fact 0 Names None
+nothing-so-far list Fact Names = record { named = tt; none = λ _. none_in_nothing list Fact }
+
+pub so-far-more : {X : Type 0} (list : List Entry) (Fact : ℕ → Entry → Type 0) (at : ℕ) (Names : X → Type 0) (x : Entry) (found next : Option X) → slice_get list at ≡ Some x
+    → (NoneBefore list Fact at → IfSome next Names) → (IsNone next → Fact at x → ⊥) → SoFar list Fact at Names found → SoFar list Fact (at + 1) Names (first_of found next)
+so-far-more list Fact at Names x None next here names none so = record { named = names (so.none refl); none = λ n. one_more list Fact at x here (so.none refl) (none n) }
+so-far-more list Fact at Names x (Some y) next here names none so = record { named = so.named; none = λ n. absurd (let z : ⊥ = cc in z) }
+
+pub met-all : (t : Litmus) (order : List Entry) (at : ℕ) (met : Met) → length order ≤ at → HasMetSoFar t order at met → HasMet t order met
+met-all t order at met all so = record {
+  wrong_write = so.wrong_write.named;
+  no_wrong_write = λ n. none_at_all order (IsWrongWrite (made t order)) at all (so.wrong_write.none n);
+  late = so.late.named;
+  none_late = λ n. none_at_all order (IsLate order) at all (so.late.none n);
+  parted = so.parted.named;
+  none_parted = λ n. none_at_all order (IsParted order) at all (so.parted.none n);
+  wrong_read = λ w k. (so.wrong_read w k).named;
+  no_wrong_read = λ w k n. none_at_all order (IsWrongRead t order) at all ((so.wrong_read w k).none n);
+}
+
+if-some : {X : Type 0} (P Q : X → Type 0) (o : Option X) → ((x : X) → P x → Q x) → IfSome o P → IfSome o Q
+if-some P Q None f h = tt
+if-some P Q (Some x) f h = f x h
+
+-- one more entry of the order
+module _ (t : Litmus) (order : List Entry) (at : ℕ) (x : Entry) (here : slice_get order at ≡ Some x) where
+  first-here : (Fact : ℕ → Entry → Type 0) (y : Entry) → y ≡ x → Fact at x → NoneBefore order Fact at → IsFirst order Fact at y
+  first-here Fact y q f none = subst (λ z. IsFirst order Fact at z) (sym q) (record { stands = here; holds = f; earliest = none })
+
+  -- what the tests said of it
+  pub record Written (next : Option (Entry × ℕ)) : Type 0 where
+    pub found : IfSome next (λ w. (w.0 ≡ x) × IsWrongWrite (made t order) 0 x × (w.1 ≡ written_value (made t order) x))
+    pub none : IsNone next → IsWrongWrite (made t order) 0 x → ⊥
+
+  wrote : (found next : Option (Entry × ℕ)) → Written next → SoFar order (IsWrongWrite (made t order)) at (λ w. IsEarliest order (IsWrongWrite (made t order)) w.0 × (w.1 ≡ written_value (made t order) w.0)) found
+      → SoFar order (IsWrongWrite (made t order)) (at + 1) (λ w. IsEarliest order (IsWrongWrite (made t order)) w.0 × (w.1 ≡ written_value (made t order) w.0)) (first_of found next)
+  wrote found next w so =
+      so-far-more order (IsWrongWrite (made t order)) at (λ w. IsEarliest order (IsWrongWrite (made t order)) w.0 × (w.1 ≡ written_value (made t order) w.0)) x found next here
+      (λ none. if-some _ _ next (λ v h. ((at, first-here (IsWrongWrite (made t order)) v.0 h.0 h.1 none), h.2 ∙ ap (λ y. written_value (made t order) y) (sym h.0))) w.found)
+      w.none so
+
+  behind : (found : Option (ℕ × Entry)) (b : Bool) → (b ≡ true → IsLate order at x) → (b ≡ false → IsLate order at x → ⊥) → SoFar order (IsLate order) at (λ a. IsFirst order (IsLate order) a.0 a.1) found
+      → SoFar order (IsLate order) (at + 1) (λ a. IsFirst order (IsLate order) a.0 a.1) (first_of found (if b then Some (at, x) else None))
+  behind found true found_it never so =
+      so-far-more order (IsLate order) at (λ a. IsFirst order (IsLate order) a.0 a.1) x found (Some (at, x)) here
+      (λ none. first-here (IsLate order) x refl (found_it refl) none) (λ n. absurd (let z : ⊥ = cc in z)) so
+  behind found false found_it never so =
+      so-far-more order (IsLate order) at (λ a. IsFirst order (IsLate order) a.0 a.1) x found None here (λ none. tt) (λ _. never refl) so
+
+  next-is : (o : Option Entry) (y : Entry) → o ≡ Some y → unwrap_or o x ≡ y
+  next-is o y e = ap (λ z. unwrap_or z x) e
+
+  parted-now : (next : Entry) → next ≡ unwrap_or (slice_get order (at + 1)) x → x.kind ≡ LR → (IsStorePart x next → ⊥) → IsParted order at x
+  parted-now next is load apart = record {
+    load_part = load;
+    parted = λ y e part.
+        let f : slice_get order (at + 1) ≡ Some y = ap (λ n. slice_get order n) (let q : at + 1 ≡ suc at = omega arith in q) ∙ e in
+        apart (subst (λ z. IsStorePart x z) (sym (is ∙ next-is (slice_get order (at + 1)) y f)) part);
+  }
+
+  together : (next : Entry) → next ≡ unwrap_or (slice_get order (at + 1)) x → (x.kind ≡ LR → IsStorePart x next) → IsParted order at x → ⊥
+  together next is part p = go (slice_get order (at + 1)) refl
+    where
+      go : (o : Option Entry) → slice_get order (at + 1) ≡ o → ⊥
+      go None e =
+          let q : next ≡ x = is ∙ ap (λ z. unwrap_or z x) e in
+          let k = (part p.load_part).kind in
+          let l : LR ≡ LW = sym p.load_part ∙ ap (λ z. z.kind) (sym q) ∙ k in
+          let z : ⊥ = cc in z
+      go (Some y) e =
+          let f : slice_get order (suc at) ≡ Some y = ap (λ n. slice_get order n) (let q : suc at ≡ at + 1 = omega arith in q) ∙ e in
+          p.parted y f (subst (λ z. IsStorePart x z) (is ∙ next-is (slice_get order (at + 1)) y e) (part p.load_part))
+
+  split : (found : Option Entry) (next : Entry) (now : Option Entry) → next ≡ unwrap_or (slice_get order (at + 1)) x → IfSome now (λ p. (p ≡ x) × (x.kind ≡ LR) × (IsStorePart x next → ⊥))
+      → (IsNone now → x.kind ≡ LR → IsStorePart x next) → SoFar order (IsParted order) at (λ x. IsEarliest order (IsParted order) x) found
+      → SoFar order (IsParted order) (at + 1) (λ x. IsEarliest order (IsParted order) x) (first_of found now)
+  split found next now is found_it never so =
+      so-far-more order (IsParted order) at (λ x. IsEarliest order (IsParted order) x) x found now here
+      (λ none. if-some _ _ now (λ p h. (at, first-here (IsParted order) p h.0 (parted-now next is h.1 h.2) none)) found_it)
+      (λ n. together next is (never n)) so
+
+  read : (found now : Option (Entry × ℕ)) → IfSome now (λ w. (w.0 ≡ x) × (is_read x ≡ true) × (x.value ≢ w.1) × (w.1 ≡ due_at t order at x)) → (IsNone now → is_read x ≡ true → x.value ≡ due_at t order at x)
+      → SoFar order (IsWrongRead t order) at (λ w. (at : ℕ) × IsFirst order (IsWrongRead t order) at w.0 × (w.1 ≡ due_at t order at w.0)) found
+      → SoFar order (IsWrongRead t order) (at + 1) (λ w. (at : ℕ) × IsFirst order (IsWrongRead t order) at w.0 × (w.1 ≡ due_at t order at w.0)) (first_of found now)
+  read found now found_it never so =
+      so-far-more order (IsWrongRead t order) at (λ w. (at : ℕ) × IsFirst order (IsWrongRead t order) at w.0 × (w.1 ≡ due_at t order at w.0)) x found now here
+      (λ none. if-some _ _ now (λ w h. (at, first-here (IsWrongRead t order) w.0 h.0 (record { read = h.1; wrong = λ e. h.2 (e ∙ sym h.3) }) none, h.3 ∙ ap (λ y. due_at t order at y) (sym h.0))) found_it)
+      (λ n f. f.wrong (never n f.read)) so
+
+-- what the second pass's tests say of an entry, and with it what was met is what was met so far
+pub met-more : (t : Litmus) (order : List Entry) (at : ℕ) (x : Entry) → IsTest t → slice_get order at ≡ Some x → (entries : List Entry) → entries ≡ made t order
+    → (all others words first : List ℕ) → t.words ≡ first → AreMarks order at of_core all → AreMarks order at past_loads others → AreWords order at first words → x.core.0 < length all → x.core.0 < length others
+    → (next : Entry) → next ≡ unwrap_or (slice_get order (at + 1)) x
+    → (write : Option (Entry × ℕ)) → IfSome write (λ w. (w.0 ≡ x) × IsWrongWrite entries 0 x × (w.1 ≡ written_value entries x)) → (IsNone write → IsWrongWrite entries 0 x → ⊥)
+    → (late : Option (ℕ × Entry)) → late ≡ (if is_late all others x then Some (at, x) else None)
+    → (parted : Option Entry) → IfSome parted (λ p. (p ≡ x) × (x.kind ≡ LR) × (IsStorePart x next → ⊥)) → (IsNone parted → x.kind ≡ LR → IsStorePart x next)
+    → (misread : Option (Entry × ℕ)) → IfSome misread (λ w. (w.0 ≡ x) × (is_read x ≡ true) × (x.value ≢ w.1) × ((source : Option Entry) × IsSource entries x source × (w.1 ≡ due_from source others words x)))
+    → (IsNone misread → is_read x ≡ true → (source : Option Entry) × IsSource entries x source × (x.value ≡ due_from source others words x))
+    → (met now : Met) → now.wrong_write ≡ first_of met.wrong_write write → now.late ≡ first_of met.late late → now.parted ≡ first_of met.parted parted → now.wrong_read ≡ first_of met.wrong_read misread
+    → HasMetSoFar t order at met → HasMetSoFar t order (at + 1) now
+met-more t order at x valid here entries is all others words first same_words a o ws l m next next_is write w_found w_none late late_is parted p_found p_none misread r_found r_none met now e1 e2 e3 e4 so =
+    let tells = late-tells order at all others x a o l m in
+    record {
+      wrong_write =
+          subst (λ f. SoFar order (IsWrongWrite (made t order)) (at + 1) (λ w. IsEarliest order (IsWrongWrite (made t order)) w.0 × (w.1 ≡ written_value (made t order) w.0)) f) (sym e1)
+          (wrote t order at x here met.wrong_write write (record {
+            found = subst (λ es. IfSome write (λ w. (w.0 ≡ x) × IsWrongWrite es 0 x × (w.1 ≡ written_value es x))) is w_found;
+            none = subst (λ es. IsNone write → IsWrongWrite es 0 x → ⊥) is w_none;
+          }) so.wrong_write);
+      late =
+          subst (λ f. SoFar order (IsLate order) (at + 1) (λ a. IsFirst order (IsLate order) a.0 a.1) f) (sym (e2 ∙ ap (λ n. first_of met.late n) late_is))
+          (behind t order at x here met.late (is_late all others x) tells.0 tells.1 so.late);
+      parted =
+          subst (λ f. SoFar order (IsParted order) (at + 1) (λ x. IsEarliest order (IsParted order) x) f) (sym e3)
+          (split t order at x here met.parted next parted next_is p_found p_none so.parted);
+      wrong_read = λ whole keeps.
+          let word : slice_index words x.loc.0 ≡ last_value (filter (writes_to x.loc.0) (take at order)) (slice_index t.words x.loc.0) =
+          ws x.loc.0 ∙ ap (λ v. last_value (filter (writes_to x.loc.0) (take at order)) (slice_index v x.loc.0)) (sym same_words) in
+          let due : is_read x ≡ true → (source : Option Entry) → IsSource entries x source → due_from source others words x ≡ due_at t order at x =
+          λ reads source own. due-right t order at x valid here reads whole keeps others words (o x.core.0 m) word source (subst (λ es. IsSource es x source) is own) in
+          subst (λ f. SoFar order (IsWrongRead t order) (at + 1) (λ w. (at : ℕ) × IsFirst order (IsWrongRead t order) at w.0 × (w.1 ≡ due_at t order at w.0)) f) (sym e4)
+          (read t order at x here met.wrong_read misread
+          (if-some _ (λ w. (w.0 ≡ x) × (is_read x ≡ true) × (x.value ≢ w.1) × (w.1 ≡ due_at t order at x)) misread (λ w h. (h.0, h.1, h.2, h.3.2 ∙ due h.1 h.3.0 h.3.1)) r_found)
+          (λ n reads. let s = r_none n reads in s.2 ∙ due reads s.0 s.1) (so.wrong_read whole keeps));
+    }
+
+pub nothing-met : (t : Litmus) (order : List Entry) (met : Met) → met.wrong_write ≡ None → met.late ≡ None → met.parted ≡ None → met.wrong_read ≡ None → HasMetSoFar t order 0 met
+nothing-met t order met e1 e2 e3 e4 = record {
+  wrong_write = subst (λ f. SoFar order (IsWrongWrite (made t order)) 0 (λ w. IsEarliest order (IsWrongWrite (made t order)) w.0 × (w.1 ≡ written_value (made t order) w.0)) f) (sym e1)
+      (nothing-so-far order (IsWrongWrite (made t order)) (λ w. IsEarliest order (IsWrongWrite (made t order)) w.0 × (w.1 ≡ written_value (made t order) w.0)));
+  late = subst (λ f. SoFar order (IsLate order) 0 (λ a. IsFirst order (IsLate order) a.0 a.1) f) (sym e2) (nothing-so-far order (IsLate order) (λ a. IsFirst order (IsLate order) a.0 a.1));
+  parted = subst (λ f. SoFar order (IsParted order) 0 (λ x. IsEarliest order (IsParted order) x) f) (sym e3) (nothing-so-far order (IsParted order) (λ x. IsEarliest order (IsParted order) x));
+  wrong_read = λ _ _. subst (λ f. SoFar order (IsWrongRead t order) 0 (λ w. (at : ℕ) × IsFirst order (IsWrongRead t order) at w.0 × (w.1 ≡ due_at t order at w.0)) f) (sym e4)
+      (nothing-so-far order (IsWrongRead t order) (λ w. (at : ℕ) × IsFirst order (IsWrongRead t order) at w.0 × (w.1 ≡ due_at t order at w.0)));
+}
+
+-- the entry ahead, and the looks
+pub ahead : (order : List Entry) (n : ℕ) (x y : Entry) → n < length order → y ≡ unwrap_or (slice_get order n) x → slice_get order n ≡ Some y
+ahead order n x y l e =
+    let g = slice_get-get_or order n x l in
+    g ∙ ap Some (sym (e ∙ ap (λ o. unwrap_or o x) g))
+
+pub no-more-looks : (before n at looks after : ℕ) → looks ≤ before + (at + 1) → looks ≤ before + n → after ≤ looks + 1 → (n ≤ at + 1 → after ≡ looks) → after ≤ before + n
+no-more-looks before n at looks after l m u last = elim (leb_tells n (at + 1)) [
+  | inl p ↦ let q = last p.1 in omega arith
+  | inr p ↦ let q = p.1 in omega arith
+]
+
+same_or_below : (i n : ℕ) → i < n + 1 → (i ≡ n) ⊎ (i < n)
+same_or_below i n h = grind arith
+
+pub one-more-fails : (order : List Entry) (p : Entry → Bool) (at : ℕ) (x : Entry) → slice_get order at ≡ Some x → ((k : ℕ) (y : Entry) → k < at → slice_get order k ≡ Some y → p y ≡ false) → p x ≡ false
+    → (k : ℕ) (y : Entry) → k < at + 1 → slice_get order k ≡ Some y → p y ≡ false
+one-more-fails order p at x here none fails k y l f = elim (same_or_below k at l) [
+  | inl q ↦ let g : slice_get order at ≡ Some y = ap (λ n. slice_get order n) (sym q) ∙ f in let e : y ≡ x = cc in ap p e ∙ fails
+  | inr b ↦ none k y b f
+]
+
+late-here : (n at : ℕ) (x : Entry) → at < n → (found : Option (ℕ × Entry)) (b : Bool) → IfSome found (λ a. a.0 < n) → IfSome (first_of found (if b then Some (at, x) else None)) (λ a. a.0 < n)
+late-here n at x l None true h = l
+late-here n at x l None false h = tt
+late-here n at x l (Some a) b h = h
+
+pub late-within : (n at : ℕ) (x : Entry) → at < n → (found late now : Option (ℕ × Entry)) (b : Bool) → late ≡ (if b then Some (at, x) else None) → now ≡ first_of found late → IfSome found (λ a. a.0 < n) → IfSome now (λ a. a.0 < n)
+late-within n at x l found late now b late_is now_is h = subst (λ o. IfSome o (λ a. a.0 < n)) (sym (now_is ∙ ap (λ o. first_of found o) late_is)) (late-here n at x l found b h)

@@ -1,0 +1,133 @@
+-- The values with which the reads came are the order's own read values, and with them the programs make what they make.
+use Rattle.std.proofs.Common.{◌≡◌, ◌≤◌, ℕ, ◌+◌, suc, zero, List, [], ◌∷◌, ◌++◌, length, Option, Some, None, slice_get, slice_index, slice_index_or, take, drop, replicate, Bool, true, false, if◌then◌else◌, arith, ap, sym, ◌∙◌, refl, subst, inl, inr, length-append}
+use Rattle.std.specs.Option.{unwrap_or}
+use Rattle.std.proofs.Math.Seq.{take-append_seam}
+use Rattle.tso_model.specs.Thread.{entries_of, with_value, value_in, reads_in}
+use Rattle.tso_model.specs.Litmus.{Litmus}
+use Rattle.tso_model.specs.ProgramOrder.{is_read}
+use Rattle.tso_model.specs.Execution.{read_value, read_values, made_from, made}
+use Rattle.tso_model.specs.declared.instruction.Instr.{Instr}
+use Rattle.tso_model.specs.declared.instruction.Instr.TheVariants.{StoreImm, StoreReg, Load, SetImm, SetReg, Fence, Xchg, Xadd}
+use Rattle.tso_model.specs.declared.execution.Entry.{Entry}
+use Rattle.tso_model.specs.declared.execution.Kind.TheVariants.{R, LR}
+use Rattle.axiom_checker.specs.First.{IsNowhere}
+use Rattle.axiom_checker.specs.Entries.{IsStray}
+use Rattle.axiom_checker.specs.Programs.{shape_from, reads_of_all, made_reading, kept_in, reads_that_came}
+use Rattle.axiom_checker.specs.Slots.{HasCome, HasNotCome}
+use Rattle.axiom_checker.proofs.Actions.{SameAction, same-parts, same-turned, NoneTwice, value-at, looked-up}
+use Rattle.axiom_checker.proofs.Whole.{none-twice}
+use Rattle.axiom_checker.proofs.Coming.{there-or-not}
+
+-- the values of the reads among these entries
+abbrev pub reads_by : (Entry → ℕ) → List Entry → List ℕ
+reads_by value [] = []
+reads_by value (e ∷ es) = if is_read e then value e ∷ reads_by value es else reads_by value es
+
+abbrev pub own_value : List Entry → Entry → ℕ
+own_value order e = read_value e.core.0 e.place e.kind order
+
+abbrev pub all_reads : ℕ → List (List Instr) → List Entry → List ℕ
+all_reads core [] order = []
+all_reads core (p ∷ ps) order = read_values core 0 p order ++ all_reads (core + 1) ps order
+
+step : (b : Bool) (u v : ℕ) (us vs : List ℕ) → (b ≡ true → u ≡ v) → us ≡ vs → (if b then u ∷ us else us) ≡ (if b then v ∷ vs else vs)
+step true u v us vs h e = ap (λ z. z ∷ us) (h refl) ∙ ap (λ z. v ∷ z) e
+step false u v us vs h e = e
+
+came-by : (order : List Entry) (came : List (Option ℕ)) (i : ℕ) (es : List Entry)
+    → ((k : ℕ) (e : Entry) → slice_get es k ≡ Some e → unwrap_or (kept_in came (i + k)) 0 ≡ own_value order e)
+    → reads_that_came i came es ≡ reads_by (own_value order) es
+came-by order came i [] h = refl
+came-by order came i (e ∷ es) h =
+    step (is_read e) (unwrap_or (kept_in came i) 0) (own_value order e) (reads_that_came (i + 1) came es) (reads_by (own_value order) es)
+    (λ _. ap (λ n. unwrap_or (kept_in came n) 0) (let q : i ≡ i + 0 = omega arith in q) ∙ h 0 e refl)
+    (came-by order came (i + 1) es (λ k x f. ap (λ n. unwrap_or (kept_in came n) 0) (let q : i + 1 + k ≡ i + suc k = omega arith in q) ∙ h (suc k) x f))
+
+entries-reads : (core place : ℕ) (program : List Instr) (registers reads : List ℕ) (order : List Entry) → reads_by (own_value order) (entries_of core place program registers reads) ≡ read_values core place program order
+entries-reads core place [] registers reads order = refl
+entries-reads core place (StoreImm loc value ∷ rest) registers reads order = entries-reads core (place + 1) rest registers reads order
+entries-reads core place (StoreReg loc reg ∷ rest) registers reads order = entries-reads core (place + 1) rest registers reads order
+entries-reads core place (Load reg loc ∷ rest) registers reads order =
+    ap (λ z. read_value core place R order ∷ z) (entries-reads core (place + 1) rest (with_value registers reg (slice_index reads 0)) (drop 1 reads) order)
+entries-reads core place (SetImm reg value ∷ rest) registers reads order = entries-reads core (place + 1) rest (with_value registers reg value) reads order
+entries-reads core place (SetReg reg other ∷ rest) registers reads order = entries-reads core (place + 1) rest (with_value registers reg (value_in registers other)) reads order
+entries-reads core place (Fence ∷ rest) registers reads order = entries-reads core (place + 1) rest registers reads order
+entries-reads core place (Xchg loc reg ∷ rest) registers reads order =
+    ap (λ z. read_value core place LR order ∷ z) (entries-reads core (place + 1) rest (with_value registers reg (slice_index reads 0)) (drop 1 reads) order)
+entries-reads core place (Xadd loc reg ∷ rest) registers reads order =
+    ap (λ z. read_value core place LR order ∷ z) (entries-reads core (place + 1) rest (with_value registers reg (slice_index reads 0)) (drop 1 reads) order)
+
+if-append : (b : Bool) (x : ℕ) (xs ys : List ℕ) → (if b then x ∷ (xs ++ ys) else (xs ++ ys)) ≡ (if b then x ∷ xs else xs) ++ ys
+if-append true x xs ys = refl
+if-append false x xs ys = refl
+
+reads-append : (value : Entry → ℕ) (xs ys : List Entry) → reads_by value (xs ++ ys) ≡ reads_by value xs ++ reads_by value ys
+reads-append value [] ys = refl
+reads-append value (x ∷ xs) ys =
+    ap (λ z. if is_read x then value x ∷ z else z) (reads-append value xs ys) ∙ if-append (is_read x) (value x) (reads_by value xs) (reads_by value ys)
+
+shape-reads : (core : ℕ) (programs : List (List Instr)) (registers : List (List ℕ)) (order : List Entry) → reads_by (own_value order) (shape_from core programs registers) ≡ all_reads core programs order
+shape-reads core [] registers order = refl
+shape-reads core (p ∷ ps) registers order =
+    reads-append (own_value order) (entries_of core 0 p (slice_index_or registers core []) (replicate (reads_in p) 0)) (shape_from (core + 1) ps registers)
+    ∙ ap (λ z. z ++ reads_by (own_value order) (shape_from (core + 1) ps registers)) (entries-reads core 0 p (slice_index_or registers core []) (replicate (reads_in p) 0) order)
+    ∙ ap (λ z. read_values core 0 p order ++ z) (shape-reads (core + 1) ps registers order)
+
+reads-count : (core place : ℕ) (program : List Instr) (order : List Entry) → length (read_values core place program order) ≡ reads_in program
+reads-count core place [] order = refl
+reads-count core place (StoreImm loc value ∷ rest) order = reads-count core (place + 1) rest order
+reads-count core place (StoreReg loc reg ∷ rest) order = reads-count core (place + 1) rest order
+reads-count core place (Load reg loc ∷ rest) order = ap suc (reads-count core (place + 1) rest order)
+reads-count core place (SetImm reg value ∷ rest) order = reads-count core (place + 1) rest order
+reads-count core place (SetReg reg other ∷ rest) order = reads-count core (place + 1) rest order
+reads-count core place (Fence ∷ rest) order = reads-count core (place + 1) rest order
+reads-count core place (Xchg loc reg ∷ rest) order = ap suc (reads-count core (place + 1) rest order)
+reads-count core place (Xadd loc reg ∷ rest) order = ap suc (reads-count core (place + 1) rest order)
+
+drop-seam : (xs ys : List ℕ) → drop (length xs) (xs ++ ys) ≡ ys
+drop-seam [] ys = refl
+drop-seam (x ∷ xs) ys = drop-seam xs ys
+
+all-count : (core : ℕ) (programs : List (List Instr)) (order : List Entry) → length (all_reads core programs order) ≡ reads_of_all programs
+all-count core [] order = refl
+all-count core (p ∷ ps) order =
+    length-append (read_values core 0 p order) (all_reads (core + 1) ps order) ∙ ap (λ n. n + length (all_reads (core + 1) ps order)) (reads-count core 0 p order)
+    ∙ ap (λ n. reads_in p + n) (all-count (core + 1) ps order)
+
+made-by-reads : (core : ℕ) (programs : List (List Instr)) (registers : List (List ℕ)) (order : List Entry) → made_reading core programs registers (all_reads core programs order) ≡ made_from core programs registers order
+made-by-reads core [] registers order = refl
+made-by-reads core (p ∷ ps) registers order =
+    let own = read_values core 0 p order in
+    let rest = all_reads (core + 1) ps order in
+    let front : take (reads_in p) (own ++ rest) ≡ own = ap (λ n. take n (own ++ rest)) (sym (reads-count core 0 p order)) ∙ take-append_seam own rest in
+    let back : drop (reads_in p) (own ++ rest) ≡ rest = ap (λ n. drop n (own ++ rest)) (sym (reads-count core 0 p order)) ∙ drop-seam own rest in
+    ap (λ z. entries_of core 0 p (slice_index_or registers core []) z ++ made_reading (core + 1) ps registers (drop (reads_in p) (own ++ rest))) front
+    ∙ ap (λ z. entries_of core 0 p (slice_index_or registers core []) own ++ made_reading (core + 1) ps registers z) back
+    ∙ ap (λ z. entries_of core 0 p (slice_index_or registers core []) own ++ z) (made-by-reads (core + 1) ps registers order)
+
+-- where all came, each came with the order's own value
+came-own : (shape order : List Entry) (at : ℕ) (came : List (Option ℕ)) → NoneTwice order → HasCome shape order at came → IsNowhere shape (HasNotCome came)
+    → (k : ℕ) (e : Entry) → slice_get shape k ≡ Some e → unwrap_or (kept_in came k) 0 ≡ own_value order e
+came-own shape order at came once come all k e f = elim (there-or-not (kept_in came k)) [
+  | inl n ↦ absurd (all k e f n)
+  | inr s ↦
+      let r = come.only k s.0 s.1 in
+      let q : r.2 ≡ e = let g = r.5 in cc in
+      let a : SameAction e r.1 = subst (λ w. SameAction w r.1) q (same-parts r.2 r.1 r.6) in
+      ap (λ o. unwrap_or o 0) s.1 ∙ sym r.7 ∙ sym (value-at order once r.0 r.1 r.4) ∙ looked-up r.1 e order (same-turned e r.1 a)
+]
+
+pub record ReadsAll (t : Litmus) (order : List Entry) (reads : List ℕ) : Type 0 where
+  pub enough : reads_of_all t.programs ≤ length reads
+  pub makes : made_reading 0 t.programs t.registers reads ≡ made t order
+
+pub came-reads : (t : Litmus) (order : List Entry) (at : ℕ) (came : List (Option ℕ)) (shape : List Entry) → shape ≡ shape_from 0 t.programs t.registers → IsNowhere order (IsStray shape order) → HasCome shape order at came
+    → IsNowhere shape (HasNotCome came) → ReadsAll t order (reads_that_came 0 came shape)
+came-reads t order at came shape is stray come all =
+    let e : reads_that_came 0 came shape ≡ all_reads 0 t.programs order =
+    came-by order came 0 shape (λ k e f. ap (λ n. unwrap_or (kept_in came n) 0) (let q : 0 + k ≡ k = omega arith in q) ∙ came-own shape order at came (none-twice shape order stray) come all k e f)
+    ∙ ap (λ s. reads_by (own_value order) s) is ∙ shape-reads 0 t.programs t.registers order in
+    record {
+      enough = let n = all-count 0 t.programs order in let m = ap length e in omega arith;
+      makes = ap (λ r. made_reading 0 t.programs t.registers r) e ∙ made-by-reads 0 t.programs t.registers order;
+    }

@@ -1,0 +1,22 @@
+use Rattle.std.proofs.Common.{◌≡◌, Some, slice_get, ap, sym, ◌∙◌, arith, subst, refl}
+use Rattle.axiom_checker.specs.Entries.{IsStray}
+use Rattle.axiom_checker.proofs.Firsts.{one_more, none_at_all}
+use Rattle.axiom_checker.proofs.arrivals.first_stray.Goals as goal
+
+pub loop-at-preserved : goal.loop-at-preserved
+loop-at-preserved g c =
+    let order = c.args.order.now.order in
+    let here = ap (λ o. slice_get o c.loop-at.at) (sym c.loop-at.invariant.order) ∙ c.look-x.ensures.entry in
+    let looked = ap (λ s. s.looks) c.look-x.ensures.counted in
+    let before = c.loop-at.invariant.looks in
+    let came = c.in_default.ensures.none order c.loop-at.at here c.loop-at.invariant.came refl in
+    record {
+      order = ap (λ s. s.order) c.look-x.ensures.counted ∙ c.loop-at.invariant.order;
+      looks = omega (arith, looked, before);
+      none = one_more order (IsStray c.args.shape.now order) c.loop-at.at c.look-x.result here c.loop-at.invariant.none came.1;
+      came = came.0;
+    }
+
+pub returns-clause-none : goal.returns-clause-none
+returns-clause-none g c _ =
+    none_at_all c.args.order.now.order (IsStray c.args.shape.now c.args.order.now.order) c.loop-at.at (let l = c.loop-at-test.false in omega (arith, l, c.len-at-end.ensures)) c.loop-at.invariant.none

@@ -1,0 +1,44 @@
+use Rattle.std.proofs.Common.{◌≡◌, ◌≤◌, length, ap, sym, ◌∙◌, refl, subst, arith}
+use Rattle.tso_model.specs.Execution.{made}
+use Rattle.axiom_checker.specs.Programs.{made_reading, reads_of_all}
+use Rattle.axiom_checker.specs.Slots.{IsIndex}
+use Rattle.axiom_checker.specs.Passing.{IsMatched}
+use Rattle.axiom_checker.proofs.Judging.{alike-of, names-first-stray, names-first-missing, all-matched, all-read, made-index}
+use Rattle.axiom_checker.proofs.check.breach_by_shape.Goals as goal
+
+pub returns-in-Some-clause-found : goal.returns-in-Some-clause-found
+returns-in-Some-clause-found g c =
+    let t = c.args.test.now in
+    let order = c.args.order.now.order in
+    names-first-stray t order c.args.shape.now (alike-of t order c.args.shape.now c.requires.shape) c.in-Some.stray c.in-Some.ensures.found
+
+pub returns-in-Some-first_missing-clause-found : goal.returns-in-Some-first_missing-clause-found
+returns-in-Some-first_missing-clause-found g c =
+    let first = c.in-Some-first_missing.ensures.found in
+    names-first-missing c.args.test.now c.args.order.now.order c.args.shape.now c.requires.shape c.args.slots.now c.requires.index c.first_stray.new.came
+    (c.in_default.ensures.none refl) (c.in_default.ensures.came refl) c.in-Some-first_missing.e first.0 first.1
+
+pub made_entries-requires : goal.made_entries-requires
+made_entries-requires g c =
+    let all = all-read c.args.test.now c.args.order.now.order c.args.shape.now c.requires.shape c.args.slots.now c.requires.index c.first_stray.new.came
+    (c.in_default.ensures.none refl) (c.in_default.ensures.came refl) (c.in_default-first_missing.ensures.none refl) in
+    subst (λ r. reads_of_all c.args.test.now.programs ≤ length r) (sym (c.deref.ensures.value ∙ c.in_ok-reads.ensures)) all.enough
+
+pub breach_of_all-requires : goal.breach_of_all-requires
+breach_of_all-requires g c =
+    let t = c.args.test.now in
+    let order = c.args.order.now.order in
+    let all = all-read t order c.args.shape.now c.requires.shape c.args.slots.now c.requires.index c.first_stray.new.came
+    (c.in_default.ensures.none refl) (c.in_default.ensures.came refl) (c.in_default-first_missing.ensures.none refl) in
+    let matched = all-matched t order c.args.shape.now c.requires.shape c.args.slots.now c.requires.index c.first_stray.new.came
+    (c.in_default.ensures.none refl) (c.in_default.ensures.came refl) (c.in_default-first_missing.ensures.none refl) in
+    let index = made-index t order c.args.shape.now c.requires.shape c.args.slots.now c.requires.index c.first_stray.new.came
+    (c.in_default.ensures.none refl) (c.in_default.ensures.came refl) in
+    let is = c.deref-2.ensures.value ∙ c.in_ok-made.ensures
+    ∙ ap (λ r. made_reading 0 t.programs t.registers r) (c.deref.ensures.value ∙ c.in_ok-reads.ensures) ∙ all.makes in
+    record {
+      made = is ∙ ap (λ o. made t o) (sym c.in_default.ensures.same);
+      index = subst (λ m. IsIndex m c.args.slots.now) (sym is) index;
+      matched = subst (λ o. IsMatched t o) (sym c.in_default.ensures.same) matched;
+      test = c.requires.test;
+    }

@@ -1,0 +1,13 @@
+use Rattle.std.proofs.Common.{ap, sym, ◌∙◌}
+use Rattle.std.proofs.lemmas.Option.{slice_get-get_or}
+use Rattle.axiom_checker.specs.Programs.{kept_in}
+use Rattle.axiom_checker.specs.Slots.{slot_of}
+use Rattle.axiom_checker.proofs.Coming.{index-within, found-other}
+use Rattle.axiom_checker.proofs.index.find.Goals as goal
+
+pub returns-in_default-clause-none : goal.returns-in_default-clause-none
+returns-in_default-clause-none c _ =
+    let there = ap (λ n. kept_in c.args.slots.now n) (sym c.slot.ensures) ∙ sym c.kept.ensures ∙ c.in-Some.is in
+    let within = index-within c.args.list.now c.args.slots.now c.requires (slot_of c.args.x.now) c.in-Some.i there in
+    let other = sym c.is_same_but_value.ensures ∙ c.if-is_same_but_value.false in
+    found-other c.args.list.now c.args.slots.now c.requires c.args.x.now _ c.in-Some.i there (slice_get-get_or c.args.list.now c.in-Some.i _ within) other

@@ -1,0 +1,12 @@
+use Rattle.std.proofs.Common.{◌≡◌, ◌≤◌, ◌<◌, ◌+◌, ℕ, Some, false, slice_get}
+use Rattle.tso_model.specs.declared.execution.Entry.{Entry}
+use Rattle.axiom_checker.specs.Axioms.{must_stand_before}
+use Rattle.axiom_checker.proofs.passing.first_overtaking.Given as goal
+
+-- one look each, and none of the entries so far overtook
+abbrev pub invariant-loop-j : goal.invariant-loop-j
+invariant-loop-j g l = record {
+  order : l.order.order ≡ l.fn.order.order;
+  looks : l.order.looks ≤ l.fn.order.looks + l.j;
+  none : (k : ℕ) (y : Entry) → k < l.j → slice_get l.fn.order.order k ≡ Some y → must_stand_before l.a y ≡ false;
+}

@@ -1,0 +1,20 @@
+use Rattle.std.proofs.Common.{◌≡◌, ◌≤◌, ◌<◌, ◌+◌, ℕ, Some, IfSome, length, slice_get}
+use Rattle.tso_model.specs.Litmus.{Litmus, IsTest}
+use Rattle.tso_model.specs.Execution.{made}
+use Rattle.axiom_checker.proofs.Marking.{AreMarks, AreWords, of_core, past_loads}
+use Rattle.axiom_checker.proofs.Meeting.{HasMetSoFar}
+use Rattle.axiom_checker.proofs.passing.pass.Given as goal
+
+-- one look each, and one ahead; how far the cores have come, the words, and what was met among the entries so far
+abbrev pub invariant-loop-at : goal.invariant-loop-at
+invariant-loop-at g l = record {
+  order : l.order.order ≡ l.fn.order.order;
+  here : l.at < length l.fn.order.order → slice_get l.fn.order.order l.at ≡ Some l.x;
+  looks : l.order.looks ≤ l.fn.order.looks + (l.at + 1);
+  no_more : l.order.looks ≤ l.fn.order.looks + length l.fn.order.order;
+  reached : AreMarks l.fn.order.order l.at of_core l.reached;
+  settled : AreMarks l.fn.order.order l.at past_loads l.settled;
+  words : AreWords l.fn.order.order l.at l.fn.words l.words;
+  within : IfSome l.met.late (λ a. a.0 < length l.fn.order.order);
+  met : (t : Litmus) → IsTest t → t.words ≡ l.fn.words → l.programs.made.now ≡ made t l.fn.order.order → HasMetSoFar t l.fn.order.order l.at l.met;
+}

@@ -1,0 +1,19 @@
+use Rattle.std.proofs.Common.{◌≡◌, ◌<◌, ◌+◌, Some, length, length-append, ap, sym, ◌∙◌, subst, arith}
+use Rattle.std.proofs.lemmas.Option.{slice_get-get_or, slice_get_within}
+use Rattle.axiom_checker.proofs.Following.{AreLatest, sources-step, latest-step}
+use Rattle.axiom_checker.proofs.sources.find_sources.Goals as goal
+
+pub loop-e-preserved : goal.loop-e-preserved
+loop-e-preserved c =
+    let inv = c.loop-e.invariant in
+    let items = c.in_ok-push.ensures.items in
+    record {
+      latest = latest-step c.args.made.now c.loop-e.e-index c.loop-e.latest _ c.note_write.new.latest c.loop-e-test.true c.note_write.ensures
+          (λ k e f w. let l = c.requires.known k e f w in let n = c.loop-e.auto.latest in omega (arith, l, n)) inv.latest;
+      sources = sources-step c.requires.ascends.0 c.args.made.now c.requires.ascends.1 c.requires.fit c.loop-e.e-index _ c.loop-e-test.true c.loop-e.latest inv.latest c.loop-e.sources.items c.push.new.self.items
+          inv.count c.own_write.result c.own_write.ensures items inv.sources;
+      count = ap length items ∙ length-append c.loop-e.sources.items _ ∙ ap (λ n. n + 1) inv.count;
+    }
+
+pub returns : goal.returns
+returns c k e f = let l = slice_get_within c.args.made.now k e f in let m = c.loop-e-test.false in c.loop-e.invariant.sources k e (omega (arith, l, m)) f

@@ -1,0 +1,12 @@
+use Rattle.std.proofs.Common.{subst, sym}
+use Rattle.axiom_checker.specs.Sources.{IsSource}
+use Rattle.axiom_checker.proofs.Actions.{same_but_value-parts}
+use Rattle.axiom_checker.proofs.Following.{source-same}
+use Rattle.axiom_checker.proofs.sources.source.Goals as goal
+
+pub returns : goal.returns
+returns c _ =
+    let e = c.in_ok-i.ensures.found in
+    let same = same_but_value-parts e.0 c.args.x.now e.2 in
+    subst (λ o. IsSource c.args.made.now c.args.x.now o) (sym c.kept.ensures)
+    (source-same c.args.made.now e.0 c.args.x.now same.action same.loc _ (c.requires.sources c.in_ok-i.i e.0 e.1))

@@ -1,0 +1,218 @@
+ghost use Rattle.std.specs.Prelude.{◌≡◌, ◌≢◌, ◌+◌, ◌≤◌, ◌<◌, ◌↔◌, ℕ, true, IsTrue, length, slice_get, slice_index, Option, Some, None, if◌then◌else◌, IfSome, IsNone};
+ghost use Rattle.std.specs.Option.{unwrap_or};
+ghost use Rattle.tso_model.specs.ProgramOrder as program_order;
+ghost use Rattle.tso_model.specs.Execution.{made, IsStorePart};
+ghost use Rattle.tso_model.specs.Litmus.{Litmus, IsTest};
+ghost use Rattle.tso_model.specs.declared.execution.Entry.{Entry};
+ghost use Rattle.axiom_checker.specs.First.{IsEarliest};
+ghost use Rattle.axiom_checker.specs.Entries.{IsExtra, IsWrongWrite, written_value};
+ghost use Rattle.axiom_checker.specs.Axioms.{Overtakes, IsLate};
+ghost use Rattle.axiom_checker.specs.Slots.{IsIndex};
+ghost use Rattle.axiom_checker.specs.Sources.{HasSources, IsSource};
+ghost use Rattle.tso_model.specs.declared.execution.Kind.TheVariants.{LR};
+ghost use Rattle.axiom_checker.specs.Progress as progress;
+ghost use Rattle.axiom_checker.specs.Passing.{AreOfPrograms, HasMet, due_from, first_of};
+
+use crate::entries::{is_read, is_store_part, is_write, must_stand_before, rank};
+use crate::progress::{is_late, reach, settle, write};
+use crate::sources::{program_value, source};
+use std::sync::ledger::Ledger;
+use tso_model::{Entry, Kind, Watched};
+
+/// What the programs make, with the tables that go with it.
+#[derive(Clone, Copy)]
+pub struct Programs<'a> {
+    /// The entries with the order's own read values, core by core and in program order.
+    pub made: &'a [Entry],
+    /// Where the entry of each slot stands among them.
+    pub slots: &'a [Option<usize>],
+    /// For each of them the last write to its location that its own program has before it.
+    pub sources: &'a [Option<Entry>],
+}
+
+/// The first of each kind of breach that the second pass met.
+#[derive(Clone, Copy)]
+pub struct Met {
+    /// A write of another value than its program's, and that value.
+    pub wrong_write: Option<(Entry, u32)>,
+    /// An entry that came too late, and its place in the order.
+    pub late: Option<(usize, Entry)>,
+    /// A load part that isn't followed at once by its store part.
+    pub parted: Option<Entry>,
+    /// A read of another value than is due, and that value.
+    pub wrong_read: Option<(Entry, u32)>,
+}
+
+/// Goes over an order that holds each action of the programs once, and notes the first wrong value
+/// of a write, late entry, parted pair and wrong read that it meets. A wrong read is one only where
+/// the order is whole and keeps program order.
+pub fn pass<L: Ledger>(
+    programs: Programs<'_>,
+    reached: &mut [u32],
+    settled: &mut [u32],
+    words: &mut [u32],
+    order: &mut Watched<'_, L>,
+) -> Met
+    requires index { IsIndex programs.made.now programs.slots.now }
+    requires sources { HasSources programs.made.now programs.sources.now }
+    requires of_programs { AreOfPrograms programs.made.now (length reached.old) (length words.old) order.old.order }
+    requires settled { length settled.old ≡ length reached.old }
+    requires none_yet { (c : ℕ) → (slice_index reached.old c ≡ 0) × (slice_index settled.old c ≡ 0) }
+    ensures met { (t : Litmus) → IsTest t → t.words ≡ words.old → programs.entry.made.now ≡ made t order.old.order → HasMet t order.old.order result }
+    ensures within { IfSome result.late (λ a. a.0 < length order.old.order) }
+    ensures same { order.new.order ≡ order.old.order }
+    ensures looks { order.new.looks ≤ order.old.looks + length order.old.order }
+{
+    let mut met = Met {
+        wrong_write: None,
+        late: None,
+        parted: None,
+        wrong_read: None,
+    };
+    if order.len() == 0 {
+        return met;
+    }
+    let mut x = order.look(0);
+    for at in 0..order.len() {
+        let next = entry_behind(order, at, x);
+        met = Met {
+            wrong_write: first(met.wrong_write, wrong_write(programs, &x)),
+            late: first(met.late, late(reached, settled, at, &x)),
+            parted: first(met.parted, parted(&x, &next)),
+            wrong_read: first(met.wrong_read, wrong_read(programs, settled, words, &x)),
+        };
+        reach(reached, &x);
+        settle(settled, &x);
+        write(words, &x);
+        x = next;
+    }
+    met
+}
+
+/// The first of the two that is there.
+fn first<T: Copy>(earlier: Option<T>, later: Option<T>) -> Option<T>
+    ensures { result ≡ first_of earlier later }
+{
+    match earlier {
+        Some(_) => earlier,
+        None => later,
+    }
+}
+
+/// The entry behind this place, or x, the one at this place, where it is the last.
+fn entry_behind<L: Ledger>(order: &mut Watched<'_, L>, at: usize, x: Entry) -> Entry
+    requires { at < length order.old.order }
+    ensures next { result ≡ unwrap_or (slice_get order.old.order (at + 1)) x }
+    ensures same { order.new.order ≡ order.old.order }
+    ensures looks { order.new.looks ≤ order.old.looks + 1 }
+    ensures last { length order.old.order ≤ at + 1 → order.new.looks ≡ order.old.looks }
+{
+    if order.len() - at > 1 {
+        order.look(at + 1)
+    } else {
+        x
+    }
+}
+
+/// A write with the value that its program gives it, where that is another.
+fn wrong_write(programs: Programs<'_>, x: &Entry) -> Option<(Entry, u32)>
+    requires { IsIndex programs.made.now programs.slots.now }
+    ensures found { ¬ IsExtra programs.entry.made.now x.now → IfSome result (λ w. (w.0 ≡ x.now) × IsWrongWrite programs.entry.made.now 0 x.now × (w.1 ≡ written_value programs.entry.made.now x.now)) }
+    ensures none { ¬ IsExtra programs.entry.made.now x.now → IsNone result → ¬ IsWrongWrite programs.entry.made.now 0 x.now }
+{
+    if !is_write(x) {
+        return None;
+    }
+    let due = program_value(programs.made, programs.slots, x);
+    if x.value == due {
+        return None;
+    }
+    Some((*x, due))
+}
+
+/// The entry with its place, where it comes late.
+fn late(reached: &[u32], settled: &[u32], at: usize, x: &Entry) -> Option<(usize, Entry)>
+    requires reached { x.now.core.0 < length reached.now }
+    requires settled { x.now.core.0 < length settled.now }
+    ensures { result ≡ (if progress.is_late reached.now settled.now x.now then Some (at, x.now) else None) }
+{
+    if is_late(reached, settled, x) {
+        Some((at, *x))
+    } else {
+        None
+    }
+}
+
+/// The entry where it is a load part and the next one isn't its store part.
+fn parted(x: &Entry, next: &Entry) -> Option<Entry>
+    ensures found { IfSome result (λ p. (p ≡ x.now) × (x.now.kind ≡ LR) × ¬ IsStorePart x.now next.now) }
+    ensures none { IsNone result → x.now.kind ≡ LR → IsStorePart x.now next.now }
+{
+    if x.kind == Kind::LR && !is_store_part(x, next) {
+        Some(*x)
+    } else {
+        None
+    }
+}
+
+/// A read with the value that is due to it, where that is another: the value of its source where
+/// that hasn't come, else the word of its location.
+fn wrong_read(
+    programs: Programs<'_>,
+    settled: &[u32],
+    words: &[u32],
+    x: &Entry,
+) -> Option<(Entry, u32)>
+    requires index { IsIndex programs.made.now programs.slots.now }
+    requires sources { HasSources programs.made.now programs.sources.now }
+    ensures found { ¬ IsExtra programs.entry.made.now x.now → IfSome result (λ w. (w.0 ≡ x.now) × (program_order.is_read x.now ≡ true) × (x.now.value ≢ w.1)
+        × ((source : Option Entry) × IsSource programs.entry.made.now x.now source × (w.1 ≡ due_from source settled.now words.now x.now))) }
+    ensures none { ¬ IsExtra programs.entry.made.now x.now → IsNone result → program_order.is_read x.now ≡ true
+        → ((source : Option Entry) × IsSource programs.entry.made.now x.now source × (x.now.value ≡ due_from source settled.now words.now x.now)) }
+{
+    if !is_read(x) {
+        return None;
+    }
+    let source = source(programs.made, programs.slots, programs.sources, x);
+    let due = due_value(source, settled, words, x);
+    if x.value == due {
+        return None;
+    }
+    Some((*x, due))
+}
+
+fn due_value(source: Option<Entry>, settled: &[u32], words: &[u32], x: &Entry) -> u32
+    ensures { result ≡ due_from source settled.now words.now x.now }
+{
+    match source {
+        Some(w) if mark_at(settled, usize::from(x.core.0)) <= rank(&w) => w.value,
+        _ => mark_at(words, usize::from(x.loc.0)),
+    }
+}
+
+fn mark_at(marks: &[u32], at: usize) -> u32
+    ensures { result ≡ slice_index marks.now at }
+{
+    if at < marks.len() { marks[at] } else { 0 }
+}
+
+/// The earliest entry before this place which its program has after a, and which may not pass it.
+pub fn first_overtaking<L: Ledger>(
+    order: &mut Watched<'_, L>,
+    at: usize,
+    a: &Entry,
+) -> Option<Entry>
+    requires { at ≤ length order.old.order }
+    ensures found { IfSome result (λ b. IsEarliest order.old.order (Overtakes at a.now) b) }
+    ensures none { IsNone result → ¬ IsLate order.old.order at a.now }
+    ensures same { order.new.order ≡ order.old.order }
+    ensures looks { order.new.looks ≤ order.old.looks + at }
+{
+    for j in 0..at {
+        let b = order.look(j);
+        if must_stand_before(a, &b) {
+            return Some(b);
+        }
+    }
+    None
+}

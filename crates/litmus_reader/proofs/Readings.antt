@@ -1,0 +1,128 @@
+-- What readings give, as proofs speak of it.
+use Rattle.std.specs.Prelude.{◌≡◌, List, ◌++◌, Result, Ok, ℕ, true, [], ◌∷◌, length, IsTrue, Option, Some, None, ◌+◌}
+use Rattle.litmus_tokens.specs.Terms.{Term}
+use Rattle.litmus_tokens.specs.Pieces.{Piece}
+use Rattle.litmus_reader.specs.declared.fault.Fault.{Fault}
+use Rattle.litmus_reader.specs.Initial.{Initial, words_of, registers_of}
+use Rattle.litmus_reader.specs.GrammarNames.{numbered}
+use Rattle.litmus_tokens.specs.declared.token.Stop.{Stop}
+use Rattle.litmus_reader.specs.Rows.{row_at, Rows, rows}
+use Rattle.litmus_reader.specs.Grammar.{terms}
+use Rattle.litmus_reader.specs.Forms.{spelled_in}
+use Rattle.litmus_reader.specs.Conditions.{Claimed, claimed, Proposition, Conditioned, conditioned, with_claim}
+use Rattle.tso_model.specs.declared.condition.Quantifier.{Quantifier}
+use Rattle.litmus_reader.specs.GrammarTable.{Placed, placed_in, AreWithin, AreRows, instrs_with, locations_of, ends_rows}
+use Rattle.litmus_reader.specs.GrammarConditions.{IsCondition, IsWithin, locations_in, atoms_of, claim_of}
+use Rattle.litmus_reader.specs.GrammarInitial.{has_cores, names_in, first_words, first_registers}
+use Rattle.litmus_reader.specs.Written.{Setting, Shape, Phrase}
+use Rattle.litmus_reader.specs.RefusedTable.{cells_of}
+
+-- a reading gives this, and leaves these tokens
+pub record Reads {X : Type 0} (reading : Result (X × List Piece) Fault) (x : X) (back : List Term) : Type 0 where
+  pub rest : List Piece
+  pub is : reading ≡ Ok (x, rest)
+  pub behind : terms rest ≡ back
+
+-- tokens of a form stand at the front, and behind them the rest
+pub record Begins (Is : List Term → Type 0) (ps rest : List Piece) : Type 0 where
+  pub ts : List Term
+  pub is : Is ts
+  pub parts : terms ps ≡ ts ++ terms rest
+
+-- these are the last of the tokens, where they stood in the text
+pub record AreLast (ps rest : List Piece) : Type 0 where
+  pub taken : List Piece
+  pub parts : ps ≡ taken ++ rest
+
+-- What has been read is what the settings say: the names; the first words, whatever names come behind these; and the first
+-- registers of a test that has all their cores, where no other test has any.
+pub record Says (settings : List Setting) (i : Initial) : Type 0 where
+  pub names : i.names ≡ numbered [] (names_in settings)
+  pub words : (others : List (List ℕ)) → words_of (length (numbered i.names others)) i.words ≡ first_words settings (numbered i.names others)
+  pub registers : (cores : ℕ) → IsTrue (has_cores cores settings) → registers_of cores i.registers ≡ Ok (first_registers settings cores)
+  pub cores : (cores : ℕ) (registers : List (List ℕ)) → registers_of cores i.registers ≡ Ok registers → IsTrue (has_cores cores settings)
+
+-- a cell is read as nothing, or as this instruction
+abbrev pub IsReadAs : List Piece → Option Shape → Type 0
+IsReadAs [] None = Unit {0}
+IsReadAs [] (Some shape) = ⊥
+IsReadAs (p ∷ ps) None = ⊥
+IsReadAs (p ∷ ps) (Some shape) = spelled_in (p ∷ ps) ≡ Some shape
+
+-- cells are read so, one by one
+abbrev pub AreReadAs : List (List Piece) → List (Option Shape) → Type 0
+AreReadAs [] [] = Unit {0}
+AreReadAs [] (c ∷ cs) = ⊥
+AreReadAs (ps ∷ rest) [] = ⊥
+AreReadAs (ps ∷ rest) (c ∷ cs) = IsReadAs ps c × AreReadAs rest cs
+
+-- a reading parts such a row from these tokens
+pub record ReadsRow (stop : Stop) (ps : List Piece) (cells : List (Option Shape)) (back : List Term) : Type 0 where
+  pub row : List Piece
+  pub rest : List Piece
+  pub is : row_at stop ps ≡ Ok (row, rest)
+  pub cells_are : AreReadAs (cells_of row) cells
+  pub behind : terms rest ≡ back
+
+-- what is read of entries behind these names, where this stands behind them
+abbrev pub rows_by : List (List ℕ) → List Placed → List Piece → Rows
+rows_by names entries rest = rows (instrs_with (numbered names (locations_of entries)) entries) (numbered names (locations_of entries)) rest
+
+-- a reading gives these entries, and leaves these tokens
+pub record ReadsPlaced (reading : Result Rows Fault) (names : List (List ℕ)) (entries : List Placed) (back : List Term) : Type 0 where
+  pub rest : List Piece
+  pub is : reading ≡ Ok (rows_by names entries rest)
+  pub behind : terms rest ≡ back
+
+-- what was read are rows within the limits that the tokens at the front spell, and no row stands behind them
+pub record SpellsRows (cores : ℕ) (names : List (List ℕ)) (ps : List Piece) (r : Rows) : Type 0 where
+  pub ts : List Term
+  pub table : List (List (Option Shape))
+  pub are : AreRows cores ts table
+  pub parts : terms ps ≡ ts ++ terms r.rest
+  pub within : AreWithin names (placed_in table)
+  pub given : r ≡ rows_by names (placed_in table) r.rest
+  pub ended : ends_rows r.rest ≡ true
+
+-- what is read of a phrase, where this stands behind it
+abbrev pub given_by : ℕ → List (List ℕ) → Phrase → List Piece → Claimed
+given_by atoms names p rest = claimed (claim_of (numbered names (locations_in p)) p) (atoms + atoms_of p) (numbered names (locations_in p)) rest
+
+-- a reading gives this phrase, and leaves these tokens
+pub record ReadsPhrase (reading : Proposition) (atoms : ℕ) (names : List (List ℕ)) (p : Phrase) (back : List Term) (ps : List Piece) : Type 0 where
+  pub rest : List Piece
+  pub is : reading atoms names ps ≡ Ok (given_by atoms names p rest)
+  pub behind : terms rest ≡ back
+
+-- what was read is a phrase within the limits that the tokens at the front spell
+pub record SpellsPhrase (Is : List Term → Phrase → Type 0) (cores atoms : ℕ) (names : List (List ℕ)) (ps : List Piece) (c : Claimed) : Type 0 where
+  pub ts : List Term
+  pub phrase : Phrase
+  pub is : Is ts phrase
+  pub parts : terms ps ≡ ts ++ terms c.rest
+  pub within : IsWithin cores atoms names phrase
+  pub given : c ≡ given_by atoms names phrase c.rest
+
+-- what is read of a condition, where this stands behind it
+abbrev pub condition_by : List (List ℕ) → Quantifier → Phrase → List Piece → Conditioned
+condition_by names quantifier p rest = with_claim quantifier (given_by 0 names p rest)
+
+-- a reading gives this condition, and leaves these tokens
+pub record ReadsCondition (reading : Result Conditioned Fault) (names : List (List ℕ)) (quantifier : Quantifier) (p : Phrase) (back : List Term) : Type 0 where
+  pub rest : List Piece
+  pub is : reading ≡ Ok (condition_by names quantifier p rest)
+  pub behind : terms rest ≡ back
+
+-- what was read is a condition within the limits that the tokens at the front spell
+pub record SpellsCondition (cores : ℕ) (names : List (List ℕ)) (ps : List Piece) (c : Conditioned) : Type 0 where
+  pub ts : List Term
+  pub quantifier : Quantifier
+  pub phrase : Phrase
+  pub is : IsCondition ts quantifier phrase
+  pub parts : terms ps ≡ ts ++ terms c.rest
+  pub within : IsWithin cores 0 names phrase
+  pub given : c ≡ condition_by names quantifier phrase c.rest
+
+-- what was read is no condition: nothing was taken
+abbrev pub ReadsNone : List (List ℕ) → List Piece → Conditioned → Type 0
+ReadsNone names ps c = c ≡ conditioned None names ps

@@ -1,0 +1,140 @@
+-- Where a setting is refused, its first token that doesn't fit stands.
+use Rattle.std.proofs.Common.{◌≡◌, ℕ, Bool, true, false, cond, List, [], ◌∷◌, Option, Some, None, Result, Ok, Err, refl, ap, ◌⊎◌, inl, inr}
+use Rattle.std.specs.Prelude.{is_some}
+use Rattle.tso_model.specs.Names.{is_location_name}
+use Rattle.tso_model.specs.Registers.{register_named}
+use Rattle.tso_model.specs.declared.register.Reg.{Reg}
+use Rattle.litmus_tokens.specs.declared.token.Symbol.{Symbol}
+use Rattle.litmus_tokens.specs.declared.token.Symbol.TheVariants.{Equals, Colon, OpenSquare, CloseSquare}
+use Rattle.litmus_tokens.specs.Terms.{Term, number, name, symbol, decimal}
+use Rattle.litmus_tokens.specs.Pieces.{Piece}
+use Rattle.litmus_tokens.specs.Front.{is_symbol_term, is_symbol, symbol_at, name_then, name_at, number_then, number_at}
+use Rattle.litmus_reader.specs.declared.fault.Fault.{Fault}
+use Rattle.litmus_reader.specs.declared.fault.Part.{Part}
+use Rattle.litmus_reader.specs.Faults.{◌>>=◌, or_unfit, there}
+use Rattle.litmus_reader.specs.Items.{if_location, location_at, if_register, register_at, value_at, register_setting, square_setting, plain_setting, setting_at}
+use Rattle.litmus_reader.specs.Misfits.{Slot, is_number, is_location, is_register, misfit, value_slots, setting_slots_of, setting_slots}
+use Rattle.litmus_reader.specs.Places.{unfit}
+use Rattle.litmus_reader.specs.Written.{Setting, of_register, of_location}
+
+-- ---- failures
+
+pub err_is : {A : Type 0} (x y : Fault) → (let r : Result A Fault = Err x in r) ≡ Err y → x ≡ y
+err_is x y e = cc
+
+pub bind_err : {A B : Type 0} (r : Result A Fault) (f : A → Result B Fault) (e : Fault) → (r >>= f) ≡ Err e → (r ≡ Err e) ⊎ ((x : A) × (r ≡ Ok x) × (f x ≡ Err e))
+bind_err (Ok x) f e h = inr (x, refl, h)
+bind_err (Err d) f e h = inl (ap (λ (y : Fault). Err y) (err_is d e h))
+
+pub fails : {A B : Type 0} (r : Result A Fault) (f : A → Result B Fault) (e : Fault) → r ≡ Err e → (r >>= f) ≡ Err e
+fails r f e h = rw h refl
+
+pub goes_on : {A B : Type 0} (r : Result A Fault) (f : A → Result B Fault) (x : A) → r ≡ Ok x → (r >>= f) ≡ f x
+goes_on r f x h = rw h refl
+
+-- ---- a setting
+
+-- what was read filled its slots, and else a token doesn't fit
+abbrev pub Follows : {X : Type 0} → Part → List Slot → Option (List Piece) → Result (X × List Piece) Fault → Type 0
+Follows part behind m (Ok x) = m ≡ misfit behind x.1
+Follows part behind m (Err f) = (at : List Piece) × (m ≡ Some at) × (f ≡ unfit part at)
+
+symbol_step : {X : Type 0} (part : Part) (behind slots : List Slot) (s : Symbol) (ps : List Piece) (next : List Piece → Result (X × List Piece) Fault)
+    → ((rest : List Piece) → Follows part behind (misfit slots rest) (next rest)) → Follows part behind (misfit (is_symbol_term s ∷ slots) ps) (or_unfit part ps (symbol_at s ps) >>= next)
+unfolding misfit symbol_at is_symbol
+symbol_step part behind slots s [] next f = ([], refl, refl)
+symbol_step part behind slots s (p ∷ ps) next f = by_test (is_symbol_term s p.term)
+  where
+    by_test : (b : Bool) → Follows part behind (cond b (misfit slots ps) (Some (p ∷ ps))) (or_unfit part (p ∷ ps) (cond b (Some ps) None) >>= next)
+    by_test true = f ps
+    by_test false = (p ∷ ps, refl, refl)
+
+number_step : {X : Type 0} (part : Part) (behind slots : List Slot) (ps : List Piece) (next : List ℕ × List Piece → Result (X × List Piece) Fault)
+    → ((d : List ℕ) (rest : List Piece) → Follows part behind (misfit slots rest) (next (d, rest))) → Follows part behind (misfit (is_number ∷ slots) ps) (or_unfit part ps (number_at ps) >>= next)
+unfolding misfit number_at
+number_step part behind slots [] next f = ([], refl, refl)
+number_step part behind slots (p ∷ ps) next f = by_term p.term
+  where
+    by_term : (t : Term) → Follows part behind (cond (is_number t) (misfit slots ps) (Some (p ∷ ps))) (or_unfit part (p ∷ ps) (number_then t ps) >>= next)
+    by_term (number d) = f d ps
+    by_term (name x) = (p ∷ ps, refl, refl)
+    by_term (symbol s) = (p ∷ ps, refl, refl)
+
+location_step : {X : Type 0} (part : Part) (behind slots : List Slot) (ps : List Piece) (next : List ℕ × List Piece → Result (X × List Piece) Fault)
+    → ((x : List ℕ) (rest : List Piece) → Follows part behind (misfit slots rest) (next (x, rest))) → Follows part behind (misfit (is_location ∷ slots) ps) (or_unfit part ps (location_at ps) >>= next)
+unfolding misfit location_at name_at
+location_step part behind slots [] next f = ([], refl, refl)
+location_step part behind slots (p ∷ ps) next f = by_term p.term
+  where
+    by_test : (x : List ℕ) (b : Bool) → Follows part behind (cond b (misfit slots ps) (Some (p ∷ ps))) (or_unfit part (p ∷ ps) (cond b (Some (x, ps)) None) >>= next)
+    by_test x true = f x ps
+    by_test x false = (p ∷ ps, refl, refl)
+
+    by_term : (t : Term) → Follows part behind (cond (is_location t) (misfit slots ps) (Some (p ∷ ps))) (or_unfit part (p ∷ ps) (there (name_then t ps) if_location None) >>= next)
+    by_term (number d) = (p ∷ ps, refl, refl)
+    by_term (name x) = by_test x (is_location_name x)
+    by_term (symbol s) = (p ∷ ps, refl, refl)
+
+register_step : {X : Type 0} (part : Part) (behind slots : List Slot) (ps : List Piece) (next : Reg × List Piece → Result (X × List Piece) Fault)
+    → ((reg : Reg) (rest : List Piece) → Follows part behind (misfit slots rest) (next (reg, rest))) → Follows part behind (misfit (is_register ∷ slots) ps) (or_unfit part ps (register_at ps) >>= next)
+unfolding misfit register_at name_at
+register_step part behind slots [] next f = ([], refl, refl)
+register_step part behind slots (p ∷ ps) next f = by_term p.term
+  where
+    by_register : (o : Option Reg) → Follows part behind (cond (is_some o) (misfit slots ps) (Some (p ∷ ps))) (or_unfit part (p ∷ ps) (there o (λ reg. Some (reg, ps)) None) >>= next)
+    by_register (Some reg) = f reg ps
+    by_register None = (p ∷ ps, refl, refl)
+
+    by_term : (t : Term) → Follows part behind (cond (is_register t) (misfit slots ps) (Some (p ∷ ps))) (or_unfit part (p ∷ ps) (there (name_then t ps) if_register None) >>= next)
+    by_term (number d) = (p ∷ ps, refl, refl)
+    by_term (name x) = by_register (register_named x)
+    by_term (symbol s) = (p ∷ ps, refl, refl)
+
+value_follows : (part : Part) (behind : List Slot) (ps : List Piece) → Follows part behind (misfit (value_slots behind) ps) (value_at part ps)
+unfolding value_at
+value_follows part behind ps =
+    symbol_step part behind (is_number ∷ behind) Equals ps (λ rest. or_unfit part rest (number_at rest) >>= λ digits. Ok (decimal digits.0, digits.1))
+    (λ rest. number_step part behind behind rest (λ digits. Ok (decimal digits.0, digits.1)) (λ d back. refl))
+
+with_value : (part : Part) (behind : List Slot) (m : Option (List Piece)) (r : Result (ℕ × List Piece) Fault) (make : ℕ → Setting) → Follows part behind m r
+    → Follows part behind m (r >>= λ value. Ok (make value.0, value.1))
+with_value part behind m (Ok x) make h = h
+with_value part behind m (Err e) make h = h
+
+plain_follows : (part : Part) (behind : List Slot) (ps : List Piece) → Follows part behind (misfit (is_location ∷ value_slots behind) ps) (plain_setting part ps)
+unfolding plain_setting
+plain_follows part behind ps =
+    location_step part behind (value_slots behind) ps (λ x. value_at part x.1 >>= λ value. Ok (of_location x.0 value.0, value.1))
+    (λ x rest. with_value part behind (misfit (value_slots behind) rest) (value_at part rest) (of_location x) (value_follows part behind rest))
+
+square_follows : (part : Part) (behind : List Slot) (ps : List Piece) → Follows part behind (misfit (is_location ∷ is_symbol_term CloseSquare ∷ value_slots behind) ps) (square_setting part ps)
+unfolding square_setting
+square_follows part behind ps =
+    location_step part behind (is_symbol_term CloseSquare ∷ value_slots behind) ps
+    (λ x. or_unfit part x.1 (symbol_at CloseSquare x.1) >>= λ rest. value_at part rest >>= λ value. Ok (of_location x.0 value.0, value.1))
+    (λ x rest. symbol_step part behind (value_slots behind) CloseSquare rest (λ back. value_at part back >>= λ value. Ok (of_location x value.0, value.1))
+    (λ back. with_value part behind (misfit (value_slots behind) back) (value_at part back) (of_location x) (value_follows part behind back)))
+
+register_follows : (part : Part) (behind : List Slot) (core : List ℕ) (ps : List Piece)
+    → Follows part behind (misfit (is_symbol_term Colon ∷ is_register ∷ value_slots behind) ps) (register_setting part core ps)
+unfolding register_setting
+register_follows part behind core ps =
+    symbol_step part behind (is_register ∷ value_slots behind) Colon ps
+    (λ rest. or_unfit part rest (register_at rest) >>= λ reg. value_at part reg.1 >>= λ value. Ok (of_register core reg.0 value.0, value.1))
+    (λ rest. register_step part behind (value_slots behind) rest (λ reg. value_at part reg.1 >>= λ value. Ok (of_register core reg.0 value.0, value.1))
+    (λ reg back. with_value part behind (misfit (value_slots behind) back) (value_at part back) (of_register core reg) (value_follows part behind back)))
+
+pub setting_follows : (part : Part) (behind : List Slot) (ps : List Piece) → Follows part behind (misfit (setting_slots ps behind) ps) (setting_at part ps)
+unfolding setting_at misfit number_at symbol_at is_symbol plain_setting location_at name_at
+setting_follows part behind [] = ([], refl, refl)
+setting_follows part behind (p ∷ ps) = by_term p.term
+  where
+    by_term : (t : Term) → (let q : Piece = record { left = p.left; term = t } in Follows part behind (misfit (setting_slots_of t behind) (q ∷ ps)) (setting_at part (q ∷ ps)))
+    by_term (number core) = register_follows part behind core ps
+    by_term (name x) = plain_follows part behind (record { left = p.left; term = name x } ∷ ps)
+    by_term (symbol s) = by_square (is_symbol_term OpenSquare (symbol s)) refl
+      where
+        by_square : (b : Bool) → is_symbol_term OpenSquare (symbol s) ≡ b
+            → (let q : Piece = record { left = p.left; term = symbol s } in Follows part behind (misfit (setting_slots_of (symbol s) behind) (q ∷ ps)) (setting_at part (q ∷ ps)))
+        by_square true is = rw is (rw is (square_follows part behind ps))
+        by_square false is = rw is (plain_follows part behind (record { left = p.left; term = symbol s } ∷ ps))

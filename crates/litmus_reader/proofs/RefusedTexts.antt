@@ -1,0 +1,187 @@
+-- Texts are refused as what is at fault in them says.
+use Rattle.std.proofs.Common.{◌≡◌, ℕ, ◌≤◌, ◌<◌, true, ltb, List, [], ◌∷◌, length, Result, Ok, Err, refl, sym, ap, subst, ◌∙◌, inl, inr, arith}
+use Rattle.std.proofs.lemmas.Bool.{ltb-true, lt-ltb}
+use Rattle.tso_model.specs.Litmus.{Litmus}
+use Rattle.litmus_tokens.specs.declared.token.Symbol.TheVariants.{OpenCurly}
+use Rattle.litmus_tokens.specs.Terms.{single, symbol_of, term_at, symbol}
+use Rattle.litmus_tokens.specs.Gap.{is_space, gap_end}
+use Rattle.litmus_tokens.specs.Pieces.{Piece, piece_at, pieces_within, pieces_of}
+use Rattle.litmus_reader.specs.declared.fault.Why.TheVariants.{TooLarge}
+use Rattle.litmus_reader.specs.declared.fault.Fault.{Fault}
+use Rattle.litmus_reader.specs.Limits.{longest_text}
+use Rattle.litmus_reader.specs.Faults.{◌>>=◌}
+use Rattle.litmus_reader.specs.Header.{sized, header_at}
+use Rattle.litmus_reader.specs.Information.{braces_at}
+use Rattle.litmus_reader.specs.Initial.{initial_at, registers_of}
+use Rattle.litmus_reader.specs.Columns.{columns_at}
+use Rattle.litmus_reader.specs.Rows.{Rows, Table, table, table_at, rows_at}
+use Rattle.litmus_reader.specs.Reading.{test_of, tail_at, body_of, reading_of}
+use Rattle.litmus_reader.specs.GrammarText.{AreInformationLines, none, more}
+use Rattle.litmus_reader.specs.GrammarInitial.{Fits, names_in, first_registers}
+use Rattle.litmus_reader.specs.GrammarTable.{placed_in}
+use Rattle.litmus_reader.specs.RefusedInitial.{IsInitialFault, IsCoreFault}
+use Rattle.litmus_reader.specs.Refusals.{first_names, names_with, IsBodyFault, in_initial, in_header_row, of_core, in_rows, in_ending, IsFault, too_large, in_header, in_information, in_body}
+use Rattle.litmus_reader.proofs.GrammarTokens.{chosen, ok_is, bind_ok}
+use Rattle.litmus_reader.proofs.GrammarHeader.{header_again, header_takes}
+use Rattle.litmus_reader.proofs.GrammarInformation.{lines_again, lines_take}
+use Rattle.litmus_reader.proofs.GrammarTest.{sized_found, sized_taken, numbered_few}
+use Rattle.litmus_reader.proofs.RefusedMisfits.{err_is, bind_err}
+use Rattle.litmus_reader.proofs.RefusedPasses.{initial_passes, initial_passed, columns_pass, columns_passed, rows_pass, rows_passed}
+use Rattle.litmus_reader.proofs.RefusedBytes.{header_refuses, header_refused, information_refuses, information_refused}
+use Rattle.litmus_reader.proofs.RefusedInitial.{initial_refuses, initial_refused}
+use Rattle.litmus_reader.proofs.RefusedColumns.{columns_refuse, columns_refused}
+use Rattle.litmus_reader.proofs.RefusedCores.{cores_refuse, cores_refused}
+use Rattle.litmus_reader.proofs.RefusedRows.{rows_refuse, rows_refused}
+use Rattle.litmus_reader.proofs.RefusedEnding.{ending_refuses, ending_refused}
+use Rattle.litmus_reader.proofs.RefusedLast.{last_refuses, last_refused}
+use Rattle.litmus_reader.proofs.Readings.{rows_by}
+use Rattle.litmus_reader.specs.Places.{fault}
+use Rattle.litmus_reader.specs.Written.{Setting}
+
+-- ---- from the `{` on
+
+body_refuses : (called braces : List ℕ) (f : Fault) → IsBodyFault braces f → body_of called braces (pieces_of braces).1 (pieces_of braces).0 ≡ Err f
+unfolding body_of table_at
+body_refuses called braces _ (in_initial f bad) = rw (initial_refuses (pieces_of braces).1 (pieces_of braces).0 f bad) refl
+body_refuses called braces _ (in_header_row settings ps f first bad) =
+    let i = initial_passes (pieces_of braces).1 (pieces_of braces).0 ps settings first in
+    rw (i.is, columns_refuse (pieces_of braces).1 0 ps f bad 4 refl) refl
+body_refuses called braces _ (of_core settings cores ps behind f first second bad) =
+    let stop = (pieces_of braces).1 in
+    let i = initial_passes stop (pieces_of braces).0 ps settings first in
+    rw (i.is, columns_pass stop cores ps behind second, cores_refuse stop cores (pieces_of braces).0 ps i.i f i.is bad) refl
+body_refuses called braces _ (in_rows settings cores ps behind f first second has bad) =
+    let stop = (pieces_of braces).1 in
+    let i = initial_passes stop (pieces_of braces).0 ps settings first in
+    let registers : registers_of cores i.i.registers ≡ Ok (first_registers settings cores) = i.says.registers cores has in
+    let rows : rows_at stop cores i.i.names behind ≡ Err f = ap (λ (l : List (List ℕ)). rows_at stop cores l behind) i.says.names ∙ rows_refuse stop cores (first_names settings) behind f bad in
+    rw (i.is, columns_pass stop cores ps behind second, registers, rows) refl
+body_refuses called braces _ (in_ending settings cores table ps behind last f first second has third bad) =
+    let stop = (pieces_of braces).1 in
+    let i = initial_passes stop (pieces_of braces).0 ps settings first in
+    let registers : registers_of cores i.i.registers ≡ Ok (first_registers settings cores) = i.says.registers cores has in
+    let names = first_names settings in
+    let rows : rows_at stop cores i.i.names behind ≡ Ok (rows_by names (placed_in table) last) = ap (λ (l : List (List ℕ)). rows_at stop cores l behind) i.says.names ∙ rows_pass stop cores names table behind last third in
+    let tail = ending_refuses braces stop cores (names_with settings table) last f bad (λ s l e. last_refuses s cores (names_with settings table) l f third.within.room e) in
+    rw (i.is, columns_pass stop cores ps behind second, registers, rows, tail) refl
+
+-- the tokens from the `{` on begin with it
+record Opened (braces : List ℕ) : Type 0 where
+  pub opener : Piece
+  pub rest : List Piece
+  pub parts : (pieces_of braces).0 ≡ opener ∷ rest
+  pub is : opener.term ≡ symbol OpenCurly
+
+curly_opens : (rest : List ℕ) → Opened (123 ∷ rest)
+unfolding pieces_of pieces_within piece_at gap_end is_space term_at symbol_of single
+curly_opens [] = record { opener = record { left = 1; term = symbol OpenCurly }; rest = []; parts = refl; is = refl }
+curly_opens (c ∷ cs) = record { opener = record { left = length (123 ∷ c ∷ cs); term = symbol OpenCurly }; rest = (pieces_within (length (c ∷ cs)) (c ∷ cs)).0; parts = refl; is = refl }
+
+braces_open : (bytes braces : List ℕ) → AreInformationLines bytes braces → Opened braces
+braces_open _ _ (none bytes rest gap) = curly_opens rest
+braces_open _ _ (more bytes at behind braces gap is lines) = braces_open behind braces lines
+
+few_names : (settings : List Setting) → Fits settings → length (first_names settings) ≤ 16
+few_names settings fits = let count = numbered_few (names_in settings) [] in let most = fits.few in omega (arith, count, most)
+
+body_refused : (called braces : List ℕ) (f : Fault) → Opened braces → body_of called braces (pieces_of braces).1 (pieces_of braces).0 ≡ Err f → IsBodyFault braces f
+unfolding body_of table_at
+body_refused called braces f o e =
+    let stop = (pieces_of braces).1 in
+    let ps = (pieces_of braces).0 in
+    elim (bind_err (initial_at stop [] ps) _ f e) [
+      | inl bad ↦ in_initial f (subst (λ (l : List Piece). IsInitialFault stop l f) (sym o.parts) (initial_refused stop o.opener o.rest f o.is (subst (λ (l : List Piece). initial_at stop [] l ≡ Err f) o.parts bad)))
+      | inr i ↦
+          let p = initial_passed stop ps i.0.1 i.0.0 i.1 in
+          let names = first_names p.settings in
+          elim (bind_err (table_at stop i.0.0.registers i.0.0.names i.0.1) _ f i.2) [
+            | inl in_table ↦ elim (bind_err (columns_at stop i.0.1) _ f in_table) [
+              | inl bad ↦ in_header_row p.settings i.0.1 f p.passes (columns_refused 4 stop 0 i.0.1 f refl bad)
+              | inr c ↦
+                  let q = columns_passed stop c.0.0 i.0.1 c.0.1 c.1 in
+                  elim (bind_err (registers_of c.0.0 i.0.0.registers) _ f c.2) [
+                    | inl bad ↦ of_core p.settings c.0.0 i.0.1 c.0.1 f p.passes q
+                        (subst (λ (l : List Piece). IsCoreFault c.0.0 l f) (sym o.parts)
+                        (cores_refused stop c.0.0 o.opener o.rest i.0.1 i.0.0 f o.is (subst (λ (l : List Piece). initial_at stop [] l ≡ Ok (i.0.0, i.0.1)) o.parts i.1) bad))
+                    | inr g ↦ elim (bind_err (rows_at stop c.0.0 i.0.0.names c.0.1) _ f g.2) [
+                      | inl bad ↦ in_rows p.settings c.0.0 i.0.1 c.0.1 f p.passes q (p.says.cores c.0.0 g.0 g.1)
+                          (rows_refused stop c.0.0 names c.0.1 f (few_names p.settings p.passes.fits) (ap (λ (l : List (List ℕ)). rows_at stop c.0.0 l c.0.1) (sym p.says.names) ∙ bad))
+                      | inr r ↦ let never = r.2 in absurd cc
+                    ]
+                  ]
+            ]
+            | inr b ↦
+                let c = bind_ok (columns_at stop i.0.1) _ b.0 b.1 in
+                let g = bind_ok (registers_of c.0.0 i.0.0.registers) _ b.0 c.2 in
+                let r = bind_ok (rows_at stop c.0.0 i.0.0.names c.0.1) _ b.0 g.2 in
+                let is_table : table c.0.0 g.0 r.0 ≡ b.0 = ok_is (table c.0.0 g.0 r.0) b.0 r.2 in
+                let q = columns_passed stop c.0.0 i.0.1 c.0.1 c.1 in
+                let few = few_names p.settings p.passes.fits in
+                let t = rows_passed stop c.0.0 names c.0.1 r.0 few (ap (λ (l : List (List ℕ)). rows_at stop c.0.0 l c.0.1) (sym p.says.names) ∙ r.1) in
+                let known = names_with p.settings t.table in
+                let names_are : r.0.names ≡ known = ap (λ (r : Rows). r.names) t.given in
+                let tail : tail_at braces stop b.0.cores b.0.rows.names b.0.rows.rest ≡ Err f = tail_fails called i.0.0.words b.0 f b.2 in
+                let here : tail_at braces stop c.0.0 known r.0.rest ≡ Err f =
+                subst (λ (l : List (List ℕ)). tail_at braces stop c.0.0 l r.0.rest ≡ Err f) names_are
+                (subst (λ (b : Table). tail_at braces stop b.cores b.rows.names b.rows.rest ≡ Err f) (sym is_table) tail) in
+                in_ending p.settings c.0.0 t.table i.0.1 c.0.1 r.0.rest f p.passes q (p.says.cores c.0.0 g.0 g.1) t.passes
+                (ending_refused braces stop c.0.0 known r.0.rest f here (λ s l h. last_refused s c.0.0 known l f t.passes.within.room h))
+          ]
+    ]
+  where
+    tail_fails : (called : List ℕ) (words : List ℕ) (b : Table) (f : Fault)
+        → (tail_at braces (pieces_of braces).1 b.cores b.rows.names b.rows.rest >>= λ ending. Ok (test_of called ending.1 words b.registers b.rows.instrs ending.0)) ≡ Err f
+        → tail_at braces (pieces_of braces).1 b.cores b.rows.names b.rows.rest ≡ Err f
+    tail_fails called words b f h =
+        elim (bind_err (tail_at braces (pieces_of braces).1 b.cores b.rows.names b.rows.rest) (λ ending. Ok (test_of called ending.1 words b.registers b.rows.instrs ending.0)) f h) [
+          | inl bad ↦ bad
+          | inr good ↦ let never = good.2 in absurd cc
+        ]
+
+-- ---- whole texts
+
+sized_large : (text : List ℕ) → longest_text < length text → sized text ≡ Err (fault TooLarge (length text))
+sized_large text past = let big : ltb longest_text (length text) ≡ true = lt-ltb _ _ past in rw big refl
+
+pub text_refuses : (text : List ℕ) (f : Fault) → IsFault text f → reading_of text ≡ Err f
+unfolding reading_of
+text_refuses text _ (too_large past) = rw (sized_large text past) refl
+text_refuses text _ (in_header f small bad) = rw (sized_found text small, header_refuses text f bad) refl
+text_refuses text _ (in_information called behind f small header bad) = rw (sized_found text small, header_again text called behind header, information_refuses behind f bad) refl
+text_refuses text _ (in_body called behind braces f small header lines bad) =
+    rw (sized_found text small, header_again text called behind header, lines_again behind braces lines) (body_refuses called braces f bad)
+
+-- the reading behind the test of a text's size
+abbrev sized_reading : List ℕ → Result Litmus Fault
+sized_reading bytes = header_at bytes >>= λ header. braces_at header.1 >>= λ braces. body_of header.0 braces (pieces_of braces).1 (pieces_of braces).0
+
+behind_size : (text bytes : List ℕ) (f : Fault) → text ≡ bytes → sized_reading bytes ≡ Err f → sized_reading text ≡ Err f
+behind_size text bytes f same e = subst (λ (l : List ℕ). sized_reading l ≡ Err f) (sym same) e
+
+sized_refused : (text : List ℕ) (f : Fault) → sized text ≡ Err f → (longest_text < length text) × (fault TooLarge (length text) ≡ f)
+sized_refused text f e =
+    elim (chosen (ltb longest_text (length text)) (Err (fault TooLarge (length text))) (Ok text) (Err f) e) [
+      | inl hit ↦ (ltb-true _ _ hit.0, err_is (fault TooLarge (length text)) f hit.1)
+      | inr miss ↦ let never = miss.1 in absurd cc
+    ]
+
+pub text_refused : (text : List ℕ) (f : Fault) → reading_of text ≡ Err f → IsFault text f
+unfolding reading_of
+text_refused text f e =
+    elim (bind_err (sized text) _ f e) [
+      | inl bad ↦ let s = sized_refused text f bad in subst (IsFault text) s.1 (too_large s.0)
+      | inr s ↦
+          let small = sized_taken text s.0 s.1 in
+          let whole = behind_size text s.0 f small.1 s.2 in
+          elim (bind_err (header_at text) _ f whole) [
+            | inl bad ↦ in_header f small.0 (header_refused text f bad)
+            | inr h ↦
+                let header = header_takes text h.0.0 h.0.1 h.1 in
+                elim (bind_err (braces_at h.0.1) _ f h.2) [
+                  | inl bad ↦ in_information h.0.0 h.0.1 f small.0 header (information_refused h.0.1 f bad)
+                  | inr b ↦
+                      let lines = lines_take h.0.1 b.0 b.1 in
+                      in_body h.0.0 h.0.1 b.0 f small.0 header lines (body_refused h.0.0 b.0 f (braces_open h.0.1 b.0 lines) b.2)
+                ]
+          ]
+    ]

@@ -1,0 +1,6 @@
+-- How long a text may be; the limits of a test itself are those of the model. (This project's profile.)
+use Rattle.std.specs.Prelude.{ℕ}
+
+-- bytes of a test text, at most
+abbrev pub longest_text : ℕ
+longest_text = 65536

@@ -1,0 +1,48 @@
+-- Refusals at places, and how each part of a text refuses a token that doesn't fit. A place is how many bytes of the text stand from
+-- there on. (This project's profile.)
+use Rattle.std.specs.Prelude.{ℕ, List, [], ◌∷◌, ◌-◌, length, drop}
+use Rattle.litmus_tokens.specs.declared.token.Stop.{Stop}
+use Rattle.litmus_tokens.specs.declared.token.Stop.TheVariants as stops
+use Rattle.litmus_tokens.specs.Pieces.{Piece}
+use Rattle.litmus_reader.specs.declared.fault.Why.{Why}
+use Rattle.litmus_reader.specs.declared.fault.Why.TheVariants.{BadToken, Unclosed, BadInit, BadHeaderRow, BadCondition}
+use Rattle.litmus_reader.specs.declared.fault.Fault.{Fault}
+use Rattle.litmus_reader.specs.declared.fault.Part.{Part}
+
+-- a refusal, at the place from which so many bytes of the text stand
+abbrev pub fault : Why → ℕ → Fault
+fault why left = record { why = why; left = left }
+
+-- where the tokens run out: the lexical fault that ended them, or at the end of the text this one
+abbrev pub at_stop : Fault → Stop → Fault
+at_stop end stops.End = end
+at_stop end (stops.BadToken left) = fault BadToken left
+at_stop end (stops.Unclosed left) = fault Unclosed left
+
+-- the place of the first token, or of the end
+abbrev pub left_of : List Piece → ℕ
+left_of [] = 0
+left_of (p ∷ ps) = p.left
+
+-- what a part of the text answers where the token at the front doesn't fit, or where there is none
+abbrev pub unfit : Part → List Piece → Fault
+unfit part [] = part.missing
+unfit part (p ∷ ps) = fault part.why p.left
+
+-- in the initial state, whose `{` stands at `left`
+abbrev pub in_initial : ℕ → Stop → Part
+in_initial left stop = record { why = BadInit; missing = at_stop (fault Unclosed left) stop }
+
+abbrev pub in_columns : Stop → Part
+in_columns stop = record { why = BadHeaderRow; missing = at_stop (fault BadHeaderRow 0) stop }
+
+abbrev pub in_condition : Stop → Part
+in_condition stop = record { why = BadCondition; missing = at_stop (fault BadCondition 0) stop }
+
+-- behind the word, where a `[` has to be
+abbrev pub behind_word : Stop → Part
+behind_word stop = record { why = BadToken; missing = at_stop (fault BadToken 0) stop }
+
+-- the bytes from the place on from which so many stand
+abbrev pub from_place : List ℕ → ℕ → List ℕ
+from_place text left = drop (length text - left) text

@@ -1,0 +1,6 @@
+use Rattle.std.proofs.Common.{◌≡◌, ◌++◌, drop}
+use Rattle.tso_laws.specs.Along.{last_steps}
+use Rattle.scheduler.proofs.along.push_last_steps.Given as goal
+
+abbrev pub invariant-loop-core : goal.invariant-loop-core
+invariant-loop-core l = l.choices.items ++ last_steps l.core (drop l.core l.test.programs) l.places ≡ l.fn.choices.items ++ last_steps 0 l.test.programs l.places

@@ -1,0 +1,6 @@
+use Rattle.std.proofs.Common.{◌≡◌, ◌++◌}
+use Rattle.tso_laws.specs.Along.{steps}
+use Rattle.scheduler.proofs.along.push_steps.Given as goal
+
+abbrev pub invariant-loop-step : goal.invariant-loop-step
+invariant-loop-step l = l.choices.items ≡ l.fn.choices.items ++ steps l.fn.core.0 l._step

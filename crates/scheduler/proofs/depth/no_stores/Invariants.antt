@@ -1,0 +1,6 @@
+use Rattle.std.proofs.Common.{[]}
+use Rattle.scheduler.specs.Passed.{HaveCounted}
+use Rattle.scheduler.proofs.depth.no_stores.Given as goal
+
+abbrev pub invariant-loop-core : goal.invariant-loop-core
+invariant-loop-core l = HaveCounted l._core l.stores.items []

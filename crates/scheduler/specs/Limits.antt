@@ -1,0 +1,6 @@
+-- How many choices a text may spell. (This project's profile.)
+use Rattle.std.specs.Prelude.{ℕ}
+
+-- choices of a text, at most
+abbrev pub most_choices : ℕ
+most_choices = 100000

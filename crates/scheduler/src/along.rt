@@ -1,0 +1,80 @@
+//! The choices along an order: each entry steps its core only as far as that entry needs.
+
+ghost use Rattle.std.specs.Prelude.{◌≡◌, ◌<◌, ◌++◌, IfOk, OnOk, All, length};
+ghost use Rattle.tso_laws.specs.Along.{steps, choices_for, places_after, last_steps, choices_along};
+
+use std::alloc::Global;
+use tso_model::{Choice, Core, Entry, Kind, NoMemory, Test};
+
+/// The choices along an order: for each entry the steps of its core up to and over its instruction, as far as they aren't
+/// done yet, and for a plain store its drain; at the end the steps that are left, core by core.
+///
+/// Fails only for want of memory.
+pub fn choices_along(alloc: Global, test: &Test, order: &[Entry]) -> Result<Vec<Choice>, NoMemory>
+    requires { All (λ x. x.core.0 < length test.now.programs) order.now }
+    ensures { IfOk result (λ v. v.items ≡ choices_along test.now order.now) }
+{
+    let mut choices = Vec::new(alloc);
+    let mut places = beginnings(alloc, test)?;
+    for entry in order {
+        push_choices_for(&mut choices, &mut places, entry)?;
+    }
+    push_last_steps(&mut choices, test, &places)?;
+    Ok(choices)
+}
+
+/// The place of each core before its first step.
+fn beginnings(alloc: Global, test: &Test) -> Result<Vec<usize>, NoMemory>
+    ensures { IfOk result (λ v. v.items ≡ Rattle.tso_laws.specs.Along.beginnings test.now.programs) }
+{
+    let mut places = Vec::new(alloc);
+    for _core in 0..test.cores() {
+        places.push(0)?;
+    }
+    Ok(places)
+}
+
+/// Appends what an entry needs where the cores stand at these places, and moves its core on.
+///
+/// Fails only for want of memory; the choices may have grown then.
+fn push_choices_for(
+    choices: &mut Vec<Choice>,
+    places: &mut Vec<usize>,
+    entry: &Entry,
+) -> Result<(), NoMemory>
+    requires { entry.now.core.0 < length places.old.items }
+    ensures choices { OnOk result (choices.new.items ≡ choices.old.items ++ choices_for places.old.items entry.now) }
+    ensures places { OnOk result (places.new.items ≡ places_after places.old.items entry.now) }
+{
+    let place = &mut places[usize::from(entry.core.0)];
+    let behind = usize::from(entry.place) + 1;
+    push_steps(choices, entry.core, behind.saturating_sub(*place))?;
+    *place = behind.max(*place);
+    if entry.kind == Kind::W {
+        choices.push(Choice::Drain(entry.core))?;
+    }
+    Ok(())
+}
+
+/// Appends so many steps of a core.
+fn push_steps(choices: &mut Vec<Choice>, core: Core, count: usize) -> Result<(), NoMemory>
+    ensures { OnOk result (choices.new.items ≡ choices.old.items ++ steps core.0 count) }
+{
+    for _step in 0..count {
+        choices.push(Choice::Step(core))?;
+    }
+    Ok(())
+}
+
+/// Appends the steps that each core has still to do from these places on, core by core.
+fn push_last_steps(choices: &mut Vec<Choice>, test: &Test, places: &[usize]) -> Result<(), NoMemory>
+    requires { length places.now ≡ length test.now.programs }
+    ensures { OnOk result (choices.new.items ≡ choices.old.items ++ last_steps 0 test.now.programs places.now) }
+{
+    for core in 0..test.cores() {
+        let left = test.program(Core(core)).len();
+        let left = left.saturating_sub(places[usize::from(core)]);
+        push_steps(choices, Core(core), left)?;
+    }
+    Ok(())
+}

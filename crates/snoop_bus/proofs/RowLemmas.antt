@@ -1,0 +1,27 @@
+-- A table is that of its rows.
+use mathlib.Core.Path.{fun_ext}
+use Rattle.std.proofs.Common.{◌≡◌, Bool, true, false, List, None, refl}
+use Rattle.protocol_tables.specs.declared.state.State.{State}
+use Rattle.protocol_tables.specs.declared.state.State.TheVariants.{I, S, E, O, M}
+use Rattle.protocol_tables.specs.Tables.{Table, snoop}
+use Rattle.snoop_bus.specs.Rows.{column, entry_at, rows_of, filled_in, table_of}
+
+column-entry : {A : Type 0} (none : A) (f : State → A) → entry_at none (column f) ≡ f
+column-entry none f = fun_ext each
+  where
+    each : (s : State) → entry_at none (column f) s ≡ f s
+    each M = refl
+    each O = refl
+    each E = refl
+    each S = refl
+    each I = refl
+
+filled-in : (t : Table) → filled_in (rows_of t) ≡ t.filled
+filled-in t = fun_ext each
+  where
+    each : (shared : Bool) → filled_in (rows_of t) shared ≡ t.filled shared
+    each true = refl
+    each false = refl
+
+pub table_of-rows : (t : Table) → table_of (rows_of t) ≡ t
+table_of-rows t = rw (filled-in t, column-entry (snoop I false false) t.on_get_s, column-entry (snoop I false false) t.on_get_m, column-entry None t.written, column-entry false t.evicts_dirty) refl

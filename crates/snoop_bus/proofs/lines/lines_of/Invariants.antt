@@ -1,0 +1,6 @@
+use Rattle.std.proofs.Common.{◌≡◌}
+use Rattle.snoop_bus.specs.Lines.{lines_of_words}
+use Rattle.snoop_bus.proofs.lines.lines_of.Given as goal
+
+abbrev pub invariant-loop-line : goal.invariant-loop-line
+invariant-loop-line l = l.lines.items ≡ lines_of_words l.size l.words l.line

@@ -1,0 +1,85 @@
+-- What each call makes of a bus, in words of the bus's own: whoever stands above it needs no others. (Primer,
+-- chapters 2, 6 and 7; which line gives way, and which copies are sent to memory, is this project's profile.)
+use Rattle.std.specs.Prelude.{◌≡◌, ℕ, ◌/◌, List, [], length, slice_get, slice_set, slice_index_or, Some}
+use Rattle.std.specs.Int.{div_ceil}
+use Rattle.protocol_tables.specs.Tables.{Table}
+use Rattle.cache_set.specs.Contents.{Contents, contents}
+use Rattle.snoop_bus.specs.declared.access.Access.{Access}
+use Rattle.snoop_bus.specs.declared.access.AccessKind.TheVariants.{Miss}
+use Rattle.snoop_bus.specs.Geometry.{Geometry}
+use Rattle.snoop_bus.specs.Rows.{rows_of, table_of}
+use Rattle.snoop_bus.specs.Lines.{Words, line_in, words_in, lines_of_words}
+use Rattle.snoop_bus.specs.CacheContents.{TagSets, Accessed, loaded, written, settled}
+use Rattle.snoop_bus.specs.Copies.{cache_of, tags_of}
+use Rattle.snoop_bus.specs.Bus.{Bus, words_of, empty_caches}
+use Rattle.snoop_bus.specs.MemoryAfter.{loaded_memory, written_memory}
+
+-- a bus for so many cores, with empty caches of this shape, and these words in memory
+abbrev pub new_bus : Table → ℕ → Geometry → List ℕ → Bus
+new_bus table cores shape init = record {
+  rows = rows_of table;
+  shape = shape;
+  locations = length init;
+  caches = empty_caches cores shape;
+  memory = lines_of_words shape.words init (div_ceil (length init) shape.words);
+}
+
+-- the lines and states of all caches, core by core and set by set, the most recently used first
+abbrev pub contents_of : Bus → List TagSets
+contents_of b = tags_of b.caches
+
+-- the copies of a core's set with this number, with their words
+abbrev pub copies_of : Bus → ℕ → ℕ → Contents
+copies_of b core set = slice_index_or (cache_of b.caches core) set (contents [] 1)
+
+-- the lines in memory, behind the caches, and memory's own word at each location
+abbrev pub memory_of : Bus → List Words
+memory_of b = b.memory
+
+abbrev pub memory_words_of : Bus → List ℕ
+memory_words_of b = words_in b.shape.words (line_in b.memory) b.locations
+
+-- the line in which a location lies
+abbrev pub line_of : Bus → ℕ → ℕ
+line_of b loc = loc / b.shape.words
+
+-- a core's load at a location: what access it is, and the contents after it
+abbrev pub load_of : Bus → ℕ → ℕ → Accessed
+load_of b core loc = loaded (table_of b.rows) core (line_of b loc) (contents_of b)
+
+-- a core's write access at a location
+abbrev pub write_of : Bus → ℕ → ℕ → Accessed
+write_of b core loc = written (table_of b.rows) core (line_of b loc) (contents_of b)
+
+-- memory after each of them
+abbrev pub memory_after_load : Bus → ℕ → ℕ → List Words
+memory_after_load b core loc = loaded_memory (table_of b.rows) core (line_of b loc) b.caches b.memory
+
+abbrev pub memory_after_write : Bus → ℕ → ℕ → List Words
+memory_after_write b core loc = written_memory (table_of b.rows) core (line_of b loc) b.caches b.memory
+
+-- the contents once every dirty line was written to memory
+abbrev pub contents_settled : Bus → List TagSets
+contents_settled b = settled (contents_of b)
+
+-- a core's load at a location answered this word and was this access: the word is the one that is seen, no word
+-- that is seen changes, and contents and memory are those after the load
+pub record LoadsAt (old new : Bus) (core loc word : ℕ) (access : Access) : Type 0 where
+  pub word_is : slice_get (words_of old) loc ≡ Some word
+  pub words : words_of new ≡ words_of old
+  pub access_is : access ≡ (load_of old core loc).access
+  pub contents : contents_of new ≡ (load_of old core loc).caches
+  pub memory : memory_of new ≡ memory_after_load old core loc
+
+-- a core's write access at a location wrote this word and was this access: no other word that is seen changes, and
+-- contents and memory are those after the write access
+pub record WritesAt (old new : Bus) (core loc word : ℕ) (access : Access) : Type 0 where
+  pub words : words_of new ≡ slice_set (words_of old) loc word
+  pub access_is : access ≡ (write_of old core loc).access
+  pub contents : contents_of new ≡ (write_of old core loc).caches
+  pub memory : memory_of new ≡ memory_after_write old core loc
+
+-- an access was refused memory: it was a miss, since no other takes any, and nothing has changed
+pub record IsRefused (old new : Bus) (refused : Access) : Type 0 where
+  pub miss : refused.kind ≡ Miss
+  pub same : new ≡ old

@@ -1,0 +1,95 @@
+-- There is one answer to an input.
+use Rattle.std.proofs.Common.{◌≡◌, ◌≤◌, ◌<◌, ◌^◌, ℕ, List, length, Some, refl, sym, ◌∙◌, ap, subst, arith}
+use Rattle.tso_model.specs.Litmus.{Litmus, IsTest}
+use Rattle.tso_model.specs.Runs as flat
+use Rattle.tso_model.specs.declared.execution.Entry.{Entry}
+use Rattle.tso_model.specs.declared.choice.Choice.{Choice}
+use Rattle.litmus_reader.specs.Spelling.{SpellsTest, IsRefused as IsRefusedTest}
+use Rattle.litmus_reader.specs.declared.fault.TextFault.{TextFault}
+use Rattle.scheduler.specs.Refusals.{IsDecided}
+use Rattle.order_builder.specs.Spelling.{SpellsOrder, HasFault}
+use Rattle.order_builder.specs.declared.fault.OrderFault.{OrderFault}
+use Rattle.protocol_tables.specs.declared.kind.ProtocolKind.{ProtocolKind}
+use Rattle.machine_core.specs.Configuration.{Configuration}
+use Rattle.tso_cli.specs.Parts.{parts_of}
+use Rattle.tso_cli.specs.Lines.{test_refusal, choices_refusal}
+use Rattle.tso_cli.specs.CheckLines.{order_refusal, invalid_line}
+use Rattle.tso_cli.specs.Answers.{run_text, run_status, IsRunAnswer, IsJudgement, IsCheckAnswer, IsTableAnswer, IsAnswerTo, IsInputAnswer, IsAnswer, too_large, refused, answered, ran, judged, valid, invalid}
+use Rattle.tso_cli.specs.declared.task.Task.{Task}
+use Rattle.tso_cli.specs.declared.task.Task.TheVariants as tasks
+use Rattle.tso_cli.specs.declared.settings.Settings.{Settings}
+use Rattle.tso_cli.specs.declared.settings.Settings.TheVariants as settings
+use Rattle.tso_cli.specs.declared.answer.Status.{Status}
+use Rattle.tso_cli.proofs.CheckLemmas.{IsReal, IsOne, IsOnce, IsNeverBoth}
+use Rattle.tso_cli.proofs.PartLemmas.{rest_within}
+
+-- what the crates below say of the texts
+abbrev pub IsOneFault : Type 0
+IsOneFault = (t : Litmus) (text : List ℕ) (fault other : OrderFault) → IsTest t → HasFault t text fault → HasFault t text other → fault ≡ other
+
+pub record Texts : Type 0 where
+  pub one_test : (text : List ℕ) (t other : Litmus) → SpellsTest text t → SpellsTest text other → t ≡ other
+  pub refused_or_not : (text : List ℕ) (t : Litmus) (fault : TextFault) → SpellsTest text t → IsRefusedTest text fault → ⊥
+  pub one_refusal : (text : List ℕ) (fault other : TextFault) → IsRefusedTest text fault → IsRefusedTest text other → fault ≡ other
+  pub test : (text : List ℕ) (t : Litmus) → SpellsTest text t → IsTest t
+  pub decided : (cores : ℕ) (text : List ℕ) → 0 < cores → IsDecided cores text
+  pub once : IsOnce
+  pub never_both : IsNeverBoth
+  pub one_fault : IsOneFault
+  pub one : IsOne
+  pub real : IsReal
+
+abbrev pub Same : List ℕ → List ℕ → Status → Status → Type 0
+Same out other status again = (out ≡ other) × (status ≡ again)
+
+one_run_answer : (t : Litmus) (kind : ProtocolKind) (c : Configuration) (text out other : List ℕ) (status again : Status) → IsDecided (length t.programs) text
+    → IsRunAnswer t kind c text out status → IsRunAnswer t kind c text other again → Same out other status again
+one_run_answer t kind c text _ _ _ _ law (refused f h) (refused g k) = (ap choices_refusal (law.one_refusal f g h k), refl)
+one_run_answer t kind c text _ _ _ _ law (refused f h) (ran choices spelled) = absurd (law.never_both choices f spelled h)
+one_run_answer t kind c text _ _ _ _ law (ran choices spelled) (refused f h) = absurd (law.never_both choices f spelled h)
+one_run_answer t kind c text _ _ _ _ law (ran choices spelled) (ran others again) =
+    let same = law.one_list choices others spelled again in
+    (ap (λ cs. run_text t kind c (flat.run t c.depth cs)) same, ap (λ cs. run_status (flat.run t c.depth cs)) same)
+
+one_judgement : (t : Litmus) (order : List Entry) (out other : List ℕ) (status again : Status) → IsReal → IsOne
+    → IsJudgement t order out status → IsJudgement t order other again → Same out other status again
+one_judgement t order _ _ _ _ real one (valid is) (valid too) = (refl, refl)
+one_judgement t order _ _ _ _ real one (valid is) (invalid b first) = absurd (real t order b first is)
+one_judgement t order _ _ _ _ real one (invalid b first) (valid is) = absurd (real t order b first is)
+one_judgement t order _ _ _ _ real one (invalid b first) (invalid c other) = (ap (invalid_line t) (one t order b c first other), refl)
+
+one_check_answer : (t : Litmus) (text out other : List ℕ) (status again : Status) → Texts → IsTest t → length text < 2 ^ 64
+    → IsCheckAnswer t text out status → IsCheckAnswer t text other again → Same out other status again
+one_check_answer t text _ _ _ _ law test short (refused f h) (refused g k) = (ap order_refusal (law.one_fault t text f g test h k), refl)
+one_check_answer t text _ _ _ _ law test short (refused f h) (judged order out status spelled is) = absurd (law.never_both t text order f test short spelled h)
+one_check_answer t text _ _ _ _ law test short (judged order out status spelled is) (refused f h) = absurd (law.never_both t text order f test short spelled h)
+one_check_answer t text _ _ _ _ law test short (judged order out status spelled is) (judged order2 out2 status2 spelled2 is2) =
+    one_judgement t order2 out out2 status status2 law.real law.one (subst (λ o. IsJudgement t o out status) (law.once t text order order2 test short spelled spelled2) is) is2
+
+one_answer_to : (task : Task) (t : Litmus) (text out other : List ℕ) (status again : Status) → Texts → IsTest t → length text < 2 ^ 64
+    → IsAnswerTo task t text out status → IsAnswerTo task t text other again → Same out other status again
+one_answer_to (tasks.Run kind c) t text out other status again law test short is too = one_run_answer t kind c text out other status again (law.decided (length t.programs) text test.some_core) is too
+one_answer_to tasks.Check t text out other status again law test short is too = one_check_answer t text out other status again law test short is too
+
+pub short_rest : (input : List ℕ) → length input ≤ 1048576 → length (parts_of input).rest < 2 ^ 64
+short_rest input small = let within = rest_within input in omega arith
+
+pub one_input_answer : (task : Task) (input out other : List ℕ) (status again : Status) → Texts
+    → IsInputAnswer task input out status → IsInputAnswer task input other again → Same out other status again
+one_input_answer task input _ _ _ _ law (too_large l) (too_large m) = (refl, refl)
+one_input_answer task input _ _ _ _ law (too_large l) (refused f small h) = absurd (omega arith)
+one_input_answer task input _ _ _ _ law (too_large l) (answered t out status small spelled is) = absurd (omega arith)
+one_input_answer task input _ _ _ _ law (refused f small h) (too_large m) = absurd (omega arith)
+one_input_answer task input _ _ _ _ law (refused f small h) (refused g less k) = (ap test_refusal (law.one_refusal _ f g h k), refl)
+one_input_answer task input _ _ _ _ law (refused f small h) (answered t out status less spelled is) = absurd (law.refused_or_not _ t f spelled h)
+one_input_answer task input _ _ _ _ law (answered t out status small spelled is) (too_large m) = absurd (omega arith)
+one_input_answer task input _ _ _ _ law (answered t out status small spelled is) (refused f less h) = absurd (law.refused_or_not _ t f spelled h)
+one_input_answer task input _ _ _ _ law (answered t out status small spelled is) (answered t2 out2 status2 less spelled2 is2) =
+    one_answer_to task t2 (parts_of input).rest out out2 status status2 law (law.test _ t2 spelled2) (short_rest input small)
+    (subst (λ t. IsAnswerTo task t (parts_of input).rest out status) (law.one_test _ t t2 spelled spelled2) is) is2
+
+pub one_answer : (s : Settings) (input out other : List ℕ) (status again : Status) → Texts
+    → IsAnswer s (Some input) out status → IsAnswer s (Some input) other again → Same out other status again
+one_answer (settings.Run kind c) input out other status again law is too = one_input_answer (tasks.Run kind c) input out other status again law is too
+one_answer settings.Check input out other status again law is too = one_input_answer tasks.Check input out other status again law is too
+one_answer (settings.Tables kind) input out other status again law is too = (is.text ∙ sym too.text, is.status_is ∙ sym too.status_is)

@@ -1,0 +1,165 @@
+-- The report of a run is short, and what `check` answers to it.
+use Rattle.std.proofs.Common.{◌≡◌, ◌≢◌, ◌+◌, ◌*◌, ◌≤◌, ◌<◌, ◌^◌, ℕ, zero, suc, Bool, true, false, cond, List, [], ◌∷◌, ◌++◌, length, map, All, slice_index, slice_index_or, drop, Some, length-append, codes, refl, sym, ap, subst, ◌∙◌, arith}
+use Rattle.std.proofs.lemmas.List.Elements.{All-map, All-head, All-tail, All-weaker}
+use Rattle.order_builder.specs.Spelling.{SpellsOrder}
+use Rattle.tso_model.specs.Litmus.{Litmus, IsTest, IsProgram}
+use Rattle.tso_model.specs.Registers.{IsWord, AreRegisters}
+use Rattle.tso_model.specs.Thread.{entries_of, with_value, value_in}
+use Rattle.tso_model.specs.Execution.{made_by, made_from, made, read_values, IsTsoExecution}
+use Rattle.tso_model.specs.FinalState.{registers_of, registers_from, final_registers}
+use Rattle.tso_model.specs.FlatMachine.{State, effect_of, after_choice, start}
+use Rattle.tso_model.specs.Runs.{Run, run, run_from, has_ended, resting, then_run, stall_count}
+use Rattle.tso_model.specs.declared.instruction.Instr.{Instr}
+use Rattle.tso_model.specs.declared.instruction.Instr.TheVariants.{StoreImm, StoreReg, Load, SetImm, SetReg, Fence, Xchg, Xadd}
+use Rattle.tso_model.specs.declared.execution.Entry.{Entry}
+use Rattle.tso_model.specs.declared.choice.Choice.{Choice}
+use Rattle.tso_model.specs.declared.choice.Outcome.{Outcome}
+use Rattle.tso_model.specs.declared.choice.Outcome.TheVariants.{Committed, Buffered, Moved, Stalled}
+use Rattle.tso_laws.specs.EndedRuns.{IsExecution}
+use Rattle.litmus_reader.specs.Spelling.{SpellsTest, IsRefused as IsRefusedTest}
+use Rattle.scheduler.specs.Grammar.{SpellsChoices}
+use Rattle.protocol_tables.specs.declared.kind.ProtocolKind.{ProtocolKind}
+use Rattle.machine_core.specs.Configuration.{Configuration, IsWithinLimits}
+use Rattle.tso_report.specs.Report.{report}
+use Rattle.tso_report.specs.Shown.{Shown}
+use Rattle.tso_report.specs.Limits.{longest_report, IsSmall}
+use Rattle.tso_cli.specs.Parts.{Parts, parts_of, joined}
+use Rattle.tso_cli.specs.CheckLines.{valid_line}
+use Rattle.tso_cli.specs.Simulation.{shown_of, registers_in}
+use Rattle.tso_cli.specs.Answers.{run_text, run_status, IsRunAnswer, IsCheckAnswer, IsInputAnswer, too_large, refused, answered, ran}
+use Rattle.tso_cli.specs.declared.task.Task.TheVariants as tasks
+use Rattle.tso_cli.specs.declared.answer.Status.{Status}
+use Rattle.tso_cli.specs.declared.answer.Status.TheVariants.{Good, Refused, Unended}
+use Rattle.tso_cli.proofs.RunLemmas.{used-run_from}
+use Rattle.tso_cli.proofs.CheckLemmas.{order-for, valid-answer}
+use Rattle.tso_cli.proofs.OneAnswer.{Texts}
+use Rattle.tso_cli.proofs.HeadlineLemmas.{Runs, report-spells}
+
+-- ---- how much a run leaves
+
+entries_few : (core place : ℕ) (program : List Instr) (registers reads : List ℕ) → length (entries_of core place program registers reads) ≤ 2 * length program
+entries_few core place [] registers reads = omega arith
+entries_few core place (StoreImm loc value ∷ rest) registers reads = let f = entries_few core (place + 1) rest registers reads in omega arith
+entries_few core place (StoreReg loc reg ∷ rest) registers reads = let f = entries_few core (place + 1) rest registers reads in omega arith
+entries_few core place (Load reg loc ∷ rest) registers reads = let f = entries_few core (place + 1) rest (with_value registers reg (slice_index reads 0)) (drop 1 reads) in omega arith
+entries_few core place (SetImm reg value ∷ rest) registers reads = let f = entries_few core (place + 1) rest (with_value registers reg value) reads in omega arith
+entries_few core place (SetReg reg other ∷ rest) registers reads = let f = entries_few core (place + 1) rest (with_value registers reg (value_in registers other)) reads in omega arith
+entries_few core place (Fence ∷ rest) registers reads = let f = entries_few core (place + 1) rest registers reads in omega arith
+entries_few core place (Xchg loc reg ∷ rest) registers reads = let f = entries_few core (place + 1) rest (with_value registers reg (slice_index reads 0)) (drop 1 reads) in omega arith
+entries_few core place (Xadd loc reg ∷ rest) registers reads = let f = entries_few core (place + 1) rest (with_value registers reg (slice_index reads 0)) (drop 1 reads) in omega arith
+
+made_few : (core : ℕ) (programs : List (List Instr)) (registers : List (List ℕ)) (order : List Entry) → All (λ p. length p ≤ 32) programs
+    → length (made_from core programs registers order) ≤ 64 * length programs
+made_few core [] registers order h = omega arith
+made_few core (p ∷ ps) registers order h =
+    let here : length p ≤ 32 = All-head (λ (p : List Instr). length p ≤ 32) p ps h in
+    let first = entries_few core 0 p (slice_index_or registers core []) (read_values core 0 p order) in
+    let further = made_few (core + 1) ps registers order (All-tail (λ (p : List Instr). length p ≤ 32) p ps h) in
+    omega (arith, length-append (made_by core p (slice_index_or registers core []) order) (made_from (core + 1) ps registers order))
+
+order_few : (t : Litmus) (order : List Entry) → IsTest t → IsTsoExecution t order → length order ≤ 256
+order_few t order test execution =
+    let sizes : All (λ p. length p ≤ 32) t.programs = All-weaker (IsProgram (length t.locations)) (λ (p : List Instr). length p ≤ 32) (λ p fits. fits.size) t.programs test.programs_fit in
+    let cores = test.cores in
+    let count = execution.whole.count in
+    let few = made_few 0 t.programs t.registers order sizes in
+    omega arith
+
+registers_each : (core : ℕ) (programs : List (List Instr)) (registers : List (List ℕ)) (order : List Entry) → length (registers_from core programs registers order) ≡ length programs
+registers_each core [] registers order = refl
+registers_each core (p ∷ ps) registers order = ap suc (registers_each (core + 1) ps registers order)
+
+stall_few : (o : Outcome) → stall_count o ≤ 1
+stall_few Committed = omega arith
+stall_few Buffered = omega arith
+stall_few Moved = omega arith
+stall_few (Stalled why) = omega arith
+
+stalls_few : (t : Litmus) (depth : ℕ) (state : State) (cs : List Choice) → (run_from t depth state cs).stalled ≤ (run_from t depth state cs).used
+stalls_few t depth state [] = omega arith
+stalls_few t depth state (c ∷ cs) = by_end (has_ended t state) (stalls_few t depth (after_choice t depth state c) cs)
+  where
+    by_end : (b : Bool) → (run_from t depth (after_choice t depth state c) cs).stalled ≤ (run_from t depth (after_choice t depth state c) cs).used
+        → (cond b (resting true state (length (c ∷ cs))) (then_run (effect_of t depth state c) (run_from t depth (after_choice t depth state c) cs))).stalled
+        ≤ (cond b (resting true state (length (c ∷ cs))) (then_run (effect_of t depth state c) (run_from t depth (after_choice t depth state c) cs))).used
+    by_end true h = omega arith
+    by_end false h = let one = stall_few (effect_of t depth state c).outcome in omega arith
+
+small-run : (t : Litmus) (kind : ProtocolKind) (c : Configuration) (choices : List Choice) → Runs → IsTest t → length choices ≤ 100000
+    → (run t c.depth choices).ended ≡ true → IsSmall t (shown_of t (run t c.depth choices))
+small-run t kind c choices laws test few ended =
+    let r = run t c.depth choices in
+    let execution : IsExecution t r = laws.executions t c.depth choices test ended in
+    let words = laws.words t c.depth choices test in
+    let used = used-run_from t c.depth (start t) choices in
+    let stalled = stalls_few t c.depth (start t) choices in
+    let cores = test.cores in
+    let each = ap (λ (l : List (List ℕ)). length l) execution.registers ∙ registers_each 0 t.programs t.registers r.commits in
+    record {
+      entries = order_few t r.commits test execution.order;
+      order = order-for t r.commits test (λ e stands. laws.fits t r.commits e test execution.order.whole stands) words.values;
+      cores = omega (arith, each);
+      registers = All-map AreRegisters (λ core. core.registers) r.state.cores words.registers;
+      memory = words.memory;
+      used = omega arith;
+      stalled = omega arith;
+      unused = omega arith;
+    }
+
+-- ---- the answer of `run`, and that of `check` to it
+
+record Ended (kind : ProtocolKind) (c : Configuration) (input out : List ℕ) : Type 0 where
+  t : Litmus
+  choices : List Choice
+  spelled : SpellsTest (parts_of input).test t
+  few : length choices ≤ 100000
+  ended : (run t c.depth choices).ended ≡ true
+  is : out ≡ run_text t kind c (run t c.depth choices)
+
+good-ended : (t : Litmus) (r : Run) → run_status r ≡ Good → r.ended ≡ true
+good-ended t r good = by_end r.ended refl
+  where
+    by_end : (b : Bool) → r.ended ≡ b → r.ended ≡ true
+    by_end true e = e
+    by_end false e = absurd (let other : Unended ≡ Good = subst (λ b. cond b Good Unended ≡ Good) e good in let no : ⊥ = cc in no)
+
+run-ended : (t : Litmus) (kind : ProtocolKind) (c : Configuration) (input out : List ℕ) (status : Status) → SpellsTest (parts_of input).test t
+    → status ≡ Good → IsRunAnswer t kind c (parts_of input).rest out status → Ended kind c input out
+run-ended t kind c input _ _ spelled good (refused fault h) = absurd (let no : ⊥ = cc in no)
+run-ended t kind c input _ _ spelled good (ran choices read) =
+    record { t = t; choices = choices; spelled = spelled; few = read.few; ended = good-ended t (run t c.depth choices) good; is = refl }
+
+input-ended : (kind : ProtocolKind) (c : Configuration) (input out : List ℕ) (status : Status) → status ≡ Good
+    → IsInputAnswer (tasks.Run kind c) input out status → Ended kind c input out
+input-ended kind c input _ _ good (too_large large) = absurd (let no : ⊥ = cc in no)
+input-ended kind c input _ _ good (refused fault small is) = absurd (let no : ⊥ = cc in no)
+input-ended kind c input _ _ good (answered t out status small spelled is) = run-ended t kind c input out status spelled good is
+
+checked : (test out input answer : List ℕ) (status : Status) (t : Litmus) (order : List Entry) → Texts → input ≡ joined test out
+    → parts_of (joined test out) ≡ record { test = test; rest = out } → length out ≤ longest_report → SpellsTest test t → SpellsOrder t out order → IsTsoExecution t order
+    → IsInputAnswer tasks.Check input answer status → (answer ≡ valid_line) × (status ≡ Good)
+checked test out input _ _ t order laws same parted short spelled spells execution (too_large large) =
+    let size : length test ≤ 65536 = spelled.is.small in
+    absurd (omega (arith, ap (λ (l : List ℕ). length l) same, length-append test (codes "====\n" ++ out), length-append (codes "====\n") out))
+checked test out input _ _ t order laws same parted short spelled spells execution (refused fault small is) =
+    let first : (parts_of input).test ≡ test = ap (λ i. (parts_of i).test) same ∙ ap (λ (p : Parts). p.test) parted in
+    absurd (laws.refused_or_not test t fault spelled (subst (λ text. IsRefusedTest text fault) first is))
+checked test out input _ _ t order laws same parted short spelled spells execution (answered other answer status small too is) =
+    let first : (parts_of input).test ≡ test = ap (λ i. (parts_of i).test) same ∙ ap (λ (p : Parts). p.test) parted in
+    let second : (parts_of input).rest ≡ out = ap (λ i. (parts_of i).rest) same ∙ ap (λ (p : Parts). p.rest) parted in
+    let one : other ≡ t = laws.one_test test other t (subst (λ text. SpellsTest text other) first too) spelled in
+    valid-answer t out order answer status laws.real laws.once laws.never_both (laws.test test t spelled) (omega arith) spells execution
+    (subst (λ (u : Litmus). IsCheckAnswer u out answer status) one (subst (λ text. IsCheckAnswer other text answer status) second is))
+
+pub rechecked : (kind : ProtocolKind) (c : Configuration) (input out answer : List ℕ) (status : Status) → Texts → Runs
+    → ((t : Litmus) (kind : ProtocolKind) (c : Configuration) (s : Shown) → IsTest t → IsWithinLimits c → IsSmall t s → length (report t kind c s) ≤ longest_report)
+    → IsWithinLimits c → parts_of (joined (parts_of input).test out) ≡ record { test = (parts_of input).test; rest = out }
+    → IsInputAnswer (tasks.Run kind c) input out Good → IsInputAnswer tasks.Check (joined (parts_of input).test out) answer status → (answer ≡ valid_line) × (status ≡ Good)
+rechecked kind c input out answer status texts runs short within parted is answered_so =
+    let e = input-ended kind c input out Good refl is in
+    let test = texts.test (parts_of input).test e.t e.spelled in
+    let printed : out ≡ report e.t kind c (shown_of e.t (run e.t c.depth e.choices)) = rw e.ended at e.is in
+    let size : length out ≤ longest_report =
+    subst (λ (o : List ℕ). length o ≤ longest_report) (sym printed) (short e.t kind c (shown_of e.t (run e.t c.depth e.choices)) test within (small-run e.t kind c e.choices runs test e.few e.ended)) in
+    checked (parts_of input).test out (joined (parts_of input).test out) answer status e.t (run e.t c.depth e.choices).commits texts refl parted size e.spelled
+    (report-spells e.t kind c e.choices out runs test within e.is e.ended) (runs.executions e.t c.depth e.choices test e.ended).order answered_so

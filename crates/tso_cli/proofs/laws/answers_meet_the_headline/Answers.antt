@@ -1,0 +1,28 @@
+use Rattle.tso_cli.proofs.OneAnswer.{Texts}
+use Rattle.tso_cli.proofs.HeadlineLemmas.{Runs, input-means, command-means}
+use Rattle.tso_cli.proofs.laws.answers_meet_the_headline.Goals as goal
+
+pub returns : goal.returns
+returns c =
+    let texts : Texts = record {
+      one_test = c.test_is_spelled_once.ensures.once;
+      refused_or_not = c.test_is_spelled_once.ensures.never_both;
+      one_refusal = c.test_is_spelled_once.ensures.one_refusal;
+      test = c.test_is_spelled_once.ensures.within;
+      decided = c.texts_are_decided.ensures;
+      once = c.order_is_spelled_once.ensures.once;
+      never_both = c.order_is_spelled_once.ensures.never_both;
+      one_fault = c.order_is_spelled_once.ensures.one_fault;
+      one = c.first_breach_is_one.ensures;
+      real = c.first_breach_is_real.ensures;
+    } in
+    let runs : Runs = record {
+      executions = c.ended_runs_are_executions.ensures;
+      fits = c.whole_orders_have_each_entry_once.ensures.fits;
+      words = c.values_are_words.ensures.in_runs;
+      report_spells = c.report_spells_its_order.ensures;
+    } in
+    record {
+      tasks = λ task input out status. input-means task input out status texts runs;
+      commands = λ s known out status. command-means s known out status texts runs;
+    }

@@ -1,0 +1,220 @@
+-- Whatever a run commits and leaves are words: the constants of the programs and the first values are, and each choice keeps it.
+use Rattle.std.proofs.Common.{◌≡◌, ℕ, ◌+◌, ◌<◌, ◌≤◌, ◌^◌, ◌%◌, zero, suc, Bool, true, false, cond, ltb, List, [], ◌∷◌, ◌++◌, length, filter, All, Option, Some, None, IfSome, slice_get, slice_index, slice_index_or, slice_set, set, get_or, refl, subst, sym, ◌∙◌, arith}
+use Rattle.std.proofs.lemmas.List.{length-set}
+use Rattle.std.proofs.lemmas.List.Elements.{All-nil, All-cons, All-head, All-tail, All-append, All-push, All-set, All-filter, All-get_or}
+use Rattle.tso_model.specs.Litmus.{Litmus, IsTest, HasWords, ConstantIsWord}
+use Rattle.tso_model.specs.Registers.{IsWord, AreRegisters, index_of}
+use Rattle.tso_model.specs.Thread.{entry, fence, value_in, with_value, sum_of}
+use Rattle.tso_model.specs.ProgramOrder.{is_write, writes_to}
+use Rattle.tso_model.specs.Execution.{last_value, IsTsoExecution}
+use Rattle.tso_model.specs.FlatMachine.{CoreState, State, Effect, stalled, advanced, advanced_with, stored, seen, loaded, moved, fenced, locked, step_of, drain_of, idle, program_of, core_of, chosen, effect_of, memory_after, applied, after_choice, started, start}
+use Rattle.tso_model.specs.Runs.{Run, has_ended, resting, then_run, run_from, run}
+use Rattle.tso_model.specs.declared.register.Reg.{Reg}
+use Rattle.tso_model.specs.declared.instruction.Loc.{Loc}
+use Rattle.tso_model.specs.declared.instruction.Instr.{Instr}
+use Rattle.tso_model.specs.declared.instruction.Instr.TheVariants.{StoreImm, StoreReg, Load, SetImm, SetReg, Fence, Xchg, Xadd}
+use Rattle.tso_model.specs.declared.execution.Entry.{Entry}
+use Rattle.tso_model.specs.declared.execution.Kind.TheVariants.{R, W, LR, LW}
+use Rattle.tso_model.specs.declared.choice.Choice.{Choice}
+use Rattle.tso_model.specs.declared.choice.Choice.TheVariants.{Step, Drain}
+use Rattle.tso_model.specs.declared.choice.Stall.{Stall}
+use Rattle.tso_model.specs.declared.choice.Stall.TheVariants as stall
+use Rattle.tso_model.specs.declared.choice.Outcome.TheVariants.{Buffered}
+use Rattle.tso_laws.specs.Words.{HasWord, HoldsWords}
+
+no-word : IsWord 0
+no-word = omega arith
+
+word-at : (words : List ℕ) (i : ℕ) → All IsWord words → IsWord (slice_index words i)
+word-at [] i h = no-word
+word-at (w ∷ ws) zero h = All-head IsWord w ws h
+word-at (w ∷ ws) (suc i) h = word-at ws i (All-tail IsWord w ws h)
+
+sum-word : (word value : ℕ) → IsWord (sum_of word value)
+sum-word word value = omega arith
+
+last-word : (es : List Entry) (word : ℕ) → All HasWord es → IsWord word → IsWord (last_value es word)
+last-word [] word h w = w
+last-word (e ∷ es) word h w = last-word es e.value (All-tail HasWord e es h) (All-head HasWord e es h)
+
+-- ---- a core
+
+-- its registers and its pending stores hold words
+record GoodCore (s : CoreState) : Type 0 where
+  registers : All IsWord s.registers
+  pending : All HasWord s.pending
+
+-- so does the core after an effect, with as many registers, and what was committed
+record GoodEffect (s : CoreState) (f : Effect) : Type 0 where
+  core : GoodCore f.after
+  commits : All HasWord f.commits
+  size : length f.after.registers ≡ length s.registers
+
+with-word : (s : CoreState) (reg : Reg) (value : ℕ) → GoodCore s → IsWord value → GoodCore (advanced_with s reg value)
+with-word s reg value h w = record { registers = All-set IsWord s.registers (index_of reg) value w h.registers; pending = h.pending }
+
+good-stalled : (s : CoreState) (why : Stall) → GoodCore s → GoodEffect s (stalled why s)
+good-stalled s why h = record { core = h; commits = All-nil _; size = refl }
+
+good-stored : (depth : ℕ) (s : CoreState) (e : Entry) → GoodCore s → HasWord e → GoodEffect s (stored depth s e)
+good-stored zero s e h w = record { core = record { registers = h.registers; pending = h.pending }; commits = All-cons HasWord e [] w (All-nil _); size = refl }
+good-stored (suc n) s e h w = by_room (ltb (length s.pending) (suc n))
+  where
+    by_room : (b : Bool) → GoodEffect s (cond b (record { outcome = Buffered; after = record { place = s.place + 1; registers = s.registers; pending = s.pending ++ e ∷ [] }; commits = [] }) (stalled stall.Full s))
+    by_room true = record { core = record { registers = h.registers; pending = All-push HasWord s.pending e h.pending w }; commits = All-nil _; size = refl }
+    by_room false = good-stalled s stall.Full h
+
+good-loaded : (s : CoreState) (reg : Reg) (e : Entry) → GoodCore s → HasWord e → GoodEffect s (loaded s reg e)
+good-loaded s reg e h w = record { core = with-word s reg e.value h w; commits = All-cons HasWord e [] w (All-nil _); size = length-set s.registers (index_of reg) e.value }
+
+good-moved : (s : CoreState) (reg : Reg) (value : ℕ) → GoodCore s → IsWord value → GoodEffect s (moved s reg value)
+good-moved s reg value h w = record { core = with-word s reg value h w; commits = All-nil _; size = length-set s.registers (index_of reg) value }
+
+good-fenced : (core : ℕ) (s : CoreState) (pending : List Entry) → GoodCore s → GoodEffect s (fenced core s pending)
+good-fenced core s [] h = record { core = record { registers = h.registers; pending = h.pending }; commits = All-cons HasWord (fence core s.place) [] no-word (All-nil _); size = refl }
+good-fenced core s (p ∷ ps) h = good-stalled s stall.Fence h
+
+good-locked : (core : ℕ) (s : CoreState) (loc : Loc) (reg : Reg) (word value : ℕ) (pending : List Entry) → GoodCore s → IsWord word → IsWord value
+    → GoodEffect s (locked core s loc reg word value pending)
+good-locked core s loc reg word value [] h w v = record {
+  core = with-word s reg word h w;
+  commits = All-cons HasWord (entry core s.place LR loc word) (entry core s.place LW loc value ∷ []) w (All-cons HasWord (entry core s.place LW loc value) [] v (All-nil _));
+  size = length-set s.registers (index_of reg) word;
+}
+good-locked core s loc reg word value (p ∷ ps) h w v = good-stalled s stall.Lock h
+
+good-step : (depth : ℕ) (memory : List ℕ) (core : ℕ) (next : Option Instr) (s : CoreState) → All IsWord memory → IfSome next ConstantIsWord → GoodCore s
+    → GoodEffect s (step_of depth memory core next s)
+good-step depth memory core None s m i h = good-stalled s stall.Done h
+good-step depth memory core (Some (StoreImm loc value)) s m i h = good-stored depth s (entry core s.place W loc value) h i
+good-step depth memory core (Some (StoreReg loc reg)) s m i h = good-stored depth s (entry core s.place W loc (value_in s.registers reg)) h (word-at s.registers (index_of reg) h.registers)
+good-step depth memory core (Some (Load reg loc)) s m i h =
+    good-loaded s reg (entry core s.place R loc (seen memory s loc.0)) h
+    (last-word (filter (writes_to loc.0) s.pending) (slice_index memory loc.0) (All-filter (writes_to loc.0) HasWord s.pending h.pending) (word-at memory loc.0 m))
+good-step depth memory core (Some (SetImm reg value)) s m i h = good-moved s reg value h i
+good-step depth memory core (Some (SetReg reg other)) s m i h = good-moved s reg (value_in s.registers other) h (word-at s.registers (index_of other) h.registers)
+good-step depth memory core (Some Fence) s m i h = good-fenced core s s.pending h
+good-step depth memory core (Some (Xchg loc reg)) s m i h =
+    good-locked core s loc reg (slice_index memory loc.0) (value_in s.registers reg) s.pending h (word-at memory loc.0 m) (word-at s.registers (index_of reg) h.registers)
+good-step depth memory core (Some (Xadd loc reg)) s m i h =
+    good-locked core s loc reg (slice_index memory loc.0) (sum_of (slice_index memory loc.0) (value_in s.registers reg)) s.pending h (word-at memory loc.0 m)
+    (sum-word (slice_index memory loc.0) (value_in s.registers reg))
+
+good-drain : (s : CoreState) (pending : List Entry) → GoodCore s → All HasWord pending → GoodEffect s (drain_of s pending)
+good-drain s [] h p = good-stalled s stall.Empty h
+good-drain s (e ∷ es) h p = record {
+  core = record { registers = h.registers; pending = All-tail HasWord e es p };
+  commits = All-cons HasWord e [] (All-head HasWord e es p) (All-nil _);
+  size = refl;
+}
+
+-- ---- all cores, and memory
+
+record Good (state : State) : Type 0 where
+  memory : All IsWord state.memory
+  cores : All GoodCore state.cores
+  six : All (λ s. length s.registers ≡ 6) state.cores
+
+idle-good : GoodCore idle
+idle-good = record { registers = All-nil _; pending = All-nil _ }
+
+core-at : (cores : List CoreState) (i : ℕ) → All GoodCore cores → GoodCore (slice_index_or cores i idle)
+core-at [] i h = idle-good
+core-at (s ∷ ss) zero h = All-head GoodCore s ss h
+core-at (s ∷ ss) (suc i) h = core-at ss i (All-tail GoodCore s ss h)
+
+six-set : (cores : List CoreState) (i : ℕ) (after : CoreState) → length after.registers ≡ length (slice_index_or cores i idle).registers
+    → All (λ s. length s.registers ≡ 6) cores → All (λ s. length s.registers ≡ 6) (slice_set cores i after)
+six-set [] i after size h = h
+six-set (s ∷ ss) zero after size h =
+    All-cons (λ (s : CoreState). length s.registers ≡ 6) after ss (size ∙ All-head (λ (s : CoreState). length s.registers ≡ 6) s ss h) (All-tail (λ (s : CoreState). length s.registers ≡ 6) s ss h)
+six-set (s ∷ ss) (suc i) after size h =
+    All-cons (λ (s : CoreState). length s.registers ≡ 6) s (slice_set ss i after) (All-head (λ (s : CoreState). length s.registers ≡ 6) s ss h)
+    (six-set ss i after size (All-tail (λ (s : CoreState). length s.registers ≡ 6) s ss h))
+
+memory-good : (es : List Entry) (words : List ℕ) → All HasWord es → All IsWord words → All IsWord (memory_after es words)
+memory-good [] words h m = m
+memory-good (e ∷ es) words h m = memory-good es _ (All-tail HasWord e es h) (by_kind (is_write e))
+  where
+    by_kind : (b : Bool) → All IsWord (cond b (slice_set words e.loc.0 e.value) words)
+    by_kind true = All-set IsWord words e.loc.0 e.value (All-head HasWord e es h) m
+    by_kind false = m
+
+next-good : (p : List Instr) (place : ℕ) → All ConstantIsWord p → IfSome (slice_get p place) ConstantIsWord
+next-good [] place h = tt
+next-good (i ∷ is) zero h = All-head ConstantIsWord i is h
+next-good (i ∷ is) (suc place) h = next-good is place (All-tail ConstantIsWord i is h)
+
+program-good : (ps : List (List Instr)) (core : ℕ) → All (λ p. All ConstantIsWord p) ps → All ConstantIsWord (slice_index_or ps core [])
+program-good [] core h = All-nil _
+program-good (p ∷ ps) zero h = All-head (λ p. All ConstantIsWord p) p ps h
+program-good (p ∷ ps) (suc core) h = program-good ps core (All-tail (λ p. All ConstantIsWord p) p ps h)
+
+effect-good : (t : Litmus) (depth : ℕ) (state : State) (c : Choice) → HasWords t → Good state → GoodEffect (core_of state (chosen c)) (effect_of t depth state c)
+effect-good t depth state (Step core) words h =
+    good-step depth state.memory core.0 (slice_get (program_of t core.0) (core_of state core.0).place) (core_of state core.0) h.memory
+    (next-good (program_of t core.0) (core_of state core.0).place (program-good t.programs core.0 words.constants)) (core-at state.cores core.0 h.cores)
+effect-good t depth state (Drain core) words h =
+    let here = core-at state.cores core.0 h.cores in
+    good-drain (core_of state core.0) (core_of state core.0).pending here here.pending
+
+choice-good : (t : Litmus) (depth : ℕ) (state : State) (c : Choice) → HasWords t → Good state → Good (after_choice t depth state c)
+choice-good t depth state c words h =
+    let f = effect-good t depth state c words h in
+    record {
+      memory = memory-good (effect_of t depth state c).commits state.memory f.commits h.memory;
+      cores = All-set GoodCore state.cores (chosen c) (effect_of t depth state c).after f.core h.cores;
+      six = six-set state.cores (chosen c) (effect_of t depth state c).after f.size h.six;
+    }
+
+-- ---- a run
+
+record GoodRun (r : Run) : Type 0 where
+  commits : All HasWord r.commits
+  state : Good r.state
+
+run-good : (t : Litmus) (depth : ℕ) (state : State) (cs : List Choice) → HasWords t → Good state → GoodRun (run_from t depth state cs)
+run-good t depth state [] words h = record { commits = All-nil _; state = h }
+run-good t depth state (c ∷ cs) words h = by_end (has_ended t state) (run-good t depth (after_choice t depth state c) cs words (choice-good t depth state c words h))
+  where
+    by_end : (b : Bool) → GoodRun (run_from t depth (after_choice t depth state c) cs)
+        → GoodRun (cond b (resting true state (length (c ∷ cs))) (then_run (effect_of t depth state c) (run_from t depth (after_choice t depth state c) cs)))
+    by_end true further = record { commits = All-nil _; state = h }
+    by_end false further = record {
+      commits = All-append HasWord (effect_of t depth state c).commits _ (effect-good t depth state c words h).commits further.commits;
+      state = further.state;
+    }
+
+registers-at : (registers : List (List ℕ)) (core : ℕ) → core < length registers → All AreRegisters registers → AreRegisters (slice_index_or registers core [])
+registers-at registers core l h = h core [] l
+
+started-cores : (core : ℕ) (ps : List (List Instr)) (registers : List (List ℕ)) → core + length ps ≤ length registers → All AreRegisters registers → All GoodCore (started core ps registers)
+started-cores core [] registers l h = All-nil _
+started-cores core (p ∷ ps) registers l h =
+    let here : core < length registers = omega arith in
+    All-cons GoodCore _ (started (core + 1) ps registers) (record { registers = (registers-at registers core here h).words; pending = All-nil _ })
+    (started-cores (core + 1) ps registers (omega arith) h)
+
+started-six : (core : ℕ) (ps : List (List Instr)) (registers : List (List ℕ)) → core + length ps ≤ length registers → All AreRegisters registers
+    → All (λ s. length s.registers ≡ 6) (started core ps registers)
+started-six core [] registers l h = All-nil _
+started-six core (p ∷ ps) registers l h =
+    let here : core < length registers = omega arith in
+    All-cons (λ (s : CoreState). length s.registers ≡ 6) _ (started (core + 1) ps registers) (registers-at registers core here h).six (started-six (core + 1) ps registers (omega arith) h)
+
+start-good : (t : Litmus) → IsTest t → Good (start t)
+start-good t test =
+    let given : 0 + length t.programs ≤ length t.registers = let g = test.registers_given in omega arith in
+    record {
+      memory = test.values.words;
+      cores = started-cores 0 t.programs t.registers given test.values.registers;
+      six = started-six 0 t.programs t.registers given test.values.registers;
+    }
+
+both : (cores : List CoreState) → All GoodCore cores → All (λ s. length s.registers ≡ 6) cores → All (λ s. AreRegisters s.registers) cores
+both cores good six = λ k d l. record { six = six k d l; words = (good k d l).registers }
+
+pub runs-hold-words : (t : Litmus) (depth : ℕ) (choices : List Choice) → IsTest t → HoldsWords (run t depth choices).commits (run t depth choices).state
+runs-hold-words t depth choices test =
+    let r = run-good t depth (start t) choices test.values (start-good t test) in
+    record { values = r.commits; memory = r.state.memory; registers = both (run t depth choices).state.cores r.state.cores r.state.six }

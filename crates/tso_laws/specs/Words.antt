@@ -1,0 +1,15 @@
+-- Values are words.
+use Rattle.std.specs.Prelude.{List, All}
+use Rattle.tso_model.specs.Registers.{IsWord, AreRegisters}
+use Rattle.tso_model.specs.FlatMachine.{State}
+use Rattle.tso_model.specs.declared.execution.Entry.{Entry}
+
+-- the value of the entry is a word
+abbrev pub HasWord : Entry → Type 0
+HasWord e = IsWord e.value
+
+-- what was committed and what memory holds are words, and each core has its six registers
+pub record HoldsWords (order : List Entry) (state : State) : Type 0 where
+  pub values : All HasWord order
+  pub memory : All IsWord state.memory
+  pub registers : All (λ core. AreRegisters core.registers) state.cores

@@ -1,0 +1,26 @@
+-- How long a report is, at most. (This project's profile.)
+use Rattle.std.specs.Prelude.{ℕ, ◌*◌, ◌<◌, ◌≤◌, ◌^◌, length, All}
+use Rattle.tso_model.specs.Limits.{most_cores, most_instructions}
+use Rattle.tso_model.specs.Litmus.{Litmus}
+use Rattle.tso_model.specs.Registers.{IsWord, AreRegisters}
+use Rattle.order_builder.specs.Spelling.{IsOrderFor}
+use Rattle.tso_report.specs.Shown.{Shown}
+
+-- bytes of a report, at most
+abbrev pub longest_report : ℕ
+longest_report = 16384
+
+-- entries of an order that a run of a test leaves, at most: a locked instruction has two
+abbrev pub most_entries : ℕ
+most_entries = 2 * (most_instructions * most_cores)
+
+-- no more is shown than a run of the test can leave
+pub record IsSmall (t : Litmus) (s : Shown) : Type 0 where
+  pub entries : length s.order ≤ most_entries
+  pub order : IsOrderFor t s.order
+  pub cores : length s.registers ≤ most_cores
+  pub registers : All AreRegisters s.registers
+  pub memory : All IsWord s.memory
+  pub used : s.used < 2 ^ 64
+  pub stalled : s.stalled < 2 ^ 64
+  pub unused : s.unused < 2 ^ 64
