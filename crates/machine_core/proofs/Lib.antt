@@ -1,4 +1,7 @@
 pub mod Effects
+pub mod CacheUses
+pub mod CountBounds
+pub mod TallyLemmas
 pub mod CoreLemmas
 pub mod Performing
 pub mod RunningLemmas

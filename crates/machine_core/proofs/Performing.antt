@@ -1,5 +1,5 @@
 -- A choice on the parts of a machine, from what its core did.
-use Rattle.std.proofs.Common.{◌≡◌, ◌<◌, ℕ, List, ◌++◌, None, Some, Result, Ok, Err, IfOk, OnOk, length, slice_get, slice_set, slice_index_or, length-set, refl, sym, ap, ◌∙◌, subst, append-nil, All}
+use Rattle.std.proofs.Common.{◌≡◌, ◌<◌, ℕ, ◌++◌, None, Some, Result, Ok, Err, IfOk, OnOk, length, slice_get, slice_set, slice_index_or, length-set, refl, sym, ap, ◌∙◌, subst, append-nil, All}
 use Rattle.std.proofs.lemmas.List.Elements.{All-set}
 use Rattle.tso_model.specs.Litmus.{Litmus}
 use Rattle.tso_model.specs.FlatMachine.{Effect, stalled, step_of, drain_of, applied, chosen, memory_after, program_of, core_of}
@@ -12,14 +12,18 @@ use Rattle.tso_model.specs.declared.choice.Outcome.{Outcome}
 use Rattle.tso_model.specs.declared.choice.Outcome.TheVariants.{Stalled}
 use Rattle.tso_model.specs.declared.choice.Stall.TheVariants as stall
 use Rattle.order_builder.specs.Pairs.{IsPaired}
-use Rattle.snoop_bus.specs.Bus.{words_of, cores_of}
+use Rattle.snoop_bus.specs.Bus.{Bus, words_of, cores_of}
 use Rattle.machine_core.specs.declared.processor.Processor.{Processor}
+use Rattle.machine_core.specs.declared.cache_use.CacheUse.{CacheUse}
+use Rattle.machine_core.specs.declared.cache_use.CacheUse.TheVariants.{Unused}
 use Rattle.machine_core.specs.declared.parts.Parts.{Parts}
-use Rattle.machine_core.specs.Cores.{core_state, core_states, step_by, drain_by}
+use Rattle.machine_core.specs.Cores.{core_state, core_states, pending_in, step_by, drain_by}
+use Rattle.machine_core.specs.Statistics.{caches_of, use_of}
 use Rattle.machine_core.specs.Kept.{IsCore, FitsTest, state_in}
-use Rattle.machine_core.specs.Performed.{Performs, effect_in}
+use Rattle.machine_core.specs.Performed.{HasUsed, Performs, effect_in, use_in}
 use Rattle.machine_core.proofs.CoreLemmas.{core_states-get_or, core_states-set}
 use Rattle.machine_core.proofs.Effects.{IsPaired-append}
+use Rattle.machine_core.proofs.CacheUses.{rests}
 
 -- the core that a choice names, as the flat machine has it
 core_of-state_in : {P : Type 0} (m : Parts P) (i : ℕ) (p : Processor) → i < length m.processors.items → p ≡ slice_index_or m.processors.items i p → core_of (state_in m) i ≡ core_state i p
@@ -59,12 +63,29 @@ Performs-by t m new choice o p f e paired processors after memory commits outcom
       paired = λ before. subst IsPaired (sym commits) (IsPaired-append m.commits.entries f.commits before paired);
     }
 
-pub IfOk-Performs : {P : Type 0} (r : Result Outcome NoMemory) (t : Litmus) (m new : Parts P) (choice : Choice) (p : Processor) (f : Effect)
+pub IfOk-Performs : {P : Type 0} (r : Result (Outcome × CacheUse) NoMemory) (t : Litmus) (m new : Parts P) (choice : Choice) (p : Processor) (f : Effect)
     → effect_in t m choice ≡ f → IsPaired f.commits → new.processors.items ≡ slice_set m.processors.items (chosen choice) p
-    → IfOk r (λ o. o ≡ f.outcome) → OnOk r (core_state (chosen choice) p ≡ f.after)
-    → OnOk r (words_of new.bus ≡ memory_after f.commits (words_of m.bus)) → OnOk r (new.commits.entries ≡ m.commits.entries ++ f.commits) → IfOk r (Performs t m new choice)
-IfOk-Performs (Ok o) t m new choice p f e paired processors outcome after words commits = Performs-by t m new choice o p f e paired processors after words commits outcome
+    → IfOk r (λ x. x.0 ≡ f.outcome) → OnOk r (core_state (chosen choice) p ≡ f.after)
+    → OnOk r (words_of new.bus ≡ memory_after f.commits (words_of m.bus)) → OnOk r (new.commits.entries ≡ m.commits.entries ++ f.commits) → IfOk r (λ x. Performs t m new choice x.0)
+IfOk-Performs (Ok x) t m new choice p f e paired processors outcome after words commits = Performs-by t m new choice x.0 p f e paired processors after words commits outcome
 IfOk-Performs (Err x) t m new choice p f e paired processors outcome after words commits = tt
+
+-- what its core had to do with the caches is what the choice had
+pub IfOk-HasUsed : {P : Type 0} (r : Result (Outcome × CacheUse) NoMemory) (t : Litmus) (m : Parts P) (bus : Bus) (choice : Choice) (p : Processor) (f : Effect)
+    → effect_in t m choice ≡ f → chosen choice < length m.processors.items → p ≡ slice_index_or m.processors.items (chosen choice) p
+    → IfOk r (λ x. HasUsed (use_of (caches_of m.bus) (pending_in (chosen choice) p) f.commits) bus x.1) → IfOk r (λ x. HasUsed (use_in t m choice) bus x.1)
+IfOk-HasUsed r t m bus choice p f e h q used =
+    let same : use_in t m choice ≡ use_of (caches_of m.bus) (pending_in (chosen choice) p) f.commits =
+    ap (λ s. use_of (caches_of m.bus) s.pending (effect_in t m choice).commits) (core_of-state_in m (chosen choice) p h q)
+    ∙ ap (λ g. use_of (caches_of m.bus) (pending_in (chosen choice) p) g.commits) e in
+    subst (λ u. IfOk r (λ x. HasUsed u bus x.1)) (sym same) used
+
+-- at the end of a program nothing is used
+pub HasUsed-done : {P : Type 0} (t : Litmus) (m : Parts P) (bus : Bus) (core : Core) (p : Processor) → core.0 < length m.processors.items → p ≡ slice_index_or m.processors.items core.0 p
+    → slice_get (program_of t core.0) p.place ≡ None → bus ≡ m.bus → HasUsed (use_in t m (Step core)) bus Unused
+HasUsed-done t m bus core p h q g same =
+    subst (λ b. HasUsed (use_in t m (Step core)) b Unused) (sym same)
+    (rests m.bus (core_of (state_in m) core.0).pending (effect_in t m (Step core)).commits (ap (λ f. f.commits) (effect_in-done t m core p h q g)))
 
 -- at the end of a program a step stalls
 pub Performs-done : {P : Type 0} (t : Litmus) (m new : Parts P) (core : Core) (p : Processor) → core.0 < length m.processors.items → p ≡ slice_index_or m.processors.items core.0 p

@@ -16,6 +16,10 @@ store_of core p = entry core p.place W p.loc p.value
 abbrev pub core_state : ℕ → Processor → CoreState
 core_state core p = record { place = p.place; registers = p.registers; pending = map (store_of core) p.stores.items }
 
+-- its pending stores
+abbrev pub pending_in : ℕ → Processor → List Entry
+pending_in core p = map (store_of core) p.stores.items
+
 -- the cores from this number on
 abbrev pub core_states : ℕ → List Processor → List CoreState
 core_states core [] = []

@@ -1,8 +1,10 @@
 pub mod Configuration
+pub mod Statistics
 pub mod Running
 pub mod Cores
 pub mod Kept
 pub mod Performed
+pub mod WorkedCounts
 pub use Rattle.tso_model.specs.FlatMachine
 pub use Rattle.tso_model.specs.Runs
 pub use Rattle.snoop_bus.specs.Geometry

@@ -3,6 +3,7 @@ ghost use Rattle.tso_model.specs.FlatMachine.{chosen};
 ghost use Rattle.machine_core.specs.Running.{new_machine, effect_on, machine_after, IsRefused, is_ended};
 
 use crate::config::Config;
+use crate::counts::Counts;
 use crate::parts::{Parts, are_done, begin, memory_of, perform, registers_of};
 use order_builder::build;
 use protocol_tables::Protocol;
@@ -19,10 +20,13 @@ pub struct Final {
     pub registers: Vec<[u32; 6]>,
     /// The word of each location.
     pub memory: Vec<u32>,
+    /// What the accesses of each core's cache were.
+    pub counts: Vec<Counts>,
 }
 
 /// A machine that runs a test, which it borrows, one choice at a time. Its caches are kept coherent by
-/// this protocol; neither the protocol nor the shape of the caches has a part in what a choice does.
+/// this protocol; neither the protocol nor the shape of the caches has a part in what a choice does but
+/// in what is counted of its accesses.
 #[derive(Drop)]
 pub struct Machine<'a, P: Protocol> {
     test: &'a Test,
@@ -40,20 +44,21 @@ impl<'a, P: Protocol> Model for Machine<'a, P> {
     ghost coded = { Prim.hlevel (codes, claim_code) };
 
     ghost use Rattle.order_builder.specs.Pairs.{IsPaired};
-    ghost use Rattle.machine_core.specs.Kept.{FitsTest, state_in};
+    ghost use Rattle.machine_core.specs.Kept.{FitsTest, IsTallied, state_in, statistics_in};
 
-    ghost view = { λ m. record { test = m.test.now; depth = m.parts.config.depth; state = state_in m.parts; commits = m.parts.commits.entries; failed = m.failed } };
+    ghost view = { λ m. record { test = m.test.now; depth = m.parts.config.depth; state = state_in m.parts; commits = m.parts.commits.entries; statistics = statistics_in m.parts; failed = m.failed } };
 
-    ghost invariant = { λ m. FitsTest m.test.now m.parts × IsPaired m.parts.commits.entries };
+    ghost invariant = { λ m. FitsTest m.test.now m.parts × IsPaired m.parts.commits.entries × IsTallied m.test.now (state_in m.parts) m.parts.counts.items };
 }
 
 impl<'a, P: Protocol> Machine<'a, P> {
     /// A machine at the beginning of the test: each core before its first instruction with its first
-    /// registers and nothing buffered, memory with the test's first words, and nothing committed.
+    /// registers and nothing buffered, memory with the test's first words, the caches empty, and nothing
+    /// committed or counted.
     ///
     /// Fails only for want of memory.
     pub fn new(alloc: Global, protocol: P, test: &'a Test, config: Config) -> Result<Self, NoMemory>
-        ensures { IfOk result (λ m. m ≡ new_machine test.now config.depth) }
+        ensures { IfOk result (λ m. m ≡ new_machine (P.table protocol) config test.now) }
     {
         let parts = begin(alloc, protocol, test, config)?;
         Ok(Machine {
@@ -63,7 +68,8 @@ impl<'a, P: Protocol> Machine<'a, P> {
         })
     }
 
-    /// Makes a choice, and answers what it did. A stall changes nothing.
+    /// Makes a choice, counts what it had to do with the caches, and answers what it did. A stall
+    /// changes nothing.
     ///
     /// Fails only for want of memory, which a choice takes only where it commits; then the machine
     /// has failed, and each later call fails as well.
@@ -104,6 +110,7 @@ impl<'a, P: Protocol> Machine<'a, P> {
         ensures order { IfOk result (λ f. f.execution.order.items ≡ self.entry.commits) }
         ensures registers { IfOk result (λ f. f.registers.items ≡ map (λ c. c.registers) self.entry.state.cores) }
         ensures memory { IfOk result (λ f. f.memory.items ≡ self.entry.state.memory) }
+        ensures counts { IfOk result (λ f. f.counts.items ≡ self.entry.statistics.counts) }
 
         // As many registers as the test has cores, and as many words as it has locations.
         ensures cores { IfOk result (λ f. length f.registers.items ≡ length self.entry.test.programs) }
@@ -118,6 +125,7 @@ impl<'a, P: Protocol> Machine<'a, P> {
             execution,
             registers,
             memory,
+            counts: parts.counts,
         })
     }
 }

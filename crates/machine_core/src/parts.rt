@@ -1,15 +1,19 @@
-ghost use Rattle.std.specs.Prelude.{◌≡◌, ◌≢◌, ℕ, ◌<◌, ◌≤◌, [], IsOk, IfOk, OnErr, All, length, map, slice_get, take};
+ghost use Rattle.std.specs.Prelude.{◌≡◌, ◌≢◌, ℕ, ◌<◌, ◌≤◌, [], IsOk, IfOk, OnOk, OnErr, All, length, map, replicate, slice_get, take};
 ghost use Rattle.tso_model.specs.Limits.{least_depth, most_depth};
 ghost use Rattle.tso_model.specs.FlatMachine.{chosen, started, start};
 ghost use Rattle.tso_model.specs.Runs.{all_done};
 ghost use Rattle.snoop_bus.specs.Bus.{words_of};
 ghost use Rattle.snoop_bus.specs.Accesses.{memory_words_of};
 ghost use Rattle.machine_core.specs.Cores.{core_states};
-ghost use Rattle.machine_core.specs.Kept.{IsCore, FitsTest, state_in};
-ghost use Rattle.machine_core.specs.Performed.{Performs, effect_in};
+ghost use Rattle.machine_core.specs.Statistics.{no_counts, no_statistics, statistics_after};
+ghost use Rattle.machine_core.specs.Kept.{IsCore, FitsTest, IsTallied, state_in, statistics_in};
+ghost use Rattle.machine_core.specs.Performed.{HasUsed, Performs, effect_in, use_in};
 
+use crate::cache_use::CacheUse;
 use crate::config::Config;
+use crate::counts::Counts;
 use crate::processor::{Processor, drain as drain_core, step as step_core};
+use crate::tallying::tally;
 use order_builder::Commits;
 use protocol_tables::Protocol;
 use snoop_bus::SnoopBus;
@@ -24,6 +28,7 @@ pub struct Parts<P: Protocol> {
     pub processors: Vec<Processor>,
     pub bus: SnoopBus<P>,
     pub commits: Commits,
+    pub counts: Vec<Counts>,
 }
 
 /// The parts of a machine at the beginning of the test.
@@ -37,6 +42,8 @@ pub fn begin<P: Protocol>(
     ensures state { IfOk result (λ parts. state_in parts ≡ start test.now) }
     ensures commits { IfOk result (λ parts. parts.commits.entries ≡ []) }
     ensures config { IfOk result (λ parts. parts.config ≡ config) }
+    ensures statistics { IfOk result (λ parts. statistics_in parts ≡ no_statistics (P.table protocol) config.shape test.now) }
+    ensures tallied { IfOk result (λ parts. IsTallied test.now (state_in parts) parts.counts.items) }
 {
     let processors = processors_of(alloc, test, config.depth())?;
     let bus = SnoopBus::new(
@@ -46,12 +53,25 @@ pub fn begin<P: Protocol>(
         config.shape(),
         test.initial_words(),
     )?;
+    let counts = nothing_counted(alloc, test)?;
     Ok(Parts {
         config,
         processors,
         bus,
         commits: Commits::new(alloc),
+        counts,
     })
+}
+
+/// Nothing counted for each core of the test.
+fn nothing_counted(alloc: Global, test: &Test) -> Result<Vec<Counts>, NoMemory>
+    ensures { IfOk result (λ counts. counts.items ≡ replicate (length test.now.programs) no_counts) }
+{
+    let mut counts = Vec::new(alloc);
+    for _ in 0..test.cores() {
+        counts.push(Counts::NONE)?;
+    }
+    Ok(counts)
 }
 
 /// Each core of the test before its first instruction, with its first registers and an empty buffer
@@ -75,7 +95,7 @@ fn processors_of(alloc: Global, test: &Test, depth: u8) -> Result<Vec<Processor>
     Ok(processors)
 }
 
-/// Makes a choice.
+/// Makes a choice, and counts what it had to do with the caches.
 ///
 /// Fails only for want of memory, and then changes nothing.
 pub fn perform<P: Protocol>(
@@ -85,12 +105,49 @@ pub fn perform<P: Protocol>(
 ) -> Result<Outcome, NoMemory>
     requires core { chosen choice < length test.now.programs }
     requires fits { FitsTest test.now parts.old }
+    requires tallied { IsTallied test.now (state_in parts.old) parts.old.counts.items }
 
     ensures ok { IfOk result (Performs test.now parts.old parts.new choice) }
+    ensures statistics { OnOk result (statistics_in parts.new ≡ statistics_after test.now parts.old.config.depth (state_in parts.old) choice (statistics_in parts.old)) }
     ensures succeeds { (effect_in test.now parts.old choice).outcome ≢ Outcome.Committed → IsOk result }
     ensures err_state { OnErr result (state_in parts.new ≡ state_in parts.old) }
     ensures err_commits { OnErr result (parts.new.commits.entries ≡ parts.old.commits.entries) }
+    ensures err_statistics { OnErr result (statistics_in parts.new ≡ statistics_in parts.old) }
     ensures config { parts.new.config ≡ parts.old.config }
+    ensures fits { FitsTest test.now parts.new }
+    ensures tallied { IsTallied test.now (state_in parts.new) parts.new.counts.items }
+{
+    let (outcome, cache_use) = act(parts, test, choice)?;
+    tally(&mut parts.counts, core_of(choice), cache_use);
+    Ok(outcome)
+}
+
+/// The core that a choice names.
+fn core_of(choice: Choice) -> Core
+    ensures { result.0 ≡ chosen choice }
+{
+    match choice {
+        Choice::Step(core) | Choice::Drain(core) => core,
+    }
+}
+
+/// Makes a choice, and answers its outcome and what it had to do with the caches.
+fn act<P: Protocol>(
+    parts: &mut Parts<P>,
+    test: &Test,
+    choice: Choice,
+) -> Result<(Outcome, CacheUse), NoMemory>
+    requires core { chosen choice < length test.now.programs }
+    requires fits { FitsTest test.now parts.old }
+
+    ensures ok { IfOk result (λ r. Performs test.now parts.old parts.new choice r.0) }
+    ensures caches { IfOk result (λ r. HasUsed (use_in test.now parts.old choice) parts.new.bus r.1) }
+    ensures succeeds { (effect_in test.now parts.old choice).outcome ≢ Outcome.Committed → IsOk result }
+    ensures err_state { OnErr result (state_in parts.new ≡ state_in parts.old) }
+    ensures err_commits { OnErr result (parts.new.commits.entries ≡ parts.old.commits.entries) }
+    ensures err_bus { OnErr result (parts.new.bus ≡ parts.old.bus) }
+    ensures config { parts.new.config ≡ parts.old.config }
+    ensures counts { parts.new.counts.items ≡ parts.old.counts.items }
     ensures fits { FitsTest test.now parts.new }
 {
     match choice {
@@ -100,21 +157,28 @@ pub fn perform<P: Protocol>(
 }
 
 /// A step of a core at its next instruction, if there is one.
-fn step<P: Protocol>(parts: &mut Parts<P>, test: &Test, core: Core) -> Result<Outcome, NoMemory>
+fn step<P: Protocol>(
+    parts: &mut Parts<P>,
+    test: &Test,
+    core: Core,
+) -> Result<(Outcome, CacheUse), NoMemory>
     requires core { core.0 < length test.now.programs }
     requires fits { FitsTest test.now parts.old }
 
-    ensures ok { IfOk result (Performs test.now parts.old parts.new (Choice.Step core)) }
+    ensures ok { IfOk result (λ r. Performs test.now parts.old parts.new (Choice.Step core) r.0) }
+    ensures caches { IfOk result (λ r. HasUsed (use_in test.now parts.old (Choice.Step core)) parts.new.bus r.1) }
     ensures succeeds { (effect_in test.now parts.old (Choice.Step core)).outcome ≢ Outcome.Committed → IsOk result }
     ensures err_state { OnErr result (state_in parts.new ≡ state_in parts.old) }
     ensures err_commits { OnErr result (parts.new.commits.entries ≡ parts.old.commits.entries) }
+    ensures err_bus { OnErr result (parts.new.bus ≡ parts.old.bus) }
     ensures config { parts.new.config ≡ parts.old.config }
+    ensures counts { parts.new.counts.items ≡ parts.old.counts.items }
     ensures fits { FitsTest test.now parts.new }
 {
     let program = test.program(core);
     let processor = &mut parts.processors[core.0 as usize];
     match instruction_at(program, processor.place) {
-        None => Ok(Outcome::Stalled(Stall::Done)),
+        None => Ok((Outcome::Stalled(Stall::Done), CacheUse::Unused)),
         Some(instr) => step_core(processor, core, instr, &mut parts.bus, &mut parts.commits),
     }
 }
@@ -127,15 +191,22 @@ fn instruction_at(program: &[Instr], place: u8) -> Option<Instr>
 }
 
 /// A drain of a core: its oldest buffered store goes to memory, if there is one.
-fn drain<P: Protocol>(parts: &mut Parts<P>, test: &Test, core: Core) -> Result<Outcome, NoMemory>
+fn drain<P: Protocol>(
+    parts: &mut Parts<P>,
+    test: &Test,
+    core: Core,
+) -> Result<(Outcome, CacheUse), NoMemory>
     requires core { core.0 < length test.now.programs }
     requires fits { FitsTest test.now parts.old }
 
-    ensures ok { IfOk result (Performs test.now parts.old parts.new (Choice.Drain core)) }
+    ensures ok { IfOk result (λ r. Performs test.now parts.old parts.new (Choice.Drain core) r.0) }
+    ensures caches { IfOk result (λ r. HasUsed (use_in test.now parts.old (Choice.Drain core)) parts.new.bus r.1) }
     ensures succeeds { (effect_in test.now parts.old (Choice.Drain core)).outcome ≢ Outcome.Committed → IsOk result }
     ensures err_state { OnErr result (state_in parts.new ≡ state_in parts.old) }
     ensures err_commits { OnErr result (parts.new.commits.entries ≡ parts.old.commits.entries) }
+    ensures err_bus { OnErr result (parts.new.bus ≡ parts.old.bus) }
     ensures config { parts.new.config ≡ parts.old.config }
+    ensures counts { parts.new.counts.items ≡ parts.old.counts.items }
     ensures fits { FitsTest test.now parts.new }
 {
     let processor = &mut parts.processors[core.0 as usize];

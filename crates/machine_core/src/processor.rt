@@ -6,9 +6,12 @@ ghost use Rattle.tso_model.specs.Execution.{last_value};
 ghost use Rattle.tso_model.specs.Thread.{entry, value_in, with_value};
 ghost use Rattle.tso_model.specs.FlatMachine.{memory_after};
 ghost use Rattle.tso_model.specs.declared.execution.Kind.TheVariants.{LR, LW};
-ghost use Rattle.snoop_bus.specs.Bus.{words_of, cores_of};
-ghost use Rattle.machine_core.specs.Cores.{store_of, core_state, advanced, step_by, drain_by};
+ghost use Rattle.snoop_bus.specs.Bus.{Bus, words_of, cores_of};
+ghost use Rattle.machine_core.specs.Cores.{store_of, core_state, pending_in, advanced, step_by, drain_by};
+ghost use Rattle.machine_core.specs.Performed.{HasUsed};
+ghost use Rattle.machine_core.specs.Statistics.{caches_of, load_behind, use_of};
 
+use crate::cache_use::CacheUse;
 use order_builder::Commits;
 use protocol_tables::Protocol;
 use snoop_bus::SnoopBus;
@@ -52,17 +55,18 @@ pub fn step<P: Protocol>(
     instr: Instr,
     bus: &mut SnoopBus<P>,
     commits: &mut Commits,
-) -> Result<Outcome, NoMemory>
+) -> Result<(Outcome, CacheUse), NoMemory>
     requires place { processor.old.place < most_instructions }
     requires depth { 0 < processor.old.stores.depth }
     requires core { core.0 < cores_of bus.old }
     requires known { KnownLocation (length (words_of bus.old)) instr }
     requires stores { All (λ s. s.loc.0 < length (words_of bus.old)) processor.old.stores.items }
 
-    ensures outcome { IfOk result (λ o. o ≡ (step_by processor.old core.0 (words_of bus.old) instr).outcome) }
+    ensures outcome { IfOk result (λ r. r.0 ≡ (step_by processor.old core.0 (words_of bus.old) instr).outcome) }
     ensures after { OnOk result (core_state core.0 processor.new ≡ (step_by processor.old core.0 (words_of bus.old) instr).after) }
     ensures words { OnOk result (words_of bus.new ≡ memory_after (step_by processor.old core.0 (words_of bus.old) instr).commits (words_of bus.old)) }
     ensures commits { OnOk result (commits.new.entries ≡ commits.old.entries ++ (step_by processor.old core.0 (words_of bus.old) instr).commits) }
+    ensures caches { IfOk result (λ r. HasUsed (use_of (caches_of bus.old) (pending_in core.0 processor.old) (step_by processor.old core.0 (words_of bus.old) instr).commits) bus.new r.1) }
     ensures succeeds { (step_by processor.old core.0 (words_of bus.old) instr).outcome ≢ Outcome.Committed → IsOk result }
 
     ensures err_core { OnErr result (processor.new ≡ processor.old) }
@@ -74,16 +78,16 @@ pub fn step<P: Protocol>(
     ensures stores { All (λ s. s.loc.0 < length (words_of bus.old)) processor.new.stores.items }
 {
     match instr {
-        Instr::StoreImm(loc, value) => Ok(buffer(processor, loc, value)),
+        Instr::StoreImm(loc, value) => Ok((buffer(processor, loc, value), CacheUse::Unused)),
         Instr::StoreReg(loc, reg) => {
             let value = processor.register(reg);
-            Ok(buffer(processor, loc, value))
+            Ok((buffer(processor, loc, value), CacheUse::Unused))
         }
         Instr::Load(reg, loc) => load(processor, core, reg, loc, bus, commits),
-        Instr::SetImm(reg, value) => Ok(set(processor, reg, value)),
+        Instr::SetImm(reg, value) => Ok((set(processor, reg, value), CacheUse::Unused)),
         Instr::SetReg(reg, other) => {
             let value = processor.register(other);
-            Ok(set(processor, reg, value))
+            Ok((set(processor, reg, value), CacheUse::Unused))
         }
         Instr::Fence => fence(processor, core, commits),
         Instr::Xchg(loc, reg) => exchange(processor, core, reg, loc, bus, commits),
@@ -122,15 +126,16 @@ fn load<P: Protocol>(
     loc: Loc,
     bus: &mut SnoopBus<P>,
     commits: &mut Commits,
-) -> Result<Outcome, NoMemory>
+) -> Result<(Outcome, CacheUse), NoMemory>
     requires place { processor.old.place < most_instructions }
     requires core { core.0 < cores_of bus.old }
     requires known { loc.0 < length (words_of bus.old) }
 
-    ensures outcome { IfOk result (λ o. o ≡ Outcome.Committed) }
+    ensures outcome { IfOk result (λ r. r.0 ≡ Outcome.Committed) }
     ensures after { OnOk result (core_state core.0 processor.new ≡ (step_by processor.old core.0 (words_of bus.old) (Instr.Load reg loc)).after) }
     ensures words { words_of bus.new ≡ words_of bus.old }
     ensures commits { OnOk result (commits.new.entries ≡ commits.old.entries ++ (step_by processor.old core.0 (words_of bus.old) (Instr.Load reg loc)).commits) }
+    ensures caches { IfOk result (λ r. HasUsed (use_of (caches_of bus.old) (pending_in core.0 processor.old) (step_by processor.old core.0 (words_of bus.old) (Instr.Load reg loc)).commits) bus.new r.1) }
 
     ensures err_core { OnErr result (processor.new ≡ processor.old) }
     ensures err_bus { OnErr result (bus.new ≡ bus.old) }
@@ -139,7 +144,7 @@ fn load<P: Protocol>(
     ensures stores { processor.new.stores ≡ processor.old.stores }
 {
     commits.make_room(1)?;
-    let value = see(&processor.stores, core, loc, bus)?;
+    let (value, cache_use) = see(&processor.stores, core, loc, bus)?;
     commits.note(Entry {
         core,
         place: processor.place,
@@ -148,7 +153,7 @@ fn load<P: Protocol>(
         value,
     })?;
     advance(processor, reg, value);
-    Ok(Outcome::Committed)
+    Ok((Outcome::Committed, cache_use))
 }
 
 /// The value of the newest store to the location, or memory's word where none is buffered.
@@ -157,20 +162,21 @@ fn see<P: Protocol>(
     core: Core,
     loc: Loc,
     bus: &mut SnoopBus<P>,
-) -> Result<u32, NoMemory>
+) -> Result<(u32, CacheUse), NoMemory>
     requires core { core.0 < cores_of bus.old }
     requires known { loc.0 < length (words_of bus.old) }
 
-    ensures value { IfOk result (λ v. v ≡ last_value (filter (writes_to loc.0) (map (store_of core.0) stores.now.items)) (slice_index (words_of bus.old) loc.0)) }
+    ensures value { IfOk result (λ r. r.0 ≡ last_value (filter (writes_to loc.0) (map (store_of core.0) stores.now.items)) (slice_index (words_of bus.old) loc.0)) }
     ensures words { words_of bus.new ≡ words_of bus.old }
+    ensures caches { IfOk result (λ r. HasUsed (load_behind (caches_of bus.old) (map (store_of core.0) stores.now.items) core.0 loc.0) bus.new r.1) }
     ensures cores { cores_of bus.new ≡ cores_of bus.old }
     ensures err { OnErr result (bus.new ≡ bus.old) }
 {
     match stores.newest_for(loc) {
-        Some(value) => Ok(value),
+        Some(value) => Ok((value, CacheUse::Forwarded)),
         None => {
-            let (word, _) = bus.load(core, loc)?;
-            Ok(word)
+            let (word, access) = bus.load(core, loc)?;
+            Ok((word, CacheUse::Through(access)))
         }
     }
 }
@@ -186,11 +192,16 @@ fn set(processor: &mut Processor, reg: Reg, value: u32) -> Outcome
 }
 
 /// A fence waits until nothing is buffered.
-fn fence(processor: &mut Processor, core: Core, commits: &mut Commits) -> Result<Outcome, NoMemory>
+fn fence(
+    processor: &mut Processor,
+    core: Core,
+    commits: &mut Commits,
+) -> Result<(Outcome, CacheUse), NoMemory>
     requires { processor.old.place < most_instructions }
-    ensures outcome { (memory : List ℕ) → IfOk result (λ o. o ≡ (step_by processor.old core.0 memory Instr.Fence).outcome) }
+    ensures outcome { (memory : List ℕ) → IfOk result (λ r. r.0 ≡ (step_by processor.old core.0 memory Instr.Fence).outcome) }
     ensures after { (memory : List ℕ) → OnOk result (core_state core.0 processor.new ≡ (step_by processor.old core.0 memory Instr.Fence).after) }
     ensures commits { (memory : List ℕ) → OnOk result (commits.new.entries ≡ commits.old.entries ++ (step_by processor.old core.0 memory Instr.Fence).commits) }
+    ensures caches { (bus : Bus) → IfOk result (λ r. HasUsed (use_of (caches_of bus) (pending_in core.0 processor.old) (step_by processor.old core.0 (words_of bus) Instr.Fence).commits) bus r.1) }
     ensures memory { (memory : List ℕ) → OnOk result (memory ≡ memory_after (step_by processor.old core.0 memory Instr.Fence).commits memory) }
     ensures succeeds { (memory : List ℕ) → (step_by processor.old core.0 memory Instr.Fence).outcome ≢ Outcome.Committed → IsOk result }
     ensures err_core { OnErr result (processor.new ≡ processor.old) }
@@ -198,7 +209,7 @@ fn fence(processor: &mut Processor, core: Core, commits: &mut Commits) -> Result
     ensures stores { processor.new.stores ≡ processor.old.stores }
 {
     if !processor.stores.is_empty() {
-        return Ok(Outcome::Stalled(Stall::Fence));
+        return Ok((Outcome::Stalled(Stall::Fence), CacheUse::Unused));
     }
     commits.note(Entry {
         core,
@@ -208,7 +219,7 @@ fn fence(processor: &mut Processor, core: Core, commits: &mut Commits) -> Result
         value: 0,
     })?;
     processor.place += 1;
-    Ok(Outcome::Committed)
+    Ok((Outcome::Committed, CacheUse::Unused))
 }
 
 /// An exchange waits until nothing is buffered. Then it reads the word into the register and writes
@@ -220,15 +231,16 @@ fn exchange<P: Protocol>(
     loc: Loc,
     bus: &mut SnoopBus<P>,
     commits: &mut Commits,
-) -> Result<Outcome, NoMemory>
+) -> Result<(Outcome, CacheUse), NoMemory>
     requires place { processor.old.place < most_instructions }
     requires core { core.0 < cores_of bus.old }
     requires known { loc.0 < length (words_of bus.old) }
 
-    ensures outcome { IfOk result (λ o. o ≡ (step_by processor.old core.0 (words_of bus.old) (Instr.Xchg loc reg)).outcome) }
+    ensures outcome { IfOk result (λ r. r.0 ≡ (step_by processor.old core.0 (words_of bus.old) (Instr.Xchg loc reg)).outcome) }
     ensures after { OnOk result (core_state core.0 processor.new ≡ (step_by processor.old core.0 (words_of bus.old) (Instr.Xchg loc reg)).after) }
     ensures words { OnOk result (words_of bus.new ≡ memory_after (step_by processor.old core.0 (words_of bus.old) (Instr.Xchg loc reg)).commits (words_of bus.old)) }
     ensures commits { OnOk result (commits.new.entries ≡ commits.old.entries ++ (step_by processor.old core.0 (words_of bus.old) (Instr.Xchg loc reg)).commits) }
+    ensures caches { IfOk result (λ r. HasUsed (use_of (caches_of bus.old) (pending_in core.0 processor.old) (step_by processor.old core.0 (words_of bus.old) (Instr.Xchg loc reg)).commits) bus.new r.1) }
     ensures succeeds { (step_by processor.old core.0 (words_of bus.old) (Instr.Xchg loc reg)).outcome ≢ Outcome.Committed → IsOk result }
 
     ensures err_core { OnErr result (processor.new ≡ processor.old) }
@@ -239,14 +251,14 @@ fn exchange<P: Protocol>(
     ensures stores { processor.new.stores ≡ processor.old.stores }
 {
     if !processor.stores.is_empty() {
-        return Ok(Outcome::Stalled(Stall::Lock));
+        return Ok((Outcome::Stalled(Stall::Lock), CacheUse::Unused));
     }
     let value = processor.register(reg);
     commits.make_room(2)?;
-    let (word, _) = bus.swap(core, loc, value)?;
+    let (word, access) = bus.swap(core, loc, value)?;
     note_locked(commits, core, processor.place, loc, word, value)?;
     advance(processor, reg, word);
-    Ok(Outcome::Committed)
+    Ok((Outcome::Committed, CacheUse::Through(access)))
 }
 
 /// An addition waits until nothing is buffered. Then it reads the word into the register and writes
@@ -258,15 +270,16 @@ fn add<P: Protocol>(
     loc: Loc,
     bus: &mut SnoopBus<P>,
     commits: &mut Commits,
-) -> Result<Outcome, NoMemory>
+) -> Result<(Outcome, CacheUse), NoMemory>
     requires place { processor.old.place < most_instructions }
     requires core { core.0 < cores_of bus.old }
     requires known { loc.0 < length (words_of bus.old) }
 
-    ensures outcome { IfOk result (λ o. o ≡ (step_by processor.old core.0 (words_of bus.old) (Instr.Xadd loc reg)).outcome) }
+    ensures outcome { IfOk result (λ r. r.0 ≡ (step_by processor.old core.0 (words_of bus.old) (Instr.Xadd loc reg)).outcome) }
     ensures after { OnOk result (core_state core.0 processor.new ≡ (step_by processor.old core.0 (words_of bus.old) (Instr.Xadd loc reg)).after) }
     ensures words { OnOk result (words_of bus.new ≡ memory_after (step_by processor.old core.0 (words_of bus.old) (Instr.Xadd loc reg)).commits (words_of bus.old)) }
     ensures commits { OnOk result (commits.new.entries ≡ commits.old.entries ++ (step_by processor.old core.0 (words_of bus.old) (Instr.Xadd loc reg)).commits) }
+    ensures caches { IfOk result (λ r. HasUsed (use_of (caches_of bus.old) (pending_in core.0 processor.old) (step_by processor.old core.0 (words_of bus.old) (Instr.Xadd loc reg)).commits) bus.new r.1) }
     ensures succeeds { (step_by processor.old core.0 (words_of bus.old) (Instr.Xadd loc reg)).outcome ≢ Outcome.Committed → IsOk result }
 
     ensures err_core { OnErr result (processor.new ≡ processor.old) }
@@ -277,11 +290,11 @@ fn add<P: Protocol>(
     ensures stores { processor.new.stores ≡ processor.old.stores }
 {
     if !processor.stores.is_empty() {
-        return Ok(Outcome::Stalled(Stall::Lock));
+        return Ok((Outcome::Stalled(Stall::Lock), CacheUse::Unused));
     }
     let value = processor.register(reg);
     commits.make_room(2)?;
-    let (word, _) = bus.add(core, loc, value)?;
+    let (word, access) = bus.add(core, loc, value)?;
     note_locked(
         commits,
         core,
@@ -291,7 +304,7 @@ fn add<P: Protocol>(
         word.wrapping_add(value),
     )?;
     advance(processor, reg, word);
-    Ok(Outcome::Committed)
+    Ok((Outcome::Committed, CacheUse::Through(access)))
 }
 
 /// Notes both parts of a locked instruction that read this word and wrote this value.
@@ -341,14 +354,15 @@ pub fn drain<P: Protocol>(
     core: Core,
     bus: &mut SnoopBus<P>,
     commits: &mut Commits,
-) -> Result<Outcome, NoMemory>
+) -> Result<(Outcome, CacheUse), NoMemory>
     requires core { core.0 < cores_of bus.old }
     requires stores { All (λ s. s.loc.0 < length (words_of bus.old)) processor.old.stores.items }
 
-    ensures outcome { IfOk result (λ o. o ≡ (drain_by processor.old core.0).outcome) }
+    ensures outcome { IfOk result (λ r. r.0 ≡ (drain_by processor.old core.0).outcome) }
     ensures after { OnOk result (core_state core.0 processor.new ≡ (drain_by processor.old core.0).after) }
     ensures words { OnOk result (words_of bus.new ≡ memory_after (drain_by processor.old core.0).commits (words_of bus.old)) }
     ensures commits { OnOk result (commits.new.entries ≡ commits.old.entries ++ (drain_by processor.old core.0).commits) }
+    ensures caches { IfOk result (λ r. HasUsed (use_of (caches_of bus.old) (pending_in core.0 processor.old) (drain_by processor.old core.0).commits) bus.new r.1) }
     ensures succeeds { (drain_by processor.old core.0).outcome ≢ Outcome.Committed → IsOk result }
 
     ensures err_core { OnErr result (processor.new ≡ processor.old) }
@@ -360,11 +374,11 @@ pub fn drain<P: Protocol>(
     ensures stores { All (λ s. s.loc.0 < length (words_of bus.old)) processor.new.stores.items }
 {
     match processor.stores.oldest() {
-        None => Ok(Outcome::Stalled(Stall::Empty)),
+        None => Ok((Outcome::Stalled(Stall::Empty), CacheUse::Unused)),
         Some(store) => {
             let Pending { place, loc, value } = store;
             commits.make_room(1)?;
-            let _ = bus.store(core, loc, value)?;
+            let access = bus.store(core, loc, value)?;
             commits.note(Entry {
                 core,
                 place,
@@ -373,7 +387,7 @@ pub fn drain<P: Protocol>(
                 value,
             })?;
             processor.stores.take_oldest();
-            Ok(Outcome::Committed)
+            Ok((Outcome::Committed, CacheUse::Through(access)))
         }
     }
 }

@@ -12,7 +12,7 @@ CoresExist-append : (cores : ℕ) (xs ys : List Choice) → CoresExist cores xs 
 CoresExist-append cores [] ys h k = k
 CoresExist-append cores (x ∷ xs) ys h k = (h.0, CoresExist-append cores xs ys h.1 k)
 
-same-core : (choice : Choice) → core_of choice ≡ chosen choice
+pub same-core : (choice : Choice) → core_of choice ≡ chosen choice
 same-core (Step core) = refl
 same-core (Drain core) = refl
 

@@ -9,3 +9,4 @@ pub mod Cores
 mod Counted
 mod AlongLemmas
 mod Fitting
+mod PrintedWords

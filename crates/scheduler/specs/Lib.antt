@@ -5,3 +5,4 @@ pub mod Grammar
 pub mod Refusals
 pub mod Reading
 pub mod Passed
+pub mod Printed

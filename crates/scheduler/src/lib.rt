@@ -7,11 +7,13 @@ mod depth;
 pub mod fault;
 mod item;
 mod numbers;
+mod printing;
 mod reaching;
 mod seeds;
 mod words;
 
 pub use choices::{MAX_CHOICES, read_choices, spelled_cores_exist, texts_are_decided};
 pub use fault::{ChoiceFault, WitnessFault};
+pub use printing::{choices_text, printed_choices_are_spelled};
 pub use reaching::witness;
 pub use seeds::seeded_choices;

@@ -4,7 +4,8 @@
 //! `tso_cli::run_command`; here stand the streams, the words of the line and the exit status.
 #![tactic(auto)]
 
-ghost use Rattle.std.specs.Prelude.{◌≡◌};
+ghost use Rattle.std.specs.Prelude.{◌≡◌, IfOk};
+ghost use Rattle.tso_cli.specs.Limits.{HasDepth};
 
 use std::alloc::AllocError;
 use std::io::Write;
@@ -27,7 +28,9 @@ fn main(rt: HostRuntime) -> ExitCode {
 }
 
 /// The settings that the process's words give, or the exit status of a line that is refused.
-fn settings_of_line(rt: &HostRuntime) -> Result<Settings, u8> {
+fn settings_of_line(rt: &HostRuntime) -> Result<Settings, u8>
+    ensures { IfOk result HasDepth }
+{
     match words_of_line(rt) {
         Ok(settings) => Ok(settings),
         Err(LineError::Refused(LineFault::Words(error))) => {
@@ -63,7 +66,9 @@ impl From<io::Error> for LineError {
     }
 }
 
-fn words_of_line(rt: &HostRuntime) -> Result<Settings, LineError> {
+fn words_of_line(rt: &HostRuntime) -> Result<Settings, LineError>
+    ensures { IfOk result HasDepth }
+{
     let mut lines = Vec::new(rt.alloc());
     for word in env::args(rt)? {
         lines.push(word).map_err(AllocError::from)?;
@@ -76,7 +81,9 @@ fn words_of_line(rt: &HostRuntime) -> Result<Settings, LineError> {
 }
 
 /// Runs the command over the standard streams, and answers the exit status.
-fn run(rt: &HostRuntime, settings: &Settings) -> u8 {
+fn run(rt: &HostRuntime, settings: &Settings) -> u8
+    requires { HasDepth settings.now }
+{
     let mut reader = Counted::new(rt.reader());
     let mut writer = Counted::new(io::writer(rt));
     match run_command(rt.alloc(), &mut reader, &mut writer, settings) {

@@ -1,5 +1,5 @@
 -- The headline holds of each answer.
-use Rattle.std.proofs.Common.{◌≡◌, ◌≤◌, ◌<◌, ◌^◌, ℕ, List, length, true, Option, Some, None, IfSome, subst, refl, arith}
+use Rattle.std.proofs.Common.{◌≡◌, ◌<◌, ◌^◌, ℕ, List, length, true, Option, Some, None, IfSome, subst, refl, arith}
 use Rattle.tso_model.specs.Litmus.{Litmus, IsTest}
 use Rattle.tso_model.specs.Execution.{IsWhole, StandsIn}
 use Rattle.tso_model.specs.Runs.{run}
@@ -27,6 +27,7 @@ use Rattle.tso_cli.specs.declared.settings.Settings.TheVariants as settings
 use Rattle.tso_cli.specs.declared.answer.Status.{Status}
 use Rattle.tso_cli.proofs.CheckLemmas.{check-means, run-spells}
 use Rattle.tso_cli.proofs.OneAnswer.{Texts, short_rest}
+use Rattle.tso_cli.proofs.WitnessLemmas.{Reaching, witness-means}
 
 prints : (t : Litmus) (kind : ProtocolKind) (c : Configuration) (choices : List Choice) (out : List ℕ) → IsExecution t (run t c.depth choices)
     → out ≡ report t kind c (shown_of t (run t c.depth choices)) → SpellsOrder t out (run t c.depth choices).commits → PrintsExecution t kind c choices out
@@ -73,40 +74,43 @@ report-spells t kind c choices out laws test within is ended =
     run-spells t kind c (run t c.depth choices) (shown_of t (run t c.depth choices)) out test depth within.2 laws.report_spells laws.fits
     (laws.executions t c.depth choices test ended) refl (rw ended at is) (laws.words t c.depth choices test).values
 
-answer-means : (task : Task) (t : Litmus) (text out : List ℕ) (status : Status) → Texts → Runs → IsTaskWithinLimits task → IsTest t → length text < 2 ^ 64
+answer-means : (task : Task) (t : Litmus) (text out : List ℕ) (status : Status) → Texts → Runs → Reaching → IsTaskWithinLimits task → IsTest t → length text < 2 ^ 64
     → IsAnswerTo task t text out status → HeadlineOf task t text out
-answer-means (tasks.Run kind c) t text out status texts runs within test short is =
+answer-means (tasks.Run kind c) t text out status texts runs reaching within test short is =
     run-means t kind c text out status (texts.decided (length t.programs) text test.some_core) (λ choices ended. runs.executions t c.depth choices test ended)
     (λ choices out. report-spells t kind c choices out runs test within) is
-answer-means tasks.Check t text out status texts runs within test short is =
+answer-means tasks.Check t text out status texts runs reaching within test short is =
     check-means t text out status texts.real texts.one texts.once texts.never_both test short is
+answer-means (tasks.Witness depth) t text out status texts runs reaching within test short is =
+    witness-means t depth text out status texts reaching test within short is
 
-pub input-means : (task : Task) (input out : List ℕ) (status : Status) → Texts → Runs → IsTaskWithinLimits task
+pub input-means : (task : Task) (input out : List ℕ) (status : Status) → Texts → Runs → Reaching → IsTaskWithinLimits task
     → IsInputAnswer task input out status → InputHeadline task input out
-input-means task input _ _ texts runs within (too_large large) = record { within = λ small. absurd (omega arith); above = λ _. refl }
-input-means task input _ _ texts runs within (refused fault small is) = record {
+input-means task input _ _ texts runs reaching within (too_large large) = record { within = λ small. absurd (omega arith); above = λ _. refl }
+input-means task input _ _ texts runs reaching within (refused fault small is) = record {
   within = λ _. record {
     every_test = λ t spelled. absurd (texts.refused_or_not _ t fault spelled is);
     every_other = λ none. (fault, is, refl);
   };
   above = λ large. absurd (omega arith);
 }
-input-means task input _ _ texts runs within (answered t out status small spelled is) = record {
+input-means task input _ _ texts runs reaching within (answered t out status small spelled is) = record {
   within = λ _. record {
     every_test = λ other too. subst (λ (t : Litmus). HeadlineOf task t (parts_of input).rest out) (texts.one_test _ t other spelled too)
-        (answer-means task t (parts_of input).rest out status texts runs within (texts.test _ t spelled) (short_rest input small) is);
+        (answer-means task t (parts_of input).rest out status texts runs reaching within (texts.test _ t spelled) (short_rest input small) is);
     every_other = λ none. absurd (none t spelled);
   };
   above = λ large. absurd (omega arith);
 }
 
-known-means : (task : Task) (known : Option (List ℕ)) (out : List ℕ) (status : Status) → Texts → Runs → IsTaskWithinLimits task
+known-means : (task : Task) (known : Option (List ℕ)) (out : List ℕ) (status : Status) → Texts → Runs → Reaching → IsTaskWithinLimits task
     → IfSome known (λ input. IsInputAnswer task input out status) → IfSome known (λ input. InputHeadline task input out)
-known-means task None out status texts runs within is = tt
-known-means task (Some input) out status texts runs within is = input-means task input out status texts runs within is
+known-means task None out status texts runs reaching within is = tt
+known-means task (Some input) out status texts runs reaching within is = input-means task input out status texts runs reaching within is
 
-pub command-means : (s : Settings) (known : Option (List ℕ)) (out : List ℕ) (status : Status) → Texts → Runs → IsSettingsWithinLimits s
+pub command-means : (s : Settings) (known : Option (List ℕ)) (out : List ℕ) (status : Status) → Texts → Runs → Reaching → IsSettingsWithinLimits s
     → IsAnswer s known out status → Headline s known out
-command-means (settings.Run kind c) known out status texts runs within is = known-means (tasks.Run kind c) known out status texts runs within is
-command-means settings.Check known out status texts runs within is = known-means tasks.Check known out status texts runs within is
-command-means (settings.Tables kind) known out status texts runs within is = is.text
+command-means (settings.Run kind c) known out status texts runs reaching within is = known-means (tasks.Run kind c) known out status texts runs reaching within is
+command-means settings.Check known out status texts runs reaching within is = known-means tasks.Check known out status texts runs reaching within is
+command-means (settings.Witness depth) known out status texts runs reaching within is = known-means (tasks.Witness depth) known out status texts runs reaching within is
+command-means (settings.Tables kind) known out status texts runs reaching within is = is.text

@@ -3,9 +3,11 @@ pub mod RunLemmas
 pub mod AnswerLemmas
 pub mod PartLemmas
 pub mod OneAnswer
+pub mod WitnessLemmas
 pub mod HeadlineLemmas
 pub mod CheckLemmas
 pub mod CommandLemmas
 pub mod SimulationLemmas
 pub mod Joined
 pub mod Rechecked
+pub mod Replayed

@@ -3,18 +3,18 @@ use Rattle.std.proofs.Common.{◌≡◌, ◌≤◌, ◌<◌, ◌^◌, ℕ, List,
 use Rattle.tso_model.specs.Litmus.{Litmus, IsTest}
 use Rattle.tso_model.specs.Runs as flat
 use Rattle.tso_model.specs.declared.execution.Entry.{Entry}
-use Rattle.tso_model.specs.declared.choice.Choice.{Choice}
 use Rattle.litmus_reader.specs.Spelling.{SpellsTest, IsRefused as IsRefusedTest}
 use Rattle.litmus_reader.specs.declared.fault.TextFault.{TextFault}
 use Rattle.scheduler.specs.Refusals.{IsDecided}
-use Rattle.order_builder.specs.Spelling.{SpellsOrder, HasFault}
+use Rattle.order_builder.specs.Spelling.{HasFault}
 use Rattle.order_builder.specs.declared.fault.OrderFault.{OrderFault}
 use Rattle.protocol_tables.specs.declared.kind.ProtocolKind.{ProtocolKind}
 use Rattle.machine_core.specs.Configuration.{Configuration}
 use Rattle.tso_cli.specs.Parts.{parts_of}
 use Rattle.tso_cli.specs.Lines.{test_refusal, choices_refusal}
 use Rattle.tso_cli.specs.CheckLines.{order_refusal, invalid_line}
-use Rattle.tso_cli.specs.Answers.{run_text, run_status, IsRunAnswer, IsJudgement, IsCheckAnswer, IsTableAnswer, IsAnswerTo, IsInputAnswer, IsAnswer, too_large, refused, answered, ran, judged, valid, invalid}
+use Rattle.tso_cli.specs.Answers.{run_text, run_status, IsRunAnswer, IsJudgement, IsCheckAnswer, IsAnswerTo, IsInputAnswer, IsAnswer, too_large, refused, answered, ran, judged, valid, invalid}
+use Rattle.tso_cli.specs.Witness.{IsWitness, IsWitnessAnswer, reached, too_small, invalid, refused, judged}
 use Rattle.tso_cli.specs.declared.task.Task.{Task}
 use Rattle.tso_cli.specs.declared.task.Task.TheVariants as tasks
 use Rattle.tso_cli.specs.declared.settings.Settings.{Settings}
@@ -66,10 +66,31 @@ one_check_answer t text _ _ _ _ law test short (judged order out status spelled 
 one_check_answer t text _ _ _ _ law test short (judged order out status spelled is) (judged order2 out2 status2 spelled2 is2) =
     one_judgement t order2 out out2 status status2 law.real law.one (subst (λ o. IsJudgement t o out status) (law.once t text order order2 test short spelled spelled2) is) is2
 
+one_witness : (t : Litmus) (depth : ℕ) (order : List Entry) (out other : List ℕ) (status again : Status) → IsReal → IsOne
+    → IsWitness t depth order out status → IsWitness t depth order other again → Same out other status again
+one_witness t depth order _ _ _ _ real one (reached is enough) (reached too also) = (refl, refl)
+one_witness t depth order _ _ _ _ real one (reached is enough) (too_small too less) = absurd (omega arith)
+one_witness t depth order _ _ _ _ real one (reached is enough) (invalid b first) = absurd (real t order b first is)
+one_witness t depth order _ _ _ _ real one (too_small is less) (reached too enough) = absurd (omega arith)
+one_witness t depth order _ _ _ _ real one (too_small is less) (too_small too also) = (refl, refl)
+one_witness t depth order _ _ _ _ real one (too_small is less) (invalid b first) = absurd (real t order b first is)
+one_witness t depth order _ _ _ _ real one (invalid b first) (reached is enough) = absurd (real t order b first is)
+one_witness t depth order _ _ _ _ real one (invalid b first) (too_small is less) = absurd (real t order b first is)
+one_witness t depth order _ _ _ _ real one (invalid b first) (invalid c other) = (ap (invalid_line t) (one t order b c first other), refl)
+
+one_witness_answer : (t : Litmus) (depth : ℕ) (text out other : List ℕ) (status again : Status) → Texts → IsTest t → length text < 2 ^ 64
+    → IsWitnessAnswer t depth text out status → IsWitnessAnswer t depth text other again → Same out other status again
+one_witness_answer t depth text _ _ _ _ law test short (refused f h) (refused g k) = (ap order_refusal (law.one_fault t text f g test h k), refl)
+one_witness_answer t depth text _ _ _ _ law test short (refused f h) (judged order out status spelled is) = absurd (law.never_both t text order f test short spelled h)
+one_witness_answer t depth text _ _ _ _ law test short (judged order out status spelled is) (refused f h) = absurd (law.never_both t text order f test short spelled h)
+one_witness_answer t depth text _ _ _ _ law test short (judged order out status spelled is) (judged order2 out2 status2 spelled2 is2) =
+    one_witness t depth order2 out out2 status status2 law.real law.one (subst (λ o. IsWitness t depth o out status) (law.once t text order order2 test short spelled spelled2) is) is2
+
 one_answer_to : (task : Task) (t : Litmus) (text out other : List ℕ) (status again : Status) → Texts → IsTest t → length text < 2 ^ 64
     → IsAnswerTo task t text out status → IsAnswerTo task t text other again → Same out other status again
 one_answer_to (tasks.Run kind c) t text out other status again law test short is too = one_run_answer t kind c text out other status again (law.decided (length t.programs) text test.some_core) is too
 one_answer_to tasks.Check t text out other status again law test short is too = one_check_answer t text out other status again law test short is too
+one_answer_to (tasks.Witness depth) t text out other status again law test short is too = one_witness_answer t depth text out other status again law test short is too
 
 pub short_rest : (input : List ℕ) → length input ≤ 1048576 → length (parts_of input).rest < 2 ^ 64
 short_rest input small = let within = rest_within input in omega arith
@@ -92,4 +113,5 @@ pub one_answer : (s : Settings) (input out other : List ℕ) (status again : Sta
     → IsAnswer s (Some input) out status → IsAnswer s (Some input) other again → Same out other status again
 one_answer (settings.Run kind c) input out other status again law is too = one_input_answer (tasks.Run kind c) input out other status again law is too
 one_answer settings.Check input out other status again law is too = one_input_answer tasks.Check input out other status again law is too
+one_answer (settings.Witness depth) input out other status again law is too = one_input_answer (tasks.Witness depth) input out other status again law is too
 one_answer (settings.Tables kind) input out other status again law is too = (is.text ∙ sym too.text, is.status_is ∙ sym too.status_is)

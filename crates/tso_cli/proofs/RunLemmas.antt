@@ -4,6 +4,7 @@ use Rattle.tso_model.specs.Litmus.{Litmus}
 use Rattle.tso_model.specs.FlatMachine.{State, effect_of, after_choice, chosen}
 use Rattle.tso_model.specs.Runs.{run_from, has_ended, then_run, resting, CoresExist}
 use Rattle.tso_model.specs.declared.choice.Choice.{Choice}
+use Rattle.machine_core.specs.Statistics.{Statistics, statistics_from, statistics_after}
 
 pub run_from-going : (t : Litmus) (depth : ℕ) (s : State) (c : Choice) (cs : List Choice) → has_ended t s ≡ false
     → run_from t depth s (c ∷ cs) ≡ then_run (effect_of t depth s c) (run_from t depth (after_choice t depth s c) cs)
@@ -13,6 +14,14 @@ pub run_from-ended : (t : Litmus) (depth : ℕ) (s : State) (cs : List Choice) �
     → run_from t depth s cs ≡ resting true s (length cs)
 run_from-ended t depth s [] h = rw h refl
 run_from-ended t depth s (c ∷ cs) h = rw h refl
+
+pub statistics_from-going : (t : Litmus) (depth : ℕ) (s : State) (c : Choice) (cs : List Choice) (n : Statistics) → has_ended t s ≡ false
+    → statistics_from t depth s (c ∷ cs) n ≡ statistics_from t depth (after_choice t depth s c) cs (statistics_after t depth s c n)
+statistics_from-going t depth s c cs n h = rw h refl
+
+pub statistics_from-ended : (t : Litmus) (depth : ℕ) (s : State) (cs : List Choice) (n : Statistics) → has_ended t s ≡ true → statistics_from t depth s cs n ≡ n
+statistics_from-ended t depth s [] n h = refl
+statistics_from-ended t depth s (c ∷ cs) n h = rw h refl
 
 pub rest-at : (cs : List Choice) (n : ℕ) (d : Choice) → n < length cs → drop n cs ≡ slice_index_or cs n d ∷ drop (n + 1) cs
 rest-at cs n d h = rw (drop-cons cs n d h, add-one) refl

@@ -13,6 +13,10 @@ use Rattle.tso_model.specs.declared.execution.Kind.{Kind}
 use Rattle.tso_model.specs.declared.execution.Kind.TheVariants.{R, W, F, LR, LW}
 use Rattle.tso_laws.specs.Entries.{FitsTest}
 use Rattle.order_builder.specs.PrintedOrder.{HasLocation, IsLocationFor}
+use Rattle.protocol_tables.specs.Tables.{Table}
+use Rattle.machine_core.specs.declared.counts.Counts.{Counts}
+use Rattle.machine_core.specs.Configuration.{Configuration}
+use Rattle.machine_core.specs.Statistics.{counts_of}
 use Rattle.machine_core.specs.Running.{Running, new_machine, is_ended}
 use Rattle.tso_report.specs.Shown.{Shown}
 use Rattle.tso_laws.specs.Counting.{instructions, stores}
@@ -22,16 +26,18 @@ use Rattle.tso_cli.specs.Simulation.{Drives, shown_of, verdict, registers_in, Is
 use Rattle.tso_cli.proofs.RunLemmas.{ended-run_from, used-run_from}
 
 -- whether the driven machine has ended is whether the run has
-ended-as-driven : (t : Litmus) (depth : ℕ) (m : Running) (choices : List Choice) (used stalled : ℕ) (b : Bool) → Drives (new_machine t depth) m choices used stalled → is_ended m ≡ b → (flat.run t depth choices).ended ≡ b
-ended-as-driven t depth m choices used stalled b d e =
+ended-as-driven : (t : Litmus) (table : Table) (config : Configuration) (m : Running) (choices : List Choice) (used stalled : ℕ) (b : Bool) → Drives (new_machine table config t) m choices used stalled → is_ended m ≡ b
+    → (flat.run t config.depth choices).ended ≡ b
+ended-as-driven t table config m choices used stalled b d e =
+    let depth = config.depth in
     let over : has_ended m.test m.state ≡ b = (rw d.failed at e) in
     ended-run_from t depth (start t) choices ∙ ap (λ s. has_ended t s) (sym d.state) ∙ subst (λ u. has_ended u m.state ≡ b) d.test over
 
-pub unfinished-is : (t : Litmus) (depth : ℕ) (old m : Running) (choices : List Choice) (used stalled : ℕ) → old ≡ new_machine t depth → Drives old m choices used stalled → is_ended m ≡ false
-    → ((flat.run t depth choices).ended ≡ false) × (used ≡ (flat.run t depth choices).used) × (stalled ≡ (flat.run t depth choices).stalled)
-unfinished-is t depth old m choices used stalled fresh drives e =
-    let d : Drives (new_machine t depth) m choices used stalled = subst (λ o. Drives o m choices used stalled) fresh drives in
-    (ended-as-driven t depth m choices used stalled false d e, d.used, d.stalled)
+pub unfinished-is : (t : Litmus) (table : Table) (config : Configuration) (old m : Running) (choices : List Choice) (used stalled : ℕ) → old ≡ new_machine table config t → Drives old m choices used stalled → is_ended m ≡ false
+    → ((flat.run t config.depth choices).ended ≡ false) × (used ≡ (flat.run t config.depth choices).used) × (stalled ≡ (flat.run t config.depth choices).stalled)
+unfinished-is t table config old m choices used stalled fresh drives e =
+    let d : Drives (new_machine table config t) m choices used stalled = subst (λ o. Drives o m choices used stalled) fresh drives in
+    (ended-as-driven t table config m choices used stalled false d e, d.used, d.stalled)
 
 same-shown : (s u : Shown) → s.order ≡ u.order → s.registers ≡ u.registers → s.memory ≡ u.memory → s.holds ≡ u.holds → s.used ≡ u.used → s.stalled ≡ u.stalled → s.unused ≡ u.unused → s ≡ u
 same-shown s u a b c d e f g =
@@ -45,12 +51,13 @@ same-shown s u a b c d e f g =
     ap order_with a ∙ ap registers_with b ∙ ap memory_with c ∙ ap holds_with d ∙ ap used_with e ∙ ap stalled_with f ∙ ap unused_with g
 
 -- what the machine leaves is what the run shows
-pub ended-is : (t : Litmus) (depth : ℕ) (old m : Running) (choices : List Choice) (used stalled : ℕ) (s : Shown) → old ≡ new_machine t depth → Drives old m choices used stalled → is_ended m ≡ true
+pub ended-is : (t : Litmus) (table : Table) (config : Configuration) (old m : Running) (choices : List Choice) (used stalled : ℕ) (s : Shown) → old ≡ new_machine table config t → Drives old m choices used stalled → is_ended m ≡ true
     → s.order ≡ m.commits → s.registers ≡ registers_in m.state → s.memory ≡ m.state.memory → s.holds ≡ verdict t s.registers s.memory
     → s.used ≡ used → s.stalled ≡ stalled → s.unused ≡ length choices - used
-    → ((flat.run t depth choices).ended ≡ true) × (s ≡ shown_of t (flat.run t depth choices))
-ended-is t depth old m choices used stalled s fresh drives e order registers memory holds u st un =
-    let d : Drives (new_machine t depth) m choices used stalled = subst (λ o. Drives o m choices used stalled) fresh drives in
+    → ((flat.run t config.depth choices).ended ≡ true) × (s ≡ shown_of t (flat.run t config.depth choices))
+ended-is t table config old m choices used stalled s fresh drives e order registers memory holds u st un =
+    let d : Drives (new_machine table config t) m choices used stalled = subst (λ o. Drives o m choices used stalled) fresh drives in
+    let depth = config.depth in
     let r = flat.run t depth choices in
     let order_is : s.order ≡ r.commits = order ∙ d.commits in
     let registers_are : s.registers ≡ registers_in r.state = registers ∙ ap registers_in d.state in
@@ -60,7 +67,14 @@ ended-is t depth old m choices used stalled s fresh drives e order registers mem
     let used_is : s.used ≡ r.used = u ∙ d.used in
     let stalled_is : s.stalled ≡ r.stalled = st ∙ d.stalled in
     let unused_is : s.unused ≡ r.unused = (let a = d.used in omega arith) in
-    (ended-as-driven t depth m choices used stalled true d e, same-shown s (shown_of t r) order_is registers_are memory_is holds_is used_is stalled_is unused_is)
+    (ended-as-driven t table config m choices used stalled true d e, same-shown s (shown_of t r) order_is registers_are memory_is holds_is used_is stalled_is unused_is)
+
+-- what the machine counted is what the run's choices come to
+pub counts-are : (t : Litmus) (table : Table) (config : Configuration) (old m : Running) (choices : List Choice) (used stalled : ℕ) (counts : List Counts) → old ≡ new_machine table config t
+    → Drives old m choices used stalled → counts ≡ m.statistics.counts → counts ≡ counts_of table config.shape t config.depth choices
+counts-are t table config old m choices used stalled counts fresh drives left =
+    let d : Drives (new_machine table config t) m choices used stalled = subst (λ o. Drives o m choices used stalled) fresh drives in
+    left ∙ ap (λ s. s.counts) d.statistics
 
 located : (t : Litmus) (e : Entry) (k : Kind) → e.kind ≡ k → FitsTest t e → IsLocationFor t k e.loc.0
 located t e F is f = tt

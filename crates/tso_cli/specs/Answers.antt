@@ -24,6 +24,7 @@ use Rattle.tso_cli.specs.Limits.{longest_input}
 use Rattle.tso_cli.specs.Parts.{parts_of}
 use Rattle.tso_cli.specs.Lines.{input_refusal, test_refusal, choices_refusal, unfinished_line}
 use Rattle.tso_cli.specs.CheckLines.{order_refusal, valid_line, invalid_line}
+use Rattle.tso_cli.specs.Witness.{IsWitnessAnswer}
 use Rattle.tso_cli.specs.Simulation.{shown_of}
 use Rattle.tso_cli.specs.declared.task.Task.{Task}
 use Rattle.tso_cli.specs.declared.task.Task.TheVariants as tasks
@@ -61,6 +62,7 @@ pub data IsCheckAnswer (t : Litmus) (text : List ℕ) : List ℕ → Status → 
 abbrev pub IsAnswerTo : Task → Litmus → List ℕ → List ℕ → Status → Type 0
 IsAnswerTo (tasks.Run kind config) t text out status = IsRunAnswer t kind config text out status
 IsAnswerTo tasks.Check t text out status = IsCheckAnswer t text out status
+IsAnswerTo (tasks.Witness depth) t text out status = IsWitnessAnswer t depth text out status
 
 -- the answer to an input: its size is judged first, then its first part, then the second
 pub data IsInputAnswer (task : Task) (input : List ℕ) : List ℕ → Status → Type 0 where
@@ -80,10 +82,12 @@ pub record IsTableAnswer (kind : ProtocolKind) (out : List ℕ) (status : Status
 abbrev pub IsAnswer : Settings → Option (List ℕ) → List ℕ → Status → Type 0
 IsAnswer (settings.Run kind config) known out status = IfSome known (λ input. IsInputAnswer (tasks.Run kind config) input out status)
 IsAnswer settings.Check known out status = IfSome known (λ input. IsInputAnswer tasks.Check input out status)
+IsAnswer (settings.Witness depth) known out status = IfSome known (λ input. IsInputAnswer (tasks.Witness depth) input out status)
 IsAnswer (settings.Tables kind) known out status = IsTableAnswer kind out status
 
 -- how many bytes are read, at most: one more than an input may have shows that it has too many
 abbrev pub most_read : Settings → ℕ
 most_read (settings.Run kind config) = longest_input + 1
 most_read settings.Check = longest_input + 1
+most_read (settings.Witness depth) = longest_input + 1
 most_read (settings.Tables kind) = 0

@@ -1,16 +1,19 @@
 -- The headline: what is printed is a TSO execution of the test, with what it leaves; every other text is refused.
 -- (Primer, chapter 4, for the axioms; x86-TSO, section 3, for fences and locked instructions.)
-use Rattle.std.specs.Prelude.{ℕ, ◌<◌, ◌≤◌, ◌≡◌, ◌↔◌, true, List, length, Option, IfSome}
+use Rattle.std.specs.Prelude.{ℕ, ◌<◌, ◌≤◌, ◌≡◌, ◌≢◌, ◌↔◌, true, List, length, Option, IfSome}
 use Rattle.tso_model.specs.Litmus.{Litmus}
 use Rattle.tso_model.specs.Execution.{IsWhole, KeepsProgramOrder, KeepsPairs, HasReadValues, IsTsoExecution}
 use Rattle.tso_model.specs.FinalState.{final_words, final_registers}
 use Rattle.tso_model.specs.Runs.{run}
 use Rattle.tso_model.specs.declared.choice.Choice.{Choice}
 use Rattle.tso_model.specs.declared.execution.Entry.{Entry}
+use Rattle.tso_laws.specs.Along.{LeadTo}
+use Rattle.tso_laws.specs.Depth.{needed}
 use Rattle.litmus_reader.specs.Spelling.{SpellsTest, IsRefused as IsRefusedTest}
 use Rattle.litmus_reader.specs.declared.fault.TextFault.{TextFault}
 use Rattle.scheduler.specs.Grammar.{SpellsChoices}
-use Rattle.order_builder.specs.Spelling.{SpellsOrder}
+use Rattle.order_builder.specs.Spelling.{SpellsOrder, HasFault}
+use Rattle.order_builder.specs.declared.fault.OrderFault.{OrderFault}
 use Rattle.axiom_checker.specs.FirstBreach.{IsFirstBreach}
 use Rattle.axiom_checker.specs.declared.breach.Breach.{Breach}
 use Rattle.protocol_tables.specs.Names.{protocol_name}
@@ -22,8 +25,8 @@ use Rattle.tso_report.specs.Shown.{Shown}
 use Rattle.tso_report.specs.Report.{report}
 use Rattle.tso_cli.specs.Limits.{longest_input}
 use Rattle.tso_cli.specs.Parts.{Parts, parts_of}
-use Rattle.tso_cli.specs.Lines.{input_refusal, test_refusal}
-use Rattle.tso_cli.specs.CheckLines.{valid_line, invalid_line}
+use Rattle.tso_cli.specs.Lines.{input_refusal, test_refusal, depth_line}
+use Rattle.tso_cli.specs.CheckLines.{order_refusal, valid_line, invalid_line}
 use Rattle.tso_cli.specs.Simulation.{verdict}
 use Rattle.tso_cli.specs.declared.task.Task.{Task}
 use Rattle.tso_cli.specs.declared.task.Task.TheVariants as tasks
@@ -62,10 +65,27 @@ pub record JudgesOrder (t : Litmus) (order : List Entry) (out : List ℕ) : Type
 abbrev pub JudgesEachOrder : Litmus → List ℕ → List ℕ → Type 0
 JudgesEachOrder t text out = (order : List Entry) → SpellsOrder t text order → JudgesOrder t order out
 
+-- what is written of an order is choices that reach it, or the depth that it needs, or its first breach
+pub data WitnessesOrder (t : Litmus) (depth : ℕ) (order : List Entry) (out : List ℕ) : Type 0 where
+  -- the order is a TSO execution, and what is written spells choices under which the test ends with that very order at
+  -- this depth; none stalls and none is left over
+  reached : (choices : List Choice) → IsTsoExecution t order → SpellsChoices (length t.programs) out choices → LeadTo t depth choices order
+      → WitnessesOrder t depth order out
+  -- the order is a TSO execution, and no choices reach it at this depth
+  unreached : IsTsoExecution t order → ((choices : List Choice) → (run t depth choices).commits ≢ order) → out ≡ depth_line (needed order)
+      → WitnessesOrder t depth order out
+  broken : (b : Breach) → IsFirstBreach t order b → out ≡ invalid_line t b → WitnessesOrder t depth order out
+
+-- for every order that the text spells; every other text is refused
+pub record WitnessesEachOrder (t : Litmus) (depth : ℕ) (text out : List ℕ) : Type 0 where
+  pub every_order : (order : List Entry) → SpellsOrder t text order → WitnessesOrder t depth order out
+  pub every_other : ((order : List Entry) → ¬ (SpellsOrder t text order)) → (fault : OrderFault) × HasFault t text fault × (out ≡ order_refusal fault)
+
 -- what the headline says of a test and the second part of its input
 abbrev pub HeadlineOf : Task → Litmus → List ℕ → List ℕ → Type 0
 HeadlineOf (tasks.Run kind config) t text out = PrintsEachRun t kind config text out
 HeadlineOf tasks.Check t text out = JudgesEachOrder t text out
+HeadlineOf (tasks.Witness depth) t text out = WitnessesEachOrder t depth text out
 
 -- this is so for every test text; every other text is refused with its line
 pub record PartsHeadline (task : Task) (parts : Parts) (out : List ℕ) : Type 0 where
@@ -86,4 +106,5 @@ PrintsTable kind out = out ≡ printed_table (protocol_name kind) (table_of kind
 abbrev pub Headline : Settings → Option (List ℕ) → List ℕ → Type 0
 Headline (settings.Run kind config) known out = IfSome known (λ input. InputHeadline (tasks.Run kind config) input out)
 Headline settings.Check known out = IfSome known (λ input. InputHeadline tasks.Check input out)
+Headline (settings.Witness depth) known out = IfSome known (λ input. InputHeadline (tasks.Witness depth) input out)
 Headline (settings.Tables kind) known out = PrintsTable kind out

@@ -4,5 +4,6 @@ pub mod Limits
 pub mod Simulation
 pub mod Lines
 pub mod CheckLines
+pub mod Witness
 pub mod Answers
 pub mod Headline

@@ -25,3 +25,7 @@ choices_refusal choices.NoMemory = []
 -- `Unfinished used=U stalled=S`
 abbrev pub unfinished_line : ℕ → ℕ → List ℕ
 unfinished_line used stalled = codes "Unfinished used=" ++ (decimal used ++ (codes " stalled=" ++ line (decimal stalled)))
+
+-- `Depth needed=N`
+abbrev pub depth_line : ℕ → List ℕ
+depth_line needed = codes "Depth needed=" ++ line (decimal needed)

@@ -7,6 +7,8 @@ use Rattle.tso_model.specs.FlatMachine.{State}
 use Rattle.tso_model.specs.Runs as flat
 use Rattle.tso_model.specs.declared.choice.Choice.{Choice}
 use Rattle.tso_laws.specs.Counting.{instructions, stores}
+use Rattle.machine_core.specs.declared.counts.Counts.{Counts}
+use Rattle.machine_core.specs.Statistics.{statistics_from}
 use Rattle.machine_core.specs.Running.{Running}
 use Rattle.tso_report.specs.Shown.{Shown, shown, IsOf}
 use Rattle.tso_cli.specs.declared.simulation.Ending.{Ending}
@@ -43,8 +45,14 @@ pub record Drives (old new : Running) (choices : List Choice) (uses stalls : ℕ
   pub failed : new.failed ≡ false
   pub state : new.state ≡ (flat.run_from old.test old.depth old.state choices).state
   pub commits : new.commits ≡ old.commits ++ (flat.run_from old.test old.depth old.state choices).commits
+  pub statistics : new.statistics ≡ statistics_from old.test old.depth old.state choices old.statistics
   pub used : uses ≡ (flat.run_from old.test old.depth old.state choices).used
   pub stalled : stalls ≡ (flat.run_from old.test old.depth old.state choices).stalled
+
+-- a run that ended gives these counts, core by core
+abbrev pub HasCounts : List Counts → Ending → Type 0
+HasCounts counts (Ended run) = run.counts.items ≡ counts
+HasCounts counts (Unfinished used stalled) = Unit {0}
 
 -- a run that ended is one of the test
 abbrev pub FitsEnding : Litmus → Ending → Type 0

@@ -2,7 +2,7 @@ ghost use Rattle.std.specs.Prelude.{◌≡◌, ◌≢◌, IfOk, OnOk, length, st
 ghost use Rattle.tso_model.specs.Runs.{run, CoresExist};
 ghost use Rattle.tso_cli.specs.Answers.{run_text, run_status, IsRunAnswer, IsTableAnswer, IsAnswerTo, IsInputAnswer};
 ghost use Rattle.tso_cli.specs.Headline.{InputHeadline};
-ghost use Rattle.tso_cli.specs.Limits.{IsTaskWithinLimits};
+ghost use Rattle.tso_cli.specs.Limits.{IsTaskWithinLimits, HasTaskDepth};
 ghost use Rattle.tso_cli.specs.Lines.{test_refusal, choices_refusal, unfinished_line, input_refusal};
 
 use crate::checking::check_answer;
@@ -11,6 +11,7 @@ use crate::parts::parts_of;
 use crate::simulation::{Ending, SimFault, simulate};
 use crate::streams::MAX_INPUT;
 use crate::task::Task;
+use crate::witnessing::witness_answer;
 use litmus_reader::{TextFault, Why, read_test};
 use machine_core::{Choice, Config};
 use protocol_tables::{ProtocolKind, table_text};
@@ -28,7 +29,7 @@ pub enum Status {
     Refused,
     /// The choices were too few to end the test.
     Unended,
-    /// The order isn't valid.
+    /// The order isn't valid, or needs deeper store buffers than a witness was asked for.
     Invalid,
 }
 
@@ -87,10 +88,11 @@ fn refused_input(alloc: Global) -> Result<Answer, NoMemory>
 }
 
 /// The answer to an input: its size is judged first, then the test that is its first part, then the
-/// second part.
+/// second part. The depth of a witness is 1 to 32.
 ///
 /// Fails only for want of memory.
 pub fn answer_to(alloc: Global, task: &Task, input: &[u8]) -> Result<Answer, NoMemory>
+    requires { HasTaskDepth task.now }
     ensures exact { IfOk result (λ a. IsInputAnswer task.now input.now (string_bytes a.text) a.status) }
     ensures headline { IfOk result (λ a. InputHeadline task.now input.now (string_bytes a.text)) }
 {
@@ -99,19 +101,21 @@ pub fn answer_to(alloc: Global, task: &Task, input: &[u8]) -> Result<Answer, NoM
     judged_answer(alloc, task, input)
 }
 
-/// The machine of a task is within its limits: a configuration is. Nothing is done.
+/// A task is within its limits: a configuration is, and so is the depth of a witness. Nothing is done.
 fn know_limits(task: &Task)
+    requires { HasTaskDepth task.now }
     ensures { IsTaskWithinLimits task.now }
 {
     match task {
         Task::Run { config, .. } => {
             let _known = config.depth();
         }
-        Task::Check => {}
+        Task::Check | Task::Witness { .. } => {}
     }
 }
 
 fn judged_answer(alloc: Global, task: &Task, input: &[u8]) -> Result<Answer, NoMemory>
+    requires { HasTaskDepth task.now }
     ensures { IfOk result (λ a. IsInputAnswer task.now input.now (string_bytes a.text) a.status) }
 {
     if input.len() > MAX_INPUT {
@@ -125,11 +129,13 @@ fn judged_answer(alloc: Global, task: &Task, input: &[u8]) -> Result<Answer, NoM
 }
 
 fn answer_of(alloc: Global, task: &Task, test: &Test, text: &[u8]) -> Result<Answer, NoMemory>
+    requires { HasTaskDepth task.now }
     ensures { IfOk result (λ a. IsAnswerTo task.now test.now text.now (string_bytes a.text) a.status) }
 {
     match task {
         Task::Run { protocol, config } => run_answer(alloc, test, *protocol, *config, text),
         Task::Check => check_answer(alloc, test, text),
+        Task::Witness { depth } => witness_answer(alloc, test, *depth, text),
     }
 }
 

@@ -25,7 +25,7 @@ pub fn check_answer(alloc: Global, test: &Test, text: &[u8]) -> Result<Answer, N
     }
 }
 
-fn refused_order(alloc: Global, fault: OrderFault) -> Result<Answer, NoMemory>
+pub(crate) fn refused_order(alloc: Global, fault: OrderFault) -> Result<Answer, NoMemory>
     ensures text { IfOk result (λ a. string_bytes a.text ≡ order_refusal fault) }
     ensures status { IfOk result (λ a. a.status ≡ Status.Refused) }
     ensures real { OnOk result (fault ≢ OrderFault.NoMemory) }
@@ -66,7 +66,7 @@ fn valid(alloc: Global) -> Result<Answer, NoMemory>
     })
 }
 
-fn invalid(alloc: Global, test: &Test, breach: Breach) -> Result<Answer, NoMemory>
+pub(crate) fn invalid(alloc: Global, test: &Test, breach: Breach) -> Result<Answer, NoMemory>
     requires { CanBeNamed test.now breach }
     ensures text { IfOk result (λ a. string_bytes a.text ≡ invalid_line test.now breach) }
     ensures status { IfOk result (λ a. a.status ≡ Status.Invalid) }

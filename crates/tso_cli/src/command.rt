@@ -3,7 +3,7 @@ ghost use Rattle.std.specs.Io.KnownBytes.{Keeps};
 ghost use Rattle.tso_cli.specs.Streams.{Writes, WritesBeginning, ConsumesAtMost};
 ghost use Rattle.tso_cli.specs.Answers.{IsAnswer, IsInputAnswer, most_read};
 ghost use Rattle.tso_cli.specs.Headline.{Headline, InputHeadline};
-ghost use Rattle.tso_cli.specs.Limits.{longest_input};
+ghost use Rattle.tso_cli.specs.Limits.{longest_input, HasDepth, HasTaskDepth};
 ghost use Rattle.tso_cli.specs.declared.answer.Status.{Status};
 
 use crate::answer::{Answer, Status, answer_to, table_answer};
@@ -17,7 +17,7 @@ use std::io::{Read, Write};
 /// Reads an input, and writes the answer to it under these settings and nothing else. The answer is
 /// made whole before its first byte is written. At most one byte more than [`MAX_INPUT`] is read, and
 /// none for `tables`; no call of the reader or the writer is tried again, and the writer isn't
-/// flushed.
+/// flushed. The depth of a witness is 1 to 32, as `settings_of` has it.
 ///
 /// `Device` exactly where a call of the reader or the writer failed: of the reader, and nothing was
 /// written; of the writer, and a beginning of the answer was taken. `NoMemory` where the allocator
@@ -28,6 +28,7 @@ pub fn run_command<R: Read, W: Write>(
     writer: &mut Counted<W>,
     settings: &Settings,
 ) -> Result<Status, RunFault>
+    requires depth { HasDepth settings.now }
     requires reader { reader.old.1 < 2 ^ 32 - 1 }
     requires writer { writer.old.1 < 2 ^ 32 - 1 }
 
@@ -55,7 +56,8 @@ fn answer_from<R: Read>(
     reader: &mut Counted<R>,
     settings: &Settings,
 ) -> Result<Answer, RunFault>
-    requires { reader.old.1 < 2 ^ 32 - 1 }
+    requires depth { HasDepth settings.now }
+    requires reader { reader.old.1 < 2 ^ 32 - 1 }
     ensures exact { IfOk result (λ a. IsAnswer settings.now (R.remaining reader.old.0) (string_bytes a.text) a.status) }
     ensures headline { IfOk result (λ a. Headline settings.now (R.remaining reader.old.0) (string_bytes a.text)) }
     ensures most { ConsumesAtMost (R.remaining reader.old.0) (R.remaining reader.new.0) (most_read settings.now) }
@@ -70,6 +72,10 @@ fn answer_from<R: Read>(
             answer_read(alloc, reader, &task)
         }
         Settings::Check => answer_read(alloc, reader, &Task::Check),
+        Settings::Witness { depth } => {
+            let task = Task::Witness { depth: *depth };
+            answer_read(alloc, reader, &task)
+        }
         Settings::Tables(kind) => Ok(table_answer(alloc, *kind)?),
     }
 }
@@ -80,7 +86,8 @@ fn answer_read<R: Read>(
     reader: &mut Counted<R>,
     task: &Task,
 ) -> Result<Answer, RunFault>
-    requires { reader.old.1 < 2 ^ 32 - 1 }
+    requires depth { HasTaskDepth task.now }
+    requires reader { reader.old.1 < 2 ^ 32 - 1 }
     ensures exact { IfOk result (λ a. IfSome (R.remaining reader.old.0) (λ input. IsInputAnswer task.now input (string_bytes a.text) a.status)) }
     ensures headline { IfOk result (λ a. IfSome (R.remaining reader.old.0) (λ input. InputHeadline task.now input (string_bytes a.text))) }
     ensures most { ConsumesAtMost (R.remaining reader.old.0) (R.remaining reader.new.0) (longest_input + 1) }

@@ -1,8 +1,14 @@
 //! Laws of the commands. Each is the contract of a function that does nothing: who calls it knows it.
 
-ghost use Rattle.std.specs.Prelude.{◌≡◌, ◌<◌, ◌^◌, ℕ, List, Option, Some, length};
+ghost use Rattle.std.specs.Prelude.{◌≡◌, ◌<◌, ◌≤◌, ◌^◌, ℕ, List, Option, Some, length};
+ghost use Rattle.tso_model.specs.Limits.{most_depth};
 ghost use Rattle.tso_model.specs.Litmus.{Litmus, IsTest};
+ghost use Rattle.tso_model.specs.Execution.{IsTsoExecution};
+ghost use Rattle.tso_model.specs.Runs.{run};
 ghost use Rattle.tso_model.specs.declared.choice.Choice.{Choice};
+ghost use Rattle.tso_model.specs.declared.execution.Entry.{Entry};
+ghost use Rattle.tso_laws.specs.Along.{choices_along, LeadTo};
+ghost use Rattle.tso_laws.specs.Depth.{needed};
 ghost use Rattle.protocol_tables.specs.declared.kind.ProtocolKind.{ProtocolKind};
 ghost use Rattle.machine_core.specs.Configuration.{Configuration};
 ghost use Rattle.tso_cli.specs.Answers.{IsCheckAnswer, IsInputAnswer, IsAnswer};
@@ -10,6 +16,9 @@ ghost use Rattle.tso_cli.specs.CheckLines.{valid_line};
 ghost use Rattle.tso_cli.specs.Headline.{PrintsExecution, InputHeadline, Headline};
 ghost use Rattle.tso_cli.specs.Limits.{IsTaskWithinLimits, IsWithinLimits};
 ghost use Rattle.tso_cli.specs.Parts.{parts_of, joined, HasNoDivider, EndsInFeed};
+ghost use Rattle.tso_cli.specs.Simulation.{IsEndingOf};
+ghost use Rattle.tso_cli.specs.Witness.{choices_line, IsWitness, HasEndedWith, ReportsOrder};
+ghost use Rattle.tso_cli.specs.declared.simulation.Ending.{Ending};
 ghost use Rattle.tso_cli.specs.declared.answer.Status.{Status};
 ghost use Rattle.tso_cli.specs.declared.answer.Status.TheVariants.{Good};
 ghost use Rattle.tso_cli.specs.declared.settings.Settings.{Settings};
@@ -18,8 +27,12 @@ ghost use Rattle.tso_cli.specs.declared.task.Task.{Task};
 use axiom_checker::laws::{first_breach_is_one, first_breach_is_real};
 use litmus_reader::laws::test_is_spelled_once;
 use order_builder::laws::order_is_spelled_once;
-use scheduler::texts_are_decided;
-use tso_laws::{ended_runs_are_executions, values_are_words, whole_orders_have_each_entry_once};
+use scheduler::{printed_choices_are_spelled, texts_are_decided};
+use tso_laws::{
+    ended_runs_are_executions, every_execution_is_reached, most_stores_are_depth_enough,
+    runs_are_counted, smaller_depths_never_reach, values_are_words,
+    whole_orders_have_each_entry_once,
+};
 use tso_report::laws::{report_spells_its_order, reports_are_short};
 
 /// There is one answer to an input: the same bytes, and the same status.
@@ -52,6 +65,10 @@ pub fn answers_meet_the_headline()
     whole_orders_have_each_entry_once();
     values_are_words();
     report_spells_its_order();
+    every_execution_is_reached();
+    smaller_depths_never_reach();
+    runs_are_counted();
+    printed_choices_are_spelled();
 }
 
 /// A first part that ends in a line feed and has no dividing line, put before a dividing line and a
@@ -83,5 +100,50 @@ pub fn printed_runs_are_valid()
     values_are_words();
     report_spells_its_order();
     reports_are_short();
+    joined_parts_are_parted();
+}
+
+/// Where choices lead to an order, what `simulate` answers under them has ended with that very order,
+/// whatever the protocol and the shape of the caches: no choice stalled, and none was left over. The
+/// choices along a TSO execution are such, if the depth is enough for it.
+pub fn led_simulations_end()
+    ensures led { (t : Litmus) (depth : ℕ) (choices : List Choice) (order : List Entry) (ending : Ending)
+        → LeadTo t depth choices order → IsEndingOf t (run t depth choices) ending → HasEndedWith order ending }
+    ensures along { (t : Litmus) (depth : ℕ) (order : List Entry) (ending : Ending)
+        → IsTest t → IsTsoExecution t order → needed order ≤ depth → IsEndingOf t (run t depth (choices_along t order)) ending → HasEndedWith order ending }
+{
+    every_execution_is_reached();
+}
+
+/// At the greatest depth `witness` finds choices for each TSO execution: it answers no depth there.
+pub fn greatest_depth_is_enough()
+    ensures { (t : Litmus) (order : List Entry) (out : List ℕ) (status : Status)
+        → IsTest t → IsTsoExecution t order → IsWitness t most_depth order out status
+        → (out ≡ choices_line (choices_along t order)) × (status ≡ Good) }
+{
+    most_stores_are_depth_enough();
+    first_breach_is_real();
+}
+
+/// What `witness` prints where it finds choices, handed to `run` at the same depth with the same
+/// test, is answered with the report of a run that ended with that very order, and with the status of
+/// success, whatever the protocol and the shape of the caches: no choice stalled, and none was left
+/// over.
+pub fn witnesses_reach_their_orders()
+    ensures { (kind : ProtocolKind) (c : Configuration) (input out answer : List ℕ) (status : Status)
+        → IsWithinLimits (Settings.Run kind c) → EndsInFeed (parts_of input).test → HasNoDivider (parts_of input).test
+        → IsAnswer (Settings.Witness c.depth) (Some input) out Good
+        → IsAnswer (Settings.Run kind c) (Some (joined (parts_of input).test out)) answer status
+        → ReportsOrder kind c (parts_of input) answer × (status ≡ Good) }
+{
+    test_is_spelled_once();
+    texts_are_decided();
+    order_is_spelled_once();
+    first_breach_is_one();
+    first_breach_is_real();
+    every_execution_is_reached();
+    smaller_depths_never_reach();
+    runs_are_counted();
+    printed_choices_are_spelled();
     joined_parts_are_parted();
 }

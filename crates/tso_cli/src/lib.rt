@@ -11,6 +11,7 @@ pub mod settings;
 pub mod simulation;
 pub mod streams;
 pub mod task;
+mod witnessing;
 
 pub use answer::{Answer, Status};
 pub use command::run_command;

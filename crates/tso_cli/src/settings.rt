@@ -1,5 +1,5 @@
 ghost use Rattle.std.specs.Prelude.{IfOk, IfSome};
-ghost use Rattle.tso_cli.specs.Limits.{IsWithinLimits};
+ghost use Rattle.tso_cli.specs.Limits.{IsWithinLimits, HasDepth};
 
 use clap::builder::ValueParser;
 use clap::{Arg, ArgMatches, Command};
@@ -7,6 +7,7 @@ use machine_core::{Config, Shape};
 use protocol_tables::ProtocolKind;
 use std::alloc::{AllocError, Global};
 use thiserror::Error;
+use tso_model::limits::{MAX_DEPTH, MIN_DEPTH};
 
 /// What a command line asks for.
 #[derive(Clone, Copy)]
@@ -18,6 +19,10 @@ pub enum Settings {
     },
     /// Check an order of a test against the axioms.
     Check,
+    /// Find choices that reach an order of a test, with store buffers of this depth (1 to 32).
+    Witness {
+        depth: u8,
+    },
     /// Print a protocol's table.
     Tables(ProtocolKind),
 }
@@ -41,7 +46,8 @@ pub enum LineFault {
 /// `Words` where the words aren't a command with its options; `Range` where a value that the
 /// options let pass is outside its limits.
 pub fn settings_of(alloc: Global, words: &[&str]) -> Result<Settings, LineFault>
-    ensures { IfOk result IsWithinLimits }
+    ensures within { IfOk result IsWithinLimits }
+    ensures depth { IfOk result HasDepth }
 {
     let command = command_line(alloc).map_err(clap::Error::from)?;
     let matches = command.try_get_matches_from(words)?;
@@ -57,6 +63,7 @@ fn command_line<'a>(alloc: Global) -> Result<Command<'a>, AllocError> {
         .subcommand_required(true)
         .subcommand(run_line(alloc)?)?
         .subcommand(check_line(alloc))?
+        .subcommand(witness_line(alloc)?)?
         .subcommand(tables_line(alloc)?)
 }
 
@@ -72,6 +79,12 @@ fn run_line<'a>(alloc: Global) -> Result<Command<'a>, AllocError> {
 
 fn check_line<'a>(alloc: Global) -> Command<'a> {
     Command::new(alloc, "check").about("Checks an order of a test against the axioms")
+}
+
+fn witness_line<'a>(alloc: Global) -> Result<Command<'a>, AllocError> {
+    Command::new(alloc, "witness")
+        .about("Finds the choices that reach an order of a test")
+        .arg(depth_option(alloc))
 }
 
 fn tables_line<'a>(alloc: Global) -> Result<Command<'a>, AllocError> {
@@ -122,24 +135,38 @@ fn protocol_option<'a>(alloc: Global) -> Arg<'a> {
 
 /// The settings of a subcommand; `None` where a value is outside its limits.
 fn settings_in(name: &str, matches: &ArgMatches<'_>) -> Option<Settings>
-    ensures { IfSome result IsWithinLimits }
+    ensures within { IfSome result IsWithinLimits }
+    ensures depth { IfSome result HasDepth }
 {
     match name {
         "run" => run_settings(matches),
         "check" => Some(Settings::Check),
+        "witness" => witness_settings(matches),
         "tables" => Some(Settings::Tables(protocol_in(matches)?)),
         _ => None,
     }
 }
 
 fn run_settings(matches: &ArgMatches<'_>) -> Option<Settings>
-    ensures { IfSome result IsWithinLimits }
+    ensures within { IfSome result IsWithinLimits }
+    ensures depth { IfSome result HasDepth }
 {
     let protocol = protocol_in(matches)?;
     let depth = matches.get_one::<u8>("depth")?;
     let config = Config::new(depth, shape_in(matches)?)?;
     let _known = config.depth();
     Some(Settings::Run { protocol, config })
+}
+
+fn witness_settings(matches: &ArgMatches<'_>) -> Option<Settings>
+    ensures within { IfSome result IsWithinLimits }
+    ensures depth { IfSome result HasDepth }
+{
+    let depth = matches.get_one::<u8>("depth")?;
+    if !(MIN_DEPTH..=MAX_DEPTH).contains(&depth) {
+        return None;
+    }
+    Some(Settings::Witness { depth })
 }
 
 fn shape_in(matches: &ArgMatches<'_>) -> Option<Shape> {

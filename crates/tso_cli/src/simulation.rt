@@ -1,7 +1,9 @@
 ghost use Rattle.std.specs.Prelude.{◌≡◌, ◌≤◌, ◌*◌, false, IfOk, length};
 ghost use Rattle.tso_model.specs.Runs.{CoresExist};
 ghost use Rattle.tso_model.specs.Runs as flat;
-ghost use Rattle.tso_cli.specs.Simulation.{IsEndingOf, FitsEnding, IsCounted, HasEnded, Drives, verdict};
+ghost use Rattle.tso_cli.specs.Simulation.{IsEndingOf, FitsEnding, HasCounts, IsCounted, HasEnded, Drives, verdict};
+ghost use Rattle.protocol_tables.specs.Tables.{table_of};
+ghost use Rattle.machine_core.specs.Statistics.{counts_of};
 ghost use Rattle.tso_laws.specs.Rounds.{CanBeCutIntoRounds};
 ghost use Rattle.tso_laws.specs.Counting.{longest};
 
@@ -40,7 +42,7 @@ impl From<NoMemory> for SimFault {
 
 /// Runs a test under a list of choices, up to the first moment at which it has ended, on a machine of
 /// this protocol and configuration. Neither the protocol nor the shape of the caches has a part in the
-/// answer.
+/// answer but in the counts.
 ///
 /// Fails only for want of memory.
 pub fn simulate(
@@ -55,6 +57,9 @@ pub fn simulate(
     // The answer is the flat machine's run, and a run that ended is one of the test.
     ensures ending { IfOk result (IsEndingOf test.now (flat.run test.now config.depth choices.now)) }
     ensures fits { IfOk result (FitsEnding test.now) }
+
+    // The counts go by the protocol's table and the shape of the caches too.
+    ensures counts { IfOk result (HasCounts (counts_of (table_of protocol) config.shape test.now config.depth choices.now)) }
 
     // An ended run took each instruction once, and drained each plain store once; enough fair rounds end the test.
     ensures counting { IfOk result (IsCounted test.now) }
@@ -76,6 +81,7 @@ fn run_with(
     requires { CoresExist (length test.now.programs) choices.now }
     ensures ending { IfOk result (IsEndingOf test.now (flat.run test.now config.depth choices.now)) }
     ensures fits { IfOk result (FitsEnding test.now) }
+    ensures counts { IfOk result (HasCounts (counts_of (table_of protocol) config.shape test.now config.depth choices.now)) }
 {
     match protocol {
         ProtocolKind::Msi => run_to_the_end(alloc, test, Msi, config, choices),
@@ -94,6 +100,7 @@ fn run_to_the_end<P: Protocol>(
     requires { CoresExist (length test.now.programs) choices.now }
     ensures ending { IfOk result (IsEndingOf test.now (flat.run test.now config.depth choices.now)) }
     ensures fits { IfOk result (FitsEnding test.now) }
+    ensures counts { IfOk result (HasCounts (counts_of (P.table protocol) config.shape test.now config.depth choices.now)) }
 {
     ended_runs_are_executions();
     whole_orders_have_each_entry_once();
@@ -112,6 +119,7 @@ fn run_to_the_end<P: Protocol>(
         execution: left.execution,
         registers: left.registers,
         memory: left.memory,
+        counts: left.counts,
         holds,
         used: progress.used,
         stalled: progress.stalled,

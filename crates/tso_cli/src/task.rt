@@ -13,4 +13,9 @@ pub enum Task {
     },
     /// Check the order that the second part spells against the axioms.
     Check,
+    /// Find choices that reach the order that the second part spells, with store buffers of this depth
+    /// (1 to 32).
+    Witness {
+        depth: u8,
+    },
 }

@@ -1,3 +1,4 @@
+use machine_core::Counts;
 use tso_model::Execution;
 
 /// What a run that ended left.
@@ -9,6 +10,8 @@ pub struct Run {
     pub registers: Vec<[u32; 6]>,
     /// The word of each location.
     pub memory: Vec<u32>,
+    /// What the accesses of each core's cache were.
+    pub counts: Vec<Counts>,
     /// Whether the condition's proposition is true in that state; `None` where the test has no
     /// condition.
     pub holds: Option<bool>,

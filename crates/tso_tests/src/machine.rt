@@ -4,7 +4,7 @@ ghost use Rattle.std.specs.Prelude.{◌≡◌, ◌<◌, length};
 ghost use Rattle.tso_model.specs.FlatMachine.{chosen};
 
 use crate::inputs::{X, entry, test_of};
-use machine_core::{Choice, Config, Final, Machine, Outcome, Shape, Stall};
+use machine_core::{Choice, Config, Counts, Final, Machine, Outcome, Shape, Stall};
 use protocol_tables::{Mesi, Protocol};
 use std::alloc::Global;
 use std::process::Abort;
@@ -14,6 +14,16 @@ use tso_model::{Core, Instr, Kind};
 const STEP: Choice = Choice::Step(Core(0));
 
 const DRAIN: Choice = Choice::Drain(Core(0));
+
+/// A core whose one store went to memory.
+const ONE_MISS: Counts = Counts {
+    hits: 0,
+    misses: 1,
+    upgrades: 0,
+    forwards: 0,
+    write_backs: 0,
+    flushes: 0,
+};
 
 /// Makes a choice of the first core where memory is ample.
 fn choose<P: Protocol>(
@@ -57,5 +67,6 @@ fn a_fence_waits_for_the_store_before_it(rt: HostRuntime) -> Result<(), Fail> {
     let order = [entry(0, 0, Kind::W, X, 1), entry(0, 1, Kind::F, X, 0)];
     assert!(rt; left.execution.order.as_slice() == order.as_slice());
     assert!(rt; left.memory.as_slice() == [1, 0].as_slice());
+    assert!(rt; left.counts.as_slice() == [ONE_MISS].as_slice());
     Ok(())
 }

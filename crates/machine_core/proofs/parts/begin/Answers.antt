@@ -1,6 +1,7 @@
 use Rattle.std.proofs.Common.{ap, ◌∙◌, subst, length, arith, All}
 use Rattle.snoop_bus.specs.Bus.{words_of}
 use Rattle.machine_core.specs.Kept.{IsCore}
+use Rattle.machine_core.proofs.TallyLemmas.{tallied-first}
 use Rattle.machine_core.proofs.parts.begin.Goals as goal
 
 pub returns-clause-fits : goal.returns-clause-fits
@@ -12,3 +13,6 @@ returns-clause-fits g c = record {
   each = subst (λ depth. All (IsCore depth (length (words_of c.in_ok-bus.bus))) c.in_ok-processors.processors.items) c.depth.ensures.value
       (c.in_ok-processors.ensures.depths (length (words_of c.in_ok-bus.bus)));
 }
+
+pub returns-clause-tallied : goal.returns-clause-tallied
+returns-clause-tallied g c = tallied-first c.args.test.now _ c.in_ok-counts.counts.items c.cores.ensures.test c.in_ok-processors.ensures.states c.in_ok-counts.ensures

@@ -1,9 +1,9 @@
-use Rattle.std.proofs.Common.{◌≡◌, ◌≢◌, sym, ◌∙◌, refl, subst, IsOk}
+use Rattle.std.proofs.Common.{◌≢◌, sym, refl, subst, IsOk}
 use Rattle.tso_model.specs.declared.choice.Choice.TheVariants.{Drain}
 use Rattle.tso_model.specs.declared.choice.Outcome.TheVariants.{Committed}
 use Rattle.machine_core.specs.Cores.{drain_by, core_state}
 use Rattle.machine_core.proofs.Effects.{drain_of-paired}
-use Rattle.machine_core.proofs.Performing.{effect_in-drain, IfOk-Performs, within-cores}
+use Rattle.machine_core.proofs.Performing.{effect_in-drain, IfOk-Performs, IfOk-HasUsed, within-cores}
 use Rattle.machine_core.proofs.parts.drain.Goals as goal
 
 pub returns-clause-ok : goal.returns-clause-ok
@@ -20,3 +20,10 @@ returns-clause-succeeds g c =
     let within = within-cores c.args.test.now c.args.parts.now c.args.core.0 c.requires.fits c.requires.core in
     let effect = effect_in-drain c.args.test.now c.args.parts.now c.args.core c.index_mut-processor.result.now within c.index_mut-processor.ensures.value in
     subst (λ f. f.outcome ≢ Committed → IsOk c.drain.result) (sym effect) c.drain.ensures.succeeds
+
+pub returns-clause-caches : goal.returns-clause-caches
+returns-clause-caches g c =
+    let p = c.index_mut-processor.result.now in
+    let within = within-cores c.args.test.now c.args.parts.now c.args.core.0 c.requires.fits c.requires.core in
+    let effect = effect_in-drain c.args.test.now c.args.parts.now c.args.core p within c.index_mut-processor.ensures.value in
+    IfOk-HasUsed c.drain.result c.args.test.now c.args.parts.now c.drain.new.bus (Drain c.args.core) p (drain_by p c.args.core.0) effect within c.index_mut-processor.ensures.value c.drain.ensures.caches

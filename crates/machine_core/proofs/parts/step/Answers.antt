@@ -5,7 +5,7 @@ use Rattle.tso_model.specs.declared.choice.Outcome.TheVariants.{Committed}
 use Rattle.snoop_bus.specs.Bus.{words_of}
 use Rattle.machine_core.specs.Cores.{step_by, core_state}
 use Rattle.machine_core.proofs.Effects.{step_of-paired}
-use Rattle.machine_core.proofs.Performing.{effect_in-step, IfOk-Performs, Performs-done, FitsTest-next, IsCore-at, within-cores}
+use Rattle.machine_core.proofs.Performing.{effect_in-step, IfOk-Performs, IfOk-HasUsed, HasUsed-done, Performs-done, FitsTest-next, IsCore-at, within-cores}
 use Rattle.machine_core.proofs.parts.step.Goals as goal
 
 pub returns-in-None-clause-ok : goal.returns-in-None-clause-ok
@@ -40,3 +40,20 @@ returns-in-Some-clause-fits g c =
     let core = IsCore-at c.args.test.now c.args.parts.now c.args.core.0 c.index_mut-processor.result.now c.requires.fits c.requires.core c.index_mut-processor.ensures.value in
     FitsTest-next c.args.test.now c.args.parts.now _ c.args.core.0 c.step.new.processor c.requires.fits refl refl
     c.step.ensures.cores c.step.ensures.count (c.step.ensures.depth ∙ core.depth_is) c.step.ensures.stores
+
+pub returns-in-None-clause-caches : goal.returns-in-None-clause-caches
+returns-in-None-clause-caches g c =
+    let got : slice_get (program_of c.args.test.now c.args.core.0) c.index_mut-processor.result.now.place ≡ None =
+    ap (λ xs. slice_get xs c.index_mut-processor.result.now.place) (sym c.program-program.ensures.value) ∙ sym c.in-None.ensures in
+    HasUsed-done c.args.test.now c.args.parts.now c.args.parts.now.bus c.args.core c.index_mut-processor.result.now
+    (within-cores c.args.test.now c.args.parts.now c.args.core.0 c.requires.fits c.requires.core) c.index_mut-processor.ensures.value got refl
+
+pub returns-in-Some-clause-caches : goal.returns-in-Some-clause-caches
+returns-in-Some-clause-caches g c =
+    let p = c.index_mut-processor.result.now in
+    let within = within-cores c.args.test.now c.args.parts.now c.args.core.0 c.requires.fits c.requires.core in
+    let got : slice_get (program_of c.args.test.now c.args.core.0) p.place ≡ Some c.in-Some.instr = ap (λ xs. slice_get xs p.place) (sym c.program-program.ensures.value) ∙ sym c.in-Some.ensures in
+    let core = IsCore-at c.args.test.now c.args.parts.now c.args.core.0 p c.requires.fits c.requires.core c.index_mut-processor.ensures.value in
+    let effect = effect_in-step c.args.test.now c.args.parts.now c.args.core p c.in-Some.instr within c.index_mut-processor.ensures.value core.depth_is got in
+    IfOk-HasUsed c.step.result c.args.test.now c.args.parts.now c.step.new.bus (Step c.args.core) p (step_by p c.args.core.0 (words_of c.args.parts.now.bus) c.in-Some.instr) effect
+    within c.index_mut-processor.ensures.value c.step.ensures.caches

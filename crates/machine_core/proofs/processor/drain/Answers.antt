@@ -3,6 +3,7 @@ use Rattle.std.proofs.lemmas.List.Elements.{All-drop}
 use Rattle.snoop_bus.specs.Bus.{words_of}
 use Rattle.machine_core.specs.Cores.{core_state}
 use Rattle.machine_core.proofs.CoreLemmas.{drain_of-nothing}
+use Rattle.machine_core.proofs.CacheUses.{drains}
 use Rattle.machine_core.proofs.processor.drain.Goals as goal
 
 pub returns-in-None-clause-commits : goal.returns-in-None-clause-commits
@@ -15,3 +16,7 @@ returns-in_ok-note-in-Some-clause-stores g c =
     let items : c.take_oldest.new.self.items ≡ drop 1 c.args.processor.now.stores.items = ap (λ s. s.items) c.take_oldest.ensures.rest in
     subst (λ stores. All (λ s. s.loc.0 < length (words_of c.args.bus.now)) stores) (sym items)
     (All-drop (λ s. s.loc.0 < length (words_of c.args.bus.now)) 1 c.args.processor.now.stores.items c.requires.stores)
+
+pub returns-in_ok-note-in-Some-clause-caches : goal.returns-in_ok-note-in-Some-clause-caches
+returns-in_ok-note-in-Some-clause-caches g c =
+    drains c.args.core.0 c.args.processor.now c.args.bus.now _ c.in-Some.store _ _ c.in-Some.ensures c.in_ok-access-in-Some.ensures.done c.store.ensures.machine

@@ -24,3 +24,6 @@ returns-in-Fence-clause-commits g c = rw c.in-Fence.is (c.fence.ensures.commits 
 
 pub returns-in-Fence-clause-succeeds : goal.returns-in-Fence-clause-succeeds
 returns-in-Fence-clause-succeeds g c = rw c.in-Fence.is (c.fence.ensures.succeeds (words_of c.args.bus.now))
+
+pub returns-in-Fence-clause-caches : goal.returns-in-Fence-clause-caches
+returns-in-Fence-clause-caches g c = rw c.in-Fence.is (c.fence.ensures.caches c.args.bus.now)

@@ -1,5 +1,6 @@
 use Rattle.tso_cli.proofs.OneAnswer.{Texts}
 use Rattle.tso_cli.proofs.HeadlineLemmas.{Runs, input-means, command-means}
+use Rattle.tso_cli.proofs.WitnessLemmas.{Reaching}
 use Rattle.tso_cli.proofs.laws.answers_meet_the_headline.Goals as goal
 
 pub returns : goal.returns
@@ -22,7 +23,13 @@ returns c =
       words = c.values_are_words.ensures.in_runs;
       report_spells = c.report_spells_its_order.ensures;
     } in
+    let reaching : Reaching = record {
+      lead = c.every_execution_is_reached.ensures;
+      never = c.smaller_depths_never_reach.ensures.never;
+      counted = c.runs_are_counted.ensures.buffered;
+      spelled = c.printed_choices_are_spelled.ensures;
+    } in
     record {
-      tasks = λ task input out status. input-means task input out status texts runs;
-      commands = λ s known out status. command-means s known out status texts runs;
+      tasks = λ task input out status. input-means task input out status texts runs reaching;
+      commands = λ s known out status. command-means s known out status texts runs reaching;
     }

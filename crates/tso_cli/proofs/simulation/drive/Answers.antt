@@ -1,6 +1,6 @@
 use Rattle.std.proofs.Common.{arith, ◌≡◌, ◌++◌, length, drop, true, sym, subst, ◌∙◌, ap, append-nil}
 use Rattle.tso_model.specs.Runs.{has_ended, CoresExist}
-use Rattle.tso_cli.proofs.RunLemmas.{chosen-at, run_from-ended}
+use Rattle.tso_cli.proofs.RunLemmas.{chosen-at, run_from-ended, statistics_from-ended}
 use Rattle.tso_cli.proofs.simulation.drive.Goals as goal
 
 pub choose-requires : goal.choose-requires
@@ -24,6 +24,7 @@ returns-else-not-is_ended-clause-drives g c =
       failed = i.failed;
       state = sym (i.state ∙ ap (λ r. r.state) rest);
       commits = sym (i.commits ∙ ap (λ r. m.commits ++ r.commits) rest ∙ append-nil m.commits);
+      statistics = sym (i.statistics ∙ statistics_from-ended old.test old.depth m.state (drop c.loop-used.used c.args.choices.now) m.statistics ended_t);
       used = let u = i.used in let r = ap (λ r. r.used) rest in omega arith;
       stalled = let u = i.stalled in let r = ap (λ r. r.stalled) rest in omega arith;
     }

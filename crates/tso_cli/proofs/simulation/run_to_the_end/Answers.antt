@@ -2,20 +2,25 @@ use Rattle.std.proofs.Common.{arith, ◌≡◌, true, false, sym, subst, ap, ◌
 use Rattle.tso_model.specs.Runs as flat
 use Rattle.tso_model.specs.Execution.{IsWhole}
 use Rattle.tso_laws.specs.EndedRuns.{IsExecution}
-use Rattle.tso_cli.proofs.SimulationLemmas.{unfinished-is, ended-is, locations-known, is_some-verdict}
+use Rattle.tso_cli.proofs.SimulationLemmas.{unfinished-is, ended-is, counts-are, locations-known, is_some-verdict}
 use Rattle.tso_cli.proofs.simulation.run_to_the_end.Goals as goal
 
 pub returns-then-not-is_ended-clause-ending : goal.returns-then-not-is_ended-clause-ending
 returns-then-not-is_ended-clause-ending g c =
-    unfinished-is c.args.test.now c.args.config.depth _ _ c.args.choices.now _ _ c.in_ok-machine.ensures c.in_ok-progress.ensures.drives
+    unfinished-is c.args.test.now (g.P.Protocol.table c.args.protocol) c.args.config _ _ c.args.choices.now _ _ c.in_ok-machine.ensures c.in_ok-progress.ensures.drives
     (sym c.is_ended.ensures ∙ (let q : c.is_ended.result ≡ false = grind arith in q))
 
 pub returns-clause-ending : goal.returns-clause-ending
 returns-clause-ending g c =
     let ended : c.is_ended.result ≡ true = grind arith in
-    ended-is c.args.test.now c.args.config.depth _ _ c.args.choices.now _ _ _ c.in_ok-machine.ensures c.in_ok-progress.ensures.drives
+    ended-is c.args.test.now (g.P.Protocol.table c.args.protocol) c.args.config _ _ c.args.choices.now _ _ _ c.in_ok-machine.ensures c.in_ok-progress.ensures.drives
     (sym c.is_ended.ensures ∙ ended) c.in_ok-left.ensures.order c.in_ok-left.ensures.registers c.in_ok-left.ensures.memory
     c.verdict_of-holds.ensures refl refl refl
+
+pub returns-clause-counts : goal.returns-clause-counts
+returns-clause-counts g c =
+    counts-are c.args.test.now (g.P.Protocol.table c.args.protocol) c.args.config _ _ c.args.choices.now _ _ c.in_ok-left.left.counts.items
+    c.in_ok-machine.ensures c.in_ok-progress.ensures.drives c.in_ok-left.ensures.counts
 
 pub returns-clause-fits : goal.returns-clause-fits
 returns-clause-fits g c =
@@ -23,7 +28,7 @@ returns-clause-fits g c =
     let order = c.in_ok-left.left.execution.order.items in
     let r = flat.run t c.args.config.depth c.args.choices.now in
     let ended : c.is_ended.result ≡ true = grind arith in
-    let is = ended-is t c.args.config.depth _ _ c.args.choices.now _ _ _ c.in_ok-machine.ensures c.in_ok-progress.ensures.drives
+    let is = ended-is t (g.P.Protocol.table c.args.protocol) c.args.config _ _ c.args.choices.now _ _ _ c.in_ok-machine.ensures c.in_ok-progress.ensures.drives
     (sym c.is_ended.ensures ∙ ended) c.in_ok-left.ensures.order c.in_ok-left.ensures.registers c.in_ok-left.ensures.memory
     c.verdict_of-holds.ensures refl refl refl in
     let execution : IsExecution t r = c.ended_runs_are_executions.ensures t c.args.config.depth c.args.choices.now c.cores-known.ensures.test is.0 in

@@ -1,0 +1,97 @@
+-- What a choice has to do with the caches, from what its core did.
+use Rattle.std.proofs.Common.{◌≡◌, ◌||◌, ◌==◌, ℕ, Bool, true, false, if◌then◌else◌, List, [], ◌∷◌, map, filter, Option, None, Some, is_some, slice_get, refl, sym, ap, ◌∙◌, subst}
+use Rattle.std.specs.Option.{option_map}
+use Rattle.std.specs.List.{last_or, list_any}
+use Rattle.tso_model.specs.ProgramOrder.{writes_to}
+use Rattle.tso_model.specs.FlatMachine.{CoreState, fenced, locked, drain_of}
+use Rattle.tso_model.specs.declared.register.Reg.{Reg}
+use Rattle.tso_model.specs.declared.instruction.Loc.{Loc}
+use Rattle.tso_model.specs.declared.instruction.Instr.TheVariants.{Xchg, Xadd}
+use Rattle.tso_model.specs.declared.execution.Entry.{Entry}
+use Rattle.store_buffer.specs.declared.Pending.{Pending}
+use Rattle.store_buffer.specs.Newest.{newest_for}
+use Rattle.snoop_bus.specs.declared.access.Access.{Access}
+use Rattle.snoop_bus.specs.Bus.{Bus, words_of, IsSameMachine}
+use Rattle.snoop_bus.specs.Accesses.{LoadsAt, WritesAt}
+use Rattle.machine_core.specs.declared.processor.Processor.{Processor}
+use Rattle.machine_core.specs.declared.cache_use.CacheUse.TheVariants.{Unused, Forwarded, Through}
+use Rattle.machine_core.specs.Cores.{store_of, core_state, pending_in, step_by, drain_by}
+use Rattle.machine_core.specs.Statistics.{Caches, caches_of, not_through, load_behind, write_by, use_of}
+use Rattle.machine_core.specs.Performed.{HasUsed}
+
+or_true : (b : Bool) → true ≡ (b || true)
+or_true true = refl
+or_true false = refl
+
+-- a store to the location is found in the buffer where one is pending
+found-stores : (core loc : ℕ) (o : Option Pending) (items : List Pending)
+    → is_some (option_map (λ p. p.value) (last_or o (filter (λ p. p.loc.0 == loc) items))) ≡ (is_some o || list_any (writes_to loc) (map (store_of core) items))
+found-stores core loc None [] = refl
+found-stores core loc (Some p) [] = refl
+found-stores core loc o (p ∷ ps) =
+    elim (p.loc.0 == loc) as (λ b.
+    is_some (option_map (λ p. p.value) (last_or o (if b then p ∷ filter (λ p. p.loc.0 == loc) ps else filter (λ p. p.loc.0 == loc) ps)))
+    ≡ (is_some o || (b || list_any (writes_to loc) (map (store_of core) ps))))
+    [ true ↦ found-stores core loc (Some p) ps ∙ or_true (is_some o) | false ↦ found-stores core loc o ps ]
+
+pub answered : (core loc value : ℕ) (items : List Pending) → Some value ≡ newest_for loc items → list_any (writes_to loc) (map (store_of core) items) ≡ true
+answered core loc value items h = sym (found-stores core loc None items) ∙ ap is_some (sym h)
+
+pub unanswered : (core loc : ℕ) (items : List Pending) → None ≡ newest_for loc items → list_any (writes_to loc) (map (store_of core) items) ≡ false
+unanswered core loc items h = sym (found-stores core loc None items) ∙ ap is_some (sym h)
+
+pub forwards : (b : Bus) (pending : List Entry) (core loc : ℕ) → list_any (writes_to loc) pending ≡ true → HasUsed (load_behind (caches_of b) pending core loc) b Forwarded
+forwards b pending core loc h = rw h (record { how_is = refl; caches = refl })
+
+pub loads : (old new : Bus) (pending : List Entry) (core loc word : ℕ) (access : Access) → list_any (writes_to loc) pending ≡ false
+    → LoadsAt old new core loc word access → IsSameMachine old new → HasUsed (load_behind (caches_of old) pending core loc) new (Through access)
+loads old new pending core loc word access h done machine =
+    rw h (record { how_is = ap Through done.access_is; caches = rw (machine.rows, machine.shape, done.contents) refl })
+
+pub writes : (old new : Bus) (core loc word : ℕ) (access : Access) → WritesAt old new core loc word access → IsSameMachine old new
+    → HasUsed (write_by (caches_of old) core loc) new (Through access)
+writes old new core loc word access done machine =
+    record { how_is = ap Through done.access_is; caches = rw (machine.rows, machine.shape, done.contents) refl }
+
+-- where nothing is committed the caches are not used
+pub rests : (b : Bus) (pending commits : List Entry) → commits ≡ [] → HasUsed (use_of (caches_of b) pending commits) b Unused
+rests b pending commits h = rw h (record { how_is = refl; caches = refl })
+
+fenced-uses : (c : Caches) (pending : List Entry) (core : ℕ) (s : CoreState) (waiting : List Entry) → use_of c pending (fenced core s waiting).commits ≡ not_through Unused c
+fenced-uses c pending core s [] = refl
+fenced-uses c pending core s (p ∷ ps) = refl
+
+pub fences : (b : Bus) (pending : List Entry) (core : ℕ) (s : CoreState) (waiting : List Entry) → HasUsed (use_of (caches_of b) pending (fenced core s waiting).commits) b Unused
+fences b pending core s waiting =
+    subst (λ u. HasUsed u b Unused) (sym (fenced-uses (caches_of b) pending core s waiting)) (record { how_is = refl; caches = refl })
+
+locked-uses : (c : Caches) (pending : List Entry) (core : ℕ) (s : CoreState) (loc : Loc) (reg : Reg) (word value : ℕ) (items : List Pending) → items ≡ []
+    → use_of c pending (locked core s loc reg word value (map (store_of core) items)).commits ≡ write_by c core loc.0
+locked-uses c pending core s loc reg word value [] h = refl
+locked-uses c pending core s loc reg word value (p ∷ ps) h = absurd (let z : ⊥ = cc in z)
+
+pub exchanges : (core : ℕ) (p : Processor) (old new : Bus) (loc : Loc) (reg : Reg) (word : ℕ) (access : Access) → p.stores.items ≡ []
+    → WritesAt old new core loc.0 word access → IsSameMachine old new
+    → HasUsed (use_of (caches_of old) (pending_in core p) (step_by p core (words_of old) (Xchg loc reg)).commits) new (Through access)
+exchanges core p old new loc reg word access h done machine =
+    subst (λ u. HasUsed u new (Through access)) (sym (locked-uses (caches_of old) (pending_in core p) core (core_state core p) loc reg _ _ p.stores.items h))
+    (writes old new core loc.0 word access done machine)
+
+pub adds : (core : ℕ) (p : Processor) (old new : Bus) (loc : Loc) (reg : Reg) (word : ℕ) (access : Access) → p.stores.items ≡ []
+    → WritesAt old new core loc.0 word access → IsSameMachine old new
+    → HasUsed (use_of (caches_of old) (pending_in core p) (step_by p core (words_of old) (Xadd loc reg)).commits) new (Through access)
+adds core p old new loc reg word access h done machine =
+    subst (λ u. HasUsed u new (Through access)) (sym (locked-uses (caches_of old) (pending_in core p) core (core_state core p) loc reg _ _ p.stores.items h))
+    (writes old new core loc.0 word access done machine)
+
+drained-uses : (c : Caches) (pending : List Entry) (core : ℕ) (s : CoreState) (items : List Pending) (store : Pending) → Some store ≡ slice_get items 0
+    → use_of c pending (drain_of s (map (store_of core) items)).commits ≡ write_by c core store.loc.0
+drained-uses c pending core s [] store h = absurd (let z : ⊥ = cc in z)
+drained-uses c pending core s (p ∷ ps) store h = let e : store ≡ p = cc in ap (λ q. write_by c core q.loc.0) (sym e)
+
+pub drains : (core : ℕ) (p : Processor) (old new : Bus) (store : Pending) (word : ℕ) (access : Access) → Some store ≡ slice_get p.stores.items 0
+    → WritesAt old new core store.loc.0 word access → IsSameMachine old new
+    → HasUsed (use_of (caches_of old) (pending_in core p) (drain_by p core).commits) new (Through access)
+drains core p old new store word access h done machine =
+    subst (λ u. HasUsed u new (Through access)) (sym (drained-uses (caches_of old) (pending_in core p) core (core_state core p) p.stores.items store h))
+    (writes old new core store.loc.0 word access done machine)

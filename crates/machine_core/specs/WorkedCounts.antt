@@ -1,0 +1,76 @@
+-- Worked runs, for what their accesses come to.
+use Rattle.std.specs.Prelude.{ℕ, List, [], ◌∷◌, None, codes}
+use Rattle.tso_model.specs.Litmus.{Litmus}
+use Rattle.tso_model.specs.Examples.{loc_x, loc_y, zeros, step, drain}
+use Rattle.tso_model.specs.declared.register.Reg.TheVariants.{Eax, Ebx}
+use Rattle.tso_model.specs.declared.instruction.Loc.{Loc}
+use Rattle.tso_model.specs.declared.instruction.Instr.TheVariants.{StoreImm, Load}
+use Rattle.tso_model.specs.declared.choice.Choice.{Choice}
+use Rattle.snoop_bus.specs.Geometry.{Geometry, geometry}
+use Rattle.machine_core.specs.declared.counts.Counts.{Counts}
+use Rattle.machine_core.specs.Statistics.{counts}
+
+-- one set for two lines of a word, and one for a single line
+abbrev pub two_lines : Geometry
+two_lines = geometry 1 2 1
+
+abbrev pub one_line : Geometry
+one_line = geometry 1 1 1
+
+-- misses and nothing else
+abbrev pub missed : ℕ → Counts
+missed n = counts 0 n 0 0 0 0
+
+-- store buffering, where each core's store goes to memory before its load
+abbrev pub in_turn : List Choice
+in_turn = step 0 ∷ (drain 0 ∷ (step 0 ∷ (step 1 ∷ (drain 1 ∷ (step 1 ∷ [])))))
+
+-- of the test in which a core reads its own store before memory has it
+abbrev pub own_store_first : List Choice
+own_store_first = step 0 ∷ (step 0 ∷ (step 0 ∷ (step 1 ∷ (step 1 ∷ (drain 1 ∷ (drain 1 ∷ (drain 0 ∷ [])))))))
+
+-- a core loads a word and then stores to it
+abbrev pub load_store : Litmus
+load_store = record {
+  name = codes "load-store";
+  locations = codes "x" ∷ [];
+  words = 0 ∷ [];
+  registers = zeros ∷ [];
+  programs = (Load Eax loc_x ∷ (StoreImm loc_x 1 ∷ [])) ∷ [];
+  condition = None;
+}
+
+abbrev pub load_store_choices : List Choice
+load_store_choices = step 0 ∷ (step 0 ∷ (drain 0 ∷ []))
+
+-- a core stores to two words, and another loads the first of them
+abbrev pub two_stores : Litmus
+two_stores = record {
+  name = codes "two-stores";
+  locations = codes "x" ∷ (codes "y" ∷ []);
+  words = 0 ∷ (0 ∷ []);
+  registers = zeros ∷ (zeros ∷ []);
+  programs = (StoreImm loc_x 1 ∷ (StoreImm loc_y 1 ∷ [])) ∷ ((Load Eax loc_x ∷ []) ∷ []);
+  condition = None;
+}
+
+-- the load comes between the two stores
+abbrev pub two_stores_choices : List Choice
+two_stores_choices = step 0 ∷ (drain 0 ∷ (step 1 ∷ (step 0 ∷ (drain 0 ∷ []))))
+
+abbrev pub loc_z : Loc
+loc_z = record { 0 = 2 }
+
+-- a core loads three words, the first of them again and again
+abbrev pub five_loads : Litmus
+five_loads = record {
+  name = codes "five-loads";
+  locations = codes "x" ∷ (codes "y" ∷ (codes "z" ∷ []));
+  words = 0 ∷ (0 ∷ (0 ∷ []));
+  registers = zeros ∷ [];
+  programs = (Load Eax loc_x ∷ (Load Ebx loc_y ∷ (Load Eax loc_x ∷ (Load Ebx loc_z ∷ (Load Eax loc_x ∷ []))))) ∷ [];
+  condition = None;
+}
+
+abbrev pub five_loads_choices : List Choice
+five_loads_choices = step 0 ∷ (step 0 ∷ (step 0 ∷ (step 0 ∷ (step 0 ∷ []))))

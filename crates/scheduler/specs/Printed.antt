@@ -1,0 +1,20 @@
+-- The printed text of choices. (This project's profile.)
+use Rattle.std.specs.Prelude.{ℕ, List, [], ◌∷◌, ◌++◌, codes}
+use Rattle.std.specs.Fmt.{decimal}
+use Rattle.tso_model.specs.declared.choice.Choice.{Choice}
+use Rattle.tso_model.specs.declared.choice.Choice.TheVariants.{Step, Drain}
+
+-- a choice: `0s` for a step of core 0, `0d` for its drain
+abbrev pub printed_choice : Choice → List ℕ
+printed_choice (Step core) = decimal core.0 ++ codes "s"
+printed_choice (Drain core) = decimal core.0 ++ codes "d"
+
+-- choices behind others, each behind a space
+abbrev pub printed_behind : List Choice → List ℕ
+printed_behind [] = []
+printed_behind (c ∷ cs) = 32 ∷ (printed_choice c ++ printed_behind cs)
+
+-- choices in their order, with single spaces between them: `0s 1d`
+abbrev pub printed_choices : List Choice → List ℕ
+printed_choices [] = []
+printed_choices (c ∷ cs) = printed_choice c ++ printed_behind cs

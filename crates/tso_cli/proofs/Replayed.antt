@@ -1,0 +1,147 @@
+-- What `witness` prints, and what `run` answers to it.
+use Rattle.std.proofs.Common.{◌≡◌, ◌+◌, ◌*◌, ◌≤◌, ◌<◌, ◌^◌, ℕ, true, List, [], ◌∷◌, ◌++◌, length, codes, length-append, refl, sym, ap, subst, ◌∙◌, arith}
+use Rattle.std.specs.Fmt.{decimal}
+use Rattle.std.proofs.lemmas.Fmt.{length-decimal-le_succ}
+use Rattle.tso_model.specs.Litmus.{Litmus, IsTest}
+use Rattle.tso_model.specs.Execution.{IsTsoExecution}
+use Rattle.tso_model.specs.FlatMachine.{chosen}
+use Rattle.tso_model.specs.Runs.{run, CoresExist}
+use Rattle.tso_model.specs.declared.execution.Entry.{Entry}
+use Rattle.tso_model.specs.declared.choice.Choice.{Choice}
+use Rattle.tso_model.specs.declared.choice.Choice.TheVariants.{Step, Drain}
+use Rattle.tso_laws.specs.Along.{choices_along, LeadTo}
+use Rattle.tso_laws.specs.Depth.{needed}
+use Rattle.litmus_reader.specs.Spelling.{SpellsTest, IsRefused as IsRefusedTest}
+use Rattle.scheduler.specs.Grammar.{SpellsChoices}
+use Rattle.scheduler.specs.Printed.{printed_choice, printed_behind, printed_choices}
+use Rattle.order_builder.specs.Spelling.{SpellsOrder}
+use Rattle.protocol_tables.specs.declared.kind.ProtocolKind.{ProtocolKind}
+use Rattle.machine_core.specs.Configuration.{Configuration, IsWithinLimits}
+use Rattle.tso_report.specs.Report.{report}
+use Rattle.tso_cli.specs.Parts.{Parts, parts_of, joined}
+use Rattle.tso_cli.specs.Simulation.{shown_of}
+use Rattle.tso_cli.specs.Witness.{choices_line, IsWitness, IsWitnessAnswer, ReportsOrder, reached, too_small, invalid, refused, judged}
+use Rattle.tso_cli.specs.Answers.{run_text, run_status, IsRunAnswer, IsInputAnswer, too_large, refused, answered, ran}
+use Rattle.tso_cli.specs.declared.task.Task.TheVariants as tasks
+use Rattle.tso_cli.specs.declared.answer.Status.{Status}
+use Rattle.tso_cli.specs.declared.answer.Status.TheVariants.{Good}
+use Rattle.tso_cli.proofs.OneAnswer.{Texts}
+use Rattle.tso_cli.proofs.WitnessLemmas.{Reaching, choices-few, line-spells}
+
+-- ---- the line of choices is short
+
+choice-short : (c : Choice) → chosen c < 4 → length (printed_choice c) ≤ 5
+choice-short (Step core) small = let digits = length-decimal-le_succ core.0 (omega arith) in omega (arith, length-append (decimal core.0) (codes "s"))
+choice-short (Drain core) small = let digits = length-decimal-le_succ core.0 (omega arith) in omega (arith, length-append (decimal core.0) (codes "d"))
+
+behind-short : (cores : ℕ) (cs : List Choice) → cores ≤ 4 → CoresExist cores cs → length (printed_behind cs) ≤ 6 * length cs
+behind-short cores [] few there = omega arith
+behind-short cores (c ∷ cs) few there =
+    let below : chosen c < 4 = let b = there.0 in omega (arith, b, few) in
+    let first = choice-short c below in
+    let others = behind-short cores cs few there.1 in
+    omega (arith, length-append (printed_choice c) (printed_behind cs))
+
+choices-short : (cores : ℕ) (cs : List Choice) → cores ≤ 4 → CoresExist cores cs → length (printed_choices cs) ≤ 6 * length cs
+choices-short cores [] few there = omega arith
+choices-short cores (c ∷ cs) few there =
+    let below : chosen c < 4 = let b = there.0 in omega (arith, b, few) in
+    let first = choice-short c below in
+    let others = behind-short cores cs few there.1 in
+    omega (arith, length-append (printed_choice c) (printed_behind cs))
+
+line-short : (t : Litmus) (depth : ℕ) (choices : List Choice) (order : List Entry) → Reaching → IsTest t → 0 < depth → LeadTo t depth choices order
+    → length (choices_line choices) ≤ 2000
+line-short t depth choices order laws test some lead =
+    let cores = test.cores in
+    let few = choices-few t depth choices order laws test some lead in
+    let short = choices-short (length t.programs) choices (omega arith) lead.cores in
+    omega (arith, length-append (printed_choices choices) (10 ∷ []))
+
+-- ---- where `witness` finds choices
+
+record Found (depth : ℕ) (input out : List ℕ) : Type 0 where
+  t : Litmus
+  order : List Entry
+  test_spelled : SpellsTest (parts_of input).test t
+  order_spelled : SpellsOrder t (parts_of input).rest order
+  execution : IsTsoExecution t order
+  enough : needed order ≤ depth
+  is : out ≡ choices_line (choices_along t order)
+
+order-found : (t : Litmus) (depth : ℕ) (order : List Entry) (input out : List ℕ) (status : Status) → SpellsTest (parts_of input).test t
+    → SpellsOrder t (parts_of input).rest order → status ≡ Good → IsWitness t depth order out status → Found depth input out
+order-found t depth order input _ _ spelled spells good (reached is enough) =
+    record { t = t; order = order; test_spelled = spelled; order_spelled = spells; execution = is; enough = enough; is = refl }
+order-found t depth order input _ _ spelled spells good (too_small is less) = absurd (let no : ⊥ = cc in no)
+order-found t depth order input _ _ spelled spells good (invalid b first) = absurd (let no : ⊥ = cc in no)
+
+test-found : (t : Litmus) (depth : ℕ) (input out : List ℕ) (status : Status) → SpellsTest (parts_of input).test t → status ≡ Good
+    → IsWitnessAnswer t depth (parts_of input).rest out status → Found depth input out
+test-found t depth input _ _ spelled good (refused fault h) = absurd (let no : ⊥ = cc in no)
+test-found t depth input _ _ spelled good (judged order out status spells is) = order-found t depth order input out status spelled spells good is
+
+found : (depth : ℕ) (input out : List ℕ) (status : Status) → status ≡ Good → IsInputAnswer (tasks.Witness depth) input out status → Found depth input out
+found depth input _ _ good (too_large large) = absurd (let no : ⊥ = cc in no)
+found depth input _ _ good (refused fault small is) = absurd (let no : ⊥ = cc in no)
+found depth input _ _ good (answered t out status small spelled is) = test-found t depth input out status spelled good is
+
+-- ---- what `run` answers to these choices
+
+abbrev Replays : ProtocolKind → Configuration → Litmus → List Entry → List ℕ → Status → Type 0
+Replays kind c t order answer status =
+    (answer ≡ report t kind c (shown_of t (run t c.depth (choices_along t order)))) × (status ≡ Good)
+
+replays : (kind : ProtocolKind) (c : Configuration) (t : Litmus) (order : List Entry) (out answer : List ℕ) (status : Status) → Texts → IsTest t
+    → SpellsChoices (length t.programs) out (choices_along t order) → (run t c.depth (choices_along t order)).ended ≡ true
+    → IsRunAnswer t kind c out answer status → Replays kind c t order answer status
+replays kind c t order out _ _ laws test spells ended (refused fault h) =
+    absurd ((laws.decided (length t.programs) out test.some_core).never_both (choices_along t order) fault spells h)
+replays kind c t order out _ _ laws test spells ended (ran choices read) =
+    let same : choices ≡ choices_along t order = (laws.decided (length t.programs) out test.some_core).one_list choices (choices_along t order) read spells in
+    rw (same, ended) (refl, refl)
+
+replayed-joined : (kind : ProtocolKind) (c : Configuration) (test out input answer : List ℕ) (status : Status) (t : Litmus) (order : List Entry) → Texts
+    → input ≡ joined test out → parts_of (joined test out) ≡ record { test = test; rest = out } → length out ≤ 2000 → SpellsTest test t
+    → SpellsChoices (length t.programs) out (choices_along t order) → (run t c.depth (choices_along t order)).ended ≡ true
+    → IsInputAnswer (tasks.Run kind c) input answer status → Replays kind c t order answer status
+replayed-joined kind c test out input _ _ t order laws same parted short spelled spells ended (too_large large) =
+    let size : length test ≤ 65536 = spelled.is.small in
+    absurd (omega (arith, ap (λ (l : List ℕ). length l) same, length-append test (codes "====\n" ++ out), length-append (codes "====\n") out))
+replayed-joined kind c test out input _ _ t order laws same parted short spelled spells ended (refused fault small is) =
+    let first : (parts_of input).test ≡ test = ap (λ i. (parts_of i).test) same ∙ ap (λ (p : Parts). p.test) parted in
+    absurd (laws.refused_or_not test t fault spelled (subst (λ text. IsRefusedTest text fault) first is))
+replayed-joined kind c test out input _ _ t order laws same parted short spelled spells ended (answered other answer status small too is) =
+    let first : (parts_of input).test ≡ test = ap (λ i. (parts_of i).test) same ∙ ap (λ (p : Parts). p.test) parted in
+    let second : (parts_of input).rest ≡ out = ap (λ i. (parts_of i).rest) same ∙ ap (λ (p : Parts). p.rest) parted in
+    let one : other ≡ t = laws.one_test test other t (subst (λ text. SpellsTest text other) first too) spelled in
+    replays kind c t order out answer status laws (laws.test test t spelled) spells ended
+    (subst (λ (u : Litmus). IsRunAnswer u kind c out answer status) one (subst (λ text. IsRunAnswer other kind c text answer status) second is))
+
+pub replayed : (kind : ProtocolKind) (c : Configuration) (input out answer : List ℕ) (status : Status) → Texts → Reaching → IsWithinLimits c
+    → parts_of (joined (parts_of input).test out) ≡ record { test = (parts_of input).test; rest = out }
+    → IsInputAnswer (tasks.Witness c.depth) input out Good → IsInputAnswer (tasks.Run kind c) (joined (parts_of input).test out) answer status
+    → ReportsOrder kind c (parts_of input) answer × (status ≡ Good)
+replayed kind c input out answer status texts reaching within parted is answered_so =
+    let f = found c.depth input out Good refl is in
+    let test = texts.test (parts_of input).test f.t f.test_spelled in
+    let some : 0 < c.depth = let least = within.0 in omega arith in
+    let choices : List Choice = choices_along f.t f.order in
+    let lead = reaching.lead f.t c.depth f.order test f.execution f.enough in
+    let spells : SpellsChoices (length f.t.programs) out choices =
+    subst (λ text. SpellsChoices (length f.t.programs) text choices) (sym f.is) (line-spells f.t c.depth choices f.order reaching test some lead) in
+    let short : length out ≤ 2000 = subst (λ (text : List ℕ). length text ≤ 2000) (sym f.is) (line-short f.t c.depth choices f.order reaching test some lead) in
+    let answers = replayed-joined kind c (parts_of input).test out (joined (parts_of input).test out) answer status f.t f.order texts refl parted short f.test_spelled spells lead.ended answered_so in (
+      record {
+        t = f.t;
+        order = f.order;
+        test_spelled = f.test_spelled;
+        order_spelled = f.order_spelled;
+        shown = shown_of f.t (run f.t c.depth choices);
+        printed = answers.0;
+        reached = lead.commits;
+        stalled = lead.stalled;
+        unused = lead.unused;
+      },
+      answers.1,
+    )

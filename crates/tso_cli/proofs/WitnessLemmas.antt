@@ -1,0 +1,122 @@
+-- What `witness` answers, and what that means.
+use Rattle.std.proofs.Common.{◌≡◌, ◌≢◌, ◌+◌, ◌*◌, ◌≤◌, ◌<◌, ◌^◌, ℕ, true, false, IsTrue, List, [], ◌∷◌, ◌++◌, length, All, refl, sym, ap, subst, ◌∙◌, arith}
+use Rattle.std.specs.List.{list_all}
+use Rattle.std.proofs.lemmas.List.Elements.{All-head, All-tail, All-weaker}
+use Rattle.tso_model.specs.Limits.{most_depth}
+use Rattle.tso_model.specs.Litmus.{Litmus, IsTest, IsProgram}
+use Rattle.tso_model.specs.Execution.{IsTsoExecution}
+use Rattle.tso_model.specs.Runs.{run, CoresExist}
+use Rattle.tso_model.specs.declared.instruction.Instr.{Instr}
+use Rattle.tso_model.specs.declared.instruction.Instr.TheVariants.{StoreImm, StoreReg, Load, SetImm, SetReg, Fence, Xchg, Xadd}
+use Rattle.tso_model.specs.declared.execution.Entry.{Entry}
+use Rattle.tso_model.specs.declared.choice.Choice.{Choice}
+use Rattle.tso_laws.specs.Along.{choices_along, LeadTo}
+use Rattle.tso_laws.specs.Counting.{is_plain_store, stores_in, instructions, stores}
+use Rattle.tso_laws.specs.Depth.{needed}
+use Rattle.tso_laws.specs.EndedRuns.{End}
+use Rattle.scheduler.specs.Grammar.{SpellsChoices}
+use Rattle.scheduler.specs.Limits.{most_choices}
+use Rattle.scheduler.specs.Printed.{printed_choices}
+use Rattle.scheduler.specs.Words.{is_space}
+use Rattle.tso_cli.specs.Headline.{WitnessesOrder, WitnessesEachOrder, reached, unreached, broken}
+use Rattle.tso_cli.specs.Limits.{IsDepth}
+use Rattle.tso_cli.specs.Simulation.{IsEndingOf}
+use Rattle.tso_cli.specs.Witness.{choices_line, IsWitness, IsWitnessAnswer, HasEndedWith, reached, too_small, invalid, refused, judged}
+use Rattle.tso_cli.specs.declared.simulation.Ending.{Ending}
+use Rattle.tso_cli.specs.declared.simulation.Ending.TheVariants.{Ended, Unfinished}
+use Rattle.tso_cli.specs.declared.answer.Status.{Status}
+use Rattle.tso_cli.specs.declared.answer.Status.TheVariants.{Good}
+use Rattle.tso_cli.proofs.CheckLemmas.{IsReal}
+use Rattle.tso_cli.proofs.OneAnswer.{Texts}
+
+-- what the crates below say of choices that reach an order
+pub record Reaching : Type 0 where
+  pub lead : (t : Litmus) (depth : ℕ) (order : List Entry) → IsTest t → IsTsoExecution t order → needed order ≤ depth → LeadTo t depth (choices_along t order) order
+  pub never : (t : Litmus) (depth : ℕ) (order : List Entry) (choices : List Choice) → IsTest t → 0 < depth → depth < needed order → (run t depth choices).commits ≢ order
+  pub counted : (t : Litmus) (depth : ℕ) (choices : List Choice) → 0 < depth → End t depth choices
+      → (run t depth choices).used ≡ (run t depth choices).stalled + (instructions t.programs + stores t.programs)
+  pub spelled : (cores : ℕ) (choices : List Choice) (white : List ℕ) → cores < 2 ^ 64 → CoresExist cores choices → length choices ≤ most_choices
+      → IsTrue (list_all is_space white) → SpellsChoices cores (printed_choices choices ++ white) choices
+
+-- ---- how many choices reach an order
+
+store-few : (x : Instr) → is_plain_store x ≤ 1
+store-few (StoreImm loc value) = omega arith
+store-few (StoreReg loc reg) = omega arith
+store-few (Load reg loc) = omega arith
+store-few (SetImm reg value) = omega arith
+store-few (SetReg reg other) = omega arith
+store-few Fence = omega arith
+store-few (Xchg loc reg) = omega arith
+store-few (Xadd loc reg) = omega arith
+
+stores_in-few : (p : List Instr) → stores_in p ≤ length p
+stores_in-few [] = omega arith
+stores_in-few (x ∷ xs) = let one = store-few x in let others = stores_in-few xs in omega arith
+
+work-few : (programs : List (List Instr)) → All (λ p. length p ≤ 32) programs → instructions programs + stores programs ≤ 64 * length programs
+work-few [] small = omega arith
+work-few (p ∷ ps) small =
+    let first : length p ≤ 32 = All-head (λ (p : List Instr). length p ≤ 32) p ps small in
+    let here = stores_in-few p in
+    let others = work-few ps (All-tail (λ (p : List Instr). length p ≤ 32) p ps small) in
+    omega arith
+
+pub choices-few : (t : Litmus) (depth : ℕ) (choices : List Choice) (order : List Entry) → Reaching → IsTest t → 0 < depth → LeadTo t depth choices order → length choices ≤ 256
+choices-few t depth choices order laws test some lead =
+    let sizes : All (λ p. length p ≤ 32) t.programs = All-weaker (IsProgram (length t.locations)) (λ (p : List Instr). length p ≤ 32) (λ p fits. fits.size) t.programs test.programs_fit in
+    let cores = test.cores in
+    let work = work-few t.programs sizes in
+    let count = laws.counted t depth choices some lead.ended in
+    let used = lead.used in
+    let stalled = lead.stalled in
+    omega arith
+
+-- ---- the line of the choices spells them
+
+pub line-spells : (t : Litmus) (depth : ℕ) (choices : List Choice) (order : List Entry) → Reaching → IsTest t → 0 < depth → LeadTo t depth choices order
+    → SpellsChoices (length t.programs) (choices_line choices) choices
+unfolding is_space
+line-spells t depth choices order laws test some lead =
+    let cores = test.cores in
+    let few = choices-few t depth choices order laws test some lead in
+    laws.spelled (length t.programs) choices (10 ∷ []) (omega arith) lead.cores (omega arith) refl
+
+-- ---- what the answer means
+
+order-means : (t : Litmus) (depth : ℕ) (order : List Entry) (out : List ℕ) (status : Status) → Reaching → IsTest t → IsDepth depth
+    → IsWitness t depth order out status → WitnessesOrder t depth order out
+order-means t depth order _ _ laws test within (reached is enough) =
+    let lead = laws.lead t depth order test is enough in
+    reached (choices_along t order) is (line-spells t depth (choices_along t order) order laws test (let least = within.0 in omega arith) lead) lead
+order-means t depth order _ _ laws test within (too_small is less) =
+    unreached is (λ choices. laws.never t depth order choices test (let least = within.0 in omega arith) less) refl
+order-means t depth order _ _ laws test within (invalid b first) = broken b first refl
+
+pub witness-means : (t : Litmus) (depth : ℕ) (text out : List ℕ) (status : Status) → Texts → Reaching → IsTest t → IsDepth depth → length text < 2 ^ 64
+    → IsWitnessAnswer t depth text out status → WitnessesEachOrder t depth text out
+witness-means t depth text _ _ texts laws test within short (refused fault has) = record {
+  every_order = λ order spelled. absurd (texts.never_both t text order fault test short spelled has);
+  every_other = λ none. (fault, has, refl);
+}
+witness-means t depth text _ _ texts laws test within short (judged order out status spelled is) = record {
+  every_order = λ other again. subst (λ o. WitnessesOrder t depth o out) (texts.once t text order other test short spelled again)
+      (order-means t depth order out status laws test within is);
+  every_other = λ none. absurd (none order spelled);
+}
+
+-- ---- a simulation under choices that lead to an order
+
+pub led-ends : (t : Litmus) (depth : ℕ) (choices : List Choice) (order : List Entry) (ending : Ending) → LeadTo t depth choices order
+    → IsEndingOf t (run t depth choices) ending → HasEndedWith order ending
+led-ends t depth choices order (Ended run) lead is =
+    (ap (λ s. s.order) is.1 ∙ lead.commits, ap (λ s. s.stalled) is.1 ∙ lead.stalled, ap (λ s. s.unused) is.1 ∙ lead.unused)
+led-ends t depth choices order (Unfinished used stalled) lead is = absurd (let both : true ≡ false = sym lead.ended ∙ is.0 in let no : ⊥ = cc in no)
+
+-- ---- at the greatest depth
+
+pub found-at-greatest : (t : Litmus) (order : List Entry) (out : List ℕ) (status : Status) → needed order ≤ most_depth → IsReal → IsTsoExecution t order
+    → IsWitness t most_depth order out status → (out ≡ choices_line (choices_along t order)) × (status ≡ Good)
+found-at-greatest t order _ _ enough real execution (reached is also) = (refl, refl)
+found-at-greatest t order _ _ enough real execution (too_small is less) = absurd (omega arith)
+found-at-greatest t order _ _ enough real execution (invalid b first) = absurd (real t order b first execution)
