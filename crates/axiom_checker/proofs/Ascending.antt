@@ -1,5 +1,6 @@
 -- The entries that the programs make have slots of their own, one behind the other.
 use Rattle.std.proofs.Common.{◌≡◌, ◌<◌, ◌≤◌, ℕ, ◌+◌, ◌*◌, suc, zero, List, [], ◌∷◌, ◌++◌, length, Some, slice_get, slice_index, slice_index_or, take, drop, replicate, All, arith, refl, subst, ◌⊎◌, inl, inr, sym}
+use Rattle.tso_model.specs.Limits.{most_instructions}
 use Rattle.tso_model.specs.Thread.{entries_of, with_value, value_in, reads_in}
 use Rattle.tso_model.specs.Litmus.{Litmus, IsProgram, IsTest}
 use Rattle.tso_model.specs.Execution.{read_values, made_from, made}
@@ -7,7 +8,7 @@ use Rattle.tso_model.specs.declared.instruction.Instr.{Instr}
 use Rattle.tso_model.specs.declared.instruction.Instr.TheVariants.{StoreImm, StoreReg, Load, SetImm, SetReg, Fence, Xchg, Xadd}
 use Rattle.tso_model.specs.declared.execution.Entry.{Entry}
 use Rattle.axiom_checker.specs.Programs.{shape_from}
-use Rattle.axiom_checker.specs.Slots.{slot_of, Ascends}
+use Rattle.axiom_checker.specs.Slots.{slot_of, Ascends, slots_of_a_core}
 use Rattle.axiom_checker.proofs.Firsts.{three-ways}
 
 ascends-within : (low high new_low new_high : ℕ) (es : List Entry) → new_low ≤ low → high ≤ new_high → Ascends low high es → Ascends new_low new_high es
@@ -20,7 +21,7 @@ ascends-append low middle high (x ∷ xs) ys h k = (h.0, ascends-append (slot_of
 
 -- from a place of a core's program on
 abbrev from_place : ℕ → ℕ → ℕ
-from_place core place = core * 64 + (place + place)
+from_place core place = core * slots_of_a_core + (place + place)
 
 later : (core place n low : ℕ) (es : List Entry) → low ≤ from_place core (place + 1) → Ascends (from_place core (place + 1)) (from_place core (place + 1 + n)) es → Ascends low (from_place core (place + suc n)) es
 later core place n low es l h = ascends-within (from_place core (place + 1)) (from_place core (place + 1 + n)) low (from_place core (place + suc n)) es l (omega arith) h
@@ -44,9 +45,9 @@ entries-ascend core place (Xchg loc reg ∷ rest) registers reads =
 entries-ascend core place (Xadd loc reg ∷ rest) registers reads =
     (omega arith, (omega arith, later core place (length rest) _ _ (omega arith) (entries-ascend core (place + 1) rest (with_value registers reg (slice_index reads 0)) (drop 1 reads))))
 
-pub core-ascends : (core : ℕ) (program : List Instr) (registers reads : List ℕ) → length program ≤ 32 → Ascends (core * 64) ((core + 1) * 64) (entries_of core 0 program registers reads)
+pub core-ascends : (core : ℕ) (program : List Instr) (registers reads : List ℕ) → length program ≤ most_instructions → Ascends (core * slots_of_a_core) ((core + 1) * slots_of_a_core) (entries_of core 0 program registers reads)
 core-ascends core program registers reads l =
-    ascends-within (from_place core 0) (from_place core (0 + length program)) (core * 64) ((core + 1) * 64) _ (omega arith) (omega arith) (entries-ascend core 0 program registers reads)
+    ascends-within (from_place core 0) (from_place core (0 + length program)) (core * slots_of_a_core) ((core + 1) * slots_of_a_core) _ (omega arith) (omega arith) (entries-ascend core 0 program registers reads)
 
 pub all-first : {X : Type 0} (P : X → Type 0) (x : X) (xs : List X) → All P (x ∷ xs) → P x
 all-first P x xs h = h 0 x (omega arith)
@@ -54,29 +55,29 @@ all-first P x xs h = h 0 x (omega arith)
 pub all-rest : {X : Type 0} (P : X → Type 0) (x : X) (xs : List X) → All P (x ∷ xs) → All P xs
 all-rest P x xs h = λ k d l. h (suc k) d (omega arith)
 
-made_from-ascends : (n core : ℕ) (programs : List (List Instr)) (registers : List (List ℕ)) (order : List Entry) → All (IsProgram n) programs → Ascends (core * 64) ((core + length programs) * 64) (made_from core programs registers order)
+made_from-ascends : (n core : ℕ) (programs : List (List Instr)) (registers : List (List ℕ)) (order : List Entry) → All (IsProgram n) programs → Ascends (core * slots_of_a_core) ((core + length programs) * slots_of_a_core) (made_from core programs registers order)
 made_from-ascends n core [] registers order h = omega arith
 made_from-ascends n core (p ∷ ps) registers order h =
-    ascends-append (core * 64) ((core + 1) * 64) ((core + suc (length ps)) * 64) _ _
+    ascends-append (core * slots_of_a_core) ((core + 1) * slots_of_a_core) ((core + suc (length ps)) * slots_of_a_core) _ _
     (core-ascends core p (slice_index_or registers core []) (read_values core 0 p order) (all-first (IsProgram n) p ps h).size)
-    (ascends-within ((core + 1) * 64) ((core + 1 + length ps) * 64) ((core + 1) * 64) ((core + suc (length ps)) * 64) _ (omega arith) (omega arith)
+    (ascends-within ((core + 1) * slots_of_a_core) ((core + 1 + length ps) * slots_of_a_core) ((core + 1) * slots_of_a_core) ((core + suc (length ps)) * slots_of_a_core) _ (omega arith) (omega arith)
     (made_from-ascends n (core + 1) ps registers order (all-rest (IsProgram n) p ps h)))
 
-shape_from-ascends : (n core : ℕ) (programs : List (List Instr)) (registers : List (List ℕ)) → All (IsProgram n) programs → Ascends (core * 64) ((core + length programs) * 64) (shape_from core programs registers)
+shape_from-ascends : (n core : ℕ) (programs : List (List Instr)) (registers : List (List ℕ)) → All (IsProgram n) programs → Ascends (core * slots_of_a_core) ((core + length programs) * slots_of_a_core) (shape_from core programs registers)
 shape_from-ascends n core [] registers h = omega arith
 shape_from-ascends n core (p ∷ ps) registers h =
-    ascends-append (core * 64) ((core + 1) * 64) ((core + suc (length ps)) * 64) _ _
+    ascends-append (core * slots_of_a_core) ((core + 1) * slots_of_a_core) ((core + suc (length ps)) * slots_of_a_core) _ _
     (core-ascends core p (slice_index_or registers core []) (replicate (reads_in p) 0) (all-first (IsProgram n) p ps h).size)
-    (ascends-within ((core + 1) * 64) ((core + 1 + length ps) * 64) ((core + 1) * 64) ((core + suc (length ps)) * 64) _ (omega arith) (omega arith)
+    (ascends-within ((core + 1) * slots_of_a_core) ((core + 1 + length ps) * slots_of_a_core) ((core + 1) * slots_of_a_core) ((core + suc (length ps)) * slots_of_a_core) _ (omega arith) (omega arith)
     (shape_from-ascends n (core + 1) ps registers (all-rest (IsProgram n) p ps h)))
 
-pub made-ascends : (t : Litmus) (order : List Entry) → IsTest t → Ascends 0 (length t.programs * 64) (made t order)
+pub made-ascends : (t : Litmus) (order : List Entry) → IsTest t → Ascends 0 (length t.programs * slots_of_a_core) (made t order)
 made-ascends t order valid =
-    ascends-within (0 * 64) ((0 + length t.programs) * 64) 0 (length t.programs * 64) _ (omega arith) (omega arith) (made_from-ascends (length t.locations) 0 t.programs t.registers order valid.programs_fit)
+    ascends-within (0 * slots_of_a_core) ((0 + length t.programs) * slots_of_a_core) 0 (length t.programs * slots_of_a_core) _ (omega arith) (omega arith) (made_from-ascends (length t.locations) 0 t.programs t.registers order valid.programs_fit)
 
-pub shape-ascends : (t : Litmus) → IsTest t → Ascends 0 (length t.programs * 64) (shape_from 0 t.programs t.registers)
+pub shape-ascends : (t : Litmus) → IsTest t → Ascends 0 (length t.programs * slots_of_a_core) (shape_from 0 t.programs t.registers)
 shape-ascends t valid =
-    ascends-within (0 * 64) ((0 + length t.programs) * 64) 0 (length t.programs * 64) _ (omega arith) (omega arith) (shape_from-ascends (length t.locations) 0 t.programs t.registers valid.programs_fit)
+    ascends-within (0 * slots_of_a_core) ((0 + length t.programs) * slots_of_a_core) 0 (length t.programs * slots_of_a_core) _ (omega arith) (omega arith) (shape_from-ascends (length t.locations) 0 t.programs t.registers valid.programs_fit)
 
 -- the slots of such a list
 pub slot-within : (low high : ℕ) (list : List Entry) → Ascends low high list → (k : ℕ) (e : Entry) → slice_get list k ≡ Some e → (low ≤ slot_of e) × (slot_of e < high)

@@ -11,7 +11,7 @@ use Rattle.tso_model.specs.declared.execution.Entry.{Entry}
 use Rattle.axiom_checker.specs.First.{IsFirst, IsNowhere}
 use Rattle.axiom_checker.specs.Entries.{same_action, same_but_value, IsExtra, IsTwice, IsStray, IsMissing}
 use Rattle.axiom_checker.specs.Programs.{kept_in}
-use Rattle.axiom_checker.specs.Slots.{slot_of, Ascends, IsIndex, HasCome, HasNotCome}
+use Rattle.axiom_checker.specs.Slots.{slot_of, Ascends, IsIndex, HasCome, HasNotCome, slots_of_a_core}
 use Rattle.axiom_checker.proofs.Actions.{SameAction, same-parts, same-from, same-turned, same_but_value-parts, entry-is, NoneTwice}
 use Rattle.axiom_checker.proofs.Shapes.{IsAlike, AreAlike, alike-at, all-turned}
 use Rattle.axiom_checker.proofs.Keeps.{equal-or-not}
@@ -24,7 +24,7 @@ pub same-rank : (x y : Entry) → SameAction x y → rank x ≡ rank y
 same-rank x y s = ap (λ p. p + p + part_of x.kind) s.place ∙ ap (λ k. y.place + y.place + part_of k) s.kind
 
 pub same-slot : (x y : Entry) → SameAction x y → slot_of x ≡ slot_of y
-same-slot x y s = ap (λ c. c * 64 + rank x) s.core ∙ ap (λ r. y.core.0 * 64 + r) (same-rank x y s)
+same-slot x y s = ap (λ c. c * slots_of_a_core + rank x) s.core ∙ ap (λ r. y.core.0 * slots_of_a_core + r) (same-rank x y s)
 
 pub same-tested : (x y z : Entry) → SameAction x y → same_action x z ≡ same_action y z
 same-tested x y z s = ap (λ c. is_at c x.place x.kind z) s.core ∙ ap (λ p. is_at y.core.0 p x.kind z) s.place ∙ ap (λ k. is_at y.core.0 y.place k z) s.kind

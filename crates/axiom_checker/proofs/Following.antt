@@ -15,7 +15,7 @@ use Rattle.tso_model.specs.declared.execution.Kind.TheVariants.{R, W, F, LR, LW}
 use Rattle.axiom_checker.specs.Entries.{IsStray, IsExtra}
 use Rattle.axiom_checker.specs.Axioms.{due_at}
 use Rattle.axiom_checker.specs.Programs.{kept_in}
-use Rattle.axiom_checker.specs.Slots.{slot_of, Ascends}
+use Rattle.axiom_checker.specs.Slots.{slot_of, Ascends, slots_of_a_core}
 use Rattle.axiom_checker.specs.Sources.{own_write, noted_write, IsLastOwn, IsSource, HasSources}
 use Rattle.axiom_checker.specs.Passing.{due_from}
 use Rattle.axiom_checker.proofs.Firsts.{three-ways}
@@ -53,17 +53,17 @@ before-from x y b = and-both (x.core.0 == y.core.0) (nat_lt (rank x) (rank y)) (
 
 -- of one core, slots go by rank
 rank-of-slot : (x y : Entry) → x.core.0 ≡ y.core.0 → slot_of x < slot_of y → rank x < rank y
-rank-of-slot x y c l = let q : x.core.0 * 64 ≡ y.core.0 * 64 = ap (λ n. n * 64) c in omega arith
+rank-of-slot x y c l = let q : x.core.0 * slots_of_a_core ≡ y.core.0 * slots_of_a_core = ap (λ n. n * slots_of_a_core) c in omega arith
 
 slot-of-rank : (x y : Entry) → x.core.0 ≡ y.core.0 → rank x < rank y → slot_of x < slot_of y
-slot-of-rank x y c l = let q : x.core.0 * 64 ≡ y.core.0 * 64 = ap (λ n. n * 64) c in omega arith
+slot-of-rank x y c l = let q : x.core.0 * slots_of_a_core ≡ y.core.0 * slots_of_a_core = ap (λ n. n * slots_of_a_core) c in omega arith
 
 slot-of-equal : (x y : Entry) → x.core.0 ≡ y.core.0 → rank x ≡ rank y → slot_of x ≡ slot_of y
-slot-of-equal x y c l = ap (λ n. n * 64 + rank x) c ∙ ap (λ n. y.core.0 * 64 + n) l
+slot-of-equal x y c l = ap (λ n. n * slots_of_a_core + rank x) c ∙ ap (λ n. y.core.0 * slots_of_a_core + n) l
 
 -- the rank of an entry of the programs fits the slots of its core
 abbrev Fits : Entry → Type 0
-Fits e = rank e < 64
+Fits e = rank e < slots_of_a_core
 
 each-of : (P : Entry → Type 0) (xs : List Entry) → ((k : ℕ) (e : Entry) → slice_get xs k ≡ Some e → P e) → Each P xs
 each-of P [] h = tt
@@ -75,12 +75,12 @@ made_from-fits n core (p ∷ ps) registers order h =
     let own = entries_of core 0 p (slice_index_or registers core []) (read_values core 0 p order) in
     each-append Fits own (made_from (core + 1) ps registers order)
     (each-of Fits own (λ k e f.
-    let w = slot-within (core * 64) ((core + 1) * 64) own (core-ascends core p (slice_index_or registers core []) (read_values core 0 p order) (all-first (IsProgram n) p ps h).size) k e f in
+    let w = slot-within (core * slots_of_a_core) ((core + 1) * slots_of_a_core) own (core-ascends core p (slice_index_or registers core []) (read_values core 0 p order) (all-first (IsProgram n) p ps h).size) k e f in
     let i : IsFrom core 0 e = each-at (IsFrom core 0) own k e (entries-from core 0 p (slice_index_or registers core []) (read_values core 0 p order)) f in
-    let u = w.1 in let s : e.core.0 * 64 ≡ core * 64 = ap (λ m. m * 64) i.same in omega arith))
+    let u = w.1 in let s : e.core.0 * slots_of_a_core ≡ core * slots_of_a_core = ap (λ m. m * slots_of_a_core) i.same in omega arith))
     (made_from-fits n (core + 1) ps registers order (all-rest (IsProgram n) p ps h))
 
-pub made-fits : (t : Litmus) (order : List Entry) → IsTest t → (k : ℕ) (e : Entry) → slice_get (made t order) k ≡ Some e → rank e < 64
+pub made-fits : (t : Litmus) (order : List Entry) → IsTest t → (k : ℕ) (e : Entry) → slice_get (made t order) k ≡ Some e → rank e < slots_of_a_core
 made-fits t order valid k e f = each-at Fits (made t order) k e (made_from-fits (length t.locations) 0 t.programs t.registers order valid.programs_fit) f
 
 -- the latest writes by location among the first `at` entries of the programs
@@ -144,7 +144,7 @@ sooner-place low high entries up k i y e f g l = elim (three-ways k i) [
   ]
 ]
 
-source-by : (low high : ℕ) (entries : List Entry) → Ascends low high entries → ((k : ℕ) (e : Entry) → slice_get entries k ≡ Some e → rank e < 64) → (i : ℕ) (e : Entry) → slice_get entries i ≡ Some e
+source-by : (low high : ℕ) (entries : List Entry) → Ascends low high entries → ((k : ℕ) (e : Entry) → slice_get entries k ≡ Some e → rank e < slots_of_a_core) → (i : ℕ) (e : Entry) → slice_get entries i ≡ Some e
     → (o : Option Entry) → IsLatest entries i e.loc.0 o → IsSource entries e (own_write e.core.0 o)
 source-by low high entries up fit i e g None h = λ k y f b w.
     let p = before-parts y e b in
@@ -187,7 +187,7 @@ source-by low high entries up fit i e g (Some v) h = elim (true-or-false (v.core
       differ (let q : v.core.0 ≡ e.core.0 = omega arith in q))
 ]
 
-pub source-of : (low high : ℕ) (entries : List Entry) → Ascends low high entries → ((k : ℕ) (e : Entry) → slice_get entries k ≡ Some e → rank e < 64) → (i : ℕ) (e : Entry) → slice_get entries i ≡ Some e
+pub source-of : (low high : ℕ) (entries : List Entry) → Ascends low high entries → ((k : ℕ) (e : Entry) → slice_get entries k ≡ Some e → rank e < slots_of_a_core) → (i : ℕ) (e : Entry) → slice_get entries i ≡ Some e
     → (latest : List (Option Entry)) → AreLatest entries i latest → IsSource entries e (own_write e.core.0 (kept_in latest e.loc.0))
 source-of low high entries up fit i e g latest are = source-by low high entries up fit i e g (kept_in latest e.loc.0) (are e.loc.0)
 
@@ -271,7 +271,7 @@ module _ (t : Litmus) (order : List Entry) (at : ℕ) (x : Entry) (valid : IsTes
   same-entry e d k j f g c r =
       let m = own-made k e f in
       let n = own-made j d g in
-      let q : m.0 ≡ n.0 = one-slot 0 (length t.programs * 64) (made t order) (made-ascends t order valid) m.0 n.0 e d m.1 n.1 (slot-of-equal e d c r) in
+      let q : m.0 ≡ n.0 = one-slot 0 (length t.programs * slots_of_a_core) (made t order) (made-ascends t order valid) m.0 n.0 e d m.1 n.1 (slot-of-equal e d c r) in
       let p : e ≡ d = at-place (made t order) n.0 m.0 d e n.1 m.1 q in
       let s : SameAction e d = record { core = ap (λ z. z.core.0) p; place = ap (λ z. z.place) p; kind = ap (λ z. z.kind) p } in
       (one-place order (none-twice (made t order) order (whole-clean t order whole).no_stray) k j e d f g s, p)
@@ -384,7 +384,7 @@ source-same entries e x s l (Some v) h =
           h.last k y f (before-from y e (record { core = u.core ∙ sym s.core; sooner = let r = u.sooner in omega arith })) (subst (λ n. writes_to n y ≡ true) l w);
     }
 
-pub sources-more : (high : ℕ) (entries : List Entry) → Ascends 0 high entries → ((k : ℕ) (e : Entry) → slice_get entries k ≡ Some e → rank e < 64) → (i : ℕ) (e : Entry) → slice_get entries i ≡ Some e
+pub sources-more : (high : ℕ) (entries : List Entry) → Ascends 0 high entries → ((k : ℕ) (e : Entry) → slice_get entries k ≡ Some e → rank e < slots_of_a_core) → (i : ℕ) (e : Entry) → slice_get entries i ≡ Some e
     → (latest : List (Option Entry)) → AreLatest entries i latest → (sources more : List (Option Entry)) → length sources ≡ i → more ≡ sources ++ own_write e.core.0 (kept_in latest e.loc.0) ∷ []
     → ((k : ℕ) (d : Entry) → k < i → slice_get entries k ≡ Some d → IsSource entries d (kept_in sources k)) → (k : ℕ) (d : Entry) → k < i + 1 → slice_get entries k ≡ Some d → IsSource entries d (kept_in more k)
 sources-more high entries up fit i e here latest are sources more size is so k d l f = elim (same_or_below k i l) [
@@ -407,7 +407,7 @@ sources-more high entries up fit i e here latest are sources more size is so k d
 pub none-latest : (entries : List Entry) (latest : List (Option Entry)) → ((loc : ℕ) → kept_in latest loc ≡ None) → AreLatest entries 0 latest
 none-latest entries latest none loc = subst (λ o. IsLatest entries 0 loc o) (sym (none loc)) (λ k y l f w. omega arith)
 
-pub sources-step : (high : ℕ) (entries : List Entry) → Ascends 0 high entries → ((k : ℕ) (e : Entry) → slice_get entries k ≡ Some e → rank e < 64) → (i : ℕ) (d : Entry) → i < length entries
+pub sources-step : (high : ℕ) (entries : List Entry) → Ascends 0 high entries → ((k : ℕ) (e : Entry) → slice_get entries k ≡ Some e → rank e < slots_of_a_core) → (i : ℕ) (d : Entry) → i < length entries
     → (latest : List (Option Entry)) → AreLatest entries i latest → (sources more : List (Option Entry)) → length sources ≡ i
     → (own : Option Entry) → own ≡ own_write (slice_index_or entries i d).core.0 (kept_in latest (slice_index_or entries i d).loc.0) → more ≡ sources ++ own ∷ []
     → ((k : ℕ) (d : Entry) → k < i → slice_get entries k ≡ Some d → IsSource entries d (kept_in sources k)) → (k : ℕ) (d : Entry) → k < i + 1 → slice_get entries k ≡ Some d → IsSource entries d (kept_in more k)

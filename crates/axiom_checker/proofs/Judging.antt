@@ -7,7 +7,7 @@ use Rattle.tso_model.specs.declared.execution.Entry.{Entry}
 use Rattle.axiom_checker.specs.First.{IsFirst, IsEarliest, IsNowhere}
 use Rattle.axiom_checker.specs.Entries.{IsExtra, IsStray, IsWrongWrite}
 use Rattle.axiom_checker.specs.Programs.{shape_from, reads_that_came}
-use Rattle.axiom_checker.specs.Slots.{Ascends, IsIndex, HasCome, HasNotCome, NamesStray}
+use Rattle.axiom_checker.specs.Slots.{Ascends, IsIndex, HasCome, HasNotCome, NamesStray, slots_of_a_core}
 use Rattle.axiom_checker.specs.Axioms.{Overtakes, IsLate, IsParted, IsWrongRead, due_at}
 use Rattle.axiom_checker.specs.Passing.{IsMatched, HasMet, AreOfPrograms}
 use Rattle.axiom_checker.specs.FirstBreach.{IsFirstBreach}
@@ -65,7 +65,7 @@ of-programs t order entries cores words valid matched is c w = record {
   made_by_one = λ k x f extra. matched.no_stray k x f (inl (subst (λ es. IsExtra es x) is extra));
   of_a_core = λ k x f.
       let m = made-of (made t order) x (λ q. matched.no_stray k x f (inl q)) in
-      let s = (slot-within 0 (length t.programs * 64) (made t order) (made-ascends t order valid) m.place m.entry m.stands).1 in
+      let s = (slot-within 0 (length t.programs * slots_of_a_core) (made t order) (made-ascends t order valid) m.place m.entry m.stands).1 in
       let q = m.same.action.core in
       below m.entry.core.0 (rank m.entry) x.core.0 (length t.programs) cores s q c;
   to_a_word = λ k x f write.
@@ -74,7 +74,7 @@ of-programs t order entries cores words valid matched is c w = record {
       let q = m.same.loc in omega (arith, l, q, w);
 }
   where
-    below : (core rank other count cores : ℕ) → core * 64 + rank < count * 64 → core ≡ other → cores ≡ count → other < cores
+    below : (core rank other count cores : ℕ) → core * slots_of_a_core + rank < count * slots_of_a_core → core ≡ other → cores ≡ count → other < cores
     below core rank other count cores h e f = omega arith
 
 stray-first : (xs ys order : List Entry) → AreAlike xs ys → (x : Entry) → IsEarliest order (IsStray xs order) x → IsEarliest order (IsStray ys order) x
@@ -100,8 +100,8 @@ names-first-stray t order shape alike NoMemory h = absurd h
 pub alike-of : (t : Litmus) (order shape : List Entry) → shape ≡ shape_from 0 t.programs t.registers → AreAlike shape (made t order)
 alike-of t order shape is = subst (λ s. AreAlike s (made t order)) (sym is) (shape-alike t order)
 
-pub ascends-of : (t : Litmus) → IsTest t → (n : ℕ) (shape : List Entry) → n ≡ length t.programs → shape ≡ shape_from 0 t.programs t.registers → Ascends 0 (n * 64) shape
-ascends-of t valid n shape c is = subst (λ s. Ascends 0 (n * 64) s) (sym is) (subst (λ k. Ascends 0 (k * 64) (shape_from 0 t.programs t.registers)) (sym c) (shape-ascends t valid))
+pub ascends-of : (t : Litmus) → IsTest t → (n : ℕ) (shape : List Entry) → n ≡ length t.programs → shape ≡ shape_from 0 t.programs t.registers → Ascends 0 (n * slots_of_a_core) shape
+ascends-of t valid n shape c is = subst (λ s. Ascends 0 (n * slots_of_a_core) s) (sym is) (subst (λ k. Ascends 0 (k * slots_of_a_core) (shape_from 0 t.programs t.registers)) (sym c) (shape-ascends t valid))
 
 -- after a first pass that met nothing
 module _ (t : Litmus) (order shape : List Entry) (is : shape ≡ shape_from 0 t.programs t.registers) (slots : List (Option ℕ)) (index : IsIndex shape slots) (came : List (Option ℕ))

@@ -1,5 +1,6 @@
 -- How the checker finds the program's entry of an entry of the order. (This project's profile.)
 use Rattle.std.specs.Prelude.{ℕ, ◌+◌, ◌*◌, ◌≤◌, ◌<◌, ◌≡◌, true, List, [], ◌∷◌, Option, Some, None, slice_get}
+use Rattle.tso_model.specs.Limits.{most_instructions}
 use Rattle.tso_model.specs.ProgramOrder.{rank}
 use Rattle.tso_model.specs.declared.execution.Entry.{Entry}
 use Rattle.axiom_checker.specs.First.{IsEarliest}
@@ -8,9 +9,12 @@ use Rattle.axiom_checker.specs.declared.breach.Breach.{Breach}
 use Rattle.axiom_checker.specs.declared.breach.Breach.TheVariants.{Extra, Twice}
 use Rattle.axiom_checker.specs.Programs.{kept_in}
 
--- 64 slots for each core, two for each place of its program
+-- two slots for each place that a program may have
+abbrev pub slots_of_a_core : ℕ
+slots_of_a_core = 2 * most_instructions
+
 abbrev pub slot_of : Entry → ℕ
-slot_of e = e.core.0 * 64 + rank e
+slot_of e = e.core.0 * slots_of_a_core + rank e
 
 -- each entry has a later slot than the one before it, all from `low` on and below `high`
 abbrev pub Ascends : ℕ → ℕ → List Entry → Type 0

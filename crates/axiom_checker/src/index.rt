@@ -1,7 +1,7 @@
 ghost use Rattle.std.specs.Prelude.{◌≡◌, ◌*◌, ◌≤◌, length, IfOk, IfSome, IsNone, ℕ, slice_get, Some, true};
 ghost use Rattle.axiom_checker.specs.Programs.{kept_in};
 ghost use Rattle.axiom_checker.specs.Entries.{same_but_value, IsExtra};
-ghost use Rattle.axiom_checker.specs.Slots.{slot_of, Ascends, IsIndex};
+ghost use Rattle.axiom_checker.specs.Slots.{slot_of, slots_of_a_core, Ascends, IsIndex};
 ghost use Rattle.tso_model.specs.declared.execution.Entry.{Entry};
 
 use crate::entries::{is_same_but_value, rank};
@@ -9,7 +9,7 @@ use std::alloc::Global;
 use tso_model::{Entry, NoMemory};
 
 /// How many slots a core has: two for each place that a program may have.
-const SLOTS_OF_A_CORE: usize = 64;
+const SLOTS_OF_A_CORE: usize = 2 * tso_model::limits::MAX_INSTRUCTIONS;
 
 /// The slot of an entry. No two entries that the programs make have the same one.
 fn slot(x: &Entry) -> usize
@@ -29,7 +29,7 @@ pub fn kept<T: Copy>(table: &[Option<T>], at: usize) -> Option<T>
 ///
 /// Fails only for want of memory.
 pub fn index_of(alloc: Global, cores: u8, list: &[Entry]) -> Result<Vec<Option<usize>>, NoMemory>
-    requires { Ascends 0 (cores * 64) list.now }
+    requires { Ascends 0 (cores * slots_of_a_core) list.now }
     ensures { IfOk result (λ slots. IsIndex list.now slots.items) }
 {
     let mut slots = vec![in alloc; None; usize::from(cores) * SLOTS_OF_A_CORE]?;

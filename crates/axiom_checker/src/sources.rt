@@ -3,7 +3,7 @@ ghost use Rattle.tso_model.specs.ProgramOrder as program_order;
 ghost use Rattle.tso_model.specs.declared.execution.Entry.{Entry};
 ghost use Rattle.axiom_checker.specs.Entries.{IsExtra, written_value};
 ghost use Rattle.axiom_checker.specs.Programs.{kept_in};
-ghost use Rattle.axiom_checker.specs.Slots.{Ascends, IsIndex};
+ghost use Rattle.axiom_checker.specs.Slots.{slots_of_a_core, Ascends, IsIndex};
 ghost use Rattle.axiom_checker.specs.Sources.{own_write, IsSource, HasSources, noted_write};
 
 use crate::entries::is_write;
@@ -21,7 +21,7 @@ pub fn own_writes(
     made: &[Entry],
 ) -> Result<Vec<Option<Entry>>, NoMemory>
     requires ascends { (high : ℕ) × Ascends 0 high made.now }
-    requires fit { (k : ℕ) (e : Entry) → slice_get made.now k ≡ Some e → program_order.rank e < 64 }
+    requires fit { (k : ℕ) (e : Entry) → slice_get made.now k ≡ Some e → program_order.rank e < slots_of_a_core }
     requires known { (k : ℕ) (e : Entry) → slice_get made.now k ≡ Some e → program_order.is_write e ≡ true → e.loc.0 < locations }
     ensures { IfOk result (λ sources. HasSources made.now sources.items) }
 {
@@ -37,7 +37,7 @@ fn find_sources(
 ) -> Result<Vec<Option<Entry>>, NoMemory>
     requires none_yet { (loc : ℕ) → kept_in latest.old loc ≡ None }
     requires ascends { (high : ℕ) × Ascends 0 high made.now }
-    requires fit { (k : ℕ) (e : Entry) → slice_get made.now k ≡ Some e → program_order.rank e < 64 }
+    requires fit { (k : ℕ) (e : Entry) → slice_get made.now k ≡ Some e → program_order.rank e < slots_of_a_core }
     requires known { (k : ℕ) (e : Entry) → slice_get made.now k ≡ Some e → program_order.is_write e ≡ true → e.loc.0 < length latest.old }
     ensures { IfOk result (λ sources. HasSources made.now sources.items) }
 {

@@ -1,51 +1,84 @@
 -- Cells of a row.
-use Rattle.std.proofs.Common.{◌≡◌, ℕ, ◌+◌, ◌≤◌, ◌<◌, List, [], ◌∷◌, length, map, get_or, drop, Result, Ok, Err, refl, sym, ap, ◌∙◌, add-one, drop-cons, arith}
-use Rattle.std.specs.List.{slice_split}
-use denote.Ref.{Bor}
-use Rattle.std.proofs.lemmas.List.{nil_from_length, length-drop}
+use Rattle.std.proofs.Common.{◌≡◌, ℕ, Option, IfSome, Bor, ◌+◌, ◌-◌, ◌≤◌, ◌<◌, Bool, true, false, not, cond, suc, ltb, inl, inr, count_by, List, [], ◌∷◌, length, map, take, drop, Some, None, Result, Ok, Err, refl, sym, ap, ◌∙◌, arith}
+use Rattle.std.specs.Prelude.{position}
+use Rattle.std.specs.List.{slice_split, position_or_len, onto_first}
+use Rattle.std.proofs.lemmas.List.{length-drop, length-map, take_all}
+use Rattle.std.proofs.lemmas.Bool.{ltb-true}
+use Rattle.std.proofs.lemmas.List.Splits.{slice_split_first, length-slice_split}
 use Rattle.litmus_tokens.specs.declared.token.Symbol.TheVariants.{Bar}
 use Rattle.litmus_tokens.specs.declared.token.Token.{Token}
-use Rattle.litmus_tokens.specs.Pieces.{piece_of, pieces}
+use Rattle.litmus_tokens.specs.Pieces.{Piece, piece_of, pieces}
 use Rattle.litmus_tokens.specs.Front.{is_symbol}
 use Rattle.litmus_reader.specs.declared.fault.Fault.{Fault}
 use Rattle.litmus_reader.specs.declared.fault.ReadError.{ReadError}
 use Rattle.litmus_reader.specs.declared.fault.ReadError.TheVariants as errors
 use Rattle.litmus_reader.specs.declared.cell.CoreInstr.{CoreInstr}
 use Rattle.litmus_reader.specs.Faults.{Fails}
-use Rattle.litmus_reader.specs.Cells.{cell_pieces, cell_in, cells_in}
-use Rattle.litmus_reader.proofs.Maps.{slice_split-map, map-map}
+use Rattle.litmus_reader.specs.Cells.{cell_in, cells_in}
+use Rattle.litmus_reader.proofs.Maps.{chosen, slice_split-map, position_none}
 use Rattle.litmus_reader.specs.RefusedTable.{cells_of}
 
 abbrev pub Read : Type 0
 Read = Result (List CoreInstr × List (List ℕ)) Fault
 
-rest_at : (cells : List (Bor (List Token))) (i : ℕ) (d : Bor (List Token)) → i < length cells → cell_pieces (drop i cells) ≡ pieces (get_or cells i d).now ∷ cell_pieces (drop (i + 1) cells)
-rest_at cells i d lt = rw (add-one, drop-cons cells i d) refl
-
-pub cells_go_on : (core : ℕ) (instrs after : List CoreInstr) (names known : List (List ℕ)) (cells : List (Bor (List Token))) (d : Bor (List Token)) (total : Read)
-    → core < length cells → cell_in core instrs names (pieces (get_or cells core d).now) ≡ Ok (after, known)
-    → cells_in core instrs names (cell_pieces (drop core cells)) ≡ total → cells_in (core + 1) after known (cell_pieces (drop (core + 1) cells)) ≡ total
+pub cells_go_on : (core : ℕ) (instrs after : List CoreInstr) (names known : List (List ℕ)) (row cell : List Piece) (behind : List (List Piece)) (total : Read)
+    → cells_of row ≡ cell ∷ behind → cell_in core instrs names cell ≡ Ok (after, known)
+    → cells_in core instrs names (cells_of row) ≡ total → cells_in (core + 1) after known behind ≡ total
 unfolding cells_in
-cells_go_on core instrs after names known cells d total lt is so_far =
-    let one : cells_in core instrs names (cell_pieces (drop core cells)) ≡ cells_in (core + 1) after known (cell_pieces (drop (core + 1) cells)) = rw (rest_at cells core d lt, is) refl in
+cells_go_on core instrs after names known row cell behind total cut is so_far =
+    let one : cells_in core instrs names (cells_of row) ≡ cells_in (core + 1) after known behind = rw (cut, is) refl in
     sym one ∙ so_far
 
-pub cells_end : (e : ReadError) (core : ℕ) (instrs : List CoreInstr) (names : List (List ℕ)) (cells : List (Bor (List Token))) (d : Bor (List Token)) (total : Read)
-    → core < length cells → Fails e (cell_in core instrs names (pieces (get_or cells core d).now)) → cells_in core instrs names (cell_pieces (drop core cells)) ≡ total → Fails e total
+pub cells_end : (e : ReadError) (core : ℕ) (instrs : List CoreInstr) (names : List (List ℕ)) (row cell : List Piece) (behind : List (List Piece)) (total : Read)
+    → cells_of row ≡ cell ∷ behind → Fails e (cell_in core instrs names cell) → cells_in core instrs names (cells_of row) ≡ total → Fails e total
 unfolding cells_in
-cells_end errors.NoMemory core instrs names cells d total lt is so_far = tt
-cells_end (errors.Fault f) core instrs names cells d total lt is so_far =
-    let one : cells_in core instrs names (cell_pieces (drop core cells)) ≡ Err f = rw (rest_at cells core d lt, is) refl in
+cells_end errors.NoMemory core instrs names row cell behind total cut is so_far = tt
+cells_end (errors.Fault f) core instrs names row cell behind total cut is so_far =
+    let one : cells_in core instrs names (cells_of row) ≡ Err f = rw (cut, is) refl in
     sym so_far ∙ one
 
-pub cells_done : (core : ℕ) (instrs : List CoreInstr) (names : List (List ℕ)) (cells : List (Bor (List Token))) (total : Read)
-    → length cells ≤ core → cells_in core instrs names (cell_pieces (drop core cells)) ≡ total → total ≡ Ok (instrs, names)
+pub cells_done : (core : ℕ) (instrs : List CoreInstr) (names : List (List ℕ)) (total : Read) → cells_in core instrs names [] ≡ total → total ≡ Ok (instrs, names)
 unfolding cells_in
-cells_done core instrs names cells total past so_far =
-    let nothing : drop core cells ≡ [] = nil_from_length (drop core cells) (omega (arith, length-drop core cells)) in
-    let one : cells_in core instrs names (cell_pieces (drop core cells)) ≡ Ok (instrs, names) = rw nothing refl in
-    sym so_far ∙ one
+cells_done core instrs names total so_far = sym so_far
 
--- the cells, where a slice is split
-pub cells_are : (cells : List (Bor (List Token))) (row : List Token) → map (λ c. c.now) cells ≡ slice_split (λ t. is_symbol Bar (piece_of t)) row → cell_pieces cells ≡ cells_of (pieces row)
-cells_are cells row e = sym (map-map pieces (λ (c : Bor (List Token)). c.now) cells) ∙ ap (map pieces) e ∙ sym (slice_split-map (is_symbol Bar) piece_of row)
+-- ---- where the first cell ends
+
+cells_as : (row : List Token) → cells_of (pieces row) ≡ map pieces (slice_split (λ t. is_symbol Bar (piece_of t)) row)
+cells_as row = slice_split-map (is_symbol Bar) piece_of row
+
+pub first_cut : (row : List Token) (n : ℕ) → Some n ≡ position (λ t. is_symbol Bar (piece_of t)) row
+    → cells_of (pieces row) ≡ pieces (take n row) ∷ cells_of (pieces (take (length row - (n + 1)) (drop (n + 1) row)))
+first_cut [] n at = absurd cc
+first_cut (t ∷ ts) n at =
+    elim (chosen (ltb (position_or_len (λ t. is_symbol Bar (piece_of t)) (t ∷ ts)) (length (t ∷ ts))) (Some (position_or_len (λ t. is_symbol Bar (piece_of t)) (t ∷ ts))) None (Some n) (sym at)) [
+      | inl hit ↦
+          let here : position_or_len (λ t. is_symbol Bar (piece_of t)) (t ∷ ts) ≡ n = cc in
+          let all : take (length (t ∷ ts) - (n + 1)) (drop (n + 1) (t ∷ ts)) ≡ drop (n + 1) (t ∷ ts) = take_all _ (drop (n + 1) (t ∷ ts)) (omega (arith, length-drop (n + 1) (t ∷ ts))) in
+          let cut : slice_split (λ t. is_symbol Bar (piece_of t)) (t ∷ ts) ≡ take n (t ∷ ts) ∷ slice_split (λ t. is_symbol Bar (piece_of t)) (drop (n + 1) (t ∷ ts)) = rw (← here) (slice_split_first (λ t. is_symbol Bar (piece_of t)) (t ∷ ts) t (ltb-true _ _ hit.0)) in
+          rw (cells_as (t ∷ ts), cut, all, cells_as (drop (n + 1) (t ∷ ts))) refl
+      | inr miss ↦ absurd cc
+    ]
+
+one_part : (p : Token → Bool) (row : List Token) → length row ≡ position_or_len p row → slice_split p row ≡ row ∷ []
+one_part p [] none = refl
+one_part p (t ∷ ts) none = by_test (p t) none (one_part p ts)
+  where
+    by_test : (b : Bool) → suc (length ts) ≡ cond (not b) (1 + position_or_len p ts) 0 → (length ts ≡ position_or_len p ts → slice_split p ts ≡ ts ∷ [])
+        → cond b ([] ∷ slice_split p ts) (onto_first t (slice_split p ts)) ≡ (t ∷ ts) ∷ []
+    by_test true none others = absurd cc
+    by_test false none others = ap (onto_first t) (others (omega (arith, none)))
+
+pub no_cut : (row : List Token) → None ≡ position (λ t. is_symbol Bar (piece_of t)) row → cells_of (pieces row) ≡ pieces row ∷ []
+no_cut row at = cells_as row ∙ ap (map pieces) (one_part (λ t. is_symbol Bar (piece_of t)) row (position_none (λ t. is_symbol Bar (piece_of t)) row at))
+
+pub cells_counted : (row : List Token) (n : ℕ) → n ≡ count_by (λ t. is_symbol Bar (piece_of t)) row → n + 1 ≡ length (cells_of (pieces row))
+cells_counted row n is = rw (cells_as row, length-map (slice_split (λ t. is_symbol Bar (piece_of t)) row) pieces, length-slice_split (λ t. is_symbol Bar (piece_of t)) row, is) refl
+
+-- one more than the tokens that are left, and none where no cell is
+abbrev pub room_of : Option (Bor (List Token)) → ℕ
+room_of None = 0
+room_of (Some behind) = length behind.now + 1
+
+pub less_room : (left : Option (Bor (List Token))) (n : ℕ) → IfSome left (λ behind. length behind.now < n) → room_of left ≤ n
+less_room None n shorter = omega arith
+less_room (Some behind) n shorter = omega (arith, shorter)

@@ -1,5 +1,6 @@
 -- The columns of the header row, by the number of their core.
 use Rattle.std.proofs.Common.{◌≡◌, ℕ, suc, zero, ◌+◌, ◌-◌, ◌≤◌, ◌<◌, List, Ok, Err, cond, arith}
+use Rattle.tso_model.specs.Limits.{most_cores}
 use Rattle.litmus_tokens.specs.declared.token.Stop.{Stop}
 use Rattle.litmus_tokens.specs.Pieces.{Piece}
 use Rattle.litmus_reader.specs.declared.fault.Why.TheVariants.{TooLarge}
@@ -7,14 +8,14 @@ use Rattle.litmus_reader.specs.Faults.{◌>>=◌, or_unfit}
 use Rattle.litmus_reader.specs.Columns.{columns, core_at, parting_at}
 use Rattle.litmus_reader.specs.Places.{fault, left_of, in_columns}
 
-pub columns_next : (stop : Stop) (core : ℕ) (ps : List Piece) → core < 4 → columns stop (4 - core) core ps ≡
+pub columns_next : (stop : Stop) (core : ℕ) (ps : List Piece) → core < most_cores → columns stop (most_cores - core) core ps ≡
     (or_unfit (in_columns stop) ps (core_at core ps) >>= λ rest.
     or_unfit (in_columns stop) rest (parting_at rest) >>= λ parting.
-    cond parting.0 (columns stop (4 - (core + 1)) (core + 1) parting.1) (Ok (core + 1, parting.1)))
+    cond parting.0 (columns stop (most_cores - (core + 1)) (core + 1) parting.1) (Ok (core + 1, parting.1)))
 unfolding columns
-columns_next stop core ps lt = let e : 4 - core ≡ suc (4 - (core + 1)) = omega arith in rw e
+columns_next stop core ps lt = let e : most_cores - core ≡ suc (most_cores - (core + 1)) = omega arith in rw e
 
-pub columns_last : (stop : Stop) (core : ℕ) (ps : List Piece) → 4 ≤ core → columns stop (4 - core) core ps ≡
+pub columns_last : (stop : Stop) (core : ℕ) (ps : List Piece) → most_cores ≤ core → columns stop (most_cores - core) core ps ≡
     (or_unfit (in_columns stop) ps (core_at core ps) >>= λ rest. Err (fault TooLarge (left_of ps)))
 unfolding columns
-columns_last stop core ps le = let e : 4 - core ≡ zero = omega arith in rw e
+columns_last stop core ps le = let e : most_cores - core ≡ zero = omega arith in rw e

@@ -2,6 +2,7 @@
 use Rattle.std.proofs.Common.{◌≡◌, ℕ, zero, suc, ◌+◌, Bool, true, false, ltb, List, [], ◌∷◌, ◌++◌, length, take, Option, Some, None, Result, Ok, Err, IfOk, IfSome, refl, sym, ap, ◌∙◌, append_assoc}
 use Rattle.std.specs.List.{position_or_len}
 use Rattle.std.proofs.lemmas.List.{take-append-drop}
+use Rattle.tso_model.specs.Limits.{most_cores}
 use Rattle.tso_model.specs.Registers.{register_named}
 use Rattle.tso_model.specs.declared.register.Reg.{Reg}
 use Rattle.tso_model.specs.Names.{is_location_name}
@@ -198,7 +199,7 @@ columns_leave stop (suc n) core ps =
     (λ _. last_further ps rest parting.1 a b)))
 
 pub header_row_leaves : (stop : Stop) (ps rest : List Piece) (cores : ℕ) → columns_at stop ps ≡ Ok (cores, rest) → AreLast ps rest
-header_row_leaves stop ps rest cores e = ok_is (λ found. Leaves ps found) (columns stop 4 0 ps) (cores, rest) (columns_leave stop 4 0 ps) e
+header_row_leaves stop ps rest cores e = ok_is (λ found. Leaves ps found) (columns stop most_cores 0 ps) (cores, rest) (columns_leave stop most_cores 0 ps) e
 
 -- ---- the rows
 

@@ -2,6 +2,7 @@
 use Rattle.std.proofs.Common.{◌≡◌, ℕ, zero, suc, ◌+◌, ◌≤◌, ◌<◌, Bool, true, false, cond, List, [], ◌∷◌, ◌++◌, Some, None, Result, Ok, Err, refl, ap, subst, ◌∙◌, inl, inr, arith}
 use Rattle.std.specs.Str.{bytes_eq}
 use Rattle.std.proofs.lemmas.Slice.Eq.{bytes_eq-Decides}
+use Rattle.tso_model.specs.Limits.{most_cores}
 use Rattle.litmus_tokens.specs.declared.token.Stop.{Stop}
 use Rattle.litmus_tokens.specs.declared.token.Symbol.TheVariants.{Semicolon, Bar}
 use Rattle.litmus_tokens.specs.Terms.{Term, name, symbol}
@@ -109,10 +110,10 @@ columns_taken stop (suc n) core cores ps rest e =
     let parting = parting_taken a.0 b.0 (or_unfit_ok (in_columns stop) a.0 (parting_at a.0) b.0 b.1) in
     by_parting stop n core cores ps a.0 rest front (λ bs h. columns_taken stop n (core + 1) cores bs rest h) b.0 parting b.2
 
-pub header_row_again : (stop : Stop) (ps : List Piece) (ts back : List Term) (cores : ℕ) → IsHeaderRow ts cores → terms ps ≡ ts ++ back → Found stop 4 0 cores back ps
-header_row_again stop ps ts back cores is e = columns_found stop 0 ts cores is.columns 4 (omega (arith, is.few)) back ps e
+pub header_row_again : (stop : Stop) (ps : List Piece) (ts back : List Term) (cores : ℕ) → IsHeaderRow ts cores → terms ps ≡ ts ++ back → Found stop most_cores 0 cores back ps
+header_row_again stop ps ts back cores is e = columns_found stop 0 ts cores is.columns most_cores (omega (arith, is.few)) back ps e
 
 pub header_row_takes : (stop : Stop) (ps rest : List Piece) (cores : ℕ) → columns_at stop ps ≡ Ok (cores, rest) → Begins (λ ts. IsHeaderRow ts cores) ps rest
 header_row_takes stop ps rest cores e =
-    let t = columns_taken stop 4 0 cores ps rest e in
+    let t = columns_taken stop most_cores 0 cores ps rest e in
     record { ts = t.ts; is = record { columns = t.are; few = omega (arith, t.few) }; parts = t.parts }

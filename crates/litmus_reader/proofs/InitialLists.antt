@@ -1,13 +1,17 @@
 -- The first registers of a test, one more at a time.
-use Rattle.std.proofs.Common.{◌≡◌, true, false, ℕ, ◌+◌, ◌≤◌, ◌<◌, List, [], ◌∷◌, ◌++◌, length, map, drop, get_or, Result, Ok, Err, refl, sym, ap, ◌∙◌, add-one, drop-cons, arith}
+use Rattle.std.proofs.Common.{◌≡◌, ◌==◌, ◌&&◌, cond, true, false, ℕ, Bor, ◌+◌, ◌≤◌, ◌<◌, List, [], ◌∷◌, ◌++◌, length, map, drop, get_or, Result, Ok, Err, refl, sym, ap, ◌∙◌, add-one, drop-cons, arith}
 use Rattle.std.specs.List.{list_any}
+use Rattle.std.specs.Str.{bytes_eq}
+use Rattle.std.specs.Cmp.{nat_eq_equiv}
+use Rattle.std.specs.Cmp.Lexicographic.{nat_list_eq_equiv}
+use Rattle.tso_model.specs.Registers.{index_of}
 use Rattle.std.proofs.lemmas.List.{nil_from_length, length-drop, map_push}
 use Rattle.tso_model.specs.declared.register.Reg.{Reg}
 use Rattle.litmus_reader.specs.declared.fault.Why.TheVariants.{TwiceInit}
 use Rattle.litmus_reader.specs.declared.fault.Fault.{Fault}
 use Rattle.litmus_reader.specs.declared.initial.RegisterWord.{RegisterWord}
 use Rattle.litmus_reader.specs.Items.{word_at, core_of}
-use Rattle.litmus_reader.specs.Initial.{Given, given_of, initial, gives, judged, with_register, registers_with}
+use Rattle.litmus_reader.specs.Initial.{Given, given_of, named_by_key, named_by_word, initial, gives, judged, with_register, registers_with}
 use Rattle.litmus_reader.proofs.Maps.{list_any_map}
 use Rattle.litmus_reader.specs.Places.{fault}
 use Rattle.litmus_reader.specs.Written.{of_register}
@@ -57,3 +61,30 @@ pub judged_new : (left : ℕ) (names : List (List ℕ)) (words : List ℕ) (regi
 unfolding judged
 judged_new left names words registers new w v is once place pushed =
     rw (← is, list_any_map (gives w.core.now w.reg) given_of registers, once, place, pushed) (ap (λ (l : List Given). Ok (initial names words l)) (sym (map_push given_of registers w)))
+
+-- ---- the registers that were given before
+
+same-register : (core : List ℕ) (i : ℕ) (k : Bor (List ℕ) × ℕ) (r : RegisterWord) → named_by_key k ≡ named_by_word r
+    → (bytes_eq core k.0.now && (i == k.1)) ≡ (bytes_eq r.core.now core && (index_of r.reg == i))
+same-register core i k r is =
+    let digits : k.0.now ≡ r.core.now = ap (λ n. n.0) is in
+    let number : k.1 ≡ index_of r.reg = ap (λ n. n.1) is in
+    rw (digits, number, nat_list_eq_equiv.symm core r.core.now, nat_eq_equiv.symm i (index_of r.reg)) refl
+
+pub given_before : (core : List ℕ) (reg : Reg) (i : ℕ) (keys : List (Bor (List ℕ) × ℕ)) (registers : List RegisterWord)
+    → i ≡ index_of reg → map named_by_key keys ≡ map named_by_word registers
+    → list_any (λ k. bytes_eq core k.0.now && (i == k.1)) keys ≡ list_any (λ r. gives core reg (given_of r)) registers
+given_before core reg i [] [] at known = refl
+given_before core reg i [] (r ∷ rs) at known = absurd cc
+given_before core reg i (k ∷ ks) [] at known = absurd cc
+given_before core reg i (k ∷ ks) (r ∷ rs) at known = rw (same-register core i k r cc, given_before core reg i ks rs at cc, at) refl
+
+pub given_with : (keys new : List (Bor (List ℕ) × ℕ)) (registers : List RegisterWord) (w : RegisterWord) (i : ℕ)
+    → i ≡ index_of w.reg → map named_by_key keys ≡ map named_by_word registers
+    → list_any (λ r. gives w.core.now w.reg (given_of r)) registers ≡ false
+    → new ≡ cond (list_any (λ k. bytes_eq w.core.now k.0.now && (i == k.1)) keys) keys (keys ++ (w.core, i) ∷ [])
+    → map named_by_key new ≡ map named_by_word (registers ++ w ∷ [])
+given_with keys new registers w i at known once inserted =
+    let absent : list_any (λ k. bytes_eq w.core.now k.0.now && (i == k.1)) keys ≡ false = given_before w.core.now w.reg i keys registers at known ∙ once in
+    let pushed : new ≡ keys ++ (w.core, i) ∷ [] = rw absent at inserted in
+    rw (pushed, map_push named_by_key keys (w.core, i), map_push named_by_word registers w, known, at) refl

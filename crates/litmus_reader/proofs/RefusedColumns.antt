@@ -2,6 +2,7 @@
 use Rattle.std.proofs.Common.{◌≡◌, ℕ, zero, suc, ◌+◌, ◌<◌, Bool, true, false, cond, List, [], ◌∷◌, Option, Some, None, Ok, Err, refl, sym, ap, subst, ◌∙◌, ◌⊎◌, inl, inr, arith}
 use Rattle.std.specs.Str.{bytes_eq}
 use Rattle.std.proofs.lemmas.Slice.Eq.{bytes_eq-Decides}
+use Rattle.tso_model.specs.Limits.{most_cores}
 use Rattle.litmus_tokens.specs.declared.token.Stop.{Stop}
 use Rattle.litmus_tokens.specs.declared.token.Symbol.TheVariants.{Semicolon, Bar}
 use Rattle.litmus_tokens.specs.Terms.{Term, number, name, symbol}
@@ -109,7 +110,7 @@ nothing_misfits : (l : List Piece) → None ≡ misfit [] l
 unfolding misfit
 nothing_misfits l = refl
 
-pub columns_refuse : (stop : Stop) (core : ℕ) (ps : List Piece) (f : Fault) → IsColumnsFault stop core ps f → (n : ℕ) → n + core ≡ 4 → columns stop n core ps ≡ Err f
+pub columns_refuse : (stop : Stop) (core : ℕ) (ps : List Piece) (f : Fault) → IsColumnsFault stop core ps f → (n : ℕ) → n + core ≡ most_cores → columns stop n core ps ≡ Err f
 columns_refuse stop _ _ _ (unfit_token core ps at lt mis) zero all = absurd (omega arith)
 columns_refuse stop _ _ _ (unfit_token core ps at lt mis) (suc n) all =
     elim (core_there (in_columns stop) core (ends_column ∷ []) ps) [
@@ -124,34 +125,34 @@ columns_refuse stop _ _ _ (behind core this bar ps f lt is_this is_bar bad) (suc
     one_further stop n core (this ∷ bar ∷ ps) (bar ∷ ps) ps true (same_name (in_columns stop) core this (bar ∷ ps) is_this) (same_bar (in_columns stop) bar ps is_bar)
     ∙ columns_refuse stop (core + 1) ps f bad n (omega arith)
 columns_refuse stop _ _ _ (no_name ps at mis) zero all =
-    elim (core_there (in_columns stop) 4 [] ps) [
-      | inl m ↦ misses_last stop 4 ps m.at m.read zero ∙ ap (λ (l : List Piece). Err (unfit (in_columns stop) l)) (some_is m.at at (sym m.mis ∙ mis))
+    elim (core_there (in_columns stop) most_cores [] ps) [
+      | inl m ↦ misses_last stop most_cores ps m.at m.read zero ∙ ap (λ (l : List Piece). Err (unfit (in_columns stop) l)) (some_is m.at at (sym m.mis ∙ mis))
       | inr c ↦ let never = nothing_misfits c.rest ∙ sym c.mis ∙ mis in absurd cc
     ]
 columns_refuse stop _ _ _ (no_name ps at mis) (suc n) all = absurd (omega arith)
-columns_refuse stop _ _ _ (one_too_many this ps is) zero all = too_many stop 4 (this ∷ ps) ps (same_name (in_columns stop) 4 this ps is)
+columns_refuse stop _ _ _ (one_too_many this ps is) zero all = too_many stop most_cores (this ∷ ps) ps (same_name (in_columns stop) most_cores this ps is)
 columns_refuse stop _ _ _ (one_too_many this ps is) (suc n) all = absurd (omega arith)
 
-fifth_refused : (stop : Stop) (ps : List Piece) (f : Fault) → columns stop zero 4 ps ≡ Err f → IsColumnsFault stop 4 ps f
+fifth_refused : (stop : Stop) (ps : List Piece) (f : Fault) → columns stop zero most_cores ps ≡ Err f → IsColumnsFault stop most_cores ps f
 fifth_refused stop ps f e =
-    elim (core_there (in_columns stop) 4 [] ps) [
-      | inl m ↦ subst (IsColumnsFault stop 4 ps) (err_is (unfit (in_columns stop) m.at) f (sym (misses_last stop 4 ps m.at m.read zero) ∙ e)) (no_name ps m.at m.mis)
+    elim (core_there (in_columns stop) most_cores [] ps) [
+      | inl m ↦ subst (IsColumnsFault stop most_cores ps) (err_is (unfit (in_columns stop) m.at) f (sym (misses_last stop most_cores ps m.at m.read zero) ∙ e)) (no_name ps m.at m.mis)
       | inr c ↦
-          let same : fault TooLarge (left_of ps) ≡ f = err_is (fault TooLarge (left_of ps)) f (sym (too_many stop 4 ps c.rest c.read) ∙ e) in
+          let same : fault TooLarge (left_of ps) ≡ f = err_is (fault TooLarge (left_of ps)) f (sym (too_many stop most_cores ps c.rest c.read) ∙ e) in
           let place : fault TooLarge c.this.left ≡ f = ap (λ (l : List Piece). fault TooLarge (left_of l)) (sym c.parts) ∙ same in
-          subst (λ (l : List Piece). IsColumnsFault stop 4 l f) (sym c.parts) (subst (IsColumnsFault stop 4 (c.this ∷ c.rest)) place (one_too_many c.this c.rest c.is))
+          subst (λ (l : List Piece). IsColumnsFault stop most_cores l f) (sym c.parts) (subst (IsColumnsFault stop most_cores (c.this ∷ c.rest)) place (one_too_many c.this c.rest c.is))
     ]
 
-by_more : (stop : Stop) (n core : ℕ) (ps : List Piece) (f : Fault) → core < 4 → (c : Named (in_columns stop) core (ends_column ∷ []) ps) → (more : Bool) → Parted (in_columns stop) more c.rest
+by_more : (stop : Stop) (n core : ℕ) (ps : List Piece) (f : Fault) → core < most_cores → (c : Named (in_columns stop) core (ends_column ∷ []) ps) → (more : Bool) → Parted (in_columns stop) more c.rest
     → ((back : List Piece) → columns stop n (core + 1) back ≡ Err f → IsColumnsFault stop (core + 1) back f) → columns stop (suc n) core ps ≡ Err f → IsColumnsFault stop core ps f
 by_more stop n core ps f lt c true p further e =
     let later = further p.rest (sym (one_further stop n core ps c.rest p.rest true c.read p.read) ∙ e) in
     subst (λ (l : List Piece). IsColumnsFault stop core l f) (sym (c.parts ∙ ap (λ (l : List Piece). c.this ∷ l) p.parts)) (behind core c.this p.this p.rest f lt c.is (p.is refl) later)
 by_more stop n core ps f lt c false p further e = let never = sym (one_further stop n core ps c.rest p.rest false c.read p.read) ∙ e in absurd cc
 
-pub columns_refused : (n : ℕ) (stop : Stop) (core : ℕ) (ps : List Piece) (f : Fault) → n + core ≡ 4 → columns stop n core ps ≡ Err f → IsColumnsFault stop core ps f
+pub columns_refused : (n : ℕ) (stop : Stop) (core : ℕ) (ps : List Piece) (f : Fault) → n + core ≡ most_cores → columns stop n core ps ≡ Err f → IsColumnsFault stop core ps f
 columns_refused zero stop core ps f all e =
-    let is : 4 ≡ core = omega arith in
+    let is : most_cores ≡ core = omega arith in
     subst (λ (k : ℕ). IsColumnsFault stop k ps f) is (fifth_refused stop ps f (subst (λ (k : ℕ). columns stop zero k ps ≡ Err f) (sym is) e))
 columns_refused (suc n) stop core ps f all e =
     elim (core_there (in_columns stop) core (ends_column ∷ []) ps) [

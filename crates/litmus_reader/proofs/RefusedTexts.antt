@@ -1,6 +1,7 @@
 -- Texts are refused as what is at fault in them says.
 use Rattle.std.proofs.Common.{◌≡◌, ℕ, ◌≤◌, ◌<◌, true, ltb, List, [], ◌∷◌, length, Result, Ok, Err, refl, sym, ap, subst, ◌∙◌, inl, inr, arith}
 use Rattle.std.proofs.lemmas.Bool.{ltb-true, lt-ltb}
+use Rattle.tso_model.specs.Limits.{most_cores}
 use Rattle.tso_model.specs.Litmus.{Litmus}
 use Rattle.litmus_tokens.specs.declared.token.Symbol.TheVariants.{OpenCurly}
 use Rattle.litmus_tokens.specs.Terms.{single, symbol_of, term_at, symbol}
@@ -45,7 +46,7 @@ unfolding body_of table_at
 body_refuses called braces _ (in_initial f bad) = rw (initial_refuses (pieces_of braces).1 (pieces_of braces).0 f bad) refl
 body_refuses called braces _ (in_header_row settings ps f first bad) =
     let i = initial_passes (pieces_of braces).1 (pieces_of braces).0 ps settings first in
-    rw (i.is, columns_refuse (pieces_of braces).1 0 ps f bad 4 refl) refl
+    rw (i.is, columns_refuse (pieces_of braces).1 0 ps f bad most_cores refl) refl
 body_refuses called braces _ (of_core settings cores ps behind f first second bad) =
     let stop = (pieces_of braces).1 in
     let i = initial_passes stop (pieces_of braces).0 ps settings first in
@@ -96,7 +97,7 @@ body_refused called braces f o e =
           let names = first_names p.settings in
           elim (bind_err (table_at stop i.0.0.registers i.0.0.names i.0.1) _ f i.2) [
             | inl in_table ↦ elim (bind_err (columns_at stop i.0.1) _ f in_table) [
-              | inl bad ↦ in_header_row p.settings i.0.1 f p.passes (columns_refused 4 stop 0 i.0.1 f refl bad)
+              | inl bad ↦ in_header_row p.settings i.0.1 f p.passes (columns_refused most_cores stop 0 i.0.1 f refl bad)
               | inr c ↦
                   let q = columns_passed stop c.0.0 i.0.1 c.0.1 c.1 in
                   elim (bind_err (registers_of c.0.0 i.0.0.registers) _ f c.2) [

@@ -1,5 +1,5 @@
 -- The values of what a text spells are words: a word has room for each number that is written, and all else begins as 0.
-use Rattle.std.proofs.Common.{◌≡◌, ℕ, ◌+◌, ◌<◌, ◌^◌, zero, suc, Bool, true, false, cond, ltb, eqb, ◌==◌, ◌&&◌, IsTrue, List, [], ◌∷◌, map, filter, All, refl, subst, sym, arith}
+use Rattle.std.proofs.Common.{ℕ, ◌+◌, ◌^◌, zero, suc, Bool, true, false, cond, ltb, ◌==◌, ◌&&◌, IsTrue, List, [], ◌∷◌, filter, All, refl, subst, sym, arith}
 use Rattle.std.specs.List.{list_all, range_with_len}
 use Rattle.std.specs.Str.{bytes_eq}
 use Rattle.std.proofs.lemmas.Bool.{and_parts, ltb-true}

@@ -5,6 +5,7 @@ use Rattle.std.proofs.lemmas.Bool.{ltb-true, eqb-true}
 use Rattle.std.proofs.lemmas.List.{length-map}
 use Rattle.std.proofs.lemmas.List.Sums.{length-filter, sum_by-append}
 use Rattle.std.proofs.lemmas.List.Elements.{All-append, All-nil, All-weaker, All-filter, All-map}
+use Rattle.tso_model.specs.Limits.{most_cores}
 use Rattle.tso_model.specs.Litmus.{KnownLocation, IsProgram}
 use Rattle.tso_model.specs.declared.instruction.Loc.{Loc}
 use Rattle.tso_model.specs.declared.instruction.Instr.{Instr}
@@ -160,14 +161,14 @@ none_yet names h = record { names = h; more = omega arith; known = All-nil _; ro
 -- what the header row and the rows give, behind so many names or more
 pub record KeptTable (least : ℕ) (t : Table) : Type 0 where
   pub some : 0 < t.cores
-  pub few : t.cores ≤ 4
+  pub few : t.cores ≤ most_cores
   pub each : length t.registers ≡ t.cores
   pub kept : Kept least t.rows.instrs t.rows.names
 
 pub table_keeps : (stop : Stop) (given : List Given) (names : List (List ℕ)) (ps : List Piece) → AreNames names → IfOk (table_at stop given names ps) (KeptTable (length names))
 unfolding table_at rows_at
 table_keeps stop given names ps h =
-    bind_keeps (FewCores 0 4) (KeptTable (length names)) (columns stop 4 0 ps) _ (columns_few stop 4 0 ps)
+    bind_keeps (FewCores 0 most_cores) (KeptTable (length names)) (columns stop most_cores 0 ps) _ (columns_few stop most_cores 0 ps)
     (λ columns few. bind_keeps (HasLength columns.0) (KeptTable (length names)) (registers_of columns.0 given) _ (all_registers_keep columns.0 given)
     (λ registers each. bind_keeps (KeptRows (length names)) (KeptTable (length names)) (rows_within (length columns.1) stop columns.0 [] names columns.1) _ (rows_keep (length names) (length columns.1) stop columns.0 [] names columns.1 (none_yet names h))
     (λ r kept. record { some = few.0; few = omega (arith, few.1); each = each; kept = kept })))

@@ -8,6 +8,7 @@ use Rattle.std.proofs.lemmas.List.Sums.{AllPass-from_list_all, list_all-from_All
 use Rattle.std.proofs.lemmas.List.Elements.{All-weaker}
 use Rattle.std.proofs.lemmas.Str.{IsUtf8-from_ascii}
 use Rattle.std.proofs.lemmas.Str.Ascii.{IsAscii-from_all}
+use Rattle.tso_model.specs.Limits.{most_cores}
 use Rattle.tso_model.specs.Litmus.{Litmus, IsTest, HasWords, KnownLocation}
 use Rattle.tso_model.specs.Condition.{Condition}
 use Rattle.tso_model.specs.Names.{is_name, is_location_name, is_register_word, is_test_name, is_printable, begins_name, continues_name, last_byte}
@@ -117,7 +118,7 @@ abbrev pub IsTestOfWords : Litmus → Type 0
 IsTestOfWords t = HasWords t → IsTest t
 
 test_fits : (name : List ℕ) (cores least : ℕ) (old : List (List ℕ)) (words : List ℕ) (registers : List (List ℕ)) (instrs : List CoreInstr) (condition : Option Condition) (names : List (List ℕ))
-    → is_test_name name ≡ true → 0 < cores → cores ≤ 4 → length registers ≡ cores → length words ≤ least → Kept least instrs old → EndingKept cores old (condition, names)
+    → is_test_name name ≡ true → 0 < cores → cores ≤ most_cores → length registers ≡ cores → length words ≤ least → Kept least instrs old → EndingKept cores old (condition, names)
     → IsTestOfWords (test_of name names words registers instrs condition)
 test_fits name cores least old words registers instrs condition names is some few each given kept after = λ values.
     let n : length (programs_from 0 (length registers) instrs) ≡ length registers = length-programs 0 (length registers) instrs in

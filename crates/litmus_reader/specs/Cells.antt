@@ -1,5 +1,5 @@
 -- The cells of a row, read from left to right. (This project's profile.)
-use Rattle.std.specs.Prelude.{ℕ, ◌+◌, List, [], ◌∷◌, ◌++◌, map, count_by, Option, Some, None, Result, Ok, Err, nat_lt, ◌==◌, if◌then◌else◌}
+use Rattle.std.specs.Prelude.{ℕ, ◌+◌, List, [], ◌∷◌, ◌++◌, count_by, Option, Some, None, Result, Ok, Err, nat_lt, ◌==◌, if◌then◌else◌}
 use Rattle.tso_model.specs.declared.instruction.Instr.{Instr}
 use Rattle.tso_model.specs.declared.instruction.Instr.TheVariants.{StoreImm, StoreReg, Load, SetImm, SetReg, Fence, Xchg, Xadd}
 use Rattle.tso_model.specs.Limits.{most_instructions}
@@ -16,10 +16,12 @@ use Rattle.litmus_reader.specs.Forms.{spelled_in}
 use Rattle.litmus_reader.specs.Places.{fault}
 use Rattle.litmus_reader.specs.Written.{Shape, store_imm, store_reg, load, set_imm, set_reg, fence, xchg, xadd}
 use Rattle.litmus_reader.specs.GrammarTable.{of_core}
+use Rattle.litmus_reader.specs.RefusedTable.{cells_of}
 
--- cells of the code, each as its tokens say
-abbrev pub cell_pieces : List (Bor (List Token)) → List (List Piece)
-cell_pieces cells = map (λ c. pieces c.now) cells
+-- the cells behind a bar, if there is one
+abbrev pub cells_behind : Option (Bor (List Token)) → List (List Piece)
+cells_behind None = []
+cells_behind (Some behind) = cells_of (pieces behind.now)
 
 -- the instruction of a shape, and the names with its location's
 unfoldable pub instr_of : ℕ → List (List ℕ) → Shape → Result (Instr × List (List ℕ)) Fault

@@ -1,7 +1,8 @@
 -- The initial state. (This project's profile.)
-use Rattle.std.specs.Prelude.{ℕ, ◌-◌, zero, suc, Bool, List, [], ◌∷◌, ◌++◌, length, replicate, Result, Ok, Err, nat_lt, slice_index_or, slice_set, ◌==◌, ◌&&◌, if◌then◌else◌}
+use Rattle.std.specs.Prelude.{ℕ, ◌≡◌, map, ◌-◌, zero, suc, Bool, List, [], ◌∷◌, ◌++◌, length, replicate, Result, Ok, Err, nat_lt, slice_index_or, slice_set, ◌==◌, ◌&&◌, if◌then◌else◌}
 use Rattle.std.specs.List.{list_any}
 use Rattle.std.specs.Str.{bytes_eq}
+use denote.Ref.{Bor}
 use Rattle.tso_model.specs.Registers.{index_of}
 use Rattle.tso_model.specs.Thread.{with_value}
 use Rattle.tso_model.specs.declared.register.Reg.{Reg}
@@ -13,6 +14,7 @@ use Rattle.litmus_reader.specs.declared.fault.Why.TheVariants.{BadToken, Unclose
 use Rattle.litmus_reader.specs.declared.fault.Fault.{Fault}
 use Rattle.litmus_reader.specs.declared.fault.Part.{Part}
 use Rattle.litmus_reader.specs.declared.initial.RegisterWord.{RegisterWord}
+use Rattle.litmus_reader.specs.declared.initial.Initial as code
 use Rattle.litmus_reader.specs.Faults.{◌>>=◌, or_unfit, there}
 use Rattle.litmus_reader.specs.Locations.{located}
 use Rattle.litmus_reader.specs.Items.{setting_at, word_at, core_of}
@@ -36,6 +38,20 @@ given left core reg value = record { left = left; core = core; reg = reg; value 
 
 abbrev pub given_of : RegisterWord → Given
 given_of r = given r.left r.core.now r.reg r.value
+
+-- a register of a core: the core's digits, and the register's number
+abbrev pub Named : Type 0
+Named = List ℕ × ℕ
+
+abbrev pub named_by_key : Bor (List ℕ) × ℕ → Named
+named_by_key k = (k.0.now, k.1)
+
+abbrev pub named_by_word : RegisterWord → Named
+named_by_word r = (r.core.now, index_of r.reg)
+
+-- the set has the registers that were given a word
+abbrev pub KnowsGiven : code.Initial → Type 0
+KnowsGiven i = map named_by_key i.given.keys ≡ map named_by_word i.registers.items
 
 -- what has been read: the names of the locations, their first words, and the registers' first words
 pub record Initial : Type 0 where

@@ -1,17 +1,19 @@
-ghost use Rattle.std.specs.Prelude.{◌≡◌};
-ghost use Rattle.litmus_tokens.specs.Pieces.{pieces};
+ghost use Rattle.std.specs.Prelude.{◌≡◌, ◌<◌, ◌∷◌, length, position, IfSome};
+ghost use Rattle.litmus_tokens.specs.Pieces.{piece_of, pieces};
+ghost use Rattle.litmus_tokens.specs.Front as front;
 ghost use Rattle.litmus_reader.specs.Faults.{Gives};
 ghost use Rattle.litmus_reader.specs.Locations.{texts};
 ghost use Rattle.litmus_reader.specs.Forms.{shape_of};
 ghost use Rattle.litmus_reader.specs.Cells as spec;
-ghost use Rattle.litmus_reader.specs.Cells.{cell_pieces};
+ghost use Rattle.litmus_reader.specs.Cells.{cells_behind};
+ghost use Rattle.litmus_reader.specs.RefusedTable.{cells_of};
 
 use crate::fault::{Fault, ReadError, Why};
 use crate::form::{Form, form_of};
 use crate::item::word_at;
 use crate::location::located;
 use indexmap::IndexSet;
-use litmus_tokens::Token;
+use litmus_tokens::{Symbol, Token, is_symbol};
 use tso_model::Instr;
 use tso_model::limits::MAX_INSTRUCTIONS;
 
@@ -103,16 +105,39 @@ pub fn read_cell<'a>(
     Ok(())
 }
 
+/// Where the first of this symbol stands, if it is there.
+pub fn place_of(symbol: Symbol, tokens: &[Token<'_>]) -> Option<usize>
+    ensures { result ≡ position (λ t. front.is_symbol symbol (piece_of t)) tokens.now }
+{
+    tokens.iter().position(|t| is_symbol(symbol, t))
+}
+
+/// The first cell of a row, and what stands behind its bar, if it has one.
+fn first_cell<'a, 'b>(row: &'b [Token<'a>]) -> (&'b [Token<'a>], Option<&'b [Token<'a>]>)
+    ensures cells { cells_of (pieces row.now) ≡ pieces result.0.now ∷ cells_behind result.1 }
+    ensures shorter { IfSome result.1 (λ behind. length behind.now < length row.now) }
+{
+    match place_of(Symbol::Bar, row) {
+        Some(bar) => (&row[..bar], Some(&row[bar + 1..])),
+        None => (row, None),
+    }
+}
+
 /// Reads the cells of a row from left to right.
 pub fn read_cells<'a>(
     instrs: &mut Vec<CoreInstr>,
     names: &mut IndexSet<&'a [u8]>,
-    cells: &[&[Token<'a>]],
+    row: &[Token<'a>],
 ) -> Result<(), ReadError>
-    ensures { Gives (λ _. (instrs.new.items, texts names.new.keys)) result (spec.cells_in 0 instrs.old.items (texts names.old.keys) (cell_pieces cells.now)) }
+    ensures { Gives (λ _. (instrs.new.items, texts names.new.keys)) result (spec.cells_in 0 instrs.old.items (texts names.old.keys) (cells_of (pieces row.now))) }
 {
-    for (core, cell) in cells.iter().enumerate() {
+    let mut core = 0;
+    let mut left = Some(row);
+    'cells: while let Some(cells) = left {
+        let (cell, behind) = first_cell(cells);
         read_cell(core, instrs, names, cell)?;
+        core += 1;
+        left = behind;
     }
     Ok(())
 }

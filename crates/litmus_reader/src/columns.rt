@@ -1,5 +1,6 @@
 ghost use Rattle.std.specs.Prelude.{◌≡◌, ◌≤◌, ◌-◌, IfOk};
 ghost use Rattle.std.specs.Option.{option_map};
+ghost use Rattle.tso_model.specs.Limits.{most_cores};
 ghost use Rattle.litmus_tokens.specs.Pieces.{pieces};
 ghost use Rattle.litmus_reader.specs.Faults.{seen};
 ghost use Rattle.litmus_reader.specs.Columns as spec;
@@ -25,7 +26,7 @@ fn in_columns(stop: Stop) -> Part
 /// What stands behind the name of this core.
 #[tactic(auto, unfolding(crate::specs::Columns::core_at))]
 fn after_core<'a, 'b>(core: usize, tokens: &'b [Token<'a>]) -> Option<&'b [Token<'a>]>
-    requires { core ≤ 4 }
+    requires { core ≤ most_cores }
     ensures { option_map (λ x. pieces x.now) result ≡ spec.core_at core (pieces tokens.now) }
 {
     let (name, rest) = name_at(tokens)?;
@@ -57,9 +58,9 @@ fn columns_from<'a, 'b>(
     core: usize,
     tokens: &'b [Token<'a>],
 ) -> Result<(usize, &'b [Token<'a>]), Fault>
-    requires { core ≤ 4 }
-    ensures value { seen (λ x. (x.0, pieces x.1.now)) result ≡ spec.columns stop (4 - core) core (pieces tokens.now) }
-    ensures cores { IfOk result (λ x. x.0 ≤ 4) }
+    requires { core ≤ most_cores }
+    ensures value { seen (λ x. (x.0, pieces x.1.now)) result ≡ spec.columns stop (most_cores - core) core (pieces tokens.now) }
+    ensures cores { IfOk result (λ x. x.0 ≤ most_cores) }
 {
     let part = in_columns(stop);
     let rest = part.expect(tokens, after_core(core, tokens))?;
@@ -85,7 +86,7 @@ pub fn columns_at<'a, 'b>(
     tokens: &'b [Token<'a>],
 ) -> Result<(usize, &'b [Token<'a>]), Fault>
     ensures value { seen (λ x. (x.0, pieces x.1.now)) result ≡ spec.columns_at stop (pieces tokens.now) }
-    ensures cores { IfOk result (λ x. x.0 ≤ 4) }
+    ensures cores { IfOk result (λ x. x.0 ≤ most_cores) }
 {
     columns_from(stop, 0, tokens)
 }

@@ -1,5 +1,6 @@
 ghost use Rattle.std.specs.Prelude.{◌≡◌, ◌≤◌, ◌<◌, ◌+◌, length, codes, Some, None, Ok, IfOk, IfSome};
 ghost use Rattle.std.specs.Option.{option_map};
+ghost use Rattle.tso_model.specs.Limits.{most_cores};
 ghost use Rattle.tso_model.specs.Condition.{claim_of, condition_of, NotClaim};
 ghost use Rattle.litmus_tokens.specs.Pieces.{pieces};
 ghost use Rattle.litmus_reader.specs.Faults.{seen, Gives};
@@ -43,7 +44,7 @@ fn prop_of<'a>(
     names: &mut IndexSet<&'a [u8]>,
     item: Item<'a>,
 ) -> Result<Prop, ReadError>
-    requires { cores ≤ 4 }
+    requires { cores ≤ most_cores }
     ensures { Gives (λ p. (claim_of p, texts names.new.keys)) result (spec.claim_in cores left (texts names.old.keys) (setting_of item.entry)) }
 {
     match item {
@@ -96,7 +97,7 @@ fn setting_atom<'a, 'b>(
     names: &mut IndexSet<&'a [u8]>,
     tokens: &'b [Token<'a>],
 ) -> Result<(Prop, &'b [Token<'a>]), ReadError>
-    requires { cores ≤ 4 }
+    requires { cores ≤ most_cores }
     ensures value { Gives (λ x. claimed (claim_of x.0) atoms.new (texts names.new.keys) (pieces x.1.now)) result (spec.setting_atom stop cores atoms.old (texts names.old.keys) (pieces tokens.now)) }
     ensures shorter { IfOk result (λ x. length x.1.now < length tokens.now) }
 {
@@ -119,7 +120,7 @@ fn atom_at<'a, 'b>(
     names: &mut IndexSet<&'a [u8]>,
     tokens: &'b [Token<'a>],
 ) -> Result<(Prop, &'b [Token<'a>]), ReadError>
-    requires { cores ≤ 4 }
+    requires { cores ≤ most_cores }
     ensures value { Gives (λ x. claimed (claim_of x.0) atoms.new (texts names.new.keys) (pieces x.1.now)) result (spec.atom_at stop cores atoms.old (texts names.old.keys) (pieces tokens.now)) }
     ensures shorter { IfOk result (λ x. length x.1.now < length tokens.now) }
 {
@@ -186,7 +187,7 @@ fn unit_at<'a, 'b>(
     names: &mut IndexSet<&'a [u8]>,
     tokens: &'b [Token<'a>],
 ) -> Result<(Prop, &'b [Token<'a>]), ReadError>
-    requires { cores ≤ 4 }
+    requires { cores ≤ most_cores }
     ensures value { Gives (λ x. claimed (claim_of x.0) atoms.new (texts names.new.keys) (pieces x.1.now)) result (spec.unit_at stop cores opens atoms.old (texts names.old.keys) (pieces tokens.now)) }
     ensures shorter { IfOk result (λ x. length x.1.now < length tokens.now) }
 {
@@ -222,7 +223,7 @@ fn conjunction_at<'a, 'b>(
     names: &mut IndexSet<&'a [u8]>,
     tokens: &'b [Token<'a>],
 ) -> Result<(Prop, &'b [Token<'a>]), ReadError>
-    requires { cores ≤ 4 }
+    requires { cores ≤ most_cores }
     ensures value { Gives (λ x. claimed (claim_of x.0) atoms.new (texts names.new.keys) (pieces x.1.now)) result (spec.conjunction (spec.unit_at stop cores opens) atoms.old (texts names.old.keys) (pieces tokens.now)) }
     ensures shorter { IfOk result (λ x. length x.1.now < length tokens.now) }
 {
@@ -246,7 +247,7 @@ fn proposition_at<'a, 'b>(
     names: &mut IndexSet<&'a [u8]>,
     tokens: &'b [Token<'a>],
 ) -> Result<(Prop, &'b [Token<'a>]), ReadError>
-    requires { cores ≤ 4 }
+    requires { cores ≤ most_cores }
     ensures value { Gives (λ x. claimed (claim_of x.0) atoms.new (texts names.new.keys) (pieces x.1.now)) result (spec.proposition_at stop cores opens atoms.old (texts names.old.keys) (pieces tokens.now)) }
     ensures shorter { IfOk result (λ x. length x.1.now < length tokens.now) }
 {
@@ -269,7 +270,7 @@ fn quantified<'a, 'b>(
     names: &mut IndexSet<&'a [u8]>,
     tokens: &'b [Token<'a>],
 ) -> Result<(Option<Cond>, &'b [Token<'a>]), ReadError>
-    requires { cores ≤ 4 }
+    requires { cores ≤ most_cores }
     ensures { Gives (λ x. conditioned (option_map condition_of x.0) (texts names.new.keys) (pieces x.1.now)) result (spec.quantified stop cores quantifier (texts names.old.keys) (pieces tokens.now)) }
 {
     let mut atoms = 0;
@@ -288,7 +289,7 @@ pub fn condition_at<'a, 'b>(
     names: &mut IndexSet<&'a [u8]>,
     tokens: &'b [Token<'a>],
 ) -> Result<(Option<Cond>, &'b [Token<'a>]), ReadError>
-    requires { cores ≤ 4 }
+    requires { cores ≤ most_cores }
     ensures { Gives (λ x. conditioned (option_map condition_of x.0) (texts names.new.keys) (pieces x.1.now)) result (spec.condition_at stop cores (texts names.old.keys) (pieces tokens.now)) }
 {
     if let Some(rest) = after_word(b"exists", tokens) {

@@ -1,11 +1,12 @@
 ghost use Rattle.litmus_tokens.specs.Pieces.{pieces};
-ghost use Rattle.std.specs.Prelude.{◌≡◌, ◌≤◌, ◌<◌, length, map, replicate, IfOk};
+ghost use Rattle.std.specs.Prelude.{◌≡◌, ◌≤◌, ◌<◌, ◌++◌, ◌∷◌, [], false, length, map, replicate, IfOk, OnOk};
 ghost use Rattle.std.specs.List.{list_any};
+ghost use Rattle.tso_model.specs.Limits.{most_cores};
 ghost use Rattle.litmus_reader.specs.Faults.{seen, Gives};
 ghost use Rattle.litmus_reader.specs.Locations.{texts};
 ghost use Rattle.litmus_reader.specs.Items.{setting_of};
 ghost use Rattle.litmus_reader.specs.Initial as spec;
-ghost use Rattle.litmus_reader.specs.Initial.{given_of, initial};
+ghost use Rattle.litmus_reader.specs.Initial.{given_of, initial, KnowsGiven};
 ghost use Rattle.litmus_reader.specs.Places as places;
 ghost use Rattle.litmus_reader.specs.RefusedInitial as refused;
 
@@ -15,7 +16,7 @@ use crate::location::located;
 use indexmap::IndexSet;
 use litmus_tokens::{Stop, Symbol, Token, after_symbol, is_symbol};
 use std::alloc::{AllocError, Global};
-use tso_model::Reg;
+use tso_model::{NoMemory, Reg};
 
 /// A register's first word, and the place of the item that gives it. The core is its digits: it may
 /// be one that the test hasn't.
@@ -33,6 +34,9 @@ pub struct Initial<'a> {
     /// The words of the locations that it names, by their numbers.
     pub words: Vec<u32>,
     pub registers: Vec<RegisterWord<'a>>,
+    /// Which registers these are, so that one is found among many at once: the digits of the core, and
+    /// the register's number.
+    given: IndexSet<(&'a [u8], usize)>,
 }
 
 fn before_initial(stop: Stop) -> Part
@@ -65,17 +69,25 @@ fn in_initial(left: usize, stop: Stop) -> Part
     }
 }
 
-/// Whether this register of this core is the one that is given.
-fn gives(core: &[u8], reg: Reg, given: &RegisterWord<'_>) -> bool
-    ensures { result ≡ spec.gives core.now reg (given_of given.now) }
+/// Whether this register of this core was given a word.
+fn is_given<'a>(state: &Initial<'a>, core: &'a [u8], reg: Reg) -> bool
+    requires { KnowsGiven state.now }
+    ensures { result ≡ list_any (λ r. spec.gives core.now reg (given_of r)) state.now.registers.items }
 {
-    given.core == core && given.reg.index() == reg.index()
+    state.given.contains(&(core, reg.index()))
 }
 
-fn is_given(core: &[u8], reg: Reg, registers: &[RegisterWord<'_>]) -> bool
-    ensures { result ≡ list_any (λ r. spec.gives core.now reg (given_of r)) registers.now }
+/// Notes a register's first word.
+fn note_register<'a>(state: &mut Initial<'a>, word: RegisterWord<'a>) -> Result<(), NoMemory>
+    requires knows { KnowsGiven state.old }
+    requires once { list_any (λ r. spec.gives word.core.now word.reg (given_of r)) state.old.registers.items ≡ false }
+    ensures registers { OnOk result (state.new.registers.items ≡ state.old.registers.items ++ word.entry ∷ []) }
+    ensures words { OnOk result (state.new.words ≡ state.old.words) }
+    ensures knows { OnOk result (KnowsGiven state.new) }
 {
-    registers.iter().any(|given| gives(core, reg, given))
+    state.given.insert((word.core, word.reg.index()))?;
+    state.registers.push(word)?;
+    Ok(())
 }
 
 /// Notes an item whose first token stands at `left`.
@@ -88,7 +100,9 @@ fn note_item<'a>(
     names: &mut IndexSet<&'a [u8]>,
     item: Item<'a>,
 ) -> Result<(), ReadError>
-    ensures { Gives (λ _. initial (texts names.new.keys) state.new.words.items (map given_of state.new.registers.items)) result (spec.judged left (initial (texts names.old.keys) state.old.words.items (map given_of state.old.registers.items)) (setting_of item.entry)) }
+    requires { KnowsGiven state.old }
+    ensures knows { OnOk result (KnowsGiven state.new) }
+    ensures value { Gives (λ _. initial (texts names.new.keys) state.new.words.items (map given_of state.new.registers.items)) result (spec.judged left (initial (texts names.old.keys) state.old.words.items (map given_of state.old.registers.items)) (setting_of item.entry)) }
 {
     let twice = Fault {
         why: Why::TwiceInit,
@@ -97,15 +111,16 @@ fn note_item<'a>(
     match item {
         Item::Register(core, reg, digits) => {
             let value = word_at(left, digits)?;
-            if is_given(core, reg, &state.registers) {
+            if is_given(state, core, reg) {
                 return Err(ReadError::Fault(twice));
             }
-            state.registers.push(RegisterWord {
+            let word = RegisterWord {
                 left,
                 core,
                 reg,
                 value,
-            })?;
+            };
+            note_register(state, word)?;
         }
         Item::Location(name, digits) => {
             let value = word_at(left, digits)?;
@@ -139,6 +154,8 @@ fn read_item<'a, 'b>(
     names: &mut IndexSet<&'a [u8]>,
     tokens: &'b [Token<'a>],
 ) -> Result<&'b [Token<'a>], ReadError>
+    requires { KnowsGiven state.old }
+    ensures knows { OnOk result (KnowsGiven state.new) }
     ensures value { Gives (λ rest. (initial (texts names.new.keys) state.new.words.items (map given_of state.new.registers.items), pieces rest.now)) result (spec.item_in part (initial (texts names.old.keys) state.old.words.items (map given_of state.old.registers.items)) (pieces tokens.now)) }
     ensures shorter { IfOk result (λ rest. length rest.now < length tokens.now) }
 {
@@ -158,6 +175,8 @@ fn read_step<'a, 'b>(
     names: &mut IndexSet<&'a [u8]>,
     tokens: &'b [Token<'a>],
 ) -> Result<&'b [Token<'a>], ReadError>
+    requires { KnowsGiven state.old }
+    ensures knows { OnOk result (KnowsGiven state.new) }
     ensures value { Gives (λ rest. (initial (texts names.new.keys) state.new.words.items (map given_of state.new.registers.items), pieces rest.now)) result (spec.step_in part (initial (texts names.old.keys) state.old.words.items (map given_of state.old.registers.items)) (pieces tokens.now)) }
     ensures shorter { IfOk result (λ rest. length rest.now < length tokens.now) }
 {
@@ -193,6 +212,7 @@ pub fn read_initial<'a, 'b>(
     let mut state = Initial {
         words: Vec::new(alloc),
         registers: Vec::new(alloc),
+        given: IndexSet::new(alloc),
     };
     'items: loop {
         if let Some(behind) = after_symbol(Symbol::CloseCurly, rest) {
@@ -216,7 +236,7 @@ pub fn registers_of(
     cores: usize,
     given: &[RegisterWord<'_>],
 ) -> Result<Vec<[u32; 6]>, ReadError>
-    requires { cores ≤ 4 }
+    requires { cores ≤ most_cores }
     ensures { Gives (λ v. v.items) result (spec.registers_of cores (map given_of given.now)) }
 {
     let mut registers = no_registers(alloc, cores)?;

@@ -1,5 +1,6 @@
 ghost use Rattle.std.specs.Prelude.{◌≡◌, ◌<◌, ◌≤◌, length, None, IfSome, IfOk};
 ghost use Rattle.std.specs.Option.{option_map};
+ghost use Rattle.tso_model.specs.Limits.{most_cores};
 ghost use Rattle.litmus_tokens.specs.Terms.{decimal};
 ghost use Rattle.litmus_tokens.specs.Pieces.{pieces};
 ghost use Rattle.litmus_reader.specs.Faults.{seen};
@@ -134,7 +135,7 @@ pub fn word_at(left: usize, digits: &[u8]) -> Result<u32, Fault>
 
 /// A core of the test; `NoSuchCore` at `left` for any other, of whatever size.
 pub fn core_of(cores: usize, left: usize, digits: &[u8]) -> Result<Core, Fault>
-    requires { cores ≤ 4 }
+    requires { cores ≤ most_cores }
     ensures { seen (λ core. core.0) result ≡ spec.core_of cores left digits.now }
 {
     match word(digits) {

@@ -7,10 +7,10 @@ ghost use Rattle.litmus_reader.specs.Limits.{longest_text};
 pub const MAX_TEXT: usize = 65_536;
 
 /// Bytes of a test's name, at most.
-pub const MAX_TEST_NAME: usize = 64;
+pub const MAX_TEST_NAME: usize = tso_model::limits::MAX_TEST_NAME;
 
 /// Negations and brackets of a condition that may be open at once.
-pub const MAX_OPEN: usize = 64;
+pub const MAX_OPEN: usize = tso_model::limits::MAX_OPEN;
 
 /// Each limit is the number that the definitions have: a law, with nothing to run.
 pub fn limits_are_as_defined()

@@ -1,6 +1,7 @@
 ghost use Rattle.std.specs.Prelude.{◌≡◌, ◌≢◌, ◌≤◌, Some, Ok, IfOk, IfErr, MatchResult, IsTrue};
 ghost use Rattle.std.specs.Option.{option_map};
 ghost use Rattle.std.specs.Str.{IsUtf8};
+ghost use Rattle.tso_model.specs.Limits.{most_cores};
 ghost use Rattle.tso_model.specs.Litmus.{Litmus, IsTest};
 ghost use Rattle.litmus_reader.specs.declared.fault.TextFault.{TextFault};
 ghost use Rattle.tso_model.specs.Condition.{condition_of};
@@ -60,7 +61,7 @@ fn ending_at<'a>(
     names: &mut IndexSet<&'a [u8]>,
     tokens: &[Token<'a>],
 ) -> Result<Option<Cond>, ReadError>
-    requires { cores ≤ 4 }
+    requires { cores ≤ most_cores }
     ensures { Gives (λ cond. (option_map condition_of cond, texts names.new.keys)) result (spec.ending_at stop cores (texts names.old.keys) (pieces tokens.now)) }
 {
     let (cond, rest) = condition_at(alloc, stop, cores, names, tokens)?;
@@ -79,7 +80,7 @@ fn tail_at<'a>(
     names: &mut IndexSet<&'a [u8]>,
     tokens: &[Token<'a>],
 ) -> Result<Option<Cond>, ReadError>
-    requires { cores ≤ 4 }
+    requires { cores ≤ most_cores }
     ensures { Gives (λ cond. (option_map condition_of cond, texts names.new.keys)) result (spec.tail_at text.now stop cores (texts names.old.keys) (pieces tokens.now)) }
 {
     match after_observed(text, stop, tokens)? {

@@ -1,31 +1,23 @@
-ghost use Rattle.std.specs.Prelude.{◌≡◌, ◌<◌, ◌≤◌, length, map, position, IfOk};
-ghost use Rattle.litmus_tokens.specs.declared.token.Symbol.TheVariants.{Semicolon};
-ghost use Rattle.litmus_tokens.specs.Pieces.{piece_of, pieces};
+ghost use Rattle.std.specs.Prelude.{◌≡◌, ◌<◌, ◌≤◌, length, map, IfOk};
+ghost use Rattle.tso_model.specs.Limits.{most_cores};
+ghost use Rattle.litmus_tokens.specs.Pieces.{pieces};
 ghost use Rattle.litmus_tokens.specs.Terms.{term_of};
-ghost use Rattle.litmus_tokens.specs.Front as front;
 ghost use Rattle.litmus_reader.specs.Faults.{seen, Gives};
 ghost use Rattle.litmus_reader.specs.Locations.{texts};
 ghost use Rattle.litmus_reader.specs.Initial.{given_of};
-ghost use Rattle.litmus_reader.specs.Cells.{cell_pieces};
 ghost use Rattle.litmus_reader.specs.Rows as spec;
 ghost use Rattle.litmus_reader.specs.Rows.{rows, table};
 ghost use Rattle.litmus_reader.specs.Places.{left_of};
 ghost use Rattle.litmus_reader.specs.RefusedTable as refused;
 ghost use Rattle.litmus_reader.specs.GrammarTable as grammar;
 
-use crate::cell::{CoreInstr, read_cells};
+use crate::cell::{CoreInstr, place_of, read_cells};
 use crate::columns::columns_at;
 use crate::fault::{Fault, ReadError, Why, at_stop, left_of};
 use crate::initial::{RegisterWord, registers_of};
 use indexmap::IndexSet;
 use litmus_tokens::{Lexeme, Stop, Symbol, Token, is_symbol};
-use std::alloc::{AllocError, Global};
-
-fn end_of_row(tokens: &[Token<'_>]) -> Option<usize>
-    ensures { result ≡ position (λ t. front.is_symbol Semicolon (piece_of t)) tokens.now }
-{
-    tokens.iter().position(|t| is_symbol(Symbol::Semicolon, t))
-}
+use std::alloc::Global;
 
 /// A row without its `;`, and the tokens behind it.
 #[tactic(auto, using(crate::proofs::RowEnds::row_open, crate::proofs::RowEnds::row_closed))]
@@ -36,7 +28,7 @@ fn row_at<'a, 'b>(
     ensures value { seen (λ x. (pieces x.0.now, pieces x.1.now)) result ≡ spec.row_at stop (pieces tokens.now) }
     ensures shorter { IfOk result (λ x. length x.1.now < length tokens.now) }
 {
-    match end_of_row(tokens) {
+    match place_of(Symbol::Semicolon, tokens) {
         Some(end) => Ok((&tokens[..end], &tokens[end + 1..])),
         None => Err(at_stop(
             Fault {
@@ -48,11 +40,12 @@ fn row_at<'a, 'b>(
     }
 }
 
-/// The cells of a row.
-fn cells_of<'a, 'b>(alloc: Global, row: &'b [Token<'a>]) -> Result<Vec<&'b [Token<'a>]>, AllocError>
-    ensures { IfOk result (λ v. cell_pieces v.items ≡ refused.cells_of (pieces row.now)) }
+/// How many cells a row has: one more than bars.
+#[tactic(auto, using(crate::proofs::Cells::cells_counted))]
+fn cell_count(row: &[Token<'_>]) -> usize
+    ensures { result ≡ length (refused.cells_of (pieces row.now)) }
 {
-    row.split(|t| is_symbol(Symbol::Bar, t)).collect(alloc)
+    row.iter().filter(|t| is_symbol(Symbol::Bar, t)).count() + 1
 }
 
 /// Reads a row whose first token stands at `left`.
@@ -60,7 +53,6 @@ fn cells_of<'a, 'b>(alloc: Global, row: &'b [Token<'a>]) -> Result<Vec<&'b [Toke
 /// `WrongCells` at `left` where it hasn't a cell for each core, and then what its cells refuse.
 #[tactic(auto, unfolding(crate::specs::Rows::row_in))]
 fn read_row<'a>(
-    alloc: Global,
     cores: usize,
     left: usize,
     instrs: &mut Vec<CoreInstr>,
@@ -69,14 +61,13 @@ fn read_row<'a>(
 ) -> Result<(), ReadError>
     ensures { Gives (λ _. (instrs.new.items, texts names.new.keys)) result (spec.row_in cores left instrs.old.items (texts names.old.keys) (pieces row.now)) }
 {
-    let cells = cells_of(alloc, row)?;
-    if cells.len() != cores {
+    if cell_count(row) != cores {
         return Err(ReadError::Fault(Fault {
             why: Why::WrongCells,
             left,
         }));
     }
-    read_cells(instrs, names, &cells)
+    read_cells(instrs, names, row)
 }
 
 fn ends_rows_term(lexeme: Lexeme<'_>) -> bool
@@ -126,7 +117,7 @@ pub fn read_table<'a, 'b>(
     tokens: &'b [Token<'a>],
 ) -> Result<(Table, &'b [Token<'a>]), ReadError>
     ensures value { Gives (λ x. table x.0.cores x.0.registers.items (rows x.0.instrs.items (texts names.new.keys) (pieces x.1.now))) result (spec.table_at stop (map given_of given.now) (texts names.old.keys) (pieces tokens.now)) }
-    ensures cores { IfOk result (λ x. x.0.cores ≤ 4) }
+    ensures cores { IfOk result (λ x. x.0.cores ≤ most_cores) }
 {
     let (cores, mut rest) = columns_at(stop, tokens)?;
     let registers = registers_of(alloc, cores, given)?;
@@ -134,7 +125,7 @@ pub fn read_table<'a, 'b>(
     'rows: while !ends_rows(rest) {
         let left = left_of(rest);
         let (row, behind) = row_at(stop, rest)?;
-        read_row(alloc, cores, left, &mut instrs, names, row)?;
+        read_row(cores, left, &mut instrs, names, row)?;
         rest = behind;
     }
     let table = Table {

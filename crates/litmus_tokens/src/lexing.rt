@@ -17,7 +17,7 @@ use tso_model::NoMemory;
 use tso_model::names::{begins_name, continues_name};
 
 /// A longest name has so many bytes.
-pub const MAX_NAME: usize = 32;
+pub const MAX_NAME: usize = tso_model::limits::MAX_NAME;
 
 /// The limit is the number that the definitions have: a law, with nothing to run.
 pub fn limits_are_as_defined()

@@ -12,7 +12,7 @@ use Rattle.tso_model.specs.declared.choice.Outcome.{Outcome}
 use Rattle.tso_model.specs.declared.choice.Outcome.TheVariants.{Stalled}
 use Rattle.tso_model.specs.declared.choice.Stall.TheVariants as stall
 use Rattle.order_builder.specs.Pairs.{IsPaired}
-use Rattle.snoop_bus.specs.Bus.{Bus, words_of, cores_of}
+use Rattle.snoop_bus.specs.Bus.{Bus, words_of, cores_of, IsFree}
 use Rattle.machine_core.specs.declared.processor.Processor.{Processor}
 use Rattle.machine_core.specs.declared.cache_use.CacheUse.{CacheUse}
 use Rattle.machine_core.specs.declared.cache_use.CacheUse.TheVariants.{Unused}
@@ -97,11 +97,12 @@ Performs-done t m new core p h q g processors memory commits =
 
 -- the parts still fit the test when one core and memory have changed
 pub FitsTest-next : {P : Type 0} (t : Litmus) (m new : Parts P) (i : ℕ) (p : Processor) → FitsTest t m → new.config ≡ m.config → new.processors.items ≡ slice_set m.processors.items i p
-    → cores_of new.bus ≡ cores_of m.bus → length (words_of new.bus) ≡ length (words_of m.bus) → p.stores.depth ≡ m.config.depth → All (λ s. s.loc.0 < length (words_of m.bus)) p.stores.items → FitsTest t new
-FitsTest-next t m new i p fits config processors on_bus size depth known = record {
+    → cores_of new.bus ≡ cores_of m.bus → IsFree new.bus → length (words_of new.bus) ≡ length (words_of m.bus) → p.stores.depth ≡ m.config.depth → All (λ s. s.loc.0 < length (words_of m.bus)) p.stores.items → FitsTest t new
+FitsTest-next t m new i p fits config processors on_bus free size depth known = record {
   some_depth = subst (λ c. 0 < c.depth) (sym config) fits.some_depth;
   cores = ap length processors ∙ length-set m.processors.items i p ∙ fits.cores;
   on_bus = on_bus ∙ fits.on_bus;
+  free = free;
   words = size ∙ fits.words;
   each =
       let old : All (IsCore m.config.depth (length (words_of m.bus))) (slice_set m.processors.items i p) =

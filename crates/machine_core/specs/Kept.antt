@@ -5,7 +5,7 @@ use Rattle.tso_model.specs.Limits.{most_cores, most_instructions}
 use Rattle.tso_model.specs.Litmus.{Litmus, IsTest}
 use Rattle.tso_model.specs.FlatMachine.{CoreState, State}
 use Rattle.tso_model.specs.declared.instruction.Core.{Core}
-use Rattle.snoop_bus.specs.Bus.{words_of, cores_of}
+use Rattle.snoop_bus.specs.Bus.{words_of, cores_of, IsFree}
 use Rattle.machine_core.specs.declared.processor.Processor.{Processor}
 use Rattle.machine_core.specs.declared.parts.Parts.{Parts}
 use Rattle.machine_core.specs.declared.counts.Counts.{Counts}
@@ -58,11 +58,12 @@ pub record IsTallied (t : Litmus) (state : State) (counts : List Counts) : Type 
   pub issued : All IsIssued state.cores
   pub done : All (IsAtMost (sum_by done_by state.cores)) counts
 
--- the parts of a machine of this test: its cores, all on one bus, and a word for each location
+-- the parts of a machine of this test: its cores, all on one bus that nobody holds, and a word for each location
 pub record FitsTest {P : Type 0} (t : Litmus) (m : Parts P) : Type 0 where
   pub some_depth : 0 < m.config.depth
   pub cores : length m.processors.items ≡ length t.programs
   pub on_bus : cores_of m.bus ≡ length t.programs
+  pub free : IsFree m.bus
   pub words : length (words_of m.bus) ≡ length t.locations
   pub each : All (IsCore m.config.depth (length (words_of m.bus))) m.processors.items
 

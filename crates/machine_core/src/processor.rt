@@ -6,7 +6,7 @@ ghost use Rattle.tso_model.specs.Execution.{last_value};
 ghost use Rattle.tso_model.specs.Thread.{entry, value_in, with_value};
 ghost use Rattle.tso_model.specs.FlatMachine.{memory_after};
 ghost use Rattle.tso_model.specs.declared.execution.Kind.TheVariants.{LR, LW};
-ghost use Rattle.snoop_bus.specs.Bus.{Bus, words_of, cores_of};
+ghost use Rattle.snoop_bus.specs.Bus.{Bus, words_of, cores_of, IsFree};
 ghost use Rattle.machine_core.specs.Cores.{store_of, core_state, pending_in, advanced, step_by, drain_by};
 ghost use Rattle.machine_core.specs.Performed.{HasUsed};
 ghost use Rattle.machine_core.specs.Statistics.{caches_of, load_behind, use_of};
@@ -59,6 +59,7 @@ pub fn step<P: Protocol>(
     requires place { processor.old.place < most_instructions }
     requires depth { 0 < processor.old.stores.depth }
     requires core { core.0 < cores_of bus.old }
+    requires free { IsFree bus.old }
     requires known { KnownLocation (length (words_of bus.old)) instr }
     requires stores { All (λ s. s.loc.0 < length (words_of bus.old)) processor.old.stores.items }
 
@@ -73,6 +74,7 @@ pub fn step<P: Protocol>(
     ensures err_bus { OnErr result (bus.new ≡ bus.old) }
     ensures err_commits { OnErr result (commits.new.entries ≡ commits.old.entries) }
     ensures cores { cores_of bus.new ≡ cores_of bus.old }
+    ensures free { IsFree bus.new }
     ensures count { length (words_of bus.new) ≡ length (words_of bus.old) }
     ensures depth { processor.new.stores.depth ≡ processor.old.stores.depth }
     ensures stores { All (λ s. s.loc.0 < length (words_of bus.old)) processor.new.stores.items }
@@ -129,6 +131,7 @@ fn load<P: Protocol>(
 ) -> Result<(Outcome, CacheUse), NoMemory>
     requires place { processor.old.place < most_instructions }
     requires core { core.0 < cores_of bus.old }
+    requires free { IsFree bus.old }
     requires known { loc.0 < length (words_of bus.old) }
 
     ensures outcome { IfOk result (λ r. r.0 ≡ Outcome.Committed) }
@@ -141,6 +144,7 @@ fn load<P: Protocol>(
     ensures err_bus { OnErr result (bus.new ≡ bus.old) }
     ensures err_commits { OnErr result (commits.new.entries ≡ commits.old.entries) }
     ensures cores { cores_of bus.new ≡ cores_of bus.old }
+    ensures free { IsFree bus.new }
     ensures stores { processor.new.stores ≡ processor.old.stores }
 {
     commits.make_room(1)?;
@@ -164,12 +168,14 @@ fn see<P: Protocol>(
     bus: &mut SnoopBus<P>,
 ) -> Result<(u32, CacheUse), NoMemory>
     requires core { core.0 < cores_of bus.old }
+    requires free { IsFree bus.old }
     requires known { loc.0 < length (words_of bus.old) }
 
     ensures value { IfOk result (λ r. r.0 ≡ last_value (filter (writes_to loc.0) (map (store_of core.0) stores.now.items)) (slice_index (words_of bus.old) loc.0)) }
     ensures words { words_of bus.new ≡ words_of bus.old }
     ensures caches { IfOk result (λ r. HasUsed (load_behind (caches_of bus.old) (map (store_of core.0) stores.now.items) core.0 loc.0) bus.new r.1) }
     ensures cores { cores_of bus.new ≡ cores_of bus.old }
+    ensures free { IsFree bus.new }
     ensures err { OnErr result (bus.new ≡ bus.old) }
 {
     match stores.newest_for(loc) {
@@ -234,6 +240,7 @@ fn exchange<P: Protocol>(
 ) -> Result<(Outcome, CacheUse), NoMemory>
     requires place { processor.old.place < most_instructions }
     requires core { core.0 < cores_of bus.old }
+    requires free { IsFree bus.old }
     requires known { loc.0 < length (words_of bus.old) }
 
     ensures outcome { IfOk result (λ r. r.0 ≡ (step_by processor.old core.0 (words_of bus.old) (Instr.Xchg loc reg)).outcome) }
@@ -247,6 +254,7 @@ fn exchange<P: Protocol>(
     ensures err_bus { OnErr result (bus.new ≡ bus.old) }
     ensures err_commits { OnErr result (commits.new.entries ≡ commits.old.entries) }
     ensures cores { cores_of bus.new ≡ cores_of bus.old }
+    ensures free { IsFree bus.new }
     ensures count { length (words_of bus.new) ≡ length (words_of bus.old) }
     ensures stores { processor.new.stores ≡ processor.old.stores }
 {
@@ -273,6 +281,7 @@ fn add<P: Protocol>(
 ) -> Result<(Outcome, CacheUse), NoMemory>
     requires place { processor.old.place < most_instructions }
     requires core { core.0 < cores_of bus.old }
+    requires free { IsFree bus.old }
     requires known { loc.0 < length (words_of bus.old) }
 
     ensures outcome { IfOk result (λ r. r.0 ≡ (step_by processor.old core.0 (words_of bus.old) (Instr.Xadd loc reg)).outcome) }
@@ -286,6 +295,7 @@ fn add<P: Protocol>(
     ensures err_bus { OnErr result (bus.new ≡ bus.old) }
     ensures err_commits { OnErr result (commits.new.entries ≡ commits.old.entries) }
     ensures cores { cores_of bus.new ≡ cores_of bus.old }
+    ensures free { IsFree bus.new }
     ensures count { length (words_of bus.new) ≡ length (words_of bus.old) }
     ensures stores { processor.new.stores ≡ processor.old.stores }
 {
@@ -356,6 +366,7 @@ pub fn drain<P: Protocol>(
     commits: &mut Commits,
 ) -> Result<(Outcome, CacheUse), NoMemory>
     requires core { core.0 < cores_of bus.old }
+    requires free { IsFree bus.old }
     requires stores { All (λ s. s.loc.0 < length (words_of bus.old)) processor.old.stores.items }
 
     ensures outcome { IfOk result (λ r. r.0 ≡ (drain_by processor.old core.0).outcome) }
@@ -369,6 +380,7 @@ pub fn drain<P: Protocol>(
     ensures err_bus { OnErr result (bus.new ≡ bus.old) }
     ensures err_commits { OnErr result (commits.new.entries ≡ commits.old.entries) }
     ensures cores { cores_of bus.new ≡ cores_of bus.old }
+    ensures free { IsFree bus.new }
     ensures count { length (words_of bus.new) ≡ length (words_of bus.old) }
     ensures depth { processor.new.stores.depth ≡ processor.old.stores.depth }
     ensures stores { All (λ s. s.loc.0 < length (words_of bus.old)) processor.new.stores.items }

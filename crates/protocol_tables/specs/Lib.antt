@@ -2,3 +2,4 @@ pub mod Laws
 pub mod Tables
 pub mod Names
 pub mod PrintedTable
+pub mod Asking

@@ -1,12 +1,16 @@
 //! Snooping protocols as tables of states, and the laws that a cache bus rests on.
 #![tactic(auto)]
 
+pub mod asking;
+pub mod between;
 pub mod kind;
 pub mod printing;
 pub mod protocol;
 pub mod state;
 pub mod tables;
 
+pub use asking::{Request, Transient};
+pub use between::transient;
 pub use kind::ProtocolKind;
 pub use printing::table_text;
 pub use protocol::Protocol;

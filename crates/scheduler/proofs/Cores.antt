@@ -26,7 +26,7 @@ picked : (b : Bool) (n : ℕ) → chosen (cond b (Step (record { 0 = n })) (Drai
 picked true n = refl
 picked false n = refl
 
-words-exist : (cores : ℕ) (words : List ℕ) → 0 < cores → CoresExist cores (map (choice_of_word cores) words)
+pub words-exist : (cores : ℕ) (words : List ℕ) → 0 < cores → CoresExist cores (map (choice_of_word cores) words)
 words-exist cores [] h = tt
 words-exist cores (w ∷ ws) h =
     (subst (λ n. n < cores) (sym (picked ((w % (2 * cores)) % 2 == 0) ((w % (2 * cores)) / 2))) (half-below cores w h), words-exist cores ws h)

@@ -1,5 +1,6 @@
 -- Counting the plain stores of a list, by their core and their place in its program.
 use Rattle.std.specs.Prelude.{ℕ, ◌≡◌, ◌<◌, ◌≤◌, ◌==◌, ◌&&◌, nat_lt, List, take, filter, length, sum, slice_index_or, All, []}
+use Rattle.tso_model.specs.Limits.{most_instructions}
 use Rattle.tso_model.specs.ProgramOrder.{is_store}
 use Rattle.tso_model.specs.declared.execution.Entry.{Entry}
 
@@ -7,9 +8,9 @@ use Rattle.tso_model.specs.declared.execution.Entry.{Entry}
 abbrev pub stores_below : ℕ → ℕ → List Entry → ℕ
 stores_below core place ys = length (filter (λ y. is_store y && ((y.core.0 == core) && nat_lt y.place place)) ys)
 
--- the rows have for each of so many cores, and each of 32 places of its program, how many plain stores of the list
+-- the rows have for each of so many cores, and each place of its program, how many plain stores of the list
 -- stand there
 pub record HaveCounted (cores : ℕ) (rows : List (List ℕ)) (ys : List Entry) : Type 0 where
   pub cores_are : length rows ≡ cores
-  pub places_are : (core : ℕ) → core < cores → length (slice_index_or rows core []) ≡ 32
-  pub below : (core place : ℕ) → core < cores → place ≤ 32 → sum (take place (slice_index_or rows core [])) ≡ stores_below core place ys
+  pub places_are : (core : ℕ) → core < cores → length (slice_index_or rows core []) ≡ most_instructions
+  pub below : (core place : ℕ) → core < cores → place ≤ most_instructions → sum (take place (slice_index_or rows core [])) ≡ stores_below core place ys

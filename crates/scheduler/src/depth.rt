@@ -1,6 +1,7 @@
 //! How deep a store buffer an order needs.
 
 ghost use Rattle.std.specs.Prelude.{◌≡◌, ◌<◌, ◌^◌, ℕ, IfOk, All, Some, [], length, sum};
+ghost use Rattle.tso_model.specs.Limits.{most_instructions};
 ghost use Rattle.tso_laws.specs.Depth.{needed};
 ghost use Rattle.scheduler.specs.Passed.{HaveCounted};
 
@@ -9,7 +10,7 @@ use tso_laws::needed_is_the_most_that_is_asked;
 use tso_model::{Entry, Kind, NoMemory};
 
 /// Places of a program, at most.
-const PLACES: usize = 32;
+const PLACES: usize = tso_model::limits::MAX_INSTRUCTIONS;
 
 /// The depth that an order needs: the greatest number of plain stores that stand before one load in its program and
 /// after it in the order, and 1 where there is a plain store at all. The order is gone through once, from its end on.
@@ -17,7 +18,7 @@ const PLACES: usize = 32;
 /// Fails only for want of memory.
 pub fn needed(alloc: Global, cores: u8, order: &[Entry]) -> Result<usize, NoMemory>
     requires cores { All (λ x. x.core.0 < cores) order.now }
-    requires places { All (λ x. x.place < 32) order.now }
+    requires places { All (λ x. x.place < most_instructions) order.now }
     ensures { IfOk result (λ n. n ≡ needed order.now) }
 {
     needed_is_the_most_that_is_asked();

@@ -1,6 +1,7 @@
 //! The choices that reach an order.
 
 ghost use Rattle.std.specs.Prelude.{◌≡◌, ◌≢◌, ◌≤◌, ◌<◌, ℕ, List, IfOk, IfErr, MatchResult};
+ghost use Rattle.tso_model.specs.Limits.{least_depth, most_depth};
 ghost use Rattle.tso_model.specs.Execution.{IsTsoExecution};
 ghost use Rattle.tso_model.specs.Runs.{run};
 ghost use Rattle.tso_laws.specs.Along.{choices_along, LeadTo};
@@ -32,7 +33,7 @@ pub fn witness(
     depth: u8,
 ) -> Result<Vec<Choice>, WitnessFault>
     requires execution { IsTsoExecution test.now execution.now.order.items }
-    requires depth { (1 ≤ depth) × (depth ≤ 32) }
+    requires depth { (least_depth ≤ depth) × (depth ≤ most_depth) }
 
     ensures exact { IfOk result (λ v. v.items ≡ choices_along test.now execution.now.order.items) }
     ensures reaches { IfOk result (λ v. LeadTo test.now depth v.items execution.now.order.items) }

@@ -1,6 +1,7 @@
 //! The choices of a seed.
 
 ghost use Rattle.std.specs.Prelude.{◌≡◌, ◌<◌, ◌++◌, IfOk, OnOk};
+ghost use Rattle.tso_model.specs.Runs.{CoresExist};
 ghost use Rattle.scheduler.specs.Seeds.{choice_of_word, seeded_choices};
 
 use rand_core::SeedableRng;
@@ -51,7 +52,8 @@ pub fn seeded_choices(
     count: usize,
 ) -> Result<Vec<Choice>, NoMemory>
     requires { 0 < cores }
-    ensures { IfOk result (λ v. v.items ≡ seeded_choices cores seed count) }
+    ensures exact { IfOk result (λ v. v.items ≡ seeded_choices cores seed count) }
+    ensures cores { IfOk result (λ v. CoresExist cores v.items) }
 {
     let mut choices = Vec::new(alloc);
     push_seeded(&mut choices, cores, seed, count)?;

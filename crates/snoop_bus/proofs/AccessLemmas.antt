@@ -1,16 +1,17 @@
 -- Which access it is, by the core's own copy.
-use Rattle.std.proofs.Common.{◌≡◌, ◌≢◌, ℕ, false, Option, Some, None, IsSome, option_map, List, refl, ap, ◌∙◌}
+use Rattle.std.proofs.Common.{◌≡◌, ℕ, Bool, false, sym, Option, Some, None, option_map, List, refl, ap, ◌∙◌}
 use Rattle.protocol_tables.specs.Tables.{Table}
 use Rattle.cache_set.specs.declared.Line.{Line}
-use Rattle.snoop_bus.specs.declared.access.AccessKind.TheVariants.{Hit, Miss}
+use Rattle.cache_set.specs.declared.Victim.{Victim}
+use Rattle.snoop_bus.specs.declared.access.AccessKind.TheVariants.{Hit}
 use Rattle.snoop_bus.specs.Tags.{tag_of, leaving}
-use Rattle.snoop_bus.specs.CacheContents.{TagSets, Accessed, accessed, tags_at, sets_of, loaded, loaded_in, written, written_in, write_in, used_by, writes_back, dirty_in}
+use Rattle.snoop_bus.specs.CacheContents.{TagSets, accessed, tags_at, sets_of, loaded, loaded_in, written, written_in, write_in, used_by, writes_back, dirty_in}
 use Rattle.snoop_bus.specs.Copies.{Sets, set_at, copy_at, cache_of, tags_of}
 use Rattle.snoop_bus.specs.MemoryAfter.{victim_at}
 use Rattle.snoop_bus.proofs.TagLemmas.{victim_tag, leaving-tags}
 use Rattle.snoop_bus.proofs.CacheTags.{sets_of-tags, tag_at-tags, tags_at-tags}
 
-tag_here : (caches : List Sets) (core line : ℕ) → tag_of (tags_at (sets_of (tags_of caches) core) line) line ≡ option_map (λ copy. copy.state) (copy_at caches core line)
+pub tag_here : (caches : List Sets) (core line : ℕ) → tag_of (tags_at (sets_of (tags_of caches) core) line) line ≡ option_map (λ copy. copy.state) (copy_at caches core line)
 tag_here caches core line = ap (λ (sets : TagSets). tag_of (tags_at sets line) line) (sets_of-tags caches core) ∙ tag_at-tags (cache_of caches core) line
 
 pub loaded-hit : (t : Table) (caches : List Sets) (core line : ℕ) (copy : Line) → copy_at caches core line ≡ Some copy →
@@ -32,17 +33,6 @@ writes_back-tags t caches core line =
     ap (λ (sets : TagSets). dirty_in t (leaving (tags_at sets line))) (sets_of-tags caches core)
     ∙ rw (tags_at-tags (cache_of caches core) line, leaving-tags (set_at (cache_of caches core) line)) refl
 
--- what is no miss has a copy
-pub loaded_copy : (t : Table) (caches : List Sets) (core line : ℕ) → (loaded t core line (tags_of caches)).access.kind ≢ Miss → IsSome (copy_at caches core line)
-loaded_copy t caches core line other = by_copy (copy_at caches core line) refl
-  where
-    by_copy : (o : Option Line) → copy_at caches core line ≡ o → IsSome o
-    by_copy (Some copy) e = refl
-    by_copy None e = absurd (other (ap (λ (a : Accessed). a.access.kind) (loaded-miss t caches core line e)))
-
-pub written_copy : (t : Table) (caches : List Sets) (core line : ℕ) → (written t core line (tags_of caches)).access.kind ≢ Miss → IsSome (copy_at caches core line)
-written_copy t caches core line other = by_copy (copy_at caches core line) refl
-  where
-    by_copy : (o : Option Line) → copy_at caches core line ≡ o → IsSome o
-    by_copy (Some copy) e = refl
-    by_copy None e = absurd (other (ap (λ (a : Accessed). a.access.kind) (written-miss t caches core line e)))
+-- whether the victim was written back, as the lines and states alone say
+pub writes_back_is : (t : Table) (caches : List Sets) (core line : ℕ) (v : Option Victim) (wrote_back : Bool) → wrote_back ≡ dirty_in t (victim_tag v) → v ≡ victim_at caches core line → wrote_back ≡ writes_back t core line (tags_of caches)
+writes_back_is t caches core line v wrote_back dirty is = dirty ∙ ap (λ (o : Option Victim). dirty_in t (victim_tag o)) is ∙ sym (writes_back-tags t caches core line)

@@ -1,5 +1,5 @@
 -- What the calls of a bus do, in the bus's own words, from what they do to its caches and memory.
-use Rattle.std.proofs.Common.{arith, ◌≡◌, ℕ, ◌<◌, ◌≤◌, ◌*◌, ◌/◌, ◌%◌, Option, Some, None, IsSome, Result, Ok, Err, IsOk, IfOk, OnErr, List, length, slice_get, slice_index, refl, sym, ap, ◌∙◌}
+use Rattle.std.proofs.Common.{◌≡◌, ◌⊎◌, inl, inr, ℕ, ◌<◌, ◌≤◌, ◌*◌, ◌/◌, ◌%◌, Bool, IsTrue, Option, Some, None, IsSome, Result, Ok, Err, IsOk, IfOk, OnErr, List, length, slice_get, refl, sym, ap, ◌∙◌}
 use Rattle.protocol_tables.specs.Tables.{Table}
 use Rattle.cache_set.specs.declared.Line.{Line}
 use Rattle.snoop_bus.specs.declared.access.Access.{Access}
@@ -9,57 +9,73 @@ use Rattle.snoop_bus.specs.Lines.{Words, line_in, words_in}
 use Rattle.snoop_bus.specs.Rows.{rows_of, table_of}
 use Rattle.snoop_bus.specs.CacheContents.{Accessed, loaded, written}
 use Rattle.snoop_bus.specs.Copies.{Sets, copy_at, tags_of}
-use Rattle.snoop_bus.specs.Bus.{Bus, words_of, seen, IsBus}
-use Rattle.snoop_bus.specs.Accesses.{load_of, write_of, LoadsAt, WritesAt, IsRefused, memory_words_of}
+use Rattle.snoop_bus.specs.declared.holding.Held.{Held}
+use Rattle.snoop_bus.specs.Held.{counted}
+use Rattle.snoop_bus.specs.Bus.{Bus, words_of, seen, IsFree}
+use Rattle.snoop_bus.specs.Accesses.{load_of, write_of, would_hit, LoadsAt, WritesAt, KeepsHolder, IsRefused}
 use Rattle.snoop_bus.specs.MemoryAfter.{loaded_memory, written_memory}
 use Rattle.snoop_bus.specs.Requests.{KeepsWords, Loads, Writes}
 use Rattle.snoop_bus.proofs.RowLemmas.{table_of-rows}
+use Rattle.snoop_bus.specs.Asks.{hits}
+use Rattle.snoop_bus.proofs.HolderLemmas.{free-held}
 use Rattle.snoop_bus.proofs.AccessLemmas.{loaded-miss, written-miss}
-use Rattle.snoop_bus.proofs.WordLemmas.{length-words, words-get, words-same, words-set, line_below}
+use Rattle.snoop_bus.proofs.WordLemmas.{length-words, words-get, words-same, words-set}
 
-abbrev bus : Table → Geometry → ℕ → List Sets → List Words → Bus
-bus t shape locations caches memory = record { rows = rows_of t; shape = shape; locations = locations; caches = caches; memory = memory }
+abbrev pub bus : Table → Geometry → ℕ → List Sets → List Words → Option Held → Bus
+bus t shape locations caches memory held = record { rows = rows_of t; shape = shape; locations = locations; caches = caches; memory = memory; held = held }
 
 -- a location that has a word has a line
 pub loc_in : (words n : ℕ) (caches : List Sets) (memory : List Words) (loc : ℕ) → loc < length (words_in words (seen caches memory) n) → loc < n
 loc_in words n caches memory loc b = rw (length-words words (seen caches memory) n) at b
 
-module _ (t : Table) (shape : Geometry) (locations : ℕ) (c0 c2 : List Sets) (m0 m2 : List Words) (core loc : ℕ) where
+-- what may go on: nobody holds the bus, or the access is a hit
+pub free_or_hit : (t : Table) (shape : Geometry) (locations : ℕ) (caches : List Sets) (memory : List Words) (held : Option Held) (core loc : ℕ) (write : Bool) →
+    (IsFree (bus t shape locations caches memory held)) ⊎ IsTrue (would_hit (bus t shape locations caches memory held) core loc write) →
+    (held ≡ None) ⊎ IsTrue (hits t core (loc / shape.words) write (tags_of caches))
+free_or_hit t shape locations caches memory held core loc write (inl e) = inl (free-held held e)
+free_or_hit t shape locations caches memory held core loc write (inr e) = inr (rw (table_of-rows t) at e)
+
+module _ (t : Table) (shape : Geometry) (locations : ℕ) (c0 c2 : List Sets) (m0 m2 : List Words) (held : Option Held) (core loc : ℕ) where
   abbrev before : Bus
-  before = bus t shape locations c0 m0
+  before = bus t shape locations c0 m0 held
 
   abbrev after : Bus
-  after = bus t shape locations c2 m2
+  after = bus t shape locations c2 m2 held
+
+  same_holder : KeepsHolder before after
+  same_holder = record { holder_is = refl; awaited_is = refl }
 
   back : t ≡ table_of (rows_of t)
   back = sym (table_of-rows t)
 
   pub load_done : {E : Type 0} (r : Result (ℕ × Access) E) → 0 < shape.words → locations ≤ length m0 * shape.words → loc < locations →
-      IfOk r (λ r. Loads t core (loc / shape.words) (loc % shape.words) c0 c2 m0 m2 r.0 r.1) → KeepsWords c0 c2 m0 m2 → IfOk r (λ r. LoadsAt before after core loc r.0 r.1)
+      IfOk r (λ r. Loads t held core (loc / shape.words) (loc % shape.words) c0 c2 m0 m2 r.0 r.1) → KeepsWords (counted held c0) (counted held c2) m0 m2 → IfOk r (λ r. LoadsAt before after core loc r.0 r.1)
   load_done (Err e) some enough within h keeps = tt
   load_done (Ok x) some enough within h keeps = record {
-    word_is = words-get shape.words (seen c0 m0) locations loc within ∙ ap (λ (w : ℕ). Some w) (sym h.word_is);
-    words = words-same shape.words locations (length m0) (seen c0 m0) (seen c2 m2) some enough keeps.words;
+    word_is = words-get shape.words (seen (counted held c0) m0) locations loc within ∙ ap (λ (w : ℕ). Some w) (sym h.word_is);
+    words = words-same shape.words locations (length m0) (seen (counted held c0) m0) (seen (counted held c2) m2) some enough keeps.words;
     access_is = h.access_is ∙ ap (λ (u : Table). (loaded u core (loc / shape.words) (tags_of c0)).access) back;
     contents = h.tags ∙ ap (λ (u : Table). (loaded u core (loc / shape.words) (tags_of c0)).caches) back;
     memory = h.memory ∙ ap (λ (u : Table). loaded_memory u core (loc / shape.words) c0 m0) back;
+    held = same_holder;
   }
 
   -- the word that was there
-  pub write_word : {E : Type 0} (new : ℕ → ℕ) (r : Result (ℕ × Access) E) → loc < locations → IfOk r (λ r. Writes t core (loc / shape.words) (loc % shape.words) (new r.0) c0 c2 m0 m2 r.0 r.1) →
+  pub write_word : {E : Type 0} (new : ℕ → ℕ) (r : Result (ℕ × Access) E) → loc < locations → IfOk r (λ r. Writes t held core (loc / shape.words) (loc % shape.words) (new r.0) c0 c2 m0 m2 r.0 r.1) →
       IfOk r (λ r. slice_get (words_of before) loc ≡ Some r.0)
   write_word new (Err e) within h = tt
-  write_word new (Ok x) within h = words-get shape.words (seen c0 m0) locations loc within ∙ ap (λ (w : ℕ). Some w) (sym h.word_is)
+  write_word new (Ok x) within h = words-get shape.words (seen (counted held c0) m0) locations loc within ∙ ap (λ (w : ℕ). Some w) (sym h.word_is)
 
   -- the word that is written may rest on the one that was there
   pub write_done : {E : Type 0} (new : ℕ → ℕ) (r : Result (ℕ × Access) E) → 0 < shape.words → locations ≤ length m0 * shape.words → loc < locations →
-      IfOk r (λ r. Writes t core (loc / shape.words) (loc % shape.words) (new r.0) c0 c2 m0 m2 r.0 r.1) → IfOk r (λ r. WritesAt before after core loc (new r.0) r.1)
+      IfOk r (λ r. Writes t held core (loc / shape.words) (loc % shape.words) (new r.0) c0 c2 m0 m2 r.0 r.1) → IfOk r (λ r. WritesAt before after core loc (new r.0) r.1)
   write_done new (Err e) some enough within h = tt
   write_done new (Ok x) some enough within h = record {
-    words = words-set shape.words locations (length m0) (seen c0 m0) (seen c2 m2) loc (new x.0) some enough within h.place_in h.lines;
+    words = words-set shape.words locations (length m0) (seen (counted held c0) m0) (seen (counted held c2) m2) loc (new x.0) some enough within h.place_in h.lines;
     access_is = h.access_is ∙ ap (λ (u : Table). (written u core (loc / shape.words) (tags_of c0)).access) back;
     contents = h.tags ∙ ap (λ (u : Table). (written u core (loc / shape.words) (tags_of c0)).caches) back;
     memory = h.memory ∙ ap (λ (u : Table). written_memory u core (loc / shape.words) c0 m0) back;
+    held = same_holder;
   }
 
   same_bus : c2 ≡ c0 → m2 ≡ m0 → after ≡ before

@@ -1,7 +1,7 @@
 -- What a hit and an upgrade answer and leave.
 use Rattle.std.proofs.lemmas.Bool.{cases_eq}
-use Rattle.std.proofs.Common.{◌≡◌, ◌≢◌, ◌⊎◌, inl, inr, ℕ, ◌<◌, true, false, nat_eq, Some, None, option_map, List, length, map, refl, sym, ap, ◌∙◌, slice_set, slice_index, if◌then◌else◌}
-use Rattle.protocol_tables.specs.Laws.{GivesUp, WritesInPlace}
+use Rattle.std.proofs.Common.{◌≡◌, ◌≢◌, ◌⊎◌, inl, inr, ℕ, ◌<◌, true, false, nat_eq, Option, Some, None, IfSome, option_map, List, length, map, refl, sym, ap, ◌∙◌, slice_set, slice_index, if◌then◌else◌}
+use Rattle.protocol_tables.specs.Laws.{GivesUp, WritesInPlace, in_place}
 use Rattle.protocol_tables.specs.Tables.{Table}
 use Rattle.protocol_tables.specs.declared.state.State.{State}
 use Rattle.protocol_tables.specs.declared.state.State.TheVariants.{M}
@@ -14,72 +14,109 @@ use Rattle.snoop_bus.specs.declared.access.AccessKind.TheVariants.{Hit, Upgrade}
 use Rattle.snoop_bus.specs.declared.access.Access.{Access}
 use Rattle.snoop_bus.specs.CacheContents.{Accessed, used_by, requested, written_in, written}
 use Rattle.snoop_bus.specs.Lines.{Words}
+use Rattle.snoop_bus.specs.Coherent.{state_of}
 use Rattle.snoop_bus.specs.Copies.{Sets, in_set, copy_in, copy_at, cache_of, tags_of, ways_of}
 use Rattle.snoop_bus.specs.Bus.{seen, AllCoherent}
 use Rattle.snoop_bus.specs.Requests.{KeepsWords, Loads, Acquires, ChangesCopy, LeftByOthers}
+use Rattle.snoop_bus.specs.declared.holding.Held.{Held}
+use Rattle.snoop_bus.specs.Held.{counted, IsHeld}
+use Rattle.snoop_bus.proofs.BesideLemmas.{own_word, held-same, held-placed, counted-same, counted-changes, placed-counts, ways-counted}
 use Rattle.snoop_bus.proofs.Numbers.{differ, itself}
 use Rattle.snoop_bus.proofs.SeenLemmas.{same_copies, same-coherent, same-seen}
 use Rattle.snoop_bus.proofs.UseLemmas.{tags-touched, ways-set_cache}
 use Rattle.snoop_bus.proofs.AccessLemmas.{loaded-hit, written-here}
 use Rattle.snoop_bus.proofs.OwnLemmas.{Owned, owned-coherent, owned-seen}
-use Rattle.snoop_bus.proofs.WriteLemmas.{hit_owned, upgrade_owned}
+use Rattle.snoop_bus.proofs.WriteLemmas.{here_now, written_m, hit_owned, upgrade_owned}
 
 abbrev quiet_access : AccessKind → Access
 quiet_access kind = record { kind = kind; wrote_back = false; flushed = None }
 
-pub load_hit : (t : Table) (c0 : List Sets) (m : List Words) (core line place : ℕ) (copy : Line) (new : Sets) → AllCoherent c0 m → line < length m →
-    copy_at c0 core line ≡ Some copy → new ≡ in_set line (to_front line) (cache_of c0 core) →
-    Loads t core line place c0 (slice_set c0 core new) m m (slice_index copy.words place) (quiet_access Hit)
-load_hit t c0 m core line place copy new h line_in found exact = record {
-  word_is = ap (λ (w : Words). slice_index w place) ((h.each line line_in).same core copy found);
-  access_is = sym (ap (λ (a : Accessed). a.access) (loaded-hit t c0 core line copy found));
-  tags = tags-touched c0 core line copy new found exact ∙ sym (ap (λ (a : Accessed). a.caches) (loaded-hit t c0 core line copy found));
-  memory = rw found refl;
-}
+pub load_hit : (t : Table) (held : Option Held) (c0 : List Sets) (m : List Words) (core line place : ℕ) (copy : Line) (new : Sets) → AllCoherent (counted held c0) m → IfSome held (IsHeld c0 m) → core < length c0 → line < length m →
+    copy_at c0 core line ≡ Some copy → new ≡ in_set line (to_front line) (cache_of c0 core) → ((k : ℕ) → copy_in new k ≡ copy_at c0 core k) →
+    map (λ s. s.ways) new ≡ map (λ s. s.ways) (cache_of c0 core) →
+    Loads t held core line place c0 (slice_set c0 core new) m m (slice_index copy.words place) (quiet_access Hit) × KeepsWords (counted held c0) (counted held (slice_set c0 core new)) m m × IfSome held (IsHeld (slice_set c0 core new) m) × (ways_of (slice_set c0 core new) ≡ ways_of c0)
+load_hit t held c0 m core line place copy new h awaited core_in line_in found exact copies ways = (
+  record {
+    word_is = let other = own_word held c0 m core line copy awaited found in ap (λ (w : Words). slice_index w place) (other.2 ∙ (h.each line line_in).same core other.0 other.1);
+    access_is = sym (ap (λ (a : Accessed). a.access) (loaded-hit t c0 core line copy found));
+    tags = tags-touched c0 core line copy new found exact ∙ sym (ap (λ (a : Accessed). a.caches) (loaded-hit t c0 core line copy found));
+    memory = rw found refl;
+  },
+  record {
+    coherent = same-coherent (counted held c0) (counted held (slice_set c0 core new)) m counts h;
+    words = same-seen (counted held c0) (counted held (slice_set c0 core new)) m counts h;
+    ways = ways-counted held (slice_set c0 core new) ∙ room ∙ sym (ways-counted held c0);
+  },
+  still,
+  room,
+)
+  where
+    room : ways_of (slice_set c0 core new) ≡ ways_of c0
+    room = ways-set_cache c0 core new ways
 
-pub load_hit_keeps : (c0 : List Sets) (m : List Words) (core : ℕ) (new : Sets) → AllCoherent c0 m → core < length c0 → ((k : ℕ) → copy_in new k ≡ copy_at c0 core k) →
-    map (λ s. s.ways) new ≡ map (λ s. s.ways) (cache_of c0 core) → KeepsWords c0 (slice_set c0 core new) m m
-load_hit_keeps c0 m core new h core_in copies ways = record {
-  coherent = same-coherent c0 (slice_set c0 core new) m (same_copies c0 core new core_in copies) h;
-  words = same-seen c0 (slice_set c0 core new) m (same_copies c0 core new core_in copies) h;
-  ways = ways-set_cache c0 core new ways;
-}
+    still : IfSome held (IsHeld (slice_set c0 core new) m)
+    still = held-same held c0 (slice_set c0 core new) m m awaited room refl (same_copies c0 core new core_in copies)
+
+    counts : (i k : ℕ) → copy_at (counted held (slice_set c0 core new)) i k ≡ copy_at (counted held c0) i k
+    counts = counted-same held c0 (slice_set c0 core new) m awaited still (same_copies c0 core new core_in copies)
 
 -- where a core has the line in M with the word that it had, all words are seen as they were
-same_words : (c0 c2 : List Sets) (m : List Words) (core line : ℕ) → Owned c0 c2 m core line (seen c0 m line) → (k : ℕ) → k < length m → seen c2 m k ≡ seen c0 m k
+pub same_words : (c0 c2 : List Sets) (m : List Words) (core line : ℕ) → Owned c0 c2 m core line (seen c0 m line) → (k : ℕ) → k < length m → seen c2 m k ≡ seen c0 m k
 same_words c0 c2 m core line h k b = owned-seen c0 c2 m core line (seen c0 m line) h k b ∙ by_line (cases_eq k line)
   where
     by_line : (k ≡ line) ⊎ (k ≢ line) → (if nat_eq k line then seen c0 m line else seen c0 m k) ≡ seen c0 m k
     by_line (inl p) = let e : nat_eq k line ≡ true = rw p (itself line) in rw e (rw p refl)
     by_line (inr p) = let e : nat_eq k line ≡ false = differ k line p in rw e refl
 
-pub write_hit : (t : Table) → WritesInPlace t.written → (c0 c2 : List Sets) (m : List Words) (core line : ℕ) (copy : Line) (next : State) → AllCoherent c0 m → line < length m →
+pub write_hit : (t : Table) → WritesInPlace t.written → (held : Option Held) (c0 c2 : List Sets) (m : List Words) (core line : ℕ) (copy : Line) (next : State) → AllCoherent (counted held c0) m → IfSome held (IsHeld c0 m) → line < length m →
     copy_at c0 core line ≡ Some copy → t.written copy.state ≡ Some next → ChangesCopy core line (option_map (with_state next) (copy_at c0 core line)) c0 c2 →
     tags_of c2 ≡ used_by core line next (tags_of c0) → ways_of c2 ≡ ways_of c0 →
-    Acquires t core line c0 c2 m m copy.words (quiet_access Hit) × KeepsWords c0 c2 m m
-write_hit t law c0 c2 m core line copy next h line_in found writes to tags ways =
-    let words : copy.words ≡ seen c0 m line = (h.each line line_in).same core copy found in
-    let own : Owned c0 c2 m core line (seen c0 m line) = hit_owned c0 c2 m core line copy next h line_in found (sym (law copy.state) ∙ writes) to in
-    let kind : written t core line (tags_of c0) ≡ written_in t core line (tags_of c0) (Some next) = written-here t c0 core line copy found ∙ ap (written_in t core line (tags_of c0)) writes in (
-      record {
-        words_are = words;
-        own = own.here ∙ ap (λ (w : Words). Some (copy_with M w)) (sym words);
-        access_is = sym (ap (λ (a : Accessed). a.access) kind);
-        tags = tags ∙ sym (ap (λ (a : Accessed). a.caches) kind);
-        memory = rw found refl;
-      },
-      record {
-        coherent = owned-coherent c0 c2 m core line (seen c0 m line) own;
-        words = same_words c0 c2 m core line own;
-        ways = ways;
-      },
-    )
+    Acquires t held core line c0 c2 m m copy.words (quiet_access Hit) × KeepsWords (counted held c0) (counted held c2) m m × IfSome held (IsHeld c2 m)
+write_hit t law held c0 c2 m core line copy next h awaited line_in found writes to tags ways = (
+  record {
+    words_are = (h.each line line_in).same core copy counts;
+    own = here_now core line (option_map (with_state next) (copy_at c0 core line)) c0 c2 to ∙ rw (found, to_m) refl;
+    access_is = sym (ap (λ (a : Accessed). a.access) kind);
+    tags = tags ∙ sym (ap (λ (a : Accessed). a.caches) kind);
+    memory = rw found refl;
+  },
+  record {
+    coherent = owned-coherent (counted held c0) (counted held c2) m core line (seen (counted held c0) m line) own;
+    words = same_words (counted held c0) (counted held c2) m core line own;
+    ways = ways-counted held c2 ∙ ways ∙ sym (ways-counted held c0);
+  },
+  still,
+)
+  where
+    in_state : in_place copy.state ≡ Some next
+    in_state = sym (law copy.state) ∙ writes
+
+    to_m : next ≡ M
+    to_m = written_m copy.state next in_state
+
+    placed : in_place (state_of (copy_at c0 core line)) ≡ Some M
+    placed = rw found (rw to_m at in_state)
+
+    still : IfSome held (IsHeld c2 m)
+    still = held-placed held c0 c2 m core line (option_map (with_state next) (copy_at c0 core line)) awaited ways placed (rw found to_m) to
+
+    counts : copy_at (counted held c0) core line ≡ Some copy
+    counts = placed-counts held c0 m core line awaited placed ∙ found
+
+    changes : ChangesCopy core line (option_map (with_state next) (copy_at (counted held c0) core line)) (counted held c0) (counted held c2)
+    changes = rw (placed-counts held c0 m core line awaited placed) (counted-changes held c0 c2 m core line (option_map (with_state next) (copy_at c0 core line)) awaited still placed to)
+
+    own : Owned (counted held c0) (counted held c2) m core line (seen (counted held c0) m line)
+    own = hit_owned (counted held c0) (counted held c2) m core line copy next h line_in counts in_state changes
+
+    kind : written t core line (tags_of c0) ≡ written_in t core line (tags_of c0) (Some next)
+    kind = written-here t c0 core line copy found ∙ ap (written_in t core line (tags_of c0)) writes
 
 pub write_upgrade : (t : Table) → GivesUp t.on_get_m → (c0 c1 c2 : List Sets) (m : List Words) (core line : ℕ) (copy : Line) → AllCoherent c0 m → line < length m →
     copy_at c0 core line ≡ Some copy → t.written copy.state ≡ None → LeftByOthers t.on_get_m core line c0 c1 →
     ChangesCopy core line (option_map (with_state M) (copy_at c1 core line)) c1 c2 →
     tags_of c1 ≡ requested t.on_get_m core line (tags_of c0) → tags_of c2 ≡ used_by core line M (tags_of c1) → ways_of c1 ≡ ways_of c0 → ways_of c2 ≡ ways_of c1 →
-    Acquires t core line c0 c2 m m copy.words (quiet_access Upgrade) × KeepsWords c0 c2 m m
+    Acquires t None core line c0 c2 m m copy.words (quiet_access Upgrade) × KeepsWords c0 c2 m m
 write_upgrade t law c0 c1 c2 m core line copy h line_in found writes left to tags1 tags2 ways1 ways2 =
     let words : copy.words ≡ seen c0 m line = (h.each line line_in).same core copy found in
     let own : Owned c0 c2 m core line (seen c0 m line) = upgrade_owned t.on_get_m law c0 c1 c2 m core line copy h line_in found left to in

@@ -6,6 +6,7 @@ pub mod TagLemmas
 pub mod CacheTags
 pub mod UseLemmas
 pub mod SnoopLemmas
+pub mod FindLemmas
 pub mod AccessLemmas
 pub mod MissLemmas
 pub mod LoadLemmas
@@ -18,8 +19,17 @@ pub mod WriteLemmas
 pub mod WriteMiss
 pub mod HitLemmas
 pub mod WordWritten
-pub mod CallLemmas
 pub mod SettleLemmas
 pub mod SettleTags
 pub mod SettleSteps
 pub mod SettleAll
+pub mod HeldLemmas
+pub mod AskLemmas
+pub mod UpgradeAsk
+pub mod CompleteLemmas
+pub mod AcquireAsked
+pub mod HolderLemmas
+pub mod BesideLemmas
+pub mod WholeAccess
+pub mod CallLemmas
+pub mod AskCalls

@@ -19,7 +19,7 @@ lines-same words n size l0 l2 some enough same was k b =
 pub place-at : (words : ℕ) (ws : List ℕ) (k p : ℕ) → p < most_words → slice_index (line_of_words words ws k) p ≡ place_of words ws k p
 place-at words ws k p b = get_or-map-range_with_len (place_of words ws k) 0 most_words p p 0 b (omega arith)
 
-length-line : (words : ℕ) (ws : List ℕ) (k : ℕ) → length (line_of_words words ws k) ≡ most_words
+pub length-line : (words : ℕ) (ws : List ℕ) (k : ℕ) → length (line_of_words words ws k) ≡ most_words
 length-line words ws k = length-map-range_with_len (place_of words ws k) 0 most_words
 
 module _ (words : ℕ) (ws : List ℕ) (loc value : ℕ) (some : 0 < words) (within : loc < length ws) where

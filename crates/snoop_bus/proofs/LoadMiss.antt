@@ -42,31 +42,25 @@ missed_access wrote_back flushed = record { kind = Miss; wrote_back = wrote_back
 
 module _ (t : Table) (fills : FillsExclusiveOnlyAlone t.filled) (shares : Shares t.on_get_s) (cleans : CleansByMemory t.on_get_s) (supplies : Supplies t.on_get_s) (back : WritesBackDirty t.evicts_dirty)
     (c0 c2 : List Sets) (m0 m2 : List Words) (core line : ℕ) (w : Words) (x : State) (v : Option Victim) (own : Sets) (f : Option Core) (wrote_back : Bool) where
-  -- the steps of a load that misses
-  pub record Steps : Type 0 where
+  -- what a request to read does, where the line comes into its core's own sets
+  pub record Basis : Type 0 where
     pub coherent : AllCoherent c0 m0
     pub core_in : core < length c0
     pub within : line < length m0
     pub absent : copy_at c0 core line ≡ None
     pub words : Supplied t.on_get_s c0 line (line_in m0 line) w
     pub state : x ≡ t.filled (list_any (λ sets. is_some (copy_in sets line)) c0)
-    pub own_exact : own ≡ in_set line (with_new line (copy_with x w)) (cache_of c0 core)
-    pub own_ways : map (λ s. s.ways) own ≡ map (λ s. s.ways) (cache_of c0 core)
-    pub victim : v ≡ victim_at c0 core line
-    pub back_is : wrote_back ≡ dirty_in t (option_map (λ v. (v.line, v.content.state)) v)
-    pub tags_left : tags_of c2 ≡ requested t.on_get_s core line (tags_of (slice_set c0 core own))
-    pub ways_left : ways_of c2 ≡ ways_of (slice_set c0 core own)
     pub filled : (k : ℕ) → copy_in own k ≡ after_fill line (copy_with x w) v k (copy_at c0 core k)
     pub was_here : IfSome v (λ y. copy_at c0 core y.line ≡ Some y.content)
     pub left : LeftByOthers t.on_get_s core line (slice_set c0 core own) c2
     pub flusher : f ≡ flusher_from 0 t.on_get_s line (tags_of c0)
     pub memory : m2 ≡ (if is_some f then slice_set (written_back t v m0) line w else written_back t v m0)
 
-  module _ (h : Steps) where
+  module _ (h : Basis) where
     pub words_are : w ≡ seen c0 m0 line
     words_are = found_words t.on_get_s supplies c0 line (line_in m0 line) w (seen c0 m0 line) h.words (h.coherent.each line h.within)
 
-    state_is : x ≡ t.filled (is_held line (tags_of c0))
+    pub state_is : x ≡ t.filled (is_held line (tags_of c0))
     state_is = h.state ∙ ap t.filled (is_held-copies line c0)
 
     pub missed : Missed t back t.on_get_s c0 c2 m0 m2 core line w x v own
@@ -134,24 +128,35 @@ module _ (t : Table) (fills : FillsExclusiveOnlyAlone t.filled) (shares : Shares
     pub seen_after : (k : ℕ) → k < length m0 → seen c2 m2 k ≡ seen c0 m0 k
     seen_after = missed-seen t back t.on_get_s c0 c2 m0 m2 core line w x v own missed at_line
 
+  -- the steps of a load that misses
+  pub record Steps : Type 0 where
+    pub basis : Basis
+    pub own_exact : own ≡ in_set line (with_new line (copy_with x w)) (cache_of c0 core)
+    pub own_ways : map (λ s. s.ways) own ≡ map (λ s. s.ways) (cache_of c0 core)
+    pub victim : v ≡ victim_at c0 core line
+    pub back_is : wrote_back ≡ dirty_in t (option_map (λ v. (v.line, v.content.state)) v)
+    pub tags_left : tags_of c2 ≡ requested t.on_get_s core line (tags_of (slice_set c0 core own))
+    pub ways_left : ways_of c2 ≡ ways_of (slice_set c0 core own)
+
+  module _ (h : Steps) where
     -- what the load leaves
     pub keeps : KeepsWords c0 c2 m0 m2
-    keeps = record { coherent = coherent_after; words = seen_after; ways = h.ways_left ∙ ways-set_cache c0 core own h.own_ways }
+    keeps = record { coherent = coherent_after h.basis; words = seen_after h.basis; ways = h.ways_left ∙ ways-set_cache c0 core own h.own_ways }
 
     pub tags_after : tags_of c2 ≡ (loaded t core line (tags_of c0)).caches
     tags_after =
         h.tags_left
-        ∙ ap (requested t.on_get_s core line) (tags-filled c0 core line w x own h.own_exact ∙ ap (λ (s : State). filled_by core line s (tags_of c0)) state_is)
-        ∙ sym (ap (λ (a : Accessed). a.caches) (loaded-miss t c0 core line h.absent))
+        ∙ ap (requested t.on_get_s core line) (tags-filled c0 core line w x own h.own_exact ∙ ap (λ (s : State). filled_by core line s (tags_of c0)) (state_is h.basis))
+        ∙ sym (ap (λ (a : Accessed). a.caches) (loaded-miss t c0 core line h.basis.absent))
 
     pub access_is : missed_access wrote_back f ≡ (loaded t core line (tags_of c0)).access
     access_is =
         ap (λ (b : Bool). missed_access b f) (h.back_is ∙ ap (λ (o : Option Victim). dirty_in t (option_map (λ v. (v.line, v.content.state)) o)) h.victim ∙ sym (writes_back-tags t c0 core line))
-        ∙ ap (λ (o : Option Core). missed_access (writes_back t core line (tags_of c0)) o) h.flusher
-        ∙ sym (ap (λ (a : Accessed). a.access) (loaded-miss t c0 core line h.absent))
+        ∙ ap (λ (o : Option Core). missed_access (writes_back t core line (tags_of c0)) o) h.basis.flusher
+        ∙ sym (ap (λ (a : Accessed). a.access) (loaded-miss t c0 core line h.basis.absent))
 
     pub memory_after : m2 ≡ loaded_memory t core line c0 m0
-    memory_after = memory_is ∙ rw (h.absent, h.victim) refl
+    memory_after = memory_is h.basis ∙ rw (h.basis.absent, h.victim) refl
 
-  pub load_missed : (place : ℕ) → Steps → Loads t core line place c0 c2 m0 m2 (slice_index w place) (missed_access wrote_back f) × KeepsWords c0 c2 m0 m2
-  load_missed place h = (record { word_is = ap (λ (u : Words). slice_index u place) (words_are h); access_is = access_is h; tags = tags_after h; memory = memory_after h }, keeps h)
+  pub load_missed : (place : ℕ) → Steps → Loads t None core line place c0 c2 m0 m2 (slice_index w place) (missed_access wrote_back f) × KeepsWords c0 c2 m0 m2
+  load_missed place h = (record { word_is = ap (λ (u : Words). slice_index u place) (words_are h.basis); access_is = access_is h; tags = tags_after h; memory = memory_after h }, keeps h)

@@ -1,5 +1,5 @@
 -- A new bus, and what holds of a bus from one access to the next.
-use Rattle.std.proofs.Common.{arith, ◌≡◌, ◌⊎◌, inl, inr, ℕ, zero, suc, ◌+◌, ◌*◌, ◌/◌, ◌<◌, ◌≤◌, ◌%◌, nat_lt, true, None, Result, Ok, Err, IfOk, OnErr, List, [], ◌∷◌, length, map, replicate, slice_index, slice_index_or, refl, sym, ap, ◌∙◌}
+use Rattle.std.proofs.Common.{arith, ◌≡◌, ◌⊎◌, inl, inr, ℕ, zero, suc, ◌+◌, ◌*◌, ◌/◌, ◌<◌, ◌≤◌, ◌%◌, nat_lt, true, Option, None, IfSome, Result, Ok, Err, IfOk, OnErr, List, [], ◌∷◌, length, map, replicate, slice_index, slice_index_or, refl, sym, ap, ◌∙◌}
 use Rattle.std.proofs.lemmas.List.{length-map}
 use Rattle.std.proofs.lemmas.List.FromFn.{length-map-range_with_len, get_or-map-range_with_len, fill_by_all}
 use Rattle.std.proofs.lemmas.Nat.{div-add-mod', mod_below, mul-le}
@@ -17,7 +17,9 @@ use Rattle.snoop_bus.specs.Copies.{Sets, copy_in, copy_at, cache_of, ways_of}
 use Rattle.snoop_bus.specs.Bus.{seen, AllCoherent, HasWholeLines, IsBus, empty_caches}
 use Rattle.snoop_bus.proofs.SeenLemmas.{seen_is, all_coherent}
 use Rattle.snoop_bus.specs.declared.access.Access.{Access}
-use Rattle.snoop_bus.specs.Requests.{KeepsWords, Writes}
+use Rattle.snoop_bus.specs.declared.holding.Held.{Held}
+use Rattle.snoop_bus.specs.Held.{counted, IsHeld, IsPlaced}
+use Rattle.snoop_bus.specs.Requests.{KeepsWords, SetsWord, Writes}
 use Rattle.snoop_bus.proofs.LineLemmas.{lines-same, lines-set}
 use Rattle.snoop_bus.proofs.WordLemmas.{words-same, line_below}
 
@@ -89,12 +91,14 @@ lines_few lines words n some close few = elim (cases_lt 16 lines) [
 ]
 
 pub new-bus : (cores lines : ℕ) (shape : Geometry) (init : List ℕ) → 1 ≤ cores → cores ≤ most_bus_cores → 1 ≤ shape.words → shape.words ≤ most_words → length init ≤ 16 → length init ≤ lines * shape.words → lines * shape.words < length init + shape.words →
-    IsBus shape (length init) (empty_caches cores shape) (lines_of_words shape.words init lines)
+    IsBus shape (length init) (empty_caches cores shape) (lines_of_words shape.words init lines) None
 new-bus cores lines shape init some few words small locations enough close = record {
   coherent = all_coherent (empty_caches cores shape) memory (λ k. line_in memory k) (λ k b. new-line cores shape (line_in memory k) k) (λ k i b. empty_copy cores shape i k);
   lines = λ k b. seen_is (empty_caches cores shape) memory k (line_in memory k) (new-line cores shape (line_in memory k) k)
       ∙ get_or-map-range_with_len (line_of_words shape.words init) 0 lines k k [] (rw lines_are at b) (omega arith)
       ∙ ap (λ (ws : List ℕ). line_of_words shape.words ws k) (sym (new-words shape.words lines cores shape init words small enough));
+  awaited = tt;
+  placed = tt;
   shaped = rw size (map-replicate (map (λ s. s.ways)) cores (replicate shape.sets (contents [] shape.ways))
       ∙ ap (replicate cores) (map-replicate (λ (s : Contents). s.ways) shape.sets (contents [] shape.ways)));
   some_core = rw size (omega arith);
@@ -118,11 +122,13 @@ new-bus cores lines shape init some few words small locations enough close = rec
 pub same_cores : (c0 c2 : List Sets) → ways_of c2 ≡ ways_of c0 → length c2 ≡ length c0
 same_cores c0 c2 same = sym (length-map c2 (map (λ (s : Contents). s.ways))) ∙ ap length same ∙ length-map c0 (map (λ (s : Contents). s.ways))
 
-pub bus-after : (shape : Geometry) (locations : ℕ) (c0 c2 : List Sets) (m0 m2 : List Words) → IsBus shape locations c0 m0 → length m2 ≡ length m0 → AllCoherent c2 m2 → ways_of c2 ≡ ways_of c0 →
-    HasWholeLines shape locations c2 m2 → IsBus shape locations c2 m2
-bus-after shape locations c0 c2 m0 m2 h size coherent ways lines = record {
+pub bus-after : (shape : Geometry) (locations : ℕ) (c0 c2 : List Sets) (m0 m2 : List Words) (h0 h2 : Option Held) → IsBus shape locations c0 m0 h0 → length m2 ≡ length m0 → AllCoherent (counted h2 c2) m2 → ways_of c2 ≡ ways_of c0 →
+    HasWholeLines shape locations (counted h2 c2) m2 → IfSome h2 (IsHeld c2 m2) → IfSome h2 (IsPlaced shape locations) → IsBus shape locations c2 m2 h2
+bus-after shape locations c0 c2 m0 m2 h0 h2 h size coherent ways lines awaited placed = record {
   coherent = coherent;
   lines = lines;
+  awaited = awaited;
+  placed = placed;
   shaped = ways ∙ rw (same_cores c0 c2 ways) h.shaped;
   some_core = rw (same_cores c0 c2 ways) h.some_core;
   few_cores = rw (same_cores c0 c2 ways) h.few_cores;
@@ -133,21 +139,28 @@ bus-after shape locations c0 c2 m0 m2 h size coherent ways lines = record {
 }
 
 -- a bus whose words stay
-pub bus-kept : (shape : Geometry) (locations : ℕ) (c0 c2 : List Sets) (m0 m2 : List Words) → IsBus shape locations c0 m0 → length m2 ≡ length m0 → KeepsWords c0 c2 m0 m2 → IsBus shape locations c2 m2
-bus-kept shape locations c0 c2 m0 m2 h size keeps = bus-after shape locations c0 c2 m0 m2 h size keeps.coherent keeps.ways
-    (λ k b. lines-same shape.words locations (length m0) (seen c0 m0) (seen c2 m2) h.some_word h.enough_lines keeps.words h.lines k (rw size at b))
+pub bus-kept : (shape : Geometry) (locations : ℕ) (c0 c2 : List Sets) (m0 m2 : List Words) (h0 h2 : Option Held) → IsBus shape locations c0 m0 h0 → length m2 ≡ length m0 → KeepsWords (counted h0 c0) (counted h2 c2) m0 m2 →
+    ways_of c2 ≡ ways_of c0 → IfSome h2 (IsHeld c2 m2) → IfSome h2 (IsPlaced shape locations) → IsBus shape locations c2 m2 h2
+bus-kept shape locations c0 c2 m0 m2 h0 h2 h size keeps ways awaited placed = bus-after shape locations c0 c2 m0 m2 h0 h2 h size keeps.coherent ways
+    (λ k b. lines-same shape.words locations (length m0) (seen (counted h0 c0) m0) (seen (counted h2 c2) m2) h.some_word h.enough_lines keeps.words h.lines k (rw size at b)) awaited placed
+
+-- a bus once a word was written, where nobody holds it then
+pub bus-set : (shape : Geometry) (locations : ℕ) (c0 c2 : List Sets) (m0 m2 : List Words) (h0 : Option Held) (loc value : ℕ) → IsBus shape locations c0 m0 h0 → length m2 ≡ length m0 → loc < locations →
+    SetsWord (loc / shape.words) (loc % shape.words) value (counted h0 c0) c2 m0 m2 → ways_of c2 ≡ ways_of c0 → IsBus shape locations c2 m2 None
+bus-set shape locations c0 c2 m0 m2 h0 loc value h size within sets ways = bus-after shape locations c0 c2 m0 m2 h0 None h size sets.coherent ways
+    (λ k b. lines-set shape.words locations (length m0) (seen (counted h0 c0) m0) (seen c2 m2) loc value h.some_word h.enough_lines within sets.place_in sets.lines h.lines k (rw size at b)) tt tt
 
 -- a bus once a write access was made, or was refused
-pub bus-written : {E : Type 0} (t : Table) (new : ℕ → ℕ) (r : Result (ℕ × Access) E) (shape : Geometry) (locations : ℕ) (c0 c2 : List Sets) (m0 m2 : List Words) (core loc : ℕ) →
-    IsBus shape locations c0 m0 → length m2 ≡ length m0 → loc < locations → AllCoherent c2 m2 → ways_of c2 ≡ ways_of c0 →
-    IfOk r (λ r. Writes t core (loc / shape.words) (loc % shape.words) (new r.0) c0 c2 m0 m2 r.0 r.1) → OnErr r (c2 ≡ c0) → OnErr r (m2 ≡ m0) → IsBus shape locations c2 m2
-bus-written t new (Ok x) shape locations c0 c2 m0 m2 core loc h size within coherent ways writes caches memory = bus-after shape locations c0 c2 m0 m2 h size coherent ways
-    (λ k b. lines-set shape.words locations (length m0) (seen c0 m0) (seen c2 m2) loc (new x.0) h.some_word h.enough_lines within writes.place_in writes.lines h.lines k (rw size at b))
-bus-written t new (Err e) shape locations c0 c2 m0 m2 core loc h size within coherent ways writes caches memory = rw (caches, memory) h
+pub bus-written : {E : Type 0} (t : Table) (held : Option Held) (new : ℕ → ℕ) (r : Result (ℕ × Access) E) (shape : Geometry) (locations : ℕ) (c0 c2 : List Sets) (m0 m2 : List Words) (core loc : ℕ) →
+    IsBus shape locations c0 m0 held → length m2 ≡ length m0 → loc < locations → AllCoherent (counted held c2) m2 → IfSome held (IsHeld c2 m2) → ways_of c2 ≡ ways_of c0 →
+    IfOk r (λ r. Writes t held core (loc / shape.words) (loc % shape.words) (new r.0) c0 c2 m0 m2 r.0 r.1) → OnErr r (c2 ≡ c0) → OnErr r (m2 ≡ m0) → IsBus shape locations c2 m2 held
+bus-written t held new (Ok x) shape locations c0 c2 m0 m2 core loc h size within coherent awaited ways writes caches memory = bus-after shape locations c0 c2 m0 m2 held held h size coherent ways
+    (λ k b. lines-set shape.words locations (length m0) (seen (counted held c0) m0) (seen (counted held c2) m2) loc (new x.0) h.some_word h.enough_lines within writes.place_in writes.lines h.lines k (rw size at b)) awaited h.placed
+bus-written t held new (Err e) shape locations c0 c2 m0 m2 core loc h size within coherent awaited ways writes caches memory = rw (caches, memory) h
 
 -- each core has as many sets as the shape says
-pub cache-sets : (shape : Geometry) (locations : ℕ) (caches : List Sets) (memory : List Words) (core : ℕ) → IsBus shape locations caches memory → core < length caches → length (cache_of caches core) ≡ shape.sets
-cache-sets shape locations caches memory core h within =
+pub cache-sets : (shape : Geometry) (locations : ℕ) (caches : List Sets) (memory : List Words) (held : Option Held) (core : ℕ) → IsBus shape locations caches memory held → core < length caches → length (cache_of caches core) ≡ shape.sets
+cache-sets shape locations caches memory held core h within =
     sym (length-map (cache_of caches core) (λ (s : Contents). s.ways))
     ∙ ap length (sym (get_or-map (map (λ (s : Contents). s.ways)) caches core []))
     ∙ ap (λ (l : List (List ℕ)). length (slice_index_or l core [])) h.shaped

@@ -1,6 +1,6 @@
 -- A table is that of its rows.
 use mathlib.Core.Path.{fun_ext}
-use Rattle.std.proofs.Common.{◌≡◌, Bool, true, false, List, None, refl}
+use Rattle.std.proofs.Common.{◌≡◌, Bool, true, false, None, refl}
 use Rattle.protocol_tables.specs.declared.state.State.{State}
 use Rattle.protocol_tables.specs.declared.state.State.TheVariants.{I, S, E, O, M}
 use Rattle.protocol_tables.specs.Tables.{Table, snoop}

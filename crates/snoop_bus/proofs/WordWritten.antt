@@ -1,6 +1,6 @@
 -- A word is written to a copy that its core alone has.
 use Rattle.std.proofs.lemmas.Bool.{cases_eq}
-use Rattle.std.proofs.Common.{◌≡◌, ◌≢◌, ◌⊎◌, inl, inr, ℕ, ◌<◌, true, false, nat_eq, Some, IsSome, option_map, List, length, refl, ap, ◌∙◌, slice_set, slice_index, if◌then◌else◌}
+use Rattle.std.proofs.Common.{◌≡◌, ◌≢◌, ◌⊎◌, inl, inr, ℕ, ◌<◌, true, false, nat_eq, Option, Some, IsSome, IfSome, option_map, List, length, refl, ap, ◌∙◌, slice_set, slice_index, if◌then◌else◌}
 use Rattle.protocol_tables.specs.Tables.{Table}
 use Rattle.protocol_tables.specs.declared.state.State.TheVariants.{M}
 use Rattle.cache_set.specs.Copy.{copy_with, with_word}
@@ -9,6 +9,11 @@ use Rattle.snoop_bus.specs.Lines.{Words}
 use Rattle.snoop_bus.specs.Copies.{Sets, copy_at, tags_of, ways_of}
 use Rattle.snoop_bus.specs.Bus.{seen, AllCoherent}
 use Rattle.snoop_bus.specs.Requests.{KeepsWords, Acquires, Writes, ChangesCopy}
+use Rattle.protocol_tables.specs.Laws.{in_place}
+use Rattle.snoop_bus.specs.Coherent.{state_of}
+use Rattle.snoop_bus.specs.declared.holding.Held.{Held}
+use Rattle.snoop_bus.specs.Held.{counted, IsHeld}
+use Rattle.snoop_bus.proofs.BesideLemmas.{held-placed, counted-changes, placed-counts}
 use Rattle.snoop_bus.proofs.Numbers.{differ, itself}
 use Rattle.snoop_bus.proofs.OwnLemmas.{Owned, owned-coherent, owned-seen}
 use Rattle.snoop_bus.proofs.WriteLemmas.{write_owned}
@@ -16,26 +21,38 @@ use Rattle.snoop_bus.proofs.WriteLemmas.{write_owned}
 pub present_own : (caches : List Sets) (core line : ℕ) (words : Words) → copy_at caches core line ≡ Some (copy_with M words) → IsSome (copy_at caches core line)
 present_own caches core line words own = rw own refl
 
-pub word_written : (t : Table) (c0 c1 c2 : List Sets) (m0 m1 : List Words) (core line place value : ℕ) (old : Words) (access : Access) → line < length m0 → place < length old → length m1 ≡ length m0 →
-    Acquires t core line c0 c1 m0 m1 old access → KeepsWords c0 c1 m0 m1 → ChangesCopy core line (option_map (with_word place value) (copy_at c1 core line)) c1 c2 →
-    tags_of c2 ≡ tags_of c1 → ways_of c2 ≡ ways_of c1 → Writes t core line place value c0 c2 m0 m1 (slice_index old place) access × AllCoherent c2 m1 × (ways_of c2 ≡ ways_of c0)
-word_written t c0 c1 c2 m0 m1 core line place value old access within place_in size a keeps to tags ways = (
+pub word_written : (t : Table) (held : Option Held) (c0 c1 c2 : List Sets) (m0 m1 : List Words) (core line place value : ℕ) (old : Words) (access : Access) → line < length m0 → place < length old → length m1 ≡ length m0 →
+    Acquires t held core line c0 c1 m0 m1 old access → KeepsWords (counted held c0) (counted held c1) m0 m1 → IfSome held (IsHeld c1 m1) → ways_of c1 ≡ ways_of c0 →
+    ChangesCopy core line (option_map (with_word place value) (copy_at c1 core line)) c1 c2 →
+    tags_of c2 ≡ tags_of c1 → ways_of c2 ≡ ways_of c1 →
+    Writes t held core line place value c0 c2 m0 m1 (slice_index old place) access × AllCoherent (counted held c2) m1 × (ways_of c2 ≡ ways_of c0) × IfSome held (IsHeld c2 m1)
+word_written t held c0 c1 c2 m0 m1 core line place value old access within place_in size a keeps awaited room to tags ways = (
   record {
     place_in = rw (← a.words_are) place_in;
     word_is = ap (λ (w : Words). slice_index w place) a.words_are;
-    lines = λ k b. owned-seen c1 c2 m1 core line (slice_set old place value) own k (rw size b) ∙ by_line k b (cases_eq k line);
+    lines = λ k b. owned-seen (counted held c1) (counted held c2) m1 core line (slice_set old place value) own k (rw size b) ∙ by_line k b (cases_eq k line);
     access_is = a.access_is;
     tags = tags ∙ a.tags;
     memory = a.memory;
   },
-  owned-coherent c1 c2 m1 core line (slice_set old place value) own,
-  ways ∙ keeps.ways,
+  owned-coherent (counted held c1) (counted held c2) m1 core line (slice_set old place value) own,
+  ways ∙ room,
+  still,
 )
   where
-    own : Owned c1 c2 m1 core line (slice_set old place value)
-    own = write_owned c1 c2 m1 core line place value old keeps.coherent (rw size within) a.own to
+    placed : in_place (state_of (copy_at c1 core line)) ≡ Some M
+    placed = rw a.own refl
+
+    still : IfSome held (IsHeld c2 m1)
+    still = held-placed held c1 c2 m1 core line (option_map (with_word place value) (copy_at c1 core line)) awaited ways placed (rw a.own refl) to
+
+    changes : ChangesCopy core line (option_map (with_word place value) (copy_at (counted held c1) core line)) (counted held c1) (counted held c2)
+    changes = rw (placed-counts held c1 m1 core line awaited placed) (counted-changes held c1 c2 m1 core line (option_map (with_word place value) (copy_at c1 core line)) awaited still placed to)
+
+    own : Owned (counted held c1) (counted held c2) m1 core line (slice_set old place value)
+    own = write_owned (counted held c1) (counted held c2) m1 core line place value old keeps.coherent (rw size within) (placed-counts held c1 m1 core line awaited placed ∙ a.own) changes
 
     by_line : (k : ℕ) → k < length m0 → (k ≡ line) ⊎ (k ≢ line) →
-        (if nat_eq k line then slice_set old place value else seen c1 m1 k) ≡ (if nat_eq k line then slice_set (seen c0 m0 line) place value else seen c0 m0 k)
+        (if nat_eq k line then slice_set old place value else seen (counted held c1) m1 k) ≡ (if nat_eq k line then slice_set (seen (counted held c0) m0 line) place value else seen (counted held c0) m0 k)
     by_line k b (inl p) = let e : nat_eq k line ≡ true = rw p (itself line) in rw e (ap (λ (w : Words). slice_set w place value) a.words_are)
     by_line k b (inr p) = let e : nat_eq k line ≡ false = differ k line p in rw e (keeps.words k b)

@@ -28,7 +28,7 @@ written_m E next e = cc
 written_m O next e = cc
 written_m M next e = cc
 
-here_now : (core line : ℕ) (o : Option Line) (c0 c2 : List Sets) → ChangesCopy core line o c0 c2 → copy_at c2 core line ≡ o
+pub here_now : (core line : ℕ) (o : Option Line) (c0 c2 : List Sets) → ChangesCopy core line o c0 c2 → copy_at c2 core line ≡ o
 here_now core line o c0 c2 h = rw (itself core, itself line) at (h core line)
 
 other_core : (core line : ℕ) (o : Option Line) (c0 c2 : List Sets) → ChangesCopy core line o c0 c2 → (i k : ℕ) → i ≢ core → copy_at c2 i k ≡ copy_at c0 i k

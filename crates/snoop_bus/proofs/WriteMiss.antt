@@ -27,25 +27,19 @@ missed_access wrote_back = record { kind = Miss; wrote_back = wrote_back; flushe
 
 module _ (t : Table) (gives : GivesUp t.on_get_m) (supplies : Supplies t.on_get_m) (back : WritesBackDirty t.evicts_dirty)
     (c0 c2 : List Sets) (m0 m2 : List Words) (core line : ℕ) (w : Words) (v : Option Victim) (own : Sets) (wrote_back : Bool) where
-  -- the steps of a write access that misses
-  pub record Steps : Type 0 where
+  -- what a request to write does, where the line comes into its core's own sets
+  pub record Basis : Type 0 where
     pub coherent : AllCoherent c0 m0
     pub core_in : core < length c0
     pub within : line < length m0
     pub absent : copy_at c0 core line ≡ None
     pub words : Supplied t.on_get_m c0 line (line_in m0 line) w
-    pub own_exact : own ≡ in_set line (with_new line (copy_with M w)) (cache_of c0 core)
-    pub own_ways : map (λ s. s.ways) own ≡ map (λ s. s.ways) (cache_of c0 core)
-    pub victim : v ≡ victim_at c0 core line
-    pub back_is : wrote_back ≡ dirty_in t (option_map (λ v. (v.line, v.content.state)) v)
-    pub tags_left : tags_of c2 ≡ requested t.on_get_m core line (tags_of (slice_set c0 core own))
-    pub ways_left : ways_of c2 ≡ ways_of (slice_set c0 core own)
     pub filled : (k : ℕ) → copy_in own k ≡ after_fill line (copy_with M w) v k (copy_at c0 core k)
     pub was_here : IfSome v (λ y. copy_at c0 core y.line ≡ Some y.content)
     pub left : LeftByOthers t.on_get_m core line (slice_set c0 core own) c2
     pub memory : m2 ≡ written_back t v m0
 
-  module _ (h : Steps) where
+  module _ (h : Basis) where
     pub words_are : w ≡ seen c0 m0 line
     words_are = found_words t.on_get_m supplies c0 line (line_in m0 line) w (seen c0 m0 line) h.words (h.coherent.each line h.within)
 
@@ -76,23 +70,34 @@ module _ (t : Table) (gives : GivesUp t.on_get_m) (supplies : Supplies t.on_get_
     pub seen_after : (k : ℕ) → k < length m0 → seen c2 m2 k ≡ seen c0 m0 k
     seen_after = missed-seen t back t.on_get_m c0 c2 m0 m2 core line w M v own missed at_line
 
+  -- the steps of a write access that misses
+  pub record Steps : Type 0 where
+    pub basis : Basis
+    pub own_exact : own ≡ in_set line (with_new line (copy_with M w)) (cache_of c0 core)
+    pub own_ways : map (λ s. s.ways) own ≡ map (λ s. s.ways) (cache_of c0 core)
+    pub victim : v ≡ victim_at c0 core line
+    pub back_is : wrote_back ≡ dirty_in t (option_map (λ v. (v.line, v.content.state)) v)
+    pub tags_left : tags_of c2 ≡ requested t.on_get_m core line (tags_of (slice_set c0 core own))
+    pub ways_left : ways_of c2 ≡ ways_of (slice_set c0 core own)
+
+  module _ (h : Steps) where
     -- what the write access leaves
     keeps : KeepsWords c0 c2 m0 m2
-    keeps = record { coherent = coherent_after; words = seen_after; ways = h.ways_left ∙ ways-set_cache c0 core own h.own_ways }
+    keeps = record { coherent = coherent_after h.basis; words = seen_after h.basis; ways = h.ways_left ∙ ways-set_cache c0 core own h.own_ways }
 
     tags_after : tags_of c2 ≡ (written t core line (tags_of c0)).caches
     tags_after =
         h.tags_left
         ∙ ap (requested t.on_get_m core line) (tags-filled c0 core line w M own h.own_exact)
-        ∙ sym (ap (λ (a : Accessed). a.caches) (written-miss t c0 core line h.absent))
+        ∙ sym (ap (λ (a : Accessed). a.caches) (written-miss t c0 core line h.basis.absent))
 
     access_is : missed_access wrote_back ≡ (written t core line (tags_of c0)).access
     access_is =
         ap missed_access (h.back_is ∙ ap (λ (o : Option Victim). dirty_in t (option_map (λ v. (v.line, v.content.state)) o)) h.victim ∙ sym (writes_back-tags t c0 core line))
-        ∙ sym (ap (λ (a : Accessed). a.access) (written-miss t c0 core line h.absent))
+        ∙ sym (ap (λ (a : Accessed). a.access) (written-miss t c0 core line h.basis.absent))
 
     memory_after : m2 ≡ written_memory t core line c0 m0
-    memory_after = h.memory ∙ rw (h.absent, h.victim) refl
+    memory_after = h.basis.memory ∙ rw (h.basis.absent, h.victim) refl
 
-  pub write_missed : Steps → Acquires t core line c0 c2 m0 m2 w (missed_access wrote_back) × KeepsWords c0 c2 m0 m2
-  write_missed h = (record { words_are = words_are h; own = owns h; access_is = access_is h; tags = tags_after h; memory = memory_after h }, keeps h)
+  pub write_missed : Steps → Acquires t None core line c0 c2 m0 m2 w (missed_access wrote_back) × KeepsWords c0 c2 m0 m2
+  write_missed h = (record { words_are = words_are h.basis; own = owns h.basis; access_is = access_is h; tags = tags_after h; memory = memory_after h }, keeps h)

@@ -1,7 +1,9 @@
 -- What each call makes of a bus, in words of the bus's own: whoever stands above it needs no others. (Primer,
 -- chapters 2, 6 and 7; which line gives way, and which copies are sent to memory, is this project's profile.)
-use Rattle.std.specs.Prelude.{◌≡◌, ℕ, ◌/◌, List, [], length, slice_get, slice_set, slice_index_or, Some}
+use Rattle.std.specs.Prelude.{◌≡◌, ℕ, ◌/◌, Bool, List, [], length, slice_get, slice_set, slice_index_or, Option, Some, None}
 use Rattle.std.specs.Int.{div_ceil}
+use Rattle.tso_model.specs.declared.instruction.Core.{Core}
+use Rattle.tso_model.specs.declared.instruction.Loc.{Loc}
 use Rattle.protocol_tables.specs.Tables.{Table}
 use Rattle.cache_set.specs.Contents.{Contents, contents}
 use Rattle.snoop_bus.specs.declared.access.Access.{Access}
@@ -11,10 +13,12 @@ use Rattle.snoop_bus.specs.Rows.{rows_of, table_of}
 use Rattle.snoop_bus.specs.Lines.{Words, line_in, words_in, lines_of_words}
 use Rattle.snoop_bus.specs.CacheContents.{TagSets, Accessed, loaded, written, settled}
 use Rattle.snoop_bus.specs.Copies.{cache_of, tags_of}
-use Rattle.snoop_bus.specs.Bus.{Bus, words_of, empty_caches}
+use Rattle.snoop_bus.specs.Bus.{Bus, words_of, holder_of, empty_caches}
 use Rattle.snoop_bus.specs.MemoryAfter.{loaded_memory, written_memory}
+use Rattle.snoop_bus.specs.Held.{transaction_in, holder, stage_for}
+use Rattle.snoop_bus.specs.Asks.{Awaited, Asked, hits, request_for, asking, asked_memory, awaited_in, completed, completed_memory}
 
--- a bus for so many cores, with empty caches of this shape, and these words in memory
+-- a bus for so many cores, with empty caches of this shape, and these words in memory; nobody holds it
 abbrev pub new_bus : Table → ℕ → Geometry → List ℕ → Bus
 new_bus table cores shape init = record {
   rows = rows_of table;
@@ -22,6 +26,7 @@ new_bus table cores shape init = record {
   locations = length init;
   caches = empty_caches cores shape;
   memory = lines_of_words shape.words init (div_ceil (length init) shape.words);
+  held = None;
 }
 
 -- the lines and states of all caches, core by core and set by set, the most recently used first
@@ -58,9 +63,36 @@ memory_after_load b core loc = loaded_memory (table_of b.rows) core (line_of b l
 abbrev pub memory_after_write : Bus → ℕ → ℕ → List Words
 memory_after_write b core loc = written_memory (table_of b.rows) core (line_of b loc) b.caches b.memory
 
+-- whether a core's access at a location is a hit, which needs no bus
+abbrev pub would_hit : Bus → ℕ → ℕ → Bool → Bool
+would_hit b core loc write = hits (table_of b.rows) core (line_of b loc) write (contents_of b)
+
+-- what the action that holds the bus awaits: nothing where it asked for a write access that hits
+abbrev pub awaited_of : Bus → Option Awaited
+awaited_of b = awaited_in (transaction_in b.held)
+
+-- the first half of a core's access at a location: what it awaits, the contents after it, and memory after it
+abbrev pub ask_of : Bus → ℕ → ℕ → Bool → Asked
+ask_of b core loc write = asking (table_of b.rows) (request_for write) core (line_of b loc) (contents_of b)
+
+abbrev pub memory_after_ask : Bus → ℕ → Bool → List Words
+memory_after_ask b loc write = asked_memory (table_of b.rows) (request_for write) (line_of b loc) b.caches b.memory
+
+-- the second half: what access it is, the contents after it, and memory after it
+abbrev pub completion_of : Bus → ℕ → ℕ → Accessed
+completion_of b core loc = completed (table_of b.rows) core (line_of b loc) (awaited_of b) (contents_of b)
+
+abbrev pub memory_after_completion : Bus → ℕ → ℕ → List Words
+memory_after_completion b core loc = completed_memory (table_of b.rows) core (line_of b loc) (awaited_of b) b.caches b.memory
+
 -- the contents once every dirty line was written to memory
 abbrev pub contents_settled : Bus → List TagSets
 contents_settled b = settled (contents_of b)
+
+-- who holds the bus, and what is awaited, is as it was
+pub record KeepsHolder (old new : Bus) : Type 0 where
+  pub holder_is : holder_of new ≡ holder_of old
+  pub awaited_is : awaited_of new ≡ awaited_of old
 
 -- a core's load at a location answered this word and was this access: the word is the one that is seen, no word
 -- that is seen changes, and contents and memory are those after the load
@@ -70,6 +102,7 @@ pub record LoadsAt (old new : Bus) (core loc word : ℕ) (access : Access) : Typ
   pub access_is : access ≡ (load_of old core loc).access
   pub contents : contents_of new ≡ (load_of old core loc).caches
   pub memory : memory_of new ≡ memory_after_load old core loc
+  pub held : KeepsHolder old new
 
 -- a core's write access at a location wrote this word and was this access: no other word that is seen changes, and
 -- contents and memory are those after the write access
@@ -78,6 +111,22 @@ pub record WritesAt (old new : Bus) (core loc word : ℕ) (access : Access) : Ty
   pub access_is : access ≡ (write_of old core loc).access
   pub contents : contents_of new ≡ (write_of old core loc).caches
   pub memory : memory_of new ≡ memory_after_write old core loc
+  pub held : KeepsHolder old new
+
+-- a core asked for an access at a location: its action holds the bus and awaits what it asked for, no word that is seen
+-- changes, and contents and memory are those after the ask
+pub record AsksFor (old new : Bus) (core : Core) (loc : Loc) (write : Bool) : Type 0 where
+  pub words : words_of new ≡ words_of old
+  pub holder_is : holder_of new ≡ Some (holder core loc (stage_for write))
+  pub awaited_is : awaited_of new ≡ (ask_of old core.0 loc.0 write).awaited
+  pub contents : contents_of new ≡ (ask_of old core.0 loc.0 write).caches
+  pub memory : memory_of new ≡ memory_after_ask old loc.0 write
+
+-- a core's action at a location was completed and was this access: contents and memory are those after the completion
+pub record CompletesAt (old new : Bus) (core loc : ℕ) (access : Access) : Type 0 where
+  pub access_is : access ≡ (completion_of old core loc).access
+  pub contents : contents_of new ≡ (completion_of old core loc).caches
+  pub memory : memory_of new ≡ memory_after_completion old core loc
 
 -- an access was refused memory: it was a miss, since no other takes any, and nothing has changed
 pub record IsRefused (old new : Bus) (refused : Access) : Type 0 where

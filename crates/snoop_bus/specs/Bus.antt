@@ -1,5 +1,5 @@
 -- What a contract sees of a bus: the caches of all cores and memory, and the words that a program sees.
-use Rattle.std.specs.Prelude.{◌≡◌, ◌*◌, ◌≤◌, ◌<◌, ℕ, List, [], ◌∷◌, length, replicate, Option, None, unwrap_or, option_map}
+use Rattle.std.specs.Prelude.{◌≡◌, ◌*◌, ◌≤◌, ◌<◌, ℕ, List, [], ◌∷◌, length, replicate, Option, None, IfSome, unwrap_or, option_map}
 use Rattle.std.specs.Option.{option_or}
 use Rattle.cache_set.specs.Contents.{contents}
 use Rattle.tso_model.specs.Limits.{most_locations}
@@ -9,15 +9,19 @@ use Rattle.snoop_bus.specs.Rows.{Rows}
 use Rattle.snoop_bus.specs.Lines.{Words, line_in, words_in, line_of_words}
 use Rattle.snoop_bus.specs.Copies.{Sets, copy_in, copy_at, ways_of}
 use Rattle.snoop_bus.specs.Coherent.{Coherent}
+use Rattle.snoop_bus.specs.Held.{counted, holder_in, IsHeld, IsPlaced}
+use Rattle.snoop_bus.specs.declared.holding.Holder.{Holder}
+use Rattle.snoop_bus.specs.declared.holding.Held.{Held}
 
 -- the rows of the protocol's table, the shape of the caches, how many locations there are, the sets of each core's
--- cache with the copies in them, and the lines in memory
+-- cache with the copies in them, the lines in memory, and the action that holds the bus, if one does
 pub record Bus : Type 0 where
   pub rows : Rows
   pub shape : Geometry
   pub locations : ℕ
   pub caches : List Sets
   pub memory : List Words
+  pub held : Option Held
 
 -- the words of a line in the first core's cache that has a copy
 abbrev pub words_among : List Sets → ℕ → Option Words
@@ -28,9 +32,20 @@ words_among (sets ∷ caches) line = option_or (option_map (λ copy. copy.words)
 abbrev pub seen : List Sets → List Words → ℕ → Words
 seen caches memory line = unwrap_or (words_among caches line) (line_in memory line)
 
+-- the copies that count: those of the caches, and the words that the bus keeps as its holder's
+abbrev pub counted_copies : Bus → List Sets
+counted_copies b = counted b.held b.caches
+
 -- the words that a program sees, one for each location: a copy's where there is one, else memory's
 abbrev pub words_of : Bus → List ℕ
-words_of b = words_in b.shape.words (seen b.caches b.memory) b.locations
+words_of b = words_in b.shape.words (seen (counted_copies b) b.memory) b.locations
+
+-- whose action holds the bus, if one does; and that nobody does
+abbrev pub holder_of : Bus → Option Holder
+holder_of b = holder_in b.held
+
+abbrev pub IsFree : Bus → Type 0
+IsFree b = holder_of b ≡ None
 
 -- every line is coherent, and no cache has a line past memory
 pub record AllCoherent (caches : List Sets) (memory : List Words) : Type 0 where
@@ -42,11 +57,13 @@ abbrev pub HasWholeLines : Geometry → ℕ → List Sets → List Words → Typ
 HasWholeLines shape locations caches memory =
     (line : ℕ) → line < length memory → seen caches memory line ≡ line_of_words shape.words (words_in shape.words (seen caches memory) locations) line
 
--- what holds of every bus: coherent, each cache of the bus's shape, cores and locations within their limits, and a
--- line for each location
-pub record IsBus (shape : Geometry) (locations : ℕ) (caches : List Sets) (memory : List Words) : Type 0 where
-  pub coherent : AllCoherent caches memory
-  pub lines : HasWholeLines shape locations caches memory
+-- what holds of every bus: the copies that count are coherent, the holder's own copy is as its action has left it, each
+-- cache of the bus's shape, cores and locations within their limits, and a line for each location
+pub record IsBus (shape : Geometry) (locations : ℕ) (caches : List Sets) (memory : List Words) (held : Option Held) : Type 0 where
+  pub coherent : AllCoherent (counted held caches) memory
+  pub lines : HasWholeLines shape locations (counted held caches) memory
+  pub awaited : IfSome held (IsHeld caches memory)
+  pub placed : IfSome held (IsPlaced shape locations)
   pub shaped : ways_of caches ≡ replicate (length caches) (replicate shape.sets shape.ways)
   pub some_core : 0 < length caches
   pub few_cores : length caches ≤ most_bus_cores
@@ -59,13 +76,13 @@ pub record IsBus (shape : Geometry) (locations : ℕ) (caches : List Sets) (memo
 abbrev pub cores_of : Bus → ℕ
 cores_of b = length b.caches
 
--- the caches are coherent with memory
+-- the copies that count are coherent with memory
 abbrev pub IsCoherent : Bus → Type 0
-IsCoherent b = AllCoherent b.caches b.memory
+IsCoherent b = AllCoherent (counted_copies b) b.memory
 
 -- each line has its words, and 0 at every other place
 abbrev pub HasLines : Bus → Type 0
-HasLines b = HasWholeLines b.shape b.locations b.caches b.memory
+HasLines b = HasWholeLines b.shape b.locations (counted_copies b) b.memory
 
 -- empty caches of this shape for so many cores
 abbrev pub empty_caches : ℕ → Geometry → List Sets

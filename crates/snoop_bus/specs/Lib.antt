@@ -6,7 +6,10 @@ pub mod Tags
 pub mod CacheContents
 pub mod Copies
 pub mod Coherent
+pub mod Held
 pub mod Bus
 pub mod MemoryAfter
-pub mod Accesses
 pub mod Requests
+pub mod Asks
+pub mod Accesses
+pub mod Finding

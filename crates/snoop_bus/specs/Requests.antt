@@ -8,8 +8,8 @@ use Rattle.protocol_tables.specs.Laws.{is_dirty}
 use Rattle.cache_set.specs.declared.Line.{Line}
 use Rattle.cache_set.specs.Contents.{Contents, with_changed, without}
 use Rattle.cache_set.specs.Copy.{copy_with, with_state}
-use Rattle.snoop_bus.specs.declared.snoop.Request.{Request}
-use Rattle.snoop_bus.specs.declared.snoop.Request.TheVariants.{GetS, GetM}
+use Rattle.protocol_tables.specs.declared.asking.Request.{Request}
+use Rattle.protocol_tables.specs.declared.asking.Request.TheVariants.{GetS, GetM}
 use Rattle.snoop_bus.specs.Lines.{Words}
 use Rattle.snoop_bus.specs.Tags.{TagSet, tag_set, clean}
 use Rattle.snoop_bus.specs.declared.access.Access.{Access}
@@ -17,6 +17,8 @@ use Rattle.snoop_bus.specs.CacheContents.{loaded, written}
 use Rattle.snoop_bus.specs.Copies.{Sets, in_set, copy_in, copy_at, cache_of, tags_of, ways_of}
 use Rattle.snoop_bus.specs.MemoryAfter.{loaded_memory, written_memory}
 use Rattle.snoop_bus.specs.Bus.{AllCoherent, seen}
+use Rattle.snoop_bus.specs.declared.holding.Held.{Held}
+use Rattle.snoop_bus.specs.Held.{counted}
 
 -- a column of the protocol's table
 abbrev pub asked : Table → Request → State → Snoop
@@ -111,17 +113,23 @@ pub record KeepsWords (old_caches new_caches : List Sets) (old_memory new_memory
   pub words : (k : ℕ) → k < length old_memory → seen new_caches new_memory k ≡ seen old_caches old_memory k
   pub ways : ways_of new_caches ≡ ways_of old_caches
 
+-- the caches and memory are coherent, and the word at this place of a line alone is seen to change
+pub record SetsWord (line place value : ℕ) (old_caches new_caches : List Sets) (old_memory new_memory : List Words) : Type 0 where
+  pub coherent : AllCoherent new_caches new_memory
+  pub place_in : place < length (seen old_caches old_memory line)
+  pub lines : (k : ℕ) → k < length old_memory → seen new_caches new_memory k ≡ (if nat_eq k line then slice_set (seen old_caches old_memory line) place value else seen old_caches old_memory k)
+
 -- a load answered the word at this place of a line and was this access: what it leaves goes by the protocol's table
-pub record Loads (t : Table) (core line place : ℕ) (old_caches new_caches : List Sets) (old_memory new_memory : List Words) (word : ℕ) (access : Access) : Type 0 where
-  pub word_is : word ≡ slice_index (seen old_caches old_memory line) place
+pub record Loads (t : Table) (held : Option Held) (core line place : ℕ) (old_caches new_caches : List Sets) (old_memory new_memory : List Words) (word : ℕ) (access : Access) : Type 0 where
+  pub word_is : word ≡ slice_index (seen (counted held old_caches) old_memory line) place
   pub access_is : access ≡ (loaded t core line (tags_of old_caches)).access
   pub tags : tags_of new_caches ≡ (loaded t core line (tags_of old_caches)).caches
   pub memory : new_memory ≡ loaded_memory t core line old_caches old_memory
 
 -- a write access found these words and was this access: the core has the line in M, and what is left goes by
 -- the protocol's table
-pub record Acquires (t : Table) (core line : ℕ) (old_caches new_caches : List Sets) (old_memory new_memory : List Words) (words : Words) (access : Access) : Type 0 where
-  pub words_are : words ≡ seen old_caches old_memory line
+pub record Acquires (t : Table) (held : Option Held) (core line : ℕ) (old_caches new_caches : List Sets) (old_memory new_memory : List Words) (words : Words) (access : Access) : Type 0 where
+  pub words_are : words ≡ seen (counted held old_caches) old_memory line
   pub own : copy_at new_caches core line ≡ Some (copy_with M words)
   pub access_is : access ≡ (written t core line (tags_of old_caches)).access
   pub tags : tags_of new_caches ≡ (written t core line (tags_of old_caches)).caches
@@ -129,10 +137,10 @@ pub record Acquires (t : Table) (core line : ℕ) (old_caches new_caches : List 
 
 -- a write access wrote this value at a place of a line, found that word there and was this access: that word alone is
 -- seen to change, and what is left goes by the protocol's table
-pub record Writes (t : Table) (core line place value : ℕ) (old_caches new_caches : List Sets) (old_memory new_memory : List Words) (word : ℕ) (access : Access) : Type 0 where
-  pub place_in : place < length (seen old_caches old_memory line)
-  pub word_is : word ≡ slice_index (seen old_caches old_memory line) place
-  pub lines : (k : ℕ) → k < length old_memory → seen new_caches new_memory k ≡ (if nat_eq k line then slice_set (seen old_caches old_memory line) place value else seen old_caches old_memory k)
+pub record Writes (t : Table) (held : Option Held) (core line place value : ℕ) (old_caches new_caches : List Sets) (old_memory new_memory : List Words) (word : ℕ) (access : Access) : Type 0 where
+  pub place_in : place < length (seen (counted held old_caches) old_memory line)
+  pub word_is : word ≡ slice_index (seen (counted held old_caches) old_memory line) place
+  pub lines : (k : ℕ) → k < length old_memory → seen (counted held new_caches) new_memory k ≡ (if nat_eq k line then slice_set (seen (counted held old_caches) old_memory line) place value else seen (counted held old_caches) old_memory k)
   pub access_is : access ≡ (written t core line (tags_of old_caches)).access
   pub tags : tags_of new_caches ≡ (written t core line (tags_of old_caches)).caches
   pub memory : new_memory ≡ written_memory t core line old_caches old_memory

@@ -1,16 +1,20 @@
-ghost use Rattle.std.specs.Prelude.{◌≡◌, ◌+◌, ◌%◌, ◌^◌, ◌<◌, ◌≤◌, Some, IfOk, OnErr, length, slice_get};
+ghost use Rattle.std.specs.Prelude.{◌≡◌, ◌≢◌, ◌⊎◌, ◌+◌, ◌%◌, ◌^◌, ◌<◌, ◌≤◌, true, false, IsTrue, Some, IfSome, IfOk, OnOk, OnErr, length, slice_get, slice_set};
 ghost use Rattle.tso_model.specs.Limits.{most_locations};
 ghost use Rattle.snoop_bus.specs.Limits.{most_bus_cores};
-ghost use Rattle.snoop_bus.specs.Bus.{words_of, cores_of, IsCoherent, HasLines, IsSameMachine};
-ghost use Rattle.snoop_bus.specs.Accesses.{new_bus, contents_of, contents_settled, copies_of, memory_words_of, load_of, write_of, LoadsAt, WritesAt, IsRefused};
+ghost use Rattle.snoop_bus.specs.Bus.{words_of, holder_of, IsFree, cores_of, IsCoherent, HasLines, IsSameMachine};
+ghost use Rattle.snoop_bus.specs.Held.{holder};
+ghost use Rattle.snoop_bus.specs.Accesses.{new_bus, contents_of, contents_settled, copies_of, memory_of, memory_words_of, line_of, load_of, write_of, would_hit, awaited_of, completion_of, LoadsAt, WritesAt, AsksFor, CompletesAt, IsRefused};
 
 use crate::access::Access;
+use crate::asking::{ask, hits};
 use crate::cache::Cache;
+use crate::completing::{complete_load, complete_read, complete_store};
+use crate::holding::{Held, Holder, Stage};
 use crate::lines::lines_of;
 use crate::loading::load;
 use crate::settling::settle;
 use crate::shape::Shape;
-use crate::writing::{add, swap};
+use crate::writing::{add, swap, write};
 use cache_set::{CacheSet, MAX_WORDS};
 use protocol_tables::Protocol;
 use std::alloc::Global;
@@ -29,6 +33,10 @@ pub const MAX_LOCATIONS: usize = tso_model::limits::MAX_LOCATIONS;
 /// Each access is whole when its call returns: first the copy of the core itself, if it has one; then,
 /// on a miss, the words from the copy that supplies them or from memory, and a victim to memory if it is
 /// dirty; then what the other caches make of the request. The line is then at the front of its set.
+///
+/// An access may also be made in two halves: at the ask the other caches see the request and the core's
+/// action holds the bus, at the completion the core's own line is filled. In between only accesses that hit
+/// go on.
 #[derive(Drop)]
 pub struct SnoopBus<P: Protocol> {
     protocol: P,
@@ -36,6 +44,7 @@ pub struct SnoopBus<P: Protocol> {
     locations: usize,
     caches: Vec<Cache>,
     memory: Vec<[u32; MAX_WORDS]>,
+    held: Option<Held>,
 }
 
 impl<P: Protocol> Model for SnoopBus<P> {
@@ -44,14 +53,14 @@ impl<P: Protocol> Model for SnoopBus<P> {
 
     ghost Value = { Bus };
 
-    ghost view = { λ b. record { rows = rows_of (P.table b.protocol); shape = b.shape; locations = b.locations; caches = b.caches.items; memory = b.memory.items } };
+    ghost view = { λ b. record { rows = rows_of (P.table b.protocol); shape = b.shape; locations = b.locations; caches = b.caches.items; memory = b.memory.items; held = b.held } };
 
-    ghost invariant = { λ b. IsBus b.shape b.locations b.caches.items b.memory.items };
+    ghost invariant = { λ b. IsBus b.shape b.locations b.caches.items b.memory.items b.held };
 }
 
 impl<P: Protocol> SnoopBus<P> {
     /// A bus for so many cores, from 1 to `MAX_CORES`, with empty caches and these words in memory, at
-    /// most `MAX_LOCATIONS`.
+    /// most `MAX_LOCATIONS`. Nobody holds it.
     ///
     /// Fails only for want of memory.
     pub fn new(
@@ -80,15 +89,18 @@ impl<P: Protocol> SnoopBus<P> {
             locations: init.len(),
             caches,
             memory,
+            held: None,
         })
     }
 
-    /// The word at a location, and what the access was. No word that is seen changes.
+    /// The word at a location, and what the access was. No word that is seen changes, and
+    /// who holds the bus stays: beside one who does, only a hit may be made.
     ///
     /// Fails only for want of memory, which a hit doesn't take; nothing is changed then.
     pub fn load(&mut self, core: Core, loc: Loc) -> Result<(u32, Access), NoMemory>
         requires core { core.0 < cores_of self.old }
         requires loc { loc.0 < length (words_of self.old) }
+        requires free { IsFree self.old ⊎ IsTrue (would_hit self.old core.0 loc.0 false) }
 
         ensures done { IfOk result (λ r. LoadsAt self.old self.new core.0 loc.0 r.0 r.1) }
         ensures refused { OnErr result (IsRefused self.old self.new (load_of self.old core.0 loc.0).access) }
@@ -101,6 +113,7 @@ impl<P: Protocol> SnoopBus<P> {
             &mut self.caches,
             &mut self.memory,
             &self.protocol,
+            self.held,
             usize::from(core.0),
             line,
             place,
@@ -113,6 +126,7 @@ impl<P: Protocol> SnoopBus<P> {
     pub fn store(&mut self, core: Core, loc: Loc, value: u32) -> Result<Access, NoMemory>
         requires core { core.0 < cores_of self.old }
         requires loc { loc.0 < length (words_of self.old) }
+        requires free { IsFree self.old ⊎ IsTrue (would_hit self.old core.0 loc.0 true) }
 
         ensures done { IfOk result (λ access. WritesAt self.old self.new core.0 loc.0 value access) }
         ensures refused { OnErr result (IsRefused self.old self.new (write_of self.old core.0 loc.0).access) }
@@ -129,6 +143,7 @@ impl<P: Protocol> SnoopBus<P> {
     pub fn swap(&mut self, core: Core, loc: Loc, value: u32) -> Result<(u32, Access), NoMemory>
         requires core { core.0 < cores_of self.old }
         requires loc { loc.0 < length (words_of self.old) }
+        requires free { IsFree self.old ⊎ IsTrue (would_hit self.old core.0 loc.0 true) }
 
         ensures word { IfOk result (λ r. slice_get (words_of self.old) loc.0 ≡ Some r.0) }
         ensures done { IfOk result (λ r. WritesAt self.old self.new core.0 loc.0 value r.1) }
@@ -142,6 +157,7 @@ impl<P: Protocol> SnoopBus<P> {
             &mut self.caches,
             &mut self.memory,
             &self.protocol,
+            self.held,
             usize::from(core.0),
             line,
             place,
@@ -156,6 +172,7 @@ impl<P: Protocol> SnoopBus<P> {
     pub fn add(&mut self, core: Core, loc: Loc, value: u32) -> Result<(u32, Access), NoMemory>
         requires core { core.0 < cores_of self.old }
         requires loc { loc.0 < length (words_of self.old) }
+        requires free { IsFree self.old ⊎ IsTrue (would_hit self.old core.0 loc.0 true) }
 
         ensures word { IfOk result (λ r. slice_get (words_of self.old) loc.0 ≡ Some r.0) }
         ensures done { IfOk result (λ r. WritesAt self.old self.new core.0 loc.0 ((r.0 + value) % 2 ^ 32) r.1) }
@@ -169,6 +186,7 @@ impl<P: Protocol> SnoopBus<P> {
             &mut self.caches,
             &mut self.memory,
             &self.protocol,
+            self.held,
             usize::from(core.0),
             line,
             place,
@@ -176,14 +194,174 @@ impl<P: Protocol> SnoopBus<P> {
         )
     }
 
+    /// Whether an access would be a hit, which needs no bus. While another core's write access holds the bus,
+    /// none is at its line.
+    pub fn would_hit(&self, core: Core, loc: Loc, write: bool) -> bool
+        requires core { core.0 < cores_of self.now }
+        ensures value { result ≡ would_hit self.now core.0 loc.0 write }
+        ensures taken { IfSome (holder_of self.now) (λ h. line_of self.now h.loc.0 ≡ line_of self.now loc.0 → h.stage ≢ Stage.Load → h.core ≢ core → result ≡ false) }
+    {
+        hits(
+            &self.caches,
+            &self.protocol,
+            usize::from(core.0),
+            self.shape.line_of(loc),
+            write,
+        )
+    }
+
+    /// The first half of an access that isn't a load's hit. The other caches see the request, where there is
+    /// one, and the core's action holds the bus. No word that is seen changes, and no memory is taken.
+    pub fn ask(&mut self, core: Core, loc: Loc, write: bool)
+        requires core { core.0 < cores_of self.old }
+        requires loc { loc.0 < length (words_of self.old) }
+        requires free { IsFree self.old }
+        requires misses { write ≡ false → would_hit self.old core.0 loc.0 false ≡ false }
+
+        ensures done { AsksFor self.old self.new core loc write }
+        ensures coherent { IsCoherent self.new }
+        ensures machine { IsSameMachine self.old self.new }
+    {
+        let line = self.shape.line_of(loc);
+        let held = ask(
+            &mut self.caches,
+            &mut self.memory,
+            &self.protocol,
+            core,
+            loc,
+            line,
+            write,
+        );
+        self.held = Some(held);
+    }
+
+    /// The second half of a load that asked: the line comes in, and nobody holds the bus. Answers the word,
+    /// and what the access was. No word that is seen changes.
+    ///
+    /// Fails only for want of memory; nothing is changed then, and the bus is still held.
+    pub fn complete_load(&mut self, core: Core, loc: Loc) -> Result<(u32, Access), NoMemory>
+        requires holds { holder_of self.old ≡ Some (holder core loc Stage.Load) }
+
+        ensures word { IfOk result (λ r. slice_get (words_of self.old) loc.0 ≡ Some r.0) }
+        ensures words { words_of self.new ≡ words_of self.old }
+        ensures done { IfOk result (λ r. CompletesAt self.old self.new core.0 loc.0 r.1) }
+        ensures free { OnOk result (IsFree self.new) }
+        ensures refused { OnErr result (IsRefused self.old self.new (completion_of self.old core.0 loc.0).access) }
+        ensures coherent { IsCoherent self.new }
+        ensures machine { IsSameMachine self.old self.new }
+    {
+        let held = self.held.unwrap();
+        let done = complete_load(
+            &mut self.caches,
+            &mut self.memory,
+            &self.protocol,
+            usize::from(core.0),
+            held.line,
+            self.shape.place_of(loc),
+            held.transaction,
+        )?;
+        self.held = None;
+        Ok(done)
+    }
+
+    /// The second half of a store that asked: the word is written, and nobody holds the bus. Answers what
+    /// the access was. No other word that is seen changes.
+    ///
+    /// Fails only for want of memory, which only a miss takes; nothing is changed then, and the bus is still
+    /// held.
+    pub fn complete_store(&mut self, core: Core, loc: Loc, value: u32) -> Result<Access, NoMemory>
+        requires holds { holder_of self.old ≡ Some (holder core loc Stage.Write) }
+
+        ensures words { OnOk result (words_of self.new ≡ slice_set (words_of self.old) loc.0 value) }
+        ensures done { IfOk result (λ access. CompletesAt self.old self.new core.0 loc.0 access) }
+        ensures free { OnOk result (IsFree self.new) }
+        ensures refused { OnErr result (IsRefused self.old self.new (completion_of self.old core.0 loc.0).access) }
+        ensures coherent { IsCoherent self.new }
+        ensures machine { IsSameMachine self.old self.new }
+    {
+        let held = self.held.unwrap();
+        let access = complete_store(
+            &mut self.caches,
+            &mut self.memory,
+            &self.protocol,
+            usize::from(core.0),
+            held.line,
+            self.shape.place_of(loc),
+            held.transaction,
+            value,
+        )?;
+        self.held = None;
+        Ok(access)
+    }
+
+    /// The read of a locked instruction that asked: the line is the core's own, and its action keeps the
+    /// bus, with nothing left to await. Answers the word, and what the one write access was. No word that is
+    /// seen changes.
+    ///
+    /// Fails only for want of memory, which only a miss takes; nothing is changed then.
+    pub fn complete_read(&mut self, core: Core, loc: Loc) -> Result<(u32, Access), NoMemory>
+        requires holds { holder_of self.old ≡ Some (holder core loc Stage.Write) }
+
+        ensures word { IfOk result (λ r. slice_get (words_of self.old) loc.0 ≡ Some r.0) }
+        ensures words { words_of self.new ≡ words_of self.old }
+        ensures done { IfOk result (λ r. CompletesAt self.old self.new core.0 loc.0 r.1) }
+        ensures holds { OnOk result (holder_of self.new ≡ Some (holder core loc Stage.Locked)) }
+        ensures awaited { OnOk result (awaited_of self.new ≡ None) }
+        ensures refused { OnErr result (IsRefused self.old self.new (completion_of self.old core.0 loc.0).access) }
+        ensures coherent { IsCoherent self.new }
+        ensures machine { IsSameMachine self.old self.new }
+    {
+        let held = self.held.unwrap();
+        let done = complete_read(
+            &mut self.caches,
+            &mut self.memory,
+            &self.protocol,
+            usize::from(core.0),
+            held.line,
+            self.shape.place_of(loc),
+            held.transaction,
+        )?;
+        let holder = Holder {
+            core,
+            loc,
+            stage: Stage::Locked,
+        };
+        self.held = Some(Held {
+            holder,
+            line: held.line,
+            transaction: None,
+        });
+        Ok(done)
+    }
+
+    /// The write of a locked instruction that has read; then nobody holds the bus. No other word that is
+    /// seen changes, and no memory is taken.
+    pub fn complete_write(&mut self, core: Core, loc: Loc, value: u32)
+        requires holds { holder_of self.old ≡ Some (holder core loc Stage.Locked) }
+
+        ensures words { words_of self.new ≡ slice_set (words_of self.old) loc.0 value }
+        ensures free { IsFree self.new }
+        ensures contents { contents_of self.new ≡ contents_of self.old }
+        ensures memory { memory_of self.new ≡ memory_of self.old }
+        ensures coherent { IsCoherent self.new }
+        ensures machine { IsSameMachine self.old self.new }
+    {
+        let line = self.shape.line_of(loc);
+        let place = self.shape.place_of(loc);
+        write(&mut self.caches, usize::from(core.0), line, place, value);
+        self.held = None;
+    }
+
     /// Writes every dirty line to memory. Each line in M or O is then in S, and all else is as it was:
     /// memory has the words that are seen. This is no access, and takes no memory.
     pub fn settle(&mut self)
+        requires free { IsFree self.old }
         ensures words { words_of self.new ≡ words_of self.old }
         ensures memory { memory_words_of self.new ≡ words_of self.old }
         ensures contents { contents_of self.new ≡ contents_settled self.old }
         ensures coherent { IsCoherent self.new }
         ensures machine { IsSameMachine self.old self.new }
+        ensures free { IsFree self.new }
     {
         settle(&mut self.caches, &mut self.memory, &self.protocol);
     }

@@ -48,6 +48,7 @@ impl Cache {
     /// How many sets there are. A line lies in the one whose number is the line's modulo their count.
     pub fn len(&self) -> usize
         ensures value { result ≡ length self.now }
+        ensures some { 0 < length self.now }
         ensures home { AtHome self.now }
     {
         self.sets.len()

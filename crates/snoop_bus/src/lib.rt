@@ -1,5 +1,6 @@
-//! The caches of all cores on one snooping bus, and memory behind them. One access is made at a time,
-//! whole: hit, upgrade or miss.
+//! The caches of all cores on one snooping bus, and memory behind them. An access is a hit, an upgrade or a
+//! miss. It is whole when its call returns, or is made in two halves: an ask, and a completion; in between the
+//! core's action holds the bus, and the accesses of others go on where they hit.
 //!
 //! Callers see one list of words, which every access keeps but for the word that it writes, and beside
 //! it the lines and states of each cache, which go by the protocol's table alone. Coherence is proved
@@ -7,8 +8,13 @@
 #![tactic(auto)]
 
 pub mod access;
+mod asking;
 pub mod bus;
 mod cache;
+mod completing;
+mod finding;
+pub mod halves;
+pub mod holding;
 mod lines;
 mod loading;
 mod settling;
@@ -18,4 +24,5 @@ mod writing;
 
 pub use access::{Access, AccessKind};
 pub use bus::SnoopBus;
+pub use holding::{Held, Holder, Stage, Transaction};
 pub use shape::Shape;

@@ -1,15 +1,18 @@
-ghost use Rattle.std.specs.Prelude.{◌≡◌, ◌<◌, ◌≤◌, None, IsSome, IsOk, IfOk, OnErr, length};
+ghost use Rattle.std.specs.Prelude.{◌≡◌, ◌<◌, ◌≤◌, ◌⊎◌, None, IsSome, IfSome, IsOk, IfOk, OnErr, length};
 ghost use Rattle.cache_set.specs.Limits.{most_words};
 ghost use Rattle.snoop_bus.specs.Limits.{most_bus_cores};
-ghost use Rattle.snoop_bus.specs.Copies.{copy_at};
+ghost use Rattle.snoop_bus.specs.Copies.{copy_at, ways_of};
+ghost use Rattle.snoop_bus.specs.Held.{counted, IsHeld};
 ghost use Rattle.snoop_bus.specs.Bus.{AllCoherent};
 ghost use Rattle.snoop_bus.specs.Requests.{Loads, KeepsWords};
 
 use crate::access::{Access, AccessKind};
 use crate::cache::Cache;
-use crate::snoop::{Request, find_flusher, find_words, flush, is_shared, snoop_others, write_back};
+use crate::finding::find;
+use crate::holding::Held;
+use crate::snoop::{flush, snoop_others, write_back};
 use cache_set::MAX_WORDS;
-use protocol_tables::Protocol;
+use protocol_tables::{Protocol, Request};
 use tso_model::NoMemory;
 
 /// A core's load of a word of a line: the word, and what the access was.
@@ -19,18 +22,23 @@ pub fn load<P: Protocol>(
     caches: &mut [Cache],
     memory: &mut [[u32; MAX_WORDS]],
     protocol: &P,
+    held: Option<Held>,
     core: usize,
     line: u8,
     place: u8,
 ) -> Result<(u32, Access), NoMemory>
-    requires coherent { AllCoherent caches.old memory.old }
+    requires coherent { AllCoherent (counted held caches.old) memory.old }
+    requires awaited { IfSome held (IsHeld caches.old memory.old) }
     requires core { core < length caches.old }
     requires few { length caches.old ≤ most_bus_cores }
     requires line { line < length memory.old }
     requires place { place < most_words }
+    requires free { (held ≡ None) ⊎ IsSome (copy_at caches.old core line) }
 
-    ensures ok { IfOk result (λ r. Loads (P.table protocol.now) core line place caches.old caches.new memory.old memory.new r.0 r.1) }
-    ensures words { KeepsWords caches.old caches.new memory.old memory.new }
+    ensures ok { IfOk result (λ r. Loads (P.table protocol.now) held core line place caches.old caches.new memory.old memory.new r.0 r.1) }
+    ensures words { KeepsWords (counted held caches.old) (counted held caches.new) memory.old memory.new }
+    ensures awaited { IfSome held (IsHeld caches.new memory.new) }
+    ensures ways { ways_of caches.new ≡ ways_of caches.old }
 
     ensures succeeds { IsSome (copy_at caches.old core line) → IsOk result }
     ensures err_caches { OnErr result (caches.new ≡ caches.old) }
@@ -44,6 +52,8 @@ pub fn load<P: Protocol>(
             Access::quiet(AccessKind::Hit),
         ));
     }
+    // Only a hit goes on beside an action that holds the bus.
+    prove!(held.is_none());
     load_miss(caches, memory, protocol, core, line, place)
 }
 
@@ -63,30 +73,24 @@ fn load_miss<P: Protocol>(
     requires place { place < most_words }
     requires absent { copy_at caches.old core line ≡ None }
 
-    ensures ok { IfOk result (λ r. Loads (P.table protocol.now) core line place caches.old caches.new memory.old memory.new r.0 r.1) }
+    ensures ok { IfOk result (λ r. Loads (P.table protocol.now) None core line place caches.old caches.new memory.old memory.new r.0 r.1) }
     ensures words { KeepsWords caches.old caches.new memory.old memory.new }
 
     ensures err_caches { OnErr result (caches.new ≡ caches.old) }
     ensures err_memory { OnErr result (memory.new ≡ memory.old) }
 {
-    let words = find_words(
-        caches,
-        protocol,
-        Request::GetS,
-        line,
-        memory[usize::from(line)],
-    );
-    let state = protocol.filled(is_shared(caches, line));
-    let flushed = find_flusher(caches, protocol, line);
+    let found = find(caches, protocol, Request::GetS, line);
+    let words = found.words.unwrap_or(memory[usize::from(line)]);
+    let state = protocol.filled(found.shared);
     let cache = &mut caches[core];
     let victim = cache.fill(line, state, words)?;
     let wrote_back = write_back(memory, protocol, victim);
-    snoop_others(caches, protocol, Request::GetS, core, line);
-    flush(memory, line, words, flushed);
+    snoop_others(caches, protocol, Request::GetS, core, line, &found.states);
+    flush(memory, line, words, found.flushed);
     let access = Access {
         kind: AccessKind::Miss,
         wrote_back,
-        flushed,
+        flushed: found.flushed,
     };
     Ok((words[usize::from(place)], access))
 }

@@ -1,16 +1,21 @@
-ghost use Rattle.std.specs.Prelude.{◌≡◌, ◌≢◌, ◌+◌, ◌%◌, ◌^◌, ◌<◌, None, IsSome, IsOk, IfOk, OnErr, length, option_map};
+ghost use Rattle.std.specs.Prelude.{◌≡◌, ◌≢◌, ◌⊎◌, ◌+◌, ◌%◌, ◌^◌, ◌<◌, ◌≤◌, true, IsTrue, None, IsSome, IfSome, IsOk, IfOk, OnErr, length, option_map};
 ghost use Rattle.cache_set.specs.Limits.{most_words};
+ghost use Rattle.snoop_bus.specs.Limits.{most_bus_cores};
 ghost use Rattle.cache_set.specs.Copy.{with_state, with_word};
 ghost use Rattle.snoop_bus.specs.CacheContents.{used_by};
 ghost use Rattle.snoop_bus.specs.Copies.{copy_at, tags_of, ways_of};
+ghost use Rattle.snoop_bus.specs.Asks.{hits};
+ghost use Rattle.snoop_bus.specs.Held.{counted, IsHeld};
 ghost use Rattle.snoop_bus.specs.Bus.{AllCoherent};
 ghost use Rattle.snoop_bus.specs.Requests.{Acquires, Writes, KeepsWords, ChangesCopy};
 
 use crate::access::{Access, AccessKind};
 use crate::cache::Cache;
-use crate::snoop::{Request, find_words, snoop_others, write_back};
+use crate::finding::find;
+use crate::holding::Held;
+use crate::snoop::{snoop_others, write_back};
 use cache_set::MAX_WORDS;
-use protocol_tables::{Protocol, State};
+use protocol_tables::{Protocol, Request, State};
 use tso_model::NoMemory;
 
 /// A core's write of a word of a line. Answers the word that was there, and what the access was.
@@ -20,25 +25,30 @@ pub fn swap<P: Protocol>(
     caches: &mut [Cache],
     memory: &mut [[u32; MAX_WORDS]],
     protocol: &P,
+    held: Option<Held>,
     core: usize,
     line: u8,
     place: u8,
     value: u32,
 ) -> Result<(u32, Access), NoMemory>
-    requires coherent { AllCoherent caches.old memory.old }
+    requires coherent { AllCoherent (counted held caches.old) memory.old }
+    requires awaited { IfSome held (IsHeld caches.old memory.old) }
     requires core { core < length caches.old }
+    requires few { length caches.old ≤ most_bus_cores }
     requires line { line < length memory.old }
     requires place { place < most_words }
+    requires free { (held ≡ None) ⊎ IsTrue (hits (P.table protocol.now) core line true (tags_of caches.old)) }
 
-    ensures ok { IfOk result (λ r. Writes (P.table protocol.now) core line place value caches.old caches.new memory.old memory.new r.0 r.1) }
-    ensures coherent { AllCoherent caches.new memory.new }
+    ensures ok { IfOk result (λ r. Writes (P.table protocol.now) held core line place value caches.old caches.new memory.old memory.new r.0 r.1) }
+    ensures coherent { AllCoherent (counted held caches.new) memory.new }
+    ensures awaited { IfSome held (IsHeld caches.new memory.new) }
     ensures ways { ways_of caches.new ≡ ways_of caches.old }
 
     ensures succeeds { IsSome (copy_at caches.old core line) → IsOk result }
     ensures err_caches { OnErr result (caches.new ≡ caches.old) }
     ensures err_memory { OnErr result (memory.new ≡ memory.old) }
 {
-    let (words, access) = acquire(caches, memory, protocol, core, line)?;
+    let (words, access) = acquire(caches, memory, protocol, held, core, line)?;
     write(caches, core, line, place, value);
     Ok((words[usize::from(place)], access))
 }
@@ -50,25 +60,30 @@ pub fn add<P: Protocol>(
     caches: &mut [Cache],
     memory: &mut [[u32; MAX_WORDS]],
     protocol: &P,
+    held: Option<Held>,
     core: usize,
     line: u8,
     place: u8,
     value: u32,
 ) -> Result<(u32, Access), NoMemory>
-    requires coherent { AllCoherent caches.old memory.old }
+    requires coherent { AllCoherent (counted held caches.old) memory.old }
+    requires awaited { IfSome held (IsHeld caches.old memory.old) }
     requires core { core < length caches.old }
+    requires few { length caches.old ≤ most_bus_cores }
     requires line { line < length memory.old }
     requires place { place < most_words }
+    requires free { (held ≡ None) ⊎ IsTrue (hits (P.table protocol.now) core line true (tags_of caches.old)) }
 
-    ensures ok { IfOk result (λ r. Writes (P.table protocol.now) core line place ((r.0 + value) % 2 ^ 32) caches.old caches.new memory.old memory.new r.0 r.1) }
-    ensures coherent { AllCoherent caches.new memory.new }
+    ensures ok { IfOk result (λ r. Writes (P.table protocol.now) held core line place ((r.0 + value) % 2 ^ 32) caches.old caches.new memory.old memory.new r.0 r.1) }
+    ensures coherent { AllCoherent (counted held caches.new) memory.new }
+    ensures awaited { IfSome held (IsHeld caches.new memory.new) }
     ensures ways { ways_of caches.new ≡ ways_of caches.old }
 
     ensures succeeds { IsSome (copy_at caches.old core line) → IsOk result }
     ensures err_caches { OnErr result (caches.new ≡ caches.old) }
     ensures err_memory { OnErr result (memory.new ≡ memory.old) }
 {
-    let (words, access) = acquire(caches, memory, protocol, core, line)?;
+    let (words, access) = acquire(caches, memory, protocol, held, core, line)?;
     let word = words[usize::from(place)];
     write(caches, core, line, place, word.wrapping_add(value));
     Ok((word, access))
@@ -82,15 +97,21 @@ fn acquire<P: Protocol>(
     caches: &mut [Cache],
     memory: &mut [[u32; MAX_WORDS]],
     protocol: &P,
+    held: Option<Held>,
     core: usize,
     line: u8,
 ) -> Result<([u32; MAX_WORDS], Access), NoMemory>
-    requires coherent { AllCoherent caches.old memory.old }
+    requires coherent { AllCoherent (counted held caches.old) memory.old }
+    requires awaited { IfSome held (IsHeld caches.old memory.old) }
     requires core { core < length caches.old }
+    requires few { length caches.old ≤ most_bus_cores }
     requires line { line < length memory.old }
+    requires free { (held ≡ None) ⊎ IsTrue (hits (P.table protocol.now) core line true (tags_of caches.old)) }
 
-    ensures ok { IfOk result (λ r. Acquires (P.table protocol.now) core line caches.old caches.new memory.old memory.new r.0 r.1) }
-    ensures words { KeepsWords caches.old caches.new memory.old memory.new }
+    ensures ok { IfOk result (λ r. Acquires (P.table protocol.now) held core line caches.old caches.new memory.old memory.new r.0 r.1) }
+    ensures words { KeepsWords (counted held caches.old) (counted held caches.new) memory.old memory.new }
+    ensures awaited { IfSome held (IsHeld caches.new memory.new) }
+    ensures ways { ways_of caches.new ≡ ways_of caches.old }
 
     ensures succeeds { IsSome (copy_at caches.old core line) → IsOk result }
     ensures err_caches { OnErr result (caches.new ≡ caches.old) }
@@ -102,15 +123,19 @@ fn acquire<P: Protocol>(
             enter(caches, core, line, next);
             return Ok((words, Access::quiet(AccessKind::Hit)));
         }
-        snoop_others(caches, protocol, Request::GetM, core, line);
+        // Only a hit goes on beside an action that holds the bus.
+        prove!(held.is_none());
+        let found = find(caches, protocol, Request::GetM, line);
+        snoop_others(caches, protocol, Request::GetM, core, line, &found.states);
         enter(caches, core, line, State::M);
         return Ok((words, Access::quiet(AccessKind::Upgrade)));
     }
+    prove!(held.is_none());
     write_miss(caches, memory, protocol, core, line)
 }
 
 /// A core's copy of a line goes to another state than I, and to the front of its set.
-fn enter(caches: &mut [Cache], core: usize, line: u8, state: State)
+pub fn enter(caches: &mut [Cache], core: usize, line: u8, state: State)
     requires core { core < length caches.old }
     requires present { IsSome (copy_at caches.old core line) }
     requires valid { state ≢ State.I }
@@ -134,26 +159,22 @@ fn write_miss<P: Protocol>(
 ) -> Result<([u32; MAX_WORDS], Access), NoMemory>
     requires coherent { AllCoherent caches.old memory.old }
     requires core { core < length caches.old }
+    requires few { length caches.old ≤ most_bus_cores }
     requires line { line < length memory.old }
     requires absent { copy_at caches.old core line ≡ None }
 
-    ensures ok { IfOk result (λ r. Acquires (P.table protocol.now) core line caches.old caches.new memory.old memory.new r.0 r.1) }
+    ensures ok { IfOk result (λ r. Acquires (P.table protocol.now) None core line caches.old caches.new memory.old memory.new r.0 r.1) }
     ensures words { KeepsWords caches.old caches.new memory.old memory.new }
 
     ensures err_caches { OnErr result (caches.new ≡ caches.old) }
     ensures err_memory { OnErr result (memory.new ≡ memory.old) }
 {
-    let words = find_words(
-        caches,
-        protocol,
-        Request::GetM,
-        line,
-        memory[usize::from(line)],
-    );
+    let found = find(caches, protocol, Request::GetM, line);
+    let words = found.words.unwrap_or(memory[usize::from(line)]);
     let cache = &mut caches[core];
     let victim = cache.fill(line, State::M, words)?;
     let wrote_back = write_back(memory, protocol, victim);
-    snoop_others(caches, protocol, Request::GetM, core, line);
+    snoop_others(caches, protocol, Request::GetM, core, line, &found.states);
     let access = Access {
         kind: AccessKind::Miss,
         wrote_back,
@@ -163,7 +184,7 @@ fn write_miss<P: Protocol>(
 }
 
 /// Writes the word at a place of a line that the core has.
-fn write(caches: &mut [Cache], core: usize, line: u8, place: u8, value: u32)
+pub fn write(caches: &mut [Cache], core: usize, line: u8, place: u8, value: u32)
     requires core { core < length caches.old }
     requires present { IsSome (copy_at caches.old core line) }
     requires place { place < most_words }

@@ -1,5 +1,5 @@
 -- What `check` answers, and what that means.
-use Rattle.std.proofs.Common.{◌≡◌, ◌≢◌, ℕ, ◌<◌, ◌≤◌, ◌^◌, List, [], length, get_or, Some, slice_get, slice_index_or, All, refl, sym, ap, subst, arith}
+use Rattle.std.proofs.Common.{◌≡◌, ◌≢◌, ℕ, false, ◌<◌, ◌≤◌, ◌^◌, List, [], length, get_or, Some, slice_get, slice_index_or, All, refl, sym, ap, subst, arith}
 use Rattle.std.proofs.lemmas.Option.{get_or_from_slice_get, slice_get-get_or, slice_get_within}
 use Rattle.tso_model.specs.Litmus.{Litmus, IsTest}
 use Rattle.tso_model.specs.Execution.{made, StandsIn, IsWhole, IsTsoExecution}
@@ -107,9 +107,9 @@ valid-answer t text order _ _ real once never test short spelled execution (judg
     valid-judgement t other out status real (subst (IsTsoExecution t) (once t text order other test short spelled again) execution) is
 
 pub printed-is-valid : (t : Litmus) (kind : ProtocolKind) (c : Configuration) (choices : List Choice) (out answer : List ℕ) (status : Status) → IsReal → IsOnce → IsNeverBoth → IsTest t
-    → length out < 2 ^ 64 → PrintsExecution t kind c choices out → IsCheckAnswer t out answer status → (answer ≡ valid_line) × (status ≡ Good)
+    → length out < 2 ^ 64 → PrintsExecution t kind c false choices out → IsCheckAnswer t out answer status → (answer ≡ valid_line) × (status ≡ Good)
 printed-is-valid t kind c choices out answer status real once never test short prints is =
-    valid-answer t out prints.shown.order answer status real once never test short prints.spelled
+    valid-answer t out prints.shown.order answer status real once never test short (prints.spelled refl)
     (record { whole = prints.exactly_once; program_order = prints.program_order; pairs = prints.adjacent; read_values = prints.read_values }) is
 
 -- ---- the order of an ended run has all that the text of an order needs
@@ -142,7 +142,7 @@ order-for t order test fits words = λ k d lt.
 pub run-spells : (t : Litmus) (kind : ProtocolKind) (c : Configuration) (r : flat.Run) (s : Shown) (text : List ℕ) → IsTest t → c.depth < 2 ^ 64 → IsWithinLimits c.shape
     → ((t : Litmus) (kind : ProtocolKind) (c : Configuration) (s : Shown) → IsTest t → c.depth < 2 ^ 64 → IsWithinLimits c.shape → IsOrderFor t s.order → SpellsOrder t (report t kind c s) s.order)
     → ((t : Litmus) (order : List Entry) (e : Entry) → IsTest t → IsWhole t order → StandsIn order e → FitsTest t e)
-    → IsExecution t r → s ≡ shown_of t r → text ≡ report t kind c s → All HasWord s.order → SpellsOrder t text r.commits
+    → IsExecution t r → s ≡ shown_of t s.counts r → text ≡ report t kind c s → All HasWord s.order → SpellsOrder t text r.commits
 run-spells t kind c r s text test small shape law fits execution same printed words =
     let order : s.order ≡ r.commits = ap (λ (s : Shown). s.order) same in
     let whole : IsWhole t s.order = subst (IsWhole t) (sym order) execution.order.whole in

@@ -1,9 +1,9 @@
 -- An input that was put together is parted into its parts again.
-use Rattle.std.proofs.Common.{◌≡◌, ◌==◌, ℕ, zero, suc, Bool, true, false, cond, eqb, nat_eq, codes, List, [], ◌∷◌, ◌++◌, length, drop, replicate, Option, Some, None, refl, sym, ap, subst, ◌∙◌}
+use Rattle.std.proofs.Common.{◌≡◌, ◌==◌, ℕ, zero, suc, Bool, true, false, cond, nat_eq, codes, List, [], ◌∷◌, ◌++◌, drop, replicate, Option, Some, None, refl, sym, ap, subst}
 use Rattle.std.specs.List.{starts_with}
 use Rattle.std.proofs.lemmas.Bool.Decides.{Decides-eqb}
 use Rattle.std.proofs.lemmas.Slice.Eq.{starts_is}
-use Rattle.tso_cli.specs.Parts.{behind_feed, behind_end, behind_divider, Parts, parted, with_byte, parts_from, parts_of, joined, HasNoDivider, EndsInFeed}
+use Rattle.tso_cli.specs.Parts.{behind_feed, behind_end, behind_divider, parted, with_byte, parts_from, parts_of, joined, HasNoDivider, EndsInFeed}
 
 -- whether a line begins behind the text
 abbrev line_begins : Bool → List ℕ → Bool

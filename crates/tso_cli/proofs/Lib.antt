@@ -1,5 +1,8 @@
 pub mod KnownLemmas
 pub mod RunLemmas
+pub mod CountLemmas
+pub mod StateLemmas
+pub mod SweepLemmas
 pub mod AnswerLemmas
 pub mod PartLemmas
 pub mod OneAnswer

@@ -1,5 +1,5 @@
 -- There is one answer to an input.
-use Rattle.std.proofs.Common.{◌≡◌, ◌≤◌, ◌<◌, ◌^◌, ℕ, List, length, Some, refl, sym, ◌∙◌, ap, subst, arith}
+use Rattle.std.proofs.Common.{◌≡◌, ◌≤◌, ◌<◌, ◌^◌, ℕ, Bool, List, length, Some, refl, sym, ◌∙◌, ap, subst, arith}
 use Rattle.tso_model.specs.Litmus.{Litmus, IsTest}
 use Rattle.tso_model.specs.Runs as flat
 use Rattle.tso_model.specs.declared.execution.Entry.{Entry}
@@ -13,7 +13,7 @@ use Rattle.machine_core.specs.Configuration.{Configuration}
 use Rattle.tso_cli.specs.Parts.{parts_of}
 use Rattle.tso_cli.specs.Lines.{test_refusal, choices_refusal}
 use Rattle.tso_cli.specs.CheckLines.{order_refusal, invalid_line}
-use Rattle.tso_cli.specs.Answers.{run_text, run_status, IsRunAnswer, IsJudgement, IsCheckAnswer, IsAnswerTo, IsInputAnswer, IsAnswer, too_large, refused, answered, ran, judged, valid, invalid}
+use Rattle.tso_cli.specs.Answers.{counts_under, run_text, run_status, IsRunAnswer, IsJudgement, IsCheckAnswer, IsAnswerTo, IsInputAnswer, IsAnswer, too_large, refused, answered, ran, judged, valid, invalid}
 use Rattle.tso_cli.specs.Witness.{IsWitness, IsWitnessAnswer, reached, too_small, invalid, refused, judged}
 use Rattle.tso_cli.specs.declared.task.Task.{Task}
 use Rattle.tso_cli.specs.declared.task.Task.TheVariants as tasks
@@ -42,14 +42,14 @@ pub record Texts : Type 0 where
 abbrev pub Same : List ℕ → List ℕ → Status → Status → Type 0
 Same out other status again = (out ≡ other) × (status ≡ again)
 
-one_run_answer : (t : Litmus) (kind : ProtocolKind) (c : Configuration) (text out other : List ℕ) (status again : Status) → IsDecided (length t.programs) text
-    → IsRunAnswer t kind c text out status → IsRunAnswer t kind c text other again → Same out other status again
-one_run_answer t kind c text _ _ _ _ law (refused f h) (refused g k) = (ap choices_refusal (law.one_refusal f g h k), refl)
-one_run_answer t kind c text _ _ _ _ law (refused f h) (ran choices spelled) = absurd (law.never_both choices f spelled h)
-one_run_answer t kind c text _ _ _ _ law (ran choices spelled) (refused f h) = absurd (law.never_both choices f spelled h)
-one_run_answer t kind c text _ _ _ _ law (ran choices spelled) (ran others again) =
+one_run_answer : (t : Litmus) (kind : ProtocolKind) (c : Configuration) (json : Bool) (text out other : List ℕ) (status again : Status) → IsDecided (length t.programs) text
+    → IsRunAnswer t kind c json text out status → IsRunAnswer t kind c json text other again → Same out other status again
+one_run_answer t kind c json text _ _ _ _ law (refused f h) (refused g k) = (ap choices_refusal (law.one_refusal f g h k), refl)
+one_run_answer t kind c json text _ _ _ _ law (refused f h) (ran choices spelled) = absurd (law.never_both choices f spelled h)
+one_run_answer t kind c json text _ _ _ _ law (ran choices spelled) (refused f h) = absurd (law.never_both choices f spelled h)
+one_run_answer t kind c json text _ _ _ _ law (ran choices spelled) (ran others again) =
     let same = law.one_list choices others spelled again in
-    (ap (λ cs. run_text t kind c (flat.run t c.depth cs)) same, ap (λ cs. run_status (flat.run t c.depth cs)) same)
+    (ap (λ cs. run_text t kind c json (counts_under t kind c cs) (flat.run t c.depth cs)) same, ap (λ cs. run_status (flat.run t c.depth cs)) same)
 
 one_judgement : (t : Litmus) (order : List Entry) (out other : List ℕ) (status again : Status) → IsReal → IsOne
     → IsJudgement t order out status → IsJudgement t order other again → Same out other status again
@@ -88,7 +88,8 @@ one_witness_answer t depth text _ _ _ _ law test short (judged order out status 
 
 one_answer_to : (task : Task) (t : Litmus) (text out other : List ℕ) (status again : Status) → Texts → IsTest t → length text < 2 ^ 64
     → IsAnswerTo task t text out status → IsAnswerTo task t text other again → Same out other status again
-one_answer_to (tasks.Run kind c) t text out other status again law test short is too = one_run_answer t kind c text out other status again (law.decided (length t.programs) text test.some_core) is too
+one_answer_to (tasks.Run kind c json) t text out other status again law test short is too = one_run_answer t kind c json text out other status again (law.decided (length t.programs) text test.some_core) is too
+one_answer_to (tasks.Sweep kind c plan) t text out other status again law test short is too = (is.text ∙ sym too.text, is.status_is ∙ sym too.status_is)
 one_answer_to tasks.Check t text out other status again law test short is too = one_check_answer t text out other status again law test short is too
 one_answer_to (tasks.Witness depth) t text out other status again law test short is too = one_witness_answer t depth text out other status again law test short is too
 
@@ -111,7 +112,8 @@ one_input_answer task input _ _ _ _ law (answered t out status small spelled is)
 
 pub one_answer : (s : Settings) (input out other : List ℕ) (status again : Status) → Texts
     → IsAnswer s (Some input) out status → IsAnswer s (Some input) other again → Same out other status again
-one_answer (settings.Run kind c) input out other status again law is too = one_input_answer (tasks.Run kind c) input out other status again law is too
+one_answer (settings.Run kind c json) input out other status again law is too = one_input_answer (tasks.Run kind c json) input out other status again law is too
+one_answer (settings.Sweep kind c plan) input out other status again law is too = one_input_answer (tasks.Sweep kind c plan) input out other status again law is too
 one_answer settings.Check input out other status again law is too = one_input_answer tasks.Check input out other status again law is too
 one_answer (settings.Witness depth) input out other status again law is too = one_input_answer (tasks.Witness depth) input out other status again law is too
 one_answer (settings.Tables kind) input out other status again law is too = (is.text ∙ sym too.text, is.status_is ∙ sym too.status_is)

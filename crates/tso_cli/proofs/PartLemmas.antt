@@ -1,5 +1,5 @@
 -- The second part of an input is no longer than the input.
-use Rattle.std.proofs.Common.{◌≡◌, ◌==◌, ◌≤◌, ℕ, Bool, true, false, cond, nat_eq, codes, List, [], ◌∷◌, length, drop, Option, Some, None, IfSome, length-drop, arith}
+use Rattle.std.proofs.Common.{◌==◌, ◌≤◌, ℕ, Bool, true, false, cond, nat_eq, codes, List, [], ◌∷◌, length, drop, Option, Some, None, IfSome, length-drop, arith}
 use Rattle.std.specs.List.{starts_with}
 use Rattle.tso_cli.specs.Parts.{behind_feed, behind_end, behind_divider, Parts, parted, with_byte, parts_from, parts_of}
 

@@ -1,12 +1,12 @@
 -- The report of a run is short, and what `check` answers to it.
-use Rattle.std.proofs.Common.{◌≡◌, ◌≢◌, ◌+◌, ◌*◌, ◌≤◌, ◌<◌, ◌^◌, ℕ, zero, suc, Bool, true, false, cond, List, [], ◌∷◌, ◌++◌, length, map, All, slice_index, slice_index_or, drop, Some, length-append, codes, refl, sym, ap, subst, ◌∙◌, arith}
+use Rattle.std.proofs.Common.{◌≡◌, ◌+◌, ◌-◌, ◌*◌, ◌≤◌, ◌^◌, ℕ, suc, Bool, true, false, cond, List, [], ◌∷◌, ◌++◌, length, All, slice_index, slice_index_or, drop, length-append, codes, refl, sym, ap, subst, ◌∙◌, arith}
 use Rattle.std.proofs.lemmas.List.Elements.{All-map, All-head, All-tail, All-weaker}
 use Rattle.order_builder.specs.Spelling.{SpellsOrder}
 use Rattle.tso_model.specs.Litmus.{Litmus, IsTest, IsProgram}
-use Rattle.tso_model.specs.Registers.{IsWord, AreRegisters}
+use Rattle.tso_model.specs.Registers.{AreRegisters}
 use Rattle.tso_model.specs.Thread.{entries_of, with_value, value_in}
-use Rattle.tso_model.specs.Execution.{made_by, made_from, made, read_values, IsTsoExecution}
-use Rattle.tso_model.specs.FinalState.{registers_of, registers_from, final_registers}
+use Rattle.tso_model.specs.Execution.{made_by, made_from, read_values, IsTsoExecution}
+use Rattle.tso_model.specs.FinalState.{registers_from}
 use Rattle.tso_model.specs.FlatMachine.{State, effect_of, after_choice, start}
 use Rattle.tso_model.specs.Runs.{Run, run, run_from, has_ended, resting, then_run, stall_count}
 use Rattle.tso_model.specs.declared.instruction.Instr.{Instr}
@@ -14,10 +14,10 @@ use Rattle.tso_model.specs.declared.instruction.Instr.TheVariants.{StoreImm, Sto
 use Rattle.tso_model.specs.declared.execution.Entry.{Entry}
 use Rattle.tso_model.specs.declared.choice.Choice.{Choice}
 use Rattle.tso_model.specs.declared.choice.Outcome.{Outcome}
-use Rattle.tso_model.specs.declared.choice.Outcome.TheVariants.{Committed, Buffered, Moved, Stalled}
+use Rattle.tso_model.specs.declared.choice.Outcome.TheVariants.{Committed, Buffered, Moved, Asked, Stalled}
 use Rattle.tso_laws.specs.EndedRuns.{IsExecution}
 use Rattle.litmus_reader.specs.Spelling.{SpellsTest, IsRefused as IsRefusedTest}
-use Rattle.scheduler.specs.Grammar.{SpellsChoices}
+use Rattle.protocol_tables.specs.Tables.{table_of}
 use Rattle.protocol_tables.specs.declared.kind.ProtocolKind.{ProtocolKind}
 use Rattle.machine_core.specs.Configuration.{Configuration, IsWithinLimits}
 use Rattle.tso_report.specs.Report.{report}
@@ -25,12 +25,13 @@ use Rattle.tso_report.specs.Shown.{Shown}
 use Rattle.tso_report.specs.Limits.{longest_report, IsSmall}
 use Rattle.tso_cli.specs.Parts.{Parts, parts_of, joined}
 use Rattle.tso_cli.specs.CheckLines.{valid_line}
-use Rattle.tso_cli.specs.Simulation.{shown_of, registers_in}
-use Rattle.tso_cli.specs.Answers.{run_text, run_status, IsRunAnswer, IsCheckAnswer, IsInputAnswer, too_large, refused, answered, ran}
+use Rattle.tso_cli.specs.Simulation.{shown_of}
+use Rattle.tso_cli.specs.Answers.{counts_under, run_text, run_status, IsRunAnswer, IsCheckAnswer, IsInputAnswer, too_large, refused, answered, ran}
 use Rattle.tso_cli.specs.declared.task.Task.TheVariants as tasks
 use Rattle.tso_cli.specs.declared.answer.Status.{Status}
-use Rattle.tso_cli.specs.declared.answer.Status.TheVariants.{Good, Refused, Unended}
+use Rattle.tso_cli.specs.declared.answer.Status.TheVariants.{Good, Unended}
 use Rattle.tso_cli.proofs.RunLemmas.{used-run_from}
+use Rattle.tso_cli.proofs.CountLemmas.{counts-each, counts-few}
 use Rattle.tso_cli.proofs.CheckLemmas.{order-for, valid-answer}
 use Rattle.tso_cli.proofs.OneAnswer.{Texts}
 use Rattle.tso_cli.proofs.HeadlineLemmas.{Runs, report-spells}
@@ -73,6 +74,7 @@ stall_few : (o : Outcome) → stall_count o ≤ 1
 stall_few Committed = omega arith
 stall_few Buffered = omega arith
 stall_few Moved = omega arith
+stall_few Asked = omega arith
 stall_few (Stalled why) = omega arith
 
 stalls_few : (t : Litmus) (depth : ℕ) (state : State) (cs : List Choice) → (run_from t depth state cs).stalled ≤ (run_from t depth state cs).used
@@ -86,7 +88,7 @@ stalls_few t depth state (c ∷ cs) = by_end (has_ended t state) (stalls_few t d
     by_end false h = let one = stall_few (effect_of t depth state c).outcome in omega arith
 
 small-run : (t : Litmus) (kind : ProtocolKind) (c : Configuration) (choices : List Choice) → Runs → IsTest t → length choices ≤ 100000
-    → (run t c.depth choices).ended ≡ true → IsSmall t (shown_of t (run t c.depth choices))
+    → (run t c.depth choices).ended ≡ true → IsSmall t (shown_of t (counts_under t kind c choices) (run t c.depth choices))
 small-run t kind c choices laws test few ended =
     let r = run t c.depth choices in
     let execution : IsExecution t r = laws.executions t c.depth choices test ended in
@@ -101,6 +103,8 @@ small-run t kind c choices laws test few ended =
       cores = omega (arith, each);
       registers = All-map AreRegisters (λ core. core.registers) r.state.cores words.registers;
       memory = words.memory;
+      caches = omega (arith, counts-each (table_of kind) c.shape t c.depth choices);
+      counts = counts-few (table_of kind) c.shape t c.depth choices (2 ^ 32 - 1) (omega arith);
       used = omega arith;
       stalled = omega arith;
       unused = omega arith;
@@ -114,7 +118,7 @@ record Ended (kind : ProtocolKind) (c : Configuration) (input out : List ℕ) : 
   spelled : SpellsTest (parts_of input).test t
   few : length choices ≤ 100000
   ended : (run t c.depth choices).ended ≡ true
-  is : out ≡ run_text t kind c (run t c.depth choices)
+  is : out ≡ run_text t kind c false (counts_under t kind c choices) (run t c.depth choices)
 
 good-ended : (t : Litmus) (r : Run) → run_status r ≡ Good → r.ended ≡ true
 good-ended t r good = by_end r.ended refl
@@ -124,13 +128,13 @@ good-ended t r good = by_end r.ended refl
     by_end false e = absurd (let other : Unended ≡ Good = subst (λ b. cond b Good Unended ≡ Good) e good in let no : ⊥ = cc in no)
 
 run-ended : (t : Litmus) (kind : ProtocolKind) (c : Configuration) (input out : List ℕ) (status : Status) → SpellsTest (parts_of input).test t
-    → status ≡ Good → IsRunAnswer t kind c (parts_of input).rest out status → Ended kind c input out
+    → status ≡ Good → IsRunAnswer t kind c false (parts_of input).rest out status → Ended kind c input out
 run-ended t kind c input _ _ spelled good (refused fault h) = absurd (let no : ⊥ = cc in no)
 run-ended t kind c input _ _ spelled good (ran choices read) =
     record { t = t; choices = choices; spelled = spelled; few = read.few; ended = good-ended t (run t c.depth choices) good; is = refl }
 
 input-ended : (kind : ProtocolKind) (c : Configuration) (input out : List ℕ) (status : Status) → status ≡ Good
-    → IsInputAnswer (tasks.Run kind c) input out status → Ended kind c input out
+    → IsInputAnswer (tasks.Run kind c false) input out status → Ended kind c input out
 input-ended kind c input _ _ good (too_large large) = absurd (let no : ⊥ = cc in no)
 input-ended kind c input _ _ good (refused fault small is) = absurd (let no : ⊥ = cc in no)
 input-ended kind c input _ _ good (answered t out status small spelled is) = run-ended t kind c input out status spelled good is
@@ -154,12 +158,12 @@ checked test out input _ _ t order laws same parted short spelled spells executi
 pub rechecked : (kind : ProtocolKind) (c : Configuration) (input out answer : List ℕ) (status : Status) → Texts → Runs
     → ((t : Litmus) (kind : ProtocolKind) (c : Configuration) (s : Shown) → IsTest t → IsWithinLimits c → IsSmall t s → length (report t kind c s) ≤ longest_report)
     → IsWithinLimits c → parts_of (joined (parts_of input).test out) ≡ record { test = (parts_of input).test; rest = out }
-    → IsInputAnswer (tasks.Run kind c) input out Good → IsInputAnswer tasks.Check (joined (parts_of input).test out) answer status → (answer ≡ valid_line) × (status ≡ Good)
+    → IsInputAnswer (tasks.Run kind c false) input out Good → IsInputAnswer tasks.Check (joined (parts_of input).test out) answer status → (answer ≡ valid_line) × (status ≡ Good)
 rechecked kind c input out answer status texts runs short within parted is answered_so =
     let e = input-ended kind c input out Good refl is in
     let test = texts.test (parts_of input).test e.t e.spelled in
-    let printed : out ≡ report e.t kind c (shown_of e.t (run e.t c.depth e.choices)) = rw e.ended at e.is in
+    let printed : out ≡ report e.t kind c (shown_of e.t (counts_under e.t kind c e.choices) (run e.t c.depth e.choices)) = rw e.ended at e.is in
     let size : length out ≤ longest_report =
-    subst (λ (o : List ℕ). length o ≤ longest_report) (sym printed) (short e.t kind c (shown_of e.t (run e.t c.depth e.choices)) test within (small-run e.t kind c e.choices runs test e.few e.ended)) in
+    subst (λ (o : List ℕ). length o ≤ longest_report) (sym printed) (short e.t kind c (shown_of e.t (counts_under e.t kind c e.choices) (run e.t c.depth e.choices)) test within (small-run e.t kind c e.choices runs test e.few e.ended)) in
     checked (parts_of input).test out (joined (parts_of input).test out) answer status e.t (run e.t c.depth e.choices).commits texts refl parted size e.spelled
-    (report-spells e.t kind c e.choices out runs test within e.is e.ended) (runs.executions e.t c.depth e.choices test e.ended).order answered_so
+    (report-spells e.t kind c false e.choices out runs test within e.is e.ended refl) (runs.executions e.t c.depth e.choices test e.ended).order answered_so

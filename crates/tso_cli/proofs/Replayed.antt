@@ -1,5 +1,5 @@
 -- What `witness` prints, and what `run` answers to it.
-use Rattle.std.proofs.Common.{◌≡◌, ◌+◌, ◌*◌, ◌≤◌, ◌<◌, ◌^◌, ℕ, true, List, [], ◌∷◌, ◌++◌, length, codes, length-append, refl, sym, ap, subst, ◌∙◌, arith}
+use Rattle.std.proofs.Common.{◌≡◌, ◌*◌, ◌≤◌, ◌<◌, ℕ, Bool, true, List, [], ◌∷◌, ◌++◌, length, codes, length-append, refl, sym, ap, subst, ◌∙◌, arith}
 use Rattle.std.specs.Fmt.{decimal}
 use Rattle.std.proofs.lemmas.Fmt.{length-decimal-le_succ}
 use Rattle.tso_model.specs.Litmus.{Litmus, IsTest}
@@ -17,11 +17,11 @@ use Rattle.scheduler.specs.Printed.{printed_choice, printed_behind, printed_choi
 use Rattle.order_builder.specs.Spelling.{SpellsOrder}
 use Rattle.protocol_tables.specs.declared.kind.ProtocolKind.{ProtocolKind}
 use Rattle.machine_core.specs.Configuration.{Configuration, IsWithinLimits}
-use Rattle.tso_report.specs.Report.{report}
 use Rattle.tso_cli.specs.Parts.{Parts, parts_of, joined}
+use Rattle.tso_cli.specs.RunTexts.{report_in}
 use Rattle.tso_cli.specs.Simulation.{shown_of}
 use Rattle.tso_cli.specs.Witness.{choices_line, IsWitness, IsWitnessAnswer, ReportsOrder, reached, too_small, invalid, refused, judged}
-use Rattle.tso_cli.specs.Answers.{run_text, run_status, IsRunAnswer, IsInputAnswer, too_large, refused, answered, ran}
+use Rattle.tso_cli.specs.Answers.{counts_under, IsRunAnswer, IsInputAnswer, too_large, refused, answered, ran}
 use Rattle.tso_cli.specs.declared.task.Task.TheVariants as tasks
 use Rattle.tso_cli.specs.declared.answer.Status.{Status}
 use Rattle.tso_cli.specs.declared.answer.Status.TheVariants.{Good}
@@ -88,41 +88,41 @@ found depth input _ _ good (answered t out status small spelled is) = test-found
 
 -- ---- what `run` answers to these choices
 
-abbrev Replays : ProtocolKind → Configuration → Litmus → List Entry → List ℕ → Status → Type 0
-Replays kind c t order answer status =
-    (answer ≡ report t kind c (shown_of t (run t c.depth (choices_along t order)))) × (status ≡ Good)
+abbrev Replays : ProtocolKind → Configuration → Bool → Litmus → List Entry → List ℕ → Status → Type 0
+Replays kind c json t order answer status =
+    (answer ≡ report_in json t kind c (shown_of t (counts_under t kind c (choices_along t order)) (run t c.depth (choices_along t order)))) × (status ≡ Good)
 
-replays : (kind : ProtocolKind) (c : Configuration) (t : Litmus) (order : List Entry) (out answer : List ℕ) (status : Status) → Texts → IsTest t
+replays : (kind : ProtocolKind) (c : Configuration) (json : Bool) (t : Litmus) (order : List Entry) (out answer : List ℕ) (status : Status) → Texts → IsTest t
     → SpellsChoices (length t.programs) out (choices_along t order) → (run t c.depth (choices_along t order)).ended ≡ true
-    → IsRunAnswer t kind c out answer status → Replays kind c t order answer status
-replays kind c t order out _ _ laws test spells ended (refused fault h) =
+    → IsRunAnswer t kind c json out answer status → Replays kind c json t order answer status
+replays kind c json t order out _ _ laws test spells ended (refused fault h) =
     absurd ((laws.decided (length t.programs) out test.some_core).never_both (choices_along t order) fault spells h)
-replays kind c t order out _ _ laws test spells ended (ran choices read) =
+replays kind c json t order out _ _ laws test spells ended (ran choices read) =
     let same : choices ≡ choices_along t order = (laws.decided (length t.programs) out test.some_core).one_list choices (choices_along t order) read spells in
     rw (same, ended) (refl, refl)
 
-replayed-joined : (kind : ProtocolKind) (c : Configuration) (test out input answer : List ℕ) (status : Status) (t : Litmus) (order : List Entry) → Texts
+replayed-joined : (kind : ProtocolKind) (c : Configuration) (json : Bool) (test out input answer : List ℕ) (status : Status) (t : Litmus) (order : List Entry) → Texts
     → input ≡ joined test out → parts_of (joined test out) ≡ record { test = test; rest = out } → length out ≤ 2000 → SpellsTest test t
     → SpellsChoices (length t.programs) out (choices_along t order) → (run t c.depth (choices_along t order)).ended ≡ true
-    → IsInputAnswer (tasks.Run kind c) input answer status → Replays kind c t order answer status
-replayed-joined kind c test out input _ _ t order laws same parted short spelled spells ended (too_large large) =
+    → IsInputAnswer (tasks.Run kind c json) input answer status → Replays kind c json t order answer status
+replayed-joined kind c json test out input _ _ t order laws same parted short spelled spells ended (too_large large) =
     let size : length test ≤ 65536 = spelled.is.small in
     absurd (omega (arith, ap (λ (l : List ℕ). length l) same, length-append test (codes "====\n" ++ out), length-append (codes "====\n") out))
-replayed-joined kind c test out input _ _ t order laws same parted short spelled spells ended (refused fault small is) =
+replayed-joined kind c json test out input _ _ t order laws same parted short spelled spells ended (refused fault small is) =
     let first : (parts_of input).test ≡ test = ap (λ i. (parts_of i).test) same ∙ ap (λ (p : Parts). p.test) parted in
     absurd (laws.refused_or_not test t fault spelled (subst (λ text. IsRefusedTest text fault) first is))
-replayed-joined kind c test out input _ _ t order laws same parted short spelled spells ended (answered other answer status small too is) =
+replayed-joined kind c json test out input _ _ t order laws same parted short spelled spells ended (answered other answer status small too is) =
     let first : (parts_of input).test ≡ test = ap (λ i. (parts_of i).test) same ∙ ap (λ (p : Parts). p.test) parted in
     let second : (parts_of input).rest ≡ out = ap (λ i. (parts_of i).rest) same ∙ ap (λ (p : Parts). p.rest) parted in
     let one : other ≡ t = laws.one_test test other t (subst (λ text. SpellsTest text other) first too) spelled in
-    replays kind c t order out answer status laws (laws.test test t spelled) spells ended
-    (subst (λ (u : Litmus). IsRunAnswer u kind c out answer status) one (subst (λ text. IsRunAnswer other kind c text answer status) second is))
+    replays kind c json t order out answer status laws (laws.test test t spelled) spells ended
+    (subst (λ (u : Litmus). IsRunAnswer u kind c json out answer status) one (subst (λ text. IsRunAnswer other kind c json text answer status) second is))
 
-pub replayed : (kind : ProtocolKind) (c : Configuration) (input out answer : List ℕ) (status : Status) → Texts → Reaching → IsWithinLimits c
+pub replayed : (kind : ProtocolKind) (c : Configuration) (json : Bool) (input out answer : List ℕ) (status : Status) → Texts → Reaching → IsWithinLimits c
     → parts_of (joined (parts_of input).test out) ≡ record { test = (parts_of input).test; rest = out }
-    → IsInputAnswer (tasks.Witness c.depth) input out Good → IsInputAnswer (tasks.Run kind c) (joined (parts_of input).test out) answer status
-    → ReportsOrder kind c (parts_of input) answer × (status ≡ Good)
-replayed kind c input out answer status texts reaching within parted is answered_so =
+    → IsInputAnswer (tasks.Witness c.depth) input out Good → IsInputAnswer (tasks.Run kind c json) (joined (parts_of input).test out) answer status
+    → ReportsOrder kind c json (parts_of input) answer × (status ≡ Good)
+replayed kind c json input out answer status texts reaching within parted is answered_so =
     let f = found c.depth input out Good refl is in
     let test = texts.test (parts_of input).test f.t f.test_spelled in
     let some : 0 < c.depth = let least = within.0 in omega arith in
@@ -131,13 +131,13 @@ replayed kind c input out answer status texts reaching within parted is answered
     let spells : SpellsChoices (length f.t.programs) out choices =
     subst (λ text. SpellsChoices (length f.t.programs) text choices) (sym f.is) (line-spells f.t c.depth choices f.order reaching test some lead) in
     let short : length out ≤ 2000 = subst (λ (text : List ℕ). length text ≤ 2000) (sym f.is) (line-short f.t c.depth choices f.order reaching test some lead) in
-    let answers = replayed-joined kind c (parts_of input).test out (joined (parts_of input).test out) answer status f.t f.order texts refl parted short f.test_spelled spells lead.ended answered_so in (
+    let answers = replayed-joined kind c json (parts_of input).test out (joined (parts_of input).test out) answer status f.t f.order texts refl parted short f.test_spelled spells lead.ended answered_so in (
       record {
         t = f.t;
         order = f.order;
         test_spelled = f.test_spelled;
         order_spelled = f.order_spelled;
-        shown = shown_of f.t (run f.t c.depth choices);
+        shown = shown_of f.t (counts_under f.t kind c choices) (run f.t c.depth choices);
         printed = answers.0;
         reached = lead.commits;
         stalled = lead.stalled;

@@ -6,7 +6,7 @@ use Rattle.tso_model.specs.Execution.{StandsIn}
 use Rattle.tso_model.specs.Condition.{Condition, truth_of}
 use Rattle.tso_model.specs.FlatMachine.{start}
 use Rattle.tso_model.specs.Runs as flat
-use Rattle.tso_model.specs.Runs.{has_ended, run_from}
+use Rattle.tso_model.specs.Runs.{has_ended}
 use Rattle.tso_model.specs.declared.choice.Choice.{Choice}
 use Rattle.tso_model.specs.declared.execution.Entry.{Entry}
 use Rattle.tso_model.specs.declared.execution.Kind.{Kind}
@@ -39,22 +39,23 @@ unfinished-is t table config old m choices used stalled fresh drives e =
     let d : Drives (new_machine table config t) m choices used stalled = subst (λ o. Drives o m choices used stalled) fresh drives in
     (ended-as-driven t table config m choices used stalled false d e, d.used, d.stalled)
 
-same-shown : (s u : Shown) → s.order ≡ u.order → s.registers ≡ u.registers → s.memory ≡ u.memory → s.holds ≡ u.holds → s.used ≡ u.used → s.stalled ≡ u.stalled → s.unused ≡ u.unused → s ≡ u
-same-shown s u a b c d e f g =
-    let order_with : List Entry → Shown = λ x. record { order = x; registers = s.registers; memory = s.memory; holds = s.holds; used = s.used; stalled = s.stalled; unused = s.unused } in
-    let registers_with : List (List ℕ) → Shown = λ x. record { order = u.order; registers = x; memory = s.memory; holds = s.holds; used = s.used; stalled = s.stalled; unused = s.unused } in
-    let memory_with : List ℕ → Shown = λ x. record { order = u.order; registers = u.registers; memory = x; holds = s.holds; used = s.used; stalled = s.stalled; unused = s.unused } in
-    let holds_with : Option Bool → Shown = λ x. record { order = u.order; registers = u.registers; memory = u.memory; holds = x; used = s.used; stalled = s.stalled; unused = s.unused } in
-    let used_with : ℕ → Shown = λ x. record { order = u.order; registers = u.registers; memory = u.memory; holds = u.holds; used = x; stalled = s.stalled; unused = s.unused } in
-    let stalled_with : ℕ → Shown = λ x. record { order = u.order; registers = u.registers; memory = u.memory; holds = u.holds; used = u.used; stalled = x; unused = s.unused } in
-    let unused_with : ℕ → Shown = λ x. record { order = u.order; registers = u.registers; memory = u.memory; holds = u.holds; used = u.used; stalled = u.stalled; unused = x } in
-    ap order_with a ∙ ap registers_with b ∙ ap memory_with c ∙ ap holds_with d ∙ ap used_with e ∙ ap stalled_with f ∙ ap unused_with g
+same-shown : (s u : Shown) → s.order ≡ u.order → s.registers ≡ u.registers → s.memory ≡ u.memory → s.counts ≡ u.counts → s.holds ≡ u.holds → s.used ≡ u.used → s.stalled ≡ u.stalled → s.unused ≡ u.unused → s ≡ u
+same-shown s u a b c d e f g h =
+    let order_with : List Entry → Shown = λ x. record { order = x; registers = s.registers; memory = s.memory; counts = s.counts; holds = s.holds; used = s.used; stalled = s.stalled; unused = s.unused } in
+    let registers_with : List (List ℕ) → Shown = λ x. record { order = u.order; registers = x; memory = s.memory; counts = s.counts; holds = s.holds; used = s.used; stalled = s.stalled; unused = s.unused } in
+    let memory_with : List ℕ → Shown = λ x. record { order = u.order; registers = u.registers; memory = x; counts = s.counts; holds = s.holds; used = s.used; stalled = s.stalled; unused = s.unused } in
+    let counts_with : List Counts → Shown = λ x. record { order = u.order; registers = u.registers; memory = u.memory; counts = x; holds = s.holds; used = s.used; stalled = s.stalled; unused = s.unused } in
+    let holds_with : Option Bool → Shown = λ x. record { order = u.order; registers = u.registers; memory = u.memory; counts = u.counts; holds = x; used = s.used; stalled = s.stalled; unused = s.unused } in
+    let used_with : ℕ → Shown = λ x. record { order = u.order; registers = u.registers; memory = u.memory; counts = u.counts; holds = u.holds; used = x; stalled = s.stalled; unused = s.unused } in
+    let stalled_with : ℕ → Shown = λ x. record { order = u.order; registers = u.registers; memory = u.memory; counts = u.counts; holds = u.holds; used = u.used; stalled = x; unused = s.unused } in
+    let unused_with : ℕ → Shown = λ x. record { order = u.order; registers = u.registers; memory = u.memory; counts = u.counts; holds = u.holds; used = u.used; stalled = u.stalled; unused = x } in
+    ap order_with a ∙ ap registers_with b ∙ ap memory_with c ∙ ap counts_with d ∙ ap holds_with e ∙ ap used_with f ∙ ap stalled_with g ∙ ap unused_with h
 
 -- what the machine leaves is what the run shows
 pub ended-is : (t : Litmus) (table : Table) (config : Configuration) (old m : Running) (choices : List Choice) (used stalled : ℕ) (s : Shown) → old ≡ new_machine table config t → Drives old m choices used stalled → is_ended m ≡ true
     → s.order ≡ m.commits → s.registers ≡ registers_in m.state → s.memory ≡ m.state.memory → s.holds ≡ verdict t s.registers s.memory
     → s.used ≡ used → s.stalled ≡ stalled → s.unused ≡ length choices - used
-    → ((flat.run t config.depth choices).ended ≡ true) × (s ≡ shown_of t (flat.run t config.depth choices))
+    → ((flat.run t config.depth choices).ended ≡ true) × (s ≡ shown_of t s.counts (flat.run t config.depth choices))
 ended-is t table config old m choices used stalled s fresh drives e order registers memory holds u st un =
     let d : Drives (new_machine table config t) m choices used stalled = subst (λ o. Drives o m choices used stalled) fresh drives in
     let depth = config.depth in
@@ -67,7 +68,14 @@ ended-is t table config old m choices used stalled s fresh drives e order regist
     let used_is : s.used ≡ r.used = u ∙ d.used in
     let stalled_is : s.stalled ≡ r.stalled = st ∙ d.stalled in
     let unused_is : s.unused ≡ r.unused = (let a = d.used in omega arith) in
-    (ended-as-driven t table config m choices used stalled true d e, same-shown s (shown_of t r) order_is registers_are memory_is holds_is used_is stalled_is unused_is)
+    (ended-as-driven t table config m choices used stalled true d e, same-shown s (shown_of t s.counts r) order_is registers_are memory_is refl holds_is used_is stalled_is unused_is)
+
+-- where the driven machine has ended, so has the run, and with the machine's commits as its order
+pub ended-order : (t : Litmus) (table : Table) (config : Configuration) (old m : Running) (choices : List Choice) (used stalled : ℕ) (order : List Entry) → old ≡ new_machine table config t
+    → Drives old m choices used stalled → is_ended m ≡ true → order ≡ m.commits → ((flat.run t config.depth choices).ended ≡ true) × (order ≡ (flat.run t config.depth choices).commits)
+ended-order t table config old m choices used stalled order fresh drives e same =
+    let d : Drives (new_machine table config t) m choices used stalled = subst (λ o. Drives o m choices used stalled) fresh drives in
+    (ended-as-driven t table config m choices used stalled true d e, same ∙ d.commits)
 
 -- what the machine counted is what the run's choices come to
 pub counts-are : (t : Litmus) (table : Table) (config : Configuration) (old m : Running) (choices : List Choice) (used stalled : ℕ) (counts : List Counts) → old ≡ new_machine table config t

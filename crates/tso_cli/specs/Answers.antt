@@ -1,5 +1,5 @@
 -- The answer to an input: what is written, and the status. (This project's profile.)
-use Rattle.std.specs.Prelude.{ℕ, ◌+◌, ◌<◌, ◌≤◌, ◌≡◌, if◌then◌else◌, List, length, Option, IfSome}
+use Rattle.std.specs.Prelude.{ℕ, ◌+◌, ◌<◌, ◌≤◌, ◌≡◌, Bool, if◌then◌else◌, List, length, Option, IfSome}
 use Rattle.tso_model.specs.Litmus.{Litmus}
 use Rattle.tso_model.specs.Execution.{IsTsoExecution}
 use Rattle.tso_model.specs.Runs as flat
@@ -19,10 +19,13 @@ use Rattle.protocol_tables.specs.Tables.{table_of}
 use Rattle.protocol_tables.specs.PrintedTable.{printed_table}
 use Rattle.protocol_tables.specs.declared.kind.ProtocolKind.{ProtocolKind}
 use Rattle.machine_core.specs.Configuration.{Configuration}
-use Rattle.tso_report.specs.Report.{report}
+use Rattle.machine_core.specs.Statistics.{counts_of}
+use Rattle.machine_core.specs.declared.counts.Counts.{Counts}
 use Rattle.tso_cli.specs.Limits.{longest_input}
 use Rattle.tso_cli.specs.Parts.{parts_of}
-use Rattle.tso_cli.specs.Lines.{input_refusal, test_refusal, choices_refusal, unfinished_line}
+use Rattle.tso_cli.specs.Lines.{input_refusal, test_refusal, choices_refusal}
+use Rattle.tso_cli.specs.RunTexts.{report_in, unfinished_in}
+use Rattle.tso_cli.specs.Sweep.{IsSweepAnswer}
 use Rattle.tso_cli.specs.CheckLines.{order_refusal, valid_line, invalid_line}
 use Rattle.tso_cli.specs.Witness.{IsWitnessAnswer}
 use Rattle.tso_cli.specs.Simulation.{shown_of}
@@ -33,19 +36,23 @@ use Rattle.tso_cli.specs.declared.settings.Settings.TheVariants as settings
 use Rattle.tso_cli.specs.declared.answer.Status.{Status}
 use Rattle.tso_cli.specs.declared.answer.Status.TheVariants.{Good, Refused, Unended, Invalid}
 
--- what is written of a run of the flat machine: the report where it ended, else how far it came
-abbrev pub run_text : Litmus → ProtocolKind → Configuration → flat.Run → List ℕ
-run_text t kind c r = if r.ended then report t kind c (shown_of t r) else unfinished_line r.used r.stalled
+-- the counts of each core's accesses in a test's run
+abbrev pub counts_under : Litmus → ProtocolKind → Configuration → List Choice → List Counts
+counts_under t kind c choices = counts_of (table_of kind) c.shape t c.depth choices
+
+-- what is written of a run of the flat machine with these counts: the report where it ended, else how far it came
+abbrev pub run_text : Litmus → ProtocolKind → Configuration → Bool → List Counts → flat.Run → List ℕ
+run_text t kind c json counts r = if r.ended then report_in json t kind c (shown_of t counts r) else unfinished_in json r.used r.stalled
 
 abbrev pub run_status : flat.Run → Status
 run_status r = if r.ended then Good else Unended
 
--- the answer of `run` to a test and the text of its choices
-pub data IsRunAnswer (t : Litmus) (kind : ProtocolKind) (c : Configuration) (text : List ℕ) : List ℕ → Status → Type 0 where
+-- the answer of `run` to a test and the text of its choices, plain or as JSON; a refusal is the same line either way
+pub data IsRunAnswer (t : Litmus) (kind : ProtocolKind) (c : Configuration) (json : Bool) (text : List ℕ) : List ℕ → Status → Type 0 where
   refused : (fault : ChoiceFault) → AreRefusedChoices (length t.programs) text fault
-      → IsRunAnswer t kind c text (choices_refusal fault) Refused
+      → IsRunAnswer t kind c json text (choices_refusal fault) Refused
   ran : (choices : List Choice) → SpellsChoices (length t.programs) text choices
-      → IsRunAnswer t kind c text (run_text t kind c (flat.run t c.depth choices)) (run_status (flat.run t c.depth choices))
+      → IsRunAnswer t kind c json text (run_text t kind c json (counts_under t kind c choices) (flat.run t c.depth choices)) (run_status (flat.run t c.depth choices))
 
 -- the answer of `check` to a test and an order of it
 pub data IsJudgement (t : Litmus) (order : List Entry) : List ℕ → Status → Type 0 where
@@ -58,9 +65,10 @@ pub data IsCheckAnswer (t : Litmus) (text : List ℕ) : List ℕ → Status → 
   judged : (order : List Entry) (out : List ℕ) (status : Status) → SpellsOrder t text order → IsJudgement t order out status
       → IsCheckAnswer t text out status
 
--- the answer to a test and the second part of its input
+-- the answer to a test and the second part of its input, at which a sweep doesn't look
 abbrev pub IsAnswerTo : Task → Litmus → List ℕ → List ℕ → Status → Type 0
-IsAnswerTo (tasks.Run kind config) t text out status = IsRunAnswer t kind config text out status
+IsAnswerTo (tasks.Run kind config json) t text out status = IsRunAnswer t kind config json text out status
+IsAnswerTo (tasks.Sweep kind config plan) t text out status = IsSweepAnswer t kind config plan out status
 IsAnswerTo tasks.Check t text out status = IsCheckAnswer t text out status
 IsAnswerTo (tasks.Witness depth) t text out status = IsWitnessAnswer t depth text out status
 
@@ -80,14 +88,16 @@ pub record IsTableAnswer (kind : ProtocolKind) (out : List ℕ) (status : Status
 -- the answer of a command to the bytes that its reader has, where they are known; `tables` reads none, and answers
 -- the same to every reader
 abbrev pub IsAnswer : Settings → Option (List ℕ) → List ℕ → Status → Type 0
-IsAnswer (settings.Run kind config) known out status = IfSome known (λ input. IsInputAnswer (tasks.Run kind config) input out status)
+IsAnswer (settings.Run kind config json) known out status = IfSome known (λ input. IsInputAnswer (tasks.Run kind config json) input out status)
+IsAnswer (settings.Sweep kind config plan) known out status = IfSome known (λ input. IsInputAnswer (tasks.Sweep kind config plan) input out status)
 IsAnswer settings.Check known out status = IfSome known (λ input. IsInputAnswer tasks.Check input out status)
 IsAnswer (settings.Witness depth) known out status = IfSome known (λ input. IsInputAnswer (tasks.Witness depth) input out status)
 IsAnswer (settings.Tables kind) known out status = IsTableAnswer kind out status
 
 -- how many bytes are read, at most: one more than an input may have shows that it has too many
 abbrev pub most_read : Settings → ℕ
-most_read (settings.Run kind config) = longest_input + 1
+most_read (settings.Run kind config json) = longest_input + 1
+most_read (settings.Sweep kind config plan) = longest_input + 1
 most_read settings.Check = longest_input + 1
 most_read (settings.Witness depth) = longest_input + 1
 most_read (settings.Tables kind) = 0

@@ -1,8 +1,11 @@
 pub mod Streams
 pub mod Parts
+pub mod Plan
 pub mod Limits
 pub mod Simulation
 pub mod Lines
+pub mod RunTexts
+pub mod Sweep
 pub mod CheckLines
 pub mod Witness
 pub mod Answers

@@ -21,21 +21,22 @@ registers_in state = map (λ core. core.registers) state.cores
 abbrev pub verdict : Litmus → List (List ℕ) → List ℕ → Option Bool
 verdict t registers words = option_map (λ c. truth_of registers words c.claim) t.condition
 
--- what is shown of a run of the flat machine
-abbrev pub shown_of : Litmus → flat.Run → Shown
-shown_of t r = record {
+-- what is shown of a run of the flat machine, with these counts of its accesses
+abbrev pub shown_of : Litmus → List Counts → flat.Run → Shown
+shown_of t counts r = record {
   order = r.commits;
   registers = registers_in r.state;
   memory = r.state.memory;
+  counts = counts;
   holds = verdict t (registers_in r.state) r.state.memory;
   used = r.used;
   stalled = r.stalled;
   unused = r.unused;
 }
 
--- the answer is that of this run of the test
+-- the answer is that of this run of the test, whatever the counts
 abbrev pub IsEndingOf : Litmus → flat.Run → Ending → Type 0
-IsEndingOf t r (Ended run) = (r.ended ≡ true) × (shown run ≡ shown_of t r)
+IsEndingOf t r (Ended run) = (r.ended ≡ true) × (shown run ≡ shown_of t run.counts.items r)
 IsEndingOf t r (Unfinished used stalled) = (r.ended ≡ false) × (used ≡ r.used) × (stalled ≡ r.stalled)
 
 -- a machine is driven through these choices, up to the first moment at which the test has ended

@@ -1,5 +1,5 @@
 -- The answer of `witness`: the choices that reach an order. (This project's profile.)
-use Rattle.std.specs.Prelude.{ℕ, ◌≡◌, ◌<◌, ◌≤◌, List}
+use Rattle.std.specs.Prelude.{ℕ, ◌≡◌, ◌<◌, ◌≤◌, Bool, List}
 use Rattle.tso_model.specs.Litmus.{Litmus}
 use Rattle.tso_model.specs.Execution.{IsTsoExecution}
 use Rattle.tso_model.specs.declared.execution.Entry.{Entry}
@@ -15,9 +15,10 @@ use Rattle.litmus_reader.specs.Spelling.{SpellsTest}
 use Rattle.protocol_tables.specs.declared.kind.ProtocolKind.{ProtocolKind}
 use Rattle.machine_core.specs.Configuration.{Configuration}
 use Rattle.tso_report.specs.Shown.{Shown}
-use Rattle.tso_report.specs.Report.{line, report}
+use Rattle.tso_report.specs.Report.{line}
 use Rattle.tso_cli.specs.Parts.{Parts}
 use Rattle.tso_cli.specs.Lines.{depth_line}
+use Rattle.tso_cli.specs.RunTexts.{report_in}
 use Rattle.tso_cli.specs.CheckLines.{order_refusal, invalid_line}
 use Rattle.tso_cli.specs.declared.simulation.Ending.{Ending}
 use Rattle.tso_cli.specs.declared.simulation.Ending.TheVariants.{Ended, Unfinished}
@@ -47,13 +48,13 @@ HasEndedWith order (Unfinished used stalled) = ⊥
 
 -- what is written is the report of a run that ended with the very order that the second part spells; none of its choices
 -- stalled, and none was left over
-pub record ReportsOrder (kind : ProtocolKind) (c : Configuration) (parts : Parts) (out : List ℕ) : Type 0 where
+pub record ReportsOrder (kind : ProtocolKind) (c : Configuration) (json : Bool) (parts : Parts) (out : List ℕ) : Type 0 where
   pub t : Litmus
   pub order : List Entry
   pub test_spelled : SpellsTest parts.test t
   pub order_spelled : SpellsOrder t parts.rest order
   pub shown : Shown
-  pub printed : out ≡ report t kind c shown
+  pub printed : out ≡ report_in json t kind c shown
   pub reached : shown.order ≡ order
   pub stalled : shown.stalled ≡ 0
   pub unused : shown.unused ≡ 0

@@ -1,24 +1,21 @@
-ghost use Rattle.std.specs.Prelude.{◌≡◌, ◌≢◌, IfOk, OnOk, length, string_bytes};
-ghost use Rattle.tso_model.specs.Runs.{run, CoresExist};
-ghost use Rattle.tso_cli.specs.Answers.{run_text, run_status, IsRunAnswer, IsTableAnswer, IsAnswerTo, IsInputAnswer};
+ghost use Rattle.std.specs.Prelude.{◌≡◌, ◌≢◌, IfOk, OnOk, string_bytes};
+ghost use Rattle.tso_cli.specs.Answers.{IsTableAnswer, IsAnswerTo, IsInputAnswer};
 ghost use Rattle.tso_cli.specs.Headline.{InputHeadline};
 ghost use Rattle.tso_cli.specs.Limits.{IsTaskWithinLimits, HasTaskDepth};
-ghost use Rattle.tso_cli.specs.Lines.{test_refusal, choices_refusal, unfinished_line, input_refusal};
+ghost use Rattle.tso_cli.specs.Lines.{test_refusal, input_refusal};
 
 use crate::checking::check_answer;
 use crate::laws::answers_meet_the_headline;
 use crate::parts::parts_of;
-use crate::simulation::{Ending, SimFault, simulate};
+use crate::running::run_answer;
 use crate::streams::MAX_INPUT;
+use crate::sweeping::sweep_answer;
 use crate::task::Task;
 use crate::witnessing::witness_answer;
 use litmus_reader::{TextFault, Why, read_test};
-use machine_core::{Choice, Config};
 use protocol_tables::{ProtocolKind, table_text};
-use scheduler::{ChoiceFault, read_choices, spelled_cores_exist};
 use std::alloc::Global;
 use tso_model::{NoMemory, Test};
-use tso_report::report_text;
 
 /// How a command ended.
 #[derive(Clone, Copy, PartialEq, Eq)]
@@ -27,7 +24,7 @@ pub enum Status {
     Good,
     /// A text was refused.
     Refused,
-    /// The choices were too few to end the test.
+    /// The choices were too few to end the test; of a sweep, those of one seed or more.
     Unended,
     /// The order isn't valid, or needs deeper store buffers than a witness was asked for.
     Invalid,
@@ -51,25 +48,6 @@ fn refused_test(alloc: Global, fault: TextFault) -> Result<Answer, NoMemory>
     let line = fault.line;
     let name = fault.why.name();
     let text = format!(in alloc; "Refused test line {line} {name}\n")?;
-    Ok(Answer {
-        text,
-        status: Status::Refused,
-    })
-}
-
-fn refused_choices(alloc: Global, fault: ChoiceFault) -> Result<Answer, NoMemory>
-    ensures text { IfOk result (λ a. string_bytes a.text ≡ choices_refusal fault) }
-    ensures status { IfOk result (λ a. a.status ≡ Status.Refused) }
-    ensures real { OnOk result (fault ≢ ChoiceFault.NoMemory) }
-{
-    let text = match fault {
-        ChoiceFault::BadWord(word) => format!(in alloc; "Refused choices word {word} BadWord\n")?,
-        ChoiceFault::NoSuchCore(word) => format!(in alloc;
-            "Refused choices word {word} NoSuchCore\n"
-        )?,
-        ChoiceFault::TooMany(word) => format!(in alloc; "Refused choices word {word} TooMany\n")?,
-        ChoiceFault::NoMemory => return Err(NoMemory),
-    };
     Ok(Answer {
         text,
         status: Status::Refused,
@@ -101,7 +79,8 @@ pub fn answer_to(alloc: Global, task: &Task, input: &[u8]) -> Result<Answer, NoM
     judged_answer(alloc, task, input)
 }
 
-/// A task is within its limits: a configuration is, and so is the depth of a witness. Nothing is done.
+/// A task is within its limits: a configuration and a plan are, and so is the depth of a witness. Nothing
+/// is done.
 fn know_limits(task: &Task)
     requires { HasTaskDepth task.now }
     ensures { IsTaskWithinLimits task.now }
@@ -109,6 +88,9 @@ fn know_limits(task: &Task)
     match task {
         Task::Run { config, .. } => {
             let _known = config.depth();
+        }
+        Task::Sweep { config, plan, .. } => {
+            let _known = (config.depth(), plan.seeds());
         }
         Task::Check | Task::Witness { .. } => {}
     }
@@ -133,7 +115,16 @@ fn answer_of(alloc: Global, task: &Task, test: &Test, text: &[u8]) -> Result<Ans
     ensures { IfOk result (λ a. IsAnswerTo task.now test.now text.now (string_bytes a.text) a.status) }
 {
     match task {
-        Task::Run { protocol, config } => run_answer(alloc, test, *protocol, *config, text),
+        Task::Run {
+            protocol,
+            config,
+            json,
+        } => run_answer(alloc, test, *protocol, *config, *json, text),
+        Task::Sweep {
+            protocol,
+            config,
+            plan,
+        } => sweep_answer(alloc, test, *protocol, *config, *plan),
         Task::Check => check_answer(alloc, test, text),
         Task::Witness { depth } => witness_answer(alloc, test, *depth, text),
     }
@@ -149,56 +140,5 @@ pub fn table_answer(alloc: Global, kind: ProtocolKind) -> Result<Answer, NoMemor
     Ok(Answer {
         text,
         status: Status::Good,
-    })
-}
-
-fn run_answer(
-    alloc: Global,
-    test: &Test,
-    protocol: ProtocolKind,
-    config: Config,
-    text: &[u8],
-) -> Result<Answer, NoMemory>
-    ensures { IfOk result (λ a. IsRunAnswer test.now protocol config text.now (string_bytes a.text) a.status) }
-{
-    spelled_cores_exist();
-    match read_choices(alloc, test.cores(), text) {
-        Ok(choices) => run_under(alloc, test, protocol, config, &choices),
-        Err(fault) => refused_choices(alloc, fault),
-    }
-}
-
-fn run_under(
-    alloc: Global,
-    test: &Test,
-    protocol: ProtocolKind,
-    config: Config,
-    choices: &[Choice],
-) -> Result<Answer, NoMemory>
-    requires { CoresExist (length test.now.programs) choices.now }
-    ensures text { IfOk result (λ a. string_bytes a.text ≡ run_text test.now protocol config (run test.now config.depth choices.now)) }
-    ensures status { IfOk result (λ a. a.status ≡ run_status (run test.now config.depth choices.now)) }
-{
-    match simulate(alloc, test, protocol, config, choices) {
-        Ok(Ending::Ended(run)) => {
-            let text = report_text(alloc, test, protocol, config, &run)?;
-            Ok(Answer {
-                text,
-                status: Status::Good,
-            })
-        }
-        Ok(Ending::Unfinished { used, stalled }) => unfinished(alloc, used, stalled),
-        Err(SimFault::NoMemory) => Err(NoMemory),
-    }
-}
-
-fn unfinished(alloc: Global, used: usize, stalled: usize) -> Result<Answer, NoMemory>
-    ensures text { IfOk result (λ a. string_bytes a.text ≡ unfinished_line used stalled) }
-    ensures status { IfOk result (λ a. a.status ≡ Status.Unended) }
-{
-    let text = format!(in alloc; "Unfinished used={used} stalled={stalled}\n")?;
-    Ok(Answer {
-        text,
-        status: Status::Unended,
     })
 }

@@ -64,10 +64,27 @@ fn answer_from<R: Read>(
     ensures faults { MatchResult result (λ _. reader.new.1 ≡ reader.old.1) (λ e. (e ≡ RunFault.Device → reader.new.1 ≡ reader.old.1 + 1) × (e ≡ RunFault.NoMemory → reader.new.1 ≡ reader.old.1)) }
 {
     match settings {
-        Settings::Run { protocol, config } => {
+        Settings::Run {
+            protocol,
+            config,
+            json,
+        } => {
             let task = Task::Run {
                 protocol: *protocol,
                 config: *config,
+                json: *json,
+            };
+            answer_read(alloc, reader, &task)
+        }
+        Settings::Sweep {
+            protocol,
+            config,
+            plan,
+        } => {
+            let task = Task::Sweep {
+                protocol: *protocol,
+                config: *config,
+                plan: *plan,
             };
             answer_read(alloc, reader, &task)
         }

@@ -1,6 +1,6 @@
 //! Laws of the commands. Each is the contract of a function that does nothing: who calls it knows it.
 
-ghost use Rattle.std.specs.Prelude.{◌≡◌, ◌<◌, ◌≤◌, ◌^◌, ℕ, List, Option, Some, length};
+ghost use Rattle.std.specs.Prelude.{◌≡◌, ◌<◌, ◌≤◌, ◌^◌, ℕ, Bool, false, List, Option, Some, length};
 ghost use Rattle.tso_model.specs.Limits.{most_depth};
 ghost use Rattle.tso_model.specs.Litmus.{Litmus, IsTest};
 ghost use Rattle.tso_model.specs.Execution.{IsTsoExecution};
@@ -33,7 +33,7 @@ use tso_laws::{
     runs_are_counted, smaller_depths_never_reach, values_are_words,
     whole_orders_have_each_entry_once,
 };
-use tso_report::laws::{report_spells_its_order, reports_are_short};
+use tso_report::laws::{one_more_run_is_counted, report_spells_its_order, reports_are_short};
 
 /// There is one answer to an input: the same bytes, and the same status.
 pub fn inputs_have_one_answer()
@@ -65,6 +65,7 @@ pub fn answers_meet_the_headline()
     whole_orders_have_each_entry_once();
     values_are_words();
     report_spells_its_order();
+    one_more_run_is_counted();
     every_execution_is_reached();
     smaller_depths_never_reach();
     runs_are_counted();
@@ -77,16 +78,16 @@ pub fn joined_parts_are_parted()
     ensures { (test rest : List ℕ) → EndsInFeed test → HasNoDivider test → parts_of (joined test rest) ≡ record { test = test; rest = rest } }
 {}
 
-/// What `run` prints of a run that ended, handed to `check` with the same test, is answered `Check
+/// What `run` prints of a run that ended, but for JSON, handed to `check` with the same test, is answered `Check
 /// valid`, with the status of success: of one test, and of the whole inputs, where the second has the
 /// first part of the first, the dividing line and what was printed.
 pub fn printed_runs_are_valid()
     ensures tests { (t : Litmus) (kind : ProtocolKind) (c : Configuration) (choices : List Choice) (out answer : List ℕ) (status : Status)
-        → IsTest t → length out < 2 ^ 64 → PrintsExecution t kind c choices out → IsCheckAnswer t out answer status
+        → IsTest t → length out < 2 ^ 64 → PrintsExecution t kind c false choices out → IsCheckAnswer t out answer status
         → (answer ≡ valid_line) × (status ≡ Good) }
     ensures inputs { (kind : ProtocolKind) (c : Configuration) (input out answer : List ℕ) (status : Status)
-        → IsWithinLimits (Settings.Run kind c) → EndsInFeed (parts_of input).test → HasNoDivider (parts_of input).test
-        → IsAnswer (Settings.Run kind c) (Some input) out Good
+        → IsWithinLimits (Settings.Run kind c false) → EndsInFeed (parts_of input).test → HasNoDivider (parts_of input).test
+        → IsAnswer (Settings.Run kind c false) (Some input) out Good
         → IsAnswer Settings.Check (Some (joined (parts_of input).test out)) answer status
         → (answer ≡ valid_line) × (status ≡ Good) }
 {
@@ -130,11 +131,11 @@ pub fn greatest_depth_is_enough()
 /// success, whatever the protocol and the shape of the caches: no choice stalled, and none was left
 /// over.
 pub fn witnesses_reach_their_orders()
-    ensures { (kind : ProtocolKind) (c : Configuration) (input out answer : List ℕ) (status : Status)
-        → IsWithinLimits (Settings.Run kind c) → EndsInFeed (parts_of input).test → HasNoDivider (parts_of input).test
+    ensures { (kind : ProtocolKind) (c : Configuration) (json : Bool) (input out answer : List ℕ) (status : Status)
+        → IsWithinLimits (Settings.Run kind c json) → EndsInFeed (parts_of input).test → HasNoDivider (parts_of input).test
         → IsAnswer (Settings.Witness c.depth) (Some input) out Good
-        → IsAnswer (Settings.Run kind c) (Some (joined (parts_of input).test out)) answer status
-        → ReportsOrder kind c (parts_of input) answer × (status ≡ Good) }
+        → IsAnswer (Settings.Run kind c json) (Some (joined (parts_of input).test out)) answer status
+        → ReportsOrder kind c json (parts_of input) answer × (status ≡ Good) }
 {
     test_is_spelled_once();
     texts_are_decided();

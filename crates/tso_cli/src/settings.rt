@@ -1,8 +1,9 @@
 ghost use Rattle.std.specs.Prelude.{IfOk, IfSome};
 ghost use Rattle.tso_cli.specs.Limits.{IsWithinLimits, HasDepth};
 
+use crate::plan::SweepPlan;
 use clap::builder::ValueParser;
-use clap::{Arg, ArgMatches, Command};
+use clap::{Arg, ArgAction, ArgMatches, Command};
 use machine_core::{Config, Shape};
 use protocol_tables::ProtocolKind;
 use std::alloc::{AllocError, Global};
@@ -12,10 +13,19 @@ use tso_model::limits::{MAX_DEPTH, MIN_DEPTH};
 /// What a command line asks for.
 #[derive(Clone, Copy)]
 pub enum Settings {
-    /// Run a test under choices, on a machine of this protocol and configuration.
+    /// Run a test under choices, on a machine of this protocol and configuration, and report it, as
+    /// JSON if that is asked for.
     Run {
         protocol: ProtocolKind,
         config: Config,
+        json: bool,
+    },
+    /// Run a test under the choices of each seed of a plan, on such a machine, and tell which final
+    /// states were met.
+    Sweep {
+        protocol: ProtocolKind,
+        config: Config,
+        plan: SweepPlan,
     },
     /// Check an order of a test against the axioms.
     Check,
@@ -62,15 +72,28 @@ fn command_line<'a>(alloc: Global) -> Result<Command<'a>, AllocError> {
         .about("Runs x86 litmus tests on a simulated multiprocessor under total store order")
         .subcommand_required(true)
         .subcommand(run_line(alloc)?)?
+        .subcommand(sweep_line(alloc)?)?
         .subcommand(check_line(alloc))?
         .subcommand(witness_line(alloc)?)?
         .subcommand(tables_line(alloc)?)
 }
 
 fn run_line<'a>(alloc: Global) -> Result<Command<'a>, AllocError> {
-    Command::new(alloc, "run")
-        .about("Runs a test under a list of choices")
-        .arg(protocol_option(alloc))?
+    let line = Command::new(alloc, "run").about("Runs a test under a list of choices");
+    machine_options(alloc, line)?.arg(json_option(alloc))
+}
+
+fn sweep_line<'a>(alloc: Global) -> Result<Command<'a>, AllocError> {
+    let line = Command::new(alloc, "sweep").about("Runs a test under the choices of many seeds");
+    machine_options(alloc, line)?
+        .arg(from_option(alloc))?
+        .arg(seeds_option(alloc))?
+        .arg(length_option(alloc))
+}
+
+/// The options that a machine is built by.
+fn machine_options<'a>(alloc: Global, line: Command<'a>) -> Result<Command<'a>, AllocError> {
+    line.arg(protocol_option(alloc))?
         .arg(depth_option(alloc))?
         .arg(sets_option(alloc))?
         .arg(ways_option(alloc))?
@@ -133,6 +156,37 @@ fn protocol_option<'a>(alloc: Global) -> Arg<'a> {
         .default_value("msi")
 }
 
+fn json_option<'a>(alloc: Global) -> Arg<'a> {
+    Arg::new(alloc, "json")
+        .long("json")
+        .help("Prints the report as JSON")
+        .action(ArgAction::SetTrue)
+}
+
+fn from_option<'a>(alloc: Global) -> Arg<'a> {
+    Arg::new(alloc, "from")
+        .long("from")
+        .help("The first seed")
+        .value_parser(clap::value_parser!(u32))
+        .default_value("0")
+}
+
+fn seeds_option<'a>(alloc: Global) -> Arg<'a> {
+    Arg::new(alloc, "seeds")
+        .long("seeds")
+        .help("How many seeds there are, each for a run")
+        .value_parser(clap::value_parser!(u32).range(1..=1000))
+        .default_value("10")
+}
+
+fn length_option<'a>(alloc: Global) -> Arg<'a> {
+    Arg::new(alloc, "length")
+        .long("length")
+        .help("How many choices each seed makes")
+        .value_parser(clap::value_parser!(u32).range(0..=100000))
+        .default_value("1000")
+}
+
 /// The settings of a subcommand; `None` where a value is outside its limits.
 fn settings_in(name: &str, matches: &ArgMatches<'_>) -> Option<Settings>
     ensures within { IfSome result IsWithinLimits }
@@ -140,6 +194,7 @@ fn settings_in(name: &str, matches: &ArgMatches<'_>) -> Option<Settings>
 {
     match name {
         "run" => run_settings(matches),
+        "sweep" => sweep_settings(matches),
         "check" => Some(Settings::Check),
         "witness" => witness_settings(matches),
         "tables" => Some(Settings::Tables(protocol_in(matches)?)),
@@ -152,10 +207,29 @@ fn run_settings(matches: &ArgMatches<'_>) -> Option<Settings>
     ensures depth { IfSome result HasDepth }
 {
     let protocol = protocol_in(matches)?;
-    let depth = matches.get_one::<u8>("depth")?;
-    let config = Config::new(depth, shape_in(matches)?)?;
+    let config = config_in(matches)?;
+    let json = matches.get_flag("json");
     let _known = config.depth();
-    Some(Settings::Run { protocol, config })
+    Some(Settings::Run {
+        protocol,
+        config,
+        json,
+    })
+}
+
+fn sweep_settings(matches: &ArgMatches<'_>) -> Option<Settings>
+    ensures within { IfSome result IsWithinLimits }
+    ensures depth { IfSome result HasDepth }
+{
+    let protocol = protocol_in(matches)?;
+    let config = config_in(matches)?;
+    let plan = plan_in(matches)?;
+    let _known = (config.depth(), plan.seeds());
+    Some(Settings::Sweep {
+        protocol,
+        config,
+        plan,
+    })
 }
 
 fn witness_settings(matches: &ArgMatches<'_>) -> Option<Settings>
@@ -167,6 +241,18 @@ fn witness_settings(matches: &ArgMatches<'_>) -> Option<Settings>
         return None;
     }
     Some(Settings::Witness { depth })
+}
+
+fn config_in(matches: &ArgMatches<'_>) -> Option<Config> {
+    let depth = matches.get_one::<u8>("depth")?;
+    Config::new(depth, shape_in(matches)?)
+}
+
+fn plan_in(matches: &ArgMatches<'_>) -> Option<SweepPlan> {
+    let from = matches.get_one::<u32>("from")?;
+    let seeds = matches.get_one::<u32>("seeds")?;
+    let length = matches.get_one::<u32>("length")?;
+    SweepPlan::new(from, seeds, length)
 }
 
 fn shape_in(matches: &ArgMatches<'_>) -> Option<Shape> {

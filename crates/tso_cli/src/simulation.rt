@@ -160,7 +160,7 @@ fn stall_count(outcome: Outcome) -> usize
 {
     match outcome {
         Outcome::Stalled(_) => 1,
-        Outcome::Committed | Outcome::Buffered | Outcome::Moved => 0,
+        Outcome::Committed | Outcome::Buffered | Outcome::Moved | Outcome::Asked => 0,
     }
 }
 

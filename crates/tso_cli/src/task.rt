@@ -1,3 +1,4 @@
+use crate::plan::SweepPlan;
 use machine_core::Config;
 use protocol_tables::ProtocolKind;
 
@@ -6,10 +7,18 @@ use protocol_tables::ProtocolKind;
 #[derive(Clone, Copy)]
 pub enum Task {
     /// Run the test under the choices that the second part spells, on a machine of this protocol and
-    /// configuration.
+    /// configuration, and report it, as JSON if that is asked for.
     Run {
         protocol: ProtocolKind,
         config: Config,
+        json: bool,
+    },
+    /// Run the test under the choices of each seed of a plan, on such a machine, and tell which final
+    /// states were met. The second part isn't looked at.
+    Sweep {
+        protocol: ProtocolKind,
+        config: Config,
+        plan: SweepPlan,
     },
     /// Check the order that the second part spells against the axioms.
     Check,

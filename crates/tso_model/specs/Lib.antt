@@ -11,5 +11,9 @@ pub mod Execution
 pub mod FinalState
 pub mod FlatMachine
 pub mod Runs
+pub mod Access
+pub mod SplitMachine
+pub mod EitherBus
+pub mod Together
 pub mod Examples
 pub mod Watched

@@ -7,7 +7,7 @@ use Rattle.tso_model.specs.declared.instruction.Instr.{Instr}
 use Rattle.tso_model.specs.declared.execution.Entry.{Entry}
 use Rattle.tso_model.specs.declared.choice.Choice.{Choice}
 use Rattle.tso_model.specs.declared.choice.Outcome.{Outcome}
-use Rattle.tso_model.specs.declared.choice.Outcome.TheVariants.{Committed, Buffered, Moved, Stalled}
+use Rattle.tso_model.specs.declared.choice.Outcome.TheVariants.{Committed, Buffered, Moved, Asked, Stalled}
 
 abbrev pub is_none_pending : List Entry → Bool
 is_none_pending [] = true
@@ -40,6 +40,7 @@ abbrev pub stall_count : Outcome → ℕ
 stall_count Committed = 0
 stall_count Buffered = 0
 stall_count Moved = 0
+stall_count Asked = 0
 stall_count (Stalled why) = 1
 
 -- a run that makes no more choices

@@ -22,6 +22,8 @@ pub enum Stall {
     Lock,
     /// A drain finds nothing pending.
     Empty,
+    /// On a split bus: an access that needs the bus finds it held by another action.
+    Bus,
 }
 
 /// What a choice did.
@@ -33,6 +35,9 @@ pub enum Outcome {
     Buffered,
     /// A register was set.
     Moved,
+    /// On a split bus: the action holds the bus now, and its next choice completes it. Nothing else
+    /// changed.
+    Asked,
     /// Nothing changed.
     Stalled(Stall),
 }

@@ -1,10 +1,11 @@
 //! What a litmus test is, what its programs do, and what an order of their memory actions is.
 //!
 //! This crate holds the types that all others speak of, and in `specs/` the definitions on which
-//! every proof rests: test, thread, program order, TSO execution, final state, truth of a condition
-//! and the flat machine.
+//! every proof rests: test, thread, program order, TSO execution, final state, truth of a condition,
+//! the flat machine, and the machine on a split bus.
 #![tactic(auto)]
 
+pub mod bus;
 pub mod choice;
 pub mod condition;
 pub mod execution;
@@ -19,6 +20,7 @@ mod validity;
 pub mod watched;
 mod words;
 
+pub use bus::Bus;
 pub use choice::{Choice, Outcome, Stall};
 pub use condition::{Cond, Prop, Quantifier, cond_holds};
 pub use execution::{Entry, Execution, Kind};

@@ -1,5 +1,5 @@
 -- The lines of a report before its order are none that an order could begin with.
-use Rattle.std.proofs.Common.{◌≡◌, ◌≢◌, ℕ, ◌<◌, ◌^◌, ◌&&◌, Bool, true, false, not, eqb, List, [], ◌∷◌, ◌++◌, length, get_or, All, inl, inr, refl, sym, ap, ◌∙◌, arith, rules}
+use Rattle.std.proofs.Common.{◌≡◌, ℕ, ◌<◌, ◌^◌, Bool, true, not, eqb, List, [], ◌∷◌, ◌++◌, get_or, All, inl, inr, refl, ap, ◌∙◌, arith, rules}
 use Rattle.std.specs.Prelude.{codes}
 use Rattle.std.specs.Fmt.{decimal}
 use Rattle.std.specs.List.{list_all}
@@ -24,7 +24,7 @@ use Rattle.protocol_tables.specs.declared.kind.ProtocolKind.{ProtocolKind}
 use Rattle.protocol_tables.specs.declared.kind.ProtocolKind.TheVariants.{Msi, Mesi, Moesi}
 use Rattle.snoop_bus.specs.Geometry.{Geometry, IsLineSize, IsWithinLimits}
 use Rattle.machine_core.specs.Configuration.{Configuration}
-use Rattle.tso_report.specs.Report.{report, line, test_line, machine_line, shape_text, register_lines, memory_line, condition_line, choices_line}
+use Rattle.tso_report.specs.Report.{report, line, test_line, shape_text, register_lines, memory_line, condition_line, choices_line, cache_lines}
 
 -- ---- no line feed
 
@@ -124,7 +124,7 @@ line_of_text : (name depth shape : List ℕ) → codes "Machine " ++ (name ++ (c
 line_of_text name depth shape = simp append_assoc
 
 joined : (first second order rest : List ℕ)
-    → (first ++ 10 ∷ []) ++ ((second ++ 10 ∷ []) ++ (order ++ rest)) ≡ (first ++ 10 ∷ (second ++ 10 ∷ [])) ++ (order ++ rest)
+    → ((first ++ 10 ∷ []) ++ (second ++ 10 ∷ [])) ++ (order ++ rest) ≡ (first ++ 10 ∷ (second ++ 10 ∷ [])) ++ (order ++ rest)
 joined first second order rest = simp append_assoc
 
 pub report_spells : ((t : Litmus) (order : List Entry) (front : List (List ℕ)) (rest text : List ℕ)
@@ -134,10 +134,10 @@ pub report_spells : ((t : Litmus) (order : List Entry) (front : List (List ℕ))
     → SpellsOrder t (report t kind c s) s.order
 unfolding front_of machine_text
 report_spells amid t kind c s test small fits are =
-    let rest = register_lines 0 s.registers ++ (memory_line t s.memory ++ (condition_line t s.holds ++ choices_line s.used s.stalled s.unused)) in
+    let rest = register_lines 0 s.registers ++ (memory_line t s.memory ++ (condition_line t s.holds ++ (choices_line s.used s.stalled s.unused ++ cache_lines 0 s.counts))) in
     let front : All IsBefore (front_of t kind c) =
     All-cons IsBefore (codes "Test " ++ t.name) (machine_text kind c ∷ []) (before_name t test)
     (All-cons IsBefore (machine_text kind c) [] (before_machine kind c small fits) (All-nil IsBefore)) in
     amid t s.order (front_of t kind c) rest (report t kind c s) test are front
-    (ap (λ second. test_line t ++ (second ++ (printed_order t s.order ++ rest))) (line_of_text (protocol_name kind) (decimal c.depth) (shape_text c.shape))
+    (ap (λ second. (test_line t ++ second) ++ (printed_order t s.order ++ rest)) (line_of_text (protocol_name kind) (decimal c.depth) (shape_text c.shape))
     ∙ joined (codes "Test " ++ t.name) (machine_text kind c) (printed_order t s.order) rest)

@@ -1,5 +1,5 @@
 -- How long each line of a report is, at most.
-use Rattle.std.proofs.Common.{inl, inr, ◌≡◌, ℕ, ◌+◌, ◌*◌, ◌≤◌, ◌<◌, ◌^◌, zero, suc, Bool, true, false, not, nat_le, ◌&&◌, List, [], ◌∷◌, ◌++◌, length, map, slice_index, slice_index_or, All, Option, Some, None, length-append, refl, sym, arith}
+use Rattle.std.proofs.Common.{inl, inr, ◌≡◌, ℕ, ◌+◌, ◌-◌, ◌*◌, ◌≤◌, ◌<◌, ◌^◌, zero, suc, Bool, true, false, not, nat_le, ◌&&◌, List, [], ◌∷◌, ◌++◌, length, map, slice_index, slice_index_or, All, Option, Some, None, length-append, refl, arith}
 use Rattle.std.specs.Prelude.{codes}
 use Rattle.std.specs.Fmt.{decimal}
 use Rattle.std.specs.List.{list_all}
@@ -9,7 +9,7 @@ use Rattle.std.proofs.lemmas.Bool.Decides.{nat_tests}
 use Rattle.std.proofs.lemmas.List.Elements.{All-head, All-tail}
 use Rattle.tso_model.specs.Litmus.{Litmus, IsTest}
 use Rattle.tso_model.specs.Condition.{Condition}
-use Rattle.tso_model.specs.Names.{begins_name, continues_name, is_name, is_register_word, is_keyword, is_location_name, is_test_name, is_printable, last_byte}
+use Rattle.tso_model.specs.Names.{begins_name, continues_name, is_name, is_register_word, is_location_name, is_test_name}
 use Rattle.tso_model.specs.Registers.{IsWord, AreRegisters, index_of, name_of}
 use Rattle.tso_model.specs.Thread.{value_in}
 use Rattle.tso_model.specs.declared.register.Reg.{Reg}
@@ -26,9 +26,11 @@ use Rattle.protocol_tables.specs.declared.kind.ProtocolKind.{ProtocolKind}
 use Rattle.protocol_tables.specs.declared.kind.ProtocolKind.TheVariants.{Msi, Mesi, Moesi}
 use Rattle.snoop_bus.specs.Geometry.{Geometry, IsWithinLimits as IsShape, IsLineSize}
 use Rattle.machine_core.specs.Configuration.{Configuration, IsWithinLimits}
+use Rattle.machine_core.specs.Kept.{IsAtMost}
+use Rattle.machine_core.specs.declared.counts.Counts.{Counts}
 use Rattle.tso_report.specs.Shown.{Shown}
 use Rattle.tso_report.specs.Limits.{longest_report, IsSmall}
-use Rattle.tso_report.specs.Report.{report, line, test_line, machine_line, shape_text, printed_register, printed_registers, all_registers, register_line, register_lines, printed_words, memory_line, printed_quantifier, printed_truth, printed_verdict, condition_line, choices_line}
+use Rattle.tso_report.specs.Report.{report, line, test_line, machine_line, shape_text, printed_register, printed_registers, all_registers, register_line, register_lines, printed_words, memory_line, printed_quantifier, printed_truth, printed_verdict, condition_line, choices_line, traffic_text, cache_line, cache_lines}
 
 -- ---- texts put together
 
@@ -236,19 +238,51 @@ choices_short used stalled unused u s n =
     (joined (decimal stalled) _ 20 29 (long_digits stalled s)
     (joined (codes " unused=") (line (decimal unused)) 8 21 (omega arith) (ended (decimal unused) 20 (long_digits unused n))))))
 
+counted_digits : (n : ℕ) → n ≤ 2 ^ 32 - 1 → length (decimal n) ≤ 10
+counted_digits n h = length-decimal-le 10 n (omega arith) (omega arith) (omega arith)
+
+traffic_short : (c : Counts) → IsAtMost (2 ^ 32 - 1) c → length (traffic_text c) ≤ 62
+traffic_short c h =
+    joined (codes " forwards=") _ 10 52 (omega arith)
+    (joined (decimal c.forwards) _ 10 42 (counted_digits c.forwards h.forwards)
+    (joined (codes " write_backs=") _ 13 29 (omega arith)
+    (joined (decimal c.write_backs) _ 10 19 (counted_digits c.write_backs h.write_backs)
+    (joined (codes " flushes=") (decimal c.flushes) 9 10 (omega arith) (counted_digits c.flushes h.flushes)))))
+
+cache_line_short : (core : ℕ) (c : Counts) → core < 10 → IsAtMost (2 ^ 32 - 1) c → length (cache_line core c) ≤ 125
+cache_line_short core c small h =
+    joined (codes "Cache P") _ 7 118 (omega arith)
+    (joined (decimal core) _ 1 117 (digit core small)
+    (joined (codes " hits=") _ 6 111 (omega arith)
+    (joined (decimal c.hits) _ 10 101 (counted_digits c.hits h.hits)
+    (joined (codes " misses=") _ 8 93 (omega arith)
+    (joined (decimal c.misses) _ 10 83 (counted_digits c.misses h.misses)
+    (joined (codes " upgrades=") _ 10 73 (omega arith)
+    (joined (decimal c.upgrades) (line (traffic_text c)) 10 63 (counted_digits c.upgrades h.upgrades) (ended (traffic_text c) 62 (traffic_short c h)))))))))
+
+cache_lines_short : (core : ℕ) (all : List Counts) → core + length all ≤ 9 → All (IsAtMost (2 ^ 32 - 1)) all → length (cache_lines core all) ≤ 125 * length all
+cache_lines_short core [] few h = omega arith
+cache_lines_short core (c ∷ cs) few h =
+    let first = cache_line_short core c (omega arith) (All-head (IsAtMost (2 ^ 32 - 1)) c cs h) in
+    let further = cache_lines_short (core + 1) cs (omega arith) (All-tail (IsAtMost (2 ^ 32 - 1)) c cs h) in
+    let both = joined (cache_line core c) (cache_lines (core + 1) cs) 125 (125 * length cs) first further in
+    omega arith
+
 pub report_short : (t : Litmus) (kind : ProtocolKind) (c : Configuration) (s : Shown) → IsTest t → IsWithinLimits c → IsSmall t s → length (report t kind c s) ≤ longest_report
 report_short t kind c s test within small =
     let name = test_name_short t.name test.name_spelled in
     let locations = test.location_count in
     let cores = small.cores in
+    let caches = small.caches in
     let words = words_short t.locations s.memory test.locations_spelled small.memory in
     let registers = register_lines_short 0 s.registers (omega arith) small.registers in
-    let whole : length (report t kind c s) ≤ 15708 =
-    joined (test_line t) _ 70 15638 (joined (codes "Test ") (line t.name) 5 65 (omega arith) (ended t.name 64 name))
-    (joined (machine_line kind c) _ 45 15593 (machine_short kind c within)
-    (joined (printed_order t s.order) _ 14355 1238 (order_short t s.order test small.order small.entries)
-    (joined (register_lines 0 s.registers) _ 412 826 (omega arith)
-    (joined (memory_line t s.memory) _ 711 115 (joined (codes "Memory") (line (printed_words t.locations s.memory)) 6 705 (omega arith) (ended (printed_words t.locations s.memory) 704 (omega arith)))
-    (joined (condition_line t s.holds) _ 24 91 (joined (codes "Condition ") (line (printed_verdict t.condition s.holds)) 10 14 (omega arith) (ended (printed_verdict t.condition s.holds) 13 (verdict_short t.condition s.holds)))
-    (choices_short s.used s.stalled s.unused small.used small.stalled small.unused)))))) in
+    let counts = cache_lines_short 0 s.counts (omega arith) small.counts in
+    let whole : length (report t kind c s) ≤ 16208 =
+    joined (test_line t ++ machine_line kind c) _ 115 16093
+    (joined (test_line t) (machine_line kind c) 70 45 (joined (codes "Test ") (line t.name) 5 65 (omega arith) (ended t.name 64 name)) (machine_short kind c within))
+    (joined (printed_order t s.order) _ 14355 1738 (order_short t s.order test small.order small.entries)
+    (joined (register_lines 0 s.registers) _ 412 1326 (omega arith)
+    (joined (memory_line t s.memory) _ 711 615 (joined (codes "Memory") (line (printed_words t.locations s.memory)) 6 705 (omega arith) (ended (printed_words t.locations s.memory) 704 (omega arith)))
+    (joined (condition_line t s.holds) _ 24 591 (joined (codes "Condition ") (line (printed_verdict t.condition s.holds)) 10 14 (omega arith) (ended (printed_verdict t.condition s.holds) 13 (verdict_short t.condition s.holds)))
+    (joined (choices_line s.used s.stalled s.unused) (cache_lines 0 s.counts) 91 500 (choices_short s.used s.stalled s.unused small.used small.stalled small.unused) (omega arith)))))) in
     omega arith

@@ -1,3 +1,6 @@
 pub mod Shown
 pub mod Report
+pub mod Json
+pub mod Tally
+pub mod Counted
 pub mod Limits

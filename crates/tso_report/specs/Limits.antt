@@ -1,9 +1,10 @@
 -- How long a report is, at most. (This project's profile.)
-use Rattle.std.specs.Prelude.{ℕ, ◌*◌, ◌<◌, ◌≤◌, ◌^◌, length, All}
+use Rattle.std.specs.Prelude.{ℕ, ◌*◌, ◌-◌, ◌<◌, ◌≤◌, ◌^◌, length, All}
 use Rattle.tso_model.specs.Limits.{most_cores, most_instructions}
 use Rattle.tso_model.specs.Litmus.{Litmus}
 use Rattle.tso_model.specs.Registers.{IsWord, AreRegisters}
 use Rattle.order_builder.specs.Spelling.{IsOrderFor}
+use Rattle.machine_core.specs.Kept.{IsAtMost}
 use Rattle.tso_report.specs.Shown.{Shown}
 
 -- bytes of a report, at most
@@ -24,3 +25,5 @@ pub record IsSmall (t : Litmus) (s : Shown) : Type 0 where
   pub used : s.used < 2 ^ 64
   pub stalled : s.stalled < 2 ^ 64
   pub unused : s.unused < 2 ^ 64
+  pub caches : length s.counts ≤ most_cores
+  pub counts : All (IsAtMost (2 ^ 32 - 1)) s.counts

@@ -14,6 +14,7 @@ use Rattle.protocol_tables.specs.Names.{protocol_name}
 use Rattle.protocol_tables.specs.declared.kind.ProtocolKind.{ProtocolKind}
 use Rattle.snoop_bus.specs.Geometry.{Geometry}
 use Rattle.machine_core.specs.Configuration.{Configuration}
+use Rattle.machine_core.specs.declared.counts.Counts.{Counts}
 use Rattle.tso_report.specs.Shown.{Shown}
 
 abbrev pub line : List ℕ → List ℕ
@@ -85,8 +86,27 @@ abbrev pub choices_line : ℕ → ℕ → ℕ → List ℕ
 choices_line used stalled unused =
     codes "Choices used=" ++ (decimal used ++ (codes " stalled=" ++ (decimal stalled ++ (codes " unused=" ++ line (decimal unused)))))
 
+-- ` forwards=F write_backs=B flushes=L`
+abbrev pub traffic_text : Counts → List ℕ
+traffic_text c = codes " forwards=" ++ (decimal c.forwards ++ (codes " write_backs=" ++ (decimal c.write_backs ++ (codes " flushes=" ++ decimal c.flushes))))
+
+-- `Cache Pc hits=H misses=M upgrades=U forwards=F write_backs=B flushes=L`
+abbrev pub cache_line : ℕ → Counts → List ℕ
+cache_line core c =
+    codes "Cache P" ++ (decimal core ++ (codes " hits=" ++ (decimal c.hits ++ (codes " misses=" ++ (decimal c.misses
+    ++ (codes " upgrades=" ++ (decimal c.upgrades ++ line (traffic_text c))))))))
+
+-- a line for each core
+abbrev pub cache_lines : ℕ → List Counts → List ℕ
+cache_lines core [] = []
+cache_lines core (c ∷ rest) = cache_line core c ++ cache_lines (core + 1) rest
+
+-- the first two lines: the test, and the machine that it ran on
+abbrev pub head : Litmus → ProtocolKind → Configuration → List ℕ
+head t kind c = test_line t ++ machine_line kind c
+
 -- the report of a run of the test on a machine of this protocol and configuration
 abbrev pub report : Litmus → ProtocolKind → Configuration → Shown → List ℕ
 report t kind c s =
-    test_line t ++ (machine_line kind c ++ (printed_order t s.order ++ (register_lines 0 s.registers
-    ++ (memory_line t s.memory ++ (condition_line t s.holds ++ choices_line s.used s.stalled s.unused)))))
+    head t kind c ++ (printed_order t s.order ++ (register_lines 0 s.registers ++ (memory_line t s.memory
+    ++ (condition_line t s.holds ++ (choices_line s.used s.stalled s.unused ++ cache_lines 0 s.counts)))))

@@ -3,9 +3,10 @@ use Rattle.std.specs.Prelude.{ℕ, ◌≡◌, Bool, List, length, Option, is_som
 use Rattle.tso_model.specs.Litmus.{Litmus}
 use Rattle.tso_model.specs.declared.execution.Entry.{Entry}
 use Rattle.order_builder.specs.PrintedOrder.{HasLocation}
+use Rattle.machine_core.specs.declared.counts.Counts.{Counts}
 use Rattle.tso_report.specs.declared.run.Run.{Run}
 
--- the order, the registers of each core, the words, the verdict, and the counts of choices
+-- the order, the registers of each core, the words, the verdict, the counts of choices, and those of each core's cache
 pub record Shown : Type 0 where
   pub order : List Entry
   pub registers : List (List ℕ)
@@ -14,6 +15,7 @@ pub record Shown : Type 0 where
   pub used : ℕ
   pub stalled : ℕ
   pub unused : ℕ
+  pub counts : List Counts
 
 abbrev pub shown : Run → Shown
 shown r = record {
@@ -24,11 +26,13 @@ shown r = record {
   used = r.used;
   stalled = r.stalled;
   unused = r.unused;
+  counts = r.counts.items;
 }
 
--- a run of this test: registers for each core, a word for each location, a verdict where there is a condition
+-- a run of this test: registers and counts for each core, a word for each location, a verdict where there is a condition
 pub record IsOf (t : Litmus) (s : Shown) : Type 0 where
   pub locations : All (HasLocation t) s.order
   pub registers : length s.registers ≡ length t.programs
   pub memory : length s.memory ≡ length t.locations
   pub verdict : is_some s.holds ≡ is_some t.condition
+  pub counts : length s.counts ≡ length t.programs

@@ -1,9 +1,16 @@
 //! What is printed of a run.
 #![tactic(auto)]
 
+mod counters;
+pub mod json;
 pub mod laws;
+pub mod named;
 pub mod report;
 pub mod run;
+pub mod tally;
+mod tally_text;
 
-pub use report::report_text;
+pub use json::{report_json, unfinished_json};
+pub use report::{head_text, report_text};
 pub use run::Run;
+pub use tally::Tally;

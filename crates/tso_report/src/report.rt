@@ -1,18 +1,18 @@
 ghost use Rattle.std.specs.Prelude.{◌≡◌, ◌++◌, ◌∷◌, [], IfOk, OnOk, string_bytes, length, slice_index_or, Option, is_some, All};
-ghost use Rattle.order_builder.specs.PrintedOrder.{HasWord};
+ghost use Rattle.order_builder.specs.PrintedOrder.{printed_order, HasLocation, HasWord};
 ghost use Rattle.tso_report.specs.Shown.{shown, IsOf};
-ghost use Rattle.tso_report.specs.Report.{report, line, test_line, machine_line, shape_text, printed_register, printed_registers, all_registers, register_line, register_lines, printed_words, memory_line, printed_verdict, condition_line, choices_line, printed_quantifier, printed_truth};
+ghost use Rattle.tso_report.specs.Report.{report, head, line, test_line, machine_line, shape_text, printed_register, printed_registers, all_registers, register_line, register_lines, printed_words, memory_line, printed_verdict, condition_line, choices_line, printed_quantifier, printed_truth, traffic_text, cache_line, cache_lines};
 
 use crate::run::Run;
-use machine_core::Config;
+use machine_core::{Config, Counts};
 use order_builder::order_text;
 use protocol_tables::ProtocolKind;
 use std::alloc::Global;
-use tso_model::{Loc, NoMemory, Quantifier, Reg, Test};
+use tso_model::{Execution, Loc, NoMemory, Quantifier, Reg, Test};
 
 /// The report of a run: the test, the machine with its protocol, the order in which memory saw the run, the final
-/// state, the verdict and the counts of choices, each on lines of its own. That the values of the
-/// order are words is told along with it, for those who read the text again.
+/// state, the verdict, the counts of choices and those of each core's cache, each on lines of its own.
+/// That the values of the order are words is told along with it, for those who read the text again.
 ///
 /// Fails only for want of memory.
 pub fn report_text(
@@ -26,14 +26,31 @@ pub fn report_text(
     ensures text { IfOk result (λ text. string_bytes text ≡ report test.now protocol config (shown run.now)) }
     ensures words { OnOk result (All HasWord run.now.execution.order.items) }
 {
-    let mut text = String::new(alloc);
-    write_test(&mut text, test)?;
-    write_machine(&mut text, protocol, config)?;
-    text.push_str(&order_text(alloc, test, &run.execution)?)?;
+    let mut text = head_text(alloc, test, protocol, config)?;
+    write_order(alloc, &mut text, test, &run.execution)?;
     write_registers(&mut text, &run.registers)?;
     write_memory(&mut text, test, &run.memory)?;
     write_condition(&mut text, test, run.holds)?;
     write_choices(&mut text, run)?;
+    write_caches(&mut text, &run.counts)?;
+    Ok(text)
+}
+
+/// The first two lines of a report, and of what is printed of many runs: the test, and the machine with
+/// its protocol.
+///
+/// Fails only for want of memory.
+pub fn head_text(
+    alloc: Global,
+    test: &Test,
+    protocol: ProtocolKind,
+    config: Config,
+) -> Result<String, NoMemory>
+    ensures { IfOk result (λ text. string_bytes text ≡ head test.now protocol config) }
+{
+    let mut text = String::new(alloc);
+    write_test(&mut text, test)?;
+    write_machine(&mut text, protocol, config)?;
     Ok(text)
 }
 
@@ -63,6 +80,20 @@ fn write_shape(text: &mut String, config: Config) -> Result<(), NoMemory>
     let ways = config.ways();
     let words = config.words();
     write!(text, " sets={sets} ways={ways} words={words}")?;
+    Ok(())
+}
+
+fn write_order(
+    alloc: Global,
+    text: &mut String,
+    test: &Test,
+    execution: &Execution,
+) -> Result<(), NoMemory>
+    requires { All (HasLocation test.now) execution.now.order.items }
+    ensures text { OnOk result (string_bytes text.new ≡ string_bytes text.old ++ printed_order test.now execution.now.order.items) }
+    ensures words { OnOk result (All HasWord execution.now.order.items) }
+{
+    text.push_str(&order_text(alloc, test, execution)?)?;
     Ok(())
 }
 
@@ -156,6 +187,39 @@ fn write_choices(text: &mut String, run: &Run) -> Result<(), NoMemory>
     write!(
         text,
         "Choices used={used} stalled={stalled} unused={unused}\n"
+    )?;
+    Ok(())
+}
+
+fn write_caches(text: &mut String, counts: &[Counts]) -> Result<(), NoMemory>
+    ensures { OnOk result (string_bytes text.new ≡ string_bytes text.old ++ cache_lines 0 counts.now) }
+{
+    for (core, counts) in counts.iter().enumerate() {
+        write_cache(text, core, *counts)?;
+    }
+    Ok(())
+}
+
+fn write_cache(text: &mut String, core: usize, counts: Counts) -> Result<(), NoMemory>
+    ensures { OnOk result (string_bytes text.new ≡ string_bytes text.old ++ cache_line core counts) }
+{
+    let (hits, misses, upgrades) = (counts.hits, counts.misses, counts.upgrades);
+    write!(
+        text,
+        "Cache P{core} hits={hits} misses={misses} upgrades={upgrades}"
+    )?;
+    write_traffic(text, counts)?;
+    text.push('\n')?;
+    Ok(())
+}
+
+fn write_traffic(text: &mut String, counts: Counts) -> Result<(), NoMemory>
+    ensures { OnOk result (string_bytes text.new ≡ string_bytes text.old ++ traffic_text counts) }
+{
+    let (forwards, write_backs, flushes) = (counts.forwards, counts.write_backs, counts.flushes);
+    write!(
+        text,
+        " forwards={forwards} write_backs={write_backs} flushes={flushes}"
     )?;
     Ok(())
 }

@@ -11,6 +11,8 @@ mod caches;
 #[cfg(test)]
 mod choices;
 #[cfg(test)]
+mod halves;
+#[cfg(test)]
 mod inputs;
 #[cfg(test)]
 mod machine;
@@ -20,5 +22,7 @@ mod orders;
 mod settings;
 #[cfg(test)]
 mod streams;
+#[cfg(test)]
+mod tally;
 #[cfg(test)]
 mod threads;

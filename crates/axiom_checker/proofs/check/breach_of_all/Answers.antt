@@ -1,5 +1,5 @@
 use Rattle.std.proofs.Common.{◌≡◌, ◌<◌, ◌*◌, ◌++◌, Some, length, slice_get, ap, sym, ◌∙◌, subst, arith}
-use Rattle.axiom_checker.specs.Slots.{Ascends}
+use Rattle.axiom_checker.specs.Slots.{Ascends, slots_of_a_core}
 use Rattle.axiom_checker.proofs.Ascending.{made-ascends}
 use Rattle.axiom_checker.proofs.Following.{made-fits}
 use Rattle.axiom_checker.proofs.Known.{writes-known}
@@ -9,7 +9,7 @@ use Rattle.axiom_checker.proofs.check.breach_of_all.Goals as goal
 pub own_writes-requires-clause-ascends : goal.own_writes-requires-clause-ascends
 own_writes-requires-clause-ascends g c =
     let t = c.args.test.now in
-    (length t.programs * 64, subst (λ m. Ascends 0 (length t.programs * 64) m) (sym c.requires.made) (made-ascends t c.args.order.now.order c.requires.test))
+    (length t.programs * slots_of_a_core, subst (λ m. Ascends 0 (length t.programs * slots_of_a_core) m) (sym c.requires.made) (made-ascends t c.args.order.now.order c.requires.test))
 
 pub own_writes-requires-clause-fit : goal.own_writes-requires-clause-fit
 own_writes-requires-clause-fit g c k e f =

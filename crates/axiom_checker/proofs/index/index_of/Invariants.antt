@@ -1,7 +1,7 @@
 use Rattle.std.proofs.Common.{◌≡◌, ◌<◌, ◌*◌, ℕ, Some, slice_get, length}
 use Rattle.tso_model.specs.declared.execution.Entry.{Entry}
 use Rattle.axiom_checker.specs.Programs.{kept_in}
-use Rattle.axiom_checker.specs.Slots.{slot_of}
+use Rattle.axiom_checker.specs.Slots.{slot_of, slots_of_a_core}
 use Rattle.axiom_checker.proofs.index.index_of.Given as goal
 
 -- the entries so far stand in the table, and nothing else does
@@ -9,5 +9,5 @@ abbrev pub invariant-loop-i : goal.invariant-loop-i
 invariant-loop-i l = record {
   has : (k : ℕ) (e : Entry) → k < l.i → slice_get l.list k ≡ Some e → kept_in l.slots.items (slot_of e) ≡ Some k;
   only : (s k : ℕ) → kept_in l.slots.items s ≡ Some k → k < l.i;
-  size : length l.slots.items ≡ l.cores * 64;
+  size : length l.slots.items ≡ l.cores * slots_of_a_core;
 }

@@ -1,4 +1,4 @@
-use Rattle.std.proofs.Common.{ap, ◌∙◌, subst, length, arith, All}
+use Rattle.std.proofs.Common.{refl, ap, ◌∙◌, subst, length, arith, All}
 use Rattle.snoop_bus.specs.Bus.{words_of}
 use Rattle.machine_core.specs.Kept.{IsCore}
 use Rattle.machine_core.proofs.TallyLemmas.{tallied-first}
@@ -9,6 +9,7 @@ returns-clause-fits g c = record {
   some_depth = omega (arith, c.depth.ensures.within.0, c.depth.ensures.value);
   cores = c.in_ok-processors.ensures.count;
   on_bus = c.in_ok-bus.ensures.cores ∙ c.cores.ensures.value;
+  free = rw c.in_ok-bus.ensures.exact refl;
   words = ap length c.in_ok-bus.ensures.words ∙ c.initial_words.ensures.each;
   each = subst (λ depth. All (IsCore depth (length (words_of c.in_ok-bus.bus))) c.in_ok-processors.processors.items) c.depth.ensures.value
       (c.in_ok-processors.ensures.depths (length (words_of c.in_ok-bus.bus)));

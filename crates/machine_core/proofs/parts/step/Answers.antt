@@ -39,7 +39,7 @@ pub returns-in-Some-clause-fits : goal.returns-in-Some-clause-fits
 returns-in-Some-clause-fits g c =
     let core = IsCore-at c.args.test.now c.args.parts.now c.args.core.0 c.index_mut-processor.result.now c.requires.fits c.requires.core c.index_mut-processor.ensures.value in
     FitsTest-next c.args.test.now c.args.parts.now _ c.args.core.0 c.step.new.processor c.requires.fits refl refl
-    c.step.ensures.cores c.step.ensures.count (c.step.ensures.depth ∙ core.depth_is) c.step.ensures.stores
+    c.step.ensures.cores c.step.ensures.free c.step.ensures.count (c.step.ensures.depth ∙ core.depth_is) c.step.ensures.stores
 
 pub returns-in-None-clause-caches : goal.returns-in-None-clause-caches
 returns-in-None-clause-caches g c =

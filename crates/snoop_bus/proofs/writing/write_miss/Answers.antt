@@ -1,5 +1,6 @@
 use Rattle.std.proofs.Common.{[]}
 use Rattle.std.proofs.lemmas.List.{get_or_default}
+use Rattle.snoop_bus.specs.Lines.{line_in}
 use Rattle.snoop_bus.proofs.WriteMiss.{write_missed}
 use Rattle.snoop_bus.proofs.writing.write_miss.Goals as goal
 
@@ -9,23 +10,25 @@ returns-clause-ok g c =
     let p = c.args.protocol.now in
     let here = get_or_default c.args.caches.now c.args.core c.index-caches-core.result [] c.requires.core in
     (write_missed t (g.met.P.Protocol.gives_up p) (g.met.P.Protocol.supplies_to_writers p) (g.met.P.Protocol.writes_back_dirty p)
-    c.args.caches.now c.snoop_others.new.caches c.args.memory.now c.write_back-wrote_back.new.memory c.args.core c.args.line c.find_words-words.result c.in_ok-victim.victim c.fill.new.self c.write_back-wrote_back.result
+    c.args.caches.now c.snoop_others.new.caches c.args.memory.now c.write_back-wrote_back.new.memory c.args.core c.args.line c.unwrap_or-words.result c.in_ok-victim.victim c.fill.new.self c.write_back-wrote_back.result
     (record {
-      coherent = c.requires.coherent;
-      core_in = c.requires.core;
-      within = c.requires.line;
-      absent = c.requires.absent;
-      words = rw c.from.ensures at c.find_words-words.ensures;
+      basis = record {
+        coherent = c.requires.coherent;
+        core_in = c.requires.core;
+        within = c.requires.line;
+        absent = c.requires.absent;
+        words = rw (c.unwrap_or-words.ensures, c.from.ensures) (c.find-found.ensures.words (line_in c.args.memory.now c.args.line));
+        filled = rw here at c.in_ok-victim.ensures.copies;
+        was_here = rw here at c.in_ok-victim.ensures.was_here;
+        left = c.snoop_others.ensures.copies;
+        memory = c.write_back-wrote_back.ensures.memory;
+      };
       own_exact = rw here at c.in_ok-victim.ensures.exact;
       own_ways = rw here at c.fill.ensures.ways;
       victim = rw here at c.in_ok-victim.ensures.victim;
       back_is = c.write_back-wrote_back.ensures.dirty;
       tags_left = c.snoop_others.ensures.tags;
       ways_left = c.snoop_others.ensures.ways;
-      filled = rw here at c.in_ok-victim.ensures.copies;
-      was_here = rw here at c.in_ok-victim.ensures.was_here;
-      left = c.snoop_others.ensures.copies;
-      memory = c.write_back-wrote_back.ensures.memory;
     })).0
 
 pub returns-clause-words : goal.returns-clause-words
@@ -34,21 +37,23 @@ returns-clause-words g c =
     let p = c.args.protocol.now in
     let here = get_or_default c.args.caches.now c.args.core c.index-caches-core.result [] c.requires.core in
     (write_missed t (g.met.P.Protocol.gives_up p) (g.met.P.Protocol.supplies_to_writers p) (g.met.P.Protocol.writes_back_dirty p)
-    c.args.caches.now c.snoop_others.new.caches c.args.memory.now c.write_back-wrote_back.new.memory c.args.core c.args.line c.find_words-words.result c.in_ok-victim.victim c.fill.new.self c.write_back-wrote_back.result
+    c.args.caches.now c.snoop_others.new.caches c.args.memory.now c.write_back-wrote_back.new.memory c.args.core c.args.line c.unwrap_or-words.result c.in_ok-victim.victim c.fill.new.self c.write_back-wrote_back.result
     (record {
-      coherent = c.requires.coherent;
-      core_in = c.requires.core;
-      within = c.requires.line;
-      absent = c.requires.absent;
-      words = rw c.from.ensures at c.find_words-words.ensures;
+      basis = record {
+        coherent = c.requires.coherent;
+        core_in = c.requires.core;
+        within = c.requires.line;
+        absent = c.requires.absent;
+        words = rw (c.unwrap_or-words.ensures, c.from.ensures) (c.find-found.ensures.words (line_in c.args.memory.now c.args.line));
+        filled = rw here at c.in_ok-victim.ensures.copies;
+        was_here = rw here at c.in_ok-victim.ensures.was_here;
+        left = c.snoop_others.ensures.copies;
+        memory = c.write_back-wrote_back.ensures.memory;
+      };
       own_exact = rw here at c.in_ok-victim.ensures.exact;
       own_ways = rw here at c.fill.ensures.ways;
       victim = rw here at c.in_ok-victim.ensures.victim;
       back_is = c.write_back-wrote_back.ensures.dirty;
       tags_left = c.snoop_others.ensures.tags;
       ways_left = c.snoop_others.ensures.ways;
-      filled = rw here at c.in_ok-victim.ensures.copies;
-      was_here = rw here at c.in_ok-victim.ensures.was_here;
-      left = c.snoop_others.ensures.copies;
-      memory = c.write_back-wrote_back.ensures.memory;
     })).1

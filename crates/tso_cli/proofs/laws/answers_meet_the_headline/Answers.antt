@@ -1,5 +1,6 @@
 use Rattle.tso_cli.proofs.OneAnswer.{Texts}
 use Rattle.tso_cli.proofs.HeadlineLemmas.{Runs, input-means, command-means}
+use Rattle.tso_cli.proofs.StateLemmas.{Tallies}
 use Rattle.tso_cli.proofs.WitnessLemmas.{Reaching}
 use Rattle.tso_cli.proofs.laws.answers_meet_the_headline.Goals as goal
 
@@ -29,7 +30,12 @@ returns c =
       counted = c.runs_are_counted.ensures.buffered;
       spelled = c.printed_choices_are_spelled.ensures;
     } in
+    let tallies : Tallies = record {
+      own = c.one_more_run_is_counted.ensures.own;
+      others = c.one_more_run_is_counted.ensures.others;
+      order = c.one_more_run_is_counted.ensures.order;
+    } in
     record {
-      tasks = λ task input out status. input-means task input out status texts runs reaching;
-      commands = λ s known out status. command-means s known out status texts runs reaching;
+      tasks = λ task input out status. input-means task input out status texts runs reaching tallies;
+      commands = λ s known out status. command-means s known out status texts runs reaching tallies;
     }

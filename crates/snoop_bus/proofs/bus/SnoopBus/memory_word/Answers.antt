@@ -1,5 +1,6 @@
-use Rattle.std.proofs.Common.{rules, ℕ, ◌≡◌, ◌<◌, ◌/◌, ◌%◌, [], List, Some, length, slice_index, sym, ap, ◌∙◌}
+use Rattle.std.proofs.Common.{rules, ◌≡◌, ◌<◌, ◌/◌, ◌%◌, [], Some, length, slice_index, sym, ap, ◌∙◌}
 use Rattle.std.proofs.lemmas.List.{get_or_default}
+use Rattle.snoop_bus.specs.Held.{counted}
 use Rattle.snoop_bus.specs.Lines.{Words, line_in}
 use Rattle.snoop_bus.proofs.WordLemmas.{line_below, words-get}
 use Rattle.snoop_bus.proofs.CallLemmas.{loc_in}
@@ -7,7 +8,7 @@ use Rattle.snoop_bus.proofs.bus.SnoopBus.memory_word.Goals as goal
 
 pub index-requires : goal.index-requires
 index-requires g c =
-    let within : c.args.loc.0 < c.self.inside.locations = loc_in c.self.inside.shape.words c.self.inside.locations c.self.inside.caches.items c.self.inside.memory.items c.args.loc.0 (rw (← c.self.view_is) at c.requires) in
+    let within : c.args.loc.0 < c.self.inside.locations = loc_in c.self.inside.shape.words c.self.inside.locations (counted c.self.inside.held c.self.inside.caches.items) c.self.inside.memory.items c.args.loc.0 (rw (← c.self.view_is) at c.requires) in
     let below : c.args.loc.0 / c.self.inside.shape.words < length c.self.inside.memory.items =
     line_below c.self.inside.shape.words c.self.inside.locations (length c.self.inside.memory.items) c.args.loc.0 c.self.invariant.some_word c.self.invariant.enough_lines within in
     let at : c.from.result < length c.self.inside.memory.items = rw (c.from.ensures, c.line_of-line.ensures.value) below in
@@ -17,7 +18,7 @@ pub returns : goal.returns
 returns g c =
     let words = c.self.inside.shape.words in
     let lines = c.self.inside.memory.items in
-    let within : c.args.loc.0 < c.self.inside.locations = loc_in words c.self.inside.locations c.self.inside.caches.items lines c.args.loc.0 (rw (← c.self.view_is) at c.requires) in
+    let within : c.args.loc.0 < c.self.inside.locations = loc_in words c.self.inside.locations (counted c.self.inside.held c.self.inside.caches.items) lines c.args.loc.0 (rw (← c.self.view_is) at c.requires) in
     let below : c.args.loc.0 / words < length lines = line_below words c.self.inside.locations (length lines) c.args.loc.0 c.self.invariant.some_word c.self.invariant.enough_lines within in
     let line : c.index.result.now ≡ line_in lines (c.args.loc.0 / words) =
     (rw (c.from.ensures, c.line_of-line.ensures.value) at c.index.ensures) ∙ get_or_default lines (c.args.loc.0 / words) c.index.result.now [] below in

@@ -1,29 +1,30 @@
-use Rattle.std.proofs.Common.{rules, ◌<◌, length, ℕ}
+use Rattle.std.proofs.Common.{rules, true, ◌<◌, length, ℕ}
 use Rattle.std.proofs.lemmas.List.{with_items_is}
+use Rattle.snoop_bus.specs.Held.{counted}
 use Rattle.snoop_bus.proofs.WordLemmas.{line_below}
-use Rattle.snoop_bus.proofs.CallLemmas.{loc_in, write_word, write_done, write_refused}
+use Rattle.snoop_bus.proofs.CallLemmas.{free_or_hit, loc_in, write_word, write_done, write_refused}
 use Rattle.snoop_bus.proofs.NewLemmas.{bus-written}
 use Rattle.snoop_bus.proofs.bus.SnoopBus.swap.Goals as goal
 
 pub swap-requires-clause-line : goal.swap-requires-clause-line
 swap-requires-clause-line g c =
-    let within : c.args.loc.0 < c.self.inside.locations = loc_in c.self.inside.shape.words c.self.inside.locations c.self.inside.caches.items c.self.inside.memory.items c.args.loc.0 (rw (← c.self.view_is) at c.requires.loc) in
+    let within : c.args.loc.0 < c.self.inside.locations = loc_in c.self.inside.shape.words c.self.inside.locations (counted c.self.inside.held c.self.inside.caches.items) c.self.inside.memory.items c.args.loc.0 (rw (← c.self.view_is) at c.requires.loc) in
     rw (c.deref_mut-2.ensures.value, c.line_of-line.ensures.value) (line_below c.self.inside.shape.words c.self.inside.locations (length c.self.inside.memory.items) c.args.loc.0 c.self.invariant.some_word c.self.invariant.enough_lines within)
 
 pub returns-clause-word : goal.returns-clause-word
 returns-clause-word g c =
-    let within : c.args.loc.0 < c.self.inside.locations = loc_in c.self.inside.shape.words c.self.inside.locations c.self.inside.caches.items c.self.inside.memory.items c.args.loc.0 (rw (← c.self.view_is) at c.requires.loc) in
+    let within : c.args.loc.0 < c.self.inside.locations = loc_in c.self.inside.shape.words c.self.inside.locations (counted c.self.inside.held c.self.inside.caches.items) c.self.inside.memory.items c.args.loc.0 (rw (← c.self.view_is) at c.requires.loc) in
     rw (← c.self.view_is)
-    (write_word (g.P.Protocol.table c.self.inside.protocol) c.self.inside.shape c.self.inside.locations c.self.inside.caches.items c.swap.new.caches c.self.inside.memory.items c.swap.new.memory c.args.core.0 c.args.loc.0
+    (write_word (g.P.Protocol.table c.self.inside.protocol) c.self.inside.shape c.self.inside.locations c.self.inside.caches.items c.swap.new.caches c.self.inside.memory.items c.swap.new.memory c.self.inside.held c.args.core.0 c.args.loc.0
     (λ (w : ℕ). c.args.value) c.swap.result within (rw (c.deref_mut.ensures.value, c.deref_mut-2.ensures.value, c.from.ensures, c.line_of-line.ensures.value, c.place_of-place.ensures.value) at c.swap.ensures.ok))
 
 pub returns-clause-done : goal.returns-clause-done
 returns-clause-done g c =
     let cs = with_items_is c.self.inside.caches c.swap.new.caches (search rules) in
     let ms = with_items_is c.self.inside.memory c.swap.new.memory (search rules) in
-    let within : c.args.loc.0 < c.self.inside.locations = loc_in c.self.inside.shape.words c.self.inside.locations c.self.inside.caches.items c.self.inside.memory.items c.args.loc.0 (rw (← c.self.view_is) at c.requires.loc) in
+    let within : c.args.loc.0 < c.self.inside.locations = loc_in c.self.inside.shape.words c.self.inside.locations (counted c.self.inside.held c.self.inside.caches.items) c.self.inside.memory.items c.args.loc.0 (rw (← c.self.view_is) at c.requires.loc) in
     rw (← c.self.view_is, cs, ms)
-    (write_done (g.P.Protocol.table c.self.inside.protocol) c.self.inside.shape c.self.inside.locations c.self.inside.caches.items c.swap.new.caches c.self.inside.memory.items c.swap.new.memory c.args.core.0 c.args.loc.0
+    (write_done (g.P.Protocol.table c.self.inside.protocol) c.self.inside.shape c.self.inside.locations c.self.inside.caches.items c.swap.new.caches c.self.inside.memory.items c.swap.new.memory c.self.inside.held c.args.core.0 c.args.loc.0
     (λ (w : ℕ). c.args.value) c.swap.result c.self.invariant.some_word c.self.invariant.enough_lines within (rw (c.deref_mut.ensures.value, c.deref_mut-2.ensures.value, c.from.ensures, c.line_of-line.ensures.value, c.place_of-place.ensures.value) at c.swap.ensures.ok))
 
 pub returns-clause-refused : goal.returns-clause-refused
@@ -31,7 +32,7 @@ returns-clause-refused g c =
     let cs = with_items_is c.self.inside.caches c.swap.new.caches (search rules) in
     let ms = with_items_is c.self.inside.memory c.swap.new.memory (search rules) in
     rw (← c.self.view_is, cs, ms)
-    (write_refused (g.P.Protocol.table c.self.inside.protocol) c.self.inside.shape c.self.inside.locations c.self.inside.caches.items c.swap.new.caches c.self.inside.memory.items c.swap.new.memory c.args.core.0 c.args.loc.0 c.swap.result
+    (write_refused (g.P.Protocol.table c.self.inside.protocol) c.self.inside.shape c.self.inside.locations c.self.inside.caches.items c.swap.new.caches c.self.inside.memory.items c.swap.new.memory c.self.inside.held c.args.core.0 c.args.loc.0 c.swap.result
     (rw (c.deref_mut.ensures.value, c.from.ensures, c.line_of-line.ensures.value) at c.swap.ensures.succeeds)
     (rw c.deref_mut.ensures.value at c.swap.ensures.err_caches) (rw c.deref_mut-2.ensures.value at c.swap.ensures.err_memory))
 
@@ -39,9 +40,14 @@ pub invariant_of-self : goal.invariant_of-self
 invariant_of-self g c =
     let cs = with_items_is c.self.inside.caches c.swap.new.caches (search rules) in
     let ms = with_items_is c.self.inside.memory c.swap.new.memory (search rules) in
-    let within : c.args.loc.0 < c.self.inside.locations = loc_in c.self.inside.shape.words c.self.inside.locations c.self.inside.caches.items c.self.inside.memory.items c.args.loc.0 (rw (← c.self.view_is) at c.requires.loc) in
+    let within : c.args.loc.0 < c.self.inside.locations = loc_in c.self.inside.shape.words c.self.inside.locations (counted c.self.inside.held c.self.inside.caches.items) c.self.inside.memory.items c.args.loc.0 (rw (← c.self.view_is) at c.requires.loc) in
     rw (cs, ms)
-    (bus-written (g.P.Protocol.table c.self.inside.protocol) (λ (w : ℕ). c.args.value) c.swap.result c.self.inside.shape c.self.inside.locations c.self.inside.caches.items c.swap.new.caches c.self.inside.memory.items c.swap.new.memory c.args.core.0 c.args.loc.0 c.self.invariant (search rules) within
-    c.swap.ensures.coherent (rw c.deref_mut.ensures.value at c.swap.ensures.ways)
+    (bus-written (g.P.Protocol.table c.self.inside.protocol) c.self.inside.held (λ (w : ℕ). c.args.value) c.swap.result c.self.inside.shape c.self.inside.locations c.self.inside.caches.items c.swap.new.caches c.self.inside.memory.items c.swap.new.memory c.args.core.0 c.args.loc.0 c.self.invariant (search rules) within
+    c.swap.ensures.coherent c.swap.ensures.awaited (rw c.deref_mut.ensures.value at c.swap.ensures.ways)
     (rw (c.deref_mut.ensures.value, c.deref_mut-2.ensures.value, c.from.ensures, c.line_of-line.ensures.value, c.place_of-place.ensures.value) at c.swap.ensures.ok)
     (rw c.deref_mut.ensures.value at c.swap.ensures.err_caches) (rw c.deref_mut-2.ensures.value at c.swap.ensures.err_memory))
+
+pub swap-requires-clause-free : goal.swap-requires-clause-free
+swap-requires-clause-free g c =
+    rw (c.deref_mut.ensures.value, c.from.ensures, c.line_of-line.ensures.value)
+    (free_or_hit (g.P.Protocol.table c.self.inside.protocol) c.self.inside.shape c.self.inside.locations c.self.inside.caches.items c.self.inside.memory.items c.self.inside.held c.args.core.0 c.args.loc.0 true (rw (← c.self.view_is) at c.requires.free))

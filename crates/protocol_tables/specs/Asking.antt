@@ -1,0 +1,21 @@
+-- What a line is in between its core's request and the words' coming in. (Primer, chapter 7.)
+use Rattle.std.specs.Prelude.{Option, Some, None}
+use Rattle.protocol_tables.specs.declared.state.State.{State}
+use Rattle.protocol_tables.specs.declared.state.State.TheVariants.{I, S, E, O, M}
+use Rattle.protocol_tables.specs.declared.asking.Request.{Request}
+use Rattle.protocol_tables.specs.declared.asking.Request.TheVariants.{GetS, GetM}
+use Rattle.protocol_tables.specs.declared.asking.Transient.{Transient}
+use Rattle.protocol_tables.specs.declared.asking.Transient.TheVariants.{IsD, ImD, SmD}
+
+-- a reader asks where it has no copy, a writer also where its copy is in S or O
+abbrev pub transient_of : State → Request → Option Transient
+transient_of I GetS = Some IsD
+transient_of S GetS = None
+transient_of E GetS = None
+transient_of O GetS = None
+transient_of M GetS = None
+transient_of I GetM = Some ImD
+transient_of S GetM = Some SmD
+transient_of O GetM = Some SmD
+transient_of E GetM = None
+transient_of M GetM = None

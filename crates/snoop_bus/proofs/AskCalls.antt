@@ -1,0 +1,57 @@
+-- What an ask does, in the bus's own words.
+use Rattle.std.proofs.Common.{◌≡◌, ℕ, ◌*◌, ◌/◌, ◌<◌, ◌≤◌, Bool, Option, Some, None, option_map, List, length, refl, sym, ap, ◌∙◌}
+use Rattle.tso_model.specs.declared.instruction.Core.{Core}
+use Rattle.tso_model.specs.declared.instruction.Loc.{Loc}
+use Rattle.protocol_tables.specs.Tables.{Table}
+use Rattle.protocol_tables.specs.declared.asking.Request.{Request}
+use Rattle.protocol_tables.specs.declared.asking.Transient.{Transient}
+use Rattle.snoop_bus.specs.declared.holding.Held.{Held}
+use Rattle.snoop_bus.specs.Geometry.{Geometry}
+use Rattle.snoop_bus.specs.Lines.{Words}
+use Rattle.snoop_bus.specs.Rows.{rows_of, table_of}
+use Rattle.snoop_bus.specs.CacheContents.{TagSets}
+use Rattle.snoop_bus.specs.Copies.{Sets, tags_of}
+use Rattle.snoop_bus.specs.Held.{counted, held_by, stage_for}
+use Rattle.snoop_bus.specs.Bus.{seen}
+use Rattle.snoop_bus.specs.Requests.{KeepsWords}
+use Rattle.snoop_bus.specs.Asks.{awaiting, transacting, asked_for, request_for, transaction_of, asking, asked_caches, asked_memory, awaited_in}
+use Rattle.snoop_bus.specs.Accesses.{AsksFor}
+use Rattle.snoop_bus.proofs.RowLemmas.{table_of-rows}
+use Rattle.snoop_bus.proofs.WordLemmas.{words-same}
+use Rattle.snoop_bus.proofs.CallLemmas.{bus}
+
+-- what a transaction awaits goes by the lines and states alone
+awaited-for : (t : Table) (request : Request) (core line : ℕ) (words : Words) (caches : List TagSets) →
+    awaited_in (transaction_of t request core line words caches) ≡ option_map (awaiting t request line caches) (asked_for request core line caches)
+unfolding transacting awaiting
+awaited-for t request core line words caches = by_transient (asked_for request core line caches)
+  where
+    by_transient : (o : Option Transient) → awaited_in (option_map (transacting t request line words caches) o) ≡ option_map (awaiting t request line caches) o
+    by_transient None = refl
+    by_transient (Some x) = refl
+
+module _ (t : Table) (shape : Geometry) (locations : ℕ) (c0 c2 : List Sets) (m0 m2 : List Words) (core : Core) (loc : Loc) where
+  abbrev line : ℕ
+  line = loc.0 / shape.words
+
+  back : t ≡ table_of (rows_of t)
+  back = sym (table_of-rows t)
+
+  -- the steps of an ask
+  pub record AskSteps (write : Bool) (h : Held) : Type 0 where
+    pub some_word : 0 < shape.words
+    pub enough : locations ≤ length m0 * shape.words
+    pub exact : h ≡ held_by core loc (stage_for write) line (transaction_of t (request_for write) core.0 line (seen c0 m0 line) (tags_of c0))
+    pub tags : tags_of c2 ≡ asked_caches t (request_for write) core.0 line (tags_of c0)
+    pub memory : m2 ≡ asked_memory t (request_for write) line c0 m0
+    pub words : KeepsWords c0 (counted (Some h) c2) m0 m2
+
+  pub ask_done : (write : Bool) (h : Held) → AskSteps write h → AsksFor (bus t shape locations c0 m0 None) (bus t shape locations c2 m2 (Some h)) core loc write
+  ask_done write h s = record {
+    words = words-same shape.words locations (length m0) (seen c0 m0) (seen (counted (Some h) c2) m2) s.some_word s.enough s.words.words;
+    holder_is = rw s.exact refl;
+    awaited_is = ap (λ (x : Held). awaited_in x.transaction) s.exact ∙ awaited-for t (request_for write) core.0 line (seen c0 m0 line) (tags_of c0)
+        ∙ ap (λ (u : Table). (asking u (request_for write) core.0 line (tags_of c0)).awaited) back;
+    contents = s.tags ∙ ap (λ (u : Table). (asking u (request_for write) core.0 line (tags_of c0)).caches) back;
+    memory = s.memory ∙ ap (λ (u : Table). asked_memory u (request_for write) line c0 m0) back;
+  }

@@ -1,0 +1,73 @@
+-- The copies that count while the bus is held.
+use Rattle.std.proofs.lemmas.Bool.{cases_eq}
+use Rattle.std.proofs.lemmas.List.{get_or-set_same, get_or-set_other, length-set, length-map}
+use Rattle.std.proofs.Math.ListN.{get_or-map}
+use Rattle.std.proofs.Math.Seq.{map-set_same}
+use Rattle.std.proofs.Common.{arith, ◌≡◌, ◌≢◌, ◌⊎◌, inl, inr, ℕ, ◌<◌, ◌%◌, Bool, true, false, ◌&&◌, not, nat_eq, Some, List, [], length, map, refl, sym, ap, ◌∙◌, slice_index_or, if◌then◌else◌}
+use Rattle.protocol_tables.specs.declared.state.State.{State}
+use Rattle.protocol_tables.specs.declared.state.Snoop.{Snoop}
+use Rattle.cache_set.specs.declared.Line.{Line}
+use Rattle.cache_set.specs.Contents.{Contents, contents, copy_of}
+use Rattle.snoop_bus.specs.Copies.{Sets, set_at, in_set, copy_in, copy_at, cache_of, ways_of}
+use Rattle.snoop_bus.specs.Held.{with_copy, counting}
+use Rattle.snoop_bus.specs.Requests.{left_by, LeftByOthers, ChangesCopy}
+use Rattle.snoop_bus.proofs.Numbers.{differ, itself}
+use Rattle.snoop_bus.proofs.SeenLemmas.{copy_at-set}
+use Rattle.snoop_bus.proofs.UseLemmas.{ways-set_cache}
+
+-- what is found in a core's sets once the copy counts
+pub copy_in-with : (sets : Sets) (line k : ℕ) (copy : Line) → 0 < length sets →
+    copy_in (in_set line (with_copy line copy) sets) k ≡ (if nat_eq k line then Some copy else copy_in sets k)
+copy_in-with sets line k copy some =
+    let size : length (in_set line (with_copy line copy) sets) ≡ length sets = length-set sets (line % length sets) (with_copy line copy (set_at sets line)) in
+    rw size (by_set size (cases_eq (k % length sets) (line % length sets)))
+  where
+    by_set : length (in_set line (with_copy line copy) sets) ≡ length sets → (k % length sets ≡ line % length sets) ⊎ (k % length sets ≢ line % length sets) →
+        copy_of (slice_index_or (in_set line (with_copy line copy) sets) (k % length sets) (contents [] 1)) k ≡ (if nat_eq k line then Some copy else copy_in sets k)
+    by_set size (inl p) =
+        let within : line % length sets < length sets = omega arith in
+        rw (p, get_or-set_same sets (line % length sets) (with_copy line copy (set_at sets line)) (contents [] 1) within) refl
+    by_set size (inr p) =
+        let other : nat_eq k line ≡ false = differ k line (λ e. p (ap (λ (n : ℕ). n % length sets) e)) in
+        rw (other, get_or-set_other sets (line % length sets) (k % length sets) (with_copy line copy (set_at sets line)) (contents [] 1) p) refl
+
+pub counting-at : (caches : List Sets) (core line : ℕ) (copy : Line) (i k : ℕ) → core < length caches → 0 < length (cache_of caches core) →
+    copy_at (counting core line copy caches) i k ≡ (if nat_eq i core && nat_eq k line then Some copy else copy_at caches i k)
+counting-at caches core line copy i k within some =
+    copy_at-set caches core (in_set line (with_copy line copy) (cache_of caches core)) i k within ∙ by_core (cases_eq i core)
+  where
+    by_core : (i ≡ core) ⊎ (i ≢ core) → (if nat_eq i core then copy_in (in_set line (with_copy line copy) (cache_of caches core)) k else copy_at caches i k)
+        ≡ (if nat_eq i core && nat_eq k line then Some copy else copy_at caches i k)
+    by_core (inl p) = rw (p, itself core) (copy_in-with (cache_of caches core) line k copy some)
+    by_core (inr p) = let e : nat_eq i core ≡ false = differ i core p in rw e refl
+
+pub ways-counting : (caches : List Sets) (core line : ℕ) (copy : Line) → ways_of (counting core line copy caches) ≡ ways_of caches
+ways-counting caches core line copy = ways-set_cache caches core (in_set line (with_copy line copy) (cache_of caches core))
+    (map-set_same (λ (s : Contents). s.ways) (cache_of caches core) (line % length (cache_of caches core)) (with_copy line copy (set_at (cache_of caches core) line)) (contents [] 1) refl)
+
+-- the others see a request for the line, whether or not the core's own copy counts yet
+pub left-counting : (on : State → Snoop) (core line : ℕ) (copy : Line) (c0 c1 : List Sets) → core < length c0 → core < length c1 → 0 < length (cache_of c0 core) → 0 < length (cache_of c1 core) →
+    LeftByOthers on core line c0 c1 → LeftByOthers on core line (counting core line copy c0) (counting core line copy c1)
+left-counting on core line copy c0 c1 in0 in1 some0 some1 left i k =
+    rw (counting-at c0 core line copy i k in0 some0, counting-at c1 core line copy i k in1 some1, left i k) (by_tests (nat_eq i core) (nat_eq k line))
+  where
+    by_tests : (a b : Bool) →
+        (if a && b then Some copy else (if not a && b then left_by on (copy_at c0 i k) else copy_at c0 i k))
+        ≡ (if not a && b then left_by on (if a && b then Some copy else copy_at c0 i k) else (if a && b then Some copy else copy_at c0 i k))
+    by_tests true true = refl
+    by_tests true false = refl
+    by_tests false true = refl
+    by_tests false false = refl
+
+pub counting-changes : (core line : ℕ) (copy : Line) (caches : List Sets) → core < length caches → 0 < length (cache_of caches core) →
+    ChangesCopy core line (Some copy) caches (counting core line copy caches)
+counting-changes core line copy caches within some i k = counting-at caches core line copy i k within some
+
+-- as many sets, where each has the room that it had
+pub same_sets : (c0 c1 : List Sets) (core : ℕ) → ways_of c1 ≡ ways_of c0 → 0 < length (cache_of c0 core) → 0 < length (cache_of c1 core)
+same_sets c0 c1 core same some =
+    let sized : length (cache_of c1 core) ≡ length (cache_of c0 core) = sym (sets c1) ∙ ap (λ (l : List (List ℕ)). length (slice_index_or l core [])) same ∙ sets c0 in
+    rw sized some
+  where
+    sets : (c : List Sets) → length (slice_index_or (ways_of c) core []) ≡ length (cache_of c core)
+    sets c = ap length (get_or-map (map (λ (s : Contents). s.ways)) c core []) ∙ length-map (cache_of c core) (λ (s : Contents). s.ways)

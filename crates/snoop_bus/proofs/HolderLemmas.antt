@@ -1,0 +1,121 @@
+-- What the action that holds the bus tells of all copies of its line.
+use Rattle.std.proofs.Common.{◌≡◌, ◌≢◌, ℕ, ◌<◌, ◌/◌, Bool, true, false, Option, Some, None, IfSome, option_map, List, length, refl, sym, ap, ◌∙◌}
+use Rattle.tso_model.specs.declared.instruction.Core.{Core}
+use Rattle.tso_model.specs.declared.instruction.Loc.{Loc}
+use Rattle.protocol_tables.specs.Laws.{in_place}
+use Rattle.protocol_tables.specs.Tables.{Table}
+use Rattle.protocol_tables.specs.declared.state.State.TheVariants.{M}
+use Rattle.cache_set.specs.declared.Line.{Line}
+use Rattle.snoop_bus.specs.Geometry.{Geometry}
+use Rattle.snoop_bus.specs.Lines.{Words}
+use Rattle.snoop_bus.specs.Coherent.{Coherent, state_of}
+use Rattle.snoop_bus.specs.Copies.{Sets, copy_at, cache_of, tags_of}
+use Rattle.snoop_bus.specs.Bus.{AllCoherent}
+use Rattle.snoop_bus.specs.declared.holding.Held.{Held}
+use Rattle.snoop_bus.specs.declared.holding.Holder.{Holder}
+use Rattle.snoop_bus.specs.declared.holding.Stage.{Stage}
+use Rattle.snoop_bus.specs.declared.holding.Stage.TheVariants.{Load, Write, Locked}
+use Rattle.snoop_bus.specs.declared.holding.Transaction.{Transaction}
+use Rattle.snoop_bus.specs.Held.{counting, counted, IsHeld, IsPlaced, Awaits, holder, held_by, holder_in}
+use Rattle.snoop_bus.specs.Asks.{hits, hit_in}
+use Rattle.snoop_bus.proofs.Numbers.{differ, itself}
+use Rattle.snoop_bus.proofs.Coherence.{alone}
+use Rattle.snoop_bus.proofs.AccessLemmas.{tag_here}
+use Rattle.snoop_bus.proofs.HeldLemmas.{counting-at}
+use Rattle.snoop_bus.proofs.AcquireAsked.{kept_m}
+use Rattle.snoop_bus.proofs.UpgradeAsk.{hits-absent}
+
+-- where a core has M or E, no other core has the line
+placed_alone : (caches : List Sets) (w m : Words) (core line i : ℕ) → Coherent w m (λ i. copy_at caches i line) → in_place (state_of (copy_at caches core line)) ≡ Some M → i ≢ core → copy_at caches i line ≡ None
+placed_alone caches w m core line i h writes d = by_copy (copy_at caches core line) refl writes
+  where
+    by_copy : (o : Option Line) → copy_at caches core line ≡ o → in_place (state_of o) ≡ Some M → copy_at caches i line ≡ None
+    by_copy None e w = cc
+    by_copy (Some copy) e w = alone _ _ core (λ i. copy_at caches i line) copy h e w i d
+
+-- from the ask for a write access to its end no other core has the line
+pub held_alone : (caches : List Sets) (memory : List Words) (h : Held) (i : ℕ) → AllCoherent (counted (Some h) caches) memory → IsHeld caches memory h → h.holder.stage ≢ Load → i ≢ h.holder.core.0 → copy_at caches i h.line ≡ None
+held_alone caches memory h i coherent held writes d = by_stage h.holder.stage refl h.transaction refl held.awaits
+  where
+    core : ℕ
+    core = h.holder.core.0
+
+    line : ℕ
+    line = h.line
+
+    by_stage : (s : Stage) → h.holder.stage ≡ s → (x : Option Transaction) → h.transaction ≡ x → Awaits s x (copy_at caches h.holder.core.0 h.line) → copy_at caches i h.line ≡ None
+    by_stage Load e x f a = absurd (writes e)
+    by_stage Locked e None f a =
+        let real : AllCoherent caches memory = rw f at coherent in
+        placed_alone caches _ _ h.holder.core.0 h.line i (real.each h.line held.line_in) (rw a refl) d
+    by_stage Locked e (Some x) f a = absurd a
+    by_stage Write e None f a =
+        let real : AllCoherent caches memory = rw f at coherent in
+        placed_alone caches _ _ h.holder.core.0 h.line i (real.each h.line held.line_in) a d
+    by_stage Write e (Some x) f a =
+        let counts : AllCoherent (counting h.holder.core.0 h.line x.copy caches) memory = rw f at coherent in
+        let here = counting-at caches h.holder.core.0 h.line x.copy h.holder.core.0 h.line held.core_in held.some_set in
+        let kept : copy_at (counting h.holder.core.0 h.line x.copy caches) h.holder.core.0 h.line ≡ Some x.copy = rw (itself h.holder.core.0, itself h.line) at here in
+        let there = counting-at caches h.holder.core.0 h.line x.copy i h.line held.core_in held.some_set in
+        let same : copy_at (counting h.holder.core.0 h.line x.copy caches) i h.line ≡ copy_at caches i h.line = rw (differ i h.holder.core.0 d) at there in
+        let m : x.copy.state ≡ M = kept_m x (copy_at caches h.holder.core.0 h.line) a in
+        sym same ∙ placed_alone (counting h.holder.core.0 h.line x.copy caches) _ _ h.holder.core.0 h.line i (counts.each h.line held.line_in) (rw (kept, m) refl) d
+
+abbrev core_of : ℕ → Core
+core_of n = record { 0 = n }
+
+-- so no access of another core to it would be a hit
+pub taken : (t : Table) (locations : ℕ) (shape : Geometry) (caches : List Sets) (memory : List Words) (held : Option Held) (core : Core) (loc : Loc) (write : Bool) → AllCoherent (counted held caches) memory →
+    IfSome held (IsHeld caches memory) → IfSome held (IsPlaced shape locations) →
+    IfSome (holder_in held) (λ h. h.loc.0 / shape.words ≡ loc.0 / shape.words → h.stage ≢ Load → h.core ≢ core → hits t core.0 (loc.0 / shape.words) write (tags_of caches) ≡ false)
+taken t locations shape caches memory None core loc write coherent held placed = tt
+taken t locations shape caches memory (Some h) core loc write coherent held placed = λ at writes other.
+    let line : h.line ≡ loc.0 / shape.words = placed.line_is ∙ at in
+    let none : copy_at caches core.0 h.line ≡ None = held_alone caches memory h core.0 coherent held writes (λ e. other (ap core_of (sym e))) in
+    sym (hits-absent t caches core.0 (loc.0 / shape.words) write (rw line at none))
+
+-- what is no hit of a load isn't there
+pub not_here : (t : Table) (caches : List Sets) (core line : ℕ) → hits t core line false (tags_of caches) ≡ false → copy_at caches core line ≡ None
+not_here t caches core line misses = by_copy (copy_at caches core line) refl
+  where
+    by_copy : (o : Option Line) → copy_at caches core line ≡ o → copy_at caches core line ≡ None
+    by_copy None e = e
+    by_copy (Some copy) e =
+        let yes : hits t core line false (tags_of caches) ≡ true = ap (hit_in t false) (tag_here caches core line ∙ ap (option_map (λ copy. copy.state)) e) in
+        cc
+
+-- nobody holds the bus
+pub free-held : (held : Option Held) → holder_in held ≡ None → held ≡ None
+free-held None e = refl
+free-held (Some h) e = cc
+
+-- what a core's action that holds the bus has
+pub record Holds (caches : List Sets) (memory : List Words) (shape : Geometry) (locations : ℕ) (core : Core) (loc : Loc) (stage : Stage) (held : Option Held) (x : Option Transaction) : Type 0 where
+  pub held_is : held ≡ Some (held_by core loc stage (loc.0 / shape.words) x)
+  pub core_in : core.0 < length caches
+  pub loc_in : loc.0 < locations
+  pub within : loc.0 / shape.words < length memory
+  pub some_set : 0 < length (cache_of caches core.0)
+  pub awaits : Awaits stage x (copy_at caches core.0 (loc.0 / shape.words))
+
+pub holds : (caches : List Sets) (memory : List Words) (shape : Geometry) (locations : ℕ) (core : Core) (loc : Loc) (stage : Stage) (held : Option Held) → holder_in held ≡ Some (holder core loc stage) →
+    IfSome held (IsHeld caches memory) → IfSome held (IsPlaced shape locations) → (x : Option Transaction) × Holds caches memory shape locations core loc stage held x
+holds caches memory shape locations core loc stage None e held placed = cc
+holds caches memory shape locations core loc stage (Some h) e held placed =
+    let is : h.holder ≡ holder core loc stage = cc in
+    let line : h.line ≡ loc.0 / shape.words = placed.line_is ∙ ap (λ (x : Holder). x.loc.0 / shape.words) is in (
+      h.transaction,
+      record {
+        held_is = rw (← is, ← line) refl;
+        core_in = rw is at held.core_in;
+        loc_in = rw is at placed.loc_in;
+        within = rw line at held.line_in;
+        some_set = rw is at held.some_set;
+        awaits = rw (is, line) at held.awaits;
+      },
+    )
+
+-- a locked instruction that has read has its line in M, and the bus keeps nothing
+pub locked_real : (x : Option Transaction) (own : Option Line) → Awaits Locked x own → (x ≡ None) × (state_of own ≡ M)
+locked_real None own a = (refl, a)
+locked_real (Some x) own a = absurd a

@@ -1,0 +1,161 @@
+-- An ask for a write access to a line that the core has.
+use Rattle.std.proofs.Common.{◌≡◌, ◌≢◌, ◌⊎◌, inl, inr, ℕ, ◌<◌, Bool, true, false, not, IsTrue, IsSome, is_some, Option, Some, None, option_map, List, length, refl, sym, ap, ◌∙◌}
+use Rattle.tso_model.specs.declared.instruction.Core.{Core}
+use Rattle.tso_model.specs.declared.instruction.Loc.{Loc}
+use Rattle.protocol_tables.specs.Laws.{GivesUp}
+use Rattle.protocol_tables.specs.Tables.{Table}
+use Rattle.protocol_tables.specs.Asking.{transient_of}
+use Rattle.protocol_tables.specs.declared.state.State.{State}
+use Rattle.protocol_tables.specs.declared.state.State.TheVariants.{I, M}
+use Rattle.protocol_tables.specs.declared.asking.Request.TheVariants.{GetS, GetM}
+use Rattle.protocol_tables.specs.declared.asking.Transient.{Transient}
+use Rattle.protocol_tables.specs.declared.asking.Transient.TheVariants.{IsD, ImD}
+use Rattle.cache_set.specs.declared.Line.{Line}
+use Rattle.cache_set.specs.Copy.{copy_with, with_state}
+use Rattle.snoop_bus.specs.Lines.{Words}
+use Rattle.snoop_bus.specs.Coherent.{state_of}
+use Rattle.snoop_bus.specs.CacheContents.{TagSets, requested}
+use Rattle.snoop_bus.specs.Copies.{Sets, copy_at, cache_of, tags_of, ways_of}
+use Rattle.snoop_bus.specs.Bus.{seen, AllCoherent}
+use Rattle.snoop_bus.specs.Requests.{LeftByOthers, ChangesCopy, KeepsWords}
+use Rattle.snoop_bus.specs.declared.holding.Held.{Held}
+use Rattle.snoop_bus.specs.declared.holding.Transaction.{Transaction}
+use Rattle.snoop_bus.specs.declared.holding.Stage.{Stage}
+use Rattle.snoop_bus.specs.declared.holding.Stage.TheVariants.{Load, Write}
+use Rattle.snoop_bus.specs.Held.{counting, Awaits, IsHeld, held_by, stage_for}
+use Rattle.snoop_bus.specs.Asks.{hits, hit_in, request_for, asked_for, asked_caches, transacting, transaction_of, or_invalid}
+use Rattle.snoop_bus.proofs.Numbers.{itself}
+use Rattle.snoop_bus.proofs.NewLemmas.{same_cores}
+use Rattle.snoop_bus.proofs.AccessLemmas.{tag_here}
+use Rattle.snoop_bus.proofs.HeldLemmas.{counting-changes, ways-counting, same_sets}
+use Rattle.snoop_bus.proofs.WriteLemmas.{upgrade_owned}
+use Rattle.snoop_bus.proofs.OwnLemmas.{Owned, owned-coherent}
+use Rattle.snoop_bus.proofs.HitLemmas.{same_words}
+
+-- what is asked for goes by the core's own copy
+pub asked_by-copy : (caches : List Sets) (core line : ℕ) → asked_for GetM core line (tags_of caches) ≡ transient_of (state_of (copy_at caches core line)) GetM
+asked_by-copy caches core line = ap (λ (o : Option State). transient_of (or_invalid o) GetM) (tag_here caches core line) ∙ by_copy (copy_at caches core line)
+  where
+    by_copy : (o : Option Line) → transient_of (or_invalid (option_map (λ copy. copy.state) o)) GetM ≡ transient_of (state_of o) GetM
+    by_copy None = refl
+    by_copy (Some copy) = refl
+
+pub asked_by-found : (caches : List Sets) (core line : ℕ) (copy : Line) → copy_at caches core line ≡ Some copy → asked_for GetM core line (tags_of caches) ≡ transient_of copy.state GetM
+asked_by-found caches core line copy found = asked_by-copy caches core line ∙ rw found refl
+
+pub asked_by-absent : (caches : List Sets) (core line : ℕ) → copy_at caches core line ≡ None → asked_for GetM core line (tags_of caches) ≡ Some ImD
+asked_by-absent caches core line absent = asked_by-copy caches core line ∙ rw absent refl
+
+-- one that misses asks for all
+pub miss-awaits : (t : Table) (core line : ℕ) (words : Words) (tags : List TagSets) (own : Option Line) (x : Transaction) → x ≡ transacting t GetM line words tags ImD → own ≡ None → Awaits Write (Some x) own
+unfolding transacting
+miss-awaits t core line words tags own x e absent = rw e (λ p. cc, (absent, refl))
+
+module _ (t : Table) (gives : GivesUp t.on_get_m) (c0 c1 : List Sets) (m : List Words) (core line : ℕ) (copy : Line) (x : Transient) where
+  -- the steps of an upgrade's ask
+  pub record UpgradeAsk : Type 0 where
+    pub coherent : AllCoherent c0 m
+    pub core_in : core < length c0
+    pub some_set : 0 < length (cache_of c0 core)
+    pub within : line < length m
+    pub found : copy_at c0 core line ≡ Some copy
+    pub asks : transient_of copy.state GetM ≡ Some x
+    pub left : LeftByOthers t.on_get_m core line c0 c1
+    pub tags : tags_of c1 ≡ requested t.on_get_m core line (tags_of c0)
+    pub ways : ways_of c1 ≡ ways_of c0
+
+  module _ (h : UpgradeAsk) where
+    valid : copy.state ≢ I
+    valid = (h.coherent.each line h.within).valid core copy h.found
+
+    words : copy.words ≡ seen c0 m line
+    words = (h.coherent.each line h.within).same core copy h.found
+
+    pub upgrade_ask-transaction : Some (record { transient = x; copy = copy_with M copy.words; flushed = None }) ≡ transaction_of t GetM core line (seen c0 m line) (tags_of c0)
+    unfolding transacting
+    upgrade_ask-transaction = rw (asked_by-found c0 core line copy h.found, h.asks, words) refl
+
+    pub upgrade_ask-tags : tags_of c1 ≡ asked_caches t GetM core line (tags_of c0)
+    upgrade_ask-tags = h.tags ∙ rw (asked_by-found c0 core line copy h.found, h.asks) refl
+
+    still : copy_at c1 core line ≡ Some copy
+    still = let same : copy_at c1 core line ≡ copy_at c0 core line = rw (itself core) at (h.left core line) in same ∙ h.found
+
+    pub upgrade_ask-words : KeepsWords c0 (counting core line (copy_with M copy.words) c1) m m
+    upgrade_ask-words = record {
+      coherent = owned-coherent c0 (counting core line (copy_with M copy.words) c1) m core line (seen c0 m line) owned;
+      words = same_words c0 (counting core line (copy_with M copy.words) c1) m core line owned;
+      ways = ways-counting c1 core line (copy_with M copy.words) ∙ h.ways;
+    }
+      where
+        changes : ChangesCopy core line (option_map (with_state M) (copy_at c1 core line)) c1 (counting core line (copy_with M copy.words) c1)
+        changes = rw still (counting-changes core line (copy_with M copy.words) c1 (rw (same_cores c0 c1 h.ways) h.core_in) (same_sets c0 c1 core h.ways h.some_set))
+
+        owned : Owned c0 (counting core line (copy_with M copy.words) c1) m core line (seen c0 m line)
+        owned = upgrade_owned t.on_get_m gives c0 c1 (counting core line (copy_with M copy.words) c1) m core line copy h.coherent h.within h.found h.left changes
+
+-- a load asks where there is no copy
+pub load_asks : (caches : List Sets) (core line : ℕ) → copy_at caches core line ≡ None → asked_for GetS core line (tags_of caches) ≡ Some IsD
+load_asks caches core line absent = ap (λ (o : Option State). transient_of (or_invalid o) GetS) (tag_here caches core line ∙ ap (option_map (λ copy. copy.state)) absent)
+
+pub load_ask-exact : (t : Table) (caches : List Sets) (m : List Words) (core : Core) (loc : Loc) (line : ℕ) (write : Bool) (x : Transaction) → write ≡ false → copy_at caches core.0 line ≡ None →
+    x ≡ transacting t GetS line (seen caches m line) (tags_of caches) IsD →
+    held_by core loc Load line (Some x) ≡ held_by core loc (stage_for write) line (transaction_of t (request_for write) core.0 line (seen caches m line) (tags_of caches))
+load_ask-exact t caches m core loc line write x e absent is = rw (e, load_asks caches core.0 line absent, is) refl
+
+pub load_ask-tags : (t : Table) (caches : List Sets) (core line : ℕ) (write : Bool) (new : List TagSets) → write ≡ false → copy_at caches core line ≡ None →
+    new ≡ requested t.on_get_s core line (tags_of caches) → new ≡ asked_caches t (request_for write) core line (tags_of caches)
+load_ask-tags t caches core line write new e absent is = is ∙ rw (e, load_asks caches core line absent) refl
+
+pub load_ask-awaits : (t : Table) (line : ℕ) (words : Words) (tags : List TagSets) (own : Option Line) (x : Transaction) → x ≡ transacting t GetS line words tags IsD → own ≡ None → Awaits Load (Some x) own
+unfolding transacting
+load_ask-awaits t line words tags own x e absent = rw e (refl, absent)
+
+-- what then holds the bus
+pub now_held : (c0 c1 : List Sets) (m0 m1 : List Words) (core : Core) (loc : Loc) (stage : Stage) (line : ℕ) (x : Option Transaction) → ways_of c1 ≡ ways_of c0 → core.0 < length c0 → 0 < length (cache_of c0 core.0) → line < length m0 → length m1 ≡ length m0 →
+    Awaits stage x (copy_at c1 core.0 line) → IsHeld c1 m1 (held_by core loc stage line x)
+now_held c0 c1 m0 m1 core loc stage line x ways within some line_in size awaits = record {
+  core_in = rw (same_cores c0 c1 ways) within;
+  line_in = rw size line_in;
+  some_set = same_sets c0 c1 core.0 ways some;
+  awaits = awaits;
+}
+
+-- which accesses would be hits
+pub hits-absent : (t : Table) (caches : List Sets) (core line : ℕ) (write : Bool) → copy_at caches core line ≡ None → false ≡ hits t core line write (tags_of caches)
+hits-absent t caches core line write absent = sym (ap (hit_in t write) (tag_here caches core line ∙ ap (option_map (λ copy. copy.state)) absent))
+
+pub hits-found : (t : Table) (caches : List Sets) (core line : ℕ) (write : Bool) (copy : Line) → copy_at caches core line ≡ Some copy → hits t core line write (tags_of caches) ≡ hit_in t write (Some copy.state)
+hits-found t caches core line write copy found = ap (hit_in t write) (tag_here caches core line ∙ ap (option_map (λ copy. copy.state)) found)
+
+pub hits-read : (t : Table) (caches : List Sets) (core line : ℕ) (write : Bool) (copy : Line) → copy_at caches core line ≡ Some copy → write ≡ false → not write ≡ hits t core line write (tags_of caches)
+hits-read t caches core line true copy found e = cc
+hits-read t caches core line false copy found e = sym (hits-found t caches core line false copy found)
+
+pub hits-write : (t : Table) (caches : List Sets) (core line : ℕ) (write : Bool) (copy : Line) (placed : Bool) → copy_at caches core line ≡ Some copy → write ≡ true → placed ≡ is_some (t.written copy.state) → placed ≡ hits t core line write (tags_of caches)
+hits-write t caches core line true copy placed found e is = is ∙ sym (hits-found t caches core line true copy found)
+hits-write t caches core line false copy placed found e is = cc
+
+-- what is no hit has the bus to itself
+pub alone_found : (t : Table) (held : Option Held) (caches : List Sets) (core line : ℕ) (copy : Line) → (held ≡ None) ⊎ IsTrue (hits t core line true (tags_of caches)) → copy_at caches core line ≡ Some copy → t.written copy.state ≡ None → held ≡ None
+alone_found t held caches core line copy (inl e) found writes = e
+alone_found t held caches core line copy (inr e) found writes =
+    let misses : hits t core line true (tags_of caches) ≡ false = hits-found t caches core line true copy found ∙ ap (λ (o : Option State). is_some o) writes in
+    let hit : hits t core line true (tags_of caches) ≡ true = e in
+    cc
+
+pub alone_absent : (t : Table) (held : Option Held) (caches : List Sets) (core line : ℕ) → (held ≡ None) ⊎ IsTrue (hits t core line true (tags_of caches)) → copy_at caches core line ≡ None → held ≡ None
+alone_absent t held caches core line (inl e) absent = e
+alone_absent t held caches core line (inr e) absent =
+    let misses : false ≡ hits t core line true (tags_of caches) = hits-absent t caches core line true absent in
+    let hit : hits t core line true (tags_of caches) ≡ true = e in
+    cc
+
+-- a load that hits has its copy
+pub free_load : (t : Table) (held : Option Held) (caches : List Sets) (core line : ℕ) → (held ≡ None) ⊎ IsTrue (hits t core line false (tags_of caches)) → (held ≡ None) ⊎ IsSome (copy_at caches core line)
+free_load t held caches core line (inl e) = inl e
+free_load t held caches core line (inr e) = by_copy (copy_at caches core line) refl
+  where
+    by_copy : (o : Option Line) → copy_at caches core line ≡ o → (held ≡ None) ⊎ IsSome (copy_at caches core line)
+    by_copy None f = let misses : false ≡ hits t core line false (tags_of caches) = hits-absent t caches core line false f in let hit : hits t core line false (tags_of caches) ≡ true = e in cc
+    by_copy (Some copy) f = inr (rw f refl)

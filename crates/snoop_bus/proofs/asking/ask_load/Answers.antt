@@ -1,0 +1,63 @@
+use Rattle.snoop_bus.specs.Lines.{line_in}
+use Rattle.snoop_bus.proofs.AskLemmas.{load_ask-transaction, load_ask-memory, load_ask-words}
+use Rattle.snoop_bus.proofs.asking.ask_load.Goals as goal
+
+pub returns-clause-transaction : goal.returns-clause-transaction
+returns-clause-transaction g c =
+    let t = g.P.Protocol.table c.args.protocol.now in
+    let p = c.args.protocol.now in
+    load_ask-transaction t (g.met.P.Protocol.fills_exclusive_only_alone p) (g.met.P.Protocol.shares p) (g.met.P.Protocol.cleans_by_memory p) (g.met.P.Protocol.supplies_to_readers p) (g.met.P.Protocol.writes_back_dirty p)
+    c.args.caches.now c.snoop_others.new.caches c.args.memory.now c.flush.new.memory c.args.core c.args.line c.unwrap_or-words.result c.filled-state.result c.find-found.result.flushed
+    (record {
+      coherent = c.requires.coherent;
+      core_in = c.requires.core;
+      some_set = c.requires.some_set;
+      within = c.requires.line;
+      absent = c.requires.absent;
+      words = rw (c.unwrap_or-words.ensures, c.from.ensures) (c.find-found.ensures.words (line_in c.args.memory.now c.args.line));
+      state = rw c.find-found.ensures.shared at c.filled-state.ensures;
+      left = c.snoop_others.ensures.copies;
+      ways = c.snoop_others.ensures.ways;
+      flusher = c.find-found.ensures.flushed;
+      memory = c.flush.ensures;
+    })
+
+pub returns-clause-memory : goal.returns-clause-memory
+returns-clause-memory g c =
+    let t = g.P.Protocol.table c.args.protocol.now in
+    let p = c.args.protocol.now in
+    load_ask-memory t (g.met.P.Protocol.fills_exclusive_only_alone p) (g.met.P.Protocol.shares p) (g.met.P.Protocol.cleans_by_memory p) (g.met.P.Protocol.supplies_to_readers p) (g.met.P.Protocol.writes_back_dirty p)
+    c.args.caches.now c.snoop_others.new.caches c.args.memory.now c.flush.new.memory c.args.core c.args.line c.unwrap_or-words.result c.filled-state.result c.find-found.result.flushed
+    (record {
+      coherent = c.requires.coherent;
+      core_in = c.requires.core;
+      some_set = c.requires.some_set;
+      within = c.requires.line;
+      absent = c.requires.absent;
+      words = rw (c.unwrap_or-words.ensures, c.from.ensures) (c.find-found.ensures.words (line_in c.args.memory.now c.args.line));
+      state = rw c.find-found.ensures.shared at c.filled-state.ensures;
+      left = c.snoop_others.ensures.copies;
+      ways = c.snoop_others.ensures.ways;
+      flusher = c.find-found.ensures.flushed;
+      memory = c.flush.ensures;
+    })
+
+pub returns-clause-words : goal.returns-clause-words
+returns-clause-words g c =
+    let t = g.P.Protocol.table c.args.protocol.now in
+    let p = c.args.protocol.now in
+    load_ask-words t (g.met.P.Protocol.fills_exclusive_only_alone p) (g.met.P.Protocol.shares p) (g.met.P.Protocol.cleans_by_memory p) (g.met.P.Protocol.supplies_to_readers p) (g.met.P.Protocol.writes_back_dirty p)
+    c.args.caches.now c.snoop_others.new.caches c.args.memory.now c.flush.new.memory c.args.core c.args.line c.unwrap_or-words.result c.filled-state.result c.find-found.result.flushed
+    (record {
+      coherent = c.requires.coherent;
+      core_in = c.requires.core;
+      some_set = c.requires.some_set;
+      within = c.requires.line;
+      absent = c.requires.absent;
+      words = rw (c.unwrap_or-words.ensures, c.from.ensures) (c.find-found.ensures.words (line_in c.args.memory.now c.args.line));
+      state = rw c.find-found.ensures.shared at c.filled-state.ensures;
+      left = c.snoop_others.ensures.copies;
+      ways = c.snoop_others.ensures.ways;
+      flusher = c.find-found.ensures.flushed;
+      memory = c.flush.ensures;
+    })

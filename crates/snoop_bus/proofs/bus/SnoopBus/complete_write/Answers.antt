@@ -1,0 +1,55 @@
+use Rattle.std.proofs.Common.{rules, ◌≡◌, ◌/◌, ◌%◌, ◌<◌, Option, Some, None, length, refl, ap, ◌∙◌}
+use Rattle.std.proofs.lemmas.List.{with_items_is}
+use Rattle.snoop_bus.specs.declared.holding.Stage.TheVariants.{Locked}
+use Rattle.snoop_bus.specs.declared.holding.Transaction.{Transaction}
+use Rattle.snoop_bus.specs.Lines.{words_in}
+use Rattle.snoop_bus.specs.Copies.{copy_at}
+use Rattle.snoop_bus.specs.Held.{held_by}
+use Rattle.snoop_bus.specs.Bus.{seen}
+use Rattle.snoop_bus.proofs.WordLemmas.{words-set}
+use Rattle.snoop_bus.proofs.LineLemmas.{length-line}
+use Rattle.snoop_bus.proofs.NewLemmas.{bus-set}
+use Rattle.snoop_bus.proofs.AcquireAsked.{locked_written}
+use Rattle.snoop_bus.proofs.HolderLemmas.{holds, locked_real}
+use Rattle.snoop_bus.proofs.bus.SnoopBus.complete_write.Goals as goal
+
+pub returns-clause-words : goal.returns-clause-words
+returns-clause-words g c =
+    let held = holds c.self.inside.caches.items c.self.inside.memory.items c.self.inside.shape c.self.inside.locations c.args.core c.args.loc Locked c.self.inside.held (rw (← c.self.view_is) at c.requires.holds) c.self.invariant.awaited c.self.invariant.placed in
+    let real = locked_real held.0 (copy_at c.self.inside.caches.items c.args.core.0 (c.args.loc.0 / c.self.inside.shape.words)) held.1.awaits in
+    let is : c.self.inside.held ≡ Some (held_by c.args.core c.args.loc Locked (c.args.loc.0 / c.self.inside.shape.words) None) = held.1.held_is ∙ ap (λ (x : Option Transaction). Some (held_by c.args.core c.args.loc Locked (c.args.loc.0 / c.self.inside.shape.words) x)) real.0 in
+    let was = rw is at c.self.invariant in
+    let cs = with_items_is c.self.inside.caches c.write.new.caches (search rules) in
+    let copies = rw (c.deref_mut.ensures.value, c.from.ensures, c.line_of-line.ensures.value, c.place_of-place.ensures.value) at c.write.ensures.copies in
+    let room : c.args.loc.0 % c.self.inside.shape.words < length (seen c.self.inside.caches.items c.self.inside.memory.items (c.args.loc.0 / c.self.inside.shape.words)) =
+    rw (was.lines (c.args.loc.0 / c.self.inside.shape.words) held.1.within, length-line c.self.inside.shape.words (words_in c.self.inside.shape.words (seen c.self.inside.caches.items c.self.inside.memory.items) c.self.inside.locations) (c.args.loc.0 / c.self.inside.shape.words)) (rw c.place_of-place.ensures.value at c.place_of-place.ensures.within) in
+    let sets = locked_written c.self.inside.caches.items c.write.new.caches c.self.inside.memory.items c.args.core.0 (c.args.loc.0 / c.self.inside.shape.words) (c.args.loc.0 % c.self.inside.shape.words) c.args.value was.coherent held.1.within room real.1 copies in
+    rw (← c.self.view_is, cs, is)
+    (words-set c.self.inside.shape.words c.self.inside.locations (length c.self.inside.memory.items) (seen c.self.inside.caches.items c.self.inside.memory.items) (seen c.write.new.caches c.self.inside.memory.items) c.args.loc.0 c.args.value
+    c.self.invariant.some_word c.self.invariant.enough_lines held.1.loc_in sets.place_in sets.lines)
+
+pub invariant_of-self : goal.invariant_of-self
+invariant_of-self g c =
+    let held = holds c.self.inside.caches.items c.self.inside.memory.items c.self.inside.shape c.self.inside.locations c.args.core c.args.loc Locked c.self.inside.held (rw (← c.self.view_is) at c.requires.holds) c.self.invariant.awaited c.self.invariant.placed in
+    let real = locked_real held.0 (copy_at c.self.inside.caches.items c.args.core.0 (c.args.loc.0 / c.self.inside.shape.words)) held.1.awaits in
+    let is : c.self.inside.held ≡ Some (held_by c.args.core c.args.loc Locked (c.args.loc.0 / c.self.inside.shape.words) None) = held.1.held_is ∙ ap (λ (x : Option Transaction). Some (held_by c.args.core c.args.loc Locked (c.args.loc.0 / c.self.inside.shape.words) x)) real.0 in
+    let was = rw is at c.self.invariant in
+    let cs = with_items_is c.self.inside.caches c.write.new.caches (search rules) in
+    let copies = rw (c.deref_mut.ensures.value, c.from.ensures, c.line_of-line.ensures.value, c.place_of-place.ensures.value) at c.write.ensures.copies in
+    let room : c.args.loc.0 % c.self.inside.shape.words < length (seen c.self.inside.caches.items c.self.inside.memory.items (c.args.loc.0 / c.self.inside.shape.words)) =
+    rw (was.lines (c.args.loc.0 / c.self.inside.shape.words) held.1.within, length-line c.self.inside.shape.words (words_in c.self.inside.shape.words (seen c.self.inside.caches.items c.self.inside.memory.items) c.self.inside.locations) (c.args.loc.0 / c.self.inside.shape.words)) (rw c.place_of-place.ensures.value at c.place_of-place.ensures.within) in
+    let sets = locked_written c.self.inside.caches.items c.write.new.caches c.self.inside.memory.items c.args.core.0 (c.args.loc.0 / c.self.inside.shape.words) (c.args.loc.0 % c.self.inside.shape.words) c.args.value was.coherent held.1.within room real.1 copies in
+    rw cs (bus-set c.self.inside.shape c.self.inside.locations c.self.inside.caches.items c.write.new.caches c.self.inside.memory.items c.self.inside.memory.items (Some (held_by c.args.core c.args.loc Locked (c.args.loc.0 / c.self.inside.shape.words) None)) c.args.loc.0 c.args.value was refl held.1.loc_in sets (rw c.deref_mut.ensures.value at c.write.ensures.ways))
+
+pub returns-clause-coherent : goal.returns-clause-coherent
+returns-clause-coherent g c =
+    let held = holds c.self.inside.caches.items c.self.inside.memory.items c.self.inside.shape c.self.inside.locations c.args.core c.args.loc Locked c.self.inside.held (rw (← c.self.view_is) at c.requires.holds) c.self.invariant.awaited c.self.invariant.placed in
+    let real = locked_real held.0 (copy_at c.self.inside.caches.items c.args.core.0 (c.args.loc.0 / c.self.inside.shape.words)) held.1.awaits in
+    let is : c.self.inside.held ≡ Some (held_by c.args.core c.args.loc Locked (c.args.loc.0 / c.self.inside.shape.words) None) = held.1.held_is ∙ ap (λ (x : Option Transaction). Some (held_by c.args.core c.args.loc Locked (c.args.loc.0 / c.self.inside.shape.words) x)) real.0 in
+    let was = rw is at c.self.invariant in
+    let cs = with_items_is c.self.inside.caches c.write.new.caches (search rules) in
+    let copies = rw (c.deref_mut.ensures.value, c.from.ensures, c.line_of-line.ensures.value, c.place_of-place.ensures.value) at c.write.ensures.copies in
+    let room : c.args.loc.0 % c.self.inside.shape.words < length (seen c.self.inside.caches.items c.self.inside.memory.items (c.args.loc.0 / c.self.inside.shape.words)) =
+    rw (was.lines (c.args.loc.0 / c.self.inside.shape.words) held.1.within, length-line c.self.inside.shape.words (words_in c.self.inside.shape.words (seen c.self.inside.caches.items c.self.inside.memory.items) c.self.inside.locations) (c.args.loc.0 / c.self.inside.shape.words)) (rw c.place_of-place.ensures.value at c.place_of-place.ensures.within) in
+    let sets = locked_written c.self.inside.caches.items c.write.new.caches c.self.inside.memory.items c.args.core.0 (c.args.loc.0 / c.self.inside.shape.words) (c.args.loc.0 % c.self.inside.shape.words) c.args.value was.coherent held.1.within room real.1 copies in
+    rw cs sets.coherent

@@ -1,0 +1,130 @@
+-- An access in two halves: at the ask the other caches see the request, and the bus keeps the words; at the
+-- completion the core's own line is filled. Lines and states alone, as for whole accesses. (Primer, chapter 7;
+-- which copies are sent or written to memory, and when, is this project's profile.)
+use Rattle.std.specs.Prelude.{ℕ, Bool, true, false, List, Option, Some, None, is_some, option_map}
+use Rattle.tso_model.specs.declared.instruction.Core.{Core}
+use Rattle.protocol_tables.specs.declared.state.State.{State}
+use Rattle.protocol_tables.specs.declared.state.State.TheVariants.{I, M}
+use Rattle.protocol_tables.specs.declared.asking.Request.{Request}
+use Rattle.protocol_tables.specs.declared.asking.Request.TheVariants.{GetS, GetM}
+use Rattle.protocol_tables.specs.declared.asking.Transient.{Transient}
+use Rattle.protocol_tables.specs.declared.asking.Transient.TheVariants.{IsD, ImD, SmD}
+use Rattle.protocol_tables.specs.Tables.{Table}
+use Rattle.protocol_tables.specs.Asking.{transient_of}
+use Rattle.cache_set.specs.Copy.{copy_with}
+use Rattle.snoop_bus.specs.declared.access.AccessKind.TheVariants.{Hit, Upgrade, Miss}
+use Rattle.snoop_bus.specs.declared.holding.Transaction.{Transaction}
+use Rattle.snoop_bus.specs.Lines.{Words}
+use Rattle.snoop_bus.specs.Tags.{tag_of}
+use Rattle.snoop_bus.specs.CacheContents.{TagSets, tags_at, sets_of, requested, is_held, flusher_from, writes_back, used_by, filled_by, Accessed, accessed}
+use Rattle.snoop_bus.specs.Copies.{Sets}
+use Rattle.snoop_bus.specs.Requests.{asked}
+use Rattle.snoop_bus.specs.MemoryAfter.{written_back, flushed, sent_words, victim_at}
+
+-- the state of a core's line, if it has it
+abbrev pub tag_at : ℕ → ℕ → List TagSets → Option State
+tag_at core line caches = tag_of (tags_at (sets_of caches core) line) line
+
+abbrev pub hit_in : Table → Bool → Option State → Bool
+hit_in t write None = false
+hit_in t false (Some state) = true
+hit_in t true (Some state) = is_some (t.written state)
+
+-- whether an access is a hit: a load where the core has the line, a write access where the table lets the copy be
+-- written in place
+abbrev pub hits : Table → ℕ → ℕ → Bool → List TagSets → Bool
+hits t core line write caches = hit_in t write (tag_at core line caches)
+
+abbrev pub request_for : Bool → Request
+request_for false = GetS
+request_for true = GetM
+
+abbrev pub or_invalid : Option State → State
+or_invalid None = I
+or_invalid (Some state) = state
+
+-- what a core's line is in once the core has made this request
+abbrev pub asked_for : Request → ℕ → ℕ → List TagSets → Option Transient
+asked_for request core line caches = transient_of (or_invalid (tag_at core line caches)) request
+
+-- the state in which the line is to be filled
+abbrev pub to_fill : Table → Request → ℕ → List TagSets → State
+to_fill t GetS line caches = t.filled (is_held line caches)
+to_fill t GetM line caches = M
+
+-- the core whose copy is sent to memory by this request
+abbrev pub flusher_of : Table → Request → ℕ → List TagSets → Option Core
+flusher_of t GetS line caches = flusher_from 0 t.on_get_s line caches
+flusher_of t GetM line caches = None
+
+-- what an open transaction awaits: what the line is in meanwhile, the state in which it is to be filled, and the core
+-- whose copy was sent to memory
+pub record Awaited : Type 0 where
+  pub transient : Transient
+  pub state : State
+  pub flushed : Option Core
+
+unfoldable pub awaiting : Table → Request → ℕ → List TagSets → Transient → Awaited
+awaiting t request line caches transient =
+    record { transient = transient; state = to_fill t request line caches; flushed = flusher_of t request line caches }
+
+abbrev pub asked_caches_in : Table → Request → ℕ → ℕ → Option Transient → List TagSets → List TagSets
+asked_caches_in t request core line None caches = caches
+asked_caches_in t request core line (Some x) caches = requested (asked t request) core line caches
+
+-- all caches after an ask: the others have seen the request, if there is one
+abbrev pub asked_caches : Table → Request → ℕ → ℕ → List TagSets → List TagSets
+asked_caches t request core line caches = asked_caches_in t request core line (asked_for request core line caches) caches
+
+-- an ask: what it awaits, and all caches after it; a write access that hits awaits nothing
+pub record Asked : Type 0 where
+  pub awaited : Option Awaited
+  pub caches : List TagSets
+
+abbrev pub asking : Table → Request → ℕ → ℕ → List TagSets → Asked
+asking t request core line caches = record {
+  awaited = option_map (awaiting t request line caches) (asked_for request core line caches);
+  caches = asked_caches t request core line caches;
+}
+
+abbrev pub completed_in : Table → ℕ → ℕ → Transient → State → Option Core → List TagSets → Accessed
+completed_in t core line IsD state sender caches = accessed Miss (writes_back t core line caches) sender (filled_by core line state caches)
+completed_in t core line ImD state sender caches = accessed Miss (writes_back t core line caches) sender (filled_by core line state caches)
+completed_in t core line SmD state sender caches = accessed Upgrade false None (used_by core line state caches)
+
+-- the completion of an access, after which the core has the line: a miss fills it, and another may leave; an upgrade
+-- takes it to its new state; where nothing is awaited, it is a write access that hits
+abbrev pub completed : Table → ℕ → ℕ → Option Awaited → List TagSets → Accessed
+completed t core line None caches = accessed Hit false None (used_by core line M caches)
+completed t core line (Some x) caches = completed_in t core line x.transient x.state x.flushed caches
+
+-- the transaction of a request, where the line has these words, and what it awaits
+unfoldable pub transacting : Table → Request → ℕ → Words → List TagSets → Transient → Transaction
+transacting t request line words caches transient =
+    record { transient = transient; copy = copy_with (to_fill t request line caches) words; flushed = flusher_of t request line caches }
+
+abbrev pub awaited_by : Transaction → Awaited
+awaited_by x = record { transient = x.transient; state = x.copy.state; flushed = x.flushed }
+
+abbrev pub awaited_in : Option Transaction → Option Awaited
+awaited_in None = None
+awaited_in (Some x) = Some (awaited_by x)
+
+-- the transaction that an ask begins; a write access that hits has none
+abbrev pub transaction_of : Table → Request → ℕ → ℕ → Words → List TagSets → Option Transaction
+transaction_of t request core line words caches = option_map (transacting t request line words caches) (asked_for request core line caches)
+
+-- memory after an ask: on GetS the copy that is sent
+abbrev pub asked_memory : Table → Request → ℕ → List Sets → List Words → List Words
+asked_memory t GetS line caches memory = flushed line (sent_words t.on_get_s line caches) memory
+asked_memory t GetM line caches memory = memory
+
+abbrev pub completed_memory_in : Table → ℕ → ℕ → Transient → List Sets → List Words → List Words
+completed_memory_in t core line IsD caches memory = written_back t (victim_at caches core line) memory
+completed_memory_in t core line ImD caches memory = written_back t (victim_at caches core line) memory
+completed_memory_in t core line SmD caches memory = memory
+
+-- memory after a completion: where a miss sends a dirty line away, it was written back
+abbrev pub completed_memory : Table → ℕ → ℕ → Option Awaited → List Sets → List Words → List Words
+completed_memory t core line None caches memory = memory
+completed_memory t core line (Some x) caches memory = completed_memory_in t core line x.transient caches memory

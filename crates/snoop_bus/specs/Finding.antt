@@ -1,0 +1,21 @@
+-- What one walk over the caches finds of a line that a core asks for.
+use Rattle.std.specs.Prelude.{ℕ, true, false, replicate, slice_set, Some, None, if◌then◌else◌}
+use Rattle.std.specs.Option.{option_or}
+use Rattle.protocol_tables.specs.declared.state.Snoop.{Snoop}
+use Rattle.cache_set.specs.declared.Line.{Line}
+use Rattle.snoop_bus.specs.declared.finding.Found.{Found}
+use Rattle.snoop_bus.specs.Limits.{most_bus_cores}
+
+-- before the walk
+abbrev pub nothing_found : Found
+nothing_found = record { words = None; shared = false; flushed = None; states = replicate most_bus_cores None }
+
+-- once this core's copy was seen too, which does this at the request: the first that supplies gives the words, and the
+-- first that is sent is flushed
+abbrev pub noting : ℕ → Line → Snoop → Found → Found
+noting core copy snoop found = record {
+  words = option_or found.words (if snoop.supplies then Some copy.words else None);
+  shared = true;
+  flushed = option_or found.flushed (if snoop.to_memory then Some (record { 0 = core }) else None);
+  states = slice_set found.states core (Some copy.state);
+}

@@ -1,0 +1,192 @@
+//! The first half of an access that needs the bus: the other caches see the request, and the bus keeps
+//! the words for the core's line.
+ghost use Rattle.std.specs.Prelude.{◌≡◌, ◌<◌, ◌≤◌, Some, None, false, length};
+ghost use Rattle.snoop_bus.specs.Limits.{most_bus_cores};
+ghost use Rattle.snoop_bus.specs.Asks.{hits, request_for, transacting, transaction_of, asked_caches, asked_memory};
+ghost use Rattle.snoop_bus.specs.Held.{Awaits, IsHeld, held_by, stage_for, counting, counted_in, counted};
+ghost use Rattle.snoop_bus.specs.CacheContents.{requested};
+ghost use Rattle.snoop_bus.specs.Copies.{cache_of, copy_at, tags_of, ways_of};
+ghost use Rattle.snoop_bus.specs.Bus.{AllCoherent, seen};
+ghost use Rattle.snoop_bus.specs.Requests.{KeepsWords};
+ghost use Rattle.snoop_bus.specs.declared.holding.Stage.TheVariants.{Write};
+ghost use Rattle.protocol_tables.specs.declared.asking.Request.TheVariants.{GetS, GetM};
+ghost use Rattle.protocol_tables.specs.declared.asking.Transient.TheVariants.{IsD, ImD};
+
+use crate::cache::Cache;
+use crate::finding::find;
+use crate::holding::{Held, Holder, Stage, Transaction};
+use crate::snoop::{flush, snoop_others};
+use cache_set::{Line, MAX_WORDS};
+use protocol_tables::{Protocol, Request, State, Transient, transient};
+use tso_model::{Core, Loc};
+
+/// Whether an access is a hit, which needs no bus.
+pub fn hits<P: Protocol>(caches: &[Cache], protocol: &P, core: usize, line: u8, write: bool) -> bool
+    requires { core < length caches.now }
+    ensures { result ≡ hits (P.table protocol.now) core line write (tags_of caches.now) }
+{
+    match caches[core].look(line) {
+        None => false,
+        Some(copy) => !write || protocol.written(copy.state).is_some(),
+    }
+}
+
+/// A core asks for the line of a location, where that access isn't a load's hit. Answers what then holds the bus.
+pub fn ask<P: Protocol>(
+    caches: &mut [Cache],
+    memory: &mut [[u32; MAX_WORDS]],
+    protocol: &P,
+    core: Core,
+    loc: Loc,
+    line: u8,
+    write: bool,
+) -> Held
+    requires coherent { AllCoherent caches.old memory.old }
+    requires core { core.0 < length caches.old }
+    requires few { length caches.old ≤ most_bus_cores }
+    requires line { line < length memory.old }
+    requires misses { write ≡ false → copy_at caches.old core.0 line ≡ None }
+
+    ensures exact { result ≡ held_by core loc (stage_for write) line (transaction_of (P.table protocol.now) (request_for write) core.0 line (seen caches.old memory.old line) (tags_of caches.old)) }
+    ensures awaited { IsHeld caches.new memory.new result }
+    ensures tags { tags_of caches.new ≡ asked_caches (P.table protocol.now) (request_for write) core.0 line (tags_of caches.old) }
+    ensures memory { memory.new ≡ asked_memory (P.table protocol.now) (request_for write) line caches.old memory.old }
+    ensures words { KeepsWords caches.old (counted (Some result) caches.new) memory.old memory.new }
+    ensures ways { ways_of caches.new ≡ ways_of caches.old }
+{
+    let at = usize::from(core.0);
+    // Each cache has a set, in which its copies are found.
+    let _sets = caches[at].len();
+    if write {
+        let transaction = ask_write(caches, memory, protocol, at, line);
+        let holder = Holder {
+            core,
+            loc,
+            stage: Stage::Write,
+        };
+        Held {
+            holder,
+            line,
+            transaction,
+        }
+    } else {
+        let transaction = Some(ask_load(caches, memory, protocol, at, line));
+        let holder = Holder {
+            core,
+            loc,
+            stage: Stage::Load,
+        };
+        Held {
+            holder,
+            line,
+            transaction,
+        }
+    }
+}
+
+/// A core asks for a line that it doesn't have, to read it.
+pub fn ask_load<P: Protocol>(
+    caches: &mut [Cache],
+    memory: &mut [[u32; MAX_WORDS]],
+    protocol: &P,
+    core: usize,
+    line: u8,
+) -> Transaction
+    requires coherent { AllCoherent caches.old memory.old }
+    requires core { core < length caches.old }
+    requires few { length caches.old ≤ most_bus_cores }
+    requires some_set { 0 < length (cache_of caches.old core) }
+    requires line { line < length memory.old }
+    requires absent { copy_at caches.old core line ≡ None }
+
+    ensures transaction { result ≡ transacting (P.table protocol.now) GetS line (seen caches.old memory.old line) (tags_of caches.old) IsD }
+    ensures tags { tags_of caches.new ≡ requested (P.table protocol.now).on_get_s core line (tags_of caches.old) }
+    ensures memory { memory.new ≡ asked_memory (P.table protocol.now) GetS line caches.old memory.old }
+    ensures own { copy_at caches.new core line ≡ None }
+    ensures words { KeepsWords caches.old (counting core line result.copy caches.new) memory.old memory.new }
+    ensures ways { ways_of caches.new ≡ ways_of caches.old }
+{
+    let found = find(caches, protocol, Request::GetS, line);
+    let words = found.words.unwrap_or(memory[usize::from(line)]);
+    let state = protocol.filled(found.shared);
+    snoop_others(caches, protocol, Request::GetS, core, line, &found.states);
+    flush(memory, line, words, found.flushed);
+    Transaction {
+        transient: Transient::IsD,
+        copy: Line { state, words },
+        flushed: found.flushed,
+    }
+}
+
+/// A core asks for a line, to write it. `None` where its copy is written in place.
+pub fn ask_write<P: Protocol>(
+    caches: &mut [Cache],
+    memory: &[[u32; MAX_WORDS]],
+    protocol: &P,
+    core: usize,
+    line: u8,
+) -> Option<Transaction>
+    requires coherent { AllCoherent caches.old memory.now }
+    requires core { core < length caches.old }
+    requires few { length caches.old ≤ most_bus_cores }
+    requires some_set { 0 < length (cache_of caches.old core) }
+    requires line { line < length memory.now }
+
+    ensures transaction { result ≡ transaction_of (P.table protocol.now) GetM core line (seen caches.old memory.now line) (tags_of caches.old) }
+    ensures tags { tags_of caches.new ≡ asked_caches (P.table protocol.now) GetM core line (tags_of caches.old) }
+    ensures awaits { Awaits Write result (copy_at caches.new core line) }
+    ensures words { KeepsWords caches.old (counted_in core line result caches.new) memory.now memory.now }
+    ensures ways { ways_of caches.new ≡ ways_of caches.old }
+{
+    match caches[core].look(line).copied() {
+        None => Some(ask_write_miss(caches, memory, protocol, core, line)),
+        Some(copy) => match transient(copy.state, Request::GetM) {
+            None => None,
+            Some(transient) => {
+                let found = find(caches, protocol, Request::GetM, line);
+                snoop_others(caches, protocol, Request::GetM, core, line, &found.states);
+                let words = copy.words;
+                let state = State::M;
+                Some(Transaction {
+                    transient,
+                    copy: Line { state, words },
+                    flushed: None,
+                })
+            }
+        },
+    }
+}
+
+/// A core asks for a line that it doesn't have, to write it.
+fn ask_write_miss<P: Protocol>(
+    caches: &mut [Cache],
+    memory: &[[u32; MAX_WORDS]],
+    protocol: &P,
+    core: usize,
+    line: u8,
+) -> Transaction
+    requires coherent { AllCoherent caches.old memory.now }
+    requires core { core < length caches.old }
+    requires few { length caches.old ≤ most_bus_cores }
+    requires some_set { 0 < length (cache_of caches.old core) }
+    requires line { line < length memory.now }
+    requires absent { copy_at caches.old core line ≡ None }
+
+    ensures transaction { result ≡ transacting (P.table protocol.now) GetM line (seen caches.old memory.now line) (tags_of caches.old) ImD }
+    ensures tags { tags_of caches.new ≡ requested (P.table protocol.now).on_get_m core line (tags_of caches.old) }
+    ensures own { copy_at caches.new core line ≡ None }
+    ensures words { KeepsWords caches.old (counting core line result.copy caches.new) memory.now memory.now }
+    ensures ways { ways_of caches.new ≡ ways_of caches.old }
+{
+    let found = find(caches, protocol, Request::GetM, line);
+    let words = found.words.unwrap_or(memory[usize::from(line)]);
+    snoop_others(caches, protocol, Request::GetM, core, line, &found.states);
+    Transaction {
+        transient: Transient::ImD,
+        copy: Line {
+            state: State::M,
+            words,
+        },
+        flushed: None,
+    }
+}

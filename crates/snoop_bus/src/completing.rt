@@ -1,0 +1,231 @@
+//! The second half of an access that needs the bus: the core's own line is filled.
+ghost use Rattle.std.specs.Prelude.{◌≡◌, ◌≢◌, ◌<◌, Some, None, IsOk, IfOk, OnOk, OnErr, length, slice_index};
+ghost use Rattle.cache_set.specs.Limits.{most_words};
+ghost use Rattle.cache_set.specs.Copy.{copy_with};
+ghost use Rattle.snoop_bus.specs.declared.holding.Stage.TheVariants.{Load, Write};
+ghost use Rattle.protocol_tables.specs.declared.state.State.TheVariants.{M};
+ghost use Rattle.snoop_bus.specs.CacheContents.{writes_back, filled_by};
+ghost use Rattle.snoop_bus.specs.MemoryAfter.{written_back, victim_at};
+ghost use Rattle.snoop_bus.specs.Asks.{awaited_in, completed, completed_memory};
+ghost use Rattle.snoop_bus.specs.Held.{Awaits, counting, counted_in};
+ghost use Rattle.snoop_bus.specs.Copies.{cache_of, copy_at, tags_of, ways_of};
+ghost use Rattle.snoop_bus.specs.Bus.{AllCoherent, seen};
+ghost use Rattle.snoop_bus.specs.Requests.{KeepsWords, SetsWord};
+ghost use Rattle.snoop_bus.specs.Coherent.{state_of};
+ghost use Rattle.snoop_bus.specs.declared.access.AccessKind.TheVariants.{Miss};
+
+use crate::access::{Access, AccessKind};
+use crate::cache::Cache;
+use crate::holding::Transaction;
+use crate::snoop::write_back;
+use crate::writing::{enter, write};
+use cache_set::{Line, MAX_WORDS};
+use protocol_tables::{Protocol, State, Transient};
+use tso_model::NoMemory;
+
+/// Fills a core's line with the copy that the bus keeps; another may leave. Answers whether that one was
+/// written to memory.
+///
+/// Fails only for want of memory; nothing is changed then.
+pub fn fill_asked<P: Protocol>(
+    caches: &mut [Cache],
+    memory: &mut [[u32; MAX_WORDS]],
+    protocol: &P,
+    core: usize,
+    line: u8,
+    copy: Line,
+) -> Result<bool, NoMemory>
+    requires coherent { AllCoherent (counting core line copy caches.old) memory.old }
+    requires core { core < length caches.old }
+    requires some_set { 0 < length (cache_of caches.old core) }
+    requires line { line < length memory.old }
+    requires absent { copy_at caches.old core line ≡ None }
+
+    ensures wrote_back { IfOk result (λ b. b ≡ writes_back (P.table protocol.now) core line (tags_of caches.old)) }
+    ensures tags { OnOk result (tags_of caches.new ≡ filled_by core line copy.state (tags_of caches.old)) }
+    ensures memory { OnOk result (memory.new ≡ written_back (P.table protocol.now) (victim_at caches.old core line) memory.old) }
+    ensures own { OnOk result (copy_at caches.new core line ≡ Some copy) }
+    ensures words { OnOk result (KeepsWords (counting core line copy caches.old) caches.new memory.old memory.new) }
+    ensures ways { ways_of caches.new ≡ ways_of caches.old }
+
+    ensures err_caches { OnErr result (caches.new ≡ caches.old) }
+    ensures err_memory { OnErr result (memory.new ≡ memory.old) }
+{
+    let cache = &mut caches[core];
+    let victim = cache.fill(line, copy.state, copy.words)?;
+    Ok(write_back(memory, protocol, victim))
+}
+
+/// Completes a write access, but for the word that it writes: the core's copy is then in M, and no other
+/// core has one. Answers the words that the line has, and what the access was.
+///
+/// Fails only for want of memory, which only a miss takes; nothing is changed then.
+pub fn acquire_asked<P: Protocol>(
+    caches: &mut [Cache],
+    memory: &mut [[u32; MAX_WORDS]],
+    protocol: &P,
+    core: usize,
+    line: u8,
+    transaction: Option<Transaction>,
+) -> Result<([u32; MAX_WORDS], Access), NoMemory>
+    requires coherent { AllCoherent (counted_in core line transaction caches.old) memory.old }
+    requires core { core < length caches.old }
+    requires some_set { 0 < length (cache_of caches.old core) }
+    requires line { line < length memory.old }
+    requires awaits { Awaits Write transaction (copy_at caches.old core line) }
+
+    ensures found { IfOk result (λ r. r.0 ≡ seen (counted_in core line transaction caches.old) memory.old line) }
+    ensures access { IfOk result (λ r. r.1 ≡ (completed (P.table protocol.now) core line (awaited_in transaction) (tags_of caches.old)).access) }
+    ensures tags { OnOk result (tags_of caches.new ≡ (completed (P.table protocol.now) core line (awaited_in transaction) (tags_of caches.old)).caches) }
+    ensures memory { OnOk result (memory.new ≡ completed_memory (P.table protocol.now) core line (awaited_in transaction) caches.old memory.old) }
+    ensures own { OnOk result (copy_at caches.new core line ≡ Some (copy_with M (seen (counted_in core line transaction caches.old) memory.old line))) }
+    ensures words { OnOk result (KeepsWords (counted_in core line transaction caches.old) caches.new memory.old memory.new) }
+    ensures ways { ways_of caches.new ≡ ways_of caches.old }
+
+    ensures succeeds { (completed (P.table protocol.now) core line (awaited_in transaction) (tags_of caches.old)).access.kind ≢ Miss → IsOk result }
+    ensures err_caches { OnErr result (caches.new ≡ caches.old) }
+    ensures err_memory { OnErr result (memory.new ≡ memory.old) }
+{
+    match transaction {
+        None => {
+            let words = caches[core].look(line).unwrap().words;
+            enter(caches, core, line, State::M);
+            Ok((words, Access::quiet(AccessKind::Hit)))
+        }
+        Some(transaction) => {
+            let words = transaction.copy.words;
+            match transaction.transient {
+                Transient::SmD => {
+                    enter(caches, core, line, State::M);
+                    Ok((words, Access::quiet(AccessKind::Upgrade)))
+                }
+                Transient::IsD | Transient::ImD => {
+                    let wrote_back = fill_asked(
+                        caches,
+                        memory,
+                        protocol,
+                        core,
+                        line,
+                        transaction.copy,
+                    )?;
+                    let access = Access {
+                        kind: AccessKind::Miss,
+                        wrote_back,
+                        flushed: transaction.flushed,
+                    };
+                    Ok((words, access))
+                }
+            }
+        }
+    }
+}
+
+/// Completes a load that missed, of the word at a place of a line. Answers the word, and what the access was.
+///
+/// Fails only for want of memory; nothing is changed then.
+pub fn complete_load<P: Protocol>(
+    caches: &mut [Cache],
+    memory: &mut [[u32; MAX_WORDS]],
+    protocol: &P,
+    core: usize,
+    line: u8,
+    place: u8,
+    transaction: Option<Transaction>,
+) -> Result<(u32, Access), NoMemory>
+    requires coherent { AllCoherent (counted_in core line transaction caches.old) memory.old }
+    requires core { core < length caches.old }
+    requires some_set { 0 < length (cache_of caches.old core) }
+    requires line { line < length memory.old }
+    requires place { place < most_words }
+    requires awaits { Awaits Load transaction (copy_at caches.old core line) }
+
+    ensures word { IfOk result (λ r. r.0 ≡ slice_index (seen (counted_in core line transaction caches.old) memory.old line) place) }
+    ensures access { IfOk result (λ r. r.1 ≡ (completed (P.table protocol.now) core line (awaited_in transaction) (tags_of caches.old)).access) }
+    ensures tags { OnOk result (tags_of caches.new ≡ (completed (P.table protocol.now) core line (awaited_in transaction) (tags_of caches.old)).caches) }
+    ensures memory { OnOk result (memory.new ≡ completed_memory (P.table protocol.now) core line (awaited_in transaction) caches.old memory.old) }
+    ensures words { OnOk result (KeepsWords (counted_in core line transaction caches.old) caches.new memory.old memory.new) }
+    ensures ways { ways_of caches.new ≡ ways_of caches.old }
+
+    ensures err_caches { OnErr result (caches.new ≡ caches.old) }
+    ensures err_memory { OnErr result (memory.new ≡ memory.old) }
+{
+    let transaction = transaction.unwrap();
+    let wrote_back = fill_asked(caches, memory, protocol, core, line, transaction.copy)?;
+    let access = Access {
+        kind: AccessKind::Miss,
+        wrote_back,
+        flushed: transaction.flushed,
+    };
+    Ok((transaction.copy.words[usize::from(place)], access))
+}
+
+/// Completes a store at a place of a line. Answers what the access was.
+///
+/// Fails only for want of memory, which only a miss takes; nothing is changed then.
+pub fn complete_store<P: Protocol>(
+    caches: &mut [Cache],
+    memory: &mut [[u32; MAX_WORDS]],
+    protocol: &P,
+    core: usize,
+    line: u8,
+    place: u8,
+    transaction: Option<Transaction>,
+    value: u32,
+) -> Result<Access, NoMemory>
+    requires coherent { AllCoherent (counted_in core line transaction caches.old) memory.old }
+    requires core { core < length caches.old }
+    requires some_set { 0 < length (cache_of caches.old core) }
+    requires line { line < length memory.old }
+    requires place { place < most_words }
+    requires awaits { Awaits Write transaction (copy_at caches.old core line) }
+
+    ensures access { IfOk result (λ a. a ≡ (completed (P.table protocol.now) core line (awaited_in transaction) (tags_of caches.old)).access) }
+    ensures tags { OnOk result (tags_of caches.new ≡ (completed (P.table protocol.now) core line (awaited_in transaction) (tags_of caches.old)).caches) }
+    ensures memory { OnOk result (memory.new ≡ completed_memory (P.table protocol.now) core line (awaited_in transaction) caches.old memory.old) }
+    ensures words { OnOk result (SetsWord line place value (counted_in core line transaction caches.old) caches.new memory.old memory.new) }
+    ensures ways { ways_of caches.new ≡ ways_of caches.old }
+
+    ensures succeeds { (completed (P.table protocol.now) core line (awaited_in transaction) (tags_of caches.old)).access.kind ≢ Miss → IsOk result }
+    ensures err_caches { OnErr result (caches.new ≡ caches.old) }
+    ensures err_memory { OnErr result (memory.new ≡ memory.old) }
+{
+    let (_, access) = acquire_asked(caches, memory, protocol, core, line, transaction)?;
+    write(caches, core, line, place, value);
+    Ok(access)
+}
+
+/// Completes the read of a locked instruction at a place of a line. Answers the word, and what the access was; the core's copy
+/// is then in M.
+///
+/// Fails only for want of memory, which only a miss takes; nothing is changed then.
+pub fn complete_read<P: Protocol>(
+    caches: &mut [Cache],
+    memory: &mut [[u32; MAX_WORDS]],
+    protocol: &P,
+    core: usize,
+    line: u8,
+    place: u8,
+    transaction: Option<Transaction>,
+) -> Result<(u32, Access), NoMemory>
+    requires coherent { AllCoherent (counted_in core line transaction caches.old) memory.old }
+    requires core { core < length caches.old }
+    requires some_set { 0 < length (cache_of caches.old core) }
+    requires line { line < length memory.old }
+    requires place { place < most_words }
+    requires awaits { Awaits Write transaction (copy_at caches.old core line) }
+
+    ensures word { IfOk result (λ r. r.0 ≡ slice_index (seen (counted_in core line transaction caches.old) memory.old line) place) }
+    ensures access { IfOk result (λ r. r.1 ≡ (completed (P.table protocol.now) core line (awaited_in transaction) (tags_of caches.old)).access) }
+    ensures tags { OnOk result (tags_of caches.new ≡ (completed (P.table protocol.now) core line (awaited_in transaction) (tags_of caches.old)).caches) }
+    ensures memory { OnOk result (memory.new ≡ completed_memory (P.table protocol.now) core line (awaited_in transaction) caches.old memory.old) }
+    ensures own { OnOk result (state_of (copy_at caches.new core line) ≡ M) }
+    ensures words { OnOk result (KeepsWords (counted_in core line transaction caches.old) caches.new memory.old memory.new) }
+    ensures ways { ways_of caches.new ≡ ways_of caches.old }
+
+    ensures succeeds { (completed (P.table protocol.now) core line (awaited_in transaction) (tags_of caches.old)).access.kind ≢ Miss → IsOk result }
+    ensures err_caches { OnErr result (caches.new ≡ caches.old) }
+    ensures err_memory { OnErr result (memory.new ≡ memory.old) }
+{
+    let (words, access) = acquire_asked(caches, memory, protocol, core, line, transaction)?;
+    Ok((words[usize::from(place)], access))
+}

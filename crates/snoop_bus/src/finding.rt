@@ -1,0 +1,87 @@
+//! One walk over the caches for a line that a core asks for: who has it, whose words it gets, and whose
+//! copy is sent to memory.
+ghost use Rattle.std.specs.Prelude.{◌≡◌, ◌<◌, ◌≤◌, ℕ, None, length, slice_index_or, is_some, option_map, unwrap_or};
+ghost use Rattle.std.specs.List.{list_any};
+ghost use Rattle.snoop_bus.specs.Limits.{most_bus_cores};
+ghost use Rattle.snoop_bus.specs.Lines.{Words};
+ghost use Rattle.snoop_bus.specs.CacheContents.{flusher_from};
+ghost use Rattle.snoop_bus.specs.Copies.{copy_in, copy_at, tags_of};
+ghost use Rattle.snoop_bus.specs.Requests.{asked, Supplied};
+ghost use Rattle.snoop_bus.specs.Finding.{nothing_found, noting};
+
+use crate::bus::MAX_CORES;
+use crate::cache::Cache;
+use crate::snoop::answer;
+use cache_set::{Line, MAX_WORDS};
+use protocol_tables::{Protocol, Request, Snoop, State};
+use tso_model::Core;
+
+/// What the caches have of a line that a core asks for.
+#[derive(Clone, Copy)]
+pub struct Found {
+    /// The words of a copy that supplies them.
+    pub words: Option<[u32; MAX_WORDS]>,
+    /// Whether a cache has the line.
+    pub shared: bool,
+    /// The core whose copy is sent to memory.
+    pub flushed: Option<Core>,
+    /// The state of each core's copy.
+    pub states: [Option<State>; MAX_CORES as usize],
+}
+
+impl Found {
+    /// Before the walk.
+    fn nothing() -> Found
+        ensures { result ≡ nothing_found }
+    {
+        Found {
+            words: None,
+            shared: false,
+            flushed: None,
+            states: [None; MAX_CORES as usize],
+        }
+    }
+
+    /// One core more has a copy, which does this at the request.
+    fn with(self, core: usize, copy: Line, snoop: Snoop) -> Found
+        requires { core < most_bus_cores }
+        ensures { result ≡ noting core copy snoop self }
+    {
+        let mut states = self.states;
+        states[core] = Some(copy.state);
+        let words = if self.words.is_none() && snoop.supplies {
+            Some(copy.words)
+        } else {
+            self.words
+        };
+        let flushed = if self.flushed.is_none() && snoop.to_memory {
+            Some(Core(core as u8))
+        } else {
+            self.flushed
+        };
+        Found {
+            words,
+            shared: true,
+            flushed,
+            states,
+        }
+    }
+}
+
+/// Looks for the line once in each cache.
+pub fn find<P: Protocol>(caches: &[Cache], protocol: &P, request: Request, line: u8) -> Found
+    requires few { length caches.now ≤ most_bus_cores }
+    ensures words { (memory : Words) → Supplied (asked (P.table protocol.now) request) caches.now line memory (unwrap_or result.words memory) }
+    ensures shared { result.shared ≡ list_any (λ sets. is_some (copy_in sets line)) caches.now }
+    ensures flushed { result.flushed ≡ flusher_from 0 (asked (P.table protocol.now) request) line (tags_of caches.now) }
+    ensures states { (i : ℕ) → slice_index_or result.states i None ≡ option_map (λ copy. copy.state) (copy_at caches.now i line) }
+{
+    let mut found = Found::nothing();
+    for core in 0..caches.len() {
+        if let Some(copy) = caches[core].look(line).copied() {
+            let snoop = answer(protocol, request, copy.state);
+            found = found.with(core, copy, snoop);
+        }
+    }
+    found
+}

@@ -1,0 +1,42 @@
+use cache_set::Line;
+use protocol_tables::Transient;
+use tso_model::{Core, Loc};
+
+/// How far an action is that holds the bus.
+#[derive(Clone, Copy)]
+pub enum Stage {
+    /// A load was asked for.
+    Load,
+    /// A write access was asked for.
+    Write,
+    /// A locked instruction has read the word, and is to write it.
+    Locked,
+}
+
+/// Whose action holds the bus: a core's, at a location.
+#[derive(Clone, Copy)]
+pub struct Holder {
+    pub core: Core,
+    pub loc: Loc,
+    pub stage: Stage,
+}
+
+/// A request that the other caches have seen, while its line isn't yet filled.
+#[derive(Clone, Copy)]
+pub struct Transaction {
+    /// What the line is in meanwhile.
+    pub transient: Transient,
+    /// The words that the bus keeps, in the state in which the line is to be filled.
+    pub copy: Line,
+    /// The core whose copy was sent to memory on GetS.
+    pub flushed: Option<Core>,
+}
+
+/// The action that holds the bus, the line of its location, and its transaction; a write access that hits
+/// has none.
+#[derive(Clone, Copy)]
+pub struct Held {
+    pub holder: Holder,
+    pub line: u8,
+    pub transaction: Option<Transaction>,
+}

@@ -1,0 +1,100 @@
+-- The cores of a state: what an effect of one leaves of each, and when they are done.
+use Rattle.std.proofs.Common.{◌≡◌, ◌≢◌, ◌<◌, ◌≤◌, ℕ, ◌+◌, zero, suc, List, [], ◌∷◌, Bool, true, false, length, slice_get, slice_set, slice_index, slice_index_or, None, arith, ap, sym, ◌∙◌, refl, ◌⊎◌, inl, inr, ◌==◌, if◌then◌else◌, get_or-set_same, get_or-set_other}
+use Rattle.std.proofs.lemmas.List.{get_or_past, set-get_or}
+use Rattle.std.proofs.lemmas.Option.{slice_get_past}
+use Rattle.std.proofs.lemmas.Bool.Decides.{nat_tests}
+use Rattle.std.proofs.Math.ListN.{length-set}
+use Rattle.tso_model.specs.Litmus.{Litmus}
+use Rattle.tso_model.specs.ProgramOrder.{is_write}
+use Rattle.tso_model.specs.FlatMachine.{CoreState, State, Effect, idle, program_of, core_of, memory_after, applied, started}
+use Rattle.tso_model.specs.Runs.{is_none_pending, is_done, all_done, has_ended}
+use Rattle.tso_model.specs.declared.instruction.Instr.{Instr}
+use Rattle.tso_model.specs.declared.execution.Entry.{Entry}
+use Rattle.tso_model.specs.declared.choice.Outcome.{Outcome}
+use Rattle.split_laws.proofs.Basics.{decide, lt-or, test-true, and-left, and-right, Each}
+
+-- after an effect of a core, each core is as before, or is that one
+pub core-cases : (state : State) (c k : ℕ) (f : Effect) → ((k ≡ c) × (c < length state.cores) × (core_of (applied state c f) k ≡ f.after)) ⊎ (core_of (applied state c f) k ≡ core_of state k)
+core-cases state c k f = elim (decide k c) [
+  | inl q ↦ elim (lt-or (length state.cores) c) [
+    | inl l ↦ inl (q, l, rw q (get_or-set_same state.cores c f.after idle l))
+    | inr l ↦ inr (rw q (get_or_past (slice_set state.cores c f.after) c idle (rw (length-set state.cores c f.after) l) ∙ sym (get_or_past state.cores c idle l)))
+  ]
+  | inr n ↦ inr (get_or-set_other state.cores c k f.after idle n)
+]
+
+-- an effect that changes nothing and commits nothing
+abbrev pub quiet : Outcome → CoreState → Effect
+quiet o s = record { outcome = o; after = s; commits = [] }
+
+pub quiet-same : (state : State) (c : ℕ) (o : Outcome) → applied state c (quiet o (core_of state c)) ≡ state
+quiet-same state c o = ap (λ z. record { memory = state.memory; cores = z }) (set-get_or state.cores c idle)
+
+-- a word to which nothing is written stays
+pub memory-kept : (es : List Entry) (memory : List ℕ) (l : ℕ) → Each (λ e. is_write e ≡ true → l ≢ e.loc.0) es → slice_index (memory_after es memory) l ≡ slice_index memory l
+memory-kept [] memory l h = refl
+memory-kept (e ∷ es) memory l h = memory-kept es (if is_write e then slice_set memory e.loc.0 e.value else memory) l h.1 ∙ first (is_write e) refl
+  where
+    first : (b : Bool) → is_write e ≡ b → slice_index (if b then slice_set memory e.loc.0 e.value else memory) l ≡ slice_index memory l
+    first true q = get_or-set_other memory e.loc.0 l e.value 0 (h.0 q)
+    first false q = refl
+
+-- ---- the first state
+
+pub starts-idle : (c : ℕ) (ps : List (List Instr)) (registers : List (List ℕ)) (k : ℕ) → (slice_index_or (started c ps registers) k idle).place ≡ 0 × (slice_index_or (started c ps registers) k idle).pending ≡ []
+starts-idle c [] registers k = (refl, refl)
+starts-idle c (p ∷ ps) registers zero = (refl, refl)
+starts-idle c (p ∷ ps) registers (suc k) = starts-idle (c + 1) ps registers k
+
+pub length-starts : (c : ℕ) (ps : List (List Instr)) (registers : List (List ℕ)) → length (started c ps registers) ≡ length ps
+length-starts c [] registers = refl
+length-starts c (p ∷ ps) registers = ap suc (length-starts (c + 1) ps registers)
+
+-- ---- where a core isn't there
+
+pub no-program : (ps : List (List Instr)) (k : ℕ) → length ps ≤ k → slice_index_or ps k [] ≡ []
+no-program ps k l = get_or_past ps k [] l
+
+pub no-core : (ss : List CoreState) (k : ℕ) → length ss ≤ k → slice_index_or ss k idle ≡ idle
+no-core ss k l = get_or_past ss k idle l
+
+-- ---- cores that are done
+
+pub done-now : (p : List Instr) (s : CoreState) → length p ≡ s.place → length s.pending ≡ 0 → is_done p s ≡ true
+done-now p s a m = rw (test-true (length p) s.place a) (none s.pending m)
+  where
+    none : (q : List Entry) → length q ≡ 0 → is_none_pending q ≡ true
+    none [] h = refl
+    none (y ∷ ys) h = absurd (omega arith)
+
+pub done-pending : (p : List Instr) (s : CoreState) → is_done p s ≡ true → s.pending ≡ []
+done-pending p s h = none s.pending (and-right (length p == s.place) (is_none_pending s.pending) h)
+  where
+    none : (q : List Entry) → is_none_pending q ≡ true → q ≡ []
+    none [] h = refl
+    none (y ∷ ys) h = absurd (let z : ⊥ = cc in z)
+
+pub done-next : (p : List Instr) (s : CoreState) → is_done p s ≡ true → slice_get p s.place ≡ None
+done-next p s h =
+    let m = and-left (length p == s.place) (is_none_pending s.pending) h in
+    let l : length p ≡ s.place = grind (arith, nat_tests) in
+    slice_get_past p s.place (omega arith)
+
+pub all-done : (ps : List (List Instr)) (ss : List CoreState) → ((k : ℕ) → k < length ss → is_done (slice_index_or ps k []) (slice_index_or ss k idle) ≡ true) → all_done ps ss ≡ true
+all-done ps [] f = refl
+all-done [] (s ∷ ss) f = rw (f 0 (omega arith)) (all-done [] ss (λ k l. f (suc k) (omega arith)))
+all-done (p ∷ ps) (s ∷ ss) f = rw (f 0 (omega arith)) (all-done ps ss (λ k l. f (suc k) (omega arith)))
+
+done-at : (ps : List (List Instr)) (ss : List CoreState) (k : ℕ) → all_done ps ss ≡ true → k < length ss → is_done (slice_index_or ps k []) (slice_index_or ss k idle) ≡ true
+done-at ps [] k h l = absurd (omega arith)
+done-at [] (s ∷ ss) zero h l = and-left (is_done [] s) (all_done [] ss) h
+done-at [] (s ∷ ss) (suc k) h l = done-at [] ss k (and-right (is_done [] s) (all_done [] ss) h) (omega arith)
+done-at (p ∷ ps) (s ∷ ss) zero h l = and-left (is_done p s) (all_done ps ss) h
+done-at (p ∷ ps) (s ∷ ss) (suc k) h l = done-at ps ss k (and-right (is_done p s) (all_done ps ss) h) (omega arith)
+
+-- where the test has ended, each core is done, and so is one that isn't there
+pub done-anywhere : (t : Litmus) (state : State) (k : ℕ) → length state.cores ≡ length t.programs → has_ended t state ≡ true → is_done (program_of t k) (core_of state k) ≡ true
+done-anywhere t state k n h = elim (lt-or (length state.cores) k) [
+  | inl l ↦ done-at t.programs state.cores k h l
+  | inr l ↦ rw (no-program t.programs k (omega arith), no-core state.cores k l) refl
+]

@@ -1,0 +1,362 @@
+-- A run on either bus is followed by one of the flat machine, which makes a locked instruction when its store part is
+-- committed.
+use Rattle.std.proofs.Common.{◌≡◌, ◌≢◌, ℕ, List, [], ◌∷◌, ◌++◌, Bool, true, false, drop, slice_set, arith, ap, sym, ◌∙◌, refl, inl, inr, append_assoc, subst, if◌then◌else◌}
+use Rattle.std.proofs.lemmas.List.{append-nil, set-get_or}
+use Rattle.std.proofs.lemmas.Bool.Decides.{nat_tests}
+use Rattle.tso_model.specs.Litmus.{Litmus}
+use Rattle.tso_model.specs.Thread.{entry}
+use Rattle.tso_model.specs.FlatMachine.{State, Effect, effect_of, after_choice, chosen, core_of, applied, memory_after}
+use Rattle.tso_model.specs.Access.{Access, NoAccess, Reads, Writes, Locks, access_of}
+use Rattle.tso_model.specs.SplitMachine.{Holder, Free, HeldBy, HeldBetween, Attempt, BusEffect, same_choice, needs_bus, acts, asks, begins, load_part, reads_first, completes, as_read, after_first, writes_last, split_effect}
+use Rattle.tso_model.specs.EitherBus.{BusState, effect_on, after_on, HitFits, HitsFit}
+use Rattle.tso_model.specs.Together.{put_together}
+use Rattle.tso_model.specs.declared.bus.Bus.{Bus}
+use Rattle.tso_model.specs.declared.bus.Bus.TheVariants.{Atomic, Split}
+use Rattle.tso_model.specs.declared.instruction.Loc.{Loc}
+use Rattle.tso_model.specs.declared.execution.Entry.{Entry}
+use Rattle.tso_model.specs.declared.execution.Kind.TheVariants.{LW}
+use Rattle.tso_model.specs.declared.choice.Choice.{Choice}
+use Rattle.tso_model.specs.declared.choice.Choice.TheVariants.{Step, Drain}
+use Rattle.tso_model.specs.declared.choice.Outcome.{Outcome}
+use Rattle.tso_model.specs.declared.choice.Outcome.TheVariants.{Committed, Asked}
+use Rattle.tso_laws.specs.Choices.{state_after, commits_of}
+use Rattle.split_laws.specs.BusChoices.{state_on, commits_on}
+use Rattle.split_laws.specs.Holders.{HasRead, HolderFits}
+use Rattle.split_laws.specs.BusRuns.{waiting}
+use Rattle.split_laws.proofs.Basics.{decide, test-true}
+use Rattle.split_laws.proofs.Cores.{quiet, quiet-same}
+use Rattle.split_laws.proofs.Steps.{drain-no-lock, choice-plain, choice-pair, Pairs}
+use Rattle.split_laws.proofs.Waiting.{AllStores, choice-stores, access-kept, same-part, reading-kept, reader-writes-nothing, reader-commits-nothing}
+use Rattle.split_laws.proofs.Moving.{moved, moved-plain, Parts, moved-pair, together-pair, Behind, GoesOn, plain-on, load-on, store-on, pair-on}
+
+-- the same action is the same choice
+pub same-is : (a b : Choice) → same_choice a b ≡ true → a ≡ b
+same-is (Step a) (Step b) h = ap (λ z. Step (record { 0 = z })) (let z : a.0 ≡ b.0 = grind (arith, nat_tests) in z)
+same-is (Drain a) (Drain b) h = ap (λ z. Drain (record { 0 = z })) (let z : a.0 ≡ b.0 = grind (arith, nat_tests) in z)
+same-is (Step a) (Drain b) h = absurd (let z : ⊥ = cc in z)
+same-is (Drain a) (Step b) h = absurd (let z : ⊥ = cc in z)
+
+pub same-self : (a : Choice) → same_choice a a ≡ true
+same-self (Step c) = test-true c.0 c.0 refl
+same-self (Drain c) = test-true c.0 c.0 refl
+
+-- ---- what needs the bus
+
+pub needs-some : (what : Access) (hits : Bool) → needs_bus what hits ≡ true → what ≢ NoAccess
+needs-some NoAccess hits h q = let z : ⊥ = cc in z
+needs-some (Reads loc) hits h q = let z : ⊥ = cc in z
+needs-some (Writes loc) hits h q = let z : ⊥ = cc in z
+needs-some (Locks loc) hits h q = let z : ⊥ = cc in z
+
+pub needs-no-lock : (what : Access) (hits : Bool) → needs_bus what hits ≡ false → (l : Loc) → what ≢ Locks l
+needs-no-lock NoAccess hits h l q = let z : ⊥ = cc in z
+needs-no-lock (Reads loc) hits h l q = let z : ⊥ = cc in z
+needs-no-lock (Writes loc) hits h l q = let z : ⊥ = cc in z
+needs-no-lock (Locks loc) hits h l q = let z : ⊥ = cc in z
+
+write-hits : (what : Access) (hits : Bool) (l : Loc) → needs_bus what hits ≡ false → what ≡ Writes l → hits ≡ true
+write-hits what true l h q = refl
+write-hits what false l h q = absurd (let z : needs_bus what false ≡ true = rw q refl in let y : ⊥ = cc in y)
+
+-- ---- one choice
+
+-- the choice isn't the holder's next one
+abbrev pub IsOther : Holder → Choice → Type 0
+IsOther Free a = Unit {0}
+IsOther (HeldBy choice) a = same_choice choice a ≡ false
+IsOther (HeldBetween e) a = same_choice (Step e.core) a ≡ false
+
+-- one choice, followed by choices of the flat machine (one or none)
+pub record Goes (bus : Bus) (t : Litmus) (depth : ℕ) (state : State) (c : ℕ) (holder : Holder) (g : BusEffect) : Type 0 where
+  pub choices : List Choice
+  pub now : state_after t depth state choices ≡ applied state c g.effect
+  pub commits : (ys : List Entry) → moved holder (put_together (g.effect.commits ++ ys)) ≡ commits_of t depth state choices ++ moved g.holder (put_together ys)
+  pub goes_on : GoesOn holder g.holder g.effect.commits
+  pub stores : AllStores (applied state c g.effect)
+  pub holds : HolderFits bus t depth (applied state c g.effect) g.holder
+
+-- what another holder leaves to come is what this one does
+pub record Alike (holder next : Holder) : Type 0 where
+  pub same : (ys : List Entry) → moved holder ys ≡ moved next ys
+  pub back : GoesOn holder next []
+
+alike : (holder : Holder) → Alike holder holder
+alike holder = record { same = λ ys. refl; back = λ ys end b. b }
+
+-- where nothing is waited for
+alike-free : (holder next : Holder) → ((ys : List Entry) → moved holder ys ≡ moved next ys) → ((e : Entry) → holder ≢ HeldBetween e) → Alike holder next
+alike-free holder next same n = record { same = same; back = λ ys end b. record { answered = λ e q. absurd (n e q); paired = b.paired } }
+
+-- a choice that changes at most who holds the bus
+quiet-goes : (t : Litmus) (depth : ℕ) (state : State) (c : ℕ) (o : Outcome) (holder next : Holder) → AllStores state → HolderFits Split t depth state next
+    → Alike holder next → Goes Split t depth state c holder (acts (quiet o (core_of state c)) next)
+quiet-goes t depth state c o holder next stores fits like = record {
+  choices = [];
+  now = sym (quiet-same state c o);
+  commits = λ ys. like.same (put_together ys);
+  goes_on = like.back;
+  stores = subst AllStores (sym (quiet-same state c o)) stores;
+  holds = subst (λ z. HolderFits Split t depth z next) (sym (quiet-same state c o)) fits;
+}
+
+asks-goes : (t : Litmus) (depth : ℕ) (state : State) (a : Choice) (holder : Holder) → AllStores state → HolderFits Split t depth state holder → access_of t depth state a ≢ NoAccess
+    → Goes Split t depth state (chosen a) holder (asks (core_of state (chosen a)) a holder)
+asks-goes t depth state a Free stores fits n = quiet-goes t depth state (chosen a) Asked Free (HeldBy a) stores n (alike-free Free (HeldBy a) (λ ys. refl) (λ e q. let z : ⊥ = cc in z))
+asks-goes t depth state a (HeldBy choice) stores fits n = quiet-goes t depth state (chosen a) _ (HeldBy choice) (HeldBy choice) stores fits (alike (HeldBy choice))
+asks-goes t depth state a (HeldBetween e) stores fits n = quiet-goes t depth state (chosen a) _ (HeldBetween e) (HeldBetween e) stores fits (alike (HeldBetween e))
+
+-- a choice that acts as on the flat machine, and isn't a locked instruction
+acts-goes : (bus : Bus) (t : Litmus) (depth : ℕ) (state : State) (a : Choice) (holder next : Holder) → AllStores state → ((l : Loc) → access_of t depth state a ≢ Locks l)
+    → HolderFits bus t depth (applied state (chosen a) (effect_of t depth state a)) next → Alike holder next
+    → ((e : Entry) → holder ≡ HeldBetween e → chosen a ≡ e.core.0 → (effect_of t depth state a).commits ≡ [])
+    → Goes bus t depth state (chosen a) holder (acts (effect_of t depth state a) next)
+acts-goes bus t depth state a holder next stores n fits like none =
+    let f : Effect = effect_of t depth state a in
+    let plain = choice-plain t depth state a (stores (chosen a)) n in
+    record {
+      choices = a ∷ [];
+      now = refl;
+      commits = λ ys. moved-plain (chosen a) (access_of t depth state a) holder f.commits ys plain
+          ∙ ap (λ z. f.commits ++ z) (like.same (put_together ys))
+          ∙ ap (λ z. z ++ moved next (put_together ys)) (sym (append-nil f.commits));
+      goes_on = λ ys end b. plain-on (chosen a) (access_of t depth state a) holder f.commits plain none ys end (like.back ys end b);
+      stores = choice-stores t depth state a stores;
+      holds = fits;
+    }
+
+-- nothing is written where a locked instruction has read
+abbrev Spares : Litmus → ℕ → State → Choice → Holder → Type 0
+Spares t depth state a Free = Unit {0}
+Spares t depth state a (HeldBy choice) = Unit {0}
+Spares t depth state a (HeldBetween e) = (l : Loc) → access_of t depth state a ≡ Writes l → l.0 ≢ e.loc.0
+
+holder-kept : (t : Litmus) (depth : ℕ) (state : State) (a : Choice) (holder : Holder) → AllStores state → HolderFits Split t depth state holder → IsOther holder a → ((l : Loc) → access_of t depth state a ≢ Locks l)
+    → Spares t depth state a holder → HolderFits Split t depth (applied state (chosen a) (effect_of t depth state a)) holder
+holder-kept t depth state a Free stores fits other n w = tt
+holder-kept t depth state a (HeldBy choice) stores fits other n w = λ h. fits (sym (access-kept t depth state choice a fits other) ∙ h)
+holder-kept t depth state a (HeldBetween e) stores fits other n w = reading-kept t depth state e a stores fits other n w
+
+begins-goes : (t : Litmus) (depth : ℕ) (state : State) (a : Attempt) (holder : Holder) → AllStores state → HolderFits Split t depth state holder → IsOther holder a.choice
+    → HitFits t depth state a holder → Goes Split t depth state (chosen a.choice) holder (begins t depth state a holder)
+begins-goes t depth state a holder stores fits other fit = go (needs_bus what a.hits) refl
+  where
+    what : Access
+    what = access_of t depth state a.choice
+
+    spares : (holder : Holder) → HolderFits Split t depth state holder → IsOther holder a.choice → HitFits t depth state a holder → needs_bus what a.hits ≡ false → Spares t depth state a.choice holder
+    spares Free h o f q = tt
+    spares (HeldBy choice) h o f q = tt
+    spares (HeldBetween e) h o f q = λ l w. elim (decide (chosen a.choice) e.core.0) [
+      | inl c ↦ absurd (reader-writes-nothing t depth state e a.choice h o c l w)
+      | inr n ↦ f l w (write-hits what a.hits l q w) n
+    ]
+
+    none : (holder : Holder) → HolderFits Split t depth state holder → IsOther holder a.choice → (e : Entry) → holder ≡ HeldBetween e → chosen a.choice ≡ e.core.0 → (effect_of t depth state a.choice).commits ≡ []
+    none Free h o e q c = absurd (let z : ⊥ = cc in z)
+    none (HeldBy choice) h o e q c = absurd (let z : ⊥ = cc in z)
+    none (HeldBetween x) h o e q c = reader-commits-nothing t depth state x a.choice h o (let s : x ≡ e = cc in rw s c)
+
+    go : (b : Bool) → needs_bus what a.hits ≡ b → Goes Split t depth state (chosen a.choice) holder (if b then asks (core_of state (chosen a.choice)) a.choice holder else acts (effect_of t depth state a.choice) holder)
+    go true q = asks-goes t depth state a.choice holder stores fits (needs-some what a.hits q)
+    go false q =
+        acts-goes Split t depth state a.choice holder holder stores (needs-no-lock what a.hits q)
+        (holder-kept t depth state a.choice holder stores fits other (needs-no-lock what a.hits q) (spares holder fits other fit q)) (alike holder) (none holder fits other)
+
+-- a locked instruction reads
+reads-goes : (t : Litmus) (depth : ℕ) (state : State) (a : Choice) (loc : Loc) → AllStores state → access_of t depth state a ≡ Locks loc
+    → Goes Split t depth state (chosen a) (HeldBy a) (reads_first (core_of state (chosen a)) (load_part state (chosen a) loc))
+reads-goes t depth state (Step c) loc stores q =
+    let e : Entry = load_part state c.0 loc in
+    let same : applied state c.0 (record { outcome = Committed; after = core_of state c.0; commits = e ∷ [] }) ≡ state = quiet-same state c.0 Committed in
+    let r : HasRead t depth state e = record { kind = refl; place = refl; access = q; word = refl } in
+    record {
+      choices = [];
+      now = sym same;
+      commits = λ ys. refl;
+      goes_on = load-on (HeldBy (Step c)) e (λ x h. let z : ⊥ = cc in z);
+      stores = subst AllStores (sym same) stores;
+      holds = subst (λ z. HasRead t depth z e) (sym same) r;
+    }
+reads-goes t depth state (Drain c) loc stores q = absurd (drain-no-lock (core_of state c.0).pending loc q)
+
+completes-goes : (t : Litmus) (depth : ℕ) (state : State) (a : Choice) → AllStores state → (what : Access) → access_of t depth state a ≡ what
+    → Goes Split t depth state (chosen a) (HeldBy a) (completes t depth state a what)
+completes-goes t depth state a stores what q = go what q
+  where
+    frees : ((l : Loc) → access_of t depth state a ≢ Locks l) → Goes Split t depth state (chosen a) (HeldBy a) (acts (effect_of t depth state a) Free)
+    frees n = acts-goes Split t depth state a (HeldBy a) Free stores n tt (alike-free (HeldBy a) Free (λ ys. refl) (λ e h. let z : ⊥ = cc in z)) (λ e h. absurd (let z : ⊥ = cc in z))
+
+    go : (what : Access) → access_of t depth state a ≡ what → Goes Split t depth state (chosen a) (HeldBy a) (completes t depth state a what)
+    go NoAccess q = frees (λ l h. let z : ⊥ = cc in z)
+    go (Reads loc) q = frees (λ l h. let z : ⊥ = cc in z)
+    go (Writes loc) q = frees (λ l h. let z : ⊥ = cc in z)
+    go (Locks loc) q = reads-goes t depth state a loc stores q
+
+-- a locked instruction writes
+writes-goes : (t : Litmus) (depth : ℕ) (state : State) (e : Entry) → AllStores state → HasRead t depth state e
+    → Goes Split t depth state e.core.0 (HeldBetween e) (writes_last t depth state e)
+writes-goes t depth state e stores r =
+    subst (λ z. Goes Split t depth state e.core.0 (HeldBetween e) (acts (after_first (effect_of t depth z (Step e.core))) Free)) (sym as-is) whole
+  where
+    as-is : as_read state e ≡ state
+    as-is = ap (λ m. record { memory = m; cores = state.cores }) (ap (λ v. slice_set state.memory e.loc.0 v) (sym r.word) ∙ set-get_or state.memory e.loc.0 0)
+
+    f : Effect
+    f = effect_of t depth state (Step e.core)
+
+    p : Pairs e.core.0 state.memory e.loc (core_of state e.core.0) f
+    p = choice-pair t depth state e.core.0 e.loc r.access
+
+    y : Entry
+    y = entry e.core.0 (core_of state e.core.0).place LW e.loc p.value
+
+    parts : Parts e y
+    parts = record { load = r.kind; store = record { core = refl; place = r.place; kind = refl } }
+
+    both : f.commits ≡ e ∷ (y ∷ [])
+    both = p.commits ∙ ap (λ z. z ∷ (y ∷ [])) (same-part t depth state e r)
+
+    last : (after_first f).commits ≡ y ∷ []
+    last = ap (λ z. drop 1 z) both
+
+    memory : memory_after f.commits state.memory ≡ memory_after (after_first f).commits state.memory
+    memory = ap (λ z. memory_after z state.memory) both ∙ rw r.kind refl ∙ ap (λ z. memory_after z state.memory) (sym last)
+
+    same : applied state e.core.0 f ≡ applied state e.core.0 (after_first f)
+    same = ap (λ m. record { memory = m; cores = (applied state e.core.0 f).cores }) memory
+
+    whole : Goes Split t depth state e.core.0 (HeldBetween e) (acts (after_first f) Free)
+    whole = record {
+      choices = Step e.core ∷ [];
+      now = same;
+      commits = λ ys. ap (λ z. moved (HeldBetween e) (put_together (z ++ ys))) last ∙ moved-pair e y ys parts ∙ ap (λ z. (z ++ []) ++ put_together ys) (sym both);
+      goes_on = subst (λ z. GoesOn (HeldBetween e) Free z) (sym last) (store-on e y parts);
+      stores = subst AllStores same (choice-stores t depth state (Step e.core) stores);
+      holds = tt;
+    }
+
+split-goes : (t : Litmus) (depth : ℕ) (state : State) (a : Attempt) (holder : Holder) → AllStores state → HolderFits Split t depth state holder → HitFits t depth state a holder
+    → Goes Split t depth state (chosen a.choice) holder (split_effect t depth state a holder)
+split-goes t depth state a Free stores fits fit = begins-goes t depth state a Free stores fits tt fit
+split-goes t depth state a (HeldBy choice) stores fits fit = go (same_choice choice a.choice) refl
+  where
+    go : (b : Bool) → same_choice choice a.choice ≡ b
+        → Goes Split t depth state (chosen a.choice) (HeldBy choice) (if b then completes t depth state choice (access_of t depth state choice) else begins t depth state a (HeldBy choice))
+    go true q = subst (λ c. Goes Split t depth state (chosen c) (HeldBy choice) (completes t depth state choice (access_of t depth state choice))) (same-is choice a.choice q)
+        (completes-goes t depth state choice stores (access_of t depth state choice) refl)
+    go false q = begins-goes t depth state a (HeldBy choice) stores fits q fit
+split-goes t depth state a (HeldBetween e) stores fits fit = go (same_choice (Step e.core) a.choice) refl
+  where
+    go : (b : Bool) → same_choice (Step e.core) a.choice ≡ b
+        → Goes Split t depth state (chosen a.choice) (HeldBetween e) (if b then writes_last t depth state e else begins t depth state a (HeldBetween e))
+    go true q = subst (λ c. Goes Split t depth state (chosen c) (HeldBetween e) (writes_last t depth state e)) (same-is (Step e.core) a.choice q) (writes-goes t depth state e stores fits)
+    go false q = begins-goes t depth state a (HeldBetween e) stores fits q fit
+
+-- what one choice of the flat machine commits has both parts of a locked instruction together
+pub record IsWhole (xs : List Entry) : Type 0 where
+  pub together : (ys : List Entry) → put_together (xs ++ ys) ≡ xs ++ put_together ys
+  pub on : GoesOn Free Free xs
+
+pub choice-whole : (t : Litmus) (depth : ℕ) (state : State) (a : Choice) → AllStores state → IsWhole (effect_of t depth state a).commits
+choice-whole t depth state a stores = go (access_of t depth state a) refl
+  where
+    plain : ((l : Loc) → access_of t depth state a ≢ Locks l) → IsWhole (effect_of t depth state a).commits
+    plain n =
+        let f : Effect = effect_of t depth state a in
+        let p = choice-plain t depth state a (stores (chosen a)) n in
+        record {
+          together = λ ys. moved-plain (chosen a) (access_of t depth state a) Free f.commits ys p;
+          on = plain-on (chosen a) (access_of t depth state a) Free f.commits p (λ e h. absurd (let z : ⊥ = cc in z));
+        }
+
+    pair : (a : Choice) (loc : Loc) → access_of t depth state a ≡ Locks loc → IsWhole (effect_of t depth state a).commits
+    pair (Step c) loc q =
+        let p = choice-pair t depth state c.0 loc q in
+        let x : Entry = load_part state c.0 loc in
+        let y : Entry = entry c.0 (core_of state c.0).place LW loc p.value in
+        let parts : Parts x y = record { load = refl; store = record { core = refl; place = refl; kind = refl } } in
+        subst IsWhole (sym p.commits) (record { together = λ ys. together-pair x y ys parts; on = pair-on x y parts })
+    pair (Drain c) loc q = absurd (drain-no-lock (core_of state c.0).pending loc q)
+
+    go : (what : Access) → access_of t depth state a ≡ what → IsWhole (effect_of t depth state a).commits
+    go NoAccess q = plain (λ l h. let z : ⊥ = cc in z)
+    go (Reads loc) q = plain (λ l h. let z : ⊥ = cc in z)
+    go (Writes loc) q = plain (λ l h. let z : ⊥ = cc in z)
+    go (Locks loc) q = pair a loc q
+
+-- so on the atomic bus
+atomic-goes : (t : Litmus) (depth : ℕ) (state : State) (a : Choice) → AllStores state → Goes Atomic t depth state (chosen a) Free (acts (effect_of t depth state a) Free)
+atomic-goes t depth state a stores =
+    let w = choice-whole t depth state a stores in
+    record {
+      choices = a ∷ [];
+      now = refl;
+      commits = λ ys. w.together ys ∙ ap (λ z. z ++ put_together ys) (sym (append-nil (effect_of t depth state a).commits));
+      goes_on = w.on;
+      stores = choice-stores t depth state a stores;
+      holds = tt;
+    }
+
+pub choice-goes : (bus : Bus) (t : Litmus) (depth : ℕ) (state : BusState) (a : Attempt) → AllStores state.flat → HolderFits bus t depth state.flat state.holder → HitFits t depth state.flat a state.holder
+    → Goes bus t depth state.flat (chosen a.choice) state.holder (effect_on bus t depth state a)
+choice-goes Split t depth state a stores fits fit = split-goes t depth state.flat a state.holder stores fits fit
+choice-goes Atomic t depth state a stores fits fit = go state.holder fits
+  where
+    go : (holder : Holder) → HolderFits Atomic t depth state.flat holder → Goes Atomic t depth state.flat (chosen a.choice) holder (acts (effect_of t depth state.flat a.choice) holder)
+    go Free h = atomic-goes t depth state.flat a.choice stores
+    go (HeldBy choice) h = absurd h
+    go (HeldBetween e) h = absurd h
+
+-- ---- choices one after the other
+
+after-append : (t : Litmus) (depth : ℕ) (state : State) (xs ys : List Choice) → state_after t depth state (xs ++ ys) ≡ state_after t depth (state_after t depth state xs) ys
+after-append t depth state [] ys = refl
+after-append t depth state (x ∷ xs) ys = after-append t depth (after_choice t depth state x) xs ys
+
+commits-append : (t : Litmus) (depth : ℕ) (state : State) (xs ys : List Choice) → commits_of t depth state (xs ++ ys) ≡ commits_of t depth state xs ++ commits_of t depth (state_after t depth state xs) ys
+commits-append t depth state [] ys = refl
+commits-append t depth state (x ∷ xs) ys =
+    ap (λ z. (effect_of t depth state x).commits ++ z) (commits-append t depth (after_choice t depth state x) xs ys) ∙ sym (append_assoc (effect_of t depth state x).commits _ _)
+
+-- some choices, followed by choices of the flat machine
+pub record Follows (bus : Bus) (t : Litmus) (depth : ℕ) (begin : BusState) (commits : List Entry) (end : BusState) : Type 0 where
+  pub choices : List Choice
+  pub now : state_after t depth begin.flat choices ≡ end.flat
+  pub committed : moved begin.holder (put_together commits) ≡ commits_of t depth begin.flat choices ++ waiting end.holder
+  pub behind : Behind begin.holder end.holder commits
+  pub stores : AllStores end.flat
+  pub holds : HolderFits bus t depth end.flat end.holder
+
+rests : (bus : Bus) (t : Litmus) (depth : ℕ) (state : BusState) → AllStores state.flat → HolderFits bus t depth state.flat state.holder → Follows bus t depth state [] state
+rests bus t depth state stores fits = record { choices = []; now = refl; committed = go state.holder; behind = record { answered = λ e q. q; paired = tt }; stores = stores; holds = fits }
+  where
+    go : (holder : Holder) → moved holder [] ≡ waiting holder
+    go Free = refl
+    go (HeldBy choice) = refl
+    go (HeldBetween e) = refl
+
+follows-on : (bus : Bus) (t : Litmus) (depth : ℕ) (state : BusState) (a : Attempt) (commits : List Entry) (end : BusState)
+    → Goes bus t depth state.flat (chosen a.choice) state.holder (effect_on bus t depth state a)
+    → Follows bus t depth (after_on bus t depth state a) commits end → Follows bus t depth state ((effect_on bus t depth state a).effect.commits ++ commits) end
+follows-on bus t depth state a commits end g h =
+    let next : State = (after_on bus t depth state a).flat in
+    record {
+      choices = g.choices ++ h.choices;
+      now = after-append t depth state.flat g.choices h.choices ∙ ap (λ z. state_after t depth z h.choices) g.now ∙ h.now;
+      committed = g.commits commits ∙ ap (λ z. commits_of t depth state.flat g.choices ++ z) h.committed
+          ∙ sym (append_assoc (commits_of t depth state.flat g.choices) (commits_of t depth next h.choices) (waiting end.holder))
+          ∙ ap (λ z. (commits_of t depth state.flat g.choices ++ commits_of t depth z h.choices) ++ waiting end.holder) (sym g.now)
+          ∙ ap (λ z. z ++ waiting end.holder) (sym (commits-append t depth state.flat g.choices h.choices));
+      behind = g.goes_on commits end.holder h.behind;
+      stores = h.stores;
+      holds = h.holds;
+    }
+
+-- all choices, made one after the other
+pub all-follow : (bus : Bus) (t : Litmus) (depth : ℕ) (state : BusState) (attempts : List Attempt) → AllStores state.flat → HolderFits bus t depth state.flat state.holder → HitsFit bus t depth state attempts
+    → Follows bus t depth state (commits_on bus t depth state attempts) (state_on bus t depth state attempts)
+all-follow bus t depth state [] stores fits hits = rests bus t depth state stores fits
+all-follow bus t depth state (a ∷ rest) stores fits hits =
+    let g = choice-goes bus t depth state a stores fits hits.0 in
+    follows-on bus t depth state a (commits_on bus t depth (after_on bus t depth state a) rest) (state_on bus t depth (after_on bus t depth state a) rest) g
+    (all-follow bus t depth (after_on bus t depth state a) rest g.stores g.holds hits.1)

@@ -1,0 +1,12 @@
+pub mod Basics
+pub mod Cores
+pub mod Steps
+pub mod Waiting
+pub mod Moving
+pub mod Following
+pub mod Left
+pub mod Effects
+pub mod Rounds
+pub mod Stopping
+pub mod Ending
+pub mod Atomic

@@ -1,0 +1,25 @@
+use Rattle.std.proofs.Common.{◌≢◌}
+use Rattle.scheduler.specs.declared.fault.ChoiceFault.TheVariants as faults
+use Rattle.tso_model.specs.Runs as flat
+use Rattle.tso_cli.specs.declared.answer.Status.TheVariants.{Refused}
+use Rattle.tso_cli.specs.Answers.{counts_under, run_text, run_status, IsRunAnswer, refused, ran}
+use Rattle.tso_cli.specs.Lines.{choices_refusal}
+use Rattle.tso_cli.proofs.AnswerLemmas.{answer-is, refusal-is}
+use Rattle.tso_cli.proofs.running.run_answer.Goals as goal
+
+pub returns-in-Ok : goal.returns-in-Ok
+returns-in-Ok c =
+    let t = c.args.test.now in
+    let kind = c.args.protocol in
+    let config = c.args.config in
+    let r = flat.run t config.depth c.in-Ok.choices.items in
+    answer-is (IsRunAnswer t kind config c.args.json c.args.text.now) c.run_under.result
+    (run_text t kind config c.args.json (counts_under t kind config c.in-Ok.choices.items) r) (run_status r)
+    (rw c.deref.ensures.value at c.run_under.ensures.text) (rw c.deref.ensures.value at c.run_under.ensures.status)
+    (ran c.in-Ok.choices.items (rw c.cores.ensures.value at c.in-Ok.ensures.found))
+
+pub returns-in-Err : goal.returns-in-Err
+returns-in-Err c =
+    refusal-is (IsRunAnswer c.args.test.now c.args.protocol c.args.config c.args.json c.args.text.now) (c.in-Err.fault ≢ faults.NoMemory) c.refused_choices.result
+    (choices_refusal c.in-Err.fault) Refused c.refused_choices.ensures.text c.refused_choices.ensures.status c.refused_choices.ensures.real
+    (λ real. refused c.in-Err.fault (rw c.cores.ensures.value at (c.in-Err.ensures.refused real)))

@@ -1,0 +1,17 @@
+-- Which runs a sweep makes. (This project's profile.)
+use Rattle.std.specs.Prelude.{ℕ, ◌<◌, ◌≤◌, ◌^◌}
+use Rattle.scheduler.specs.Limits.{most_choices}
+
+-- a run for each of so many seeds, from the first one on, under so many choices of the seed
+pub record Plan : Type 0 where
+  pub from : ℕ
+  pub seeds : ℕ
+  pub length : ℕ
+
+-- seeds of a sweep, at most
+abbrev pub most_seeds : ℕ
+most_seeds = 1000
+
+-- the first seed is a word, there is a seed, and there are no more seeds, and no more choices of each, than there may be
+abbrev pub IsWithinLimits : Plan → Type 0
+IsWithinLimits p = (p.from < 2 ^ 32) × (1 ≤ p.seeds) × (p.seeds ≤ most_seeds) × (p.length ≤ most_choices)

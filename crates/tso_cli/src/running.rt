@@ -1,0 +1,118 @@
+ghost use Rattle.std.specs.Prelude.{◌≡◌, ◌≢◌, IfOk, OnOk, length, string_bytes};
+ghost use Rattle.tso_model.specs.Runs.{run, CoresExist};
+ghost use Rattle.tso_report.specs.Shown.{shown, IsOf};
+ghost use Rattle.tso_cli.specs.Answers.{counts_under, run_text, run_status, IsRunAnswer};
+ghost use Rattle.tso_cli.specs.Lines.{choices_refusal};
+ghost use Rattle.tso_cli.specs.RunTexts.{report_in, unfinished_in};
+
+use crate::answer::{Answer, Status};
+use crate::simulation::{Ending, SimFault, simulate};
+use machine_core::{Choice, Config};
+use protocol_tables::ProtocolKind;
+use scheduler::{ChoiceFault, read_choices, spelled_cores_exist};
+use std::alloc::Global;
+use tso_model::{NoMemory, Test};
+use tso_report::{Run, report_json, report_text, unfinished_json};
+
+/// The answer of `run` to a test and the text of choices, plain or as JSON.
+///
+/// Fails only for want of memory.
+pub fn run_answer(
+    alloc: Global,
+    test: &Test,
+    protocol: ProtocolKind,
+    config: Config,
+    json: bool,
+    text: &[u8],
+) -> Result<Answer, NoMemory>
+    ensures { IfOk result (λ a. IsRunAnswer test.now protocol config json text.now (string_bytes a.text) a.status) }
+{
+    spelled_cores_exist();
+    match read_choices(alloc, test.cores(), text) {
+        Ok(choices) => run_under(alloc, test, protocol, config, json, &choices),
+        Err(fault) => refused_choices(alloc, fault),
+    }
+}
+
+fn refused_choices(alloc: Global, fault: ChoiceFault) -> Result<Answer, NoMemory>
+    ensures text { IfOk result (λ a. string_bytes a.text ≡ choices_refusal fault) }
+    ensures status { IfOk result (λ a. a.status ≡ Status.Refused) }
+    ensures real { OnOk result (fault ≢ ChoiceFault.NoMemory) }
+{
+    let text = match fault {
+        ChoiceFault::BadWord(word) => format!(in alloc; "Refused choices word {word} BadWord\n")?,
+        ChoiceFault::NoSuchCore(word) => format!(in alloc;
+            "Refused choices word {word} NoSuchCore\n"
+        )?,
+        ChoiceFault::TooMany(word) => format!(in alloc; "Refused choices word {word} TooMany\n")?,
+        ChoiceFault::NoMemory => return Err(NoMemory),
+    };
+    Ok(Answer {
+        text,
+        status: Status::Refused,
+    })
+}
+
+fn run_under(
+    alloc: Global,
+    test: &Test,
+    protocol: ProtocolKind,
+    config: Config,
+    json: bool,
+    choices: &[Choice],
+) -> Result<Answer, NoMemory>
+    requires { CoresExist (length test.now.programs) choices.now }
+    ensures text { IfOk result (λ a. string_bytes a.text ≡ run_text test.now protocol config json (counts_under test.now protocol config choices.now) (run test.now config.depth choices.now)) }
+    ensures status { IfOk result (λ a. a.status ≡ run_status (run test.now config.depth choices.now)) }
+{
+    match simulate(alloc, test, protocol, config, choices) {
+        Ok(Ending::Ended(run)) => {
+            let text = report_in(alloc, test, protocol, config, json, &run)?;
+            Ok(Answer {
+                text,
+                status: Status::Good,
+            })
+        }
+        Ok(Ending::Unfinished { used, stalled }) => unfinished(alloc, json, used, stalled),
+        Err(SimFault::NoMemory) => Err(NoMemory),
+    }
+}
+
+fn report_in(
+    alloc: Global,
+    test: &Test,
+    protocol: ProtocolKind,
+    config: Config,
+    json: bool,
+    run: &Run,
+) -> Result<String, NoMemory>
+    requires { IsOf test.now (shown run.now) }
+    ensures { IfOk result (λ text. string_bytes text ≡ report_in json test.now protocol config (shown run.now)) }
+{
+    if json {
+        report_json(alloc, test, protocol, config, run)
+    } else {
+        report_text(alloc, test, protocol, config, run)
+    }
+}
+
+fn unfinished(alloc: Global, json: bool, used: usize, stalled: usize) -> Result<Answer, NoMemory>
+    ensures text { IfOk result (λ a. string_bytes a.text ≡ unfinished_in json used stalled) }
+    ensures status { IfOk result (λ a. a.status ≡ Status.Unended) }
+{
+    let text = unfinished_in(alloc, json, used, stalled)?;
+    Ok(Answer {
+        text,
+        status: Status::Unended,
+    })
+}
+
+fn unfinished_in(alloc: Global, json: bool, used: usize, stalled: usize) -> Result<String, NoMemory>
+    ensures { IfOk result (λ text. string_bytes text ≡ unfinished_in json used stalled) }
+{
+    if json {
+        unfinished_json(alloc, used, stalled)
+    } else {
+        Ok(format!(in alloc; "Unfinished used={used} stalled={stalled}\n")?)
+    }
+}

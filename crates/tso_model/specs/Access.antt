@@ -1,0 +1,60 @@
+-- The access that a choice makes: what it reads or writes beyond its own core's pending stores.
+-- (x86-TSO, section 3, for loads that the own buffer answers; Primer, chapter 7, for accesses on a bus.)
+use Rattle.std.specs.Prelude.{ℕ, List, [], ◌∷◌, filter, Option, Some, None, slice_get, zero, suc}
+use Rattle.tso_model.specs.Litmus.{Litmus}
+use Rattle.tso_model.specs.ProgramOrder.{writes_to}
+use Rattle.tso_model.specs.FlatMachine.{State, program_of, core_of}
+use Rattle.tso_model.specs.declared.instruction.Loc.{Loc}
+use Rattle.tso_model.specs.declared.instruction.Instr.{Instr}
+use Rattle.tso_model.specs.declared.instruction.Instr.TheVariants.{StoreImm, StoreReg, Load, SetImm, SetReg, Fence, Xchg, Xadd}
+use Rattle.tso_model.specs.declared.execution.Entry.{Entry}
+use Rattle.tso_model.specs.declared.choice.Choice.{Choice}
+use Rattle.tso_model.specs.declared.choice.Choice.TheVariants.{Step, Drain}
+
+-- none; a read or a write of a location; or a locked instruction's read and write of it
+pub data Access : Type 0 where
+  NoAccess : Access
+  Reads : Loc → Access
+  Writes : Loc → Access
+  Locks : Loc → Access
+
+-- a plain store writes at its step where no store is buffered
+abbrev pub store_access : ℕ → Loc → Access
+store_access zero loc = Writes loc
+store_access (suc n) loc = NoAccess
+
+-- a load reads, unless one of these own pending stores answers it
+abbrev pub load_access : Loc → List Entry → Access
+load_access loc [] = Reads loc
+load_access loc (p ∷ ps) = NoAccess
+
+-- a locked instruction waits until nothing is pending
+abbrev pub locked_access : Loc → List Entry → Access
+locked_access loc [] = Locks loc
+locked_access loc (p ∷ ps) = NoAccess
+
+-- the access of a step, at this instruction with these stores pending
+abbrev pub step_access : ℕ → Option Instr → List Entry → Access
+step_access depth None pending = NoAccess
+step_access depth (Some (StoreImm loc value)) pending = store_access depth loc
+step_access depth (Some (StoreReg loc reg)) pending = store_access depth loc
+step_access depth (Some (Load reg loc)) pending = load_access loc (filter (writes_to loc.0) pending)
+step_access depth (Some (SetImm reg value)) pending = NoAccess
+step_access depth (Some (SetReg reg other)) pending = NoAccess
+step_access depth (Some Fence) pending = NoAccess
+step_access depth (Some (Xchg loc reg)) pending = locked_access loc pending
+step_access depth (Some (Xadd loc reg)) pending = locked_access loc pending
+
+-- a drain writes the oldest of these pending stores
+abbrev pub drain_access : List Entry → Access
+drain_access [] = NoAccess
+drain_access (p ∷ ps) = Writes p.loc
+
+-- the instruction that a core stands at
+abbrev pub next_of : Litmus → State → ℕ → Option Instr
+next_of t state core = slice_get (program_of t core) (core_of state core).place
+
+-- the access that a choice makes in a state
+abbrev pub access_of : Litmus → ℕ → State → Choice → Access
+access_of t depth state (Step core) = step_access depth (next_of t state core.0) (core_of state core.0).pending
+access_of t depth state (Drain core) = drain_access (core_of state core.0).pending

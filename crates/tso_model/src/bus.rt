@@ -1,0 +1,8 @@
+/// Which bus the caches share.
+#[derive(Clone, Copy)]
+pub enum Bus {
+    /// A request and its answer are one moment.
+    Atomic,
+    /// A request and its answer are two moments, and others may act in between. (Primer, chapter 7.)
+    Split,
+}

@@ -1,0 +1,56 @@
+-- What is looked at, one core and one location at a time.
+use Rattle.std.proofs.Common.{◌≡◌, ◌∙◌, ℕ, zero, suc, ◌+◌, ◌-◌, ◌<◌, ◌≤◌, Bool, List, [], ◌∷◌, ◌++◌, length, map, filter, All, ap, sym, append_assoc, arith}
+use Rattle.std.proofs.lemmas.List.Elements.{filter-append, All-filter, All-append, All-cons, All-nil}
+use Rattle.tso_model.specs.Litmus.{Litmus}
+use Rattle.tso_model.specs.declared.register.Reg.{Reg}
+use Rattle.tso_report.specs.declared.named.Named.{Named}
+use Rattle.tso_report.specs.Report.{all_registers}
+use Rattle.tso_report.specs.Tally.{is_looked_at, IsKnown, register_of, location, registers_from, locations_from, looked_at}
+
+count-next : (i n : ℕ) → i < n → n - i ≡ suc (n - (i + 1))
+count-next i n h = omega arith
+
+-- behind what was noted, the next part and what comes after it
+part-noted : (p : Named → Bool) (list before after part rest : List Named) → after ≡ before ++ filter p part → before ++ filter p (part ++ rest) ≡ list
+    → after ++ filter p rest ≡ list
+part-noted p list before after part rest is was =
+    ap (λ noted. noted ++ filter p rest) is ∙ (append_assoc before (filter p part) (filter p rest)
+    ∙ (ap (λ further. before ++ further) (sym (filter-append p part rest)) ∙ was))
+
+pub core-noted : (p : Named → Bool) (list before after : List Named) (core n : ℕ) → core < n
+    → after ≡ before ++ filter p (map (register_of core) all_registers) → before ++ filter p (registers_from core (n - core)) ≡ list
+    → after ++ filter p (registers_from (core + 1) (n - (core + 1))) ≡ list
+core-noted p list before after core n small is was =
+    part-noted p list before after (map (register_of core) all_registers) (registers_from (core + 1) (n - (core + 1))) is
+    (ap (λ count. before ++ filter p (registers_from core count)) (sym (count-next core n small)) ∙ was)
+
+pub location-noted : (p : Named → Bool) (list before after : List Named) (loc n : ℕ) → loc < n
+    → after ≡ before ++ filter p (location loc ∷ []) → before ++ filter p (locations_from loc (n - loc)) ≡ list
+    → after ++ filter p (locations_from (loc + 1) (n - (loc + 1))) ≡ list
+location-noted p list before after loc n small is was =
+    part-noted p list before after (location loc ∷ []) (locations_from (loc + 1) (n - (loc + 1))) is
+    (ap (λ count. before ++ filter p (locations_from loc count)) (sym (count-next loc n small)) ∙ was)
+
+-- ---- what is looked at is there
+
+core-known : (cores locations core : ℕ) (regs : List Reg) → core < cores → All (IsKnown cores locations) (map (register_of core) regs)
+core-known cores locations core [] small = All-nil (IsKnown cores locations)
+core-known cores locations core (reg ∷ regs) small = All-cons (IsKnown cores locations) (register_of core reg) (map (register_of core) regs) small (core-known cores locations core regs small)
+
+registers-known : (cores locations core count : ℕ) → core + count ≤ cores → All (IsKnown cores locations) (registers_from core count)
+registers-known cores locations core zero fits = All-nil (IsKnown cores locations)
+registers-known cores locations core (suc count) fits =
+    All-append (IsKnown cores locations) (map (register_of core) all_registers) (registers_from (core + 1) count)
+    (core-known cores locations core all_registers (omega (arith, fits))) (registers-known cores locations (core + 1) count (omega (arith, fits)))
+
+locations-known : (cores locations loc count : ℕ) → loc + count ≤ locations → All (IsKnown cores locations) (locations_from loc count)
+locations-known cores locations loc zero fits = All-nil (IsKnown cores locations)
+locations-known cores locations loc (suc count) fits =
+    All-cons (IsKnown cores locations) (location loc) (locations_from (loc + 1) count) (omega (arith, fits)) (locations-known cores locations (loc + 1) count (omega (arith, fits)))
+
+pub looked-known : (t : Litmus) → All (IsKnown (length t.programs) (length t.locations)) (looked_at t)
+looked-known t =
+    let cores = length t.programs in
+    let locations = length t.locations in
+    All-filter (is_looked_at t.condition) (IsKnown cores locations) (registers_from 0 cores ++ locations_from 0 locations)
+    (All-append (IsKnown cores locations) (registers_from 0 cores) (locations_from 0 locations) (registers-known cores locations 0 cores (omega arith)) (locations-known cores locations 0 locations (omega arith)))

@@ -1,0 +1,33 @@
+-- What a tally is seen as, and what it holds.
+use Rattle.std.proofs.Common.{◌≡◌, ◌∙◌, ℕ, Bool, List, ◌++◌, length, All, sym, ap, subst, append_assoc}
+use Rattle.tso_model.specs.Litmus.{Litmus}
+use Rattle.tso_report.specs.declared.named.Named.{Named}
+use Rattle.tso_report.specs.declared.counters.Counters.{Counters}
+use Rattle.tso_report.specs.Shown.{Shown, IsOf}
+use Rattle.tso_report.specs.Tally.{Tallied, IsKnown, looked_at, sweep_line, state_lines, observation, tally_text}
+use Rattle.tso_report.specs.Counted.{states_of, counts_in, IsKept}
+use Rattle.tso_report.proofs.Looking.{looked-known}
+
+abbrev seen : Litmus → Counters → Tallied
+seen t counters = record { test = t; counts = counts_in counters }
+
+-- what is looked at is there in each run of the test
+pub known-in-run : (t : Litmus) (counters : Counters) (tally : Tallied) (s : Shown) (names list : List Named) → seen t counters ≡ tally → IsOf tally.test s
+    → names ≡ looked_at t → list ≡ names → All (IsKnown (length s.registers) (length s.memory)) list
+known-in-run t counters tally s names list view fits are same =
+    let cores : length t.programs ≡ length s.registers = ap (λ m. length m.test.programs) view ∙ sym fits.registers in
+    let locations : length t.locations ≡ length s.memory = ap (λ m. length m.test.locations) view ∙ sym fits.memory in
+    subst (λ n. All (IsKnown n (length s.memory)) list) cores
+    (subst (λ n. All (IsKnown (length t.programs) n) list) locations
+    (subst (All (IsKnown (length t.programs) (length t.locations))) (sym (same ∙ are)) (looked-known t)))
+
+-- the text is put together from its parts
+pub text-of-tally : (t : Litmus) (counters : Counters) (tally : Tallied) (judged : Bool) (from size : ℕ) (first second all : List ℕ) → seen t counters ≡ tally → IsKept judged counters
+    → first ≡ sweep_line counters.ended counters.unfinished from size → second ≡ first ++ state_lines t (states_of counters.states.entries)
+    → all ≡ second ++ observation t.name t.condition counters.held counters.failed → all ≡ tally_text tally.test tally.counts from size
+text-of-tally t counters tally judged from size first second all view kept is_first is_second is =
+    let states = state_lines t (states_of counters.states.entries) in
+    let last = observation t.name t.condition counters.held counters.failed in
+    subst (λ m. all ≡ tally_text m.test m.counts from size) view
+    (is ∙ (ap (λ text. text ++ last) is_second ∙ (append_assoc first states last ∙ (ap (λ text. text ++ (states ++ last)) is_first
+    ∙ ap (λ ended. sweep_line ended counters.unfinished from size ++ (states ++ last)) kept.ended))))

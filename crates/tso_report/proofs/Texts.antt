@@ -1,0 +1,52 @@
+-- Texts made piece by piece.
+use Rattle.std.proofs.Common.{◌≡◌, ℕ, List, [], ◌∷◌, ◌++◌, length, codes, append-nil, ◌⊎◌, inl, inr, refl, sym, ap, ◌∙◌}
+use Rattle.std.proofs.lemmas.List.{append_assoc}
+use Rattle.tso_model.specs.Litmus.{Litmus}
+use Rattle.tso_report.specs.declared.named.Named.{Named}
+use Rattle.tso_report.specs.Tally.{printed_value, printed_values}
+
+-- what was written so far, behind which a piece and then a rest come
+behind : (piece rest before after : List ℕ) → after ≡ before ++ piece → after ++ rest ≡ before ++ (piece ++ rest)
+behind piece rest before after is = ap (λ text. text ++ rest) is ∙ append_assoc before piece rest
+
+pub seven_pieces : (a b c d e f g : List ℕ) (second third fourth fifth sixth all : List ℕ)
+    → second ≡ a ++ b → third ≡ second ++ c → fourth ≡ third ++ d → fifth ≡ fourth ++ e → sixth ≡ fifth ++ f → all ≡ sixth ++ g
+    → all ≡ a ++ (b ++ (c ++ (d ++ (e ++ (f ++ g)))))
+seven_pieces a b c d e f g second third fourth fifth sixth all is_second is_third is_fourth is_fifth is_sixth is =
+    is ∙ (behind f g fifth sixth is_sixth ∙ (behind e (f ++ g) fourth fifth is_fifth ∙ (behind d (e ++ (f ++ g)) third fourth is_fourth
+    ∙ (behind c (d ++ (e ++ (f ++ g))) second third is_third ∙ behind b (c ++ (d ++ (e ++ (f ++ g)))) a second is_second))))
+
+-- a line written in two pieces and its end
+pub ended_line : (old front text first second all : List ℕ) → first ≡ old ++ front → second ≡ first ++ text → all ≡ second ++ 10 ∷ []
+    → all ≡ old ++ (front ++ (text ++ 10 ∷ []))
+ended_line old front text first second all is_first is_second is =
+    is ∙ (behind text (10 ∷ []) first second is_second ∙ behind front (text ++ 10 ∷ []) old first is_first)
+
+pub sweep_nested : (from runs length rest : List ℕ)
+    → (codes "Sweep from=" ++ (from ++ (codes " seeds=" ++ (runs ++ (codes " length=" ++ length))))) ++ rest
+    ≡ codes "Sweep from=" ++ (from ++ (codes " seeds=" ++ (runs ++ (codes " length=" ++ (length ++ rest)))))
+sweep_nested from runs length rest = simp append_assoc
+
+-- ---- values beside what they are of
+
+pub values-next : (t : Litmus) (named : Named) (value : ℕ) (names more : List Named) (values further : List ℕ) (before after whole : List ℕ)
+    → names ≡ named ∷ more → values ≡ value ∷ further → after ≡ before ++ printed_value t named value
+    → before ++ printed_values t names values ≡ whole → after ++ printed_values t more further ≡ whole
+values-next t named value names more values further before after whole first second is was =
+    behind (printed_value t named value) (printed_values t more further) before after is
+    ∙ (sym (ap (λ list. before ++ printed_values t list (value ∷ further)) first) ∙ (sym (ap (λ list. before ++ printed_values t names list) second) ∙ was))
+
+pub no-names : (t : Litmus) (names : List Named) (values : List ℕ) → length names ≡ 0 → printed_values t names values ≡ []
+no-names t [] values none = refl
+no-names t (named ∷ names) values none = absurd cc
+
+pub no-values : (t : Litmus) (names : List Named) (values : List ℕ) → length values ≡ 0 → printed_values t names values ≡ []
+no-values t [] values none = refl
+no-values t (named ∷ names) [] none = refl
+no-values t (named ∷ names) (value ∷ values) none = absurd cc
+
+-- one of the two lists is at its end, however an iterator says so
+pub values-end : {X Y : Type 0} {P : X → Type 0} {Q : Y → Type 0} (t : Litmus) (names : List Named) (values : List ℕ) (text whole : List ℕ)
+    → ((x : X) × ((length names ≡ 0) × P x)) ⊎ ((y : Y) × ((length values ≡ 0) × Q y)) → text ++ printed_values t names values ≡ whole → text ≡ whole
+values-end t names values text whole (inl (x, (none, p))) was = sym (append-nil text) ∙ (sym (ap (λ rest. text ++ rest) (no-names t names values none)) ∙ was)
+values-end t names values text whole (inr (y, (none, q))) was = sym (append-nil text) ∙ (sym (ap (λ rest. text ++ rest) (no-values t names values none)) ∙ was)

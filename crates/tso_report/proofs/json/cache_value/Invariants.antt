@@ -1,0 +1,7 @@
+use Rattle.std.proofs.Common.{◌≡◌, ◌++◌, drop, map}
+use Rattle.serde_json.specs.View.{view}
+use Rattle.tso_report.specs.Json.{counts_value}
+use Rattle.tso_report.proofs.json.cache_value.Given as goal
+
+abbrev pub invariant-loop-counts : goal.invariant-loop-counts
+invariant-loop-counts l = map view l.values.items ++ map counts_value (drop l.counts-index l.counts) ≡ map counts_value l.initial.counts

@@ -1,0 +1,7 @@
+use Rattle.std.proofs.Common.{◌≡◌, drop}
+use Rattle.serde_json.specs.View.{members_view}
+use Rattle.tso_report.specs.Json.{memory_members}
+use Rattle.tso_report.proofs.json.memory_value.Given as goal
+
+abbrev pub invariant-loop-loc : goal.invariant-loop-loc
+invariant-loop-loc l = members_view l.members.entries ≡ memory_members (drop l.loc l.test.locations) (drop l.loc l.memory)

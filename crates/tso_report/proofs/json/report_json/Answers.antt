@@ -1,0 +1,8 @@
+use Rattle.std.proofs.Common.{◌∙◌, ap}
+use Rattle.serde_json.specs.Written.{has_float}
+use Rattle.tso_report.specs.Shown.{shown}
+use Rattle.tso_report.proofs.NoFloats.{run_has_no_float}
+use Rattle.tso_report.proofs.json.report_json.Goals as goal
+
+pub line_of-requires : goal.line_of-requires
+line_of-requires c = ap has_float c.in_ok-value.ensures ∙ run_has_no_float c.args.test.now c.args.protocol c.args.config (shown c.args.run.now)

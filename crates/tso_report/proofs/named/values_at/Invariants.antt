@@ -1,0 +1,7 @@
+use Rattle.std.proofs.Common.{◌≡◌, ◌++◌, drop, map}
+use Rattle.tso_report.specs.Tally.{value_of}
+use Rattle.tso_report.proofs.named.values_at.Given as goal
+
+abbrev pub invariant-loop-named : goal.invariant-loop-named
+invariant-loop-named l =
+    l.values.items ++ map (value_of l.run.registers.items l.run.memory.items) (drop l.named-index l.list) ≡ map (value_of l.run.registers.items l.run.memory.items) l.list

@@ -1,0 +1,9 @@
+use Rattle.std.proofs.Common.{All, length, sym, subst}
+use Rattle.tso_report.specs.Tally.{IsKnown}
+use Rattle.tso_report.proofs.Looking.{looked-known}
+use Rattle.tso_report.proofs.tally_text.write_state.Goals as goal
+
+pub write_values-requires : goal.write_values-requires
+write_values-requires c =
+    let t = c.args.test.now in
+    subst (All (IsKnown (length t.programs) (length t.locations))) (sym c.requires) (looked-known t)

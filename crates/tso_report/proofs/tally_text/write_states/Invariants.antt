@@ -1,0 +1,8 @@
+use Rattle.std.proofs.Common.{◌≡◌, ◌++◌, string_bytes}
+use Rattle.tso_report.specs.Tally.{state_lines}
+use Rattle.tso_report.specs.Counted.{states_of}
+use Rattle.tso_report.proofs.tally_text.write_states.Given as goal
+
+abbrev pub invariant-loop-values : goal.invariant-loop-values
+invariant-loop-values l =
+    string_bytes l.text ++ state_lines l.test (states_of l.values-iterator) ≡ string_bytes l.initial.text ++ state_lines l.test (states_of l.counters.states.entries)

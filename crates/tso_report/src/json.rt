@@ -1,0 +1,224 @@
+//! The report of a run as JSON, for programs to read. It is one line, and its objects have their keys in the order of
+//! their bytes.
+
+ghost use Rattle.std.specs.Prelude.{◌≡◌, ◌++◌, ◌∷◌, [], false, IfOk, OnOk, All, string_bytes, length, map};
+ghost use Rattle.serde_json.specs.Data.{Data, boolean, string};
+ghost use Rattle.serde_json.specs.Written.{compact_text, has_float};
+ghost use Rattle.serde_json.specs.View.{view, members_view};
+ghost use Rattle.order_builder.specs.PrintedOrder.{HasLocation};
+ghost use Rattle.tso_report.specs.Shown.{shown, IsOf};
+ghost use Rattle.tso_report.specs.Report.{line};
+ghost use Rattle.tso_report.specs.Json.{counts_value, cache_value, choices_value, verdict_value, condition_value, machine_value, memory_members, memory_value, order_value, registers_value, cores_value, run_value, unfinished_value, json_report, json_unfinished};
+
+use crate::report::quantifier_text;
+use crate::run::Run;
+use machine_core::{Config, Counts};
+use order_builder::entry_text;
+use protocol_tables::ProtocolKind;
+use serde_json::{Map, Value, json, put};
+use std::alloc::Global;
+use tso_model::{Entry, Loc, NoMemory, Reg, Test};
+
+/// The report of a run as JSON: an object of the cache counts, the choices, the condition, the machine, the
+/// memory, the order, the registers and the test, printed compact, and a line feed.
+///
+/// Fails only for want of memory.
+pub fn report_json(
+    alloc: Global,
+    test: &Test,
+    protocol: ProtocolKind,
+    config: Config,
+    run: &Run,
+) -> Result<String, NoMemory>
+    requires { IsOf test.now (shown run.now) }
+    ensures { IfOk result (λ text. string_bytes text ≡ json_report test.now protocol config (shown run.now)) }
+{
+    let value = run_value(alloc, test, protocol, config, run)?;
+    line_of(alloc, &value)
+}
+
+/// The line of a run that didn't end, as JSON: how many choices were used, and how many of these stalled.
+///
+/// Fails only for want of memory.
+pub fn unfinished_json(alloc: Global, used: usize, stalled: usize) -> Result<String, NoMemory>
+    ensures { IfOk result (λ text. string_bytes text ≡ json_unfinished used stalled) }
+{
+    let value = unfinished_value(alloc, used, stalled)?;
+    line_of(alloc, &value)
+}
+
+/// The compact text of a value, and a line feed.
+fn line_of(alloc: Global, value: &Value) -> Result<String, NoMemory>
+    requires { has_float (view value.now) ≡ false }
+    ensures { IfOk result (λ text. string_bytes text ≡ line (compact_text (view value.now))) }
+{
+    let mut text = value.to_string(alloc)?;
+    text.push('\n')?;
+    Ok(text)
+}
+
+fn unfinished_value(alloc: Global, used: usize, stalled: usize) -> Result<Value, NoMemory>
+    ensures { IfOk result (λ value. view value ≡ unfinished_value used stalled) }
+{
+    Ok(json!(in alloc; {"unfinished": {"stalled": stalled, "used": used}})?)
+}
+
+fn run_value(
+    alloc: Global,
+    test: &Test,
+    protocol: ProtocolKind,
+    config: Config,
+    run: &Run,
+) -> Result<Value, NoMemory>
+    requires { IsOf test.now (shown run.now) }
+    ensures { IfOk result (λ value. view value ≡ run_value test.now protocol config (shown run.now)) }
+{
+    let mut members = Map::new(alloc);
+    put(
+        &mut members,
+        alloc,
+        "cache",
+        cache_value(alloc, &run.counts)?,
+    )?;
+    put(
+        &mut members,
+        alloc,
+        "choices",
+        choices_value(alloc, run.used, run.stalled, run.unused)?,
+    )?;
+    put(
+        &mut members,
+        alloc,
+        "condition",
+        condition_value(alloc, test, run.holds)?,
+    )?;
+    put(
+        &mut members,
+        alloc,
+        "machine",
+        machine_value(alloc, protocol, config)?,
+    )?;
+    put(
+        &mut members,
+        alloc,
+        "memory",
+        memory_value(alloc, test, &run.memory)?,
+    )?;
+    put(
+        &mut members,
+        alloc,
+        "order",
+        order_value(alloc, test, &run.execution.order)?,
+    )?;
+    put(
+        &mut members,
+        alloc,
+        "registers",
+        cores_value(alloc, &run.registers)?,
+    )?;
+    put(
+        &mut members,
+        alloc,
+        "test",
+        Value::try_from_str(alloc, test.name())?,
+    )?;
+    Ok(Value::Object(members))
+}
+
+fn cache_value(alloc: Global, counts: &[Counts]) -> Result<Value, NoMemory>
+    ensures { IfOk result (λ value. view value ≡ cache_value counts.now) }
+{
+    let mut values = Vec::new(alloc);
+    for counts in counts {
+        values.push(counts_value(alloc, *counts)?)?;
+    }
+    Ok(Value::Array(values))
+}
+
+fn counts_value(alloc: Global, counts: Counts) -> Result<Value, NoMemory>
+    ensures { IfOk result (λ value. view value ≡ counts_value counts) }
+{
+    let (hits, misses, upgrades) = (counts.hits, counts.misses, counts.upgrades);
+    let (forwards, write_backs, flushes) = (counts.forwards, counts.write_backs, counts.flushes);
+    Ok(
+        json!(in alloc; {"flushes": flushes, "forwards": forwards, "hits": hits, "misses": misses, "upgrades": upgrades, "write_backs": write_backs})?,
+    )
+}
+
+fn choices_value(
+    alloc: Global,
+    used: usize,
+    stalled: usize,
+    unused: usize,
+) -> Result<Value, NoMemory>
+    ensures { IfOk result (λ value. view value ≡ choices_value used stalled unused) }
+{
+    Ok(json!(in alloc; {"stalled": stalled, "unused": unused, "used": used})?)
+}
+
+fn condition_value(alloc: Global, test: &Test, holds: Option<bool>) -> Result<Value, NoMemory>
+    ensures { IfOk result (λ value. view value ≡ condition_value test.now.condition holds) }
+{
+    match (test.cond(), holds) {
+        (Some(cond), Some(holds)) => verdict_value(alloc, quantifier_text(cond.quantifier), holds),
+        _ => Ok(Value::Null),
+    }
+}
+
+fn verdict_value(alloc: Global, kind: &str, holds: bool) -> Result<Value, NoMemory>
+    ensures { IfOk result (λ value. view value ≡ verdict_value kind.now holds) }
+{
+    Ok(json!(in alloc; {"holds": holds, "kind": kind})?)
+}
+
+fn machine_value(alloc: Global, protocol: ProtocolKind, config: Config) -> Result<Value, NoMemory>
+    ensures { IfOk result (λ value. view value ≡ machine_value protocol config) }
+{
+    let name = protocol.name();
+    let depth = config.depth();
+    let (sets, ways, words) = (config.sets(), config.ways(), config.words());
+    Ok(
+        json!(in alloc; {"depth": depth, "protocol": name, "sets": sets, "ways": ways, "words": words})?,
+    )
+}
+
+fn memory_value(alloc: Global, test: &Test, memory: &[u32]) -> Result<Value, NoMemory>
+    requires { length memory.now ≡ length test.now.locations }
+    ensures { IfOk result (λ value. view value ≡ memory_value test.now memory.now) }
+{
+    let mut members = Map::new(alloc);
+    for loc in (0..test.locations()).rev() {
+        let name = test.location_name(Loc(loc));
+        let word = memory[loc as usize];
+        put(&mut members, alloc, name, Value::from(word))?;
+    }
+    Ok(Value::Object(members))
+}
+
+fn order_value(alloc: Global, test: &Test, order: &[Entry]) -> Result<Value, NoMemory>
+    requires { All (HasLocation test.now) order.now }
+    ensures { IfOk result (λ value. view value ≡ order_value test.now order.now) }
+{
+    let mut values = Vec::new(alloc);
+    for entry in order {
+        values.push(Value::String(entry_text(alloc, test, entry)?))?;
+    }
+    Ok(Value::Array(values))
+}
+
+fn cores_value(alloc: Global, registers: &[[u32; 6]]) -> Result<Value, NoMemory>
+    ensures { IfOk result (λ value. view value ≡ cores_value registers.now) }
+{
+    let mut values = Vec::new(alloc);
+    for registers in registers {
+        values.push(registers_value(alloc, registers)?)?;
+    }
+    Ok(Value::Array(values))
+}
+
+fn registers_value(alloc: Global, registers: &[u32; 6]) -> Result<Value, NoMemory>
+    ensures { IfOk result (λ value. view value ≡ registers_value registers.now) }
+{
+    let [eax, ebx, ecx, edx, esi, edi] = *registers;
+    Ok(json!(in alloc; {"EAX": eax, "EBX": ebx, "ECX": ecx, "EDI": edi, "EDX": edx, "ESI": esi})?)
+}

@@ -1,0 +1,133 @@
+//! What the runs of a sweep are told apart by: the values of the registers and locations that the test's
+//! condition names, or of all locations where there is no condition.
+
+ghost use Rattle.std.specs.Prelude.{◌≡◌, ◌<◌, ◌++◌, ◌∷◌, [], IfOk, OnOk, All, length, map, filter};
+ghost use Rattle.tso_model.specs.Condition.{claim_of};
+ghost use Rattle.tso_report.specs.Report.{all_registers};
+ghost use Rattle.tso_report.specs.Tally.{names_register, names_location, is_looked_at, register_of, registers_from, locations_from, looked_at, value_of, IsKnown};
+
+use crate::run::Run;
+use std::alloc::Global;
+use tso_model::{Core, Loc, NoMemory, Prop, Reg, Test};
+
+/// What an atom of a condition names in a final state.
+#[derive(Clone, Copy)]
+pub enum Named {
+    /// A register of a core.
+    Register(Core, Reg),
+    /// A location.
+    Location(Loc),
+}
+
+/// What is looked at of the test's final states: registers by core and then in their order, and then
+/// locations by number.
+pub fn looked_at(alloc: Global, test: &Test) -> Result<Vec<Named>, NoMemory>
+    ensures { IfOk result (λ list. list.items ≡ looked_at test.now) }
+{
+    let mut list = Vec::new(alloc);
+    note_registers(&mut list, test)?;
+    note_locations(&mut list, test)?;
+    Ok(list)
+}
+
+fn note_registers(list: &mut Vec<Named>, test: &Test) -> Result<(), NoMemory>
+    ensures { OnOk result (list.new.items ≡ list.old.items ++ filter (is_looked_at test.now.condition) (registers_from 0 (length test.now.programs))) }
+{
+    for core in 0..test.cores() {
+        note_core(list, test, core)?;
+    }
+    Ok(())
+}
+
+#[tactic(auto, unfolding(crate::specs::Report::all_registers))]
+fn note_core(list: &mut Vec<Named>, test: &Test, core: u8) -> Result<(), NoMemory>
+    ensures { OnOk result (list.new.items ≡ list.old.items ++ filter (is_looked_at test.now.condition) (map (register_of core) all_registers)) }
+{
+    note_each(list, test, core, &Reg::ALL)
+}
+
+fn note_each(list: &mut Vec<Named>, test: &Test, core: u8, regs: &[Reg]) -> Result<(), NoMemory>
+    ensures { OnOk result (list.new.items ≡ list.old.items ++ filter (is_looked_at test.now.condition) (map (register_of core) regs.now)) }
+{
+    for reg in regs {
+        note(list, test, Named::Register(Core(core), *reg))?;
+    }
+    Ok(())
+}
+
+fn note_locations(list: &mut Vec<Named>, test: &Test) -> Result<(), NoMemory>
+    ensures { OnOk result (list.new.items ≡ list.old.items ++ filter (is_looked_at test.now.condition) (locations_from 0 (length test.now.locations))) }
+{
+    for loc in 0..test.locations() {
+        note(list, test, Named::Location(Loc(loc)))?;
+    }
+    Ok(())
+}
+
+fn note(list: &mut Vec<Named>, test: &Test, named: Named) -> Result<(), NoMemory>
+    ensures { OnOk result (list.new.items ≡ list.old.items ++ filter (is_looked_at test.now.condition) (named ∷ [])) }
+{
+    if is_looked_at(test, named) {
+        list.push(named)?;
+    }
+    Ok(())
+}
+
+fn is_looked_at(test: &Test, named: Named) -> bool
+    ensures { result ≡ is_looked_at test.now.condition named }
+{
+    match (test.cond(), named) {
+        (Some(cond), Named::Register(core, reg)) => names_register(&cond.prop, core, reg),
+        (Some(cond), Named::Location(loc)) => names_location(&cond.prop, loc),
+        (None, Named::Register(..)) => false,
+        (None, Named::Location(_)) => true,
+    }
+}
+
+fn names_register(prop: &Prop, core: Core, reg: Reg) -> bool
+    ensures { result ≡ names_register (claim_of prop.now) core.0 reg }
+{
+    match prop {
+        Prop::Truth(_) | Prop::LocIs(..) => false,
+        Prop::RegIs(other, named, _) => other.0 == core.0 && named.index() == reg.index(),
+        Prop::Not(inner) => names_register(inner, core, reg),
+        Prop::And(left, right) | Prop::Or(left, right) => {
+            names_register(left, core, reg) || names_register(right, core, reg)
+        }
+    }
+}
+
+fn names_location(prop: &Prop, loc: Loc) -> bool
+    ensures { result ≡ names_location (claim_of prop.now) loc.0 }
+{
+    match prop {
+        Prop::Truth(_) | Prop::RegIs(..) => false,
+        Prop::LocIs(named, _) => named.0 == loc.0,
+        Prop::Not(inner) => names_location(inner, loc),
+        Prop::And(left, right) | Prop::Or(left, right) => {
+            names_location(left, loc) || names_location(right, loc)
+        }
+    }
+}
+
+/// The values that a run has at these, in their order.
+pub fn values_at(alloc: Global, list: &[Named], run: &Run) -> Result<Vec<u32>, NoMemory>
+    requires { All (IsKnown (length run.now.registers.items) (length run.now.memory.items)) list.now }
+    ensures { IfOk result (λ values. values.items ≡ map (value_of run.now.registers.items run.now.memory.items) list.now) }
+{
+    let mut values = Vec::new(alloc);
+    for named in list {
+        values.push(value_at(*named, &run.registers, &run.memory))?;
+    }
+    Ok(values)
+}
+
+fn value_at(named: Named, registers: &[[u32; 6]], memory: &[u32]) -> u32
+    requires { IsKnown (length registers.now) (length memory.now) named }
+    ensures { result ≡ value_of registers.now memory.now named }
+{
+    match named {
+        Named::Register(core, reg) => registers[core.0 as usize][reg.index()],
+        Named::Location(loc) => memory[loc.0 as usize],
+    }
+}

@@ -1,0 +1,111 @@
+//! What a sweep says of its runs: the tally of them, and its text.
+
+ghost use Rattle.std.specs.Prelude.{◌≡◌, ◌+◌, ◌<◌, ◌^◌, ◌-◌, true, IfOk, OnOk, OnErr, string_bytes, is_some};
+ghost use Rattle.tso_report.specs.Shown.{shown, IsOf};
+ghost use Rattle.tso_report.specs.Tally.{nothing_counted, with_run, with_unfinished, runs_in, ended_in, tally_text};
+
+use crate::counters::{Counters, count_ended, count_unfinished, no_runs};
+use crate::named::{Named, looked_at, values_at};
+use crate::run::Run;
+use crate::tally_text::{write_observation, write_states, write_sweep};
+use std::alloc::Global;
+use std::marker::Model;
+use tso_model::{NoMemory, Test};
+
+/// What is counted of the runs of one test, which it borrows: how many ended with each list of values of
+/// what the condition names (or of all locations, where there is no condition), how many of these made
+/// the condition's proposition true and false, and how many didn't end.
+#[derive(Drop)]
+pub struct Tally<'a> {
+    test: &'a Test,
+    names: Vec<Named>,
+    counters: Counters,
+    alloc: Global,
+}
+
+impl<'a> Model for Tally<'a> {
+    ghost use Rattle.std.specs.Coded.{codes};
+    ghost use Rattle.tso_model.specs.ConditionCode.{claim_code};
+    ghost use Rattle.tso_report.specs.Tally.{Tallied};
+
+    ghost Value = { Tallied };
+
+    ghost coded = { Prim.hlevel (codes, claim_code) };
+
+    ghost use Rattle.std.specs.Prelude.{◌≡◌, is_some};
+    ghost use Rattle.tso_report.specs.Tally.{looked_at};
+    ghost use Rattle.tso_report.specs.Counted.{counts_in, IsKept};
+
+    ghost view = { λ m. record { test = m.test.now; counts = counts_in m.counters } };
+
+    ghost invariant = { λ m. (m.names.items ≡ looked_at m.test.now) × IsKept (is_some m.test.now.condition) m.counters };
+}
+
+impl<'a> Tally<'a> {
+    /// A tally of the test in which nothing is counted.
+    ///
+    /// Fails only for want of memory.
+    pub fn new(alloc: Global, test: &'a Test) -> Result<Self, NoMemory>
+        ensures { IfOk result (λ tally. tally ≡ record { test = test.now; counts = nothing_counted }) }
+    {
+        let names = looked_at(alloc, test)?;
+        let counters = no_runs(alloc);
+        Ok(Tally {
+            test,
+            names,
+            counters,
+            alloc,
+        })
+    }
+
+    /// Counts a run of the test that ended.
+    ///
+    /// Fails only for want of memory; then nothing has changed.
+    pub fn add(&mut self, run: &Run) -> Result<(), NoMemory>
+        requires fits { IsOf self.old.test (shown run.now) }
+        requires room { runs_in self.old.counts < 2 ^ 32 - 1 }
+
+        ensures counts { OnOk result (self.new.counts ≡ with_run self.old.test (shown run.now) self.old.counts) }
+        ensures test { self.new.test ≡ self.old.test }
+        ensures refused { OnErr result (self.new ≡ self.old) }
+    {
+        let values = values_at(self.alloc, &self.names, run)?;
+        count_ended(&mut self.counters, values, run.holds)
+    }
+
+    /// Counts a run of the test that didn't end.
+    pub fn add_unfinished(&mut self)
+        requires { runs_in self.old.counts < 2 ^ 32 - 1 }
+
+        ensures counts { self.new.counts ≡ with_unfinished self.old.counts }
+        ensures test { self.new.test ≡ self.old.test }
+    {
+        count_unfinished(&mut self.counters);
+    }
+
+    /// How many runs were counted, those that ended and those that didn't.
+    pub fn count(&self) -> u32
+        ensures runs { result ≡ runs_in self.now.counts }
+
+        // With a condition, each run that ended made its proposition true or false.
+        ensures verdicts { is_some self.now.test.condition ≡ true → self.now.counts.held + self.now.counts.failed ≡ ended_in self.now.counts }
+    {
+        self.counters.ended + self.counters.unfinished
+    }
+
+    /// The text of the counts: a line of the sweep; a line for each list of values, in ascending order; and,
+    /// where the test has a condition, a line on how often its proposition was true and false. `from` is
+    /// the number of the first run, and `length` how many choices each run was given.
+    ///
+    /// Fails only for want of memory.
+    pub fn text(&self, alloc: Global, from: u32, length: u32) -> Result<String, NoMemory>
+        ensures { IfOk result (λ text. string_bytes text ≡ tally_text self.now.test self.now.counts from length) }
+    {
+        let mut text = String::new(alloc);
+        let (ended, unfinished) = (self.counters.ended, self.counters.unfinished);
+        write_sweep(&mut text, ended, unfinished, from, length)?;
+        write_states(&mut text, self.test, &self.names, &self.counters)?;
+        write_observation(&mut text, self.test, &self.counters)?;
+        Ok(text)
+    }
+}
