@@ -16,7 +16,7 @@ use Rattle.snoop_bus.specs.Accesses.{LoadsAt, WritesAt}
 use Rattle.machine_core.specs.declared.processor.Processor.{Processor}
 use Rattle.machine_core.specs.declared.cache_use.CacheUse.TheVariants.{Unused, Forwarded, Through}
 use Rattle.machine_core.specs.Cores.{store_of, core_state, pending_in, step_by, drain_by}
-use Rattle.machine_core.specs.Statistics.{Caches, caches_of, not_through, load_behind, write_by, use_of}
+use Rattle.machine_core.specs.Caches.{Caches, caches_of, not_through, load_behind, write_by, use_of}
 use Rattle.machine_core.specs.Performed.{HasUsed}
 
 or_true : (b : Bool) → true ≡ (b || true)
@@ -46,12 +46,12 @@ forwards b pending core loc h = rw h (record { how_is = refl; caches = refl })
 pub loads : (old new : Bus) (pending : List Entry) (core loc word : ℕ) (access : Access) → list_any (writes_to loc) pending ≡ false
     → LoadsAt old new core loc word access → IsSameMachine old new → HasUsed (load_behind (caches_of old) pending core loc) new (Through access)
 loads old new pending core loc word access h done machine =
-    rw h (record { how_is = ap Through done.access_is; caches = rw (machine.rows, machine.shape, done.contents) refl })
+    rw h (record { how_is = ap Through done.access_is; caches = rw (machine.rows, machine.shape, done.contents, done.held.awaited_is) refl })
 
 pub writes : (old new : Bus) (core loc word : ℕ) (access : Access) → WritesAt old new core loc word access → IsSameMachine old new
     → HasUsed (write_by (caches_of old) core loc) new (Through access)
 writes old new core loc word access done machine =
-    record { how_is = ap Through done.access_is; caches = rw (machine.rows, machine.shape, done.contents) refl }
+    record { how_is = ap Through done.access_is; caches = rw (machine.rows, machine.shape, done.contents, done.held.awaited_is) refl }
 
 -- where nothing is committed the caches are not used
 pub rests : (b : Bus) (pending commits : List Entry) → commits ≡ [] → HasUsed (use_of (caches_of b) pending commits) b Unused

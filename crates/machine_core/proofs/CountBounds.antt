@@ -1,13 +1,12 @@
 -- Why counting never overflows: no count is larger than the number of instructions that the cores are done with.
-use Rattle.std.proofs.Common.{◌≡◌, ◌≤◌, ◌<◌, ◌+◌, ◌-◌, ◌*◌, ◌⊎◌, inl, inr, ℕ, zero, suc, Bool, true, false, nat_lt, if◌then◌else◌, List, [], ◌∷◌, ◌++◌, length, length-append, length-set, replicate, slice_get, slice_set, slice_index, slice_index_or, Option, Some, None, All, refl, sym, ap, ◌∙◌, subst, arith}
-use Rattle.std.specs.List.{list_any, sum_by}
+use Rattle.std.proofs.Common.{◌≡◌, ◌≤◌, ◌<◌, ◌+◌, ◌-◌, ◌⊎◌, inl, inr, ℕ, zero, suc, Bool, true, false, nat_lt, if◌then◌else◌, List, [], ◌∷◌, ◌++◌, length, length-append, length-set, replicate, slice_get, slice_index, slice_index_or, Option, Some, None, All, refl, sym, ap, ◌∙◌, subst, arith}
+use Rattle.std.specs.List.{list_any}
 use Rattle.std.proofs.lemmas.List.Elements.{All-set}
-use Rattle.std.proofs.lemmas.List.Sums.{sum_by-set, sum_by-le}
 use Rattle.tso_model.specs.Limits.{most_instructions}
 use Rattle.tso_model.specs.Litmus.{Litmus, IsTest}
 use Rattle.tso_model.specs.Thread.{entry, value_in, sum_of, with_value}
 use Rattle.tso_model.specs.ProgramOrder.{writes_to}
-use Rattle.tso_model.specs.FlatMachine.{CoreState, State, Effect, stalled, stored, fenced, locked, step_of, drain_of, effect_of, after_choice, chosen, core_of, program_of, idle}
+use Rattle.tso_model.specs.FlatMachine.{CoreState, State, Effect, stalled, stored, fenced, locked, step_of, drain_of, effect_of, chosen, core_of, program_of}
 use Rattle.tso_model.specs.declared.register.Reg.{Reg}
 use Rattle.tso_model.specs.declared.instruction.Core.{Core}
 use Rattle.tso_model.specs.declared.instruction.Loc.{Loc}
@@ -32,8 +31,9 @@ use Rattle.snoop_bus.specs.CacheContents.{TagSets, loaded_in, written_in, write_
 use Rattle.machine_core.specs.declared.counts.Counts.{Counts}
 use Rattle.machine_core.specs.declared.cache_use.CacheUse.{CacheUse}
 use Rattle.machine_core.specs.declared.cache_use.CacheUse.TheVariants.{Unused, Forwarded, Through}
-use Rattle.machine_core.specs.Statistics.{Caches, not_through, load_by, write_by, load_behind, use_by_kind, use_of, no_counts, with_access, with_write_back, with_forward, with_flush, at_core, flush_counted, counted}
-use Rattle.machine_core.specs.Kept.{IsIssued, IsAtMost, IsAmong, IsFlusherAmong, IsTallied, done_by, most_counted}
+use Rattle.machine_core.specs.Caches.{Caches, not_through, load_by, write_by, load_behind, use_by_kind, use_of}
+use Rattle.machine_core.specs.Statistics.{no_counts, with_access, with_write_back, with_forward, with_flush, at_core, flush_counted, counted}
+use Rattle.machine_core.specs.Kept.{IsIssued, IsAtMost, IsAmong, IsFlusherAmong, done_by}
 
 -- one count more
 stays : {a n : ℕ} → a ≤ n → a ≤ n + 1
@@ -191,7 +191,7 @@ length-counted core Forwarded cs = length-set cs core _
 length-counted core (Through a) cs = length-flush a.flushed _ ∙ length-set cs core _
 
 -- the core whose copy is sent to memory is on the bus
-flusher-among : (k : ℕ) (f : protocol.State → Snoop) (line : ℕ) (caches : List TagSets) → IsAmong (k + length caches) (flusher_from k f line caches)
+pub flusher-among : (k : ℕ) (f : protocol.State → Snoop) (line : ℕ) (caches : List TagSets) → IsAmong (k + length caches) (flusher_from k f line caches)
 flusher-among k f line [] = tt
 flusher-among k f line (sets ∷ caches) =
     elim (sends_in f (tag_of (tags_at sets line) line)) as (λ b. IsAmong (k + length (sets ∷ caches)) (if b then Some (record { 0 = k }) else flusher_from (k + 1) f line caches)) [
@@ -235,10 +235,10 @@ use_of-among c pending [] = tt
 use_of-among c pending (e ∷ es) = use_by_kind-among c pending e e.kind
 
 -- a core after an effect: it is done with no fewer instructions, and with one more where something was committed
-record Advances (s : CoreState) (f : Effect) : Type 0 where
-  issued : IsIssued f.after
-  done : done_by s ≤ done_by f.after
-  more : (f.commits ≡ []) ⊎ (done_by s + 1 ≤ done_by f.after)
+pub record Advances (s : CoreState) (f : Effect) : Type 0 where
+  pub issued : IsIssued f.after
+  pub done : done_by s ≤ done_by f.after
+  pub more : (f.commits ≡ []) ⊎ (done_by s + 1 ≤ done_by f.after)
 
 rests : (s : CoreState) (o : Outcome) → IsIssued s → Advances s (record { outcome = o; after = s; commits = [] })
 rests s o i = record { issued = i; done = (let z : done_by s ≤ done_by s = omega arith in z); more = inl refl }
@@ -318,59 +318,13 @@ drain-advances place registers pending (p ∷ ps) h i =
       more = inr (let z : place - length pending + 1 ≤ place - length ps = omega arith in z);
     }
 
-effect-advances : (t : Litmus) (depth : ℕ) (state : State) (choice : Choice) → IsTest t → chosen choice < length t.programs → IsIssued (core_of state (chosen choice))
+pub effect-advances : (t : Litmus) (depth : ℕ) (state : State) (choice : Choice) → IsTest t → chosen choice < length t.programs → IsIssued (core_of state (chosen choice))
     → Advances (core_of state (chosen choice)) (effect_of t depth state choice)
 effect-advances t depth state (Step core) test h i =
     step-advances depth state.memory core.0 (program_of t core.0) _ (core_of state core.0) refl (test.programs_fit core.0 [] h).size i
 effect-advances t depth state (Drain core) test h i =
     let s = core_of state core.0 in
     drain-advances s.place s.registers s.pending s.pending refl i
-
--- how many instructions all cores are done with
-done-bound : (cores : List CoreState) → All IsIssued cores → sum_by done_by cores ≤ length cores * most_instructions
-done-bound cores all = sum_by-le done_by most_instructions cores (λ k d l. (let first = (all k d l).place in omega arith))
-
-pub few-counted : (t : Litmus) (state : State) (counts : List Counts) → length state.cores ≡ length t.programs → IsTallied t state counts → All (IsAtMost most_counted) counts
-few-counted t state counts size tallied =
-    let bound = done-bound state.cores tallied.issued in
-    let cores = tallied.test.cores in
-    let few : sum_by done_by state.cores ≤ most_counted = omega arith in
-    λ k d l. IsAtMost-more (sum_by done_by state.cores) most_counted (slice_index_or counts k d) few (tallied.done k d l)
-
--- the counts after a choice
-done-after : (n m core : ℕ) (c : Caches) (pending commits : List Entry) (cs : List Counts) → core < length cs → length c.contents ≡ length cs
-    → n ≤ m → (commits ≡ []) ⊎ (n + 1 ≤ m) → All (IsAtMost n) cs → All (IsAtMost m) (counted core (use_of c pending commits).how cs)
-done-after n m core c pending commits cs h size le (inl none) all =
-    subst (λ es. All (IsAtMost m) (counted core (use_of c pending es).how cs)) (sym none) (λ k d l. IsAtMost-more n m (slice_index_or cs k d) le (all k d l))
-done-after n m core c pending commits cs h size le (inr more) all =
-    let next : All (IsAtMost (n + 1)) (counted core (use_of c pending commits).how cs) =
-    counted-within n core (use_of c pending commits).how cs h (subst (λ k. IsFlusherAmong k (use_of c pending commits).how) size (use_of-among c pending commits)) all in
-    λ k d l. IsAtMost-more (n + 1) m (slice_index_or (counted core (use_of c pending commits).how cs) k d) more (next k d l)
-
-pub tallied-after : (t : Litmus) (depth : ℕ) (state : State) (choice : Choice) (c : Caches) (cs : List Counts) → length state.cores ≡ length t.programs
-    → length c.contents ≡ length t.programs → chosen choice < length t.programs → IsTallied t state cs
-    → IsTallied t (after_choice t depth state choice) (counted (chosen choice) (use_of c (core_of state (chosen choice)).pending (effect_of t depth state choice).commits).how cs)
-tallied-after t depth state choice c cs cores contents h tallied =
-    let i = chosen choice in
-    let s = core_of state i in
-    let f = effect_of t depth state choice in
-    let here : i < length state.cores = subst (λ n. i < n) (sym cores) h in
-    let go = effect-advances t depth state choice tallied.test h (tallied.issued i idle here) in
-    let sums : sum_by done_by (slice_set state.cores i f.after) + done_by s ≡ sum_by done_by state.cores + done_by f.after = sum_by-set done_by state.cores i f.after idle here in
-    let done = go.done in
-    let le : sum_by done_by state.cores ≤ sum_by done_by (slice_set state.cores i f.after) = omega arith in
-    record {
-      test = tallied.test;
-      cores = length-counted i _ cs ∙ tallied.cores;
-      issued = All-set IsIssued state.cores i f.after go.issued tallied.issued;
-      done = done-after (sum_by done_by state.cores) (sum_by done_by (slice_set state.cores i f.after)) i c s.pending f.commits cs
-          (subst (λ n. i < n) (sym tallied.cores) h) (contents ∙ sym tallied.cores) le
-          (one-more (sum_by done_by state.cores) (sum_by done_by (slice_set state.cores i f.after)) (done_by s) (done_by f.after) f.commits sums go.more) tallied.done;
-    }
-  where
-    one-more : (a b x y : ℕ) (commits : List Entry) → b + x ≡ a + y → (commits ≡ []) ⊎ (x + 1 ≤ y) → (commits ≡ []) ⊎ (a + 1 ≤ b)
-    one-more a b x y commits e (inl none) = inl none
-    one-more a b x y commits e (inr more) = inr (let z : a + 1 ≤ b = omega arith in z)
 
 -- at the beginning
 All-replicate : (P : Counts → Type 0) (n : ℕ) (c : Counts) → P c → All P (replicate n c)

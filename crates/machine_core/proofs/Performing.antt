@@ -2,7 +2,9 @@
 use Rattle.std.proofs.Common.{◌≡◌, ◌<◌, ℕ, ◌++◌, None, Some, Result, Ok, Err, IfOk, OnOk, length, slice_get, slice_set, slice_index_or, length-set, refl, sym, ap, ◌∙◌, subst, append-nil, All}
 use Rattle.std.proofs.lemmas.List.Elements.{All-set}
 use Rattle.tso_model.specs.Litmus.{Litmus}
-use Rattle.tso_model.specs.FlatMachine.{Effect, stalled, step_of, drain_of, applied, chosen, memory_after, program_of, core_of}
+use Rattle.tso_model.specs.FlatMachine.{Effect, stalled, step_of, drain_of, chosen, memory_after, program_of, core_of}
+use Rattle.tso_model.specs.Access.{NoAccess, access_of, step_access, drain_access}
+use Rattle.tso_model.specs.SplitMachine.{BusEffect, acts}
 use Rattle.tso_model.specs.declared.instruction.Core.{Core}
 use Rattle.tso_model.specs.declared.instruction.Instr.{Instr}
 use Rattle.tso_model.specs.declared.memory.NoMemory.{NoMemory}
@@ -11,98 +13,116 @@ use Rattle.tso_model.specs.declared.choice.Choice.TheVariants.{Step, Drain}
 use Rattle.tso_model.specs.declared.choice.Outcome.{Outcome}
 use Rattle.tso_model.specs.declared.choice.Outcome.TheVariants.{Stalled}
 use Rattle.tso_model.specs.declared.choice.Stall.TheVariants as stall
-use Rattle.order_builder.specs.Pairs.{IsPaired}
-use Rattle.snoop_bus.specs.Bus.{Bus, words_of, cores_of, IsFree}
+use Rattle.snoop_bus.specs.Bus.{Bus, words_of, cores_of}
 use Rattle.machine_core.specs.declared.processor.Processor.{Processor}
 use Rattle.machine_core.specs.declared.cache_use.CacheUse.{CacheUse}
 use Rattle.machine_core.specs.declared.cache_use.CacheUse.TheVariants.{Unused}
 use Rattle.machine_core.specs.declared.parts.Parts.{Parts}
 use Rattle.machine_core.specs.Cores.{core_state, core_states, pending_in, step_by, drain_by}
-use Rattle.machine_core.specs.Statistics.{caches_of, use_of}
+use Rattle.machine_core.specs.Caches.{caches_of, use_of}
 use Rattle.machine_core.specs.Kept.{IsCore, FitsTest, state_in}
-use Rattle.machine_core.specs.Performed.{HasUsed, Performs, effect_in, use_in}
+use Rattle.machine_core.specs.Performed.{HasUsed, Performs, flat_effect_in, flat_use_in}
 use Rattle.machine_core.proofs.CoreLemmas.{core_states-get_or, core_states-set}
-use Rattle.machine_core.proofs.Effects.{IsPaired-append}
 use Rattle.machine_core.proofs.CacheUses.{rests}
 
 -- the core that a choice names, as the flat machine has it
-core_of-state_in : {P : Type 0} (m : Parts P) (i : ℕ) (p : Processor) → i < length m.processors.items → p ≡ slice_index_or m.processors.items i p → core_of (state_in m) i ≡ core_state i p
+pub core_of-state_in : {P : Type 0} (m : Parts P) (i : ℕ) (p : Processor) → i < length m.processors.items → p ≡ slice_index_or m.processors.items i p → core_of (state_in m).flat i ≡ core_state i p
 core_of-state_in m i p h q = core_states-get_or m.processors.items i p h ∙ ap (core_state i) (sym q)
 
 pub effect_in-step : {P : Type 0} (t : Litmus) (m : Parts P) (core : Core) (p : Processor) (instr : Instr) → core.0 < length m.processors.items → p ≡ slice_index_or m.processors.items core.0 p
-    → p.stores.depth ≡ m.config.depth → slice_get (program_of t core.0) p.place ≡ Some instr → effect_in t m (Step core) ≡ step_by p core.0 (words_of m.bus) instr
+    → p.stores.depth ≡ m.config.depth → slice_get (program_of t core.0) p.place ≡ Some instr → flat_effect_in t m (Step core) ≡ step_by p core.0 (words_of m.bus) instr
 effect_in-step t m core p instr h q d g =
     ap (λ s. step_of m.config.depth (words_of m.bus) core.0 (slice_get (program_of t core.0) s.place) s) (core_of-state_in m core.0 p h q)
     ∙ ap (λ found. step_of m.config.depth (words_of m.bus) core.0 found (core_state core.0 p)) g
     ∙ ap (λ depth. step_of depth (words_of m.bus) core.0 (Some instr) (core_state core.0 p)) (sym d)
 
 pub effect_in-done : {P : Type 0} (t : Litmus) (m : Parts P) (core : Core) (p : Processor) → core.0 < length m.processors.items → p ≡ slice_index_or m.processors.items core.0 p
-    → slice_get (program_of t core.0) p.place ≡ None → effect_in t m (Step core) ≡ stalled stall.Done (core_state core.0 p)
+    → slice_get (program_of t core.0) p.place ≡ None → flat_effect_in t m (Step core) ≡ stalled stall.Done (core_state core.0 p)
 effect_in-done t m core p h q g =
     ap (λ s. step_of m.config.depth (words_of m.bus) core.0 (slice_get (program_of t core.0) s.place) s) (core_of-state_in m core.0 p h q)
     ∙ ap (λ found. step_of m.config.depth (words_of m.bus) core.0 found (core_state core.0 p)) g
 
 pub effect_in-drain : {P : Type 0} (t : Litmus) (m : Parts P) (core : Core) (p : Processor) → core.0 < length m.processors.items → p ≡ slice_index_or m.processors.items core.0 p
-    → effect_in t m (Drain core) ≡ drain_by p core.0
+    → flat_effect_in t m (Drain core) ≡ drain_by p core.0
 effect_in-drain t m core p h q = ap (λ s. drain_of s s.pending) (core_of-state_in m core.0 p h q)
 
+-- the access that it makes
+pub access_of-step : {P : Type 0} (t : Litmus) (m : Parts P) (core : Core) (p : Processor) (instr : Instr) → core.0 < length m.processors.items → p ≡ slice_index_or m.processors.items core.0 p
+    → p.stores.depth ≡ m.config.depth → slice_get (program_of t core.0) p.place ≡ Some instr
+    → access_of t m.config.depth (state_in m).flat (Step core) ≡ step_access p.stores.depth (Some instr) (pending_in core.0 p)
+access_of-step t m core p instr h q d g =
+    ap (λ s. step_access m.config.depth (slice_get (program_of t core.0) s.place) s.pending) (core_of-state_in m core.0 p h q)
+    ∙ ap (λ found. step_access m.config.depth found (pending_in core.0 p)) g
+    ∙ ap (λ depth. step_access depth (Some instr) (pending_in core.0 p)) (sym d)
+
+pub access_of-done : {P : Type 0} (t : Litmus) (m : Parts P) (core : Core) (p : Processor) → core.0 < length m.processors.items → p ≡ slice_index_or m.processors.items core.0 p
+    → slice_get (program_of t core.0) p.place ≡ None → access_of t m.config.depth (state_in m).flat (Step core) ≡ NoAccess
+access_of-done t m core p h q g =
+    ap (λ s. step_access m.config.depth (slice_get (program_of t core.0) s.place) s.pending) (core_of-state_in m core.0 p h q)
+    ∙ ap (λ found. step_access m.config.depth found (pending_in core.0 p)) g
+
+pub access_of-drain : {P : Type 0} (t : Litmus) (m : Parts P) (core : Core) (p : Processor) → core.0 < length m.processors.items → p ≡ slice_index_or m.processors.items core.0 p
+    → access_of t m.config.depth (state_in m).flat (Drain core) ≡ drain_access (pending_in core.0 p)
+access_of-drain t m core p h q = ap (λ s. drain_access s.pending) (core_of-state_in m core.0 p h q)
+
 -- from what its core did
-pub Performs-by : {P : Type 0} (t : Litmus) (m new : Parts P) (choice : Choice) (o : Outcome) (p : Processor) (f : Effect) → effect_in t m choice ≡ f → IsPaired f.commits
-    → new.processors.items ≡ slice_set m.processors.items (chosen choice) p → core_state (chosen choice) p ≡ f.after
-    → words_of new.bus ≡ memory_after f.commits (words_of m.bus) → new.commits.entries ≡ m.commits.entries ++ f.commits → o ≡ f.outcome → Performs t m new choice o
-Performs-by t m new choice o p f e paired processors after memory commits outcome =
-    let Goal : Effect → Type 0 = λ g. (o ≡ g.outcome) × (state_in new ≡ applied (state_in m) (chosen choice) g) × (new.commits.entries ≡ m.commits.entries ++ g.commits) in
-    let cores : core_states 0 new.processors.items ≡ slice_set (core_states 0 m.processors.items) (chosen choice) f.after =
+pub Performs-by : {P : Type 0} (m new : Parts P) (choice : Choice) (o : Outcome) (p : Processor) (f g : BusEffect) → f ≡ g
+    → new.processors.items ≡ slice_set m.processors.items (chosen choice) p → core_state (chosen choice) p ≡ g.effect.after
+    → words_of new.bus ≡ memory_after g.effect.commits (words_of m.bus) → new.commits.entries ≡ m.commits.entries ++ g.effect.commits → (state_in new).holder ≡ g.holder → o ≡ g.effect.outcome
+    → Performs m new choice f o
+Performs-by m new choice o p f g e processors after memory commits holder outcome =
+    let cores : core_states 0 new.processors.items ≡ slice_set (core_states 0 m.processors.items) (chosen choice) g.effect.after =
     ap (core_states 0) processors ∙ core_states-set m.processors.items (chosen choice) p ∙ ap (λ s. slice_set (core_states 0 m.processors.items) (chosen choice) s) after in
-    let all : Goal f = (outcome, rw (cores, memory) refl, commits) in
-    let found : Goal (effect_in t m choice) = subst Goal (sym e) all in
-    record {
-      outcome = found.0;
-      after = found.1;
-      commits = found.2;
-      paired = λ before. subst IsPaired (sym commits) (IsPaired-append m.commits.entries f.commits before paired);
-    }
+    let all : Performs m new choice g o = record {
+      outcome = outcome;
+      flat = rw (cores, memory) refl;
+      holder = holder;
+      commits = commits;
+    } in
+    subst (λ h. Performs m new choice h o) (sym e) all
 
 pub IfOk-Performs : {P : Type 0} (r : Result (Outcome × CacheUse) NoMemory) (t : Litmus) (m new : Parts P) (choice : Choice) (p : Processor) (f : Effect)
-    → effect_in t m choice ≡ f → IsPaired f.commits → new.processors.items ≡ slice_set m.processors.items (chosen choice) p
+    → flat_effect_in t m choice ≡ f → new.processors.items ≡ slice_set m.processors.items (chosen choice) p → (state_in new).holder ≡ (state_in m).holder
     → IfOk r (λ x. x.0 ≡ f.outcome) → OnOk r (core_state (chosen choice) p ≡ f.after)
-    → OnOk r (words_of new.bus ≡ memory_after f.commits (words_of m.bus)) → OnOk r (new.commits.entries ≡ m.commits.entries ++ f.commits) → IfOk r (λ x. Performs t m new choice x.0)
-IfOk-Performs (Ok x) t m new choice p f e paired processors outcome after words commits = Performs-by t m new choice x.0 p f e paired processors after words commits outcome
-IfOk-Performs (Err x) t m new choice p f e paired processors outcome after words commits = tt
+    → OnOk r (words_of new.bus ≡ memory_after f.commits (words_of m.bus)) → OnOk r (new.commits.entries ≡ m.commits.entries ++ f.commits)
+    → IfOk r (λ x. Performs m new choice (acts (flat_effect_in t m choice) (state_in m).holder) x.0)
+IfOk-Performs (Ok x) t m new choice p f e processors holder outcome after words commits =
+    Performs-by m new choice x.0 p (acts (flat_effect_in t m choice) (state_in m).holder) (acts f (state_in m).holder) (ap (λ g. acts g (state_in m).holder) e) processors after words commits holder outcome
+IfOk-Performs (Err x) t m new choice p f e processors holder outcome after words commits = tt
 
 -- what its core had to do with the caches is what the choice had
 pub IfOk-HasUsed : {P : Type 0} (r : Result (Outcome × CacheUse) NoMemory) (t : Litmus) (m : Parts P) (bus : Bus) (choice : Choice) (p : Processor) (f : Effect)
-    → effect_in t m choice ≡ f → chosen choice < length m.processors.items → p ≡ slice_index_or m.processors.items (chosen choice) p
-    → IfOk r (λ x. HasUsed (use_of (caches_of m.bus) (pending_in (chosen choice) p) f.commits) bus x.1) → IfOk r (λ x. HasUsed (use_in t m choice) bus x.1)
+    → flat_effect_in t m choice ≡ f → chosen choice < length m.processors.items → p ≡ slice_index_or m.processors.items (chosen choice) p
+    → IfOk r (λ x. HasUsed (use_of (caches_of m.bus) (pending_in (chosen choice) p) f.commits) bus x.1) → IfOk r (λ x. HasUsed (flat_use_in t m choice) bus x.1)
 IfOk-HasUsed r t m bus choice p f e h q used =
-    let same : use_in t m choice ≡ use_of (caches_of m.bus) (pending_in (chosen choice) p) f.commits =
-    ap (λ s. use_of (caches_of m.bus) s.pending (effect_in t m choice).commits) (core_of-state_in m (chosen choice) p h q)
+    let same : flat_use_in t m choice ≡ use_of (caches_of m.bus) (pending_in (chosen choice) p) f.commits =
+    ap (λ s. use_of (caches_of m.bus) s.pending (flat_effect_in t m choice).commits) (core_of-state_in m (chosen choice) p h q)
     ∙ ap (λ g. use_of (caches_of m.bus) (pending_in (chosen choice) p) g.commits) e in
     subst (λ u. IfOk r (λ x. HasUsed u bus x.1)) (sym same) used
 
 -- at the end of a program nothing is used
 pub HasUsed-done : {P : Type 0} (t : Litmus) (m : Parts P) (bus : Bus) (core : Core) (p : Processor) → core.0 < length m.processors.items → p ≡ slice_index_or m.processors.items core.0 p
-    → slice_get (program_of t core.0) p.place ≡ None → bus ≡ m.bus → HasUsed (use_in t m (Step core)) bus Unused
+    → slice_get (program_of t core.0) p.place ≡ None → bus ≡ m.bus → HasUsed (flat_use_in t m (Step core)) bus Unused
 HasUsed-done t m bus core p h q g same =
-    subst (λ b. HasUsed (use_in t m (Step core)) b Unused) (sym same)
-    (rests m.bus (core_of (state_in m) core.0).pending (effect_in t m (Step core)).commits (ap (λ f. f.commits) (effect_in-done t m core p h q g)))
+    subst (λ b. HasUsed (flat_use_in t m (Step core)) b Unused) (sym same)
+    (rests m.bus (core_of (state_in m).flat core.0).pending (flat_effect_in t m (Step core)).commits (ap (λ f. f.commits) (effect_in-done t m core p h q g)))
 
 -- at the end of a program a step stalls
 pub Performs-done : {P : Type 0} (t : Litmus) (m new : Parts P) (core : Core) (p : Processor) → core.0 < length m.processors.items → p ≡ slice_index_or m.processors.items core.0 p
     → slice_get (program_of t core.0) p.place ≡ None → new.processors.items ≡ slice_set m.processors.items core.0 p → words_of new.bus ≡ words_of m.bus
-    → new.commits.entries ≡ m.commits.entries → Performs t m new (Step core) (Stalled stall.Done)
-Performs-done t m new core p h q g processors memory commits =
-    Performs-by t m new (Step core) (Stalled stall.Done) p (stalled stall.Done (core_state core.0 p)) (effect_in-done t m core p h q g) refl processors refl memory
-    (commits ∙ sym (append-nil m.commits.entries)) refl
+    → new.commits.entries ≡ m.commits.entries → (state_in new).holder ≡ (state_in m).holder
+    → Performs m new (Step core) (acts (flat_effect_in t m (Step core)) (state_in m).holder) (Stalled stall.Done)
+Performs-done t m new core p h q g processors memory commits holder =
+    Performs-by m new (Step core) (Stalled stall.Done) p (acts (flat_effect_in t m (Step core)) (state_in m).holder) (acts (stalled stall.Done (core_state core.0 p)) (state_in m).holder)
+    (ap (λ f. acts f (state_in m).holder) (effect_in-done t m core p h q g)) processors refl memory (commits ∙ sym (append-nil m.commits.entries)) holder refl
 
 -- the parts still fit the test when one core and memory have changed
 pub FitsTest-next : {P : Type 0} (t : Litmus) (m new : Parts P) (i : ℕ) (p : Processor) → FitsTest t m → new.config ≡ m.config → new.processors.items ≡ slice_set m.processors.items i p
-    → cores_of new.bus ≡ cores_of m.bus → IsFree new.bus → length (words_of new.bus) ≡ length (words_of m.bus) → p.stores.depth ≡ m.config.depth → All (λ s. s.loc.0 < length (words_of m.bus)) p.stores.items → FitsTest t new
-FitsTest-next t m new i p fits config processors on_bus free size depth known = record {
+    → cores_of new.bus ≡ cores_of m.bus → length (words_of new.bus) ≡ length (words_of m.bus) → p.stores.depth ≡ m.config.depth → All (λ s. s.loc.0 < length (words_of m.bus)) p.stores.items → FitsTest t new
+FitsTest-next t m new i p fits config processors on_bus size depth known = record {
   some_depth = subst (λ c. 0 < c.depth) (sym config) fits.some_depth;
   cores = ap length processors ∙ length-set m.processors.items i p ∙ fits.cores;
   on_bus = on_bus ∙ fits.on_bus;
-  free = free;
   words = size ∙ fits.words;
   each =
       let old : All (IsCore m.config.depth (length (words_of m.bus))) (slice_set m.processors.items i p) =

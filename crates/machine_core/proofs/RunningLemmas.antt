@@ -1,19 +1,69 @@
 -- What a contract sees of a machine, part by part.
-use Rattle.std.proofs.Common.{◌≡◌, ℕ, Bool, List, [], ap}
+use Rattle.std.proofs.Common.{◌≡◌, ◌&&◌, ℕ, Bool, true, false, not, IsTrue, List, [], ◌++◌, Result, Ok, Err, IfOk, OnOk, OnErr, sym, ap, ◌∙◌, subst}
 use Rattle.tso_model.specs.Litmus.{Litmus}
-use Rattle.tso_model.specs.FlatMachine.{State, effect_of, core_of, chosen}
+use Rattle.tso_model.specs.FlatMachine.{chosen, core_of}
+use Rattle.tso_model.specs.Access.{access_of}
+use Rattle.tso_model.specs.SplitMachine.{Free, Attempt}
+use Rattle.tso_model.specs.EitherBus.{BusState, effect_on, after_on, HitFits}
+use Rattle.tso_model.specs.declared.memory.NoMemory.{NoMemory}
+use Rattle.tso_model.specs.declared.choice.Outcome.{Outcome}
+use Rattle.split_laws.specs.BusChoices.{IsPossibleOn}
+use Rattle.machine_core.specs.declared.parts.Parts.{Parts}
+use Rattle.snoop_bus.specs.Bus.{IsFree}
+use Rattle.machine_core.specs.Kept.{IsHeldAs, held_as, state_in}
+use Rattle.machine_core.specs.Performed.{Performs, attempt_in, effect_in}
+use Rattle.tso_model.specs.declared.bus.Bus.{Bus}
 use Rattle.tso_model.specs.declared.execution.Entry.{Entry}
 use Rattle.tso_model.specs.declared.choice.Choice.{Choice}
+use Rattle.machine_core.specs.Caches.{attempt_of, is_awaited, used_between, use_of}
 use Rattle.machine_core.specs.Running.{Running}
-use Rattle.machine_core.specs.Statistics.{Statistics, statistics_with, statistics_after, use_of}
+use Rattle.machine_core.specs.Statistics.{Statistics, statistics_with, statistics_after}
+use Rattle.machine_core.proofs.Splitting.{used-same}
 
-pub Running-same : (now : Running) (t : Litmus) (d d' : ℕ) (s s' : State) (xs xs' : List Entry) (n n' : Statistics) (f f' : Bool)
-    → record { test = t; depth = d; state = s; commits = xs; statistics = n; failed = f } ≡ now → d' ≡ d → s' ≡ s → xs' ≡ xs → n' ≡ n → f' ≡ f
-    → record { test = t; depth = d'; state = s'; commits = xs'; statistics = n'; failed = f' } ≡ now
-Running-same now t d d' s s' xs xs' n n' f f' v p q r w u = rw (p, q, r, w, u) v
+pub Running-same : (now : Running) (t : Litmus) (bus bus' : Bus) (d d' : ℕ) (s s' : BusState) (xs xs' : List Entry) (n n' : Statistics) (f f' : Bool)
+    → record { test = t; bus = bus; depth = d; state = s; commits = xs; statistics = n; failed = f } ≡ now → bus' ≡ bus → d' ≡ d → s' ≡ s → xs' ≡ xs → n' ≡ n → f' ≡ f
+    → record { test = t; bus = bus'; depth = d'; state = s'; commits = xs'; statistics = n'; failed = f' } ≡ now
+Running-same now t bus bus' d d' s s' xs xs' n n' f f' v b p q r w u = rw (b, p, q, r, w, u) v
 
--- where nothing is committed, nothing is counted and the caches stay as they are
-pub statistics_after-nothing : (t : Litmus) (depth : ℕ) (state : State) (choice : Choice) (s : Statistics) → (effect_of t depth state choice).commits ≡ []
-    → statistics_after t depth state choice s ≡ s
-statistics_after-nothing t depth state choice s h =
-    ap (λ es. statistics_with (chosen choice) (use_of s.caches (core_of state (chosen choice)).pending es) s.counts) h
+-- where nothing is committed and the bus is held as before, nothing is counted and the caches stay as they are
+pub statistics_after-nothing : (bus : Bus) (t : Litmus) (depth : ℕ) (state : BusState) (choice : Choice) (s : Statistics)
+    → (effect_on bus t depth state (attempt_of t depth state.flat s.caches choice)).effect.commits ≡ []
+    → (effect_on bus t depth state (attempt_of t depth state.flat s.caches choice)).holder ≡ state.holder → statistics_after bus t depth state choice s ≡ s
+statistics_after-nothing bus t depth state choice s none same =
+    let f = effect_on bus t depth state (attempt_of t depth state.flat s.caches choice) in
+    let pending = (core_of state.flat (chosen choice)).pending in
+    let what = access_of t depth state.flat choice in
+    let used = ap (λ h. used_between (is_awaited state.holder) (is_awaited h) s.caches (chosen choice) what pending f.effect.commits) same
+    ∙ used-same (is_awaited state.holder) s.caches (chosen choice) what pending f.effect.commits ∙ ap (use_of s.caches pending) none in
+    ap (λ u. statistics_with (chosen choice) u s.counts) used
+
+pub same-state : (a b : BusState) → a.flat ≡ b.flat → a.holder ≡ b.holder → a ≡ b
+same-state a b p q = ap (λ f. record { flat = f; holder = a.holder }) p ∙ ap (λ h. record { flat = b.flat; holder = h }) q
+
+pub on-ok : {X : Type 0} (r : Result X NoMemory) (Q : Type 0) → Q → OnOk r Q
+on-ok (Ok x) Q q = q
+on-ok (Err e) Q q = tt
+
+-- what a machine has come to is possible after a choice too
+pub possible-next : {P : Type 0} (r : Result Outcome NoMemory) (t : Litmus) (m new : Parts P) (choice : Choice) → IsPossibleOn m.config.bus t m.config.depth m.commits.entries (state_in m)
+    → ((a : Attempt) → IsPossibleOn m.config.bus t m.config.depth m.commits.entries (state_in m) → HitFits t m.config.depth (state_in m).flat a (state_in m).holder
+    → IsPossibleOn m.config.bus t m.config.depth (m.commits.entries ++ (effect_on m.config.bus t m.config.depth (state_in m) a).effect.commits) (after_on m.config.bus t m.config.depth (state_in m) a))
+    → HitFits t m.config.depth (state_in m).flat (attempt_in t m choice) (state_in m).holder → IfOk r (λ o. Performs m new choice (effect_in t m choice) o)
+    → OnErr r (state_in new ≡ state_in m) → OnErr r (new.commits.entries ≡ m.commits.entries) → new.config ≡ m.config → IsPossibleOn new.config.bus t new.config.depth new.commits.entries (state_in new)
+possible-next (Ok o) t m new choice possible next fits done state commits config =
+    subst (λ c. IsPossibleOn c.bus t c.depth new.commits.entries (state_in new)) (sym config)
+    (subst (λ s. IsPossibleOn m.config.bus t m.config.depth new.commits.entries s)
+    (sym (same-state (state_in new) (after_on m.config.bus t m.config.depth (state_in m) (attempt_in t m choice)) done.flat done.holder))
+    (subst (λ es. IsPossibleOn m.config.bus t m.config.depth es (after_on m.config.bus t m.config.depth (state_in m) (attempt_in t m choice))) (sym done.commits) (next (attempt_in t m choice) possible fits)))
+possible-next (Err e) t m new choice possible next fits done state commits config =
+    subst (λ c. IsPossibleOn c.bus t c.depth new.commits.entries (state_in new)) (sym config)
+    (subst (λ s. IsPossibleOn m.config.bus t m.config.depth new.commits.entries s) (sym state)
+    (subst (λ es. IsPossibleOn m.config.bus t m.config.depth es (state_in m)) (sym commits) possible))
+
+-- where the test has ended nobody holds the bus
+pub has-ended : (failed ended : Bool) → IsTrue (not failed && ended) → ended ≡ true
+has-ended false ended h = h
+has-ended true ended h = absurd (let z : ⊥ = cc in z)
+
+pub free-bus : {P : Type 0} (t : Litmus) (m : Parts P) → IsHeldAs t m → (state_in m).holder ≡ Free → IsFree m.bus
+free-bus t m held free = held ∙ ap (held_as t m.config.depth (state_in m).flat) free

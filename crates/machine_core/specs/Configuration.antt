@@ -1,13 +1,15 @@
 -- What a contract sees of a machine's configuration. (This project's profile.)
 use Rattle.std.specs.Prelude.{ℕ, ◌≤◌}
 use Rattle.tso_model.specs.Limits.{least_depth, most_depth}
+use Rattle.tso_model.specs.declared.bus.Bus.{Bus}
 use Rattle.snoop_bus.specs.Geometry.{Geometry}
 use Rattle.snoop_bus.specs.Geometry as shape
 
--- how many stores each core's buffer holds, and the shape of each core's cache
+-- how many stores each core's buffer holds, the shape of each core's cache, and the kind of bus that the caches share
 pub record Configuration : Type 0 where
   pub depth : ℕ
   pub shape : Geometry
+  pub bus : Bus
 
 -- the depth and the shape of the caches are within their limits
 abbrev pub IsWithinLimits : Configuration → Type 0

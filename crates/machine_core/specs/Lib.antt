@@ -1,10 +1,17 @@
 pub mod Configuration
+pub mod Caches
 pub mod Statistics
+pub mod Answered
 pub mod Running
 pub mod Cores
 pub mod Kept
 pub mod Performed
+pub mod Split
 pub mod WorkedCounts
 pub use Rattle.tso_model.specs.FlatMachine
 pub use Rattle.tso_model.specs.Runs
+pub use Rattle.tso_model.specs.Access
+pub use Rattle.tso_model.specs.SplitMachine
+pub use Rattle.tso_model.specs.EitherBus
+pub use Rattle.tso_model.specs.Together
 pub use Rattle.snoop_bus.specs.Geometry

@@ -1,72 +1,22 @@
--- The statistics of a run: what the accesses of each core's cache were. The lines in the caches go along with the
--- choices, by the bus's own definition of a load and of a write access. (Primer, chapters 2, 6 and 7, for hits, misses
--- and upgrades; which copies are sent to memory is this project's profile.)
-use Rattle.std.specs.Prelude.{ℕ, ◌+◌, ◌/◌, Bool, true, false, if◌then◌else◌, List, [], ◌∷◌, length, replicate, slice_set, slice_index_or, Option, Some, None}
-use Rattle.std.specs.List.{list_any}
+-- The statistics of a run: what the accesses of each core's cache were. (Primer, chapters 2, 6 and 7, for hits, misses and
+-- upgrades; that an access on a split bus is counted at its completion is this project's profile.)
+use Rattle.std.specs.Prelude.{ℕ, ◌+◌, Bool, true, false, if◌then◌else◌, List, [], ◌∷◌, length, replicate, slice_set, slice_index_or, Option, Some, None}
 use Rattle.tso_model.specs.Litmus.{Litmus}
-use Rattle.tso_model.specs.ProgramOrder.{writes_to}
-use Rattle.tso_model.specs.FlatMachine.{State, effect_of, after_choice, chosen, core_of, start}
+use Rattle.tso_model.specs.FlatMachine.{chosen, start}
 use Rattle.tso_model.specs.Runs.{has_ended}
+use Rattle.tso_model.specs.EitherBus.{BusState, unheld, after_on}
+use Rattle.tso_model.specs.declared.bus.Bus.{Bus}
 use Rattle.tso_model.specs.declared.instruction.Core.{Core}
-use Rattle.tso_model.specs.declared.execution.Entry.{Entry}
-use Rattle.tso_model.specs.declared.execution.Kind.{Kind}
-use Rattle.tso_model.specs.declared.execution.Kind.TheVariants.{R, W, F, LR, LW}
 use Rattle.tso_model.specs.declared.choice.Choice.{Choice}
 use Rattle.protocol_tables.specs.Tables.{Table}
 use Rattle.snoop_bus.specs.declared.access.AccessKind.{AccessKind}
 use Rattle.snoop_bus.specs.declared.access.AccessKind.TheVariants.{Hit, Upgrade, Miss}
 use Rattle.snoop_bus.specs.Geometry.{Geometry}
-use Rattle.snoop_bus.specs.Rows.{Rows, table_of}
-use Rattle.snoop_bus.specs.CacheContents.{TagSets, Accessed, loaded, written}
-use Rattle.snoop_bus.specs.Bus.{Bus}
-use Rattle.snoop_bus.specs.Accesses.{new_bus, contents_of}
+use Rattle.snoop_bus.specs.Accesses.{new_bus}
 use Rattle.machine_core.specs.declared.counts.Counts.{Counts}
 use Rattle.machine_core.specs.declared.cache_use.CacheUse.{CacheUse}
 use Rattle.machine_core.specs.declared.cache_use.CacheUse.TheVariants.{Unused, Forwarded, Through}
-
--- the caches without their words: the protocol's table row by row, their shape, and the lines and states in them
-pub record Caches : Type 0 where
-  pub rows : Rows
-  pub shape : Geometry
-  pub contents : List TagSets
-
-abbrev pub caches_of : Bus → Caches
-caches_of b = record { rows = b.rows; shape = b.shape; contents = contents_of b }
-
--- what a choice has to do with the caches, and the caches after it
-pub record Used : Type 0 where
-  pub how : CacheUse
-  pub caches : Caches
-
-abbrev pub not_through : CacheUse → Caches → Used
-not_through how c = record { how = how; caches = c }
-
-abbrev pub through : Caches → Accessed → Used
-through c a = record { how = Through a.access; caches = record { rows = c.rows; shape = c.shape; contents = a.caches } }
-
--- a core's load at a location, and its write access
-abbrev pub load_by : Caches → ℕ → ℕ → Used
-load_by c core loc = through c (loaded (table_of c.rows) core (loc / c.shape.words) c.contents)
-
-abbrev pub write_by : Caches → ℕ → ℕ → Used
-write_by c core loc = through c (written (table_of c.rows) core (loc / c.shape.words) c.contents)
-
--- a load is answered by the core's own pending stores where one of them is to its location
-abbrev pub load_behind : Caches → List Entry → ℕ → ℕ → Used
-load_behind c pending core loc = if list_any (writes_to loc) pending then not_through Forwarded c else load_by c core loc
-
-abbrev pub use_by_kind : Caches → List Entry → Entry → Kind → Used
-use_by_kind c pending e R = load_behind c pending e.core.0 e.loc.0
-use_by_kind c pending e W = write_by c e.core.0 e.loc.0
-use_by_kind c pending e F = not_through Unused c
-use_by_kind c pending e LR = write_by c e.core.0 e.loc.0
-use_by_kind c pending e LW = not_through Unused c
-
--- what is committed at one choice goes through the cache of its core: a load that none of the core's pending stores
--- answers, a drained store, and a locked instruction, whose load part is the one write access for both parts
-abbrev pub use_of : Caches → List Entry → List Entry → Used
-use_of c pending [] = not_through Unused c
-use_of c pending (e ∷ es) = use_by_kind c pending e e.kind
+use Rattle.machine_core.specs.Caches.{Caches, Used, caches_of, attempt_of, use_on}
 
 abbrev pub counts : ℕ → ℕ → ℕ → ℕ → ℕ → ℕ → Counts
 counts hits misses upgrades forwards write_backs flushes =
@@ -117,24 +67,26 @@ abbrev pub statistics_with : ℕ → Used → List Counts → Statistics
 statistics_with core u cs = record { caches = u.caches; counts = counted core u.how cs }
 
 -- the statistics after a choice
-abbrev pub statistics_after : Litmus → ℕ → State → Choice → Statistics → Statistics
-statistics_after t depth state choice s =
-    statistics_with (chosen choice) (use_of s.caches (core_of state (chosen choice)).pending (effect_of t depth state choice).commits) s.counts
+abbrev pub statistics_after : Bus → Litmus → ℕ → BusState → Choice → Statistics → Statistics
+statistics_after bus t depth state choice s = statistics_with (chosen choice) (use_on bus t depth state choice s.caches) s.counts
 
 -- the statistics once the choices were made from a state on, up to the first moment at which the test has ended
-abbrev pub statistics_from : Litmus → ℕ → State → List Choice → Statistics → Statistics
-statistics_from t depth state [] s = s
-statistics_from t depth state (c ∷ cs) s =
-    if has_ended t state then s else statistics_from t depth (after_choice t depth state c) cs (statistics_after t depth state c s)
+abbrev pub statistics_from : Bus → Litmus → ℕ → BusState → List Choice → Statistics → Statistics
+statistics_from bus t depth state [] s = s
+statistics_from bus t depth state (c ∷ cs) s =
+    if has_ended t state.flat
+    then s
+    else statistics_from bus t depth (after_on bus t depth state (attempt_of t depth state.flat s.caches c)) cs (statistics_after bus t depth state c s)
 
--- at the beginning the caches are empty and nothing is counted
+-- at the beginning the caches are empty, nothing is awaited and nothing is counted
 abbrev pub no_statistics : Table → Geometry → Litmus → Statistics
 no_statistics table shape t = record {
   caches = caches_of (new_bus table (length t.programs) shape t.words);
   counts = replicate (length t.programs) no_counts;
 }
 
--- the counts of each core in a test's run, by the protocol's table, the shape of the caches, the depth of the store
--- buffers, and the choices
-abbrev pub counts_of : Table → Geometry → Litmus → ℕ → List Choice → List Counts
-counts_of table shape t depth choices = (statistics_from t depth (start t) choices (no_statistics table shape t)).counts
+-- the counts of each core in a test's run, by the kind of bus, the protocol's table, the shape of the caches, the depth of
+-- the store buffers, and the choices
+abbrev pub counts_of : Bus → Table → Geometry → Litmus → ℕ → List Choice → List Counts
+counts_of bus table shape t depth choices =
+    (statistics_from bus t depth (unheld (start t)) choices (no_statistics table shape t)).counts

@@ -4,7 +4,8 @@ use Rattle.tso_model.specs.Litmus.{Litmus}
 use Rattle.tso_model.specs.Examples.{loc_x, loc_y, zeros, step, drain}
 use Rattle.tso_model.specs.declared.register.Reg.TheVariants.{Eax, Ebx}
 use Rattle.tso_model.specs.declared.instruction.Loc.{Loc}
-use Rattle.tso_model.specs.declared.instruction.Instr.TheVariants.{StoreImm, Load}
+use Rattle.tso_model.specs.declared.instruction.Instr.{Instr}
+use Rattle.tso_model.specs.declared.instruction.Instr.TheVariants.{StoreImm, Load, Xchg, Xadd}
 use Rattle.tso_model.specs.declared.choice.Choice.{Choice}
 use Rattle.snoop_bus.specs.Geometry.{Geometry, geometry}
 use Rattle.machine_core.specs.declared.counts.Counts.{Counts}
@@ -74,3 +75,48 @@ five_loads = record {
 
 abbrev pub five_loads_choices : List Choice
 five_loads_choices = step 0 ∷ (step 0 ∷ (step 0 ∷ (step 0 ∷ (step 0 ∷ []))))
+
+-- on a split bus: store buffering, where each access asks and is completed
+abbrev pub sb_asks : List Choice
+sb_asks = step 0 ∷ (step 1 ∷ (step 0 ∷ (step 0 ∷ (step 1 ∷ (step 1 ∷ (drain 0 ∷ (drain 0 ∷ (drain 1 ∷ (drain 1 ∷ [])))))))))
+
+-- and where it doesn't end: the first load has asked, and is counted only once it is completed
+abbrev pub sb_waits : List Choice
+sb_waits = step 0 ∷ (step 1 ∷ (step 0 ∷ (step 1 ∷ (drain 0 ∷ (drain 1 ∷ [])))))
+
+-- EAX is 1, and all else 0
+abbrev pub one : List ℕ
+one = 1 ∷ (0 ∷ (0 ∷ (0 ∷ (0 ∷ (0 ∷ [])))))
+
+-- a locked addition of 1 to x, beside this program of another core
+abbrev pub added_beside : List Instr → Litmus
+added_beside program = record {
+  name = codes "added";
+  locations = codes "x" ∷ (codes "y" ∷ []);
+  words = 0 ∷ (0 ∷ []);
+  registers = one ∷ (zeros ∷ []);
+  programs = (Xadd loc_x Eax ∷ []) ∷ (program ∷ []);
+  condition = None;
+}
+
+-- beside a load of x, which waits until the addition is whole
+abbrev pub load_waits : List Choice
+load_waits = step 0 ∷ (step 0 ∷ (step 1 ∷ (step 0 ∷ (step 1 ∷ (step 1 ∷ [])))))
+
+-- beside two loads of y, the second of which hits between the two parts of the addition
+abbrev pub load_between : List Choice
+load_between = step 1 ∷ (step 1 ∷ (step 0 ∷ (step 0 ∷ (step 1 ∷ (step 0 ∷ [])))))
+
+-- a locked exchange of a word that the core has just written: it asks though it hits
+abbrev pub store_exchange : Litmus
+store_exchange = record {
+  name = codes "store-exchange";
+  locations = codes "x" ∷ [];
+  words = 0 ∷ [];
+  registers = zeros ∷ [];
+  programs = (StoreImm loc_x 1 ∷ (Xchg loc_x Eax ∷ [])) ∷ [];
+  condition = None;
+}
+
+abbrev pub store_exchange_choices : List Choice
+store_exchange_choices = step 0 ∷ (drain 0 ∷ (drain 0 ∷ (step 0 ∷ (step 0 ∷ (step 0 ∷ [])))))

@@ -6,13 +6,16 @@ ghost use Rattle.machine_core.specs.Configuration.{IsWithinLimits};
 use snoop_bus::Shape;
 use snoop_bus::shape::{MAX_SETS, MAX_WAYS};
 use std::marker::Model;
+use tso_model::Bus;
 use tso_model::limits::{MAX_DEPTH, MIN_DEPTH};
 
-/// How a machine is built: how many stores each core's buffer holds, and the shape of its cache.
+/// How a machine is built: how many stores each core's buffer holds, the shape of its cache, and the
+/// kind of bus that the caches share.
 #[derive(Clone, Copy)]
 pub struct Config {
     depth: u8,
     shape: Shape,
+    bus: Bus,
 }
 
 impl Model for Config {
@@ -20,24 +23,24 @@ impl Model for Config {
 
     ghost Value = { Configuration };
 
-    ghost view = { λ c. record { depth = c.depth; shape = c.shape } };
+    ghost view = { λ c. record { depth = c.depth; shape = c.shape; bus = c.bus } };
 
-    ghost inverse = { λ v. record { depth = v.depth; shape = v.shape } };
+    ghost inverse = { λ v. record { depth = v.depth; shape = v.shape; bus = v.bus } };
 
-    ghost invariant = { λ c. IsWithinLimits (record { depth = c.depth; shape = c.shape }) };
+    ghost invariant = { λ c. IsWithinLimits (record { depth = c.depth; shape = c.shape; bus = c.bus }) };
 }
 
 impl Config {
-    /// The configuration with buffers of this depth and caches of this shape. `None` exactly where the
-    /// depth isn't from `MIN_DEPTH` to `MAX_DEPTH`.
-    pub fn new(depth: u8, shape: Shape) -> Option<Config>
-        ensures value { IfSome result (λ c. c ≡ record { depth = depth; shape = shape }) }
+    /// The configuration with buffers of this depth, and caches of this shape on this kind of bus. `None`
+    /// exactly where the depth isn't from `MIN_DEPTH` to `MAX_DEPTH`.
+    pub fn new(depth: u8, shape: Shape, bus: Bus) -> Option<Config>
+        ensures value { IfSome result (λ c. c ≡ record { depth = depth; shape = shape; bus = bus }) }
         ensures valid { IsSome result ↔ ((least_depth ≤ depth) × (depth ≤ most_depth)) }
     {
         // What a shape keeps is known from its readers.
         let _known = (shape.sets(), shape.ways(), shape.words());
         if (MIN_DEPTH..=MAX_DEPTH).contains(&depth) {
-            Some(Config { depth, shape })
+            Some(Config { depth, shape, bus })
         } else {
             None
         }
@@ -49,6 +52,13 @@ impl Config {
         ensures within { IsWithinLimits self }
     {
         self.depth
+    }
+
+    /// The kind of bus that the caches share.
+    pub fn bus(self) -> Bus
+        ensures { result ≡ self.bus }
+    {
+        self.bus
     }
 
     /// The shape of a core's cache.

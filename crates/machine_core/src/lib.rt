@@ -1,14 +1,20 @@
 //! The machine: cores with store buffers and caches on one snooping bus, run one choice at a time.
 //!
-//! Callers see the flat machine of `tso_model`: what each choice does, and what it leaves, whatever the
-//! protocol and the shape of the caches; and beside it what the accesses of each core's cache were,
-//! which goes by both.
+//! Callers see the machine of `tso_model` on either bus: what each choice does, and what it leaves. On
+//! the atomic bus the protocol and the shape of the caches have no part in that; on a split bus the
+//! caches answer whether an access hits. Beside it callers see what the accesses of each core's cache
+//! were, which goes by both.
 #![tactic(auto)]
 
+mod asking;
 mod cache_use;
+mod completing;
 pub mod config;
 pub mod counts;
+mod holding;
+mod locked;
 pub mod machine;
+mod memory_access;
 mod parts;
 mod processor;
 mod tallying;
@@ -18,4 +24,4 @@ pub use config::Config;
 pub use counts::Counts;
 pub use machine::{Final, Machine};
 pub use snoop_bus::Shape;
-pub use tso_model::{Choice, Outcome, Stall};
+pub use tso_model::{Bus, Choice, Outcome, Stall};

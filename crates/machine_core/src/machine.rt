@@ -1,12 +1,17 @@
 ghost use Rattle.std.specs.Prelude.{◌≡◌, ◌≢◌, ◌<◌, true, false, IsTrue, IsOk, IsErr, IfOk, OnOk, OnErr, length, map};
 ghost use Rattle.tso_model.specs.FlatMachine.{chosen};
-ghost use Rattle.machine_core.specs.Running.{new_machine, effect_on, machine_after, IsRefused, is_ended};
+ghost use Rattle.tso_model.specs.Together.{put_together};
+ghost use Rattle.machine_core.specs.Running.{new_machine, effect_by, machine_after, AnswerFits, IsRefused, is_ended};
 
 use crate::config::Config;
 use crate::counts::Counts;
 use crate::parts::{Parts, are_done, begin, memory_of, perform, registers_of};
 use order_builder::build;
 use protocol_tables::Protocol;
+use split_laws::{
+    attempts_lead_from_state_to_state, stalls_on_either_bus_change_nothing,
+    what_holds_so_far_on_either_bus,
+};
 use std::alloc::Global;
 use std::marker::Model;
 use tso_model::{Choice, Execution, NoMemory, Outcome, Stall, Test};
@@ -14,7 +19,8 @@ use tso_model::{Choice, Execution, NoMemory, Outcome, Stall, Test};
 /// What a machine leaves when its test has ended.
 #[derive(Drop)]
 pub struct Final {
-    /// The entries in the order of their commits.
+    /// The entries in the order of their commits, but for each load part of a locked instruction, which
+    /// stands directly before its store part.
     pub execution: Execution,
     /// The registers of each core, in the order of `Reg::ALL`.
     pub registers: Vec<[u32; 6]>,
@@ -25,8 +31,8 @@ pub struct Final {
 }
 
 /// A machine that runs a test, which it borrows, one choice at a time. Its caches are kept coherent by
-/// this protocol; neither the protocol nor the shape of the caches has a part in what a choice does but
-/// in what is counted of its accesses.
+/// this protocol. On the atomic bus neither the protocol nor the shape of the caches has a part in what a
+/// choice does but in what is counted of its accesses; on a split bus an access that hits needs no bus.
 #[derive(Drop)]
 pub struct Machine<'a, P: Protocol> {
     test: &'a Test,
@@ -43,23 +49,24 @@ impl<'a, P: Protocol> Model for Machine<'a, P> {
 
     ghost coded = { Prim.hlevel (codes, claim_code) };
 
-    ghost use Rattle.order_builder.specs.Pairs.{IsPaired};
-    ghost use Rattle.machine_core.specs.Kept.{FitsTest, IsTallied, state_in, statistics_in};
+    ghost use Rattle.split_laws.specs.BusChoices.{IsPossibleOn};
+    ghost use Rattle.machine_core.specs.Kept.{FitsTest, IsHeldAs, IsTallied, state_in, statistics_in};
 
-    ghost view = { λ m. record { test = m.test.now; depth = m.parts.config.depth; state = state_in m.parts; commits = m.parts.commits.entries; statistics = statistics_in m.parts; failed = m.failed } };
+    ghost view = { λ m. record { test = m.test.now; bus = m.parts.config.bus; depth = m.parts.config.depth; state = state_in m.parts; commits = m.parts.commits.entries; statistics = statistics_in m.parts; failed = m.failed } };
 
-    ghost invariant = { λ m. FitsTest m.test.now m.parts × IsPaired m.parts.commits.entries × IsTallied m.test.now (state_in m.parts) m.parts.counts.items };
+    ghost invariant = { λ m. FitsTest m.test.now m.parts × IsHeldAs m.test.now m.parts × IsPossibleOn m.parts.config.bus m.test.now m.parts.config.depth m.parts.commits.entries (state_in m.parts) × IsTallied m.test.now (state_in m.parts) (statistics_in m.parts) };
 }
 
 impl<'a, P: Protocol> Machine<'a, P> {
     /// A machine at the beginning of the test: each core before its first instruction with its first
-    /// registers and nothing buffered, memory with the test's first words, the caches empty, and nothing
-    /// committed or counted.
+    /// registers and nothing buffered, memory with the test's first words, the caches empty, the bus held
+    /// by nobody, and nothing committed or counted.
     ///
     /// Fails only for want of memory.
     pub fn new(alloc: Global, protocol: P, test: &'a Test, config: Config) -> Result<Self, NoMemory>
         ensures { IfOk result (λ m. m ≡ new_machine (P.table protocol) config test.now) }
     {
+        attempts_lead_from_state_to_state();
         let parts = begin(alloc, protocol, test, config)?;
         Ok(Machine {
             test,
@@ -69,22 +76,29 @@ impl<'a, P: Protocol> Machine<'a, P> {
     }
 
     /// Makes a choice, counts what it had to do with the caches, and answers what it did. A stall
-    /// changes nothing.
+    /// changes nothing. On a split bus a choice that needs the bus asks for it first, and the same choice
+    /// completes it later; an access is counted when it is completed.
     ///
     /// Fails only for want of memory, which a choice takes only where it commits; then the machine
     /// has failed, and each later call fails as well.
     pub fn choose(&mut self, choice: Choice) -> Result<Outcome, NoMemory>
         requires { chosen choice < length self.old.test.programs }
 
-        ensures outcome { IfOk result (λ o. o ≡ (effect_on self.old choice).outcome) }
+        ensures outcome { IfOk result (λ o. o ≡ (effect_by self.old choice).effect.outcome) }
         ensures after { OnOk result (self.new ≡ machine_after self.old choice) }
         ensures stall { (why : Stall) → result ≡ Ok (Outcome.Stalled why) → self.new ≡ self.old }
 
+        // Between the two parts of a locked instruction no write of another core to its location hits.
+        ensures answer { OnOk result (AnswerFits self.old choice) }
+
         // Only a choice that commits takes memory, and a machine that was refused it stays so.
-        ensures succeeds { self.old.failed ≡ false → (effect_on self.old choice).outcome ≢ Outcome.Committed → IsOk result }
+        ensures succeeds { self.old.failed ≡ false → (effect_by self.old choice).effect.outcome ≢ Outcome.Committed → IsOk result }
         ensures refused { OnErr result (IsRefused self.old self.new) }
         ensures stays_refused { self.old.failed ≡ true → IsErr result }
     {
+        attempts_lead_from_state_to_state();
+        what_holds_so_far_on_either_bus();
+        stalls_on_either_bus_change_nothing();
         if self.failed {
             return Err(NoMemory);
         }
@@ -107,15 +121,16 @@ impl<'a, P: Protocol> Machine<'a, P> {
     pub fn finish(self, alloc: Global) -> Result<Final, NoMemory>
         requires { IsTrue (is_ended self) }
 
-        ensures order { IfOk result (λ f. f.execution.order.items ≡ self.entry.commits) }
-        ensures registers { IfOk result (λ f. f.registers.items ≡ map (λ c. c.registers) self.entry.state.cores) }
-        ensures memory { IfOk result (λ f. f.memory.items ≡ self.entry.state.memory) }
+        ensures order { IfOk result (λ f. f.execution.order.items ≡ put_together self.entry.commits) }
+        ensures registers { IfOk result (λ f. f.registers.items ≡ map (λ c. c.registers) self.entry.state.flat.cores) }
+        ensures memory { IfOk result (λ f. f.memory.items ≡ self.entry.state.flat.memory) }
         ensures counts { IfOk result (λ f. f.counts.items ≡ self.entry.statistics.counts) }
 
         // As many registers as the test has cores, and as many words as it has locations.
         ensures cores { IfOk result (λ f. length f.registers.items ≡ length self.entry.test.programs) }
         ensures locations { IfOk result (λ f. length f.memory.items ≡ length self.entry.test.locations) }
     {
+        what_holds_so_far_on_either_bus();
         let mut parts = self.parts;
         parts.bus.settle();
         let execution = build(alloc, &parts.commits)?;

@@ -1,17 +1,23 @@
-ghost use Rattle.std.specs.Prelude.{◌≡◌, ◌≢◌, ℕ, ◌<◌, ◌≤◌, [], IsOk, IfOk, OnOk, OnErr, All, length, map, replicate, slice_get, take};
+ghost use Rattle.std.specs.Prelude.{◌≡◌, ◌≢◌, ℕ, ◌<◌, ◌≤◌, [], true, false, IsOk, IfOk, OnOk, OnErr, All, length, map, replicate, slice_get, take};
 ghost use Rattle.tso_model.specs.Limits.{least_depth, most_depth};
 ghost use Rattle.tso_model.specs.FlatMachine.{chosen, started, start};
+ghost use Rattle.tso_model.specs.Access.{access_of};
+ghost use Rattle.tso_model.specs.SplitMachine.{acts};
+ghost use Rattle.tso_model.specs.EitherBus.{unheld, HitFits};
 ghost use Rattle.tso_model.specs.Runs.{all_done};
-ghost use Rattle.snoop_bus.specs.Bus.{words_of};
+ghost use Rattle.split_laws.specs.Holders.{HolderFits};
+ghost use Rattle.snoop_bus.specs.Bus.{words_of, holder_of};
 ghost use Rattle.snoop_bus.specs.Accesses.{memory_words_of};
 ghost use Rattle.machine_core.specs.Cores.{core_states};
 ghost use Rattle.machine_core.specs.Statistics.{no_counts, no_statistics, statistics_after};
-ghost use Rattle.machine_core.specs.Kept.{IsCore, FitsTest, IsTallied, state_in, statistics_in};
-ghost use Rattle.machine_core.specs.Performed.{HasUsed, Performs, effect_in, use_in};
+ghost use Rattle.machine_core.specs.Kept.{IsCore, FitsTest, IsHeldAs, IsTallied, core_in, state_in, statistics_in};
+ghost use Rattle.machine_core.specs.Performed.{HasUsed, MayAct, Performs, attempt_in, effect_in, use_in, flat_effect_in, flat_use_in};
 
+use crate::asking::act_on_split;
 use crate::cache_use::CacheUse;
 use crate::config::Config;
 use crate::counts::Counts;
+use crate::holding::Holding;
 use crate::processor::{Processor, drain as drain_core, step as step_core};
 use crate::tallying::tally;
 use order_builder::Commits;
@@ -19,14 +25,16 @@ use protocol_tables::Protocol;
 use snoop_bus::SnoopBus;
 use std::alloc::Global;
 use store_buffer::StoreBuffer;
-use tso_model::{Choice, Core, Instr, Loc, NoMemory, Outcome, Stall, Test};
+use tso_model::{Bus, Choice, Core, Instr, Loc, NoMemory, Outcome, Stall, Test};
 
-/// What a machine consists of: its cores, memory behind their caches, and what was committed.
+/// What a machine consists of: its cores, memory behind their caches, who holds the bus, what was
+/// committed and what was counted.
 #[derive(Drop)]
 pub struct Parts<P: Protocol> {
     pub config: Config,
     pub processors: Vec<Processor>,
     pub bus: SnoopBus<P>,
+    pub holding: Holding,
     pub commits: Commits,
     pub counts: Vec<Counts>,
 }
@@ -39,11 +47,12 @@ pub fn begin<P: Protocol>(
     config: Config,
 ) -> Result<Parts<P>, NoMemory>
     ensures fits { IfOk result (FitsTest test.now) }
-    ensures state { IfOk result (λ parts. state_in parts ≡ start test.now) }
+    ensures held { IfOk result (IsHeldAs test.now) }
+    ensures state { IfOk result (λ parts. state_in parts ≡ unheld (start test.now)) }
     ensures commits { IfOk result (λ parts. parts.commits.entries ≡ []) }
     ensures config { IfOk result (λ parts. parts.config ≡ config) }
     ensures statistics { IfOk result (λ parts. statistics_in parts ≡ no_statistics (P.table protocol) config.shape test.now) }
-    ensures tallied { IfOk result (λ parts. IsTallied test.now (state_in parts) parts.counts.items) }
+    ensures tallied { IfOk result (λ parts. IsTallied test.now (state_in parts) (statistics_in parts)) }
 {
     let processors = processors_of(alloc, test, config.depth())?;
     let bus = SnoopBus::new(
@@ -58,6 +67,7 @@ pub fn begin<P: Protocol>(
         config,
         processors,
         bus,
+        holding: Holding::Free,
         commits: Commits::new(alloc),
         counts,
     })
@@ -105,49 +115,85 @@ pub fn perform<P: Protocol>(
 ) -> Result<Outcome, NoMemory>
     requires core { chosen choice < length test.now.programs }
     requires fits { FitsTest test.now parts.old }
-    requires tallied { IsTallied test.now (state_in parts.old) parts.old.counts.items }
+    requires held { IsHeldAs test.now parts.old }
+    requires holder { HolderFits parts.old.config.bus test.now parts.old.config.depth (state_in parts.old).flat (state_in parts.old).holder }
+    requires tallied { IsTallied test.now (state_in parts.old) (statistics_in parts.old) }
 
-    ensures ok { IfOk result (Performs test.now parts.old parts.new choice) }
-    ensures statistics { OnOk result (statistics_in parts.new ≡ statistics_after test.now parts.old.config.depth (state_in parts.old) choice (statistics_in parts.old)) }
-    ensures succeeds { (effect_in test.now parts.old choice).outcome ≢ Outcome.Committed → IsOk result }
+    ensures ok { IfOk result (Performs parts.old parts.new choice (effect_in test.now parts.old choice)) }
+    ensures answer { HitFits test.now parts.old.config.depth (state_in parts.old).flat (attempt_in test.now parts.old choice) (state_in parts.old).holder }
+    ensures statistics { OnOk result (statistics_in parts.new ≡ statistics_after parts.old.config.bus test.now parts.old.config.depth (state_in parts.old) choice (statistics_in parts.old)) }
+    ensures succeeds { (effect_in test.now parts.old choice).effect.outcome ≢ Outcome.Committed → IsOk result }
     ensures err_state { OnErr result (state_in parts.new ≡ state_in parts.old) }
     ensures err_commits { OnErr result (parts.new.commits.entries ≡ parts.old.commits.entries) }
     ensures err_statistics { OnErr result (statistics_in parts.new ≡ statistics_in parts.old) }
     ensures config { parts.new.config ≡ parts.old.config }
     ensures fits { FitsTest test.now parts.new }
-    ensures tallied { IsTallied test.now (state_in parts.new) parts.new.counts.items }
+    ensures held { IsHeldAs test.now parts.new }
+    ensures tallied { IsTallied test.now (state_in parts.new) (statistics_in parts.new) }
 {
-    let (outcome, cache_use) = act(parts, test, choice)?;
+    let (outcome, cache_use) = act_on_bus(parts, test, choice)?;
     tally(&mut parts.counts, core_of(choice), cache_use);
     Ok(outcome)
 }
 
 /// The core that a choice names.
-fn core_of(choice: Choice) -> Core
-    ensures { result.0 ≡ chosen choice }
+pub fn core_of(choice: Choice) -> Core
+    ensures core { result ≡ core_in choice }
+    ensures chosen { result.0 ≡ chosen choice }
 {
     match choice {
         Choice::Step(core) | Choice::Drain(core) => core,
     }
 }
 
-/// Makes a choice, and answers its outcome and what it had to do with the caches.
-fn act<P: Protocol>(
+/// Makes a choice on the kind of bus that there is. On the atomic bus every choice is whole.
+fn act_on_bus<P: Protocol>(
     parts: &mut Parts<P>,
     test: &Test,
     choice: Choice,
 ) -> Result<(Outcome, CacheUse), NoMemory>
     requires core { chosen choice < length test.now.programs }
     requires fits { FitsTest test.now parts.old }
+    requires held { IsHeldAs test.now parts.old }
+    requires holder { HolderFits parts.old.config.bus test.now parts.old.config.depth (state_in parts.old).flat (state_in parts.old).holder }
 
-    ensures ok { IfOk result (λ r. Performs test.now parts.old parts.new choice r.0) }
+    ensures ok { IfOk result (λ r. Performs parts.old parts.new choice (effect_in test.now parts.old choice) r.0) }
+    ensures answer { HitFits test.now parts.old.config.depth (state_in parts.old).flat (attempt_in test.now parts.old choice) (state_in parts.old).holder }
     ensures caches { IfOk result (λ r. HasUsed (use_in test.now parts.old choice) parts.new.bus r.1) }
-    ensures succeeds { (effect_in test.now parts.old choice).outcome ≢ Outcome.Committed → IsOk result }
+    ensures succeeds { (effect_in test.now parts.old choice).effect.outcome ≢ Outcome.Committed → IsOk result }
     ensures err_state { OnErr result (state_in parts.new ≡ state_in parts.old) }
     ensures err_commits { OnErr result (parts.new.commits.entries ≡ parts.old.commits.entries) }
     ensures err_bus { OnErr result (parts.new.bus ≡ parts.old.bus) }
     ensures config { parts.new.config ≡ parts.old.config }
     ensures counts { parts.new.counts.items ≡ parts.old.counts.items }
+    ensures fits { FitsTest test.now parts.new }
+    ensures held { IsHeldAs test.now parts.new }
+{
+    match parts.config.bus() {
+        Bus::Atomic => act(parts, test, choice),
+        Bus::Split => act_on_split(parts, test, choice),
+    }
+}
+
+/// Makes a choice at once, and answers its outcome and what it had to do with the caches.
+pub fn act<P: Protocol>(
+    parts: &mut Parts<P>,
+    test: &Test,
+    choice: Choice,
+) -> Result<(Outcome, CacheUse), NoMemory>
+    requires core { chosen choice < length test.now.programs }
+    requires fits { FitsTest test.now parts.old }
+    requires free { MayAct parts.old.bus (chosen choice) (access_of test.now parts.old.config.depth (state_in parts.old).flat choice) }
+
+    ensures ok { IfOk result (λ r. Performs parts.old parts.new choice (acts (flat_effect_in test.now parts.old choice) (state_in parts.old).holder) r.0) }
+    ensures caches { IfOk result (λ r. HasUsed (flat_use_in test.now parts.old choice) parts.new.bus r.1) }
+    ensures succeeds { (flat_effect_in test.now parts.old choice).outcome ≢ Outcome.Committed → IsOk result }
+    ensures err_state { OnErr result (state_in parts.new ≡ state_in parts.old) }
+    ensures err_commits { OnErr result (parts.new.commits.entries ≡ parts.old.commits.entries) }
+    ensures err_bus { OnErr result (parts.new.bus ≡ parts.old.bus) }
+    ensures config { parts.new.config ≡ parts.old.config }
+    ensures counts { parts.new.counts.items ≡ parts.old.counts.items }
+    ensures holder { holder_of parts.new.bus ≡ holder_of parts.old.bus }
     ensures fits { FitsTest test.now parts.new }
 {
     match choice {
@@ -164,15 +210,17 @@ fn step<P: Protocol>(
 ) -> Result<(Outcome, CacheUse), NoMemory>
     requires core { core.0 < length test.now.programs }
     requires fits { FitsTest test.now parts.old }
+    requires free { MayAct parts.old.bus core.0 (access_of test.now parts.old.config.depth (state_in parts.old).flat (Choice.Step core)) }
 
-    ensures ok { IfOk result (λ r. Performs test.now parts.old parts.new (Choice.Step core) r.0) }
-    ensures caches { IfOk result (λ r. HasUsed (use_in test.now parts.old (Choice.Step core)) parts.new.bus r.1) }
-    ensures succeeds { (effect_in test.now parts.old (Choice.Step core)).outcome ≢ Outcome.Committed → IsOk result }
+    ensures ok { IfOk result (λ r. Performs parts.old parts.new (Choice.Step core) (acts (flat_effect_in test.now parts.old (Choice.Step core)) (state_in parts.old).holder) r.0) }
+    ensures caches { IfOk result (λ r. HasUsed (flat_use_in test.now parts.old (Choice.Step core)) parts.new.bus r.1) }
+    ensures succeeds { (flat_effect_in test.now parts.old (Choice.Step core)).outcome ≢ Outcome.Committed → IsOk result }
     ensures err_state { OnErr result (state_in parts.new ≡ state_in parts.old) }
     ensures err_commits { OnErr result (parts.new.commits.entries ≡ parts.old.commits.entries) }
     ensures err_bus { OnErr result (parts.new.bus ≡ parts.old.bus) }
     ensures config { parts.new.config ≡ parts.old.config }
     ensures counts { parts.new.counts.items ≡ parts.old.counts.items }
+    ensures holder { holder_of parts.new.bus ≡ holder_of parts.old.bus }
     ensures fits { FitsTest test.now parts.new }
 {
     let program = test.program(core);
@@ -184,7 +232,7 @@ fn step<P: Protocol>(
 }
 
 /// The instruction at this place of the program, if it isn't behind its end.
-fn instruction_at(program: &[Instr], place: u8) -> Option<Instr>
+pub fn instruction_at(program: &[Instr], place: u8) -> Option<Instr>
     ensures { result ≡ slice_get program.now place }
 {
     program.get(place as usize).copied()
@@ -198,15 +246,17 @@ fn drain<P: Protocol>(
 ) -> Result<(Outcome, CacheUse), NoMemory>
     requires core { core.0 < length test.now.programs }
     requires fits { FitsTest test.now parts.old }
+    requires free { MayAct parts.old.bus core.0 (access_of test.now parts.old.config.depth (state_in parts.old).flat (Choice.Drain core)) }
 
-    ensures ok { IfOk result (λ r. Performs test.now parts.old parts.new (Choice.Drain core) r.0) }
-    ensures caches { IfOk result (λ r. HasUsed (use_in test.now parts.old (Choice.Drain core)) parts.new.bus r.1) }
-    ensures succeeds { (effect_in test.now parts.old (Choice.Drain core)).outcome ≢ Outcome.Committed → IsOk result }
+    ensures ok { IfOk result (λ r. Performs parts.old parts.new (Choice.Drain core) (acts (flat_effect_in test.now parts.old (Choice.Drain core)) (state_in parts.old).holder) r.0) }
+    ensures caches { IfOk result (λ r. HasUsed (flat_use_in test.now parts.old (Choice.Drain core)) parts.new.bus r.1) }
+    ensures succeeds { (flat_effect_in test.now parts.old (Choice.Drain core)).outcome ≢ Outcome.Committed → IsOk result }
     ensures err_state { OnErr result (state_in parts.new ≡ state_in parts.old) }
     ensures err_commits { OnErr result (parts.new.commits.entries ≡ parts.old.commits.entries) }
     ensures err_bus { OnErr result (parts.new.bus ≡ parts.old.bus) }
     ensures config { parts.new.config ≡ parts.old.config }
     ensures counts { parts.new.counts.items ≡ parts.old.counts.items }
+    ensures holder { holder_of parts.new.bus ≡ holder_of parts.old.bus }
     ensures fits { FitsTest test.now parts.new }
 {
     let processor = &mut parts.processors[core.0 as usize];

@@ -1,17 +1,18 @@
-ghost use Rattle.std.specs.Prelude.{◌≡◌, ◌≢◌, ℕ, ◌<◌, ◌≤◌, ◌++◌, ◌∷◌, List, [], IsOk, IfOk, OnOk, OnErr, All, length, map, filter, slice_index};
+ghost use Rattle.std.specs.Prelude.{◌≡◌, ◌≢◌, ℕ, ◌<◌, Some, ◌≤◌, ◌++◌, ◌∷◌, List, [], IsOk, IfOk, OnOk, OnErr, All, length, map, filter, slice_index};
 ghost use Rattle.tso_model.specs.Limits.{most_instructions};
 ghost use Rattle.tso_model.specs.Litmus.{KnownLocation};
 ghost use Rattle.tso_model.specs.ProgramOrder.{writes_to};
 ghost use Rattle.tso_model.specs.Execution.{last_value};
 ghost use Rattle.tso_model.specs.Thread.{entry, value_in, with_value};
 ghost use Rattle.tso_model.specs.FlatMachine.{memory_after};
-ghost use Rattle.tso_model.specs.declared.execution.Kind.TheVariants.{LR, LW};
-ghost use Rattle.snoop_bus.specs.Bus.{Bus, words_of, cores_of, IsFree};
+ghost use Rattle.tso_model.specs.Access.{step_access, load_access, drain_access};
+ghost use Rattle.snoop_bus.specs.Bus.{Bus, words_of, cores_of, holder_of};
 ghost use Rattle.machine_core.specs.Cores.{store_of, core_state, pending_in, advanced, step_by, drain_by};
-ghost use Rattle.machine_core.specs.Performed.{HasUsed};
-ghost use Rattle.machine_core.specs.Statistics.{caches_of, load_behind, use_of};
+ghost use Rattle.machine_core.specs.Performed.{HasUsed, MayAct};
+ghost use Rattle.machine_core.specs.Caches.{caches_of, load_behind, use_of};
 
 use crate::cache_use::CacheUse;
+use crate::locked::{add, exchange};
 use order_builder::Commits;
 use protocol_tables::Protocol;
 use snoop_bus::SnoopBus;
@@ -32,7 +33,7 @@ impl Processor {
     ghost use Rattle.machine_core.specs.Cores.{core_state};
 
     /// The value of a register.
-    fn register(&self, reg: Reg) -> u32
+    pub fn register(&self, reg: Reg) -> u32
         ensures { result ≡ value_in self.now.registers reg }
     {
         self.registers[reg.index()]
@@ -59,7 +60,7 @@ pub fn step<P: Protocol>(
     requires place { processor.old.place < most_instructions }
     requires depth { 0 < processor.old.stores.depth }
     requires core { core.0 < cores_of bus.old }
-    requires free { IsFree bus.old }
+    requires free { MayAct bus.old core.0 (step_access processor.old.stores.depth (Some instr) (pending_in core.0 processor.old)) }
     requires known { KnownLocation (length (words_of bus.old)) instr }
     requires stores { All (λ s. s.loc.0 < length (words_of bus.old)) processor.old.stores.items }
 
@@ -74,7 +75,7 @@ pub fn step<P: Protocol>(
     ensures err_bus { OnErr result (bus.new ≡ bus.old) }
     ensures err_commits { OnErr result (commits.new.entries ≡ commits.old.entries) }
     ensures cores { cores_of bus.new ≡ cores_of bus.old }
-    ensures free { IsFree bus.new }
+    ensures holder { holder_of bus.new ≡ holder_of bus.old }
     ensures count { length (words_of bus.new) ≡ length (words_of bus.old) }
     ensures depth { processor.new.stores.depth ≡ processor.old.stores.depth }
     ensures stores { All (λ s. s.loc.0 < length (words_of bus.old)) processor.new.stores.items }
@@ -131,7 +132,7 @@ fn load<P: Protocol>(
 ) -> Result<(Outcome, CacheUse), NoMemory>
     requires place { processor.old.place < most_instructions }
     requires core { core.0 < cores_of bus.old }
-    requires free { IsFree bus.old }
+    requires free { MayAct bus.old core.0 (load_access loc (filter (writes_to loc.0) (pending_in core.0 processor.old))) }
     requires known { loc.0 < length (words_of bus.old) }
 
     ensures outcome { IfOk result (λ r. r.0 ≡ Outcome.Committed) }
@@ -144,7 +145,7 @@ fn load<P: Protocol>(
     ensures err_bus { OnErr result (bus.new ≡ bus.old) }
     ensures err_commits { OnErr result (commits.new.entries ≡ commits.old.entries) }
     ensures cores { cores_of bus.new ≡ cores_of bus.old }
-    ensures free { IsFree bus.new }
+    ensures holder { holder_of bus.new ≡ holder_of bus.old }
     ensures stores { processor.new.stores ≡ processor.old.stores }
 {
     commits.make_room(1)?;
@@ -168,14 +169,14 @@ fn see<P: Protocol>(
     bus: &mut SnoopBus<P>,
 ) -> Result<(u32, CacheUse), NoMemory>
     requires core { core.0 < cores_of bus.old }
-    requires free { IsFree bus.old }
+    requires free { MayAct bus.old core.0 (load_access loc (filter (writes_to loc.0) (map (store_of core.0) stores.now.items))) }
     requires known { loc.0 < length (words_of bus.old) }
 
     ensures value { IfOk result (λ r. r.0 ≡ last_value (filter (writes_to loc.0) (map (store_of core.0) stores.now.items)) (slice_index (words_of bus.old) loc.0)) }
     ensures words { words_of bus.new ≡ words_of bus.old }
     ensures caches { IfOk result (λ r. HasUsed (load_behind (caches_of bus.old) (map (store_of core.0) stores.now.items) core.0 loc.0) bus.new r.1) }
     ensures cores { cores_of bus.new ≡ cores_of bus.old }
-    ensures free { IsFree bus.new }
+    ensures holder { holder_of bus.new ≡ holder_of bus.old }
     ensures err { OnErr result (bus.new ≡ bus.old) }
 {
     match stores.newest_for(loc) {
@@ -228,127 +229,8 @@ fn fence(
     Ok((Outcome::Committed, CacheUse::Unused))
 }
 
-/// An exchange waits until nothing is buffered. Then it reads the word into the register and writes
-/// the register's value in its place, both at once.
-fn exchange<P: Protocol>(
-    processor: &mut Processor,
-    core: Core,
-    reg: Reg,
-    loc: Loc,
-    bus: &mut SnoopBus<P>,
-    commits: &mut Commits,
-) -> Result<(Outcome, CacheUse), NoMemory>
-    requires place { processor.old.place < most_instructions }
-    requires core { core.0 < cores_of bus.old }
-    requires free { IsFree bus.old }
-    requires known { loc.0 < length (words_of bus.old) }
-
-    ensures outcome { IfOk result (λ r. r.0 ≡ (step_by processor.old core.0 (words_of bus.old) (Instr.Xchg loc reg)).outcome) }
-    ensures after { OnOk result (core_state core.0 processor.new ≡ (step_by processor.old core.0 (words_of bus.old) (Instr.Xchg loc reg)).after) }
-    ensures words { OnOk result (words_of bus.new ≡ memory_after (step_by processor.old core.0 (words_of bus.old) (Instr.Xchg loc reg)).commits (words_of bus.old)) }
-    ensures commits { OnOk result (commits.new.entries ≡ commits.old.entries ++ (step_by processor.old core.0 (words_of bus.old) (Instr.Xchg loc reg)).commits) }
-    ensures caches { IfOk result (λ r. HasUsed (use_of (caches_of bus.old) (pending_in core.0 processor.old) (step_by processor.old core.0 (words_of bus.old) (Instr.Xchg loc reg)).commits) bus.new r.1) }
-    ensures succeeds { (step_by processor.old core.0 (words_of bus.old) (Instr.Xchg loc reg)).outcome ≢ Outcome.Committed → IsOk result }
-
-    ensures err_core { OnErr result (processor.new ≡ processor.old) }
-    ensures err_bus { OnErr result (bus.new ≡ bus.old) }
-    ensures err_commits { OnErr result (commits.new.entries ≡ commits.old.entries) }
-    ensures cores { cores_of bus.new ≡ cores_of bus.old }
-    ensures free { IsFree bus.new }
-    ensures count { length (words_of bus.new) ≡ length (words_of bus.old) }
-    ensures stores { processor.new.stores ≡ processor.old.stores }
-{
-    if !processor.stores.is_empty() {
-        return Ok((Outcome::Stalled(Stall::Lock), CacheUse::Unused));
-    }
-    let value = processor.register(reg);
-    commits.make_room(2)?;
-    let (word, access) = bus.swap(core, loc, value)?;
-    note_locked(commits, core, processor.place, loc, word, value)?;
-    advance(processor, reg, word);
-    Ok((Outcome::Committed, CacheUse::Through(access)))
-}
-
-/// An addition waits until nothing is buffered. Then it reads the word into the register and writes
-/// the sum of the word and the register's value in its place, both at once.
-fn add<P: Protocol>(
-    processor: &mut Processor,
-    core: Core,
-    reg: Reg,
-    loc: Loc,
-    bus: &mut SnoopBus<P>,
-    commits: &mut Commits,
-) -> Result<(Outcome, CacheUse), NoMemory>
-    requires place { processor.old.place < most_instructions }
-    requires core { core.0 < cores_of bus.old }
-    requires free { IsFree bus.old }
-    requires known { loc.0 < length (words_of bus.old) }
-
-    ensures outcome { IfOk result (λ r. r.0 ≡ (step_by processor.old core.0 (words_of bus.old) (Instr.Xadd loc reg)).outcome) }
-    ensures after { OnOk result (core_state core.0 processor.new ≡ (step_by processor.old core.0 (words_of bus.old) (Instr.Xadd loc reg)).after) }
-    ensures words { OnOk result (words_of bus.new ≡ memory_after (step_by processor.old core.0 (words_of bus.old) (Instr.Xadd loc reg)).commits (words_of bus.old)) }
-    ensures commits { OnOk result (commits.new.entries ≡ commits.old.entries ++ (step_by processor.old core.0 (words_of bus.old) (Instr.Xadd loc reg)).commits) }
-    ensures caches { IfOk result (λ r. HasUsed (use_of (caches_of bus.old) (pending_in core.0 processor.old) (step_by processor.old core.0 (words_of bus.old) (Instr.Xadd loc reg)).commits) bus.new r.1) }
-    ensures succeeds { (step_by processor.old core.0 (words_of bus.old) (Instr.Xadd loc reg)).outcome ≢ Outcome.Committed → IsOk result }
-
-    ensures err_core { OnErr result (processor.new ≡ processor.old) }
-    ensures err_bus { OnErr result (bus.new ≡ bus.old) }
-    ensures err_commits { OnErr result (commits.new.entries ≡ commits.old.entries) }
-    ensures cores { cores_of bus.new ≡ cores_of bus.old }
-    ensures free { IsFree bus.new }
-    ensures count { length (words_of bus.new) ≡ length (words_of bus.old) }
-    ensures stores { processor.new.stores ≡ processor.old.stores }
-{
-    if !processor.stores.is_empty() {
-        return Ok((Outcome::Stalled(Stall::Lock), CacheUse::Unused));
-    }
-    let value = processor.register(reg);
-    commits.make_room(2)?;
-    let (word, access) = bus.add(core, loc, value)?;
-    note_locked(
-        commits,
-        core,
-        processor.place,
-        loc,
-        word,
-        word.wrapping_add(value),
-    )?;
-    advance(processor, reg, word);
-    Ok((Outcome::Committed, CacheUse::Through(access)))
-}
-
-/// Notes both parts of a locked instruction that read this word and wrote this value.
-///
-/// Fails only for want of memory, and not where there is room for both.
-fn note_locked(
-    commits: &mut Commits,
-    core: Core,
-    place: u8,
-    loc: Loc,
-    word: u32,
-    value: u32,
-) -> Result<(), NoMemory>
-    ensures ok { OnOk result (commits.new.entries ≡ commits.old.entries ++ entry core.0 place LR loc word ∷ (entry core.0 place LW loc value ∷ [])) }
-    ensures succeeds { 2 ≤ commits.old.room → IsOk result }
-{
-    commits.note(Entry {
-        core,
-        place,
-        kind: Kind::LR,
-        loc,
-        value: word,
-    })?;
-    commits.note(Entry {
-        core,
-        place,
-        kind: Kind::LW,
-        loc,
-        value,
-    })
-}
-
 /// The core goes on to its next instruction, with this value in the register.
-fn advance(processor: &mut Processor, reg: Reg, value: u32)
+pub fn advance(processor: &mut Processor, reg: Reg, value: u32)
     requires { processor.old.place < most_instructions }
     ensures { processor.new ≡ advanced processor.old (with_value processor.old.registers reg value) }
 {
@@ -366,7 +248,7 @@ pub fn drain<P: Protocol>(
     commits: &mut Commits,
 ) -> Result<(Outcome, CacheUse), NoMemory>
     requires core { core.0 < cores_of bus.old }
-    requires free { IsFree bus.old }
+    requires free { MayAct bus.old core.0 (drain_access (pending_in core.0 processor.old)) }
     requires stores { All (λ s. s.loc.0 < length (words_of bus.old)) processor.old.stores.items }
 
     ensures outcome { IfOk result (λ r. r.0 ≡ (drain_by processor.old core.0).outcome) }
@@ -380,7 +262,7 @@ pub fn drain<P: Protocol>(
     ensures err_bus { OnErr result (bus.new ≡ bus.old) }
     ensures err_commits { OnErr result (commits.new.entries ≡ commits.old.entries) }
     ensures cores { cores_of bus.new ≡ cores_of bus.old }
-    ensures free { IsFree bus.new }
+    ensures holder { holder_of bus.new ≡ holder_of bus.old }
     ensures count { length (words_of bus.new) ≡ length (words_of bus.old) }
     ensures depth { processor.new.stores.depth ≡ processor.old.stores.depth }
     ensures stores { All (λ s. s.loc.0 < length (words_of bus.old)) processor.new.stores.items }

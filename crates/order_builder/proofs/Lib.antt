@@ -1,4 +1,5 @@
 pub mod Pairing
+pub mod Together
 pub mod Choosing
 pub mod DecimalLemmas
 pub mod LineLemmas

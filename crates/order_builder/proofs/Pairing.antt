@@ -1,22 +1,12 @@
--- A paired list keeps the pairs: each load part has its store part directly behind it.
-use Rattle.std.proofs.Common.{◌≡◌, ℕ, zero, suc, ◌==◌, ◌&&◌, Bool, true, false, not, List, [], ◌∷◌, Option, None, Some, slice_get, refl, sym, ap, ◌∙◌, arith}
-use Rattle.std.proofs.lemmas.Bool.Decides.{nat_tests}
+-- Where each load part is put directly before its store part, the pairs are kept.
+use Rattle.std.proofs.Common.{◌≡◌, ◌≢◌, zero, suc, ◌==◌, ◌&&◌, Bool, true, false, if◌then◌else◌, List, [], ◌∷◌, Some, slice_get, refl, sym, ap, ◌∙◌, subst}
 use Rattle.tso_model.specs.Execution.{same_kind, is_at, KeepsPairs, IsStorePart}
+use Rattle.tso_model.specs.Together.{put_before, put_together}
 use Rattle.tso_model.specs.declared.execution.Entry.{Entry}
 use Rattle.tso_model.specs.declared.execution.Kind.{Kind}
 use Rattle.tso_model.specs.declared.execution.Kind.TheVariants.{R, W, F, LR, LW}
-use Rattle.order_builder.specs.Pairs.{IsPaired, are_paired_behind, waiting_after}
-
-and_first : (a b : Bool) → (a && b) ≡ true → a ≡ true
-and_first true b h = refl
-and_first false b h = h
-
-and_second : (a b : Bool) → (a && b) ≡ true → b ≡ true
-and_second true b h = h
-and_second false b h = absurd (let z : ⊥ = cc in z)
-
-equal_numbers : (m n : ℕ) → (m == n) ≡ true → m ≡ n
-equal_numbers m n h = grind (arith, nat_tests, h)
+use Rattle.order_builder.specs.Pairs.{IsPaired, is_answered, are_answered}
+use Rattle.order_builder.proofs.Together.{and_first, and_second, is_core, isn't_core, load_kind, same-core, skipped, answers, no_load_part, elsewhere}
 
 store_kind : (k : Kind) → same_kind k LW ≡ true → k ≡ LW
 store_kind R h = absurd (let z : ⊥ = cc in z)
@@ -29,35 +19,94 @@ IsStorePart-from_test : (x y : Entry) → is_at x.core.0 x.place LW y ≡ true �
 IsStorePart-from_test x y h =
     let front = and_first ((y.core.0 == x.core.0) && (y.place == x.place)) (same_kind y.kind LW) h in
     record {
-      core = equal_numbers y.core.0 x.core.0 (and_first (y.core.0 == x.core.0) (y.place == x.place) front);
-      place = equal_numbers y.place x.place (and_second (y.core.0 == x.core.0) (y.place == x.place) front);
+      core = is_core y.core.0 x.core.0 (and_first (y.core.0 == x.core.0) (y.place == x.place) front);
+      place = is_core y.place x.place (and_second (y.core.0 == x.core.0) (y.place == x.place) front);
       kind = store_kind y.kind (and_second ((y.core.0 == x.core.0) && (y.place == x.place)) (same_kind y.kind LW) h);
     }
 
--- a load part that waits has its store part next
-next_part : (x : Entry) (es : List Entry) → are_paired_behind (Some x) es ≡ true → (y : Entry) × (slice_get es 0 ≡ Some y) × IsStorePart x y
-next_part x [] h = absurd (let z : ⊥ = cc in z)
-next_part x (y ∷ ys) h = (y, refl, IsStorePart-from_test x y (and_first (is_at x.core.0 x.place LW y) (are_paired_behind None ys) h))
+own : (x e : Entry) (es : List Entry) → e.core.0 ≡ x.core.0 → is_answered x (e ∷ es) ≡ is_at x.core.0 x.place LW e
+own x e es h = rw (same-core e.core.0 x.core.0 h) refl
 
-waits : (e : Entry) → e.kind ≡ LR → waiting_after e ≡ Some e
-waits e k = rw k refl
+-- what is put together behind a load part answers it as before
+answered-put : (x e : Entry) (es : List Entry) → e.core.0 ≢ x.core.0 → is_answered x (put_before e es) ≡ is_answered x es
+answered-put x e [] h = skipped x e [] h
+answered-put x e (y ∷ ys) h =
+    elim (is_at e.core.0 e.place LW y) as (λ b. is_answered x (if b then e ∷ (y ∷ ys) else y ∷ put_before e ys) ≡ is_answered x (y ∷ ys)) [
+      | true ↦ skipped x e (y ∷ ys) h
+      | false ↦ ap (λ b. if y.core.0 == x.core.0 then is_at x.core.0 x.place LW y else b) (answered-put x e ys h)
+    ]
 
-KeepsPairs-behind : (o : Option Entry) (es : List Entry) → are_paired_behind o es ≡ true → KeepsPairs es
-KeepsPairs-behind o [] h i x g k = absurd (let z : ⊥ = cc in z)
-KeepsPairs-behind None (e ∷ es) h zero x g k =
-    let same : e ≡ x = cc in
-    let kind : e.kind ≡ LR = ap (λ z. z.kind) same ∙ k in
-    let rest : are_paired_behind (waiting_after e) es ≡ true = and_second (not (same_kind e.kind LW)) (are_paired_behind (waiting_after e) es) h in
-    next_part x es (ap (λ z. are_paired_behind (Some z) es) (sym same) ∙ ap (λ o. are_paired_behind o es) (sym (waits e kind)) ∙ rest)
-KeepsPairs-behind None (e ∷ es) h (suc i) x g k =
-    KeepsPairs-behind (waiting_after e) es (and_second (not (same_kind e.kind LW)) (are_paired_behind (waiting_after e) es) h) i x g k
-KeepsPairs-behind (Some w) (e ∷ es) h zero x g k =
-    let same : e ≡ x = cc in
-    let part = IsStorePart-from_test w e (and_first (is_at w.core.0 w.place LW e) (are_paired_behind None es) h) in
-    let clash : LR ≡ LW = sym k ∙ ap (λ z. z.kind) (sym same) ∙ part.kind in
-    absurd (let z : ⊥ = cc in z)
-KeepsPairs-behind (Some w) (e ∷ es) h (suc i) x g k =
-    KeepsPairs-behind None es (and_second (is_at w.core.0 w.place LW e) (are_paired_behind None es) h) i x g k
+answered-together : (x : Entry) (es : List Entry) → is_answered x es ≡ true → is_answered x (put_together es) ≡ true
+answered-together x [] h = h
+answered-together x (e ∷ es) h = by_core (e.core.0 == x.core.0) refl (answered-together x es)
+  where
+    Goal : Bool → Type 0
+    Goal b = is_answered x (if b then put_before e (put_together es) else e ∷ put_together es) ≡ true
 
-pub KeepsPairs-paired : (es : List Entry) → IsPaired es → KeepsPairs es
-KeepsPairs-paired es h = KeepsPairs-behind None es h
+    by_kind : (b : Bool) → e.core.0 ≢ x.core.0 → is_answered x (put_together es) ≡ true → Goal b
+    by_kind true c r = answered-put x e (put_together es) c ∙ r
+    by_kind false c r = skipped x e (put_together es) c ∙ r
+
+    own_kind : (b : Bool) → same_kind e.kind LR ≡ b → e.core.0 ≡ x.core.0 → is_at x.core.0 x.place LW e ≡ true → Goal b
+    own_kind true q c part = absurd (let z : true ≡ false = sym part ∙ no_load_part x e (load_kind e.kind q) in let w : ⊥ = cc in w)
+    own_kind false q c part = own x e (put_together es) c ∙ part
+
+    by_core : (b : Bool) → (e.core.0 == x.core.0) ≡ b → (is_answered x es ≡ true → is_answered x (put_together es) ≡ true) → Goal (same_kind e.kind LR)
+    by_core true q rest = own_kind (same_kind e.kind LR) refl (is_core e.core.0 x.core.0 q) (answers x e es (is_core e.core.0 x.core.0 q) h)
+    by_core false q rest =
+        let c = isn't_core e.core.0 x.core.0 q in
+        by_kind (same_kind e.kind LR) c (rest (sym (skipped x e es c) ∙ h))
+
+-- what stands directly behind a load part
+abbrev Next : Entry → List Entry → Type 0
+Next x es = (y : Entry) × (slice_get es 0 ≡ Some y) × IsStorePart x y
+
+-- what another load part finds behind it, it still finds where this one is put in elsewhere
+behind : (x y : Entry) (es : List Entry) → y.core.0 ≢ x.core.0 → Next y es → Next y (put_before x es)
+behind x y [] c next = absurd (let s = next.1 in let z : ⊥ = cc in z)
+behind x y (e ∷ es) c next =
+    let same : e ≡ next.0 = (let s = next.1 in let z : e ≡ next.0 = cc in z) in
+    let other : is_at x.core.0 x.place LW e ≡ false = elsewhere x e (λ s. c (sym next.2.core ∙ ap (λ (u : Entry). u.core.0) (sym same) ∙ s)) in
+    (next.0, (let z : slice_get (put_before x (e ∷ es)) 0 ≡ Some e = rw other refl in z ∙ ap Some same), next.2)
+
+-- a load part that is put directly before its store part
+KeepsPairs-put : (x : Entry) (es : List Entry) → x.kind ≡ LR → is_answered x es ≡ true → KeepsPairs es → KeepsPairs (put_before x es)
+KeepsPairs-put x [] k a keeps = absurd (let z : ⊥ = cc in z)
+KeepsPairs-put x (y ∷ ys) k a keeps = by_part (is_at x.core.0 x.place LW y) refl (KeepsPairs-put x ys k)
+  where
+    rest : KeepsPairs ys
+    rest i z g l = keeps (suc i) z g l
+
+    later : (b : Bool) → (y.core.0 == x.core.0) ≡ b → is_at x.core.0 x.place LW y ≡ false → (y.core.0 ≢ x.core.0) × (is_answered x ys ≡ true)
+    later true q o = absurd (let part = answers x y ys (is_core y.core.0 x.core.0 q) a in let z : true ≡ false = sym part ∙ o in let w : ⊥ = cc in w)
+    later false q o = let c = isn't_core y.core.0 x.core.0 q in (c, sym (skipped x y ys c) ∙ a)
+
+    by_part : (b : Bool) → is_at x.core.0 x.place LW y ≡ b → (is_answered x ys ≡ true → KeepsPairs ys → KeepsPairs (put_before x ys))
+        → KeepsPairs (if b then x ∷ (y ∷ ys) else y ∷ put_before x ys)
+    by_part true q go zero z g l = let s : x ≡ z = cc in (y, refl, subst (λ u. IsStorePart u y) s (IsStorePart-from_test x y q))
+    by_part true q go (suc i) z g l = keeps i z g l
+    by_part false q go zero z g l =
+        let s : y ≡ z = cc in
+        let next : Next z ys = keeps zero z g l in
+        let c = (later (y.core.0 == x.core.0) refl q).0 in
+        behind x z ys (λ e. c (ap (λ (u : Entry). u.core.0) s ∙ e)) next
+    by_part false q go (suc i) z g l = go (later (y.core.0 == x.core.0) refl q).1 rest i z g l
+
+KeepsPairs-behind : (e : Entry) (es : List Entry) → same_kind e.kind LR ≡ false → KeepsPairs es → KeepsPairs (e ∷ es)
+KeepsPairs-behind e es q keeps zero x g k =
+    absurd (let s : e ≡ x = cc in let z : false ≡ true = sym q ∙ (ap (λ (u : Entry). same_kind u.kind LR) s ∙ ap (λ u. same_kind u LR) k) in let w : ⊥ = cc in w)
+KeepsPairs-behind e es q keeps (suc i) x g k = keeps i x g k
+
+KeepsPairs-together : (es : List Entry) → are_answered es ≡ true → KeepsPairs (put_together es)
+KeepsPairs-together [] h = λ i x g k. absurd (let z : ⊥ = cc in z)
+KeepsPairs-together (e ∷ es) h = by_kind (same_kind e.kind LR) refl h (KeepsPairs-together es)
+  where
+    by_kind : (b : Bool) → same_kind e.kind LR ≡ b → ((if b then is_answered e es else true) && are_answered es) ≡ true → (are_answered es ≡ true → KeepsPairs (put_together es))
+        → KeepsPairs (if b then put_before e (put_together es) else e ∷ put_together es)
+    by_kind true q a rest =
+        KeepsPairs-put e (put_together es) (load_kind e.kind q) (answered-together e es (and_first (is_answered e es) (are_answered es) a))
+        (rest (and_second (is_answered e es) (are_answered es) a))
+    by_kind false q a rest = KeepsPairs-behind e (put_together es) q (rest a)
+
+pub KeepsPairs-paired : (es : List Entry) → IsPaired es → KeepsPairs (put_together es)
+KeepsPairs-paired es h = KeepsPairs-together es h

@@ -1,4 +1,5 @@
 pub mod Pairs
+pub mod Waiting
 pub mod Noted
 pub mod PrintedOrder
 pub mod Lines
@@ -7,3 +8,4 @@ pub mod Spelling
 pub mod Reading
 pub use Rattle.tso_model.specs.Litmus
 pub use Rattle.tso_model.specs.Execution
+pub use Rattle.tso_model.specs.Together

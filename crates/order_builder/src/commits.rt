@@ -1,10 +1,8 @@
-ghost use Rattle.std.specs.Prelude.{◌≡◌, ◌+◌, ◌<◌, ◌≤◌, [], ◌∷◌, ◌++◌, IsOk, IfOk, OnOk, OnErr};
-ghost use Rattle.tso_model.specs.Execution.{KeepsPairs};
-ghost use Rattle.order_builder.specs.Pairs.{IsPaired};
+ghost use Rattle.std.specs.Prelude.{◌≡◌, ◌+◌, ◌<◌, ◌≤◌, [], ◌∷◌, ◌++◌, IsOk, OnOk, OnErr};
 
 use std::alloc::Global;
 use std::marker::Model;
-use tso_model::{Entry, Execution, NoMemory};
+use tso_model::{Entry, NoMemory};
 
 /// The entries that have been committed, in the order of their commits.
 #[derive(Drop)]
@@ -60,18 +58,4 @@ impl Commits {
     {
         &self.entries
     }
-}
-
-/// The order that the commits make: the entries as they were noted, so each load part of a locked
-/// instruction directly before its store part.
-///
-/// Fails only for want of memory.
-pub fn build(alloc: Global, commits: &Commits) -> Result<Execution, NoMemory>
-    requires { IsPaired commits.now.entries }
-    ensures order { IfOk result (λ e. e.order.items ≡ commits.now.entries) }
-    ensures pairs { IfOk result (λ e. KeepsPairs e.order.items) }
-{
-    let mut order = Vec::new(alloc);
-    order.extend_from_slice(commits.entries())?;
-    Ok(Execution { order })
 }

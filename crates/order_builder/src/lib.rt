@@ -1,6 +1,7 @@
 //! The order of memory actions that a machine's commits make, and the texts of orders, printed and read.
 #![tactic(auto)]
 
+mod building;
 pub mod commits;
 mod decimals;
 mod entries;
@@ -10,7 +11,8 @@ mod lines;
 pub mod printing;
 pub mod reading;
 
-pub use commits::{Commits, build};
+pub use building::build;
+pub use commits::Commits;
 pub use fault::OrderFault;
 pub use printing::{entry_text, letters_of, order_text};
 pub use reading::read_order;

@@ -340,6 +340,7 @@ impl<P: Protocol> SnoopBus<P> {
         requires holds { holder_of self.old ≡ Some (holder core loc Stage.Locked) }
 
         ensures words { words_of self.new ≡ slice_set (words_of self.old) loc.0 value }
+        ensures nothing_awaited { awaited_of self.old ≡ None }
         ensures free { IsFree self.new }
         ensures contents { contents_of self.new ≡ contents_of self.old }
         ensures memory { memory_of self.new ≡ memory_of self.old }

@@ -3,7 +3,7 @@ use Rattle.std.proofs.Common.{◌≡◌, ◌≢◌, ℕ, false, ◌<◌, ◌≤�
 use Rattle.std.proofs.lemmas.Option.{get_or_from_slice_get, slice_get-get_or, slice_get_within}
 use Rattle.tso_model.specs.Litmus.{Litmus, IsTest}
 use Rattle.tso_model.specs.Execution.{made, StandsIn, IsWhole, IsTsoExecution}
-use Rattle.tso_model.specs.Runs as flat
+use Rattle.tso_model.specs.Runs.{Run}
 use Rattle.tso_model.specs.FlatMachine.{program_of}
 use Rattle.tso_model.specs.declared.choice.Choice.{Choice}
 use Rattle.tso_model.specs.declared.execution.Entry.{Entry}
@@ -139,7 +139,7 @@ pub order-for : (t : Litmus) (order : List Entry) → IsTest t → ((e : Entry) 
 order-for t order test fits words = λ k d lt.
     entry-for t (slice_index_or order k d) test (fits _ (k, stands-at order k d lt)) (words k d lt)
 
-pub run-spells : (t : Litmus) (kind : ProtocolKind) (c : Configuration) (r : flat.Run) (s : Shown) (text : List ℕ) → IsTest t → c.depth < 2 ^ 64 → IsWithinLimits c.shape
+pub run-spells : (t : Litmus) (kind : ProtocolKind) (c : Configuration) (r : Run) (s : Shown) (text : List ℕ) → IsTest t → c.depth < 2 ^ 64 → IsWithinLimits c.shape
     → ((t : Litmus) (kind : ProtocolKind) (c : Configuration) (s : Shown) → IsTest t → c.depth < 2 ^ 64 → IsWithinLimits c.shape → IsOrderFor t s.order → SpellsOrder t (report t kind c s) s.order)
     → ((t : Litmus) (order : List Entry) (e : Entry) → IsTest t → IsWhole t order → StandsIn order e → FitsTest t e)
     → IsExecution t r → s ≡ shown_of t s.counts r → text ≡ report t kind c s → All HasWord s.order → SpellsOrder t text r.commits

@@ -3,7 +3,9 @@ use Rattle.std.proofs.Common.{◌≡◌, ◌≤◌, ◌+◌, ℕ, zero, suc, Boo
 use Rattle.std.proofs.lemmas.List.{length-replicate}
 use Rattle.std.proofs.lemmas.List.Elements.{All-set, All-replicate, All-head, All-tail, All-weaker}
 use Rattle.tso_model.specs.Litmus.{Litmus}
-use Rattle.tso_model.specs.FlatMachine.{State, after_choice, start}
+use Rattle.tso_model.specs.FlatMachine.{start}
+use Rattle.tso_model.specs.EitherBus.{BusState, unheld, after_on}
+use Rattle.tso_model.specs.declared.bus.Bus.{Bus}
 use Rattle.tso_model.specs.Runs.{has_ended}
 use Rattle.tso_model.specs.declared.instruction.Core.{Core}
 use Rattle.tso_model.specs.declared.choice.Choice.{Choice}
@@ -14,6 +16,7 @@ use Rattle.snoop_bus.specs.declared.access.AccessKind.TheVariants.{Hit, Upgrade,
 use Rattle.machine_core.specs.declared.counts.Counts.{Counts}
 use Rattle.machine_core.specs.declared.cache_use.CacheUse.{CacheUse}
 use Rattle.machine_core.specs.declared.cache_use.CacheUse.TheVariants.{Unused, Forwarded, Through}
+use Rattle.machine_core.specs.Caches.{attempt_of}
 use Rattle.machine_core.specs.Kept.{IsAtMost}
 use Rattle.machine_core.specs.Statistics.{Statistics, no_counts, with_access, with_write_back, with_forward, with_flush, at_core, flush_counted, counted, statistics_from, statistics_after, no_statistics, counts_of}
 
@@ -28,21 +31,25 @@ length-counted core Unused cs = refl
 length-counted core Forwarded cs = length-set cs core _
 length-counted core (Through a) cs = length-flush a.flushed _ ∙ length-set cs core _
 
-length-from : (t : Litmus) (depth : ℕ) (state : State) (choices : List Choice) (s : Statistics)
-    → length (statistics_from t depth state choices s).counts ≡ length s.counts
-length-from t depth state [] s = refl
-length-from t depth state (c ∷ cs) s =
-    by_end (has_ended t state) (length-from t depth (after_choice t depth state c) cs (statistics_after t depth state c s) ∙ length-counted _ _ s.counts)
+-- the state after one more choice
+abbrev next_of : Bus → Litmus → ℕ → BusState → Choice → Statistics → BusState
+next_of bus t depth state c s = after_on bus t depth state (attempt_of t depth state.flat s.caches c)
+
+length-from : (bus : Bus) (t : Litmus) (depth : ℕ) (state : BusState) (choices : List Choice) (s : Statistics)
+    → length (statistics_from bus t depth state choices s).counts ≡ length s.counts
+length-from bus t depth state [] s = refl
+length-from bus t depth state (c ∷ cs) s =
+    by_end (has_ended t state.flat) (length-from bus t depth (next_of bus t depth state c s) cs (statistics_after bus t depth state c s) ∙ length-counted _ _ s.counts)
   where
-    by_end : (b : Bool) → length (statistics_from t depth (after_choice t depth state c) cs (statistics_after t depth state c s)).counts ≡ length s.counts
-        → length (cond b s (statistics_from t depth (after_choice t depth state c) cs (statistics_after t depth state c s))).counts ≡ length s.counts
+    by_end : (b : Bool) → length (statistics_from bus t depth (next_of bus t depth state c s) cs (statistics_after bus t depth state c s)).counts ≡ length s.counts
+        → length (cond b s (statistics_from bus t depth (next_of bus t depth state c s) cs (statistics_after bus t depth state c s))).counts ≡ length s.counts
     by_end true h = refl
     by_end false h = h
 
-pub counts-each : (table : Table) (shape : Geometry) (t : Litmus) (depth : ℕ) (choices : List Choice)
-    → length (counts_of table shape t depth choices) ≡ length t.programs
-counts-each table shape t depth choices =
-    length-from t depth (start t) choices (no_statistics table shape t) ∙ length-replicate (length t.programs) no_counts
+pub counts-each : (bus : Bus) (table : Table) (shape : Geometry) (t : Litmus) (depth : ℕ) (choices : List Choice)
+    → length (counts_of bus table shape t depth choices) ≡ length t.programs
+counts-each bus table shape t depth choices =
+    length-from bus t depth (unheld (start t)) choices (no_statistics table shape t) ∙ length-replicate (length t.programs) no_counts
 
 -- ---- none is large
 
@@ -151,18 +158,18 @@ use-counted n core (Through a) cs all =
     flush-counted n a.flushed (at_core core change cs)
     (at_core-grows (IsAtMost n) (WrittenBack n) core change cs (none-counted n) (no-access n) (λ c k. write_back-grows n a.wrote_back (with_access a.kind c) (access-grows n a.kind c k)) all)
 
-few-from : (t : Litmus) (depth : ℕ) (state : State) (choices : List Choice) (s : Statistics) (n m : ℕ) → n + length choices ≤ m → All (IsAtMost n) s.counts
-    → All (IsAtMost m) (statistics_from t depth state choices s).counts
-few-from t depth state [] s n m few all = All-weaker (IsAtMost n) (IsAtMost m) (λ c. weaker n m c (omega arith)) s.counts all
-few-from t depth state (c ∷ cs) s n m few all =
-    by_end (has_ended t state) (few-from t depth (after_choice t depth state c) cs (statistics_after t depth state c s) (n + 1) m (omega arith) (use-counted n _ _ s.counts all))
+few-from : (bus : Bus) (t : Litmus) (depth : ℕ) (state : BusState) (choices : List Choice) (s : Statistics) (n m : ℕ) → n + length choices ≤ m → All (IsAtMost n) s.counts
+    → All (IsAtMost m) (statistics_from bus t depth state choices s).counts
+few-from bus t depth state [] s n m few all = All-weaker (IsAtMost n) (IsAtMost m) (λ c. weaker n m c (omega arith)) s.counts all
+few-from bus t depth state (c ∷ cs) s n m few all =
+    by_end (has_ended t state.flat) (few-from bus t depth (next_of bus t depth state c s) cs (statistics_after bus t depth state c s) (n + 1) m (omega arith) (use-counted n _ _ s.counts all))
   where
-    by_end : (b : Bool) → All (IsAtMost m) (statistics_from t depth (after_choice t depth state c) cs (statistics_after t depth state c s)).counts
-        → All (IsAtMost m) (cond b s (statistics_from t depth (after_choice t depth state c) cs (statistics_after t depth state c s))).counts
+    by_end : (b : Bool) → All (IsAtMost m) (statistics_from bus t depth (next_of bus t depth state c s) cs (statistics_after bus t depth state c s)).counts
+        → All (IsAtMost m) (cond b s (statistics_from bus t depth (next_of bus t depth state c s) cs (statistics_after bus t depth state c s))).counts
     by_end true h = All-weaker (IsAtMost n) (IsAtMost m) (λ c. weaker n m c (omega arith)) s.counts all
     by_end false h = h
 
-pub counts-few : (table : Table) (shape : Geometry) (t : Litmus) (depth : ℕ) (choices : List Choice) (most : ℕ) → length choices ≤ most
-    → All (IsAtMost most) (counts_of table shape t depth choices)
-counts-few table shape t depth choices most few =
-    few-from t depth (start t) choices (no_statistics table shape t) 0 most (omega arith) (All-replicate (IsAtMost 0) (length t.programs) no_counts (none-counted 0))
+pub counts-few : (bus : Bus) (table : Table) (shape : Geometry) (t : Litmus) (depth : ℕ) (choices : List Choice) (most : ℕ) → length choices ≤ most
+    → All (IsAtMost most) (counts_of bus table shape t depth choices)
+counts-few bus table shape t depth choices most few =
+    few-from bus t depth (unheld (start t)) choices (no_statistics table shape t) 0 most (omega arith) (All-replicate (IsAtMost 0) (length t.programs) no_counts (none-counted 0))

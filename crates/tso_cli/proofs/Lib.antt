@@ -1,5 +1,7 @@
 pub mod KnownLemmas
 pub mod RunLemmas
+pub mod BusLemmas
+pub mod DriveLemmas
 pub mod CountLemmas
 pub mod StateLemmas
 pub mod SweepLemmas

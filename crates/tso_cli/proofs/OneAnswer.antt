@@ -1,7 +1,6 @@
 -- There is one answer to an input.
 use Rattle.std.proofs.Common.{◌≡◌, ◌≤◌, ◌<◌, ◌^◌, ℕ, Bool, List, length, Some, refl, sym, ◌∙◌, ap, subst, arith}
 use Rattle.tso_model.specs.Litmus.{Litmus, IsTest}
-use Rattle.tso_model.specs.Runs as flat
 use Rattle.tso_model.specs.declared.execution.Entry.{Entry}
 use Rattle.litmus_reader.specs.Spelling.{SpellsTest, IsRefused as IsRefusedTest}
 use Rattle.litmus_reader.specs.declared.fault.TextFault.{TextFault}
@@ -11,6 +10,7 @@ use Rattle.order_builder.specs.declared.fault.OrderFault.{OrderFault}
 use Rattle.protocol_tables.specs.declared.kind.ProtocolKind.{ProtocolKind}
 use Rattle.machine_core.specs.Configuration.{Configuration}
 use Rattle.tso_cli.specs.Parts.{parts_of}
+use Rattle.tso_cli.specs.Runs.{run_under}
 use Rattle.tso_cli.specs.Lines.{test_refusal, choices_refusal}
 use Rattle.tso_cli.specs.CheckLines.{order_refusal, invalid_line}
 use Rattle.tso_cli.specs.Answers.{counts_under, run_text, run_status, IsRunAnswer, IsJudgement, IsCheckAnswer, IsAnswerTo, IsInputAnswer, IsAnswer, too_large, refused, answered, ran, judged, valid, invalid}
@@ -45,11 +45,11 @@ Same out other status again = (out ≡ other) × (status ≡ again)
 one_run_answer : (t : Litmus) (kind : ProtocolKind) (c : Configuration) (json : Bool) (text out other : List ℕ) (status again : Status) → IsDecided (length t.programs) text
     → IsRunAnswer t kind c json text out status → IsRunAnswer t kind c json text other again → Same out other status again
 one_run_answer t kind c json text _ _ _ _ law (refused f h) (refused g k) = (ap choices_refusal (law.one_refusal f g h k), refl)
-one_run_answer t kind c json text _ _ _ _ law (refused f h) (ran choices spelled) = absurd (law.never_both choices f spelled h)
-one_run_answer t kind c json text _ _ _ _ law (ran choices spelled) (refused f h) = absurd (law.never_both choices f spelled h)
-one_run_answer t kind c json text _ _ _ _ law (ran choices spelled) (ran others again) =
+one_run_answer t kind c json text _ _ _ _ law (refused f h) (ran choices spelled fit) = absurd (law.never_both choices f spelled h)
+one_run_answer t kind c json text _ _ _ _ law (ran choices spelled fit) (refused f h) = absurd (law.never_both choices f spelled h)
+one_run_answer t kind c json text _ _ _ _ law (ran choices spelled fit) (ran others again too) =
     let same = law.one_list choices others spelled again in
-    (ap (λ cs. run_text t kind c json (counts_under t kind c cs) (flat.run t c.depth cs)) same, ap (λ cs. run_status (flat.run t c.depth cs)) same)
+    (ap (λ cs. run_text t kind c json (counts_under t kind c cs) (run_under t kind c cs)) same, ap (λ cs. run_status (run_under t kind c cs)) same)
 
 one_judgement : (t : Litmus) (order : List Entry) (out other : List ℕ) (status again : Status) → IsReal → IsOne
     → IsJudgement t order out status → IsJudgement t order other again → Same out other status again

@@ -7,8 +7,11 @@ use Rattle.tso_model.specs.Registers.{AreRegisters}
 use Rattle.tso_model.specs.Thread.{entries_of, with_value, value_in}
 use Rattle.tso_model.specs.Execution.{made_by, made_from, read_values, IsTsoExecution}
 use Rattle.tso_model.specs.FinalState.{registers_from}
-use Rattle.tso_model.specs.FlatMachine.{State, effect_of, after_choice, start}
-use Rattle.tso_model.specs.Runs.{Run, run, run_from, has_ended, resting, then_run, stall_count}
+use Rattle.tso_model.specs.FlatMachine.{start}
+use Rattle.tso_model.specs.Runs.{Run, has_ended, stall_count}
+use Rattle.tso_model.specs.SplitMachine.{Attempt}
+use Rattle.tso_model.specs.EitherBus.{BusState, unheld, effect_on, after_on, run_on_from, resting_on, then_on}
+use Rattle.tso_model.specs.declared.bus.Bus.{Bus}
 use Rattle.tso_model.specs.declared.instruction.Instr.{Instr}
 use Rattle.tso_model.specs.declared.instruction.Instr.TheVariants.{StoreImm, StoreReg, Load, SetImm, SetReg, Fence, Xchg, Xadd}
 use Rattle.tso_model.specs.declared.execution.Entry.{Entry}
@@ -17,7 +20,7 @@ use Rattle.tso_model.specs.declared.choice.Outcome.{Outcome}
 use Rattle.tso_model.specs.declared.choice.Outcome.TheVariants.{Committed, Buffered, Moved, Asked, Stalled}
 use Rattle.tso_laws.specs.EndedRuns.{IsExecution}
 use Rattle.litmus_reader.specs.Spelling.{SpellsTest, IsRefused as IsRefusedTest}
-use Rattle.protocol_tables.specs.Tables.{table_of}
+use Rattle.protocol_tables.specs.Tables.{Table, table_of}
 use Rattle.protocol_tables.specs.declared.kind.ProtocolKind.{ProtocolKind}
 use Rattle.machine_core.specs.Configuration.{Configuration, IsWithinLimits}
 use Rattle.tso_report.specs.Report.{report}
@@ -25,12 +28,14 @@ use Rattle.tso_report.specs.Shown.{Shown}
 use Rattle.tso_report.specs.Limits.{longest_report, IsSmall}
 use Rattle.tso_cli.specs.Parts.{Parts, parts_of, joined}
 use Rattle.tso_cli.specs.CheckLines.{valid_line}
+use Rattle.tso_cli.specs.Runs.{run_by, run_under, AnswersFit}
 use Rattle.tso_cli.specs.Simulation.{shown_of}
 use Rattle.tso_cli.specs.Answers.{counts_under, run_text, run_status, IsRunAnswer, IsCheckAnswer, IsInputAnswer, too_large, refused, answered, ran}
 use Rattle.tso_cli.specs.declared.task.Task.TheVariants as tasks
 use Rattle.tso_cli.specs.declared.answer.Status.{Status}
 use Rattle.tso_cli.specs.declared.answer.Status.TheVariants.{Good, Unended}
-use Rattle.tso_cli.proofs.RunLemmas.{used-run_from}
+use Rattle.tso_cli.proofs.BusLemmas.{attempts_in, length-in, run-is}
+use Rattle.tso_cli.proofs.SimulationLemmas.{RunLaws}
 use Rattle.tso_cli.proofs.CountLemmas.{counts-each, counts-few}
 use Rattle.tso_cli.proofs.CheckLemmas.{order-for, valid-answer}
 use Rattle.tso_cli.proofs.OneAnswer.{Texts}
@@ -77,24 +82,38 @@ stall_few Moved = omega arith
 stall_few Asked = omega arith
 stall_few (Stalled why) = omega arith
 
-stalls_few : (t : Litmus) (depth : ℕ) (state : State) (cs : List Choice) → (run_from t depth state cs).stalled ≤ (run_from t depth state cs).used
-stalls_few t depth state [] = omega arith
-stalls_few t depth state (c ∷ cs) = by_end (has_ended t state) (stalls_few t depth (after_choice t depth state c) cs)
+stalls_few : (bus : Bus) (t : Litmus) (depth : ℕ) (state : BusState) (xs : List Attempt) → (run_on_from bus t depth state xs).run.stalled ≤ (run_on_from bus t depth state xs).run.used
+stalls_few bus t depth state [] = omega arith
+stalls_few bus t depth state (x ∷ xs) = by_end (has_ended t state.flat) (stalls_few bus t depth (after_on bus t depth state x) xs)
   where
-    by_end : (b : Bool) → (run_from t depth (after_choice t depth state c) cs).stalled ≤ (run_from t depth (after_choice t depth state c) cs).used
-        → (cond b (resting true state (length (c ∷ cs))) (then_run (effect_of t depth state c) (run_from t depth (after_choice t depth state c) cs))).stalled
-        ≤ (cond b (resting true state (length (c ∷ cs))) (then_run (effect_of t depth state c) (run_from t depth (after_choice t depth state c) cs))).used
+    by_end : (b : Bool) → (run_on_from bus t depth (after_on bus t depth state x) xs).run.stalled ≤ (run_on_from bus t depth (after_on bus t depth state x) xs).run.used
+        → (cond b (resting_on true state (length (x ∷ xs))) (then_on (effect_on bus t depth state x) (run_on_from bus t depth (after_on bus t depth state x) xs))).run.stalled
+        ≤ (cond b (resting_on true state (length (x ∷ xs))) (then_on (effect_on bus t depth state x) (run_on_from bus t depth (after_on bus t depth state x) xs))).run.used
     by_end true h = omega arith
-    by_end false h = let one = stall_few (effect_of t depth state c).outcome in omega arith
+    by_end false h = let one = stall_few (effect_on bus t depth state x).effect.outcome in omega arith
 
-small-run : (t : Litmus) (kind : ProtocolKind) (c : Configuration) (choices : List Choice) → Runs → IsTest t → length choices ≤ 100000
-    → (run t c.depth choices).ended ≡ true → IsSmall t (shown_of t (counts_under t kind c choices) (run t c.depth choices))
-small-run t kind c choices laws test few ended =
-    let r = run t c.depth choices in
-    let execution : IsExecution t r = laws.executions t c.depth choices test ended in
-    let words = laws.words t c.depth choices test in
-    let used = used-run_from t c.depth (start t) choices in
-    let stalled = stalls_few t c.depth (start t) choices in
+-- the counts of choices of a run
+record FewChoices (n : ℕ) (r : Run) : Type 0 where
+  count : r.used + r.unused ≡ n
+  stalls : r.stalled ≤ r.used
+
+choices-few : (table : Table) (c : Configuration) (t : Litmus) (choices : List Choice) → RunLaws → FewChoices (length choices) (run_by c.bus table c t choices)
+choices-few table c t choices laws =
+    subst (λ (r : Run). FewChoices (length choices) r) (sym (run-is table c t choices laws.atomic))
+    (record {
+      count = (laws.stops c.bus t c.depth (attempts_in table c t choices)).count ∙ length-in table c t choices;
+      stalls = stalls_few c.bus t c.depth (unheld (start t)) (attempts_in table c t choices);
+    })
+
+small-run : (t : Litmus) (kind : ProtocolKind) (c : Configuration) (choices : List Choice) → Runs → RunLaws → IsTest t → length choices ≤ 100000 → AnswersFit t kind c choices
+    → (run_under t kind c choices).ended ≡ true → IsSmall t (shown_of t (counts_under t kind c choices) (run_under t kind c choices))
+small-run t kind c choices laws runs test few fit ended =
+    let r = run_under t kind c choices in
+    let execution : IsExecution t r = laws.executions (table_of kind) c t choices test fit ended in
+    let words = laws.words (table_of kind) c t choices test fit ended in
+    let made = choices-few (table_of kind) c t choices runs in
+    let count = made.count in
+    let stalls = made.stalls in
     let cores = test.cores in
     let each = ap (λ (l : List (List ℕ)). length l) execution.registers ∙ registers_each 0 t.programs t.registers r.commits in
     record {
@@ -103,8 +122,8 @@ small-run t kind c choices laws test few ended =
       cores = omega (arith, each);
       registers = All-map AreRegisters (λ core. core.registers) r.state.cores words.registers;
       memory = words.memory;
-      caches = omega (arith, counts-each (table_of kind) c.shape t c.depth choices);
-      counts = counts-few (table_of kind) c.shape t c.depth choices (2 ^ 32 - 1) (omega arith);
+      caches = omega (arith, counts-each c.bus (table_of kind) c.shape t c.depth choices);
+      counts = counts-few c.bus (table_of kind) c.shape t c.depth choices (2 ^ 32 - 1) (omega arith);
       used = omega arith;
       stalled = omega arith;
       unused = omega arith;
@@ -117,8 +136,9 @@ record Ended (kind : ProtocolKind) (c : Configuration) (input out : List ℕ) : 
   choices : List Choice
   spelled : SpellsTest (parts_of input).test t
   few : length choices ≤ 100000
-  ended : (run t c.depth choices).ended ≡ true
-  is : out ≡ run_text t kind c false (counts_under t kind c choices) (run t c.depth choices)
+  fit : AnswersFit t kind c choices
+  ended : (run_under t kind c choices).ended ≡ true
+  is : out ≡ run_text t kind c false (counts_under t kind c choices) (run_under t kind c choices)
 
 good-ended : (t : Litmus) (r : Run) → run_status r ≡ Good → r.ended ≡ true
 good-ended t r good = by_end r.ended refl
@@ -130,8 +150,8 @@ good-ended t r good = by_end r.ended refl
 run-ended : (t : Litmus) (kind : ProtocolKind) (c : Configuration) (input out : List ℕ) (status : Status) → SpellsTest (parts_of input).test t
     → status ≡ Good → IsRunAnswer t kind c false (parts_of input).rest out status → Ended kind c input out
 run-ended t kind c input _ _ spelled good (refused fault h) = absurd (let no : ⊥ = cc in no)
-run-ended t kind c input _ _ spelled good (ran choices read) =
-    record { t = t; choices = choices; spelled = spelled; few = read.few; ended = good-ended t (run t c.depth choices) good; is = refl }
+run-ended t kind c input _ _ spelled good (ran choices read fit) =
+    record { t = t; choices = choices; spelled = spelled; few = read.few; fit = fit; ended = good-ended t (run_under t kind c choices) good; is = refl }
 
 input-ended : (kind : ProtocolKind) (c : Configuration) (input out : List ℕ) (status : Status) → status ≡ Good
     → IsInputAnswer (tasks.Run kind c false) input out status → Ended kind c input out
@@ -155,15 +175,15 @@ checked test out input _ _ t order laws same parted short spelled spells executi
     valid-answer t out order answer status laws.real laws.once laws.never_both (laws.test test t spelled) (omega arith) spells execution
     (subst (λ (u : Litmus). IsCheckAnswer u out answer status) one (subst (λ text. IsCheckAnswer other text answer status) second is))
 
-pub rechecked : (kind : ProtocolKind) (c : Configuration) (input out answer : List ℕ) (status : Status) → Texts → Runs
+pub rechecked : (kind : ProtocolKind) (c : Configuration) (input out answer : List ℕ) (status : Status) → Texts → Runs → RunLaws
     → ((t : Litmus) (kind : ProtocolKind) (c : Configuration) (s : Shown) → IsTest t → IsWithinLimits c → IsSmall t s → length (report t kind c s) ≤ longest_report)
     → IsWithinLimits c → parts_of (joined (parts_of input).test out) ≡ record { test = (parts_of input).test; rest = out }
     → IsInputAnswer (tasks.Run kind c false) input out Good → IsInputAnswer tasks.Check (joined (parts_of input).test out) answer status → (answer ≡ valid_line) × (status ≡ Good)
-rechecked kind c input out answer status texts runs short within parted is answered_so =
+rechecked kind c input out answer status texts runs laws short within parted is answered_so =
     let e = input-ended kind c input out Good refl is in
     let test = texts.test (parts_of input).test e.t e.spelled in
-    let printed : out ≡ report e.t kind c (shown_of e.t (counts_under e.t kind c e.choices) (run e.t c.depth e.choices)) = rw e.ended at e.is in
+    let printed : out ≡ report e.t kind c (shown_of e.t (counts_under e.t kind c e.choices) (run_under e.t kind c e.choices)) = rw e.ended at e.is in
     let size : length out ≤ longest_report =
-    subst (λ (o : List ℕ). length o ≤ longest_report) (sym printed) (short e.t kind c (shown_of e.t (counts_under e.t kind c e.choices) (run e.t c.depth e.choices)) test within (small-run e.t kind c e.choices runs test e.few e.ended)) in
-    checked (parts_of input).test out (joined (parts_of input).test out) answer status e.t (run e.t c.depth e.choices).commits texts refl parted size e.spelled
-    (report-spells e.t kind c false e.choices out runs test within e.is e.ended refl) (runs.executions e.t c.depth e.choices test e.ended).order answered_so
+    subst (λ (o : List ℕ). length o ≤ longest_report) (sym printed) (short e.t kind c (shown_of e.t (counts_under e.t kind c e.choices) (run_under e.t kind c e.choices)) test within (small-run e.t kind c e.choices runs laws test e.few e.fit e.ended)) in
+    checked (parts_of input).test out (joined (parts_of input).test out) answer status e.t (run_under e.t kind c e.choices).commits texts refl parted size e.spelled
+    (report-spells e.t kind c false e.choices out runs test within e.fit e.is e.ended refl) (runs.executions (table_of kind) c e.t e.choices test e.fit e.ended).order answered_so

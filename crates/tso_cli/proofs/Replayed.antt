@@ -6,6 +6,7 @@ use Rattle.tso_model.specs.Litmus.{Litmus, IsTest}
 use Rattle.tso_model.specs.Execution.{IsTsoExecution}
 use Rattle.tso_model.specs.FlatMachine.{chosen}
 use Rattle.tso_model.specs.Runs.{run, CoresExist}
+use Rattle.tso_model.specs.declared.bus.Bus.TheVariants.{Atomic}
 use Rattle.tso_model.specs.declared.execution.Entry.{Entry}
 use Rattle.tso_model.specs.declared.choice.Choice.{Choice}
 use Rattle.tso_model.specs.declared.choice.Choice.TheVariants.{Step, Drain}
@@ -15,9 +16,11 @@ use Rattle.litmus_reader.specs.Spelling.{SpellsTest, IsRefused as IsRefusedTest}
 use Rattle.scheduler.specs.Grammar.{SpellsChoices}
 use Rattle.scheduler.specs.Printed.{printed_choice, printed_behind, printed_choices}
 use Rattle.order_builder.specs.Spelling.{SpellsOrder}
+use Rattle.protocol_tables.specs.Tables.{table_of}
 use Rattle.protocol_tables.specs.declared.kind.ProtocolKind.{ProtocolKind}
 use Rattle.machine_core.specs.Configuration.{Configuration, IsWithinLimits}
 use Rattle.tso_cli.specs.Parts.{Parts, parts_of, joined}
+use Rattle.tso_cli.specs.Runs.{run_under}
 use Rattle.tso_cli.specs.RunTexts.{report_in}
 use Rattle.tso_cli.specs.Simulation.{shown_of}
 use Rattle.tso_cli.specs.Witness.{choices_line, IsWitness, IsWitnessAnswer, ReportsOrder, reached, too_small, invalid, refused, judged}
@@ -25,6 +28,7 @@ use Rattle.tso_cli.specs.Answers.{counts_under, IsRunAnswer, IsInputAnswer, too_
 use Rattle.tso_cli.specs.declared.task.Task.TheVariants as tasks
 use Rattle.tso_cli.specs.declared.answer.Status.{Status}
 use Rattle.tso_cli.specs.declared.answer.Status.TheVariants.{Good}
+use Rattle.tso_cli.proofs.BusLemmas.{atomic-run}
 use Rattle.tso_cli.proofs.OneAnswer.{Texts}
 use Rattle.tso_cli.proofs.WitnessLemmas.{Reaching, choices-few, line-spells}
 
@@ -93,36 +97,38 @@ Replays kind c json t order answer status =
     (answer ≡ report_in json t kind c (shown_of t (counts_under t kind c (choices_along t order)) (run t c.depth (choices_along t order)))) × (status ≡ Good)
 
 replays : (kind : ProtocolKind) (c : Configuration) (json : Bool) (t : Litmus) (order : List Entry) (out answer : List ℕ) (status : Status) → Texts → IsTest t
-    → SpellsChoices (length t.programs) out (choices_along t order) → (run t c.depth (choices_along t order)).ended ≡ true
+    → SpellsChoices (length t.programs) out (choices_along t order) → c.bus ≡ Atomic → (run t c.depth (choices_along t order)).ended ≡ true
     → IsRunAnswer t kind c json out answer status → Replays kind c json t order answer status
-replays kind c json t order out _ _ laws test spells ended (refused fault h) =
+replays kind c json t order out _ _ laws test spells atomic ended (refused fault h) =
     absurd ((laws.decided (length t.programs) out test.some_core).never_both (choices_along t order) fault spells h)
-replays kind c json t order out _ _ laws test spells ended (ran choices read) =
+replays kind c json t order out _ _ laws test spells atomic ended (ran choices read fit) =
     let same : choices ≡ choices_along t order = (laws.decided (length t.programs) out test.some_core).one_list choices (choices_along t order) read spells in
-    rw (same, ended) (refl, refl)
+    let flat : run_under t kind c choices ≡ run t c.depth (choices_along t order) =
+    atomic-run (table_of kind) c t choices atomic ∙ ap (λ (cs : List Choice). run t c.depth cs) same in
+    rw (flat, same, ended) (refl, refl)
 
 replayed-joined : (kind : ProtocolKind) (c : Configuration) (json : Bool) (test out input answer : List ℕ) (status : Status) (t : Litmus) (order : List Entry) → Texts
     → input ≡ joined test out → parts_of (joined test out) ≡ record { test = test; rest = out } → length out ≤ 2000 → SpellsTest test t
-    → SpellsChoices (length t.programs) out (choices_along t order) → (run t c.depth (choices_along t order)).ended ≡ true
+    → SpellsChoices (length t.programs) out (choices_along t order) → c.bus ≡ Atomic → (run t c.depth (choices_along t order)).ended ≡ true
     → IsInputAnswer (tasks.Run kind c json) input answer status → Replays kind c json t order answer status
-replayed-joined kind c json test out input _ _ t order laws same parted short spelled spells ended (too_large large) =
+replayed-joined kind c json test out input _ _ t order laws same parted short spelled spells atomic ended (too_large large) =
     let size : length test ≤ 65536 = spelled.is.small in
     absurd (omega (arith, ap (λ (l : List ℕ). length l) same, length-append test (codes "====\n" ++ out), length-append (codes "====\n") out))
-replayed-joined kind c json test out input _ _ t order laws same parted short spelled spells ended (refused fault small is) =
+replayed-joined kind c json test out input _ _ t order laws same parted short spelled spells atomic ended (refused fault small is) =
     let first : (parts_of input).test ≡ test = ap (λ i. (parts_of i).test) same ∙ ap (λ (p : Parts). p.test) parted in
     absurd (laws.refused_or_not test t fault spelled (subst (λ text. IsRefusedTest text fault) first is))
-replayed-joined kind c json test out input _ _ t order laws same parted short spelled spells ended (answered other answer status small too is) =
+replayed-joined kind c json test out input _ _ t order laws same parted short spelled spells atomic ended (answered other answer status small too is) =
     let first : (parts_of input).test ≡ test = ap (λ i. (parts_of i).test) same ∙ ap (λ (p : Parts). p.test) parted in
     let second : (parts_of input).rest ≡ out = ap (λ i. (parts_of i).rest) same ∙ ap (λ (p : Parts). p.rest) parted in
     let one : other ≡ t = laws.one_test test other t (subst (λ text. SpellsTest text other) first too) spelled in
-    replays kind c json t order out answer status laws (laws.test test t spelled) spells ended
+    replays kind c json t order out answer status laws (laws.test test t spelled) spells atomic ended
     (subst (λ (u : Litmus). IsRunAnswer u kind c json out answer status) one (subst (λ text. IsRunAnswer other kind c json text answer status) second is))
 
-pub replayed : (kind : ProtocolKind) (c : Configuration) (json : Bool) (input out answer : List ℕ) (status : Status) → Texts → Reaching → IsWithinLimits c
+pub replayed : (kind : ProtocolKind) (c : Configuration) (json : Bool) (input out answer : List ℕ) (status : Status) → Texts → Reaching → c.bus ≡ Atomic → IsWithinLimits c
     → parts_of (joined (parts_of input).test out) ≡ record { test = (parts_of input).test; rest = out }
     → IsInputAnswer (tasks.Witness c.depth) input out Good → IsInputAnswer (tasks.Run kind c json) (joined (parts_of input).test out) answer status
     → ReportsOrder kind c json (parts_of input) answer × (status ≡ Good)
-replayed kind c json input out answer status texts reaching within parted is answered_so =
+replayed kind c json input out answer status texts reaching atomic within parted is answered_so =
     let f = found c.depth input out Good refl is in
     let test = texts.test (parts_of input).test f.t f.test_spelled in
     let some : 0 < c.depth = let least = within.0 in omega arith in
@@ -131,7 +137,7 @@ replayed kind c json input out answer status texts reaching within parted is ans
     let spells : SpellsChoices (length f.t.programs) out choices =
     subst (λ text. SpellsChoices (length f.t.programs) text choices) (sym f.is) (line-spells f.t c.depth choices f.order reaching test some lead) in
     let short : length out ≤ 2000 = subst (λ (text : List ℕ). length text ≤ 2000) (sym f.is) (line-short f.t c.depth choices f.order reaching test some lead) in
-    let answers = replayed-joined kind c json (parts_of input).test out (joined (parts_of input).test out) answer status f.t f.order texts refl parted short f.test_spelled spells lead.ended answered_so in (
+    let answers = replayed-joined kind c json (parts_of input).test out (joined (parts_of input).test out) answer status f.t f.order texts refl parted short f.test_spelled spells atomic lead.ended answered_so in (
       record {
         t = f.t;
         order = f.order;

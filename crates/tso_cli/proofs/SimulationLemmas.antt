@@ -1,43 +1,75 @@
 -- From a machine that was driven to the answer of a simulation.
-use Rattle.std.proofs.Common.{◌≡◌, ◌<◌, ◌-◌, ◌+◌, ℕ, zero, suc, Bool, true, false, List, [], ◌∷◌, length, All, slice_get, slice_index_or, Option, Some, None, is_some, Result, Ok, Err, IfOk, arith, ap, sym, ◌∙◌, refl, subst}
+use Rattle.std.proofs.Common.{◌≡◌, ◌<◌, ◌-◌, ◌+◌, ◌*◌, ℕ, zero, suc, Bool, true, false, List, [], ◌∷◌, length, All, slice_get, slice_index_or, Option, Some, None, is_some, Result, Ok, Err, IfOk, arith, ap, sym, ◌∙◌, refl, subst}
 use Rattle.std.specs.Option.{option_map}
 use Rattle.tso_model.specs.Litmus.{Litmus}
 use Rattle.tso_model.specs.Execution.{StandsIn}
 use Rattle.tso_model.specs.Condition.{Condition, truth_of}
-use Rattle.tso_model.specs.FlatMachine.{start}
+use Rattle.tso_model.specs.FlatMachine.{State}
 use Rattle.tso_model.specs.Runs as flat
-use Rattle.tso_model.specs.Runs.{has_ended}
+use Rattle.tso_model.specs.Runs.{Run, has_ended}
+use Rattle.tso_model.specs.SplitMachine.{Attempt}
+use Rattle.tso_model.specs.EitherBus.{BusState, run_on, choices_in}
+use Rattle.tso_model.specs.Together.{put_together, together}
+use Rattle.tso_model.specs.declared.bus.Bus.{Bus}
+use Rattle.tso_model.specs.declared.bus.Bus.TheVariants.{Atomic}
 use Rattle.tso_model.specs.declared.choice.Choice.{Choice}
 use Rattle.tso_model.specs.declared.execution.Entry.{Entry}
 use Rattle.tso_model.specs.declared.execution.Kind.{Kind}
 use Rattle.tso_model.specs.declared.execution.Kind.TheVariants.{R, W, F, LR, LW}
+use Rattle.tso_laws.specs.Counting.{instructions, stores}
 use Rattle.tso_laws.specs.Entries.{FitsTest}
+use Rattle.tso_laws.specs.Rounds.{CanBeCutIntoRounds}
+use Rattle.split_laws.specs.BusRuns.{EndOn, StopsAtTheEndOn}
 use Rattle.order_builder.specs.PrintedOrder.{HasLocation, IsLocationFor}
 use Rattle.protocol_tables.specs.Tables.{Table}
 use Rattle.machine_core.specs.declared.counts.Counts.{Counts}
 use Rattle.machine_core.specs.Configuration.{Configuration}
-use Rattle.machine_core.specs.Statistics.{counts_of}
+use Rattle.machine_core.specs.Statistics.{Statistics, counts_of}
 use Rattle.machine_core.specs.Running.{Running, new_machine, is_ended}
 use Rattle.tso_report.specs.Shown.{Shown}
-use Rattle.tso_laws.specs.Counting.{instructions, stores}
+use Rattle.tso_cli.specs.Runs.{run_by, AnswersFitBy}
 use Rattle.tso_cli.specs.declared.simulation.Ending.{Ending}
 use Rattle.tso_cli.specs.declared.simulation.Ending.TheVariants.{Ended, Unfinished}
 use Rattle.tso_cli.specs.Simulation.{Drives, shown_of, verdict, registers_in, IsEndingOf, IsCounted, HasEnded}
-use Rattle.tso_cli.proofs.RunLemmas.{ended-run_from, used-run_from}
+use Rattle.tso_cli.proofs.BusLemmas.{AtomicRuns, attempts_in, bus_run, choices-in, length-in, run-is, atomic-run}
+
+-- what the laws of either bus say of runs
+pub record RunLaws : Type 0 where
+  pub atomic : AtomicRuns
+  pub stops : (bus : Bus) (t : Litmus) (depth : ℕ) (attempts : List Attempt) → StopsAtTheEndOn bus t depth attempts (run_on bus t depth attempts)
+
+-- a new machine that was driven through choices
+abbrev pub IsDriven : Table → Configuration → Litmus → Running → Running → List Choice → ℕ → ℕ → Type 0
+IsDriven table config t old m choices used stalled = (old ≡ new_machine table config t) × Drives old m choices used stalled
+
+from-new : (table : Table) (config : Configuration) (t : Litmus) (old m : Running) (choices : List Choice) (used stalled : ℕ) → IsDriven table config t old m choices used stalled
+    → Drives (new_machine table config t) m choices used stalled
+from-new table config t old m choices used stalled driven = subst (λ (o : Running). Drives o m choices used stalled) driven.0 driven.1
 
 -- whether the driven machine has ended is whether the run has
-ended-as-driven : (t : Litmus) (table : Table) (config : Configuration) (m : Running) (choices : List Choice) (used stalled : ℕ) (b : Bool) → Drives (new_machine table config t) m choices used stalled → is_ended m ≡ b
-    → (flat.run t config.depth choices).ended ≡ b
-ended-as-driven t table config m choices used stalled b d e =
-    let depth = config.depth in
-    let over : has_ended m.test m.state ≡ b = (rw d.failed at e) in
-    ended-run_from t depth (start t) choices ∙ ap (λ s. has_ended t s) (sym d.state) ∙ subst (λ u. has_ended u m.state ≡ b) d.test over
+pub ended-as-driven : (table : Table) (config : Configuration) (t : Litmus) (old m : Running) (choices : List Choice) (used stalled : ℕ) (b : Bool) → RunLaws
+    → IsDriven table config t old m choices used stalled → is_ended m ≡ b → (bus_run table config t choices).run.ended ≡ b
+ended-as-driven table config t old m choices used stalled b laws driven e =
+    let d = from-new table config t old m choices used stalled driven in
+    let over : has_ended m.test m.state.flat ≡ b = (rw d.failed at e) in
+    let left : (bus_run table config t choices).run.state ≡ m.state.flat = ap (λ (s : BusState). s.flat) (sym d.state) in
+    (laws.stops config.bus t config.depth (attempts_in table config t choices)).ended
+    ∙ ap (λ (s : State). has_ended t s) left ∙ subst (λ (u : Litmus). has_ended u m.state.flat ≡ b) d.test over
 
-pub unfinished-is : (t : Litmus) (table : Table) (config : Configuration) (old m : Running) (choices : List Choice) (used stalled : ℕ) → old ≡ new_machine table config t → Drives old m choices used stalled → is_ended m ≡ false
-    → ((flat.run t config.depth choices).ended ≡ false) × (used ≡ (flat.run t config.depth choices).used) × (stalled ≡ (flat.run t config.depth choices).stalled)
-unfinished-is t table config old m choices used stalled fresh drives e =
-    let d : Drives (new_machine table config t) m choices used stalled = subst (λ o. Drives o m choices used stalled) fresh drives in
-    (ended-as-driven t table config m choices used stalled false d e, d.used, d.stalled)
+-- the run that is answered
+abbrev answered_run : Table → Configuration → Litmus → List Choice → Run
+answered_run table config t choices = run_by config.bus table config t choices
+
+ending-of : (table : Table) (config : Configuration) (t : Litmus) (choices : List Choice) (ending : Ending) → RunLaws
+    → IsEndingOf t (together (bus_run table config t choices).run) ending → IsEndingOf t (answered_run table config t choices) ending
+ending-of table config t choices ending laws is = subst (λ (r : Run). IsEndingOf t r ending) (sym (run-is table config t choices laws.atomic)) is
+
+pub unfinished-is : (table : Table) (config : Configuration) (t : Litmus) (old m : Running) (choices : List Choice) (used stalled : ℕ) → RunLaws
+    → IsDriven table config t old m choices used stalled → is_ended m ≡ false
+    → IsEndingOf t (run_by config.bus table config t choices) (Unfinished used stalled)
+unfinished-is table config t old m choices used stalled laws driven e =
+    let d = from-new table config t old m choices used stalled driven in
+    ending-of table config t choices (Unfinished used stalled) laws (ended-as-driven table config t old m choices used stalled false laws driven e, d.used, d.stalled)
 
 same-shown : (s u : Shown) → s.order ≡ u.order → s.registers ≡ u.registers → s.memory ≡ u.memory → s.counts ≡ u.counts → s.holds ≡ u.holds → s.used ≡ u.used → s.stalled ≡ u.stalled → s.unused ≡ u.unused → s ≡ u
 same-shown s u a b c d e f g h =
@@ -52,37 +84,45 @@ same-shown s u a b c d e f g h =
     ap order_with a ∙ ap registers_with b ∙ ap memory_with c ∙ ap counts_with d ∙ ap holds_with e ∙ ap used_with f ∙ ap stalled_with g ∙ ap unused_with h
 
 -- what the machine leaves is what the run shows
-pub ended-is : (t : Litmus) (table : Table) (config : Configuration) (old m : Running) (choices : List Choice) (used stalled : ℕ) (s : Shown) → old ≡ new_machine table config t → Drives old m choices used stalled → is_ended m ≡ true
-    → s.order ≡ m.commits → s.registers ≡ registers_in m.state → s.memory ≡ m.state.memory → s.holds ≡ verdict t s.registers s.memory
+pub ended-is : (table : Table) (config : Configuration) (t : Litmus) (old m : Running) (choices : List Choice) (used stalled : ℕ) (s : Shown) → RunLaws
+    → IsDriven table config t old m choices used stalled → is_ended m ≡ true
+    → s.order ≡ put_together m.commits → s.registers ≡ registers_in m.state.flat → s.memory ≡ m.state.flat.memory → s.holds ≡ verdict t s.registers s.memory
     → s.used ≡ used → s.stalled ≡ stalled → s.unused ≡ length choices - used
-    → ((flat.run t config.depth choices).ended ≡ true) × (s ≡ shown_of t s.counts (flat.run t config.depth choices))
-ended-is t table config old m choices used stalled s fresh drives e order registers memory holds u st un =
-    let d : Drives (new_machine table config t) m choices used stalled = subst (λ o. Drives o m choices used stalled) fresh drives in
-    let depth = config.depth in
-    let r = flat.run t depth choices in
-    let order_is : s.order ≡ r.commits = order ∙ d.commits in
-    let registers_are : s.registers ≡ registers_in r.state = registers ∙ ap registers_in d.state in
-    let memory_is : s.memory ≡ r.state.memory = memory ∙ ap (λ x. x.memory) d.state in
+    → ((run_by config.bus table config t choices).ended ≡ true) × (s ≡ shown_of t s.counts (run_by config.bus table config t choices))
+ended-is table config t old m choices used stalled s laws driven e order registers memory holds u st un =
+    let d = from-new table config t old m choices used stalled driven in
+    let r = together (bus_run table config t choices).run in
+    let state : m.state.flat ≡ r.state = ap (λ (s : BusState). s.flat) d.state in
+    let order_is : s.order ≡ r.commits = order ∙ ap put_together d.commits in
+    let registers_are : s.registers ≡ registers_in r.state = registers ∙ ap registers_in state in
+    let memory_is : s.memory ≡ r.state.memory = memory ∙ ap (λ (x : State). x.memory) state in
     let holds_is : s.holds ≡ verdict t (registers_in r.state) r.state.memory = holds ∙ ap (λ x. verdict t x s.memory) registers_are ∙ ap (λ x. verdict t (registers_in r.state) x) memory_is in
-    let count = used-run_from t depth (start t) choices in
+    let count : r.used + r.unused ≡ length choices = (laws.stops config.bus t config.depth (attempts_in table config t choices)).count ∙ length-in table config t choices in
     let used_is : s.used ≡ r.used = u ∙ d.used in
     let stalled_is : s.stalled ≡ r.stalled = st ∙ d.stalled in
     let unused_is : s.unused ≡ r.unused = (let a = d.used in omega arith) in
-    (ended-as-driven t table config m choices used stalled true d e, same-shown s (shown_of t s.counts r) order_is registers_are memory_is refl holds_is used_is stalled_is unused_is)
+    subst (λ (x : Run). (x.ended ≡ true) × (s ≡ shown_of t s.counts x)) (sym (run-is table config t choices laws.atomic))
+    (ended-as-driven table config t old m choices used stalled true laws driven e, same-shown s (shown_of t s.counts r) order_is registers_are memory_is refl holds_is used_is stalled_is unused_is)
 
--- where the driven machine has ended, so has the run, and with the machine's commits as its order
-pub ended-order : (t : Litmus) (table : Table) (config : Configuration) (old m : Running) (choices : List Choice) (used stalled : ℕ) (order : List Entry) → old ≡ new_machine table config t
-    → Drives old m choices used stalled → is_ended m ≡ true → order ≡ m.commits → ((flat.run t config.depth choices).ended ≡ true) × (order ≡ (flat.run t config.depth choices).commits)
-ended-order t table config old m choices used stalled order fresh drives e same =
-    let d : Drives (new_machine table config t) m choices used stalled = subst (λ o. Drives o m choices used stalled) fresh drives in
-    (ended-as-driven t table config m choices used stalled true d e, same ∙ d.commits)
+-- where the driven machine has ended, so has the run, with the machine's commits put together as its order
+pub ended-order : (table : Table) (config : Configuration) (t : Litmus) (old m : Running) (choices : List Choice) (used stalled : ℕ) (order : List Entry) → RunLaws
+    → IsDriven table config t old m choices used stalled → is_ended m ≡ true → order ≡ put_together m.commits
+    → ((run_by config.bus table config t choices).ended ≡ true) × (order ≡ (run_by config.bus table config t choices).commits)
+ended-order table config t old m choices used stalled order laws driven e same =
+    let d = from-new table config t old m choices used stalled driven in
+    subst (λ (x : Run). (x.ended ≡ true) × (order ≡ x.commits)) (sym (run-is table config t choices laws.atomic))
+    (ended-as-driven table config t old m choices used stalled true laws driven e, same ∙ ap put_together d.commits)
+
+-- the answers of the caches fit
+pub answers-fit : (table : Table) (config : Configuration) (t : Litmus) (old m : Running) (choices : List Choice) (used stalled : ℕ)
+    → IsDriven table config t old m choices used stalled → AnswersFitBy table config t choices
+answers-fit table config t old m choices used stalled driven = (from-new table config t old m choices used stalled driven).answers
 
 -- what the machine counted is what the run's choices come to
-pub counts-are : (t : Litmus) (table : Table) (config : Configuration) (old m : Running) (choices : List Choice) (used stalled : ℕ) (counts : List Counts) → old ≡ new_machine table config t
-    → Drives old m choices used stalled → counts ≡ m.statistics.counts → counts ≡ counts_of table config.shape t config.depth choices
-counts-are t table config old m choices used stalled counts fresh drives left =
-    let d : Drives (new_machine table config t) m choices used stalled = subst (λ o. Drives o m choices used stalled) fresh drives in
-    left ∙ ap (λ s. s.counts) d.statistics
+pub counts-are : (table : Table) (config : Configuration) (t : Litmus) (old m : Running) (choices : List Choice) (used stalled : ℕ) (counts : List Counts)
+    → IsDriven table config t old m choices used stalled → counts ≡ m.statistics.counts → counts ≡ counts_of config.bus table config.shape t config.depth choices
+counts-are table config t old m choices used stalled counts driven left =
+    left ∙ ap (λ (s : Statistics). s.counts) (from-new table config t old m choices used stalled driven).statistics
 
 located : (t : Litmus) (e : Entry) (k : Kind) → e.kind ≡ k → FitsTest t e → IsLocationFor t k e.loc.0
 located t e F is f = tt
@@ -106,17 +146,34 @@ is_some-verdict t registers memory = is_some-option_map (λ c. truth_of register
     is_some-option_map f None = refl
     is_some-option_map f (Some c) = refl
 
-pub counted : {E : Type 0} (t : Litmus) (depth : ℕ) (choices : List Choice) (r : Result Ending E)
-    → ((flat.run t depth choices).ended ≡ true → (flat.run t depth choices).used ≡ (flat.run t depth choices).stalled + (instructions t.programs + stores t.programs))
-    → IfOk r (IsEndingOf t (flat.run t depth choices)) → IfOk r (IsCounted t)
-counted t depth choices (Ok (Ended run)) law is =
-    let used = ap (λ s. s.used) is.1 in let stalled = ap (λ s. s.stalled) is.1 in let count = law is.0 in omega arith
-counted t depth choices (Ok (Unfinished used stalled)) law is = tt
-counted t depth choices (Err e) law is = tt
+-- ---- of all runs
 
-pub ended-by : {E : Type 0} (t : Litmus) (depth : ℕ) (choices : List Choice) (r : Result Ending E)
-    → (flat.run t depth choices).ended ≡ true → IfOk r (IsEndingOf t (flat.run t depth choices)) → IfOk r HasEnded
-ended-by t depth choices (Ok (Ended run)) over is = tt
-ended-by t depth choices (Ok (Unfinished used stalled)) over is =
+pub counted : {E : Type 0} (table : Table) (c : Configuration) (t : Litmus) (choices : List Choice) (r : Result Ending E) → c.bus ≡ Atomic
+    → ((flat.run t c.depth choices).ended ≡ true → (flat.run t c.depth choices).used ≡ (flat.run t c.depth choices).stalled + (instructions t.programs + stores t.programs))
+    → IfOk r (IsEndingOf t (run_by c.bus table c t choices)) → IfOk r (IsCounted t)
+counted table c t choices r atomic law is = by_result r (subst (λ (x : Run). IfOk r (IsEndingOf t x)) (atomic-run table c t choices atomic) is)
+  where
+    by_result : {E : Type 0} (r : Result Ending E) → IfOk r (IsEndingOf t (flat.run t c.depth choices)) → IfOk r (IsCounted t)
+    by_result (Ok (Ended run)) is =
+        let used = ap (λ s. s.used) is.1 in let stalled = ap (λ s. s.stalled) is.1 in let count = law is.0 in omega arith
+    by_result (Ok (Unfinished used stalled)) is = tt
+    by_result (Err e) is = tt
+
+ended-by : {E : Type 0} (t : Litmus) (x : Run) (r : Result Ending E) → x.ended ≡ true → IfOk r (IsEndingOf t x) → IfOk r HasEnded
+ended-by t x (Ok (Ended run)) over is = tt
+ended-by t x (Ok (Unfinished used stalled)) over is =
     let bad : true ≡ false = sym over ∙ is.0 in cc
-ended-by t depth choices (Err e) over is = tt
+ended-by t x (Err e) over is = tt
+
+pub ended-on-atomic : {E : Type 0} (table : Table) (c : Configuration) (t : Litmus) (choices : List Choice) (r : Result Ending E) → c.bus ≡ Atomic
+    → (flat.run t c.depth choices).ended ≡ true → IfOk r (IsEndingOf t (run_by c.bus table c t choices)) → IfOk r HasEnded
+ended-on-atomic table c t choices r atomic over is =
+    ended-by t (run_by c.bus table c t choices) r (ap (λ (x : Run). x.ended) (atomic-run table c t choices atomic) ∙ over) is
+
+pub ended-on-either : {E : Type 0} (table : Table) (c : Configuration) (t : Litmus) (choices : List Choice) (r : Result Ending E) → AtomicRuns
+    → ((attempts : List Attempt) → CanBeCutIntoRounds (length t.programs) (3 * instructions t.programs) (choices_in attempts) → EndOn c.bus t c.depth attempts)
+    → CanBeCutIntoRounds (length t.programs) (3 * instructions t.programs) choices → IfOk r (IsEndingOf t (run_by c.bus table c t choices)) → IfOk r HasEnded
+ended-on-either table c t choices r laws law cut is =
+    let over : EndOn c.bus t c.depth (attempts_in table c t choices) =
+    law (attempts_in table c t choices) (subst (CanBeCutIntoRounds (length t.programs) (3 * instructions t.programs)) (sym (choices-in table c t choices)) cut) in
+    ended-by t (run_by c.bus table c t choices) r (ap (λ (x : Run). x.ended) (run-is table c t choices laws) ∙ over) is

@@ -2,7 +2,7 @@
 use Rattle.std.specs.Prelude.{ℕ, ◌+◌, ◌<◌, ◌≤◌, ◌≡◌, Bool, if◌then◌else◌, List, length, Option, IfSome}
 use Rattle.tso_model.specs.Litmus.{Litmus}
 use Rattle.tso_model.specs.Execution.{IsTsoExecution}
-use Rattle.tso_model.specs.Runs as flat
+use Rattle.tso_model.specs.Runs.{Run}
 use Rattle.tso_model.specs.declared.execution.Entry.{Entry}
 use Rattle.tso_model.specs.declared.choice.Choice.{Choice}
 use Rattle.litmus_reader.specs.Spelling.{SpellsTest, IsRefused as IsRefusedTest}
@@ -25,6 +25,7 @@ use Rattle.tso_cli.specs.Limits.{longest_input}
 use Rattle.tso_cli.specs.Parts.{parts_of}
 use Rattle.tso_cli.specs.Lines.{input_refusal, test_refusal, choices_refusal}
 use Rattle.tso_cli.specs.RunTexts.{report_in, unfinished_in}
+use Rattle.tso_cli.specs.Runs.{run_under, AnswersFit}
 use Rattle.tso_cli.specs.Sweep.{IsSweepAnswer}
 use Rattle.tso_cli.specs.CheckLines.{order_refusal, valid_line, invalid_line}
 use Rattle.tso_cli.specs.Witness.{IsWitnessAnswer}
@@ -38,21 +39,22 @@ use Rattle.tso_cli.specs.declared.answer.Status.TheVariants.{Good, Refused, Unen
 
 -- the counts of each core's accesses in a test's run
 abbrev pub counts_under : Litmus → ProtocolKind → Configuration → List Choice → List Counts
-counts_under t kind c choices = counts_of (table_of kind) c.shape t c.depth choices
+counts_under t kind c choices = counts_of c.bus (table_of kind) c.shape t c.depth choices
 
--- what is written of a run of the flat machine with these counts: the report where it ended, else how far it came
-abbrev pub run_text : Litmus → ProtocolKind → Configuration → Bool → List Counts → flat.Run → List ℕ
+-- what is written of a run with these counts: the report where it ended, else how far it came
+abbrev pub run_text : Litmus → ProtocolKind → Configuration → Bool → List Counts → Run → List ℕ
 run_text t kind c json counts r = if r.ended then report_in json t kind c (shown_of t counts r) else unfinished_in json r.used r.stalled
 
-abbrev pub run_status : flat.Run → Status
+abbrev pub run_status : Run → Status
 run_status r = if r.ended then Good else Unended
 
--- the answer of `run` to a test and the text of its choices, plain or as JSON; a refusal is the same line either way
+-- the answer of `run` to a test and the text of its choices, plain or as JSON; a refusal is the same line either way;
+-- along a run the caches answered as caches may
 pub data IsRunAnswer (t : Litmus) (kind : ProtocolKind) (c : Configuration) (json : Bool) (text : List ℕ) : List ℕ → Status → Type 0 where
   refused : (fault : ChoiceFault) → AreRefusedChoices (length t.programs) text fault
       → IsRunAnswer t kind c json text (choices_refusal fault) Refused
-  ran : (choices : List Choice) → SpellsChoices (length t.programs) text choices
-      → IsRunAnswer t kind c json text (run_text t kind c json (counts_under t kind c choices) (flat.run t c.depth choices)) (run_status (flat.run t c.depth choices))
+  ran : (choices : List Choice) → SpellsChoices (length t.programs) text choices → AnswersFit t kind c choices
+      → IsRunAnswer t kind c json text (run_text t kind c json (counts_under t kind c choices) (run_under t kind c choices)) (run_status (run_under t kind c choices))
 
 -- the answer of `check` to a test and an order of it
 pub data IsJudgement (t : Litmus) (order : List Entry) : List ℕ → Status → Type 0 where

@@ -6,6 +6,7 @@ use Rattle.tso_model.specs.Execution.{IsWhole, KeepsProgramOrder, KeepsPairs, Ha
 use Rattle.tso_model.specs.FinalState.{final_words, final_registers}
 use Rattle.tso_model.specs.Condition.{Claim, truth_of}
 use Rattle.tso_model.specs.Runs.{run}
+use Rattle.tso_model.specs.declared.bus.Bus.TheVariants.{Atomic}
 use Rattle.tso_model.specs.declared.choice.Choice.{Choice}
 use Rattle.tso_model.specs.declared.execution.Entry.{Entry}
 use Rattle.tso_laws.specs.Along.{LeadTo}
@@ -30,6 +31,7 @@ use Rattle.tso_cli.specs.Lines.{input_refusal, test_refusal, depth_line}
 use Rattle.tso_cli.specs.CheckLines.{order_refusal, valid_line, invalid_line}
 use Rattle.tso_cli.specs.RunTexts.{report_in}
 use Rattle.tso_cli.specs.Plan.{Plan}
+use Rattle.tso_cli.specs.Runs.{run_under}
 use Rattle.tso_cli.specs.Simulation.{verdict}
 use Rattle.tso_cli.specs.Sweep.{seeded_run, sweep_lines}
 use Rattle.tso_cli.specs.declared.task.Task.{Task}
@@ -39,8 +41,9 @@ use Rattle.tso_cli.specs.declared.settings.Settings.TheVariants as settings
 
 -- what was printed is the report of a run of the test, plain or as JSON: its order holds each memory action of the
 -- programs exactly once and meets every TSO axiom; its registers and memory are what the programs and that order give,
--- and its verdict is the condition's truth in them; its order is what the machine committed under these very choices;
--- and a plain report can be read again, as the text of that order
+-- and its verdict is the condition's truth in them; its order is what the machine committed under these very choices (on
+-- the split bus with each locked instruction's load part put directly before its store part); and a plain report can be
+-- read again, as the text of that order
 pub record PrintsExecution (t : Litmus) (kind : ProtocolKind) (c : Configuration) (json : Bool) (choices : List Choice) (out : List ℕ) : Type 0 where
   pub shown : Shown
   pub printed : out ≡ report_in json t kind c shown
@@ -51,21 +54,21 @@ pub record PrintsExecution (t : Litmus) (kind : ProtocolKind) (c : Configuration
   pub registers : shown.registers ≡ final_registers t shown.order
   pub memory : shown.memory ≡ final_words t shown.order
   pub condition : shown.holds ≡ verdict t shown.registers shown.memory
-  pub under_choices : shown.order ≡ (run t c.depth choices).commits
+  pub under_choices : shown.order ≡ (run_under t kind c choices).commits
   pub spelled : json ≡ false → SpellsOrder t out shown.order
 
 -- for every list of choices that the text spells and that ends the test, an execution is printed
 abbrev pub PrintsEachRun : Litmus → ProtocolKind → Configuration → Bool → List ℕ → List ℕ → Type 0
 PrintsEachRun t kind c json text out =
-    (choices : List Choice) → SpellsChoices (length t.programs) text choices → (run t c.depth choices).ended ≡ true
+    (choices : List Choice) → SpellsChoices (length t.programs) text choices → (run_under t kind c choices).ended ≡ true
     → PrintsExecution t kind c json choices out
 
 -- ---- of a sweep
 
 -- the order that the machine commits under the choices of a seed, where they end the test
-abbrev pub seeded_order : Litmus → Configuration → Plan → ℕ → Option (List Entry)
-seeded_order t c plan seed =
-    let r = seeded_run t c.depth plan.length seed in
+abbrev pub seeded_order : Litmus → ProtocolKind → Configuration → Plan → ℕ → Option (List Entry)
+seeded_order t kind c plan seed =
+    let r = seeded_run t kind c plan.length seed in
     (if r.ended then Some r.commits else None)
 
 -- whether the final state of such an order has these values (`bytes_eq` compares two lists number by number)
@@ -85,22 +88,23 @@ seeds_from test from zero = 0
 seeds_from test from (suc seeds) = seeds_from test from seeds + (if test (from + seeds) then 1 else 0)
 
 -- for how many seeds of the plan a test of their orders is passed
-abbrev pub seeds_with : Litmus → Configuration → Plan → (Option (List Entry) → Bool) → ℕ
-seeds_with t c plan test = seeds_from (λ seed. test (seeded_order t c plan seed)) plan.from plan.seeds
+abbrev pub seeds_with : Litmus → ProtocolKind → Configuration → Plan → (Option (List Entry) → Bool) → ℕ
+seeds_with t kind c plan test = seeds_from (λ seed. test (seeded_order t kind c plan seed)) plan.from plan.seeds
 
 -- what was printed is what these lines say of the plan's runs, one for each seed: where a run ended, its order is a TSO
--- execution of the test, that the machine committed under the choices of the seed; each state that is printed is the
--- final state of as many of them as its line says; and the condition's proposition is true, and false, in the final
--- states of as many as the last line says
+-- execution of the test, that the machine committed under the choices of the seed (on the atomic bus this is so of every
+-- seed, in the plan or not); each state that is printed is the final state of as many of them as its line says; and the
+-- condition's proposition is true, and false, in the final states of as many as the last line says
 pub record PrintsSweep (t : Litmus) (kind : ProtocolKind) (c : Configuration) (plan : Plan) (out : List ℕ) : Type 0 where
   pub counts : RunCounts
   pub printed : out ≡ sweep_lines t kind c plan counts
   pub runs : runs_in counts ≡ plan.seeds
-  pub executions : (seed : ℕ) → IfSome (seeded_order t c plan seed) (IsTsoExecution t)
-  pub states : All (λ state. (0 < state.1) × (state.1 ≡ seeds_with t c plan (has_values t state.0))) counts.states
-  pub held : IfSome t.condition (λ condition. counts.held ≡ seeds_with t c plan (has_truth t condition.claim true))
-  pub failed : IfSome t.condition (λ condition. counts.failed ≡ seeds_with t c plan (has_truth t condition.claim false))
-  pub unfinished : counts.unfinished ≡ seeds_with t c plan is_none
+  pub executions : (n : ℕ) → n < plan.seeds → IfSome (seeded_order t kind c plan (plan.from + n)) (IsTsoExecution t)
+  pub every_seed : c.bus ≡ Atomic → (seed : ℕ) → IfSome (seeded_order t kind c plan seed) (IsTsoExecution t)
+  pub states : All (λ state. (0 < state.1) × (state.1 ≡ seeds_with t kind c plan (has_values t state.0))) counts.states
+  pub held : IfSome t.condition (λ condition. counts.held ≡ seeds_with t kind c plan (has_truth t condition.claim true))
+  pub failed : IfSome t.condition (λ condition. counts.failed ≡ seeds_with t kind c plan (has_truth t condition.claim false))
+  pub unfinished : counts.unfinished ≡ seeds_with t kind c plan is_none
 
 -- ---- of an order
 

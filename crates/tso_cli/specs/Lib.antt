@@ -2,6 +2,7 @@ pub mod Streams
 pub mod Parts
 pub mod Plan
 pub mod Limits
+pub mod Runs
 pub mod Simulation
 pub mod Lines
 pub mod RunTexts

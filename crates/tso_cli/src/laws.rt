@@ -1,14 +1,18 @@
 //! Laws of the commands. Each is the contract of a function that does nothing: who calls it knows it.
 
-ghost use Rattle.std.specs.Prelude.{◌≡◌, ◌<◌, ◌≤◌, ◌^◌, ℕ, Bool, false, List, Option, Some, length};
+ghost use Rattle.std.specs.Prelude.{◌≡◌, ◌<◌, ◌≤◌, ◌^◌, ℕ, Bool, true, false, List, Option, Some, length};
 ghost use Rattle.tso_model.specs.Limits.{most_depth};
 ghost use Rattle.tso_model.specs.Litmus.{Litmus, IsTest};
 ghost use Rattle.tso_model.specs.Execution.{IsTsoExecution};
 ghost use Rattle.tso_model.specs.Runs.{run};
+ghost use Rattle.tso_model.specs.declared.bus.Bus.TheVariants.{Atomic};
 ghost use Rattle.tso_model.specs.declared.choice.Choice.{Choice};
 ghost use Rattle.tso_model.specs.declared.execution.Entry.{Entry};
 ghost use Rattle.tso_laws.specs.Along.{choices_along, LeadTo};
 ghost use Rattle.tso_laws.specs.Depth.{needed};
+ghost use Rattle.tso_laws.specs.EndedRuns.{IsExecution};
+ghost use Rattle.tso_laws.specs.Words.{HoldsWords};
+ghost use Rattle.protocol_tables.specs.Tables.{Table};
 ghost use Rattle.protocol_tables.specs.declared.kind.ProtocolKind.{ProtocolKind};
 ghost use Rattle.machine_core.specs.Configuration.{Configuration};
 ghost use Rattle.tso_cli.specs.Answers.{IsCheckAnswer, IsInputAnswer, IsAnswer};
@@ -16,6 +20,7 @@ ghost use Rattle.tso_cli.specs.CheckLines.{valid_line};
 ghost use Rattle.tso_cli.specs.Headline.{PrintsExecution, InputHeadline, Headline};
 ghost use Rattle.tso_cli.specs.Limits.{IsTaskWithinLimits, IsWithinLimits};
 ghost use Rattle.tso_cli.specs.Parts.{parts_of, joined, HasNoDivider, EndsInFeed};
+ghost use Rattle.tso_cli.specs.Runs.{run_by, AnswersFitBy};
 ghost use Rattle.tso_cli.specs.Simulation.{IsEndingOf};
 ghost use Rattle.tso_cli.specs.Witness.{choices_line, IsWitness, HasEndedWith, ReportsOrder};
 ghost use Rattle.tso_cli.specs.declared.simulation.Ending.{Ending};
@@ -28,12 +33,34 @@ use axiom_checker::laws::{first_breach_is_one, first_breach_is_real};
 use litmus_reader::laws::test_is_spelled_once;
 use order_builder::laws::order_is_spelled_once;
 use scheduler::{printed_choices_are_spelled, texts_are_decided};
+use split_laws::{
+    atomic_runs_are_flat_runs, runs_on_either_bus_are_flat_runs,
+    runs_on_either_bus_stop_where_they_end,
+};
 use tso_laws::{
     ended_runs_are_executions, every_execution_is_reached, most_stores_are_depth_enough,
     runs_are_counted, smaller_depths_never_reach, values_are_words,
     whole_orders_have_each_entry_once,
 };
-use tso_report::laws::{one_more_run_is_counted, report_spells_its_order, reports_are_short};
+use tso_report::laws::{report_spells_its_order, reports_are_short};
+
+/// What an ended run on either bus leaves: its order is a TSO execution of the test, its registers and
+/// memory are the final state of that order, and all values in them are words. On the atomic bus the
+/// answers of all caches fit.
+pub fn ended_runs_of_machines_are_executions()
+    ensures executions { (table : Table) (c : Configuration) (t : Litmus) (choices : List Choice)
+        → IsTest t → AnswersFitBy table c t choices → (run_by c.bus table c t choices).ended ≡ true → IsExecution t (run_by c.bus table c t choices) }
+    ensures words { (table : Table) (c : Configuration) (t : Litmus) (choices : List Choice)
+        → IsTest t → AnswersFitBy table c t choices → (run_by c.bus table c t choices).ended ≡ true
+        → HoldsWords (run_by c.bus table c t choices).commits (run_by c.bus table c t choices).state }
+    ensures atomic { (table : Table) (c : Configuration) (t : Litmus) (choices : List Choice) → c.bus ≡ Atomic → AnswersFitBy table c t choices }
+{
+    atomic_runs_are_flat_runs();
+    runs_on_either_bus_are_flat_runs();
+    runs_on_either_bus_stop_where_they_end();
+    ended_runs_are_executions();
+    values_are_words();
+}
 
 /// There is one answer to an input: the same bytes, and the same status.
 pub fn inputs_have_one_answer()
@@ -61,11 +88,9 @@ pub fn answers_meet_the_headline()
     order_is_spelled_once();
     first_breach_is_one();
     first_breach_is_real();
-    ended_runs_are_executions();
+    ended_runs_of_machines_are_executions();
     whole_orders_have_each_entry_once();
-    values_are_words();
     report_spells_its_order();
-    one_more_run_is_counted();
     every_execution_is_reached();
     smaller_depths_never_reach();
     runs_are_counted();
@@ -96,17 +121,18 @@ pub fn printed_runs_are_valid()
     order_is_spelled_once();
     first_breach_is_one();
     first_breach_is_real();
-    ended_runs_are_executions();
+    atomic_runs_are_flat_runs();
+    runs_on_either_bus_stop_where_they_end();
+    ended_runs_of_machines_are_executions();
     whole_orders_have_each_entry_once();
-    values_are_words();
     report_spells_its_order();
     reports_are_short();
     joined_parts_are_parted();
 }
 
-/// Where choices lead to an order, what `simulate` answers under them has ended with that very order,
-/// whatever the protocol and the shape of the caches: no choice stalled, and none was left over. The
-/// choices along a TSO execution are such, if the depth is enough for it.
+/// Where choices lead to an order, what `simulate` answers under them on the atomic bus has ended with
+/// that very order, whatever the protocol and the shape of the caches: no choice stalled, and none was
+/// left over. The choices along a TSO execution are such, if the depth is enough for it.
 pub fn led_simulations_end()
     ensures led { (t : Litmus) (depth : ℕ) (choices : List Choice) (order : List Entry) (ending : Ending)
         → LeadTo t depth choices order → IsEndingOf t (run t depth choices) ending → HasEndedWith order ending }
@@ -126,13 +152,13 @@ pub fn greatest_depth_is_enough()
     first_breach_is_real();
 }
 
-/// What `witness` prints where it finds choices, handed to `run` at the same depth with the same
-/// test, is answered with the report of a run that ended with that very order, and with the status of
-/// success, whatever the protocol and the shape of the caches: no choice stalled, and none was left
-/// over.
+/// What `witness` prints where it finds choices, handed to `run` at the same depth on the atomic bus
+/// with the same test, is answered with the report of a run that ended with that very order, and with
+/// the status of success, whatever the protocol and the shape of the caches: no choice stalled, and
+/// none was left over.
 pub fn witnesses_reach_their_orders()
     ensures { (kind : ProtocolKind) (c : Configuration) (json : Bool) (input out answer : List ℕ) (status : Status)
-        → IsWithinLimits (Settings.Run kind c json) → EndsInFeed (parts_of input).test → HasNoDivider (parts_of input).test
+        → c.bus ≡ Atomic → IsWithinLimits (Settings.Run kind c json) → EndsInFeed (parts_of input).test → HasNoDivider (parts_of input).test
         → IsAnswer (Settings.Witness c.depth) (Some input) out Good
         → IsAnswer (Settings.Run kind c json) (Some (joined (parts_of input).test out)) answer status
         → ReportsOrder kind c json (parts_of input) answer × (status ≡ Good) }

@@ -1,8 +1,9 @@
 ghost use Rattle.std.specs.Prelude.{◌≡◌, ◌≢◌, IfOk, OnOk, length, string_bytes};
-ghost use Rattle.tso_model.specs.Runs.{run, CoresExist};
+ghost use Rattle.tso_model.specs.Runs.{CoresExist};
 ghost use Rattle.tso_report.specs.Shown.{shown, IsOf};
 ghost use Rattle.tso_cli.specs.Answers.{counts_under, run_text, run_status, IsRunAnswer};
 ghost use Rattle.tso_cli.specs.Lines.{choices_refusal};
+ghost use Rattle.tso_cli.specs.Runs.{run_under, AnswersFit};
 ghost use Rattle.tso_cli.specs.RunTexts.{report_in, unfinished_in};
 
 use crate::answer::{Answer, Status};
@@ -62,8 +63,9 @@ fn run_under(
     choices: &[Choice],
 ) -> Result<Answer, NoMemory>
     requires { CoresExist (length test.now.programs) choices.now }
-    ensures text { IfOk result (λ a. string_bytes a.text ≡ run_text test.now protocol config json (counts_under test.now protocol config choices.now) (run test.now config.depth choices.now)) }
-    ensures status { IfOk result (λ a. a.status ≡ run_status (run test.now config.depth choices.now)) }
+    ensures text { IfOk result (λ a. string_bytes a.text ≡ run_text test.now protocol config json (counts_under test.now protocol config choices.now) (run_under test.now protocol config choices.now)) }
+    ensures status { IfOk result (λ a. a.status ≡ run_status (run_under test.now protocol config choices.now)) }
+    ensures answers { OnOk result (AnswersFit test.now protocol config choices.now) }
 {
     match simulate(alloc, test, protocol, config, choices) {
         Ok(Ending::Ended(run)) => {

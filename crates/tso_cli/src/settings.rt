@@ -4,7 +4,7 @@ ghost use Rattle.tso_cli.specs.Limits.{IsWithinLimits, HasDepth};
 use crate::plan::SweepPlan;
 use clap::builder::ValueParser;
 use clap::{Arg, ArgAction, ArgMatches, Command};
-use machine_core::{Config, Shape};
+use machine_core::{Bus, Config, Shape};
 use protocol_tables::ProtocolKind;
 use std::alloc::{AllocError, Global};
 use thiserror::Error;
@@ -39,6 +39,9 @@ pub enum Settings {
 
 /// The protocols as a command line names them.
 static PROTOCOLS: [&str; 3] = ["msi", "mesi", "moesi"];
+
+/// The kinds of bus as a command line names them.
+static BUSES: [&str; 2] = ["atomic", "split"];
 
 /// Why a command line is refused.
 #[derive(Debug, Drop, Error)]
@@ -97,7 +100,8 @@ fn machine_options<'a>(alloc: Global, line: Command<'a>) -> Result<Command<'a>, 
         .arg(depth_option(alloc))?
         .arg(sets_option(alloc))?
         .arg(ways_option(alloc))?
-        .arg(words_option(alloc))
+        .arg(words_option(alloc))?
+        .arg(bus_option(alloc))
 }
 
 fn check_line<'a>(alloc: Global) -> Command<'a> {
@@ -154,6 +158,14 @@ fn protocol_option<'a>(alloc: Global) -> Arg<'a> {
         .help("Which protocol the caches follow")
         .value_parser(ValueParser::Names(&PROTOCOLS))
         .default_value("msi")
+}
+
+fn bus_option<'a>(alloc: Global) -> Arg<'a> {
+    Arg::new(alloc, "bus")
+        .long("bus")
+        .help("Which bus the caches share")
+        .value_parser(ValueParser::Names(&BUSES))
+        .default_value("atomic")
 }
 
 fn json_option<'a>(alloc: Global) -> Arg<'a> {
@@ -245,7 +257,7 @@ fn witness_settings(matches: &ArgMatches<'_>) -> Option<Settings>
 
 fn config_in(matches: &ArgMatches<'_>) -> Option<Config> {
     let depth = matches.get_one::<u8>("depth")?;
-    Config::new(depth, shape_in(matches)?)
+    Config::new(depth, shape_in(matches)?, bus_in(matches)?)
 }
 
 fn plan_in(matches: &ArgMatches<'_>) -> Option<SweepPlan> {
@@ -260,6 +272,14 @@ fn shape_in(matches: &ArgMatches<'_>) -> Option<Shape> {
     let ways = matches.get_one::<u8>("ways")?;
     let words = matches.get_one::<u8>("words")?;
     Shape::new(sets, ways, words)
+}
+
+fn bus_in(matches: &ArgMatches<'_>) -> Option<Bus> {
+    match matches.get_str("bus")? {
+        "atomic" => Some(Bus::Atomic),
+        "split" => Some(Bus::Split),
+        _ => None,
+    }
 }
 
 fn protocol_in(matches: &ArgMatches<'_>) -> Option<ProtocolKind> {

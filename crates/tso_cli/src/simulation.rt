@@ -1,19 +1,24 @@
-ghost use Rattle.std.specs.Prelude.{◌≡◌, ◌≤◌, ◌*◌, false, IfOk, length};
+ghost use Rattle.std.specs.Prelude.{◌≡◌, ◌≤◌, ◌*◌, false, IfOk, OnOk, length};
 ghost use Rattle.tso_model.specs.Runs.{CoresExist};
-ghost use Rattle.tso_model.specs.Runs as flat;
+ghost use Rattle.tso_model.specs.Runs as runs;
+ghost use Rattle.tso_cli.specs.Runs.{run_by, run_under, AnswersFit, AnswersFitBy};
 ghost use Rattle.tso_cli.specs.Simulation.{IsEndingOf, FitsEnding, HasCounts, IsCounted, HasEnded, Drives, verdict};
 ghost use Rattle.protocol_tables.specs.Tables.{table_of};
 ghost use Rattle.machine_core.specs.Statistics.{counts_of};
+ghost use Rattle.split_laws.specs.BusChoices.{IsPossibleOn};
 ghost use Rattle.tso_laws.specs.Rounds.{CanBeCutIntoRounds};
-ghost use Rattle.tso_laws.specs.Counting.{longest};
+ghost use Rattle.tso_laws.specs.Counting.{instructions, longest};
 
-use machine_core::{Choice, Config, Final, Machine, Outcome};
+use crate::laws::ended_runs_of_machines_are_executions;
+use machine_core::{Bus, Choice, Config, Final, Machine, Outcome};
 use protocol_tables::{Mesi, Moesi, Msi, Protocol, ProtocolKind};
+use split_laws::{
+    atomic_runs_are_flat_runs, attempts_lead_from_state_to_state, fair_rounds_end_on_either_bus,
+    runs_on_either_bus_stop_where_they_end, what_holds_so_far_on_either_bus,
+};
 use std::alloc::Global;
 use thiserror::Error;
-use tso_laws::{
-    ended_runs_are_executions, fair_rounds_end, runs_are_counted, whole_orders_have_each_entry_once,
-};
+use tso_laws::{fair_rounds_end, runs_are_counted, whole_orders_have_each_entry_once};
 use tso_model::{NoMemory, Test, cond_holds};
 use tso_report::Run;
 
@@ -41,8 +46,8 @@ impl From<NoMemory> for SimFault {
 }
 
 /// Runs a test under a list of choices, up to the first moment at which it has ended, on a machine of
-/// this protocol and configuration. Neither the protocol nor the shape of the caches has a part in the
-/// answer but in the counts.
+/// this protocol and configuration. On the atomic bus neither the protocol nor the shape of the caches
+/// has a part in the answer but in the counts. On a split bus an access that hits needs no bus.
 ///
 /// Fails only for want of memory.
 pub fn simulate(
@@ -54,19 +59,28 @@ pub fn simulate(
 ) -> Result<Ending, SimFault>
     requires { CoresExist (length test.now.programs) choices.now }
 
-    // The answer is the flat machine's run, and a run that ended is one of the test.
-    ensures ending { IfOk result (IsEndingOf test.now (flat.run test.now config.depth choices.now)) }
+    // The answer is the run on the machine's bus, and a run that ended is one of the test.
+    ensures ending { IfOk result (IsEndingOf test.now (run_under test.now protocol config choices.now)) }
     ensures fits { IfOk result (FitsEnding test.now) }
 
-    // The counts go by the protocol's table and the shape of the caches too.
-    ensures counts { IfOk result (HasCounts (counts_of (table_of protocol) config.shape test.now config.depth choices.now)) }
+    // The caches answered as caches may: between the two parts of a locked instruction no write of another core to
+    // its location hit.
+    ensures answers { OnOk result (AnswersFit test.now protocol config choices.now) }
 
-    // An ended run took each instruction once, and drained each plain store once; enough fair rounds end the test.
-    ensures counting { IfOk result (IsCounted test.now) }
-    ensures fair { CanBeCutIntoRounds (length test.now.programs) (2 * longest test.now.programs) choices.now → IfOk result HasEnded }
+    // The counts go by the protocol's table and the shape of the caches too.
+    ensures counts { IfOk result (HasCounts (counts_of config.bus (table_of protocol) config.shape test.now config.depth choices.now)) }
+
+    // On the atomic bus an ended run took each instruction once, and drained each plain store once.
+    ensures counting { config.bus ≡ Bus.Atomic → IfOk result (IsCounted test.now) }
+
+    // Enough fair rounds end the test: on the atomic bus fewer than on either.
+    ensures fair { config.bus ≡ Bus.Atomic → CanBeCutIntoRounds (length test.now.programs) (2 * longest test.now.programs) choices.now → IfOk result HasEnded }
+    ensures fair_on_either_bus { CanBeCutIntoRounds (length test.now.programs) (3 * instructions test.now.programs) choices.now → IfOk result HasEnded }
 {
     runs_are_counted();
     fair_rounds_end();
+    fair_rounds_end_on_either_bus();
+    atomic_runs_are_flat_runs();
     let _known = config.depth();
     run_with(alloc, test, protocol, config, choices)
 }
@@ -79,9 +93,10 @@ fn run_with(
     choices: &[Choice],
 ) -> Result<Ending, SimFault>
     requires { CoresExist (length test.now.programs) choices.now }
-    ensures ending { IfOk result (IsEndingOf test.now (flat.run test.now config.depth choices.now)) }
+    ensures ending { IfOk result (IsEndingOf test.now (run_under test.now protocol config choices.now)) }
     ensures fits { IfOk result (FitsEnding test.now) }
-    ensures counts { IfOk result (HasCounts (counts_of (table_of protocol) config.shape test.now config.depth choices.now)) }
+    ensures answers { OnOk result (AnswersFit test.now protocol config choices.now) }
+    ensures counts { IfOk result (HasCounts (counts_of config.bus (table_of protocol) config.shape test.now config.depth choices.now)) }
 {
     match protocol {
         ProtocolKind::Msi => run_to_the_end(alloc, test, Msi, config, choices),
@@ -98,11 +113,15 @@ fn run_to_the_end<P: Protocol>(
     choices: &[Choice],
 ) -> Result<Ending, SimFault>
     requires { CoresExist (length test.now.programs) choices.now }
-    ensures ending { IfOk result (IsEndingOf test.now (flat.run test.now config.depth choices.now)) }
+    ensures ending { IfOk result (IsEndingOf test.now (run_by config.bus (P.table protocol) config test.now choices.now)) }
     ensures fits { IfOk result (FitsEnding test.now) }
-    ensures counts { IfOk result (HasCounts (counts_of (P.table protocol) config.shape test.now config.depth choices.now)) }
+    ensures answers { OnOk result (AnswersFitBy (P.table protocol) config test.now choices.now) }
+    ensures counts { IfOk result (HasCounts (counts_of config.bus (P.table protocol) config.shape test.now config.depth choices.now)) }
 {
-    ended_runs_are_executions();
+    attempts_lead_from_state_to_state();
+    atomic_runs_are_flat_runs();
+    runs_on_either_bus_stop_where_they_end();
+    ended_runs_of_machines_are_executions();
     whole_orders_have_each_entry_once();
     let _known = test.cores();
     let mut machine = Machine::new(alloc, protocol, test, config)?;
@@ -134,16 +153,21 @@ struct Progress {
     stalled: usize,
 }
 
-/// Makes the choices one after the other, until the test has ended.
+/// Makes the choices one after the other, until the test has ended. The caches' answers along all of
+/// them fit, those behind the end too: there nobody holds the bus.
 fn drive<P: Protocol>(
     machine: &mut Machine<'_, P>,
     choices: &[Choice],
 ) -> Result<Progress, NoMemory>
     requires fresh { machine.old.failed ≡ false }
     requires cores { CoresExist (length machine.old.test.programs) choices.now }
+    requires possible { IsPossibleOn machine.old.bus machine.old.test machine.old.depth machine.old.commits machine.old.state }
     ensures drives { IfOk result (λ p. Drives machine.old machine.new choices.now p.used p.stalled) }
     ensures within { IfOk result (λ p. p.used ≤ length choices.now) }
 {
+    attempts_lead_from_state_to_state();
+    what_holds_so_far_on_either_bus();
+    runs_on_either_bus_stop_where_they_end();
     let mut used = 0;
     let mut stalled = 0;
     while used < choices.len() && !machine.is_ended() {
@@ -155,7 +179,7 @@ fn drive<P: Protocol>(
 }
 
 fn stall_count(outcome: Outcome) -> usize
-    ensures value { result ≡ flat.stall_count outcome }
+    ensures value { result ≡ runs.stall_count outcome }
     ensures bound { result ≤ 1 }
 {
     match outcome {

@@ -1,6 +1,7 @@
 ghost use Rattle.std.specs.Prelude.{◌≡◌, ◌<◌, ◌-◌, ◌^◌, ◌==◌, if◌then◌else◌, IfOk, OnOk, string_bytes};
 ghost use Rattle.tso_report.specs.Tally.{runs_in};
-ghost use Rattle.tso_cli.specs.Sweep.{seeded_run, with_flat_run, sweep_counts, IsSweepAnswer};
+ghost use Rattle.tso_cli.specs.Runs.{AnswersFit};
+ghost use Rattle.tso_cli.specs.Sweep.{choices_of, seeded_run, with_one_run, sweep_counts, AnswersFitFrom, IsSweepAnswer};
 
 use crate::answer::{Answer, Status};
 use crate::plan::SweepPlan;
@@ -10,7 +11,6 @@ use protocol_tables::ProtocolKind;
 use scheduler::seeded_choices;
 use std::alloc::Global;
 use tso_model::{NoMemory, Test};
-use tso_report::laws::one_more_run_is_counted;
 use tso_report::{Tally, head_text};
 
 /// The answer of `sweep` to a test: how many runs of the plan left each final state, in the values of
@@ -62,10 +62,10 @@ fn sweep<'a>(
     plan: SweepPlan,
 ) -> Result<Swept<'a>, NoMemory>
     ensures test { IfOk result (λ s. s.tally.test ≡ test.now) }
-    ensures counts { IfOk result (λ s. s.tally.counts ≡ sweep_counts test.now config plan) }
-    ensures ended { IfOk result (λ s. s.all_ended ≡ ((sweep_counts test.now config plan).unfinished == 0)) }
+    ensures counts { IfOk result (λ s. s.tally.counts ≡ sweep_counts test.now protocol config plan) }
+    ensures ended { IfOk result (λ s. s.all_ended ≡ ((sweep_counts test.now protocol config plan).unfinished == 0)) }
+    ensures answers { OnOk result (AnswersFitFrom test.now protocol config plan.length plan.from plan.seeds) }
 {
-    one_more_run_is_counted();
     let mut tally = Tally::new(alloc, test)?;
     let mut all_ended = true;
     let length = plan.length() as usize;
@@ -89,9 +89,10 @@ fn count_run(
 ) -> Result<bool, NoMemory>
     requires same { tally.old.test ≡ test.now }
     requires room { runs_in tally.old.counts < 2 ^ 32 - 1 }
-    ensures ended { IfOk result (λ b. b ≡ (seeded_run test.now config.depth length seed).ended) }
-    ensures counts { OnOk result (tally.new.counts ≡ with_flat_run test.now (seeded_run test.now config.depth length seed) tally.old.counts) }
+    ensures ended { IfOk result (λ b. b ≡ (seeded_run test.now protocol config length seed).ended) }
+    ensures counts { OnOk result (tally.new.counts ≡ with_one_run test.now (seeded_run test.now protocol config length seed) tally.old.counts) }
     ensures test { tally.new.test ≡ tally.old.test }
+    ensures answers { OnOk result (AnswersFit test.now protocol config (choices_of test.now length seed)) }
 {
     let choices = seeded_choices(alloc, test.cores(), seed, length)?;
     match simulate(alloc, test, protocol, config, &choices) {

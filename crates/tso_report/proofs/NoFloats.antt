@@ -10,13 +10,15 @@ use Rattle.serde_json.specs.View.{items_of}
 use Rattle.serde_json.specs.Written.{has_float, items_have_float, members_have_float}
 use Rattle.tso_model.specs.Litmus.{Litmus}
 use Rattle.tso_model.specs.Condition.{Condition}
+use Rattle.tso_model.specs.declared.bus.Bus.{Bus}
+use Rattle.tso_model.specs.declared.bus.Bus.TheVariants.{Atomic, Split}
 use Rattle.tso_model.specs.declared.execution.Entry.{Entry}
 use Rattle.order_builder.specs.PrintedOrder.{printed_entry}
 use Rattle.protocol_tables.specs.declared.kind.ProtocolKind.{ProtocolKind}
 use Rattle.machine_core.specs.Configuration.{Configuration}
 use Rattle.machine_core.specs.declared.counts.Counts.{Counts}
 use Rattle.tso_report.specs.Shown.{Shown}
-use Rattle.tso_report.specs.Json.{count, counts_value, cache_value, condition_value, memory_members, memory_value, order_value, registers_value, cores_value, run_value}
+use Rattle.tso_report.specs.Json.{count, counts_value, cache_value, condition_value, with_bus, machine_members, machine_value, memory_members, memory_value, order_value, registers_value, cores_value, run_value}
 
 neither : (p q : Bool) → p ≡ false → q ≡ false → p || q ≡ false
 neither true q h k = h
@@ -54,10 +56,18 @@ memory [] words = refl
 memory (name ∷ names) [] = refl
 memory (name ∷ names) (word ∷ words) = one_more name word (memory_members names words) (memory names words)
 
+machine : (kind : ProtocolKind) (c : Configuration) → has_float (machine_value kind c) ≡ false
+machine kind c = by_bus c.bus
+  where
+    by_bus : (bus : Bus) → members_have_float (with_bus bus (machine_members kind c)) ≡ false
+    by_bus Atomic = refl
+    by_bus Split = refl
+
 pub run_has_no_float : (t : Litmus) (kind : ProtocolKind) (c : Configuration) (s : Shown) → has_float (run_value t kind c s) ≡ false
 run_has_no_float t kind c s =
     neither (has_float (cache_value s.counts)) _ (cache s.counts)
     (neither (has_float (condition_value t.condition s.holds)) _ (condition t.condition s.holds)
+    (neither (has_float (machine_value kind c)) _ (machine kind c)
     (neither (has_float (memory_value t s.memory)) _ (memory t.locations s.memory)
     (neither (has_float (order_value t s.order)) _ (entries t s.order)
-    (neither (has_float (cores_value s.registers)) false (cores s.registers) refl))))
+    (neither (has_float (cores_value s.registers)) false (cores s.registers) refl)))))

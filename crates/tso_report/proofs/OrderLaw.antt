@@ -12,6 +12,8 @@ use Rattle.std.proofs.lemmas.List.{append_assoc}
 use Rattle.std.proofs.lemmas.List.Elements.{All-cons, All-nil}
 use Rattle.std.proofs.lemmas.List.Folds.{list_all-append}
 use Rattle.tso_model.specs.Litmus.{Litmus, IsTest}
+use Rattle.tso_model.specs.declared.bus.Bus.{Bus}
+use Rattle.tso_model.specs.declared.bus.Bus.TheVariants.{Atomic, Split}
 use Rattle.tso_model.specs.declared.execution.Entry.{Entry}
 use Rattle.tso_model.specs.Names.{is_printable, is_test_name}
 use Rattle.order_builder.specs.Decimals.{decimal_from}
@@ -24,7 +26,7 @@ use Rattle.protocol_tables.specs.declared.kind.ProtocolKind.{ProtocolKind}
 use Rattle.protocol_tables.specs.declared.kind.ProtocolKind.TheVariants.{Msi, Mesi, Moesi}
 use Rattle.snoop_bus.specs.Geometry.{Geometry, IsLineSize, IsWithinLimits}
 use Rattle.machine_core.specs.Configuration.{Configuration}
-use Rattle.tso_report.specs.Report.{report, line, test_line, shape_text, register_lines, memory_line, condition_line, choices_line, cache_lines}
+use Rattle.tso_report.specs.Report.{report, line, test_line, shape_text, bus_text, register_lines, memory_line, condition_line, choices_line, cache_lines}
 
 -- ---- no line feed
 
@@ -69,7 +71,7 @@ two_parts a b p q = list_all-append _ a b ∙ and_from _ _ p q
 
 -- the machine's line without its end
 machine_text : ProtocolKind → Configuration → List ℕ
-machine_text kind c = codes "Machine " ++ (protocol_name kind ++ (codes " depth=" ++ (decimal c.depth ++ shape_text c.shape)))
+machine_text kind c = codes "Machine " ++ (protocol_name kind ++ (codes " depth=" ++ (decimal c.depth ++ (shape_text c.shape ++ bus_text c.bus))))
 
 line_size_is_small : (words : ℕ) → IsLineSize words → words < 2 ^ 64
 line_size_is_small words (inl e) = omega (arith, e)
@@ -84,8 +86,14 @@ line_of_shape g fits =
     two_parts (decimal g.sets) (codes " ways=" ++ (decimal g.ways ++ (codes " words=" ++ decimal g.words))) sets
     (two_parts (decimal g.ways) (codes " words=" ++ decimal g.words) ways words)
 
-line_of_depth : (c : Configuration) → c.depth < 2 ^ 64 → IsWithinLimits c.shape → is_line (codes " depth=" ++ (decimal c.depth ++ shape_text c.shape)) ≡ true
-line_of_depth c small fits = two_parts (decimal c.depth) (shape_text c.shape) (line_of_number c.depth small) (line_of_shape c.shape fits)
+line_of_bus : (bus : Bus) → is_line (bus_text bus) ≡ true
+line_of_bus Atomic = refl
+line_of_bus Split = refl
+
+line_of_depth : (c : Configuration) → c.depth < 2 ^ 64 → IsWithinLimits c.shape → is_line (codes " depth=" ++ (decimal c.depth ++ (shape_text c.shape ++ bus_text c.bus))) ≡ true
+line_of_depth c small fits =
+    two_parts (decimal c.depth) (shape_text c.shape ++ bus_text c.bus) (line_of_number c.depth small)
+    (two_parts (shape_text c.shape) (bus_text c.bus) (line_of_shape c.shape fits) (line_of_bus c.bus))
 
 line_of_machine : (kind : ProtocolKind) (c : Configuration) → c.depth < 2 ^ 64 → IsWithinLimits c.shape → is_line (machine_text kind c) ≡ true
 unfolding machine_text
@@ -119,9 +127,9 @@ before_machine kind c small fits = record {
 front_of : Litmus → ProtocolKind → Configuration → List (List ℕ)
 front_of t kind c = (codes "Test " ++ t.name) ∷ (machine_text kind c ∷ [])
 
-line_of_text : (name depth shape : List ℕ) → codes "Machine " ++ (name ++ (codes " depth=" ++ (depth ++ line shape)))
-    ≡ line (codes "Machine " ++ (name ++ (codes " depth=" ++ (depth ++ shape))))
-line_of_text name depth shape = simp append_assoc
+line_of_text : (name depth shape_and_bus : List ℕ) → codes "Machine " ++ (name ++ (codes " depth=" ++ (depth ++ line shape_and_bus)))
+    ≡ line (codes "Machine " ++ (name ++ (codes " depth=" ++ (depth ++ shape_and_bus))))
+line_of_text name depth shape_and_bus = simp append_assoc
 
 joined : (first second order rest : List ℕ)
     → ((first ++ 10 ∷ []) ++ (second ++ 10 ∷ [])) ++ (order ++ rest) ≡ (first ++ 10 ∷ (second ++ 10 ∷ [])) ++ (order ++ rest)
@@ -139,5 +147,5 @@ report_spells amid t kind c s test small fits are =
     All-cons IsBefore (codes "Test " ++ t.name) (machine_text kind c ∷ []) (before_name t test)
     (All-cons IsBefore (machine_text kind c) [] (before_machine kind c small fits) (All-nil IsBefore)) in
     amid t s.order (front_of t kind c) rest (report t kind c s) test are front
-    (ap (λ second. (test_line t ++ second) ++ (printed_order t s.order ++ rest)) (line_of_text (protocol_name kind) (decimal c.depth) (shape_text c.shape))
+    (ap (λ second. (test_line t ++ second) ++ (printed_order t s.order ++ rest)) (line_of_text (protocol_name kind) (decimal c.depth) (shape_text c.shape ++ bus_text c.bus))
     ∙ joined (codes "Test " ++ t.name) (machine_text kind c) (printed_order t s.order) rest)

@@ -12,6 +12,8 @@ use Rattle.tso_model.specs.Condition.{Condition}
 use Rattle.tso_model.specs.Names.{begins_name, continues_name, is_name, is_register_word, is_location_name, is_test_name}
 use Rattle.tso_model.specs.Registers.{IsWord, AreRegisters, index_of, name_of}
 use Rattle.tso_model.specs.Thread.{value_in}
+use Rattle.tso_model.specs.declared.bus.Bus.{Bus}
+use Rattle.tso_model.specs.declared.bus.Bus.TheVariants.{Atomic, Split}
 use Rattle.tso_model.specs.declared.register.Reg.{Reg}
 use Rattle.tso_model.specs.declared.register.Reg.TheVariants.{Eax, Ebx, Ecx, Edx, Esi, Edi}
 use Rattle.tso_model.specs.declared.condition.Quantifier.{Quantifier}
@@ -30,7 +32,7 @@ use Rattle.machine_core.specs.Kept.{IsAtMost}
 use Rattle.machine_core.specs.declared.counts.Counts.{Counts}
 use Rattle.tso_report.specs.Shown.{Shown}
 use Rattle.tso_report.specs.Limits.{longest_report, IsSmall}
-use Rattle.tso_report.specs.Report.{report, line, test_line, machine_line, shape_text, printed_register, printed_registers, all_registers, register_line, register_lines, printed_words, memory_line, printed_quantifier, printed_truth, printed_verdict, condition_line, choices_line, traffic_text, cache_line, cache_lines}
+use Rattle.tso_report.specs.Report.{report, line, test_line, machine_line, shape_text, bus_text, printed_register, printed_registers, all_registers, register_line, register_lines, printed_words, memory_line, printed_quantifier, printed_truth, printed_verdict, condition_line, choices_line, traffic_text, cache_line, cache_lines}
 
 -- ---- texts put together
 
@@ -209,12 +211,17 @@ shape_short g h =
     (joined (decimal g.ways) _ 1 8 (let w = h.few_ways in digit g.ways (omega arith))
     (joined (codes " words=") (decimal g.words) 7 1 (omega arith) (let w = few_words g.words h.line_size in digit g.words (omega arith))))))
 
-machine_short : (kind : ProtocolKind) (c : Configuration) → IsWithinLimits c → length (machine_line kind c) ≤ 45
+bus_short : (bus : Bus) → length (bus_text bus) ≤ 10
+bus_short Atomic = omega arith
+bus_short Split = omega arith
+
+machine_short : (kind : ProtocolKind) (c : Configuration) → IsWithinLimits c → length (machine_line kind c) ≤ 55
 machine_short kind c h =
-    joined (codes "Machine ") _ 8 37 (omega arith)
-    (joined (protocol_name kind) _ 5 32 (protocol_short kind)
-    (joined (codes " depth=") _ 7 25 (omega arith)
-    (joined (decimal c.depth) (line (shape_text c.shape)) 2 23 (let d = h.1 in two_digits c.depth (omega arith)) (ended (shape_text c.shape) 22 (shape_short c.shape h.2)))))
+    joined (codes "Machine ") _ 8 47 (omega arith)
+    (joined (protocol_name kind) _ 5 42 (protocol_short kind)
+    (joined (codes " depth=") _ 7 35 (omega arith)
+    (joined (decimal c.depth) (line (shape_text c.shape ++ bus_text c.bus)) 2 33 (let d = h.1 in two_digits c.depth (omega arith))
+    (ended (shape_text c.shape ++ bus_text c.bus) 32 (joined (shape_text c.shape) (bus_text c.bus) 22 10 (shape_short c.shape h.2) (bus_short c.bus))))))
 
 quantifier_short : (q : Quantifier) → length (printed_quantifier q) ≤ 7
 quantifier_short Exists = omega arith
@@ -277,9 +284,9 @@ report_short t kind c s test within small =
     let words = words_short t.locations s.memory test.locations_spelled small.memory in
     let registers = register_lines_short 0 s.registers (omega arith) small.registers in
     let counts = cache_lines_short 0 s.counts (omega arith) small.counts in
-    let whole : length (report t kind c s) ≤ 16208 =
-    joined (test_line t ++ machine_line kind c) _ 115 16093
-    (joined (test_line t) (machine_line kind c) 70 45 (joined (codes "Test ") (line t.name) 5 65 (omega arith) (ended t.name 64 name)) (machine_short kind c within))
+    let whole : length (report t kind c s) ≤ 16218 =
+    joined (test_line t ++ machine_line kind c) _ 125 16093
+    (joined (test_line t) (machine_line kind c) 70 55 (joined (codes "Test ") (line t.name) 5 65 (omega arith) (ended t.name 64 name)) (machine_short kind c within))
     (joined (printed_order t s.order) _ 14355 1738 (order_short t s.order test small.order small.entries)
     (joined (register_lines 0 s.registers) _ 412 1326 (omega arith)
     (joined (memory_line t s.memory) _ 711 615 (joined (codes "Memory") (line (printed_words t.locations s.memory)) 6 705 (omega arith) (ended (printed_words t.locations s.memory) 704 (omega arith)))

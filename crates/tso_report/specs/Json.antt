@@ -7,6 +7,8 @@ use Rattle.serde_json.specs.Written.{compact_text}
 use Rattle.tso_model.specs.Litmus.{Litmus}
 use Rattle.tso_model.specs.Condition.{Condition}
 use Rattle.tso_model.specs.Thread.{value_in}
+use Rattle.tso_model.specs.declared.bus.Bus.{Bus}
+use Rattle.tso_model.specs.declared.bus.Bus.TheVariants.{Atomic, Split}
 use Rattle.tso_model.specs.declared.register.Reg.TheVariants.{Eax, Ebx, Ecx, Edx, Esi, Edi}
 use Rattle.tso_model.specs.declared.execution.Entry.{Entry}
 use Rattle.order_builder.specs.PrintedOrder.{printed_entry}
@@ -47,13 +49,21 @@ condition_value None holds = null
 condition_value (Some condition) None = null
 condition_value (Some condition) (Some holds) = verdict_value (printed_quantifier condition.quantifier) holds
 
-abbrev pub machine_value : ProtocolKind → Configuration → Data
-machine_value kind c =
-    object (member (codes "depth") (count c.depth)
+-- a split bus is named before these members; the atomic bus isn't
+abbrev pub with_bus : Bus → Members → Members
+with_bus Atomic members = members
+with_bus Split members = member (codes "bus") (string (codes "split")) members
+
+abbrev pub machine_members : ProtocolKind → Configuration → Members
+machine_members kind c =
+    member (codes "depth") (count c.depth)
     (member (codes "protocol") (string (protocol_name kind))
     (member (codes "sets") (count c.shape.sets)
     (member (codes "ways") (count c.shape.ways)
-    (member (codes "words") (count c.shape.words) no_members)))))
+    (member (codes "words") (count c.shape.words) no_members))))
+
+abbrev pub machine_value : ProtocolKind → Configuration → Data
+machine_value kind c = object (with_bus c.bus (machine_members kind c))
 
 -- a member for each location, each where the bytes of its name belong
 abbrev pub memory_members : List (List ℕ) → List ℕ → Members

@@ -7,6 +7,8 @@ use Rattle.tso_model.specs.Registers.{name_of}
 use Rattle.tso_model.specs.Thread.{value_in}
 use Rattle.tso_model.specs.declared.register.Reg.{Reg}
 use Rattle.tso_model.specs.declared.register.Reg.TheVariants.{Eax, Ebx, Ecx, Edx, Esi, Edi}
+use Rattle.tso_model.specs.declared.bus.Bus.{Bus}
+use Rattle.tso_model.specs.declared.bus.Bus.TheVariants.{Atomic, Split}
 use Rattle.tso_model.specs.declared.condition.Quantifier.{Quantifier}
 use Rattle.tso_model.specs.declared.condition.Quantifier.TheVariants.{Exists, NotExists, Forall}
 use Rattle.order_builder.specs.PrintedOrder.{printed_order}
@@ -28,9 +30,15 @@ test_line t = codes "Test " ++ line t.name
 abbrev pub shape_text : Geometry → List ℕ
 shape_text g = codes " sets=" ++ (decimal g.sets ++ (codes " ways=" ++ (decimal g.ways ++ (codes " words=" ++ decimal g.words))))
 
--- `Machine msi depth=D sets=S ways=W words=L`
+-- ` bus=split`; the atomic bus isn't named
+abbrev pub bus_text : Bus → List ℕ
+bus_text Atomic = []
+bus_text Split = codes " bus=split"
+
+-- `Machine msi depth=D sets=S ways=W words=L`, and behind it ` bus=split` on a split bus
 abbrev pub machine_line : ProtocolKind → Configuration → List ℕ
-machine_line kind c = codes "Machine " ++ (protocol_name kind ++ (codes " depth=" ++ (decimal c.depth ++ line (shape_text c.shape))))
+machine_line kind c =
+    codes "Machine " ++ (protocol_name kind ++ (codes " depth=" ++ (decimal c.depth ++ line (shape_text c.shape ++ bus_text c.bus))))
 
 -- ` EAX=v`
 abbrev pub printed_register : List ℕ → Reg → List ℕ

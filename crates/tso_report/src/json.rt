@@ -12,7 +12,7 @@ ghost use Rattle.tso_report.specs.Json.{counts_value, cache_value, choices_value
 
 use crate::report::quantifier_text;
 use crate::run::Run;
-use machine_core::{Config, Counts};
+use machine_core::{Bus, Config, Counts};
 use order_builder::entry_text;
 use protocol_tables::ProtocolKind;
 use serde_json::{Map, Value, json, put};
@@ -174,12 +174,25 @@ fn verdict_value(alloc: Global, kind: &str, holds: bool) -> Result<Value, NoMemo
 fn machine_value(alloc: Global, protocol: ProtocolKind, config: Config) -> Result<Value, NoMemory>
     ensures { IfOk result (λ value. view value ≡ machine_value protocol config) }
 {
-    let name = protocol.name();
-    let depth = config.depth();
-    let (sets, ways, words) = (config.sets(), config.ways(), config.words());
-    Ok(
-        json!(in alloc; {"depth": depth, "protocol": name, "sets": sets, "ways": ways, "words": words})?,
-    )
+    let mut members = Map::new(alloc);
+    put(&mut members, alloc, "depth", Value::from(config.depth()))?;
+    put(
+        &mut members,
+        alloc,
+        "protocol",
+        Value::try_from_str(alloc, protocol.name())?,
+    )?;
+    put(&mut members, alloc, "sets", Value::from(config.sets()))?;
+    put(&mut members, alloc, "ways", Value::from(config.ways()))?;
+    put(&mut members, alloc, "words", Value::from(config.words()))?;
+    match config.bus() {
+        Bus::Atomic => Ok(Value::Object(members)),
+        Bus::Split => {
+            let bus = Value::try_from_str(alloc, "split")?;
+            put(&mut members, alloc, "bus", bus)?;
+            Ok(Value::Object(members))
+        }
+    }
 }
 
 fn memory_value(alloc: Global, test: &Test, memory: &[u32]) -> Result<Value, NoMemory>

@@ -1,10 +1,10 @@
 ghost use Rattle.std.specs.Prelude.{◌≡◌, ◌++◌, ◌∷◌, [], IfOk, OnOk, string_bytes, length, slice_index_or, Option, is_some, All};
 ghost use Rattle.order_builder.specs.PrintedOrder.{printed_order, HasLocation, HasWord};
 ghost use Rattle.tso_report.specs.Shown.{shown, IsOf};
-ghost use Rattle.tso_report.specs.Report.{report, head, line, test_line, machine_line, shape_text, printed_register, printed_registers, all_registers, register_line, register_lines, printed_words, memory_line, printed_verdict, condition_line, choices_line, printed_quantifier, printed_truth, traffic_text, cache_line, cache_lines};
+ghost use Rattle.tso_report.specs.Report.{report, head, line, test_line, machine_line, shape_text, bus_text, printed_register, printed_registers, all_registers, register_line, register_lines, printed_words, memory_line, printed_verdict, condition_line, choices_line, printed_quantifier, printed_truth, traffic_text, cache_line, cache_lines};
 
 use crate::run::Run;
-use machine_core::{Config, Counts};
+use machine_core::{Bus, Config, Counts};
 use order_builder::order_text;
 use protocol_tables::ProtocolKind;
 use std::alloc::Global;
@@ -69,6 +69,7 @@ fn write_machine(text: &mut String, protocol: ProtocolKind, config: Config) -> R
     let depth = config.depth();
     write!(text, "Machine {name} depth={depth}")?;
     write_shape(text, config)?;
+    text.push_str(bus_text(config.bus()))?;
     text.push('\n')?;
     Ok(())
 }
@@ -81,6 +82,16 @@ fn write_shape(text: &mut String, config: Config) -> Result<(), NoMemory>
     let words = config.words();
     write!(text, " sets={sets} ways={ways} words={words}")?;
     Ok(())
+}
+
+/// ` bus=split`; the atomic bus isn't named.
+fn bus_text(bus: Bus) -> &'static str
+    ensures { result.now ≡ bus_text bus }
+{
+    match bus {
+        Bus::Atomic => "",
+        Bus::Split => " bus=split",
+    }
 }
 
 fn write_order(

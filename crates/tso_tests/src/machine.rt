@@ -4,7 +4,7 @@ ghost use Rattle.std.specs.Prelude.{◌≡◌, ◌<◌, length};
 ghost use Rattle.tso_model.specs.FlatMachine.{chosen};
 
 use crate::inputs::{X, entry, test_of};
-use machine_core::{Choice, Config, Counts, Final, Machine, Outcome, Shape, Stall};
+use machine_core::{Bus, Choice, Config, Counts, Final, Machine, Outcome, Shape, Stall};
 use protocol_tables::{Mesi, Protocol};
 use std::alloc::Global;
 use std::process::Abort;
@@ -55,7 +55,9 @@ fn a_fence_waits_for_the_store_before_it(rt: HostRuntime) -> Result<(), Fail> {
     let alloc = rt.alloc();
     let test = test_of(alloc, &[&[Instr::StoreImm(X, 1), Instr::Fence]])?;
     assert!(rt; test.cores() == 1);
-    let config = Config::new(1, Shape::default()).ok_or("the depth is within the limits")?;
+    let config = Config::new(1, Shape::default(), Bus::Atomic).ok_or(
+        "the depth is within the limits",
+    )?;
     let mut machine = Machine::new(alloc, Mesi, &test, config)?;
     choose(&rt, &mut machine, DRAIN, Outcome::Stalled(Stall::Empty));
     choose(&rt, &mut machine, STEP, Outcome::Buffered);

@@ -1,5 +1,5 @@
 //! The command over a reader and a writer that fail or give little at a time.
-use machine_core::{Config, Shape};
+use machine_core::{Bus, Config, Shape};
 use protocol_tables::ProtocolKind;
 use std::alloc::Global;
 use std::io;
@@ -104,7 +104,7 @@ struct Left {
 }
 
 fn run(rt: &impl Abort, alloc: Global, source: Source<'_>, sink: Sink) -> Result<Left, Fail> {
-    let config = Config::new(4, Shape::default()).ok_or("a configuration")?;
+    let config = Config::new(4, Shape::default(), Bus::Atomic).ok_or("a configuration")?;
     let settings = Settings::Run {
         protocol: ProtocolKind::Msi,
         config,

@@ -5,7 +5,7 @@ ghost use Rattle.tso_model.specs.Runs.{CoresExist};
 ghost use Rattle.tso_report.specs.Shown.{shown, IsOf};
 
 use litmus_reader::read_test;
-use machine_core::{Choice, Config, Shape};
+use machine_core::{Bus, Choice, Config, Shape};
 use protocol_tables::ProtocolKind;
 use std::alloc::Global;
 use std::process::Abort;
@@ -30,7 +30,9 @@ fn ended(alloc: Global, test: &Test, choices: &[Choice]) -> Result<Run, Fail>
     requires { CoresExist (length test.now.programs) choices.now }
     ensures { IfOk result (λ run. IsOf test.now (shown run)) }
 {
-    let config = Config::new(4, Shape::default()).ok_or("the depth is within the limits")?;
+    let config = Config::new(4, Shape::default(), Bus::Atomic).ok_or(
+        "the depth is within the limits",
+    )?;
     match simulate(alloc, test, ProtocolKind::Msi, config, choices)? {
         Ending::Ended(run) => Ok(run),
         Ending::Unfinished { .. } => Err("the choices end the test")?,

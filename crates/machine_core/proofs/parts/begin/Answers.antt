@@ -9,11 +9,14 @@ returns-clause-fits g c = record {
   some_depth = omega (arith, c.depth.ensures.within.0, c.depth.ensures.value);
   cores = c.in_ok-processors.ensures.count;
   on_bus = c.in_ok-bus.ensures.cores ∙ c.cores.ensures.value;
-  free = rw c.in_ok-bus.ensures.exact refl;
   words = ap length c.in_ok-bus.ensures.words ∙ c.initial_words.ensures.each;
   each = subst (λ depth. All (IsCore depth (length (words_of c.in_ok-bus.bus))) c.in_ok-processors.processors.items) c.depth.ensures.value
       (c.in_ok-processors.ensures.depths (length (words_of c.in_ok-bus.bus)));
 }
 
 pub returns-clause-tallied : goal.returns-clause-tallied
-returns-clause-tallied g c = tallied-first c.args.test.now _ c.in_ok-counts.counts.items c.cores.ensures.test c.in_ok-processors.ensures.states c.in_ok-counts.ensures
+returns-clause-tallied g c =
+    tallied-first c.args.test.now _ _ c.cores.ensures.test c.in_ok-processors.ensures.states refl c.in_ok-counts.ensures (rw c.in_ok-bus.ensures.exact refl)
+
+pub returns-clause-held : goal.returns-clause-held
+returns-clause-held g c = rw c.in_ok-bus.ensures.exact refl

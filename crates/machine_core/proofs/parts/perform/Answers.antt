@@ -1,20 +1,19 @@
 use Rattle.std.proofs.Common.{sym, ◌∙◌, ap, length}
-use Rattle.machine_core.specs.Kept.{state_in}
 use Rattle.machine_core.proofs.TallyLemmas.{flusher-next, few-next, tallied-next}
 use Rattle.machine_core.proofs.parts.perform.Goals as goal
 
 pub tally-requires-clause-flusher : goal.tally-requires-clause-flusher
 tally-requires-clause-flusher g c =
-    flusher-next c.args.test.now c.args.parts.now c.args.choice c.act.new.parts.bus c.in_ok-outcome.cache_use c.deref_mut.result.now
-    c.requires.fits c.requires.tallied c.in_ok-outcome.ensures.caches (c.deref_mut.ensures.value ∙ c.act.ensures.counts)
+    flusher-next c.args.test.now c.args.parts.now c.args.choice c.act_on_bus.new.parts.bus c.in_ok-outcome.cache_use c.deref_mut.result.now
+    c.requires.fits c.requires.tallied c.in_ok-outcome.ensures.caches (c.deref_mut.ensures.value ∙ c.act_on_bus.ensures.counts)
 
 pub tally-requires-clause-few : goal.tally-requires-clause-few
 tally-requires-clause-few g c =
-    few-next c.args.test.now c.args.parts.now c.deref_mut.result.now c.requires.fits c.requires.tallied (c.deref_mut.ensures.value ∙ c.act.ensures.counts)
+    few-next c.args.test.now c.args.parts.now c.deref_mut.result.now c.requires.fits c.requires.tallied (c.deref_mut.ensures.value ∙ c.act_on_bus.ensures.counts)
 
 pub returns-clause-tallied : goal.returns-clause-tallied
 returns-clause-tallied g c =
-    tallied-next c.args.test.now c.args.parts.now (state_in c.act.new.parts) c.args.choice c.act.new.parts.bus c.in_ok-outcome.cache_use
-    c.core_of.result.0 c.act.new.parts.counts.len c.deref_mut.result.now c.tally.new.counts _ c.requires.fits c.requires.core c.requires.tallied c.in_ok-outcome.ensures.ok.after
-    c.in_ok-outcome.ensures.caches c.core_of.ensures (c.deref_mut.ensures.value ∙ c.act.ensures.counts) c.tally.ensures
-    (c.act.new.parts.counts.ok.0 ∙ ap length (sym c.deref_mut.ensures.value))
+    tallied-next c.args.test.now c.args.parts.now c.act_on_bus.new.parts c.args.choice c.in_ok-outcome.outcome c.in_ok-outcome.cache_use
+    c.core_of.result.0 c.act_on_bus.new.parts.counts.len c.deref_mut.result.now c.tally.new.counts _ c.requires.fits c.requires.core c.requires.holder c.requires.tallied c.in_ok-outcome.ensures.ok
+    c.in_ok-outcome.ensures.caches c.core_of.ensures.chosen (c.deref_mut.ensures.value ∙ c.act_on_bus.ensures.counts) c.tally.ensures
+    (c.act_on_bus.new.parts.counts.ok.0 ∙ ap length (sym c.deref_mut.ensures.value))

@@ -4,6 +4,7 @@ use Rattle.snoop_bus.specs.Bus.{words_of}
 use Rattle.machine_core.specs.Cores.{core_state}
 use Rattle.machine_core.proofs.CoreLemmas.{drain_of-nothing}
 use Rattle.machine_core.proofs.CacheUses.{drains}
+use Rattle.machine_core.proofs.Acting.{may-write}
 use Rattle.machine_core.proofs.processor.drain.Goals as goal
 
 pub returns-in-None-clause-commits : goal.returns-in-None-clause-commits
@@ -20,3 +21,7 @@ returns-in_ok-note-in-Some-clause-stores g c =
 pub returns-in_ok-note-in-Some-clause-caches : goal.returns-in_ok-note-in-Some-clause-caches
 returns-in_ok-note-in-Some-clause-caches g c =
     drains c.args.core.0 c.args.processor.now c.args.bus.now _ c.in-Some.store _ _ c.in-Some.ensures c.in_ok-access-in-Some.ensures.done c.store.ensures.machine
+
+pub store-requires-clause-free : goal.store-requires-clause-free
+store-requires-clause-free g c =
+    may-write c.args.bus.now c.args.core.0 c.args.processor.now.stores.items c.in-Some.store c.in-Some.ensures c.requires.free

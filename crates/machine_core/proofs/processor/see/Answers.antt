@@ -3,6 +3,7 @@ use Rattle.snoop_bus.specs.Bus.{words_of}
 use Rattle.machine_core.proofs.CoreLemmas.{sees_buffered, sees_memory, index-got}
 use Rattle.machine_core.specs.Cores.{store_of}
 use Rattle.machine_core.proofs.CacheUses.{answered, unanswered, forwards, loads}
+use Rattle.machine_core.proofs.Acting.{may-read}
 use Rattle.machine_core.proofs.processor.see.Goals as goal
 
 pub returns-in-Some-clause-value : goal.returns-in-Some-clause-value
@@ -23,3 +24,8 @@ pub returns-in_ok-word-in-None-clause-caches : goal.returns-in_ok-word-in-None-c
 returns-in_ok-word-in-None-clause-caches g c =
     loads c.args.bus.now _ (map (store_of c.args.core.0) c.args.stores.now.items) c.args.core.0 c.args.loc.0 _ _
     (unanswered c.args.core.0 c.args.loc.0 c.args.stores.now.items c.in-None.ensures) c.in_ok-word-in-None.ensures.done c.load.ensures.machine
+
+pub load-requires-clause-free : goal.load-requires-clause-free
+load-requires-clause-free g c =
+    may-read c.args.bus.now c.args.core.0 c.args.loc (map (store_of c.args.core.0) c.args.stores.now.items)
+    (unanswered c.args.core.0 c.args.loc.0 c.args.stores.now.items c.in-None.ensures) c.requires.free

@@ -1,6 +1,5 @@
 use Rattle.tso_cli.proofs.OneAnswer.{Texts}
 use Rattle.tso_cli.proofs.HeadlineLemmas.{Runs, input-means, command-means}
-use Rattle.tso_cli.proofs.StateLemmas.{Tallies}
 use Rattle.tso_cli.proofs.WitnessLemmas.{Reaching}
 use Rattle.tso_cli.proofs.laws.answers_meet_the_headline.Goals as goal
 
@@ -19,9 +18,10 @@ returns c =
       real = c.first_breach_is_real.ensures;
     } in
     let runs : Runs = record {
-      executions = c.ended_runs_are_executions.ensures;
+      executions = c.ended_runs_of_machines_are_executions.ensures.executions;
+      words = c.ended_runs_of_machines_are_executions.ensures.words;
+      atomic = c.ended_runs_of_machines_are_executions.ensures.atomic;
       fits = c.whole_orders_have_each_entry_once.ensures.fits;
-      words = c.values_are_words.ensures.in_runs;
       report_spells = c.report_spells_its_order.ensures;
     } in
     let reaching : Reaching = record {
@@ -30,12 +30,7 @@ returns c =
       counted = c.runs_are_counted.ensures.buffered;
       spelled = c.printed_choices_are_spelled.ensures;
     } in
-    let tallies : Tallies = record {
-      own = c.one_more_run_is_counted.ensures.own;
-      others = c.one_more_run_is_counted.ensures.others;
-      order = c.one_more_run_is_counted.ensures.order;
-    } in
     record {
-      tasks = λ task input out status. input-means task input out status texts runs reaching tallies;
-      commands = λ s known out status. command-means s known out status texts runs reaching tallies;
+      tasks = λ task input out status. input-means task input out status texts runs reaching;
+      commands = λ s known out status. command-means s known out status texts runs reaching;
     }

@@ -2,6 +2,7 @@ use Rattle.tso_cli.proofs.CheckLemmas.{printed-is-valid}
 use Rattle.tso_cli.proofs.OneAnswer.{Texts}
 use Rattle.tso_cli.specs.Parts.{parts_of}
 use Rattle.tso_cli.proofs.HeadlineLemmas.{Runs}
+use Rattle.tso_cli.proofs.SimulationLemmas.{RunLaws}
 use Rattle.tso_cli.proofs.Rechecked.{rechecked}
 use Rattle.tso_cli.proofs.laws.printed_runs_are_valid.Goals as goal
 
@@ -20,13 +21,18 @@ returns-clause-inputs c =
       real = c.first_breach_is_real.ensures;
     } in
     let runs : Runs = record {
-      executions = c.ended_runs_are_executions.ensures;
+      executions = c.ended_runs_of_machines_are_executions.ensures.executions;
+      words = c.ended_runs_of_machines_are_executions.ensures.words;
+      atomic = c.ended_runs_of_machines_are_executions.ensures.atomic;
       fits = c.whole_orders_have_each_entry_once.ensures.fits;
-      words = c.values_are_words.ensures.in_runs;
       report_spells = c.report_spells_its_order.ensures;
     } in
+    let laws : RunLaws = record {
+      atomic = record { atomic = c.atomic_runs_are_flat_runs.ensures.atomic; side_by_side = c.atomic_runs_are_flat_runs.ensures.together };
+      stops = c.runs_on_either_bus_stop_where_they_end.ensures.stops;
+    } in
     λ kind config input out answer status within ends whole is checked.
-    rechecked kind config input out answer status texts runs c.reports_are_short.ensures within (c.joined_parts_are_parted.ensures (parts_of input).test out ends whole) is checked
+    rechecked kind config input out answer status texts runs laws c.reports_are_short.ensures within (c.joined_parts_are_parted.ensures (parts_of input).test out ends whole) is checked
 
 pub returns-clause-tests : goal.returns-clause-tests
 returns-clause-tests c = λ t kind config choices out answer status test short.

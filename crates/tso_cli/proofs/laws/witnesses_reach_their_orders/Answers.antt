@@ -24,5 +24,5 @@ returns c =
       counted = c.runs_are_counted.ensures.buffered;
       spelled = c.printed_choices_are_spelled.ensures;
     } in
-    λ kind config json input out answer status within ends whole is ran.
-    replayed kind config json input out answer status texts reaching within (c.joined_parts_are_parted.ensures (parts_of input).test out ends whole) is ran
+    λ kind config json input out answer status atomic within ends whole is ran.
+    replayed kind config json input out answer status texts reaching atomic within (c.joined_parts_are_parted.ensures (parts_of input).test out ends whole) is ran

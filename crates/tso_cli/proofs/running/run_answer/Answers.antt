@@ -1,10 +1,10 @@
 use Rattle.std.proofs.Common.{◌≢◌}
 use Rattle.scheduler.specs.declared.fault.ChoiceFault.TheVariants as faults
-use Rattle.tso_model.specs.Runs as flat
 use Rattle.tso_cli.specs.declared.answer.Status.TheVariants.{Refused}
 use Rattle.tso_cli.specs.Answers.{counts_under, run_text, run_status, IsRunAnswer, refused, ran}
 use Rattle.tso_cli.specs.Lines.{choices_refusal}
-use Rattle.tso_cli.proofs.AnswerLemmas.{answer-is, refusal-is}
+use Rattle.tso_cli.specs.Runs.{run_under, AnswersFit}
+use Rattle.tso_cli.proofs.AnswerLemmas.{refusal-is}
 use Rattle.tso_cli.proofs.running.run_answer.Goals as goal
 
 pub returns-in-Ok : goal.returns-in-Ok
@@ -12,11 +12,13 @@ returns-in-Ok c =
     let t = c.args.test.now in
     let kind = c.args.protocol in
     let config = c.args.config in
-    let r = flat.run t config.depth c.in-Ok.choices.items in
-    answer-is (IsRunAnswer t kind config c.args.json c.args.text.now) c.run_under.result
-    (run_text t kind config c.args.json (counts_under t kind config c.in-Ok.choices.items) r) (run_status r)
+    let choices = c.in-Ok.choices.items in
+    let r = run_under t kind config choices in
+    refusal-is (IsRunAnswer t kind config c.args.json c.args.text.now) (AnswersFit t kind config choices) c.run_under.result
+    (run_text t kind config c.args.json (counts_under t kind config choices) r) (run_status r)
     (rw c.deref.ensures.value at c.run_under.ensures.text) (rw c.deref.ensures.value at c.run_under.ensures.status)
-    (ran c.in-Ok.choices.items (rw c.cores.ensures.value at c.in-Ok.ensures.found))
+    (rw c.deref.ensures.value at c.run_under.ensures.answers)
+    (λ fit. ran choices (rw c.cores.ensures.value at c.in-Ok.ensures.found) fit)
 
 pub returns-in-Err : goal.returns-in-Err
 returns-in-Err c =

@@ -1,7 +1,7 @@
 use Rattle.std.proofs.Common.{List, ap, ◌∙◌}
-use Rattle.tso_model.specs.Runs as flat
 use Rattle.machine_core.specs.declared.counts.Counts.{Counts}
 use Rattle.tso_cli.specs.Answers.{counts_under}
+use Rattle.tso_cli.specs.Runs.{run_under}
 use Rattle.tso_cli.specs.RunTexts.{report_in}
 use Rattle.tso_cli.specs.Simulation.{shown_of, IsEndingOf, HasCounts}
 use Rattle.tso_cli.specs.declared.simulation.Ending.TheVariants.{Ended}
@@ -13,7 +13,7 @@ returns-in_ok-text-in-Ok-Ended-clause-text c =
     let kind = c.args.protocol in
     let config = c.args.config in
     let counts = counts_under t kind config c.args.choices.now in
-    let r = flat.run t config.depth c.args.choices.now in
+    let r = run_under t kind config c.args.choices.now in
     let is : IsEndingOf t r (Ended c.in-Ok-Ended.run') = rw c.in-Ok-Ended.field-0-is at c.in-Ok-Ended.ensures.ending in
     let counted : HasCounts counts (Ended c.in-Ok-Ended.run') = rw c.in-Ok-Ended.field-0-is at c.in-Ok-Ended.ensures.counts in
     let shown = is.1 ∙ ap (λ (cs : List Counts). shown_of t cs r) counted in

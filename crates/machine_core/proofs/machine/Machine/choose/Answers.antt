@@ -1,27 +1,53 @@
 use Rattle.std.proofs.Common.{◌≡◌, OnOk, subst, ap, sym, ◌∙◌, ◌++◌, append-nil}
 use Rattle.std.proofs.lemmas.Result.{IfOk-at_ok}
 use Rattle.std.specs.Result.{is_err}
+use Rattle.tso_model.specs.EitherBus.{BusState}
 use Rattle.tso_model.specs.declared.choice.Outcome.TheVariants.{Stalled}
+use Rattle.machine_core.specs.Running.{AnswerFits}
 use Rattle.machine_core.specs.Kept.{state_in, statistics_in}
 use Rattle.machine_core.specs.Statistics.{statistics_after}
-use Rattle.machine_core.specs.Performed.{Performs}
-use Rattle.machine_core.proofs.Effects.{effect_of-stall, after_choice-stall}
-use Rattle.machine_core.proofs.RunningLemmas.{Running-same, statistics_after-nothing}
+use Rattle.machine_core.specs.Performed.{Performs, attempt_in, effect_in}
+use Rattle.machine_core.proofs.RunningLemmas.{Running-same, statistics_after-nothing, same-state, on-ok, possible-next}
 use Rattle.machine_core.proofs.machine.Machine.choose.Goals as goal
 
 pub returns-clause-stall : goal.returns-clause-stall
 returns-clause-stall g c = λ why h.
     let t = c.self.inside.test.now in
     let parts = c.self.inside.parts in
-    let done : Performs t parts c.perform-outcome.new.parts c.args.choice (Stalled why) =
-    IfOk-at_ok (λ o. Performs t parts c.perform-outcome.new.parts c.args.choice o) h c.perform-outcome.ensures.ok in
-    let state = done.after ∙ after_choice-stall t parts.config.depth (state_in parts) c.args.choice why (sym done.outcome) in
-    let nothing = effect_of-stall t parts.config.depth (state_in parts) c.args.choice why (sym done.outcome) in
-    let commits = done.commits ∙ ap (λ es. parts.commits.entries ++ es) nothing ∙ append-nil parts.commits.entries in
-    let counted : statistics_in c.perform-outcome.new.parts ≡ statistics_after t parts.config.depth (state_in parts) c.args.choice (statistics_in parts) =
-    subst (λ r. OnOk r (statistics_in c.perform-outcome.new.parts ≡ statistics_after t parts.config.depth (state_in parts) c.args.choice (statistics_in parts))) h c.perform-outcome.ensures.statistics in
-    let statistics = counted ∙ statistics_after-nothing t parts.config.depth (state_in parts) c.args.choice (statistics_in parts) nothing in
+    let new = c.perform-outcome.new.parts in
+    let choice = c.args.choice in
+    let bus = parts.config.bus in
+    let depth = parts.config.depth in
+    let done : Performs parts new choice (effect_in t parts choice) (Stalled why) = IfOk-at_ok (λ o. Performs parts new choice (effect_in t parts choice) o) h c.perform-outcome.ensures.ok in
+    let rests = c.stalls_on_either_bus_change_nothing.ensures bus t depth parts.commits.entries (state_in parts) (attempt_in t parts choice) why c.self.invariant.2 (sym done.outcome) in
+    let flat = done.flat ∙ ap (λ (s : BusState). s.flat) rests.same in
+    let holder = ap (λ (s : BusState). s.holder) rests.same in
+    let state : state_in new ≡ state_in parts = same-state (state_in new) (state_in parts) flat (done.holder ∙ holder) in
+    let commits = done.commits ∙ ap (λ es. parts.commits.entries ++ es) rests.none ∙ append-nil parts.commits.entries in
+    let counted : statistics_in new ≡ statistics_after bus t depth (state_in parts) choice (statistics_in parts) =
+    subst (λ r. OnOk r (statistics_in new ≡ statistics_after bus t depth (state_in parts) choice (statistics_in parts))) h c.perform-outcome.ensures.statistics in
+    let statistics = counted ∙ statistics_after-nothing bus t depth (state_in parts) choice (statistics_in parts) rests.none holder in
     let failed = c.is_err-self-inside.ensures.value ∙ ap (λ r. is_err r) h ∙ sym c.if-self.false in
-    Running-same c.args.self.now t parts.config.depth c.perform-outcome.new.parts.config.depth (state_in parts) (state_in c.perform-outcome.new.parts)
-    parts.commits.entries c.perform-outcome.new.parts.commits.entries (statistics_in parts) (statistics_in c.perform-outcome.new.parts) c.self.inside.failed c.is_err-self-inside.result
-    c.self.view_is (ap (λ config. config.depth) c.perform-outcome.ensures.config) state commits statistics failed
+    Running-same c.args.self.now t bus new.config.bus depth new.config.depth (state_in parts) (state_in new) parts.commits.entries new.commits.entries (statistics_in parts) (statistics_in new) c.self.inside.failed c.is_err-self-inside.result
+    c.self.view_is (ap (λ config. config.bus) c.perform-outcome.ensures.config) (ap (λ config. config.depth) c.perform-outcome.ensures.config) state commits statistics failed
+
+pub perform-outcome-requires-clause-holder : goal.perform-outcome-requires-clause-holder
+perform-outcome-requires-clause-holder g c =
+    let parts = c.self.inside.parts in
+    (c.what_holds_so_far_on_either_bus.ensures.so_far parts.config.bus c.self.inside.test.now parts.config.depth parts.commits.entries (state_in parts) c.self.invariant.2).holder
+
+pub invariant_of-self : goal.invariant_of-self
+invariant_of-self g c =
+    let parts = c.self.inside.parts in
+    let t = c.self.inside.test.now in (
+      c.perform-outcome.ensures.fits,
+      c.perform-outcome.ensures.held,
+      possible-next c.perform-outcome.result t parts c.perform-outcome.new.parts c.args.choice c.self.invariant.2
+          (c.attempts_lead_from_state_to_state.ensures.next parts.config.bus t parts.config.depth parts.commits.entries (state_in parts))
+          c.perform-outcome.ensures.answer c.perform-outcome.ensures.ok c.perform-outcome.ensures.err_state c.perform-outcome.ensures.err_commits c.perform-outcome.ensures.config,
+      c.perform-outcome.ensures.tallied,
+    )
+
+pub returns-clause-answer : goal.returns-clause-answer
+returns-clause-answer g c =
+    on-ok c.perform-outcome.result (AnswerFits c.args.self.now c.args.choice) (subst (λ m. AnswerFits m c.args.choice) c.self.view_is c.perform-outcome.ensures.answer)

@@ -53,3 +53,10 @@ returns-clause-coherent g c =
     rw (was.lines (c.args.loc.0 / c.self.inside.shape.words) held.1.within, length-line c.self.inside.shape.words (words_in c.self.inside.shape.words (seen c.self.inside.caches.items c.self.inside.memory.items) c.self.inside.locations) (c.args.loc.0 / c.self.inside.shape.words)) (rw c.place_of-place.ensures.value at c.place_of-place.ensures.within) in
     let sets = locked_written c.self.inside.caches.items c.write.new.caches c.self.inside.memory.items c.args.core.0 (c.args.loc.0 / c.self.inside.shape.words) (c.args.loc.0 % c.self.inside.shape.words) c.args.value was.coherent held.1.within room real.1 copies in
     rw cs sets.coherent
+
+pub returns-clause-nothing_awaited : goal.returns-clause-nothing_awaited
+returns-clause-nothing_awaited g c =
+    let held = holds c.self.inside.caches.items c.self.inside.memory.items c.self.inside.shape c.self.inside.locations c.args.core c.args.loc Locked c.self.inside.held (rw (← c.self.view_is) at c.requires.holds) c.self.invariant.awaited c.self.invariant.placed in
+    let real = locked_real held.0 (copy_at c.self.inside.caches.items c.args.core.0 (c.args.loc.0 / c.self.inside.shape.words)) held.1.awaits in
+    let is : c.self.inside.held ≡ Some (held_by c.args.core c.args.loc Locked (c.args.loc.0 / c.self.inside.shape.words) None) = held.1.held_is ∙ ap (λ (x : Option Transaction). Some (held_by c.args.core c.args.loc Locked (c.args.loc.0 / c.self.inside.shape.words) x)) real.0 in
+    rw (← c.self.view_is, is) refl

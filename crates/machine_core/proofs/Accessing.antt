@@ -1,0 +1,46 @@
+-- A choice that makes an access commits at once where it acts as on the flat machine.
+use Rattle.std.proofs.Common.{◌≡◌, ◌≢◌, ℕ, zero, suc, List, [], ◌∷◌, Option, None, Some, slice_get, refl}
+use Rattle.tso_model.specs.Litmus.{Litmus}
+use Rattle.tso_model.specs.FlatMachine.{CoreState, State, Effect, stored, locked, step_of, drain_of, effect_of, core_of, program_of}
+use Rattle.tso_model.specs.Access.{NoAccess, store_access, locked_access, step_access, drain_access, access_of}
+use Rattle.tso_model.specs.declared.register.Reg.{Reg}
+use Rattle.tso_model.specs.declared.instruction.Loc.{Loc}
+use Rattle.tso_model.specs.declared.instruction.Instr.{Instr}
+use Rattle.tso_model.specs.declared.instruction.Instr.TheVariants.{StoreImm, StoreReg, Load, SetImm, SetReg, Fence, Xchg, Xadd}
+use Rattle.tso_model.specs.declared.execution.Entry.{Entry}
+use Rattle.tso_model.specs.declared.choice.Choice.{Choice}
+use Rattle.tso_model.specs.declared.choice.Choice.TheVariants.{Step, Drain}
+use Rattle.tso_model.specs.declared.choice.Outcome.TheVariants.{Committed}
+
+pub record CommitsAtOnce (f : Effect) : Type 0 where
+  pub outcome : f.outcome ≡ Committed
+  pub some : f.commits ≢ []
+
+stored-commits : (depth : ℕ) (s : CoreState) (e : Entry) (loc : Loc) → store_access depth loc ≢ NoAccess → CommitsAtOnce (stored depth s e)
+stored-commits zero s e loc h = record { outcome = refl; some = λ z. (let w : ⊥ = cc in w) }
+stored-commits (suc n) s e loc h = absurd (h refl)
+
+locked-commits : (core : ℕ) (s : CoreState) (loc : Loc) (reg : Reg) (word value : ℕ) (pending : List Entry) → locked_access loc pending ≢ NoAccess
+    → CommitsAtOnce (locked core s loc reg word value pending)
+locked-commits core s loc reg word value [] h = record { outcome = refl; some = λ z. (let w : ⊥ = cc in w) }
+locked-commits core s loc reg word value (p ∷ ps) h = absurd (h refl)
+
+step-commits : (depth : ℕ) (memory : List ℕ) (core : ℕ) (o : Option Instr) (s : CoreState) → step_access depth o s.pending ≢ NoAccess → CommitsAtOnce (step_of depth memory core o s)
+step-commits depth memory core None s h = absurd (h refl)
+step-commits depth memory core (Some (StoreImm loc value)) s h = stored-commits depth s _ loc h
+step-commits depth memory core (Some (StoreReg loc reg)) s h = stored-commits depth s _ loc h
+step-commits depth memory core (Some (Load reg loc)) s h = record { outcome = refl; some = λ z. (let w : ⊥ = cc in w) }
+step-commits depth memory core (Some (SetImm reg value)) s h = absurd (h refl)
+step-commits depth memory core (Some (SetReg reg other)) s h = absurd (h refl)
+step-commits depth memory core (Some Fence) s h = absurd (h refl)
+step-commits depth memory core (Some (Xchg loc reg)) s h = locked-commits core s loc reg _ _ s.pending h
+step-commits depth memory core (Some (Xadd loc reg)) s h = locked-commits core s loc reg _ _ s.pending h
+
+drain-commits : (s : CoreState) (pending : List Entry) → drain_access pending ≢ NoAccess → CommitsAtOnce (drain_of s pending)
+drain-commits s [] h = absurd (h refl)
+drain-commits s (p ∷ ps) h = record { outcome = refl; some = λ z. (let w : ⊥ = cc in w) }
+
+pub commits-at-once : (t : Litmus) (depth : ℕ) (state : State) (choice : Choice) → access_of t depth state choice ≢ NoAccess → CommitsAtOnce (effect_of t depth state choice)
+commits-at-once t depth state (Step core) h =
+    step-commits depth state.memory core.0 (slice_get (program_of t core.0) (core_of state core.0).place) (core_of state core.0) h
+commits-at-once t depth state (Drain core) h = drain-commits (core_of state core.0) (core_of state core.0).pending h

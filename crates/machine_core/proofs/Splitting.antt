@@ -1,0 +1,177 @@
+-- A choice on a split bus that isn't the holder's next one.
+use Rattle.std.proofs.Common.{◌≡◌, ◌≢◌, ℕ, ◌++◌, Bool, true, false, List, [], Option, Some, Result, Ok, Err, IfOk, OnErr, inr, length, slice_set, append-nil, refl, sym, ap, ◌∙◌, subst}
+use Rattle.std.proofs.lemmas.List.{set-get_or}
+use Rattle.tso_model.specs.Litmus.{Litmus}
+use Rattle.tso_model.specs.FlatMachine.{CoreState, State, Effect, stalled, after_choice, chosen, core_of, idle}
+use Rattle.tso_model.specs.Access.{Access, NoAccess, Reads, Writes, Locks, access_of}
+use Rattle.tso_model.specs.SplitMachine.{Holder, Free, HeldBy, HeldBetween, Attempt, BusEffect, acts, asks, needs_bus, same_choice}
+use Rattle.tso_model.specs.EitherBus.{BusState, HitFits}
+use Rattle.tso_model.specs.declared.memory.NoMemory.{NoMemory}
+use Rattle.tso_model.specs.declared.bus.Bus.TheVariants.{Split}
+use Rattle.tso_model.specs.declared.instruction.Core.{Core}
+use Rattle.tso_model.specs.declared.instruction.Loc.{Loc}
+use Rattle.tso_model.specs.declared.execution.Entry.{Entry}
+use Rattle.tso_model.specs.declared.choice.Choice.{Choice}
+use Rattle.tso_model.specs.declared.choice.Stall.TheVariants as stall
+use Rattle.tso_model.specs.declared.choice.Outcome.{Outcome}
+use Rattle.tso_model.specs.declared.choice.Outcome.TheVariants.{Asked}
+use Rattle.split_laws.specs.Holders.{HolderFits}
+use Rattle.snoop_bus.specs.Bus.{Bus, words_of, cores_of, holder_of, IsSameMachine}
+use Rattle.snoop_bus.specs.Accesses.{AsksFor}
+use Rattle.snoop_bus.specs.Held as bus
+use Rattle.snoop_bus.specs.declared.holding.Holder as bus_holder
+use Rattle.snoop_bus.specs.declared.holding.Stage.TheVariants.{Locked}
+use Rattle.machine_core.specs.declared.cache_use.CacheUse.{CacheUse}
+use Rattle.machine_core.specs.declared.cache_use.CacheUse.TheVariants.{Unused}
+use Rattle.machine_core.specs.declared.parts.Parts.{Parts}
+use Rattle.machine_core.specs.Caches.{Caches, Used, caches_of, at_access, ask_by, not_through, hits_by, is_awaited, used_between, use_of}
+use Rattle.machine_core.specs.Kept.{FitsTest, IsHeldAs, held_as, held_for, core_in, state_in}
+use Rattle.machine_core.specs.Performed.{HasUsed, MayAct, Performs, attempt_in, flat_effect_in, flat_use_in}
+use Rattle.machine_core.specs.Split.{IsOther, begins_in, use_by}
+
+-- whether it needs the bus
+abbrev pub needs_in : {P : Type 0} → Litmus → Parts P → Choice → Bool
+needs_in t m choice = needs_bus (access_of t m.config.depth (state_in m).flat choice) (attempt_in t m choice).hits
+
+pub begins-acts : {P : Type 0} (t : Litmus) (m : Parts P) (choice : Choice) → needs_in t m choice ≡ false → begins_in t m choice ≡ acts (flat_effect_in t m choice) (state_in m).holder
+begins-acts t m choice h = rw h refl
+
+pub begins-asks : {P : Type 0} (t : Litmus) (m : Parts P) (choice : Choice) → needs_in t m choice ≡ true
+    → begins_in t m choice ≡ asks (core_of (state_in m).flat (chosen choice)) choice (state_in m).holder
+begins-asks t m choice h = rw h refl
+
+-- where the same is awaited before it and after it, a choice uses the caches as on the flat machine
+pub used-same : (b : Bool) (c : Caches) (core : ℕ) (what : Access) (pending commits : List Entry) → used_between b b c core what pending commits ≡ use_of c pending commits
+used-same true c core what pending commits = refl
+used-same false c core what pending commits = refl
+
+pub use-acts : {P : Type 0} (t : Litmus) (m : Parts P) (choice : Choice) → use_by t m choice (acts (flat_effect_in t m choice) (state_in m).holder) ≡ flat_use_in t m choice
+use-acts t m choice = used-same (is_awaited (state_in m).holder) _ _ _ _ _
+
+-- an ask is no access
+asks-unused : (c : Caches) (core : ℕ) (access : Access) → Unused ≡ (at_access (not_through Unused c) (λ loc write. ask_by c core loc.0 write) access).how
+asks-unused c core NoAccess = refl
+asks-unused c core (Reads loc) = refl
+asks-unused c core (Writes loc) = refl
+asks-unused c core (Locks loc) = refl
+
+pub asked-caches : (old new : Bus) (core : Core) (loc : Loc) (write : Bool) → AsksFor old new core loc write → IsSameMachine old new
+    → caches_of new ≡ (ask_by (caches_of old) core.0 loc.0 write).caches
+asked-caches old new core loc write done machine = rw (machine.rows, machine.shape, done.contents, done.awaited_is) refl
+
+-- an action that has asked keeps its access
+pub held-kept : (t : Litmus) (depth : ℕ) (state : State) (choice : Choice) (holder : Holder) → IsOther holder choice → HolderFits Split t depth state holder
+    → ((a b : Choice) → access_of t depth state a ≢ NoAccess → same_choice a b ≡ false → access_of t depth (after_choice t depth state b) a ≡ access_of t depth state a)
+    → held_as t depth (after_choice t depth state choice) holder ≡ held_as t depth state holder
+held-kept t depth state choice Free other fits waits = refl
+held-kept t depth state choice (HeldBy asked) other fits waits = ap (held_for (core_in asked)) (waits asked choice fits other)
+held-kept t depth state choice (HeldBetween e) other fits waits = refl
+
+pub held-next : {P : Type 0} (r : Result (Outcome × CacheUse) NoMemory) (t : Litmus) (m new : Parts P) (choice : Choice) → IsHeldAs t m → IsOther (state_in m).holder choice
+    → HolderFits Split t m.config.depth (state_in m).flat (state_in m).holder
+    → ((a b : Choice) → access_of t m.config.depth (state_in m).flat a ≢ NoAccess → same_choice a b ≡ false
+    → access_of t m.config.depth (after_choice t m.config.depth (state_in m).flat b) a ≡ access_of t m.config.depth (state_in m).flat a)
+    → new.config ≡ m.config → holder_of new.bus ≡ holder_of m.bus → IfOk r (λ x. Performs m new choice (acts (flat_effect_in t m choice) (state_in m).holder) x.0)
+    → OnErr r (state_in new ≡ state_in m) → IsHeldAs t new
+held-next (Ok x) t m new choice held other fits waits config same done err =
+    let flat : (state_in new).flat ≡ after_choice t m.config.depth (state_in m).flat choice = done.flat in
+    same ∙ held ∙ sym (held-kept t m.config.depth (state_in m).flat choice (state_in m).holder other fits waits)
+    ∙ ap (λ s. held_as t m.config.depth s (state_in m).holder) (sym flat) ∙ ap (λ h. held_as t m.config.depth (state_in new).flat h) (sym done.holder)
+    ∙ ap (λ c. held_as t c.depth (state_in new).flat (state_in new).holder) (sym config)
+held-next (Err x) t m new choice held other fits waits config same done err =
+    same ∙ held ∙ ap (λ (s : BusState). held_as t m.config.depth s.flat s.holder) (sym err) ∙ ap (λ c. held_as t c.depth (state_in new).flat (state_in new).holder) (sym config)
+
+-- the caches' answer fits
+pub answer-fits : (t : Litmus) (depth : ℕ) (state : State) (a : Attempt) (b : Bus) (holder : Holder) → holder_of b ≡ held_as t depth state holder
+    → ((e : Entry) (loc : Loc) → holder_of b ≡ Some (bus.holder e.core e.loc Locked) → access_of t depth state a.choice ≡ Writes loc → a.hits ≡ true → chosen a.choice ≢ e.core.0 → loc.0 ≢ e.loc.0)
+    → HitFits t depth state a holder
+answer-fits t depth state a b Free held taken = tt
+answer-fits t depth state a b (HeldBy choice) held taken = tt
+answer-fits t depth state a b (HeldBetween e) held taken = λ loc. taken e loc held
+
+-- nothing but the caches and who holds the bus changes
+pub rests-at : (state : State) (core : ℕ) → record { memory = state.memory; cores = slice_set state.cores core (core_of state core) } ≡ state
+rests-at state core = rw (set-get_or state.cores core idle) refl
+
+pub performs-stall : {P : Type 0} (t : Litmus) (m : Parts P) (choice : Choice) (f : BusEffect) (s : Effect) (o : Outcome) → f ≡ acts s (state_in m).holder
+    → s.after ≡ core_of (state_in m).flat (chosen choice) → s.commits ≡ [] → o ≡ s.outcome → Performs m m choice f o
+performs-stall t m choice f s o e after commits outcome =
+    let all : Performs m m choice (acts s (state_in m).holder) o = record {
+      outcome = outcome;
+      flat = sym (rw (after, commits) (rests-at (state_in m).flat (chosen choice)));
+      holder = refl;
+      commits = sym (ap (λ es. m.commits.entries ++ es) commits ∙ append-nil m.commits.entries);
+    } in
+    subst (λ g. Performs m m choice g o) (sym e) all
+
+pub use-rests : {P : Type 0} (t : Litmus) (m : Parts P) (choice : Choice) (f : BusEffect) (s : Effect) → f ≡ acts s (state_in m).holder → s.commits ≡ [] → HasUsed (use_by t m choice f) m.bus Unused
+use-rests t m choice f s e none =
+    let same : use_by t m choice f ≡ not_through Unused (caches_of m.bus) =
+    ap (use_by t m choice) e ∙ used-same (is_awaited (state_in m).holder) _ _ _ _ _ ∙ ap (use_of (caches_of m.bus) (core_of (state_in m).flat (chosen choice)).pending) none in
+    subst (λ u. HasUsed u m.bus Unused) (sym same) (record { how_is = refl; caches = refl })
+
+pub performs-ask : {P : Type 0} (t : Litmus) (m new : Parts P) (choice : Choice) → needs_in t m choice ≡ true → (state_in m).holder ≡ Free → new.processors.items ≡ m.processors.items
+    → words_of new.bus ≡ words_of m.bus → (state_in new).holder ≡ HeldBy choice → new.commits.entries ≡ m.commits.entries → Performs m new choice (begins_in t m choice) Asked
+performs-ask t m new choice needs free processors words holder commits =
+    let same : begins_in t m choice ≡ acts (record { outcome = Asked; after = core_of (state_in m).flat (chosen choice); commits = [] }) (HeldBy choice) =
+    begins-asks t m choice needs ∙ ap (asks (core_of (state_in m).flat (chosen choice)) choice) free in
+    let all : Performs m new choice (acts (record { outcome = Asked; after = core_of (state_in m).flat (chosen choice); commits = [] }) (HeldBy choice)) Asked = record {
+      outcome = refl;
+      flat = rw (processors, words) (sym (rests-at (state_in m).flat (chosen choice)));
+      holder = holder;
+      commits = commits ∙ sym (append-nil m.commits.entries);
+    } in
+    subst (λ g. Performs m new choice g Asked) (sym same) all
+
+pub use-ask : {P : Type 0} (t : Litmus) (m : Parts P) (bus : Bus) (choice : Choice) (core : ℕ) (access : Access) → needs_in t m choice ≡ true → (state_in m).holder ≡ Free → core ≡ chosen choice
+    → access ≡ access_of t m.config.depth (state_in m).flat choice
+    → caches_of bus ≡ (at_access (not_through Unused (caches_of m.bus)) (λ loc write. ask_by (caches_of m.bus) core loc.0 write) access).caches → HasUsed (use_by t m choice (begins_in t m choice)) bus Unused
+use-ask t m bus choice core access needs free is at caches =
+    let asked : Used = at_access (not_through Unused (caches_of m.bus)) (λ loc write. ask_by (caches_of m.bus) (chosen choice) loc.0 write) (access_of t m.config.depth (state_in m).flat choice) in
+    let same : use_by t m choice (begins_in t m choice) ≡ asked =
+    ap (use_by t m choice) (begins-asks t m choice needs ∙ ap (asks (core_of (state_in m).flat (chosen choice)) choice) free)
+    ∙ ap (λ h. used_between (is_awaited h) true (caches_of m.bus) (chosen choice) (access_of t m.config.depth (state_in m).flat choice) (core_of (state_in m).flat (chosen choice)).pending []) free in
+    subst (λ u. HasUsed u bus Unused) (sym same) (record {
+      how_is = asks-unused (caches_of m.bus) (chosen choice) (access_of t m.config.depth (state_in m).flat choice);
+      caches = caches ∙ rw (is, at) refl;
+    })
+
+-- what the caches answered is what the definition asks them
+pub needs-is : {P : Type 0} (t : Litmus) (m : Parts P) (choice : Choice) (core : ℕ) (access : Access) (b : Bool) → core ≡ chosen choice
+    → access ≡ access_of t m.config.depth (state_in m).flat choice → b ≡ needs_bus access (hits_by (caches_of m.bus) core access) → needs_in t m choice ≡ b
+needs-is t m choice core access b i a h =
+    sym (h ∙ ap (λ k. needs_bus access (hits_by (caches_of m.bus) k access)) i ∙ ap (λ x. needs_bus x (hits_by (caches_of m.bus) (chosen choice) x)) a)
+
+pub may-act : {P : Type 0} (t : Litmus) (m : Parts P) (choice : Choice) → needs_in t m choice ≡ false
+    → MayAct m.bus (chosen choice) (access_of t m.config.depth (state_in m).flat choice)
+may-act t m choice h = inr h
+
+pub fits-by : {P : Type 0} (t : Litmus) (m : Parts P) (choice : Choice) (core : ℕ) (access : Access) → IsHeldAs t m → core ≡ chosen choice → access ≡ access_of t m.config.depth (state_in m).flat choice
+    → ((e : Entry) (loc : Loc) → holder_of m.bus ≡ Some (bus.holder e.core e.loc Locked) → access ≡ Writes loc → hits_by (caches_of m.bus) core access ≡ true → core ≢ e.core.0 → loc.0 ≢ e.loc.0)
+    → HitFits t m.config.depth (state_in m).flat (attempt_in t m choice) (state_in m).holder
+fits-by t m choice core access held i a taken =
+    answer-fits t m.config.depth (state_in m).flat (attempt_in t m choice) m.bus (state_in m).holder held
+    (λ e loc h w hit other. taken e loc h (a ∙ w)
+    (ap (λ k. hits_by (caches_of m.bus) k access) i ∙ ap (λ x. hits_by (caches_of m.bus) (chosen choice) x) a ∙ hit) (λ q. other (sym i ∙ q)))
+
+pub asks-held : (s : CoreState) (choice asked : Choice) (holder : Holder) → holder ≡ HeldBy asked → asks s choice holder ≡ acts (stalled stall.Bus s) holder
+asks-held s choice asked holder h = rw h refl
+
+pub asks-between : (s : CoreState) (choice : Choice) (e : Entry) (holder : Holder) → holder ≡ HeldBetween e → asks s choice holder ≡ acts (stalled stall.Bus s) holder
+asks-between s choice e holder h = rw h refl
+
+-- who holds the caches' bus once it was asked for
+pub held-ask : (t : Litmus) (depth : ℕ) (old new : State) (choice : Choice) (core : Core) (access : Access) (b : Option bus_holder.Holder) → core ≡ core_in choice
+    → access ≡ access_of t depth old choice → new ≡ old → b ≡ held_for core access → b ≡ held_as t depth new (HeldBy choice)
+held-ask t depth old new choice core access b i a s h =
+    h ∙ ap (λ k. held_for k access) i ∙ ap (held_for (core_in choice)) (a ∙ ap (λ st. access_of t depth st choice) (sym s))
+
+pub fits-ask : {P : Type 0} (t : Litmus) (m new : Parts P) → FitsTest t m → new.config ≡ m.config → new.processors.items ≡ m.processors.items → words_of new.bus ≡ words_of m.bus
+    → cores_of new.bus ≡ cores_of m.bus → FitsTest t new
+fits-ask t m new fits config processors words cores = record {
+  some_depth = rw config fits.some_depth;
+  cores = ap length processors ∙ fits.cores;
+  on_bus = cores ∙ fits.on_bus;
+  words = ap length words ∙ fits.words;
+  each = rw (config, processors, words) fits.each;
+}

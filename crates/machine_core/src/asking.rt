@@ -1,0 +1,225 @@
+//! What a choice does on a split bus: the holder's next choice completes what it asked for; any other
+//! asks for the bus, waits for it, or acts at once where it doesn't need it.
+ghost use Rattle.std.specs.Prelude.{◌≡◌, ◌≢◌, ℕ, ◌<◌, true, false, IsOk, IfOk, OnErr, Some, None, All, filter, length};
+ghost use Rattle.tso_model.specs.Litmus.{KnownLocation};
+ghost use Rattle.tso_model.specs.FlatMachine.{chosen};
+ghost use Rattle.tso_model.specs.Access.{Writes, access_of, step_access, load_access, locked_access, drain_access};
+ghost use Rattle.tso_model.specs.ProgramOrder.{writes_to};
+ghost use Rattle.tso_model.specs.SplitMachine.{needs_bus, same_choice};
+ghost use Rattle.tso_model.specs.EitherBus.{HitFits};
+ghost use Rattle.tso_model.specs.declared.execution.Entry.{Entry};
+ghost use Rattle.tso_model.specs.declared.bus.Bus.TheVariants as Bus;
+ghost use Rattle.split_laws.specs.Holders.{HolderFits};
+ghost use Rattle.snoop_bus.specs.Bus.{words_of, cores_of, holder_of, IsFree};
+ghost use Rattle.snoop_bus.specs.Held.{holder};
+ghost use Rattle.snoop_bus.specs.declared.holding.Stage.TheVariants.{Locked};
+ghost use Rattle.machine_core.specs.declared.cache_use.CacheUse.TheVariants.{Unused};
+ghost use Rattle.machine_core.specs.Cores.{pending_in};
+ghost use Rattle.machine_core.specs.Caches.{caches_of, hits_by, at_access, ask_by, not_through};
+ghost use Rattle.machine_core.specs.Kept.{FitsTest, IsHeldAs, access_in, held_for, state_in};
+ghost use Rattle.machine_core.specs.Performed.{HasUsed, Performs, attempt_in};
+ghost use Rattle.machine_core.specs.Split.{split_effect_in, begins_in, use_by, IsAccessAmong, IsOther};
+
+use crate::cache_use::CacheUse;
+use crate::completing::{complete, write_last};
+use crate::holding::Holding;
+use crate::memory_access::MemoryAccess;
+use crate::parts::{Parts, act, core_of, instruction_at};
+use crate::processor::Processor;
+use protocol_tables::Protocol;
+use snoop_bus::SnoopBus;
+use split_laws::accesses_wait;
+use tso_model::{Choice, Core, Instr, Loc, NoMemory, Outcome, Stall, Test};
+
+/// Makes a choice on a split bus, and answers its outcome and what it had to do with the caches.
+pub fn act_on_split<P: Protocol>(
+    parts: &mut Parts<P>,
+    test: &Test,
+    choice: Choice,
+) -> Result<(Outcome, CacheUse), NoMemory>
+    requires core { chosen choice < length test.now.programs }
+    requires fits { FitsTest test.now parts.old }
+    requires held { IsHeldAs test.now parts.old }
+    requires holder { HolderFits Bus.Split test.now parts.old.config.depth (state_in parts.old).flat (state_in parts.old).holder }
+
+    ensures ok { IfOk result (λ r. Performs parts.old parts.new choice (split_effect_in test.now parts.old choice) r.0) }
+    ensures caches { IfOk result (λ r. HasUsed (use_by test.now parts.old choice (split_effect_in test.now parts.old choice)) parts.new.bus r.1) }
+    ensures succeeds { (split_effect_in test.now parts.old choice).effect.outcome ≢ Outcome.Committed → IsOk result }
+    ensures answer { HitFits test.now parts.old.config.depth (state_in parts.old).flat (attempt_in test.now parts.old choice) (state_in parts.old).holder }
+    ensures err_state { OnErr result (state_in parts.new ≡ state_in parts.old) }
+    ensures err_commits { OnErr result (parts.new.commits.entries ≡ parts.old.commits.entries) }
+    ensures err_bus { OnErr result (parts.new.bus ≡ parts.old.bus) }
+    ensures config { parts.new.config ≡ parts.old.config }
+    ensures counts { parts.new.counts.items ≡ parts.old.counts.items }
+    ensures fits { FitsTest test.now parts.new }
+    ensures held { IsHeldAs test.now parts.new }
+{
+    match parts.holding {
+        Holding::Free => begin(parts, test, choice),
+        Holding::Asked(asked) => {
+            if is_same(asked, choice) {
+                complete(parts, test, choice)
+            } else {
+                begin(parts, test, choice)
+            }
+        }
+        Holding::Between(read) => {
+            if is_same(Choice::Step(read.core), choice) {
+                write_last(parts, test, read)
+            } else {
+                begin(parts, test, choice)
+            }
+        }
+    }
+}
+
+fn is_same(a: Choice, b: Choice) -> bool
+    ensures { result ≡ same_choice a b }
+{
+    a == b
+}
+
+/// Makes a choice that isn't the holder's next one.
+fn begin<P: Protocol>(
+    parts: &mut Parts<P>,
+    test: &Test,
+    choice: Choice,
+) -> Result<(Outcome, CacheUse), NoMemory>
+    requires core { chosen choice < length test.now.programs }
+    requires fits { FitsTest test.now parts.old }
+    requires held { IsHeldAs test.now parts.old }
+    requires holder { HolderFits Bus.Split test.now parts.old.config.depth (state_in parts.old).flat (state_in parts.old).holder }
+    requires other { IsOther (state_in parts.old).holder choice }
+
+    ensures ok { IfOk result (λ r. Performs parts.old parts.new choice (begins_in test.now parts.old choice) r.0) }
+    ensures caches { IfOk result (λ r. HasUsed (use_by test.now parts.old choice (begins_in test.now parts.old choice)) parts.new.bus r.1) }
+    ensures succeeds { (begins_in test.now parts.old choice).effect.outcome ≢ Outcome.Committed → IsOk result }
+    ensures answer { HitFits test.now parts.old.config.depth (state_in parts.old).flat (attempt_in test.now parts.old choice) (state_in parts.old).holder }
+    ensures err_state { OnErr result (state_in parts.new ≡ state_in parts.old) }
+    ensures err_commits { OnErr result (parts.new.commits.entries ≡ parts.old.commits.entries) }
+    ensures err_bus { OnErr result (parts.new.bus ≡ parts.old.bus) }
+    ensures config { parts.new.config ≡ parts.old.config }
+    ensures counts { parts.new.counts.items ≡ parts.old.counts.items }
+    ensures fits { FitsTest test.now parts.new }
+    ensures held { IsHeldAs test.now parts.new }
+{
+    accesses_wait();
+    let core = core_of(choice);
+    let access = access_of(parts, test, choice);
+    if !needs_bus(&parts.bus, core, access) {
+        return act(parts, test, choice);
+    }
+    match parts.holding {
+        Holding::Free => {
+            ask(&mut parts.bus, core, access);
+            parts.holding = Holding::Asked(choice);
+            Ok((Outcome::Asked, CacheUse::Unused))
+        }
+        Holding::Asked(_) => Ok((Outcome::Stalled(Stall::Bus), CacheUse::Unused)),
+        Holding::Between(_) => Ok((Outcome::Stalled(Stall::Bus), CacheUse::Unused)),
+    }
+}
+
+/// Whether a core's access needs the bus: a read or a write that doesn't hit, and a locked instruction's.
+fn needs_bus<P: Protocol>(bus: &SnoopBus<P>, core: Core, access: MemoryAccess) -> bool
+    requires { core.0 < cores_of bus.now }
+    ensures value { result ≡ needs_bus (access_in access) (hits_by (caches_of bus.now) core.0 (access_in access)) }
+
+    // Between the two parts of a locked instruction no write of another core to its location hits.
+    ensures taken { (e : Entry) (loc : Loc) → holder_of bus.now ≡ Some (holder e.core e.loc Locked) → access_in access ≡ Writes loc → hits_by (caches_of bus.now) core.0 (access_in access) ≡ true → core.0 ≢ e.core.0 → loc.0 ≢ e.loc.0 }
+{
+    match access {
+        MemoryAccess::Nothing => false,
+        MemoryAccess::Read(loc) => !bus.would_hit(core, loc, false),
+        MemoryAccess::Write(loc) => !bus.would_hit(core, loc, true),
+        MemoryAccess::Lock(_) => true,
+    }
+}
+
+/// A core asks for its access.
+fn ask<P: Protocol>(bus: &mut SnoopBus<P>, core: Core, access: MemoryAccess)
+    requires core { core.0 < cores_of bus.old }
+    requires known { IsAccessAmong (length (words_of bus.old)) (access_in access) }
+    requires free { IsFree bus.old }
+    requires needs { needs_bus (access_in access) (hits_by (caches_of bus.old) core.0 (access_in access)) ≡ true }
+    ensures words { words_of bus.new ≡ words_of bus.old }
+    ensures caches { caches_of bus.new ≡ (at_access (not_through Unused (caches_of bus.old)) (λ loc write. ask_by (caches_of bus.old) core.0 loc.0 write) (access_in access)).caches }
+    ensures holder { holder_of bus.new ≡ held_for core (access_in access) }
+    ensures cores { cores_of bus.new ≡ cores_of bus.old }
+{
+    match access {
+        MemoryAccess::Nothing => {}
+        MemoryAccess::Read(loc) => bus.ask(core, loc, false),
+        MemoryAccess::Write(loc) | MemoryAccess::Lock(loc) => bus.ask(core, loc, true),
+    }
+}
+
+/// The access that a choice makes.
+pub fn access_of<P: Protocol>(parts: &Parts<P>, test: &Test, choice: Choice) -> MemoryAccess
+    requires core { chosen choice < length test.now.programs }
+    requires fits { FitsTest test.now parts.now }
+    ensures value { access_in result ≡ access_of test.now parts.now.config.depth (state_in parts.now).flat choice }
+    ensures known { IsAccessAmong (length (words_of parts.now.bus)) (access_in result) }
+{
+    match choice {
+        Choice::Step(core) => {
+            let processor = &parts.processors[core.0 as usize];
+            match instruction_at(test.program(core), processor.place) {
+                None => MemoryAccess::Nothing,
+                Some(instr) => step_access(processor, instr),
+            }
+        }
+        Choice::Drain(core) => drain_access(&parts.processors[core.0 as usize]),
+    }
+}
+
+/// The access of a step at this instruction: a plain store only waits in the buffer.
+fn step_access(processor: &Processor, instr: Instr) -> MemoryAccess
+    requires { 0 < processor.now.stores.depth }
+    ensures value { (core : ℕ) → access_in result ≡ step_access processor.now.stores.depth (Some instr) (pending_in core processor.now) }
+    ensures known { (locations : ℕ) → KnownLocation locations instr → IsAccessAmong locations (access_in result) }
+{
+    match instr {
+        Instr::Load(_, loc) => load_access(processor, loc),
+        Instr::Xchg(loc, _) | Instr::Xadd(loc, _) => locked_access(processor, loc),
+        Instr::StoreImm(_, _)
+        | Instr::StoreReg(_, _)
+        | Instr::SetImm(_, _)
+        | Instr::SetReg(_, _)
+        | Instr::Fence => MemoryAccess::Nothing,
+    }
+}
+
+/// A load reads, unless the core's own buffer answers it.
+fn load_access(processor: &Processor, loc: Loc) -> MemoryAccess
+    ensures value { (core : ℕ) → access_in result ≡ load_access loc (filter (writes_to loc.0) (pending_in core processor.now)) }
+    ensures known { (locations : ℕ) → loc.0 < locations → IsAccessAmong locations (access_in result) }
+{
+    match processor.stores.newest_for(loc) {
+        None => MemoryAccess::Read(loc),
+        Some(_) => MemoryAccess::Nothing,
+    }
+}
+
+/// A locked instruction waits until nothing is buffered.
+fn locked_access(processor: &Processor, loc: Loc) -> MemoryAccess
+    ensures value { (core : ℕ) → access_in result ≡ locked_access loc (pending_in core processor.now) }
+    ensures known { (locations : ℕ) → loc.0 < locations → IsAccessAmong locations (access_in result) }
+{
+    if processor.stores.is_empty() {
+        MemoryAccess::Lock(loc)
+    } else {
+        MemoryAccess::Nothing
+    }
+}
+
+/// A drain writes the oldest buffered store.
+fn drain_access(processor: &Processor) -> MemoryAccess
+    ensures value { (core : ℕ) → access_in result ≡ drain_access (pending_in core processor.now) }
+    ensures known { (locations : ℕ) → All (λ s. s.loc.0 < locations) processor.now.stores.items → IsAccessAmong locations (access_in result) }
+{
+    match processor.stores.oldest() {
+        None => MemoryAccess::Nothing,
+        Some(store) => MemoryAccess::Write(store.loc),
+    }
+}

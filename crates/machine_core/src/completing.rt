@@ -1,0 +1,297 @@
+//! The holder's next choice on a split bus: it completes the access that it asked for, and frees the bus; of
+//! a locked instruction the load part comes first, and the store part at the choice after it.
+
+ghost use Rattle.std.specs.Prelude.{◌≡◌, ◌≢◌, ℕ, ◌<◌, ◌++◌, ◌∷◌, [], IsOk, IfOk, OnOk, OnErr, Some, All, length, slice_index};
+ghost use Rattle.tso_model.specs.Limits.{most_instructions};
+ghost use Rattle.tso_model.specs.Thread.{entry, with_value};
+ghost use Rattle.tso_model.specs.FlatMachine.{chosen, memory_after};
+ghost use Rattle.tso_model.specs.Access.{NoAccess, drain_access};
+ghost use Rattle.tso_model.specs.SplitMachine.{HeldBy, HeldBetween};
+ghost use Rattle.tso_model.specs.declared.execution.Kind.TheVariants.{R, LR};
+ghost use Rattle.tso_model.specs.declared.bus.Bus.TheVariants as Bus;
+ghost use Rattle.split_laws.specs.Holders.{HolderFits};
+ghost use Rattle.snoop_bus.specs.Bus.{words_of, cores_of, holder_of, IsFree};
+ghost use Rattle.snoop_bus.specs.Held.{holder};
+ghost use Rattle.snoop_bus.specs.declared.holding.Stage.TheVariants as Stage;
+ghost use Rattle.machine_core.specs.Cores.{core_state, pending_in, advanced, drain_by};
+ghost use Rattle.machine_core.specs.Caches.{caches_of, at_access, not_through, completion_by};
+ghost use Rattle.machine_core.specs.Kept.{FitsTest, IsHeldAs, held_for, state_in};
+ghost use Rattle.machine_core.specs.Performed.{HasUsed, Performs};
+ghost use Rattle.machine_core.specs.Split.{completes_in, writes_last_in, use_by, IsLocked, WritesAs};
+
+use crate::cache_use::CacheUse;
+use crate::holding::Holding;
+use crate::parts::{Parts, instruction_at};
+use crate::processor::{Processor, advance};
+use order_builder::Commits;
+use protocol_tables::Protocol;
+use snoop_bus::{Access, SnoopBus};
+use tso_model::{Choice, Core, Entry, Instr, Kind, Loc, NoMemory, Outcome, Reg, Test};
+
+/// Completes the action that has asked, which is this choice.
+///
+/// Fails only for want of memory, and then changes nothing.
+pub fn complete<P: Protocol>(
+    parts: &mut Parts<P>,
+    test: &Test,
+    choice: Choice,
+) -> Result<(Outcome, CacheUse), NoMemory>
+    requires core { chosen choice < length test.now.programs }
+    requires fits { FitsTest test.now parts.old }
+    requires held { IsHeldAs test.now parts.old }
+    requires holder { HolderFits Bus.Split test.now parts.old.config.depth (state_in parts.old).flat (state_in parts.old).holder }
+    requires asked { (state_in parts.old).holder ≡ HeldBy choice }
+
+    ensures ok { IfOk result (λ r. Performs parts.old parts.new choice (completes_in test.now parts.old choice) r.0) }
+    ensures caches { IfOk result (λ r. HasUsed (use_by test.now parts.old choice (completes_in test.now parts.old choice)) parts.new.bus r.1) }
+    ensures commits_at_once { (completes_in test.now parts.old choice).effect.outcome ≡ Outcome.Committed }
+    ensures err_state { OnErr result (state_in parts.new ≡ state_in parts.old) }
+    ensures err_commits { OnErr result (parts.new.commits.entries ≡ parts.old.commits.entries) }
+    ensures err_bus { OnErr result (parts.new.bus ≡ parts.old.bus) }
+    ensures config { parts.new.config ≡ parts.old.config }
+    ensures counts { parts.new.counts.items ≡ parts.old.counts.items }
+    ensures fits { FitsTest test.now parts.new }
+    ensures held { IsHeldAs test.now parts.new }
+{
+    match choice {
+        Choice::Step(core) => complete_step(parts, test, core),
+        Choice::Drain(core) => complete_drain(parts, test, core),
+    }
+}
+
+/// Completes a step: a load, or the load part of a locked instruction.
+fn complete_step<P: Protocol>(
+    parts: &mut Parts<P>,
+    test: &Test,
+    core: Core,
+) -> Result<(Outcome, CacheUse), NoMemory>
+    requires core { chosen (Choice.Step core) < length test.now.programs }
+    requires fits { FitsTest test.now parts.old }
+    requires held { IsHeldAs test.now parts.old }
+    requires holder { HolderFits Bus.Split test.now parts.old.config.depth (state_in parts.old).flat (state_in parts.old).holder }
+    requires asked { (state_in parts.old).holder ≡ HeldBy (Choice.Step core) }
+
+    ensures ok { IfOk result (λ r. Performs parts.old parts.new (Choice.Step core) (completes_in test.now parts.old (Choice.Step core)) r.0) }
+    ensures caches { IfOk result (λ r. HasUsed (use_by test.now parts.old (Choice.Step core) (completes_in test.now parts.old (Choice.Step core))) parts.new.bus r.1) }
+    ensures commits_at_once { (completes_in test.now parts.old (Choice.Step core)).effect.outcome ≡ Outcome.Committed }
+    ensures err_state { OnErr result (state_in parts.new ≡ state_in parts.old) }
+    ensures err_commits { OnErr result (parts.new.commits.entries ≡ parts.old.commits.entries) }
+    ensures err_bus { OnErr result (parts.new.bus ≡ parts.old.bus) }
+    ensures config { parts.new.config ≡ parts.old.config }
+    ensures counts { parts.new.counts.items ≡ parts.old.counts.items }
+    ensures fits { FitsTest test.now parts.new }
+    ensures held { IsHeldAs test.now parts.new }
+{
+    let processor = &mut parts.processors[core.0 as usize];
+    match instruction_at(test.program(core), processor.place).unwrap() {
+        Instr::Load(reg, loc) => {
+            let access = load(
+                processor,
+                core,
+                reg,
+                loc,
+                &mut parts.bus,
+                &mut parts.commits,
+            )?;
+            parts.holding = Holding::Free;
+            Ok((Outcome::Committed, CacheUse::Through(access)))
+        }
+        Instr::Xchg(loc, _) | Instr::Xadd(loc, _) => {
+            let place = processor.place;
+            let (entry, access) = read_first(core, place, loc, &mut parts.bus, &mut parts.commits)?;
+            parts.holding = Holding::Between(entry);
+            Ok((Outcome::Committed, CacheUse::Through(access)))
+        }
+        _ => unreachable!(),
+    }
+}
+
+/// Completes a drain.
+fn complete_drain<P: Protocol>(
+    parts: &mut Parts<P>,
+    test: &Test,
+    core: Core,
+) -> Result<(Outcome, CacheUse), NoMemory>
+    requires core { chosen (Choice.Drain core) < length test.now.programs }
+    requires fits { FitsTest test.now parts.old }
+    requires held { IsHeldAs test.now parts.old }
+    requires holder { HolderFits Bus.Split test.now parts.old.config.depth (state_in parts.old).flat (state_in parts.old).holder }
+    requires asked { (state_in parts.old).holder ≡ HeldBy (Choice.Drain core) }
+
+    ensures ok { IfOk result (λ r. Performs parts.old parts.new (Choice.Drain core) (completes_in test.now parts.old (Choice.Drain core)) r.0) }
+    ensures caches { IfOk result (λ r. HasUsed (use_by test.now parts.old (Choice.Drain core) (completes_in test.now parts.old (Choice.Drain core))) parts.new.bus r.1) }
+    ensures commits_at_once { (completes_in test.now parts.old (Choice.Drain core)).effect.outcome ≡ Outcome.Committed }
+    ensures err_state { OnErr result (state_in parts.new ≡ state_in parts.old) }
+    ensures err_commits { OnErr result (parts.new.commits.entries ≡ parts.old.commits.entries) }
+    ensures err_bus { OnErr result (parts.new.bus ≡ parts.old.bus) }
+    ensures config { parts.new.config ≡ parts.old.config }
+    ensures counts { parts.new.counts.items ≡ parts.old.counts.items }
+    ensures fits { FitsTest test.now parts.new }
+    ensures held { IsHeldAs test.now parts.new }
+{
+    let processor = &mut parts.processors[core.0 as usize];
+    let access = store(processor, core, &mut parts.bus, &mut parts.commits)?;
+    parts.holding = Holding::Free;
+    Ok((Outcome::Committed, CacheUse::Through(access)))
+}
+
+/// A load that has asked reads memory's word.
+fn load<P: Protocol>(
+    processor: &mut Processor,
+    core: Core,
+    reg: Reg,
+    loc: Loc,
+    bus: &mut SnoopBus<P>,
+    commits: &mut Commits,
+) -> Result<Access, NoMemory>
+    requires place { processor.old.place < most_instructions }
+    requires asked { holder_of bus.old ≡ Some (holder core loc Stage.Load) }
+
+    ensures after { OnOk result (processor.new ≡ advanced processor.old (with_value processor.old.registers reg (slice_index (words_of bus.old) loc.0))) }
+    ensures commits { OnOk result (commits.new.entries ≡ commits.old.entries ++ entry core.0 processor.old.place R loc (slice_index (words_of bus.old) loc.0) ∷ []) }
+    ensures words { words_of bus.new ≡ words_of bus.old }
+    ensures caches { IfOk result (λ access. HasUsed (completion_by (caches_of bus.old) core.0 loc.0) bus.new (CacheUse.Through access)) }
+    ensures free { OnOk result (IsFree bus.new) }
+
+    ensures err_core { OnErr result (processor.new ≡ processor.old) }
+    ensures err_bus { OnErr result (bus.new ≡ bus.old) }
+    ensures err_commits { OnErr result (commits.new.entries ≡ commits.old.entries) }
+    ensures cores { cores_of bus.new ≡ cores_of bus.old }
+{
+    commits.make_room(1)?;
+    let (value, access) = bus.complete_load(core, loc)?;
+    commits.note(Entry {
+        core,
+        place: processor.place,
+        kind: Kind::R,
+        loc,
+        value,
+    })?;
+    advance(processor, reg, value);
+    Ok(access)
+}
+
+/// The oldest buffered store, which has asked, goes to memory.
+fn store<P: Protocol>(
+    processor: &mut Processor,
+    core: Core,
+    bus: &mut SnoopBus<P>,
+    commits: &mut Commits,
+) -> Result<Access, NoMemory>
+    requires asked { held_for core (drain_access (pending_in core.0 processor.old)) ≡ holder_of bus.old }
+    requires some { drain_access (pending_in core.0 processor.old) ≢ NoAccess }
+
+    ensures after { OnOk result (core_state core.0 processor.new ≡ (drain_by processor.old core.0).after) }
+    ensures commits { OnOk result (commits.new.entries ≡ commits.old.entries ++ (drain_by processor.old core.0).commits) }
+    ensures words { OnOk result (words_of bus.new ≡ memory_after (drain_by processor.old core.0).commits (words_of bus.old)) }
+    ensures caches { IfOk result (λ access. HasUsed (at_access (not_through CacheUse.Unused (caches_of bus.old)) (λ loc write. completion_by (caches_of bus.old) core.0 loc.0) (drain_access (pending_in core.0 processor.old))) bus.new (CacheUse.Through access)) }
+    ensures free { OnOk result (IsFree bus.new) }
+    ensures count { length (words_of bus.new) ≡ length (words_of bus.old) }
+    ensures depth { processor.new.stores.depth ≡ processor.old.stores.depth }
+    ensures stores { (locations : ℕ) → All (λ s. s.loc.0 < locations) processor.old.stores.items → All (λ s. s.loc.0 < locations) processor.new.stores.items }
+
+    ensures err_core { OnErr result (processor.new ≡ processor.old) }
+    ensures err_bus { OnErr result (bus.new ≡ bus.old) }
+    ensures err_commits { OnErr result (commits.new.entries ≡ commits.old.entries) }
+    ensures cores { cores_of bus.new ≡ cores_of bus.old }
+{
+    let store = processor.stores.oldest().unwrap();
+    commits.make_room(1)?;
+    let access = bus.complete_store(core, store.loc, store.value)?;
+    commits.note(Entry {
+        core,
+        place: store.place,
+        kind: Kind::W,
+        loc: store.loc,
+        value: store.value,
+    })?;
+    processor.stores.take_oldest();
+    Ok(access)
+}
+
+/// A locked instruction that has asked commits its load part, and keeps the bus. Answers that entry.
+fn read_first<P: Protocol>(
+    core: Core,
+    place: u8,
+    loc: Loc,
+    bus: &mut SnoopBus<P>,
+    commits: &mut Commits,
+) -> Result<(Entry, Access), NoMemory>
+    requires asked { holder_of bus.old ≡ Some (holder core loc Stage.Write) }
+
+    ensures entry { IfOk result (λ r. r.0 ≡ entry core.0 place LR loc (slice_index (words_of bus.old) loc.0)) }
+    ensures commits { OnOk result (commits.new.entries ≡ commits.old.entries ++ entry core.0 place LR loc (slice_index (words_of bus.old) loc.0) ∷ []) }
+    ensures words { words_of bus.new ≡ words_of bus.old }
+    ensures caches { IfOk result (λ r. HasUsed (completion_by (caches_of bus.old) core.0 loc.0) bus.new (CacheUse.Through r.1)) }
+    ensures held { OnOk result (holder_of bus.new ≡ Some (holder core loc Stage.Locked)) }
+
+    ensures err_bus { OnErr result (bus.new ≡ bus.old) }
+    ensures err_commits { OnErr result (commits.new.entries ≡ commits.old.entries) }
+    ensures cores { cores_of bus.new ≡ cores_of bus.old }
+{
+    commits.make_room(1)?;
+    let (value, access) = bus.complete_read(core, loc)?;
+    let entry = Entry {
+        core,
+        place,
+        kind: Kind::LR,
+        loc,
+        value,
+    };
+    commits.note(entry)?;
+    Ok((entry, access))
+}
+
+/// A locked instruction with this load part commits its store part, and frees the bus.
+///
+/// Fails only for want of memory, and then changes nothing.
+pub fn write_last<P: Protocol>(
+    parts: &mut Parts<P>,
+    test: &Test,
+    read: Entry,
+) -> Result<(Outcome, CacheUse), NoMemory>
+    requires core { chosen (Choice.Step read.core) < length test.now.programs }
+    requires fits { FitsTest test.now parts.old }
+    requires held { IsHeldAs test.now parts.old }
+    requires holder { HolderFits Bus.Split test.now parts.old.config.depth (state_in parts.old).flat (state_in parts.old).holder }
+    requires between { (state_in parts.old).holder ≡ HeldBetween read }
+
+    ensures ok { IfOk result (λ r. Performs parts.old parts.new (Choice.Step read.core) (writes_last_in test.now parts.old read) r.0) }
+    ensures caches { IfOk result (λ r. HasUsed (use_by test.now parts.old (Choice.Step read.core) (writes_last_in test.now parts.old read)) parts.new.bus r.1) }
+    ensures commits_at_once { (writes_last_in test.now parts.old read).effect.outcome ≡ Outcome.Committed }
+    ensures err_state { OnErr result (state_in parts.new ≡ state_in parts.old) }
+    ensures err_commits { OnErr result (parts.new.commits.entries ≡ parts.old.commits.entries) }
+    ensures err_bus { OnErr result (parts.new.bus ≡ parts.old.bus) }
+    ensures config { parts.new.config ≡ parts.old.config }
+    ensures counts { parts.new.counts.items ≡ parts.old.counts.items }
+    ensures fits { FitsTest test.now parts.new }
+    ensures held { IsHeldAs test.now parts.new }
+{
+    let core = read.core;
+    let processor = &mut parts.processors[core.0 as usize];
+    let instr = instruction_at(test.program(core), processor.place).unwrap();
+    let (reg, value) = written(processor, instr, read.value);
+    parts.commits.note(Entry {
+        core,
+        place: read.place,
+        kind: Kind::LW,
+        loc: read.loc,
+        value,
+    })?;
+    parts.bus.complete_write(core, read.loc, value);
+    advance(processor, reg, read.value);
+    parts.holding = Holding::Free;
+    Ok((Outcome::Committed, CacheUse::Unused))
+}
+
+/// The register of a locked instruction, and what it writes where it read this word.
+fn written(processor: &Processor, instr: Instr, word: u32) -> (Reg, u32)
+    requires { IsLocked instr }
+    ensures { WritesAs instr processor.now.registers word result.0 result.1 }
+{
+    match instr {
+        Instr::Xchg(_, reg) => (reg, processor.register(reg)),
+        Instr::Xadd(_, reg) => (reg, word.wrapping_add(processor.register(reg))),
+        _ => unreachable!(),
+    }
+}

@@ -1,0 +1,6 @@
+use Rattle.std.proofs.Common.{drop}
+use Rattle.order_builder.specs.Waiting.{IsBuiltSoFar}
+use Rattle.order_builder.proofs.building.build.Given as goal
+
+abbrev pub invariant-loop-entry : goal.invariant-loop-entry
+invariant-loop-entry l = IsBuiltSoFar l.order.items l.waiting.items (drop l.entry-index l.entry-items) l.entry-items

@@ -1,0 +1,10 @@
+use Rattle.std.proofs.Common.{◌≡◌, ◌++◌, take, drop}
+use Rattle.order_builder.specs.Waiting.{first_of, others_of}
+use Rattle.order_builder.proofs.building.take_of.Given as goal
+
+-- none of those passed is of the core
+abbrev pub invariant-loop-i : goal.invariant-loop-i
+invariant-loop-i l =
+    (first_of l.core.0 l.fn.entries.items ≡ first_of l.core.0 (drop l.i l.entries.items))
+    × (others_of l.core.0 l.fn.entries.items ≡ take l.i l.entries.items ++ others_of l.core.0 (drop l.i l.entries.items))
+    × (l.entries.items ≡ l.fn.entries.items)

@@ -1,0 +1,33 @@
+-- The run of a test under choices, on a machine of a protocol and a configuration. (Primer, chapter 4, for the two parts of
+-- a locked instruction, which stand together in the order; the rest is this project's profile.)
+use Rattle.std.specs.Prelude.{List}
+use Rattle.tso_model.specs.Litmus.{Litmus}
+use Rattle.tso_model.specs.FlatMachine.{start}
+use Rattle.tso_model.specs.Runs.{Run, run}
+use Rattle.tso_model.specs.EitherBus.{unheld, run_on, HitsFit}
+use Rattle.tso_model.specs.Together.{together}
+use Rattle.tso_model.specs.declared.bus.Bus.{Bus}
+use Rattle.tso_model.specs.declared.bus.Bus.TheVariants.{Atomic, Split}
+use Rattle.tso_model.specs.declared.choice.Choice.{Choice}
+use Rattle.protocol_tables.specs.Tables.{Table, table_of}
+use Rattle.protocol_tables.specs.declared.kind.ProtocolKind.{ProtocolKind}
+use Rattle.machine_core.specs.Answered.{answered}
+use Rattle.machine_core.specs.Configuration.{Configuration}
+
+-- on the atomic bus, the flat machine's run: neither the protocol nor the caches have a part in it. On the split bus, the
+-- split machine's run with the caches' answers whether an access hits, each locked instruction's load part put directly
+-- before its store part.
+abbrev pub run_by : Bus → Table → Configuration → Litmus → List Choice → Run
+run_by Atomic table c t choices = run t c.depth choices
+run_by Split table c t choices = together (run_on Split t c.depth (answered Split table c.shape t c.depth choices)).run
+
+abbrev pub run_under : Litmus → ProtocolKind → Configuration → List Choice → Run
+run_under t kind c choices = run_by c.bus (table_of kind) c t choices
+
+-- the answers along the run are such as caches may give: between the two parts of a locked instruction no write of another
+-- core to its location hits. On the atomic bus this is so of all answers.
+abbrev pub AnswersFitBy : Table → Configuration → Litmus → List Choice → Type 0
+AnswersFitBy table c t choices = HitsFit c.bus t c.depth (unheld (start t)) (answered c.bus table c.shape t c.depth choices)
+
+abbrev pub AnswersFit : Litmus → ProtocolKind → Configuration → List Choice → Type 0
+AnswersFit t kind c choices = AnswersFitBy (table_of kind) c t choices
