@@ -1,5 +1,6 @@
 """What the scripts that break a program's world share: the texts, running the program, and counting the answers."""
 import os
+import re
 import shlex
 import shutil
 import subprocess
@@ -7,6 +8,10 @@ import subprocess
 TESTS = os.path.dirname(os.path.abspath(__file__))
 
 ENDED, REFUSED, BAD_LINE, UNFINISHED, INVALID, FAULT = 0, 1, 2, 3, 4, 5
+
+# Where a text is refused or a run doesn't end, standard error has a hint, one line.
+HINT = re.compile(rb"hint: [ -~]{1,249}\n")
+WITH_HINT = (REFUSED, UNFINISHED)
 
 MEMORY_FAULT, DEVICE_FAULT = b"fault memory\n", b"fault device\n"
 
@@ -26,8 +31,6 @@ OWN_STORE_FIRST = (b"X86 n6\n{ }\n P0          | P1         ;\n MOV [x],$1  | MO
                    b"exists (0:EAX=1 /\\ 0:EBX=0 /\\ x=1)\n")
 LOADS_BEFORE_OWN_STORE = b"0s 0s 0s 1s 1s 1d 1d 0d\n"
 OWN_STORE_FIRST_ORDER = (b"Order\nP0:1 R x=1\nP0:2 R y=0\nP1:0 W y=2\nP1:1 W x=2\nP0:0 W x=1\nEndorder 5\n")
-
-EMPTY = b"X86 empty\n{ }\nP0 ;\n"
 
 NAMES_OF_TEST_FAULTS = ("NoHeader", "Unclosed", "BadToken", "BadInit", "BadHeaderRow", "WrongCells", "BadInstruction",
                         "BadNumber", "TwiceInit", "NoSuchCore", "TooLarge", "BadCondition", "Trailing")
@@ -87,30 +90,23 @@ def described(done):
     return "status %s, standard output %s, standard error %s" % (done.returncode, shown(done.stdout), shown(done.stderr))
 
 
-def difference(done, status, output, errors):
-    """How an answer differs from what it must be."""
+def is_told(status, errors):
+    """Whether standard error is as it is beside an answer of this status: a hint where it has one, else nothing."""
+    return HINT.fullmatch(errors) is not None if status in WITH_HINT else errors == b""
+
+
+def difference(done, status, output, errors=None):
+    """How an answer differs from what it must be; without `errors`, standard error must be as the status has it."""
     faults = []
     if done.returncode != status:
         faults.append("status %s, and not %d" % (done.returncode, status))
     if done.stdout != output:
         faults.append("standard output %s, and not %s" % (shown(done.stdout), shown(output)))
-    if done.stderr != errors:
+    if errors is None and not is_told(status, done.stderr):
+        faults.append("standard error %s" % shown(done.stderr))
+    if errors is not None and done.stderr != errors:
         faults.append("standard error %s, and not %s" % (shown(done.stderr), shown(errors)))
     return faults
-
-
-def stands(program, words):
-    """Whether the program's command line takes these words."""
-    return run(program, words, EMPTY + DIVIDER + b"Order\nEndorder 0\n").returncode != BAD_LINE
-
-
-def standing(program, lines):
-    """Those of these command lines that the program takes. The others are said: nothing is judged of them."""
-    kept = [line for line in lines if stands(program, line.split())]
-    for line in lines:
-        if line not in kept:
-            print("not judged, since the program doesn't take it: " + line)
-    return kept
 
 
 def failing_calls(room):

@@ -2,8 +2,9 @@
 use Rattle.std.proofs.Common.{◌≡◌, ◌<◌, ℕ, suc, zero, List, [], ◌∷◌, Some, slice_get, Bool, true, false, ◌==◌, ◌&&◌, ◌||◌, if◌then◌else◌, arith, ap, sym, ◌∙◌, inl, inr, subst, refl}
 use Rattle.std.proofs.lemmas.Bool.Decides.{eqb_tells}
 use Rattle.tso_model.specs.Thread.{entry}
-use Rattle.tso_model.specs.ProgramOrder.{is_read, is_write, is_read_kind, is_write_kind}
-use Rattle.tso_model.specs.Execution.{is_at, same_kind, read_value}
+use Rattle.tso_model.specs.ProgramOrder.{same_kind, is_read, is_write}
+use Rattle.axiom_checker.proofs.ByRank.{is_read_kind, is_write_kind}
+use Rattle.tso_model.specs.Execution.{is_at, read_value}
 use Rattle.tso_model.specs.declared.execution.Entry.{Entry}
 use Rattle.tso_model.specs.declared.execution.Kind.{Kind}
 use Rattle.tso_model.specs.declared.execution.Kind.TheVariants.{R, W, F, LR, LW}

@@ -1,11 +1,13 @@
 -- The entries that the programs make have slots of their own, one behind the other.
-use Rattle.std.proofs.Common.{◌≡◌, ◌<◌, ◌≤◌, ℕ, ◌+◌, ◌*◌, suc, zero, List, [], ◌∷◌, ◌++◌, length, Some, slice_get, slice_index, slice_index_or, take, drop, replicate, All, arith, refl, subst, ◌⊎◌, inl, inr, sym}
+use Rattle.std.proofs.Common.{◌≡◌, ◌<◌, ◌≤◌, ℕ, ◌+◌, ◌*◌, suc, zero, List, [], ◌∷◌, ◌++◌, length, Some, slice_get, slice_index, slice_index_or, replicate, All, arith, subst, inl, inr}
 use Rattle.tso_model.specs.Limits.{most_instructions}
-use Rattle.tso_model.specs.Thread.{entries_of, with_value, value_in, reads_in}
+use Rattle.tso_model.specs.Actions.{action_of}
+use Rattle.tso_model.specs.Thread.{entries_by, entries_of, reads_in}
 use Rattle.tso_model.specs.Litmus.{Litmus, IsProgram, IsTest}
 use Rattle.tso_model.specs.Execution.{read_values, made_from, made}
 use Rattle.tso_model.specs.declared.instruction.Instr.{Instr}
-use Rattle.tso_model.specs.declared.instruction.Instr.TheVariants.{StoreImm, StoreReg, Load, SetImm, SetReg, Fence, Xchg, Xadd}
+use Rattle.tso_model.specs.declared.action.Action.{Action}
+use Rattle.tso_model.specs.declared.action.Action.TheVariants.{Store, Load, Move, Fence, Lock}
 use Rattle.tso_model.specs.declared.execution.Entry.{Entry}
 use Rattle.axiom_checker.specs.Programs.{shape_from}
 use Rattle.axiom_checker.specs.Slots.{slot_of, Ascends, slots_of_a_core}
@@ -26,24 +28,17 @@ from_place core place = core * slots_of_a_core + (place + place)
 later : (core place n low : ℕ) (es : List Entry) → low ≤ from_place core (place + 1) → Ascends (from_place core (place + 1)) (from_place core (place + 1 + n)) es → Ascends low (from_place core (place + suc n)) es
 later core place n low es l h = ascends-within (from_place core (place + 1)) (from_place core (place + 1 + n)) low (from_place core (place + suc n)) es l (omega arith) h
 
-entries-ascend : (core place : ℕ) (program : List Instr) (registers reads : List ℕ) → Ascends (from_place core place) (from_place core (place + length program)) (entries_of core place program registers reads)
-entries-ascend core place [] registers reads = omega arith
-entries-ascend core place (StoreImm loc value ∷ rest) registers reads =
-    (omega arith, later core place (length rest) _ _ (omega arith) (entries-ascend core (place + 1) rest registers reads))
-entries-ascend core place (StoreReg loc reg ∷ rest) registers reads =
-    (omega arith, later core place (length rest) _ _ (omega arith) (entries-ascend core (place + 1) rest registers reads))
-entries-ascend core place (Load reg loc ∷ rest) registers reads =
-    (omega arith, later core place (length rest) _ _ (omega arith) (entries-ascend core (place + 1) rest (with_value registers reg (slice_index reads 0)) (drop 1 reads)))
-entries-ascend core place (SetImm reg value ∷ rest) registers reads =
-    later core place (length rest) _ _ (omega arith) (entries-ascend core (place + 1) rest (with_value registers reg value) reads)
-entries-ascend core place (SetReg reg other ∷ rest) registers reads =
-    later core place (length rest) _ _ (omega arith) (entries-ascend core (place + 1) rest (with_value registers reg (value_in registers other)) reads)
-entries-ascend core place (Fence ∷ rest) registers reads =
-    (omega arith, later core place (length rest) _ _ (omega arith) (entries-ascend core (place + 1) rest registers reads))
-entries-ascend core place (Xchg loc reg ∷ rest) registers reads =
-    (omega arith, (omega arith, later core place (length rest) _ _ (omega arith) (entries-ascend core (place + 1) rest (with_value registers reg (slice_index reads 0)) (drop 1 reads))))
-entries-ascend core place (Xadd loc reg ∷ rest) registers reads =
-    (omega arith, (omega arith, later core place (length rest) _ _ (omega arith) (entries-ascend core (place + 1) rest (with_value registers reg (slice_index reads 0)) (drop 1 reads))))
+ascend-by : (core place n : ℕ) (a : Action) (registers : List ℕ) (word : ℕ) (es : List Entry) → Ascends (from_place core (place + 1)) (from_place core (place + 1 + n)) es
+    → Ascends (from_place core place) (from_place core (place + suc n)) (entries_by core place a registers word ++ es)
+ascend-by core place n (Store loc operand) registers word es h = (omega arith, later core place n _ es (omega arith) h)
+ascend-by core place n (Load reg loc) registers word es h = (omega arith, later core place n _ es (omega arith) h)
+ascend-by core place n (Move reg operand) registers word es h = later core place n _ es (omega arith) h
+ascend-by core place n Fence registers word es h = (omega arith, later core place n _ es (omega arith) h)
+ascend-by core place n (Lock loc reg update) registers word es h = (omega arith, (omega arith, later core place n _ es (omega arith) h))
+
+entries-ascend : (core place : ℕ) (program : List Instr) (registers values : List ℕ) → Ascends (from_place core place) (from_place core (place + length program)) (entries_of core place program registers values)
+entries-ascend core place [] registers values = omega arith
+entries-ascend core place (i ∷ rest) registers values = ascend-by core place (length rest) (action_of i) registers (slice_index values 0) _ (entries-ascend core (place + 1) rest _ _)
 
 pub core-ascends : (core : ℕ) (program : List Instr) (registers reads : List ℕ) → length program ≤ most_instructions → Ascends (core * slots_of_a_core) ((core + 1) * slots_of_a_core) (entries_of core 0 program registers reads)
 core-ascends core program registers reads l =

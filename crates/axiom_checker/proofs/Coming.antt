@@ -3,17 +3,16 @@ use Rattle.std.proofs.Common.{◌≡◌, ◌<◌, ◌≤◌, ℕ, ◌+◌, ◌*�
 use Rattle.std.proofs.lemmas.Option.{slice_get_within, slice_get-get_or}
 use Rattle.std.proofs.lemmas.List.{get_or-set_same, get_or-set_other}
 use Rattle.std.specs.Option.{is_some}
-use Rattle.tso_model.specs.Litmus.{Litmus}
 use Rattle.tso_model.specs.Thread.{entry}
-use Rattle.tso_model.specs.ProgramOrder.{rank, part_of}
-use Rattle.tso_model.specs.Execution.{is_at, made}
+use Rattle.axiom_checker.specs.Ranks.{rank, part_of}
+use Rattle.tso_model.specs.Execution.{is_at}
 use Rattle.tso_model.specs.declared.execution.Entry.{Entry}
 use Rattle.axiom_checker.specs.First.{IsFirst, IsNowhere}
 use Rattle.axiom_checker.specs.Entries.{same_action, same_but_value, IsExtra, IsTwice, IsStray, IsMissing}
 use Rattle.axiom_checker.specs.Programs.{kept_in}
 use Rattle.axiom_checker.specs.Slots.{slot_of, Ascends, IsIndex, HasCome, HasNotCome, slots_of_a_core}
 use Rattle.axiom_checker.proofs.Actions.{SameAction, same-parts, same-from, same-turned, same_but_value-parts, entry-is, NoneTwice}
-use Rattle.axiom_checker.proofs.Shapes.{IsAlike, AreAlike, alike-at, all-turned}
+use Rattle.axiom_checker.proofs.Shapes.{AreAlike, alike-at, all-turned}
 use Rattle.axiom_checker.proofs.Keeps.{equal-or-not}
 use Rattle.axiom_checker.proofs.Ascending.{slots-rise, slot-within}
 

@@ -1,6 +1,6 @@
 -- The earliest entry of a list, found by going over it from the front.
-use Rattle.std.proofs.Common.{◌≡◌, ◌<◌, ◌≤◌, ℕ, ◌+◌, suc, zero, List, [], ◌∷◌, length, Option, Some, None, slice_get, slice_index_or, Bool, ◌||◌, true, false, find, arith, ap, ◌⊎◌, inl, inr, subst, refl, take, cond}
-use Rattle.std.proofs.lemmas.Option.{slice_get_within, slice_get-get_or}
+use Rattle.std.proofs.Common.{◌≡◌, ◌<◌, ◌≤◌, ℕ, ◌+◌, suc, zero, List, [], ◌∷◌, length, Option, Some, None, slice_get, Bool, ◌||◌, true, false, find, arith, ap, ◌⊎◌, inl, inr, subst, refl, take, cond}
+use Rattle.std.proofs.lemmas.Option.{slice_get_within}
 use Rattle.std.specs.List.{list_any}
 use Rattle.tso_model.specs.declared.execution.Entry.{Entry}
 use Rattle.axiom_checker.specs.First.{IsFirst, IsNowhere}

@@ -1,5 +1,5 @@
 -- Each order is a TSO execution, or has a first breach.
-use Rattle.std.proofs.Common.{◌≡◌, ◌≢◌, ◌≤◌, ℕ, ◌+◌, suc, zero, List, [], ◌∷◌, length, Option, Some, None, slice_get, take, Bool, true, false, find, arith, ◌⊎◌, inl, inr, refl}
+use Rattle.std.proofs.Common.{◌≡◌, ◌≢◌, ◌≤◌, ℕ, ◌+◌, suc, zero, List, length, Option, Some, None, slice_get, take, Bool, true, false, find, arith, ◌⊎◌, inl, inr, refl}
 use Rattle.std.specs.List.{list_any}
 use Rattle.tso_model.specs.Litmus.{Litmus}
 use Rattle.tso_model.specs.ProgramOrder.{is_read, is_write}

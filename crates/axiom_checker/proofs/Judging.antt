@@ -1,7 +1,8 @@
 -- The breach that is named of what the passes met is the first.
-use Rattle.std.proofs.Common.{◌≡◌, ◌<◌, ◌≤◌, ◌+◌, ◌*◌, ℕ, true, inl, List, length, Option, Some, None, IfSome, IsNone, slice_get, refl, sym, subst, ap, ◌∙◌, arith}
+use Rattle.std.proofs.Common.{◌≡◌, ◌<◌, ◌+◌, ◌*◌, ℕ, true, inl, List, length, Option, Some, None, IfSome, IsNone, refl, sym, subst, arith}
 use Rattle.tso_model.specs.Litmus.{Litmus, IsTest}
-use Rattle.tso_model.specs.ProgramOrder.{rank, is_write, is_write_kind}
+use Rattle.axiom_checker.specs.Ranks.{rank}
+use Rattle.axiom_checker.proofs.ByRank.{is_write_kind}
 use Rattle.tso_model.specs.Execution.{made, IsTsoExecution, IsWhole}
 use Rattle.tso_model.specs.declared.execution.Entry.{Entry}
 use Rattle.axiom_checker.specs.First.{IsFirst, IsEarliest, IsNowhere}

@@ -1,5 +1,5 @@
 -- An axiom holds of an order exactly where no entry breaks it.
-use Rattle.std.proofs.Common.{◌≡◌, ◌≢◌, ℕ, suc, zero, List, [], ◌∷◌, ◌++◌, length, Option, Some, None, slice_get, take, drop, Bool, true, false, not, ◌&&◌, arith, ap, sym, ◌∙◌, ◌⊎◌, inl, inr, subst, refl}
+use Rattle.std.proofs.Common.{◌≡◌, ◌≢◌, ℕ, suc, zero, List, [], ◌∷◌, ◌++◌, length, Option, Some, None, slice_get, take, drop, Bool, true, false, not, ◌&&◌, arith, ap, sym, ◌∙◌, ◌⊎◌, inl, inr, subst, refl, nat_lt, ◌==◌}
 use Rattle.std.proofs.lemmas.Bool.Decides.{nat_tests, eqb_tells}
 use Rattle.tso_model.specs.Litmus.{Litmus}
 use Rattle.tso_model.specs.ProgramOrder.{is_before, may_be_passed}
@@ -7,13 +7,15 @@ use Rattle.tso_model.specs.Execution.{KeepsProgramOrder, KeepsPairs, IsStorePart
 use Rattle.tso_model.specs.declared.execution.Entry.{Entry}
 use Rattle.tso_model.specs.declared.execution.Kind.{Kind}
 use Rattle.tso_model.specs.declared.execution.Kind.TheVariants.{R, W, F, LR, LW}
+use Rattle.axiom_checker.specs.Ranks.{rank}
+use Rattle.axiom_checker.proofs.ByRank.{by-rank}
 use Rattle.axiom_checker.specs.First.{IsNowhere}
 use Rattle.axiom_checker.proofs.Firsts.{three-ways}
 use Rattle.axiom_checker.specs.Axioms.{IsLate, IsParted, IsWrongRead, due_at}
 
 -- program order
 not-before-itself : (x : Entry) → is_before x x ≡ false
-not-before-itself x = grind (arith, nat_tests)
+not-before-itself x = by-rank x x ∙ (let z : ((x.core.0 == x.core.0) && nat_lt (rank x) (rank x)) ≡ false = grind (arith, nat_tests) in z)
 
 swapped-of : (a b : Bool) → a ≡ true → b ≡ false → (a && not b) ≡ true
 swapped-of a b e f = rw (e, f) refl

@@ -1,11 +1,13 @@
 -- Each write that the programs make is to a location of the test.
-use Rattle.std.proofs.Common.{◌≡◌, ◌<◌, ℕ, ◌+◌, suc, List, [], ◌∷◌, length, Some, slice_get, slice_index, slice_index_or, drop, true, false, All, arith, refl}
-use Rattle.tso_model.specs.Thread.{entry, fence, entries_of, with_value, value_in, sum_of}
+use Rattle.std.proofs.Common.{◌≡◌, ◌<◌, ℕ, ◌+◌, List, [], ◌∷◌, length, Some, IfSome, slice_get, slice_index, slice_index_or, true, false, All, refl}
+use Rattle.tso_model.specs.Actions.{action_of, location_of}
+use Rattle.tso_model.specs.Thread.{entry, fence, entries_by, entries_of}
 use Rattle.tso_model.specs.Litmus.{Litmus, KnownLocation, IsProgram, IsTest}
 use Rattle.tso_model.specs.ProgramOrder.{is_write}
 use Rattle.tso_model.specs.Execution.{read_values, made_by, made_from, made}
 use Rattle.tso_model.specs.declared.instruction.Instr.{Instr}
-use Rattle.tso_model.specs.declared.instruction.Instr.TheVariants.{StoreImm, StoreReg, Load, SetImm, SetReg, Fence, Xchg, Xadd}
+use Rattle.tso_model.specs.declared.action.Action.{Action}
+use Rattle.tso_model.specs.declared.action.Action.TheVariants.{Store, Load, Move, Fence, Lock}
 use Rattle.tso_model.specs.declared.execution.Entry.{Entry}
 use Rattle.tso_model.specs.declared.execution.Kind.TheVariants.{R, LR}
 use Rattle.axiom_checker.proofs.Slots.{Each, each-append, each-at}
@@ -18,32 +20,19 @@ WritesKnown n e = is_write e ≡ true → e.loc.0 < n
 no_write : (n : ℕ) (e : Entry) → is_write e ≡ false → WritesKnown n e
 no_write n e f h = absurd (let z : ⊥ = cc in z)
 
-entries-known : (n core place : ℕ) (program : List Instr) (registers reads : List ℕ) → All (KnownLocation n) program → Each (WritesKnown n) (entries_of core place program registers reads)
-entries-known n core place [] registers reads h = tt
-entries-known n core place (StoreImm loc value ∷ rest) registers reads h =
-    (λ _. all-first (KnownLocation n) (StoreImm loc value) rest h, entries-known n core (place + 1) rest registers reads (all-rest (KnownLocation n) _ rest h))
-entries-known n core place (StoreReg loc reg ∷ rest) registers reads h =
-    (λ _. all-first (KnownLocation n) (StoreReg loc reg) rest h, entries-known n core (place + 1) rest registers reads (all-rest (KnownLocation n) _ rest h))
-entries-known n core place (Load reg loc ∷ rest) registers reads h =
-    (no_write n (entry core place R loc (slice_index reads 0)) refl, entries-known n core (place + 1) rest (with_value registers reg (slice_index reads 0)) (drop 1 reads) (all-rest (KnownLocation n) _ rest h))
-entries-known n core place (SetImm reg value ∷ rest) registers reads h = entries-known n core (place + 1) rest (with_value registers reg value) reads (all-rest (KnownLocation n) _ rest h)
-entries-known n core place (SetReg reg other ∷ rest) registers reads h = entries-known n core (place + 1) rest (with_value registers reg (value_in registers other)) reads (all-rest (KnownLocation n) _ rest h)
-entries-known n core place (Fence ∷ rest) registers reads h =
-    (no_write n (fence core place) refl, entries-known n core (place + 1) rest registers reads (all-rest (KnownLocation n) _ rest h))
-entries-known n core place (Xchg loc reg ∷ rest) registers reads h = (
-  no_write n (entry core place LR loc (slice_index reads 0)) refl,
-  (
-    λ _. all-first (KnownLocation n) (Xchg loc reg) rest h,
-    entries-known n core (place + 1) rest (with_value registers reg (slice_index reads 0)) (drop 1 reads) (all-rest (KnownLocation n) _ rest h),
-  ),
-)
-entries-known n core place (Xadd loc reg ∷ rest) registers reads h = (
-  no_write n (entry core place LR loc (slice_index reads 0)) refl,
-  (
-    λ _. all-first (KnownLocation n) (Xadd loc reg) rest h,
-    entries-known n core (place + 1) rest (with_value registers reg (slice_index reads 0)) (drop 1 reads) (all-rest (KnownLocation n) _ rest h),
-  ),
-)
+known-by : (n core place : ℕ) (a : Action) (registers : List ℕ) (word : ℕ) → IfSome (location_of a) (λ loc. loc.0 < n) → Each (WritesKnown n) (entries_by core place a registers word)
+known-by n core place (Store loc operand) registers word l = (λ _. l, tt)
+known-by n core place (Load reg loc) registers word l = (no_write n (entry core place R loc word) refl, tt)
+known-by n core place (Move reg operand) registers word l = tt
+known-by n core place Fence registers word l = (no_write n (fence core place) refl, tt)
+known-by n core place (Lock loc reg update) registers word l = (no_write n (entry core place LR loc word) refl, (λ _. l, tt))
+
+entries-known : (n core place : ℕ) (program : List Instr) (registers values : List ℕ) → All (KnownLocation n) program → Each (WritesKnown n) (entries_of core place program registers values)
+entries-known n core place [] registers values h = tt
+entries-known n core place (i ∷ rest) registers values h =
+    each-append (WritesKnown n) (entries_by core place (action_of i) registers (slice_index values 0)) _
+    (known-by n core place (action_of i) registers (slice_index values 0) (all-first (KnownLocation n) i rest h))
+    (entries-known n core (place + 1) rest _ _ (all-rest (KnownLocation n) i rest h))
 
 made_from-known : (n core : ℕ) (programs : List (List Instr)) (registers : List (List ℕ)) (order : List Entry) → All (IsProgram n) programs → Each (WritesKnown n) (made_from core programs registers order)
 made_from-known n core [] registers order h = tt

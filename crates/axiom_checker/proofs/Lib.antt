@@ -1,3 +1,4 @@
+pub mod ByRank
 pub mod Firsts
 pub mod Finds
 pub mod Slots
@@ -15,6 +16,8 @@ pub mod Shapes
 pub mod Coming
 pub mod Reading
 pub mod Marking
+pub mod Sooner
+pub mod OwnWrites
 pub mod Following
 pub mod Meeting
 pub mod Judging

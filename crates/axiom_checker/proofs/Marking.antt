@@ -1,12 +1,14 @@
 -- How far each core has come in the front of an order, and which entries come late.
-use Rattle.std.proofs.Common.{◌≡◌, ◌<◌, ◌≤◌, ℕ, ◌+◌, suc, zero, max, List, [], ◌∷◌, ◌++◌, length, Option, Some, None, slice_get, slice_index, slice_set, take, filter, Bool, true, false, not, ◌&&◌, ◌==◌, nat_lt, cond, if◌then◌else◌, arith, ap, sym, ◌∙◌, ◌⊎◌, inl, inr, subst, refl}
+use Rattle.std.proofs.Common.{◌≡◌, ◌<◌, ◌≤◌, ℕ, ◌+◌, suc, zero, max, List, [], ◌∷◌, ◌++◌, length, Some, slice_get, slice_index, slice_set, take, filter, Bool, true, false, not, ◌&&◌, ◌==◌, nat_lt, cond, if◌then◌else◌, arith, ap, sym, ◌∙◌, ◌⊎◌, inl, inr, subst, refl}
 use Rattle.std.proofs.lemmas.List.{get_or-set_same, get_or-set_other}
 use Rattle.std.proofs.lemmas.Bool.{lt-ltb, ltb-true, ltb-false}
 use Rattle.std.proofs.lemmas.Bool.Decides.{eqb_tells}
-use Rattle.tso_model.specs.ProgramOrder.{rank, is_before, may_be_passed, is_load, is_store, is_write, writes_to}
+use Rattle.tso_model.specs.ProgramOrder.{is_before, may_be_passed, is_load, is_store, is_write, writes_to}
+use Rattle.axiom_checker.proofs.ByRank.{by-rank}
+use Rattle.axiom_checker.specs.Ranks.{rank}
 use Rattle.tso_model.specs.Execution.{last_value}
 use Rattle.tso_model.specs.declared.execution.Entry.{Entry}
-use Rattle.axiom_checker.specs.Axioms.{must_stand_before, Overtakes, IsLate}
+use Rattle.axiom_checker.specs.Axioms.{must_stand_before, IsLate}
 use Rattle.axiom_checker.specs.Progress.{reached, settled, written, is_late}
 use Rattle.axiom_checker.proofs.Keeps.{equal-or-not}
 use Rattle.axiom_checker.proofs.Coming.{true-or-false, some-is}
@@ -155,13 +157,13 @@ of-kept false l h = refl
 pub must-parts : (x e : Entry) → must_stand_before x e ≡ true → MustStand x e
 must-parts x e h =
     let p = and-parts (is_before x e) (not (may_be_passed x e)) h in
-    let q = and-parts (x.core.0 == e.core.0) (nat_lt (rank x) (rank e)) p.0 in
+    let q = and-parts (x.core.0 == e.core.0) (nat_lt (rank x) (rank e)) (sym (by-rank x e) ∙ p.0) in
     record { core = test-is x.core.0 e.core.0 q.0; sooner = ltb-true (rank x) (rank e) q.1; kept = kept-of (is_store x) (is_load e) p.1 }
 
 pub must-from : (x e : Entry) → MustStand x e → must_stand_before x e ≡ true
 must-from x e m =
     and-both (is_before x e) (not (may_be_passed x e))
-    (and-both (x.core.0 == e.core.0) (nat_lt (rank x) (rank e)) (test-same x.core.0 e.core.0 m.core) (lt-ltb (rank x) (rank e) m.sooner))
+    (by-rank x e ∙ and-both (x.core.0 == e.core.0) (nat_lt (rank x) (rank e)) (test-same x.core.0 e.core.0 m.core) (lt-ltb (rank x) (rank e) m.sooner))
     (of-kept (is_store x) (is_load e) m.kept)
 
 late-by : (order : List Entry) (at : ℕ) (counts : Entry → Bool) (m : ℕ) (x : Entry) → IsMark order at counts m

@@ -1,5 +1,5 @@
 -- What the second pass has met among the entries so far.
-use Rattle.std.proofs.Common.{◌≡◌, ◌≢◌, ◌<◌, ◌≤◌, ℕ, ◌+◌, suc, zero, List, [], ◌∷◌, length, Option, Some, None, IfSome, IsNone, if◌then◌else◌, slice_get, slice_index, take, filter, Bool, true, false, arith, ap, sym, ◌∙◌, ◌⊎◌, inl, inr, subst, refl}
+use Rattle.std.proofs.Common.{◌≡◌, ◌≢◌, ◌<◌, ◌≤◌, ℕ, ◌+◌, suc, List, length, Option, Some, None, IfSome, IsNone, if◌then◌else◌, slice_get, slice_index, take, filter, Bool, true, false, arith, ap, sym, ◌∙◌, ◌⊎◌, inl, inr, subst, refl}
 use Rattle.std.specs.Option.{unwrap_or}
 use Rattle.std.proofs.lemmas.Option.{slice_get-get_or}
 use Rattle.std.proofs.lemmas.Bool.Decides.{leb_tells}
@@ -8,7 +8,7 @@ use Rattle.tso_model.specs.ProgramOrder.{is_read, writes_to}
 use Rattle.tso_model.specs.Execution.{made, IsWhole, KeepsProgramOrder, IsStorePart, last_value}
 use Rattle.tso_model.specs.declared.execution.Entry.{Entry}
 use Rattle.tso_model.specs.declared.execution.Kind.TheVariants.{LR, LW}
-use Rattle.axiom_checker.specs.First.{IsFirst, IsEarliest, IsNowhere}
+use Rattle.axiom_checker.specs.First.{IsFirst, IsEarliest}
 use Rattle.axiom_checker.specs.Entries.{IsWrongWrite, written_value}
 use Rattle.axiom_checker.specs.Axioms.{IsLate, IsParted, IsWrongRead, due_at}
 use Rattle.axiom_checker.specs.Progress.{is_late}

@@ -1,13 +1,15 @@
 -- Each read that the programs make has the value that the order itself gives it.
-use Rattle.std.proofs.Common.{◌≡◌, ℕ, ◌+◌, List, [], ◌∷◌, slice_index_or, true, false, refl}
-use Rattle.tso_model.specs.Thread.{entry, fence, entries_of, with_value, value_in, sum_of}
+use Rattle.std.proofs.Common.{◌≡◌, ℕ, ◌+◌, List, [], ◌∷◌, ◌++◌, slice_index, slice_index_or, true, false, refl}
+use Rattle.tso_model.specs.Actions.{action_of}
+use Rattle.tso_model.specs.Thread.{entry, fence, entries_by, registers_by, values_after, entries_of, value_in, value_of, updated}
 use Rattle.tso_model.specs.Litmus.{Litmus}
 use Rattle.tso_model.specs.ProgramOrder.{is_read}
-use Rattle.tso_model.specs.Execution.{read_value, read_values, made_by, made_from, made}
+use Rattle.tso_model.specs.Execution.{read_value, values_by, read_values, made_by, made_from, made}
 use Rattle.tso_model.specs.declared.instruction.Instr.{Instr}
-use Rattle.tso_model.specs.declared.instruction.Instr.TheVariants.{StoreImm, StoreReg, Load, SetImm, SetReg, Fence, Xchg, Xadd}
+use Rattle.tso_model.specs.declared.action.Action.{Action}
+use Rattle.tso_model.specs.declared.action.Action.TheVariants.{Store, Load, Move, Fence, Lock}
 use Rattle.tso_model.specs.declared.execution.Entry.{Entry}
-use Rattle.tso_model.specs.declared.execution.Kind.TheVariants.{R, W, LR, LW}
+use Rattle.tso_model.specs.declared.execution.Kind.TheVariants.{W, LR, LW}
 use Rattle.axiom_checker.proofs.Slots.{Each, each-append}
 
 abbrev pub ReadsOwn : List Entry → Entry → Type 0
@@ -16,32 +18,20 @@ ReadsOwn order e = is_read e ≡ true → e.value ≡ read_value e.core.0 e.plac
 no_read : (order : List Entry) (e : Entry) → is_read e ≡ false → ReadsOwn order e
 no_read order e n h = absurd (let z : ⊥ = cc in z)
 
+read-by : (core place : ℕ) (a : Action) (rest : List Instr) (registers values : List ℕ) (order : List Entry) → ((next : List ℕ) → Each (ReadsOwn order) (entries_of core (place + 1) rest next values))
+    → Each (ReadsOwn order) (entries_by core place a registers (slice_index (values_by core place a order ++ values) 0)
+    ++ entries_of core (place + 1) rest (registers_by a registers (slice_index (values_by core place a order ++ values) 0)) (values_after a (values_by core place a order ++ values)))
+read-by core place (Store loc operand) rest registers values order h = (no_read order (entry core place W loc (value_of registers operand)) refl, h _)
+read-by core place (Load reg loc) rest registers values order h = (λ _. refl, h _)
+read-by core place (Move reg operand) rest registers values order h = h _
+read-by core place Fence rest registers values order h = (no_read order (fence core place) refl, h _)
+read-by core place (Lock loc reg update) rest registers values order h =
+    (λ _. refl, (no_read order (entry core place LW loc (updated update (read_value core place LR order) (value_in registers reg))) refl, h _))
+
 entries-read : (core place : ℕ) (program : List Instr) (registers : List ℕ) (order : List Entry) → Each (ReadsOwn order) (entries_of core place program registers (read_values core place program order))
 entries-read core place [] registers order = tt
-entries-read core place (StoreImm loc value ∷ rest) registers order =
-    (no_read order (entry core place W loc value) refl, entries-read core (place + 1) rest registers order)
-entries-read core place (StoreReg loc reg ∷ rest) registers order =
-    (no_read order (entry core place W loc (value_in registers reg)) refl, entries-read core (place + 1) rest registers order)
-entries-read core place (Load reg loc ∷ rest) registers order =
-    (λ _. refl, entries-read core (place + 1) rest (with_value registers reg (read_value core place R order)) order)
-entries-read core place (SetImm reg value ∷ rest) registers order = entries-read core (place + 1) rest (with_value registers reg value) order
-entries-read core place (SetReg reg other ∷ rest) registers order = entries-read core (place + 1) rest (with_value registers reg (value_in registers other)) order
-entries-read core place (Fence ∷ rest) registers order =
-    (no_read order (fence core place) refl, entries-read core (place + 1) rest registers order)
-entries-read core place (Xchg loc reg ∷ rest) registers order = (
-  λ _. refl,
-  (
-    no_read order (entry core place LW loc (value_in registers reg)) refl,
-    entries-read core (place + 1) rest (with_value registers reg (read_value core place LR order)) order,
-  ),
-)
-entries-read core place (Xadd loc reg ∷ rest) registers order = (
-  λ _. refl,
-  (
-    no_read order (entry core place LW loc (sum_of (read_value core place LR order) (value_in registers reg))) refl,
-    entries-read core (place + 1) rest (with_value registers reg (read_value core place LR order)) order,
-  ),
-)
+entries-read core place (i ∷ rest) registers order =
+    read-by core place (action_of i) rest registers (read_values core (place + 1) rest order) order (λ next. entries-read core (place + 1) rest next order)
 
 made_from-read : (core : ℕ) (programs : List (List Instr)) (registers : List (List ℕ)) (order : List Entry) → Each (ReadsOwn order) (made_from core programs registers order)
 made_from-read core [] registers order = tt

@@ -1,15 +1,16 @@
 -- The values with which the reads came are the order's own read values, and with them the programs make what they make.
-use Rattle.std.proofs.Common.{◌≡◌, ◌≤◌, ℕ, ◌+◌, suc, zero, List, [], ◌∷◌, ◌++◌, length, Option, Some, None, slice_get, slice_index, slice_index_or, take, drop, replicate, Bool, true, false, if◌then◌else◌, arith, ap, sym, ◌∙◌, refl, subst, inl, inr, length-append}
+use Rattle.std.proofs.Common.{◌≡◌, ◌≤◌, ℕ, ◌+◌, suc, List, [], ◌∷◌, ◌++◌, length, Option, Some, slice_get, slice_index, slice_index_or, take, drop, replicate, Bool, true, false, if◌then◌else◌, arith, ap, sym, ◌∙◌, refl, subst, inl, inr, length-append}
 use Rattle.std.specs.Option.{unwrap_or}
 use Rattle.std.proofs.Math.Seq.{take-append_seam}
-use Rattle.tso_model.specs.Thread.{entries_of, with_value, value_in, reads_in}
+use Rattle.tso_model.specs.Actions.{action_of}
+use Rattle.tso_model.specs.Thread.{entries_by, is_reading, entries_of, reads_in}
 use Rattle.tso_model.specs.Litmus.{Litmus}
 use Rattle.tso_model.specs.ProgramOrder.{is_read}
-use Rattle.tso_model.specs.Execution.{read_value, read_values, made_from, made}
+use Rattle.tso_model.specs.Execution.{read_value, values_by, read_values, made_from, made}
 use Rattle.tso_model.specs.declared.instruction.Instr.{Instr}
-use Rattle.tso_model.specs.declared.instruction.Instr.TheVariants.{StoreImm, StoreReg, Load, SetImm, SetReg, Fence, Xchg, Xadd}
+use Rattle.tso_model.specs.declared.action.Action.{Action}
+use Rattle.tso_model.specs.declared.action.Action.TheVariants.{Store, Load, Move, Fence, Lock}
 use Rattle.tso_model.specs.declared.execution.Entry.{Entry}
-use Rattle.tso_model.specs.declared.execution.Kind.TheVariants.{R, LR}
 use Rattle.axiom_checker.specs.First.{IsNowhere}
 use Rattle.axiom_checker.specs.Entries.{IsStray}
 use Rattle.axiom_checker.specs.Programs.{shape_from, reads_of_all, made_reading, kept_in, reads_that_came}
@@ -43,19 +44,18 @@ came-by order came i (e ∷ es) h =
     (λ _. ap (λ n. unwrap_or (kept_in came n) 0) (let q : i ≡ i + 0 = omega arith in q) ∙ h 0 e refl)
     (came-by order came (i + 1) es (λ k x f. ap (λ n. unwrap_or (kept_in came n) 0) (let q : i + 1 + k ≡ i + suc k = omega arith in q) ∙ h (suc k) x f))
 
-entries-reads : (core place : ℕ) (program : List Instr) (registers reads : List ℕ) (order : List Entry) → reads_by (own_value order) (entries_of core place program registers reads) ≡ read_values core place program order
-entries-reads core place [] registers reads order = refl
-entries-reads core place (StoreImm loc value ∷ rest) registers reads order = entries-reads core (place + 1) rest registers reads order
-entries-reads core place (StoreReg loc reg ∷ rest) registers reads order = entries-reads core (place + 1) rest registers reads order
-entries-reads core place (Load reg loc ∷ rest) registers reads order =
-    ap (λ z. read_value core place R order ∷ z) (entries-reads core (place + 1) rest (with_value registers reg (slice_index reads 0)) (drop 1 reads) order)
-entries-reads core place (SetImm reg value ∷ rest) registers reads order = entries-reads core (place + 1) rest (with_value registers reg value) reads order
-entries-reads core place (SetReg reg other ∷ rest) registers reads order = entries-reads core (place + 1) rest (with_value registers reg (value_in registers other)) reads order
-entries-reads core place (Fence ∷ rest) registers reads order = entries-reads core (place + 1) rest registers reads order
-entries-reads core place (Xchg loc reg ∷ rest) registers reads order =
-    ap (λ z. read_value core place LR order ∷ z) (entries-reads core (place + 1) rest (with_value registers reg (slice_index reads 0)) (drop 1 reads) order)
-entries-reads core place (Xadd loc reg ∷ rest) registers reads order =
-    ap (λ z. read_value core place LR order ∷ z) (entries-reads core (place + 1) rest (with_value registers reg (slice_index reads 0)) (drop 1 reads) order)
+reads-first : (core place : ℕ) (a : Action) (registers : List ℕ) (word : ℕ) (es : List Entry) (order : List Entry)
+    → reads_by (own_value order) (entries_by core place a registers word ++ es) ≡ values_by core place a order ++ reads_by (own_value order) es
+reads-first core place (Store loc operand) registers word es order = refl
+reads-first core place (Load reg loc) registers word es order = refl
+reads-first core place (Move reg operand) registers word es order = refl
+reads-first core place Fence registers word es order = refl
+reads-first core place (Lock loc reg update) registers word es order = refl
+
+entries-reads : (core place : ℕ) (program : List Instr) (registers values : List ℕ) (order : List Entry) → reads_by (own_value order) (entries_of core place program registers values) ≡ read_values core place program order
+entries-reads core place [] registers values order = refl
+entries-reads core place (i ∷ rest) registers values order =
+    reads-first core place (action_of i) registers (slice_index values 0) _ order ∙ ap (λ z. values_by core place (action_of i) order ++ z) (entries-reads core (place + 1) rest _ _ order)
 
 if-append : (b : Bool) (x : ℕ) (xs ys : List ℕ) → (if b then x ∷ (xs ++ ys) else (xs ++ ys)) ≡ (if b then x ∷ xs else xs) ++ ys
 if-append true x xs ys = refl
@@ -73,16 +73,16 @@ shape-reads core (p ∷ ps) registers order =
     ∙ ap (λ z. z ++ reads_by (own_value order) (shape_from (core + 1) ps registers)) (entries-reads core 0 p (slice_index_or registers core []) (replicate (reads_in p) 0) order)
     ∙ ap (λ z. read_values core 0 p order ++ z) (shape-reads (core + 1) ps registers order)
 
+count-first : (core place : ℕ) (a : Action) (values : List ℕ) (order : List Entry) (n : ℕ) → length values ≡ n → length (values_by core place a order ++ values) ≡ (if is_reading a then suc n else n)
+count-first core place (Store loc operand) values order n h = h
+count-first core place (Load reg loc) values order n h = ap suc h
+count-first core place (Move reg operand) values order n h = h
+count-first core place Fence values order n h = h
+count-first core place (Lock loc reg update) values order n h = ap suc h
+
 reads-count : (core place : ℕ) (program : List Instr) (order : List Entry) → length (read_values core place program order) ≡ reads_in program
 reads-count core place [] order = refl
-reads-count core place (StoreImm loc value ∷ rest) order = reads-count core (place + 1) rest order
-reads-count core place (StoreReg loc reg ∷ rest) order = reads-count core (place + 1) rest order
-reads-count core place (Load reg loc ∷ rest) order = ap suc (reads-count core (place + 1) rest order)
-reads-count core place (SetImm reg value ∷ rest) order = reads-count core (place + 1) rest order
-reads-count core place (SetReg reg other ∷ rest) order = reads-count core (place + 1) rest order
-reads-count core place (Fence ∷ rest) order = reads-count core (place + 1) rest order
-reads-count core place (Xchg loc reg ∷ rest) order = ap suc (reads-count core (place + 1) rest order)
-reads-count core place (Xadd loc reg ∷ rest) order = ap suc (reads-count core (place + 1) rest order)
+reads-count core place (i ∷ rest) order = count-first core place (action_of i) (read_values core (place + 1) rest order) order (reads_in rest) (reads-count core (place + 1) rest order)
 
 drop-seam : (xs ys : List ℕ) → drop (length xs) (xs ++ ys) ≡ ys
 drop-seam [] ys = refl

@@ -1,12 +1,15 @@
 -- What the programs make has one shape, whatever their reads return: only values differ.
-use Rattle.std.proofs.Common.{◌≡◌, ℕ, ◌+◌, suc, zero, List, [], ◌∷◌, ◌++◌, Some, slice_get, slice_index, slice_index_or, drop, replicate, Bool, true, false, ◌==◌, ◌&&◌, ◌||◌, ap, sym, ◌∙◌, refl, subst, inl, inr}
-use Rattle.tso_model.specs.Thread.{entry, entries_of, with_value, value_in, sum_of, reads_in}
+use Rattle.std.proofs.Common.{◌≡◌, ℕ, ◌+◌, suc, zero, List, [], ◌∷◌, ◌++◌, Some, slice_get, slice_index, slice_index_or, replicate, Bool, true, false, ◌==◌, ◌&&◌, ◌||◌, ap, sym, ◌∙◌, refl, subst}
+use Rattle.tso_model.specs.Actions.{action_of}
+use Rattle.tso_model.specs.Thread.{entry, entries_by, entries_of, reads_in}
 use Rattle.tso_model.specs.Litmus.{Litmus}
-use Rattle.tso_model.specs.ProgramOrder.{is_read_kind, is_write_kind, is_read, is_write}
-use Rattle.tso_model.specs.Execution.{read_values, made_from, made, same_kind}
+use Rattle.tso_model.specs.ProgramOrder.{same_kind, is_read, is_write}
+use Rattle.axiom_checker.proofs.ByRank.{is_read_kind, is_write_kind}
+use Rattle.tso_model.specs.Execution.{read_values, made_from, made}
 use Rattle.tso_model.specs.declared.instruction.Loc.{Loc}
 use Rattle.tso_model.specs.declared.instruction.Instr.{Instr}
-use Rattle.tso_model.specs.declared.instruction.Instr.TheVariants.{StoreImm, StoreReg, Load, SetImm, SetReg, Fence, Xchg, Xadd}
+use Rattle.tso_model.specs.declared.action.Action.{Action}
+use Rattle.tso_model.specs.declared.action.Action.TheVariants.{Store, Load, Move, Fence, Lock}
 use Rattle.tso_model.specs.declared.execution.Entry.{Entry}
 use Rattle.tso_model.specs.declared.execution.Kind.{Kind}
 use Rattle.tso_model.specs.declared.execution.Kind.TheVariants.{R, W, F, LR, LW}
@@ -77,23 +80,17 @@ no F b f e = let g : same_kind F F ≡ false = subst (λ z. same_kind F z ≡ fa
 no LR b f e = let g : same_kind LR LR ≡ false = subst (λ z. same_kind LR z ≡ false) (sym e) f in let z : ⊥ = cc in z
 no LW b f e = let g : same_kind LW LW ≡ false = subst (λ z. same_kind LW z ≡ false) (sym e) f in let z : ⊥ = cc in z
 
+alike-by : (core place : ℕ) (a : Action) (r s : List ℕ) (v w : ℕ) → AreAlike (entries_by core place a r v) (entries_by core place a s w)
+alike-by core place (Store loc operand) r s v w = (alike core place W loc _ _ (no W F refl), tt)
+alike-by core place (Load reg loc) r s v w = (alike core place R loc _ _ (no R F refl), tt)
+alike-by core place (Move reg operand) r s v w = tt
+alike-by core place Fence r s v w = (alike-itself _, tt)
+alike-by core place (Lock loc reg update) r s v w = (alike core place LR loc _ _ (no LR F refl), (alike core place LW loc _ _ (no LW F refl), tt))
+
 entries-alike : (core place : ℕ) (program : List Instr) (r s v w : List ℕ) → AreAlike (entries_of core place program r v) (entries_of core place program s w)
 entries-alike core place [] r s v w = tt
-entries-alike core place (StoreImm loc value ∷ rest) r s v w = (alike-itself _, entries-alike core (place + 1) rest r s v w)
-entries-alike core place (StoreReg loc reg ∷ rest) r s v w = (alike core place W loc _ _ (no W F refl), entries-alike core (place + 1) rest r s v w)
-entries-alike core place (Load reg loc ∷ rest) r s v w =
-    (alike core place R loc _ _ (no R F refl), entries-alike core (place + 1) rest (with_value r reg (slice_index v 0)) (with_value s reg (slice_index w 0)) (drop 1 v) (drop 1 w))
-entries-alike core place (SetImm reg value ∷ rest) r s v w = entries-alike core (place + 1) rest (with_value r reg value) (with_value s reg value) v w
-entries-alike core place (SetReg reg other ∷ rest) r s v w = entries-alike core (place + 1) rest (with_value r reg (value_in r other)) (with_value s reg (value_in s other)) v w
-entries-alike core place (Fence ∷ rest) r s v w = (alike-itself _, entries-alike core (place + 1) rest r s v w)
-entries-alike core place (Xchg loc reg ∷ rest) r s v w = (
-  alike core place LR loc _ _ (no LR F refl),
-  (alike core place LW loc _ _ (no LW F refl), entries-alike core (place + 1) rest (with_value r reg (slice_index v 0)) (with_value s reg (slice_index w 0)) (drop 1 v) (drop 1 w)),
-)
-entries-alike core place (Xadd loc reg ∷ rest) r s v w = (
-  alike core place LR loc _ _ (no LR F refl),
-  (alike core place LW loc _ _ (no LW F refl), entries-alike core (place + 1) rest (with_value r reg (slice_index v 0)) (with_value s reg (slice_index w 0)) (drop 1 v) (drop 1 w)),
-)
+entries-alike core place (i ∷ rest) r s v w =
+    alike-append (entries_by core place (action_of i) r (slice_index v 0)) (entries_by core place (action_of i) s (slice_index w 0)) _ _ (alike-by core place (action_of i) r s (slice_index v 0) (slice_index w 0)) (entries-alike core (place + 1) rest _ _ _ _)
 
 shape_from-alike : (core : ℕ) (programs : List (List Instr)) (registers : List (List ℕ)) (order : List Entry) → AreAlike (shape_from core programs registers) (made_from core programs registers order)
 shape_from-alike core [] registers order = tt

@@ -1,11 +1,14 @@
 -- No two entries that the programs make are of one core, place and kind.
-use Rattle.std.proofs.Common.{◌≡◌, ◌<◌, ◌≤◌, ℕ, ◌+◌, suc, zero, List, [], ◌∷◌, ◌++◌, Some, slice_get, slice_index, slice_index_or, drop, Bool, true, false, ◌==◌, ◌&&◌, arith, subst, refl}
+use Rattle.std.proofs.Common.{◌≡◌, ◌<◌, ◌≤◌, ℕ, ◌+◌, suc, zero, List, [], ◌∷◌, ◌++◌, Some, slice_get, slice_index, slice_index_or, Bool, true, false, ◌==◌, ◌&&◌, arith, subst, refl}
 use Rattle.std.proofs.lemmas.Bool.Decides.{nat_tests}
-use Rattle.tso_model.specs.Thread.{entry, fence, entries_of, with_value, value_in, sum_of}
+use Rattle.tso_model.specs.ProgramOrder.{same_kind}
+use Rattle.tso_model.specs.Actions.{action_of}
+use Rattle.tso_model.specs.Thread.{entry, fence, entries_by, entries_of, value_in, value_of, updated}
 use Rattle.tso_model.specs.Litmus.{Litmus}
-use Rattle.tso_model.specs.Execution.{same_kind, read_values, made_by, made_from, made}
+use Rattle.tso_model.specs.Execution.{read_values, made_by, made_from, made}
 use Rattle.tso_model.specs.declared.instruction.Instr.{Instr}
-use Rattle.tso_model.specs.declared.instruction.Instr.TheVariants.{StoreImm, StoreReg, Load, SetImm, SetReg, Fence, Xchg, Xadd}
+use Rattle.tso_model.specs.declared.action.Action.{Action}
+use Rattle.tso_model.specs.declared.action.Action.TheVariants.{Store, Load, Move, Fence, Lock}
 use Rattle.tso_model.specs.declared.execution.Entry.{Entry}
 use Rattle.tso_model.specs.declared.execution.Kind.TheVariants.{R, W, LR, LW}
 use Rattle.axiom_checker.specs.Entries.{same_action}
@@ -50,24 +53,18 @@ from-here core place e c p = record { same = c; on = omega arith }
 all-from : (core place : ℕ) (xs : List Entry) → Each (IsFrom core (place + 1)) xs → Each (IsFrom core place) xs
 all-from core place xs h = each-map (IsFrom core (place + 1)) (IsFrom core place) xs (from-later core place) h
 
-pub entries-from : (core place : ℕ) (program : List Instr) (registers reads : List ℕ) → Each (IsFrom core place) (entries_of core place program registers reads)
-entries-from core place [] registers reads = tt
-entries-from core place (StoreImm loc value ∷ rest) registers reads =
-    (from-here core place _ refl refl, all-from core place _ (entries-from core (place + 1) rest registers reads))
-entries-from core place (StoreReg loc reg ∷ rest) registers reads =
-    (from-here core place _ refl refl, all-from core place _ (entries-from core (place + 1) rest registers reads))
-entries-from core place (Load reg loc ∷ rest) registers reads =
-    (from-here core place _ refl refl, all-from core place _ (entries-from core (place + 1) rest (with_value registers reg (slice_index reads 0)) (drop 1 reads)))
-entries-from core place (SetImm reg value ∷ rest) registers reads =
-    all-from core place _ (entries-from core (place + 1) rest (with_value registers reg value) reads)
-entries-from core place (SetReg reg other ∷ rest) registers reads =
-    all-from core place _ (entries-from core (place + 1) rest (with_value registers reg (value_in registers other)) reads)
-entries-from core place (Fence ∷ rest) registers reads =
-    (from-here core place _ refl refl, all-from core place _ (entries-from core (place + 1) rest registers reads))
-entries-from core place (Xchg loc reg ∷ rest) registers reads =
-    (from-here core place _ refl refl, (from-here core place _ refl refl, all-from core place _ (entries-from core (place + 1) rest (with_value registers reg (slice_index reads 0)) (drop 1 reads))))
-entries-from core place (Xadd loc reg ∷ rest) registers reads =
-    (from-here core place _ refl refl, (from-here core place _ refl refl, all-from core place _ (entries-from core (place + 1) rest (with_value registers reg (slice_index reads 0)) (drop 1 reads))))
+from-by : (core place : ℕ) (a : Action) (registers : List ℕ) (word : ℕ) → Each (IsFrom core place) (entries_by core place a registers word)
+from-by core place (Store loc operand) registers word = (from-here core place _ refl refl, tt)
+from-by core place (Load reg loc) registers word = (from-here core place _ refl refl, tt)
+from-by core place (Move reg operand) registers word = tt
+from-by core place Fence registers word = (from-here core place _ refl refl, tt)
+from-by core place (Lock loc reg update) registers word = (from-here core place _ refl refl, (from-here core place _ refl refl, tt))
+
+pub entries-from : (core place : ℕ) (program : List Instr) (registers values : List ℕ) → Each (IsFrom core place) (entries_of core place program registers values)
+entries-from core place [] registers values = tt
+entries-from core place (i ∷ rest) registers values =
+    each-append (IsFrom core place) (entries_by core place (action_of i) registers (slice_index values 0)) _ (from-by core place (action_of i) registers (slice_index values 0))
+    (all-from core place _ (entries-from core (place + 1) rest _ _))
 
 -- an entry of this place, and one behind it in the program
 apart-later : (core place : ℕ) (x y : Entry) → x.place ≡ place → IsFrom core (place + 1) y → same_action x y ≡ false
@@ -92,32 +89,20 @@ parts-apart x y r w = rw (r, w) (both-false (y.core.0 == x.core.0) (y.place == x
     both-false false true = refl
     both-false false false = refl
 
-entries-apart : (core place : ℕ) (program : List Instr) (registers reads : List ℕ) → AllApart (entries_of core place program registers reads)
-entries-apart core place [] registers reads = tt
-entries-apart core place (StoreImm loc value ∷ rest) registers reads =
-    (all-apart-later core place (entry core place W loc value) _ refl (entries-from core (place + 1) rest registers reads), entries-apart core (place + 1) rest registers reads)
-entries-apart core place (StoreReg loc reg ∷ rest) registers reads =
-    (all-apart-later core place (entry core place W loc (value_in registers reg)) _ refl (entries-from core (place + 1) rest registers reads), entries-apart core (place + 1) rest registers reads)
-entries-apart core place (Load reg loc ∷ rest) registers reads =
-    (all-apart-later core place (entry core place R loc (slice_index reads 0)) _ refl (entries-from core (place + 1) rest (with_value registers reg (slice_index reads 0)) (drop 1 reads)), entries-apart core (place + 1) rest (with_value registers reg (slice_index reads 0)) (drop 1 reads))
-entries-apart core place (SetImm reg value ∷ rest) registers reads = entries-apart core (place + 1) rest (with_value registers reg value) reads
-entries-apart core place (SetReg reg other ∷ rest) registers reads = entries-apart core (place + 1) rest (with_value registers reg (value_in registers other)) reads
-entries-apart core place (Fence ∷ rest) registers reads =
-    (all-apart-later core place (fence core place) _ refl (entries-from core (place + 1) rest registers reads), entries-apart core (place + 1) rest registers reads)
-entries-apart core place (Xchg loc reg ∷ rest) registers reads =
-    let from = entries-from core (place + 1) rest (with_value registers reg (slice_index reads 0)) (drop 1 reads) in
-    let load = entry core place LR loc (slice_index reads 0) in
-    let store = entry core place LW loc (value_in registers reg) in (
-      (parts-apart load store refl refl, all-apart-later core place load _ refl from),
-      (all-apart-later core place store _ refl from, entries-apart core (place + 1) rest (with_value registers reg (slice_index reads 0)) (drop 1 reads)),
-    )
-entries-apart core place (Xadd loc reg ∷ rest) registers reads =
-    let from = entries-from core (place + 1) rest (with_value registers reg (slice_index reads 0)) (drop 1 reads) in
-    let load = entry core place LR loc (slice_index reads 0) in
-    let store = entry core place LW loc (sum_of (slice_index reads 0) (value_in registers reg)) in (
-      (parts-apart load store refl refl, all-apart-later core place load _ refl from),
-      (all-apart-later core place store _ refl from, entries-apart core (place + 1) rest (with_value registers reg (slice_index reads 0)) (drop 1 reads)),
-    )
+apart-by : (core place : ℕ) (a : Action) (registers : List ℕ) (word : ℕ) (es : List Entry) → Each (IsFrom core (place + 1)) es → AllApart es → AllApart (entries_by core place a registers word ++ es)
+apart-by core place (Store loc operand) registers word es from h = (all-apart-later core place (entry core place W loc (value_of registers operand)) es refl from, h)
+apart-by core place (Load reg loc) registers word es from h = (all-apart-later core place (entry core place R loc word) es refl from, h)
+apart-by core place (Move reg operand) registers word es from h = h
+apart-by core place Fence registers word es from h = (all-apart-later core place (fence core place) es refl from, h)
+apart-by core place (Lock loc reg update) registers word es from h =
+    let load = entry core place LR loc word in
+    let store = entry core place LW loc (updated update word (value_in registers reg)) in
+    ((parts-apart load store refl refl, all-apart-later core place load es refl from), (all-apart-later core place store es refl from, h))
+
+entries-apart : (core place : ℕ) (program : List Instr) (registers values : List ℕ) → AllApart (entries_of core place program registers values)
+entries-apart core place [] registers values = tt
+entries-apart core place (i ∷ rest) registers values =
+    apart-by core place (action_of i) registers (slice_index values 0) _ (entries-from core (place + 1) rest _ _) (entries-apart core (place + 1) rest _ _)
 
 -- of a core from this one on
 record IsOfCores (core : ℕ) (e : Entry) : Type 0 where

@@ -25,7 +25,7 @@ pub record IsParted (order : List Entry) (at : ℕ) (x : Entry) : Type 0 where
   pub load_part : x.kind ≡ LR
   pub parted : (y : Entry) → slice_get order (suc at) ≡ Some y → ¬ IsStorePart x y
 
--- the value that is due to a read at its place: what stands before it there, and what stands behind it
+-- the value that is due to a read at its place: what stands before it there, and what stands after it
 abbrev pub due_at : Litmus → List Entry → ℕ → Entry → ℕ
 due_at t order at x = due_value t x (take at order) (drop (suc at) order)
 

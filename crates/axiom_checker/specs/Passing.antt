@@ -1,7 +1,8 @@
 -- What the second pass over an order goes by. (This project's profile.)
 use Rattle.std.specs.Prelude.{ℕ, ◌<◌, ◌≡◌, nat_le, true, if◌then◌else◌, List, Option, Some, None, IfSome, IsNone, slice_get, slice_index}
 use Rattle.tso_model.specs.Litmus.{Litmus}
-use Rattle.tso_model.specs.ProgramOrder.{rank, is_write}
+use Rattle.tso_model.specs.ProgramOrder.{is_write}
+use Rattle.axiom_checker.specs.Ranks.{rank}
 use Rattle.tso_model.specs.declared.execution.Entry.{Entry}
 use Rattle.tso_model.specs.Execution.{made, IsWhole, KeepsProgramOrder}
 use Rattle.axiom_checker.specs.First.{IsFirst, IsEarliest, IsNowhere}

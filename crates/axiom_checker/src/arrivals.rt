@@ -1,3 +1,4 @@
+//! Which of the programs' entries come in an order, and which don't.
 ghost use Rattle.std.specs.Prelude.{◌≡◌, ◌+◌, ◌<◌, ◌≤◌, ℕ, List, length, slice_get, slice_set, Some, None, IfSome, IsNone};
 ghost use Rattle.tso_model.specs.declared.execution.Entry.{Entry};
 ghost use Rattle.axiom_checker.specs.First.{IsFirst, IsNowhere};

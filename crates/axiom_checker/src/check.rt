@@ -1,3 +1,4 @@
+//! The judgement of an order: the shape first, then the axioms.
 ghost use Rattle.std.specs.Prelude.{◌≡◌, ◌≢◌, ◌+◌, ◌*◌, ◌<◌, ◌≤◌, ℕ, None, length, OnOk, IfErr, IfOk, IsOkUnless, IfSome, IsNone};
 ghost use Rattle.tso_model.specs.Litmus.{Litmus, IsTest};
 ghost use Rattle.tso_model.specs.Execution.{IsTsoExecution};
@@ -71,7 +72,7 @@ pub fn check_counted<L: Ledger>(
     }
 }
 
-/// The first breach of the order. Fails only for want of memory.
+/// The first breach of the order. Errors: out of memory only.
 fn first_breach<L: Ledger>(
     alloc: Global,
     test: &Test,

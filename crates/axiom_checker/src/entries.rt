@@ -1,8 +1,10 @@
+//! Tests on one entry or two.
 ghost use Rattle.std.specs.Prelude.{◌≡◌, ◌≤◌, ◌↔◌, IsTrue};
 ghost use Rattle.tso_model.specs.ProgramOrder as program_order;
 ghost use Rattle.tso_model.specs.Execution.{IsStorePart};
 ghost use Rattle.axiom_checker.specs.Entries as entries;
 ghost use Rattle.axiom_checker.specs.Axioms as axioms;
+ghost use Rattle.axiom_checker.specs.Ranks as ranks;
 
 use tso_model::{Entry, Kind};
 
@@ -43,9 +45,9 @@ pub fn is_store_part(x: &Entry, y: &Entry) -> bool
 }
 
 /// Where an entry stands among those of its program: the store part of a locked instruction
-/// behind its load part.
+/// after its load part.
 pub fn rank(x: &Entry) -> u32
-    ensures value { result ≡ program_order.rank x.now }
+    ensures value { result ≡ ranks.rank x.now }
     ensures small { result ≤ 511 }
 {
     let place = u32::from(x.place);
@@ -64,7 +66,14 @@ pub fn must_stand_before(a: &Entry, b: &Entry) -> bool
 fn is_before(x: &Entry, y: &Entry) -> bool
     ensures { result ≡ program_order.is_before x.now y.now }
 {
-    x.core == y.core && rank(x) < rank(y)
+    x.core == y.core && (x.place < y.place || is_earlier_part(x, y))
+}
+
+/// Whether, of one place, y is the store part of a locked instruction and x is not.
+fn is_earlier_part(x: &Entry, y: &Entry) -> bool
+    ensures { result ≡ program_order.is_earlier_part x.now y.now }
+{
+    x.place == y.place && y.kind == Kind::LW && x.kind != Kind::LW
 }
 
 /// Whether y may pass x in the order: a plain load may pass a plain store.

@@ -1,3 +1,4 @@
+//! The table by which an order's entries are found among the programs'.
 ghost use Rattle.std.specs.Prelude.{◌≡◌, ◌*◌, ◌≤◌, length, IfOk, IfSome, IsNone, ℕ, slice_get, Some, true};
 ghost use Rattle.axiom_checker.specs.Programs.{kept_in};
 ghost use Rattle.axiom_checker.specs.Entries.{same_but_value, IsExtra};
@@ -27,7 +28,7 @@ pub fn kept<T: Copy>(table: &[Option<T>], at: usize) -> Option<T>
 
 /// Where in the list the entry of each slot stands.
 ///
-/// Fails only for want of memory.
+/// Errors: out of memory only.
 pub fn index_of(alloc: Global, cores: u8, list: &[Entry]) -> Result<Vec<Option<usize>>, NoMemory>
     requires { Ascends 0 (cores * slots_of_a_core) list.now }
     ensures { IfOk result (λ slots. IsIndex list.now slots.items) }

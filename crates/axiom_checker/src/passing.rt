@@ -1,3 +1,4 @@
+//! The pass over a whole order that looks for breaches of the axioms.
 ghost use Rattle.std.specs.Prelude.{◌≡◌, ◌≢◌, ◌+◌, ◌≤◌, ◌<◌, ◌↔◌, ℕ, true, IsTrue, length, slice_get, slice_index, Option, Some, None, if◌then◌else◌, IfSome, IsNone};
 ghost use Rattle.std.specs.Option.{unwrap_or};
 ghost use Rattle.tso_model.specs.ProgramOrder as program_order;
@@ -44,7 +45,7 @@ pub struct Met {
 }
 
 /// Goes over an order that holds each action of the programs once, and notes the first wrong value
-/// of a write, late entry, parted pair and wrong read that it meets. A wrong read is one only where
+/// of a write, late entry, separated pair and wrong read that it meets. A wrong read is one only where
 /// the order is whole and keeps program order.
 pub fn pass<L: Ledger>(
     programs: Programs<'_>,
@@ -99,7 +100,7 @@ fn first<T: Copy>(earlier: Option<T>, later: Option<T>) -> Option<T>
     }
 }
 
-/// The entry behind this place, or x, the one at this place, where it is the last.
+/// The entry after this place, or x, the one at this place, where it is the last.
 fn entry_behind<L: Ledger>(order: &mut Watched<'_, L>, at: usize, x: Entry) -> Entry
     requires { at < length order.old.order }
     ensures next { result ≡ unwrap_or (slice_get order.old.order (at + 1)) x }

@@ -1,3 +1,4 @@
+//! What the programs make, for reads that return 0 and for given values.
 ghost use Rattle.std.specs.Prelude.{◌≡◌, ◌≤◌, length, IfOk};
 ghost use Rattle.tso_model.specs.Litmus.{IsTest};
 ghost use Rattle.axiom_checker.specs.Programs.{shape_from, reads_that_came, reads_of_all, made_reading};
@@ -10,7 +11,7 @@ use tso_model::{Core, Entry, NoMemory, Test, read_count, thread_entries};
 /// What the programs make where each read returns 0: the entries of all cores, core by core and in
 /// program order. With other reads only the values differ.
 ///
-/// Fails only for want of memory.
+/// Errors: out of memory only.
 pub fn shape(alloc: Global, test: &Test) -> Result<Vec<Entry>, NoMemory>
     ensures entries { IfOk result (λ es. es.items ≡ shape_from 0 test.now.programs test.now.registers) }
     ensures test { IsTest test.now }
@@ -27,7 +28,7 @@ pub fn shape(alloc: Global, test: &Test) -> Result<Vec<Entry>, NoMemory>
 
 /// The values with which the reads among the programs' entries came, in the order of these entries.
 ///
-/// Fails only for want of memory.
+/// Errors: out of memory only.
 pub fn reads_in_order(
     alloc: Global,
     shape: &[Entry],
@@ -46,7 +47,7 @@ pub fn reads_in_order(
 
 /// What the programs make where their reads, core by core and in program order, return these values.
 ///
-/// Fails only for want of memory.
+/// Errors: out of memory only.
 pub fn made_entries(alloc: Global, test: &Test, reads: &[u32]) -> Result<Vec<Entry>, NoMemory>
     requires { reads_of_all test.now.programs ≤ length reads.now }
     ensures { IfOk result (λ es. es.items ≡ made_reading 0 test.now.programs test.now.registers reads.now) }

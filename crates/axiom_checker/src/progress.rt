@@ -1,3 +1,4 @@
+//! How far each core has come in an order.
 ghost use Rattle.std.specs.Prelude.{◌≡◌, ◌+◌, ◌<◌, true, false, length, slice_index, slice_set, nat_lt, if◌then◌else◌};
 ghost use Rattle.tso_model.specs.ProgramOrder as program_order;
 ghost use Rattle.axiom_checker.specs.Progress as progress;

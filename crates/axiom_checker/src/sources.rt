@@ -1,5 +1,7 @@
+//! The last write that an entry's own program has before it.
 ghost use Rattle.std.specs.Prelude.{◌≡◌, ◌<◌, ℕ, length, slice_get, slice_set, Some, None, true, IfOk};
 ghost use Rattle.tso_model.specs.ProgramOrder as program_order;
+ghost use Rattle.axiom_checker.specs.Ranks as ranks;
 ghost use Rattle.tso_model.specs.declared.execution.Entry.{Entry};
 ghost use Rattle.axiom_checker.specs.Entries.{IsExtra, written_value};
 ghost use Rattle.axiom_checker.specs.Programs.{kept_in};
@@ -14,14 +16,14 @@ use tso_model::{Entry, NoMemory};
 /// For each entry of the programs the last write to its location that its own program has before
 /// it.
 ///
-/// Fails only for want of memory.
+/// Errors: out of memory only.
 pub fn own_writes(
     alloc: Global,
     locations: u8,
     made: &[Entry],
 ) -> Result<Vec<Option<Entry>>, NoMemory>
     requires ascends { (high : ℕ) × Ascends 0 high made.now }
-    requires fit { (k : ℕ) (e : Entry) → slice_get made.now k ≡ Some e → program_order.rank e < slots_of_a_core }
+    requires fit { (k : ℕ) (e : Entry) → slice_get made.now k ≡ Some e → ranks.rank e < slots_of_a_core }
     requires known { (k : ℕ) (e : Entry) → slice_get made.now k ≡ Some e → program_order.is_write e ≡ true → e.loc.0 < locations }
     ensures { IfOk result (λ sources. HasSources made.now sources.items) }
 {
@@ -37,7 +39,7 @@ fn find_sources(
 ) -> Result<Vec<Option<Entry>>, NoMemory>
     requires none_yet { (loc : ℕ) → kept_in latest.old loc ≡ None }
     requires ascends { (high : ℕ) × Ascends 0 high made.now }
-    requires fit { (k : ℕ) (e : Entry) → slice_get made.now k ≡ Some e → program_order.rank e < slots_of_a_core }
+    requires fit { (k : ℕ) (e : Entry) → slice_get made.now k ≡ Some e → ranks.rank e < slots_of_a_core }
     requires known { (k : ℕ) (e : Entry) → slice_get made.now k ≡ Some e → program_order.is_write e ≡ true → e.loc.0 < length latest.old }
     ensures { IfOk result (λ sources. HasSources made.now sources.items) }
 {

@@ -203,3 +203,16 @@ module _ (change : Line → Line) (line : ℕ) where
         rw (p.0, rest, same) refl
     | inr p ↦ rw p.0 (ap (λ l. e ∷ l) (set_value-changed copy es d.1 (rw p.0 at h)))
   ]
+
+-- A walk along the entries.
+
+pub lookup-first : (line here : ℕ) (copy : Line) (all left rest : List (ℕ × Line)) → lookup (nat_eq line) all ≡ lookup (nat_eq line) left → left ≡ (here, copy) ∷ rest → here ≡ line
+    → Some copy ≡ lookup (nat_eq line) all
+lookup-first line here copy all left rest among is same =
+    let this : nat_eq line here ≡ true = eq-eqb line here (sym same) in
+    sym (among ∙ ap (λ (es : List (ℕ × Line)). lookup (nat_eq line) es) is ∙ rw this refl)
+
+pub lookup-later : (line here : ℕ) (copy : Line) (left rest : List (ℕ × Line)) → left ≡ (here, copy) ∷ rest → here ≢ line → lookup (nat_eq line) left ≡ lookup (nat_eq line) rest
+lookup-later line here copy left rest is other =
+    ap (λ (es : List (ℕ × Line)). lookup (nat_eq line) es) is
+    ∙ elim (eqb_tells line here) [ inl p ↦ absurd (other (sym p.1)) | inr p ↦ rw p.0 refl ]

@@ -85,7 +85,13 @@ impl CacheSet {
         ensures valid { IsCacheSet self.now }
         ensures copies { (k : ℕ) → IfSome (copy_of self.now k) (λ copy. copy.state ≢ State.I) }
     {
-        self.lines.peek(&line)
+        // A set has few lines, so a walk over them costs less than their hashes.
+        for (here, copy) in self.lines.iter() {
+            if *here == line {
+                return Some(copy);
+            }
+        }
+        None
     }
 
     /// A line that is here was used: it goes to the front, and the others stay in their order.

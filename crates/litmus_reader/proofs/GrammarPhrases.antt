@@ -1,12 +1,12 @@
 -- Propositions by their phrases: claims as names appear, and parts with a symbol between them.
-use Rattle.std.proofs.Common.{◌≡◌, ℕ, zero, suc, ◌+◌, ◌≤◌, false, List, [], ◌∷◌, ◌++◌, length, Some, None, Ok, refl, sym, ap, subst, ◌∙◌, inl, inr, append_assoc, eq-eqb, arith}
+use Rattle.std.proofs.Common.{◌≡◌, ℕ, zero, suc, ◌+◌, ◌≤◌, false, List, [], ◌∷◌, ◌++◌, length, Some, None, Ok, refl, sym, ap, subst, ◌∙◌, inl, inr, append_assoc, arith}
 use Rattle.std.proofs.lemmas.List.{length-append, length-map}
 use Rattle.tso_model.specs.Condition.{Claim, LocClaim, NotClaim}
 use Rattle.litmus_tokens.specs.declared.token.Symbol.{Symbol}
 use Rattle.litmus_tokens.specs.declared.token.Symbol.TheVariants.{And, Or}
 use Rattle.litmus_tokens.specs.Terms.{Term, symbol}
 use Rattle.litmus_tokens.specs.Pieces.{Piece}
-use Rattle.litmus_tokens.specs.Front.{code_of, is_symbol, symbol_at}
+use Rattle.litmus_tokens.specs.Front.{is_symbol, symbol_at}
 use Rattle.litmus_reader.specs.Faults.{◌>>=◌}
 use Rattle.litmus_reader.specs.Conditions as reading
 use Rattle.litmus_reader.specs.Conditions.{claim_in, Claimed, claimed, one_more, truth_at, truth_atom, setting_atom, atom_at, Proposition, joined_to, chain, chain_of, conjunction, disjunction, negation_at, opens_unit, negated, bracketed, unit_by, unit_at, proposition_at}
@@ -16,7 +16,7 @@ use Rattle.litmus_reader.specs.GrammarConditions.{AreJoined, one, more, IsConjun
 use Rattle.litmus_reader.proofs.Keeps.{ok_is as keeps_ok, some_is as keeps_some}
 use Rattle.litmus_reader.proofs.GrammarBehind.{last_further, symbol_leaves}
 use Rattle.litmus_reader.proofs.GrammarLast.{LeavesLast, chain_leaves}
-use Rattle.litmus_reader.proofs.GrammarTokens.{there_is, ok_is, bind_ok, front, symbol_takes}
+use Rattle.litmus_reader.proofs.GrammarTokens.{there_is, ok_is, bind_ok, front, symbol_takes, spelled_so}
 use Rattle.litmus_reader.proofs.GrammarNames.{Known, known_with, known_more, number_more, numbered_append, grows}
 use Rattle.litmus_reader.proofs.Readings.{given_by, ReadsPhrase, AreLast}
 use Rattle.litmus_reader.specs.Written.{of_register, of_location, Phrase, truth, atom, negation, both, either}
@@ -220,7 +220,7 @@ terms_length ps ts e = sym (length-map ps (λ p. p.term)) ∙ ap length e
 
 pub symbol_there : (s : Symbol) (ps rest : List Piece) (p : Piece) → ps ≡ p ∷ rest → p.term ≡ symbol s → symbol_at s ps ≡ Some rest
 unfolding symbol_at is_symbol
-symbol_there s ps rest p parts is = rw (parts, is, eq-eqb (code_of s) (code_of s) refl) refl
+symbol_there s ps rest p parts is = rw (parts, is, spelled_so s) refl
 
 pub no_symbol : (s : Symbol) (ps : List Piece) → begins_with s (terms ps) ≡ false → symbol_at s ps ≡ None
 unfolding symbol_at is_symbol

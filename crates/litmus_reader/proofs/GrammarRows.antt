@@ -1,5 +1,5 @@
 -- Rows are parted into cells as they are spelled.
-use Rattle.std.proofs.Common.{◌≡◌, ℕ, suc, ◌+◌, ◌<◌, Bool, true, false, ltb, eq-eqb, List, [], ◌∷◌, ◌++◌, length, Option, Some, None, Ok, Err, refl, sym, ap, subst, ◌∙◌, inl, inr, append_assoc, arith}
+use Rattle.std.proofs.Common.{◌≡◌, ℕ, suc, ◌+◌, ◌<◌, Bool, true, false, ltb, List, [], ◌∷◌, ◌++◌, length, Option, Some, None, Ok, Err, refl, sym, ap, subst, ◌∙◌, inl, inr, append_assoc, arith}
 use Rattle.std.specs.List.{slice_split, onto_first, position_or_len, before_first, after_first}
 use Rattle.std.proofs.lemmas.Bool.{ltb-true, lt-ltb}
 use Rattle.std.proofs.lemmas.List.{append-nil}
@@ -9,7 +9,7 @@ use Rattle.litmus_tokens.specs.declared.token.Symbol.{Symbol}
 use Rattle.litmus_tokens.specs.declared.token.Symbol.TheVariants.{OpenSquare, CloseSquare, Comma, Dollar, Semicolon, Bar}
 use Rattle.litmus_tokens.specs.Terms.{Term, symbol}
 use Rattle.litmus_tokens.specs.Pieces.{Piece}
-use Rattle.litmus_tokens.specs.Front.{code_of, is_symbol_term, is_symbol, name_at}
+use Rattle.litmus_tokens.specs.Front.{is_symbol_term, is_symbol, name_at}
 use Rattle.tso_model.specs.declared.register.Reg.{Reg}
 use Rattle.litmus_reader.specs.declared.fault.Why.TheVariants.{Unclosed}
 use Rattle.litmus_reader.specs.Forms.{spelled_in}
@@ -17,7 +17,7 @@ use Rattle.litmus_reader.specs.Rows.{row_at}
 use Rattle.litmus_reader.specs.Grammar.{terms}
 use Rattle.litmus_reader.specs.GrammarCells.{IsConstant, plain, with_dollar, IsMemory, in_squares, IsRegister, named, IsMnemonic, spelled, parted, IsExchange, memory_first, register_first, IsCell, stores_constant, stores_register, loads, sets_constant, sets_register, fences, exchanges, locks_exchange, locks_add}
 use Rattle.litmus_reader.specs.GrammarRows.{IsField, empty, full, AreFields, last, more, IsRow, row}
-use Rattle.litmus_reader.proofs.GrammarTokens.{chosen, ok_pair, symbol_is}
+use Rattle.litmus_reader.proofs.GrammarTokens.{chosen, ok_pair, symbol_is, spelled_so}
 use Rattle.litmus_reader.proofs.GrammarCells.{cell_again, cell_takes}
 use Rattle.litmus_reader.proofs.Readings.{Begins, ReadsRow, IsReadAs, AreReadAs}
 use Rattle.litmus_reader.specs.Places.{fault, at_stop, left_of}
@@ -90,7 +90,7 @@ fields_lack _ _ (more ts us c cs is are) = lacks-append Semicolon ts (symbol Bar
 -- ---- tokens cut at a symbol
 
 own : (s : Symbol) → is_symbol_term s (symbol s) ≡ true
-own s = eq-eqb (code_of s) (code_of s) refl
+own s = spelled_so s
 
 -- what stands before a symbol, and what stands behind it
 record Cut (s : Symbol) (us back : List Term) (ps : List Piece) : Type 0 where

@@ -3,7 +3,9 @@ use Rattle.std.proofs.Common.{◌≡◌, ℕ, List, [], ◌∷◌, refl, sym, ap
 use Rattle.tso_model.specs.declared.instruction.Instr.TheVariants.{StoreImm, StoreReg, Load, Xchg, Xadd}
 use Rattle.litmus_reader.specs.declared.cell.CoreInstr.{CoreInstr}
 use Rattle.litmus_reader.specs.GrammarNames.{numbered, location}
-use Rattle.litmus_reader.specs.GrammarTable.{Placed, instr_with, instrs_with, location_in, locations_of, of_core}
+use Rattle.litmus_reader.specs.GrammarTable.{instr_with, location_in}
+use Rattle.litmus_reader.proofs.Placed.{Placed, instrs_with, locations_of}
+use Rattle.litmus_reader.specs.Cells.{of_core}
 use Rattle.litmus_reader.proofs.GrammarNames.{Known, known_more, number_more, known_with, numbered_append}
 use Rattle.litmus_reader.specs.Written.{Shape, store_imm, store_reg, load, set_imm, set_reg, fence, xchg, xadd}
 

@@ -20,7 +20,8 @@ use Rattle.litmus_reader.specs.GrammarCells.{IsMnemonic, spelled, parted, IsExch
 use Rattle.litmus_reader.specs.GrammarNames.{numbered}
 use Rattle.litmus_reader.specs.GrammarRows as grammar
 use Rattle.litmus_reader.specs.GrammarRows.{IsField, empty, full, AreFields, IsRow, row}
-use Rattle.litmus_reader.specs.GrammarTable.{AreRows, none, more, ends_table, Placed, placed_from, placed_in, AreWithin, ends_rows}
+use Rattle.litmus_reader.specs.GrammarTable.{AreRows, none, more, ends_table, ends_rows}
+use Rattle.litmus_reader.proofs.Placed.{Placed, placed_from, placed_in, EntriesWithin}
 use Rattle.litmus_reader.proofs.GrammarTokens.{chosen, ok_is, bind_ok}
 use Rattle.litmus_reader.proofs.GrammarRows.{row_again, row_takes}
 use Rattle.litmus_reader.proofs.GrammarTableEntries.{names_of, instrs_of, Read, read_of, within_first, within_none, cells_found, CellsTaken, cells_taken}
@@ -122,7 +123,7 @@ as_many (ps ∷ rest) [] are = absurd are
 as_many (ps ∷ rest) (c ∷ cs) are = ap suc (as_many rest cs are.1)
 
 pub row_found : (cores left : ℕ) (names : List (List ℕ)) (done : List Placed) (front : List Piece) (cells : List (Option Shape)) → length cells ≡ cores → AreReadAs (cells_of front) cells
-    → AreWithin names (done ++ placed_from 0 cells) → row_in cores left (instrs_of names done) (names_of names done) front ≡ Ok (read_of names (done ++ placed_from 0 cells))
+    → EntriesWithin names (done ++ placed_from 0 cells) → row_in cores left (instrs_of names done) (names_of names done) front ≡ Ok (read_of names (done ++ placed_from 0 cells))
 unfolding row_in
 row_found cores left names done front cells count are h =
     let same : eqb (length (cells_of front)) cores ≡ true = eq-eqb (length (cells_of front)) cores (as_many (cells_of front) cells are ∙ count) in
@@ -132,7 +133,7 @@ pub record RowTaken (cores : ℕ) (names : List (List ℕ)) (done : List Placed)
   pub count : length (cells_of front) ≡ cores
   pub cells : CellsTaken 0 names done (cells_of front) r
 
-pub row_taken : (cores left : ℕ) (names : List (List ℕ)) (done : List Placed) (front : List Piece) (r : Read) → AreWithin names done
+pub row_taken : (cores left : ℕ) (names : List (List ℕ)) (done : List Placed) (front : List Piece) (r : Read) → EntriesWithin names done
     → row_in cores left (instrs_of names done) (names_of names done) front ≡ Ok r → RowTaken cores names done front r
 unfolding row_in
 row_taken cores left names done front r h e =
@@ -163,7 +164,7 @@ record RowsFound (n : ℕ) (stop : Stop) (cores : ℕ) (names : List (List ℕ))
   pub behind : terms rest ≡ back
 
 rows_found : (stop : Stop) (cores : ℕ) (names : List (List ℕ)) (ts : List Term) (table : List (List (Option Shape))) → AreRows cores ts table → (n : ℕ) (ps : List Piece) → length ps ≤ n
-    → (done : List Placed) → AreWithin names (done ++ placed_in table) → (back : List Term) → terms ps ≡ ts ++ back → ends_table back ≡ true → RowsFound n stop cores names done (done ++ placed_in table) back ps
+    → (done : List Placed) → EntriesWithin names (done ++ placed_in table) → (back : List Term) → terms ps ≡ ts ++ back → ends_table back ≡ true → RowsFound n stop cores names done (done ++ placed_in table) back ps
 rows_found stop cores names _ _ none n ps enough done h back e end =
     let here : ends_rows ps ≡ true = ends_is ps ∙ ap ends_table e ∙ end in
     record {
@@ -176,7 +177,7 @@ rows_found stop cores names _ _ (more ts us cells others is are) n ps enough don
     let first = row_again stop cores ps ts (us ++ back) cells is e' in
     let one = placed_from 0 cells in
     let regroup : (done ++ one) ++ placed_in others ≡ done ++ (one ++ placed_in others) = append_assoc done one (placed_in others) in
-    let whole : AreWithin names ((done ++ one) ++ placed_in others) = subst (λ (l : List Placed). AreWithin names l) (sym regroup) h in
+    let whole : EntriesWithin names ((done ++ one) ++ placed_in others) = subst (λ (l : List Placed). EntriesWithin names l) (sym regroup) h in
     let read = row_found cores (left_of ps) names done first.row cells (row_count cores ts cells is) first.cells_are (within_first names (done ++ one) (placed_in others) whole) in
     let go : ends_rows ps ≡ false = ends_is ps ∙ ap ends_table e' ∙ row_begins cores ts cells is (us ++ back) in
     let shorter = row_shorter cores ts cells ps first.rest is (e' ∙ ap (λ (l : List Term). ts ++ l) (sym first.behind)) in
@@ -196,7 +197,7 @@ rows_found stop cores names _ _ (more ts us cells others is are) n ps enough don
         }
 
 pub rows_again : (stop : Stop) (cores : ℕ) (names : List (List ℕ)) (ps : List Piece) (ts back : List Term) (table : List (List (Option Shape))) → AreRows cores ts table
-    → AreWithin names (placed_in table) → terms ps ≡ ts ++ back → ends_table back ≡ true → ReadsPlaced (rows_at stop cores names ps) names (placed_in table) back
+    → EntriesWithin names (placed_in table) → terms ps ≡ ts ++ back → ends_table back ≡ true → ReadsPlaced (rows_at stop cores names ps) names (placed_in table) back
 unfolding rows_at numbered
 rows_again stop cores names ps ts back table are h e end =
     let f = rows_found stop cores names ts table are (length ps) ps (omega arith) [] h back e end in
@@ -209,11 +210,11 @@ record RowsTaken (cores : ℕ) (names : List (List ℕ)) (done : List Placed) (p
   pub table : List (List (Option Shape))
   pub are : AreRows cores ts table
   pub parts : terms ps ≡ ts ++ terms r.rest
-  pub within : AreWithin names (done ++ placed_in table)
+  pub within : EntriesWithin names (done ++ placed_in table)
   pub given : r ≡ rows_by names (done ++ placed_in table) r.rest
   pub ended : ends_rows r.rest ≡ true
 
-no_more : (cores : ℕ) (names : List (List ℕ)) (done : List Placed) (ps : List Piece) (r : Rows) → AreWithin names done → ends_rows ps ≡ true → rows (instrs_of names done) (names_of names done) ps ≡ r
+no_more : (cores : ℕ) (names : List (List ℕ)) (done : List Placed) (ps : List Piece) (r : Rows) → EntriesWithin names done → ends_rows ps ≡ true → rows (instrs_of names done) (names_of names done) ps ≡ r
     → RowsTaken cores names done ps r
 no_more cores names done ps r h end is =
     let same = append-nil done in
@@ -222,12 +223,12 @@ no_more cores names done ps r h end is =
       table = [];
       are = none;
       parts = refl;
-      within = subst (λ (l : List Placed). AreWithin names l) (sym same) h;
+      within = subst (λ (l : List Placed). EntriesWithin names l) (sym same) h;
       given = ap (λ (l : List Placed). rows_by names l ps) (sym same);
       ended = end;
     })
 
-rows_taken : (n : ℕ) (stop : Stop) (cores : ℕ) (names : List (List ℕ)) (done : List Placed) (ps : List Piece) (r : Rows) → length ps ≤ n → AreWithin names done
+rows_taken : (n : ℕ) (stop : Stop) (cores : ℕ) (names : List (List ℕ)) (done : List Placed) (ps : List Piece) (r : Rows) → length ps ≤ n → EntriesWithin names done
     → rows_within n stop cores (instrs_of names done) (names_of names done) ps ≡ Ok r → RowsTaken cores names done ps r
 unfolding rows_within
 rows_taken zero stop cores names done [] r enough h e = no_more cores names done [] r h (ends_is []) (ok_is (rows (instrs_of names done) (names_of names done) []) r e)
@@ -254,7 +255,7 @@ rows_taken (suc n) stop cores names done ps r enough h e =
             table = cells ∷ others.table;
             are = more front.ts others.ts cells others.table front.is others.are;
             parts = front.parts ∙ ap (λ (l : List Term). front.ts ++ l) others.parts ∙ sym (append_assoc front.ts others.ts (terms r.rest));
-            within = subst (λ (l : List Placed). AreWithin names l) regroup others.within;
+            within = subst (λ (l : List Placed). EntriesWithin names l) regroup others.within;
             given = others.given ∙ ap (λ (l : List Placed). rows_by names l r.rest) regroup;
             ended = others.ended;
           }

@@ -18,7 +18,9 @@ use Rattle.litmus_reader.specs.Items.{word_at}
 use Rattle.litmus_reader.specs.Forms.{spelled_in}
 use Rattle.litmus_reader.specs.Cells.{instr_of, count_of, or_bad_instruction, cell_in, cells_in}
 use Rattle.litmus_reader.specs.GrammarNames.{numbered, number_of, with_name, location}
-use Rattle.litmus_reader.specs.GrammarTable.{Placed, placed, placed_from, location_in, locations_of, instr_with, instrs_with, ValueFits, ValuesFit, AreWithin, of_core}
+use Rattle.litmus_reader.specs.GrammarTable.{location_in, instr_with, ValueFits}
+use Rattle.litmus_reader.proofs.Placed.{Placed, placed, placed_from, locations_of, instrs_with, ValuesFit, EntriesWithin}
+use Rattle.litmus_reader.specs.Cells.{of_core}
 use Rattle.litmus_reader.proofs.GrammarTokens.{chosen, ok_is, ok_pair, bind_ok}
 use Rattle.litmus_reader.proofs.GrammarNames.{place_below, known_with, number_with, numbered_append, grows}
 use Rattle.litmus_reader.proofs.GrammarAtoms.{word_is, word_ok, located_ok, room_with}
@@ -89,7 +91,7 @@ count-instrs core names (e ∷ others) =
     sum_by-append (λ (i : CoreInstr). cond (eqb i.core core) 1 0) (of_core e.core (instr_with names e.shape) ∷ []) (instrs_with names others)
     ∙ ap (λ (n : ℕ). count_in core (e ∷ []) + n) (count-instrs core names others) ∙ sym (count-append core (e ∷ []) others)
 
-pub within_first : (names : List (List ℕ)) (xs ys : List Placed) → AreWithin names (xs ++ ys) → AreWithin names xs
+pub within_first : (names : List (List ℕ)) (xs ys : List Placed) → EntriesWithin names (xs ++ ys) → EntriesWithin names xs
 within_first names xs ys h =
     let more = grows (locations_of ys) (names_of names xs) in
     let whole = ap (λ (l : List (List ℕ)). length l) (names-append names xs ys) in
@@ -99,7 +101,7 @@ within_first names xs ys h =
       room = omega (arith, more, whole, h.room);
     }
 
-pub within_none : (names : List (List ℕ)) → length names ≤ 16 → AreWithin names []
+pub within_none : (names : List (List ℕ)) → length names ≤ 16 → EntriesWithin names []
 unfolding numbered
 within_none names le = record { values = tt; few = λ core. omega arith; room = le }
 
@@ -178,7 +180,7 @@ or_bad_ok : (left : ℕ) (o : Option Shape) (shape : Shape) → or_bad_instructi
 or_bad_ok left (Some other) shape e = ap (λ (s : Shape). Some s) (ok_is other shape e)
 or_bad_ok left None shape e = absurd cc
 
-pub cell_found : (core : ℕ) (names : List (List ℕ)) (done : List Placed) (p : Piece) (ps : List Piece) (shape : Shape) → spelled_in (p ∷ ps) ≡ Some shape → AreWithin names (done ++ placed core shape ∷ [])
+pub cell_found : (core : ℕ) (names : List (List ℕ)) (done : List Placed) (p : Piece) (ps : List Piece) (shape : Shape) → spelled_in (p ∷ ps) ≡ Some shape → EntriesWithin names (done ++ placed core shape ∷ [])
     → cell_in core (instrs_of names done) (names_of names done) (p ∷ ps) ≡ Ok (read_of names (done ++ placed core shape ∷ []))
 unfolding cell_in
 cell_found core names done p ps shape is h =
@@ -194,7 +196,7 @@ cell_found core names done p ps shape is h =
 pub record CellTaken (core : ℕ) (names : List (List ℕ)) (done : List Placed) (ps : List Piece) (r : Read) : Type 0 where
   pub shape : Shape
   pub is : spelled_in ps ≡ Some shape
-  pub within : AreWithin names (done ++ placed core shape ∷ [])
+  pub within : EntriesWithin names (done ++ placed core shape ∷ [])
   pub given : r ≡ read_of names (done ++ placed core shape ∷ [])
 
 few-push : (core other : ℕ) (shape : Shape) (done : List Placed) → count_in core done < 32 → count_in other done ≤ 32 → count_in other (done ++ placed core shape ∷ []) ≤ 32
@@ -210,15 +212,15 @@ few-push core other shape done room h = by_test (eqb core other) refl
         let nothing : count_in other (placed core shape ∷ []) ≡ 0 = rw e refl in
         omega (arith, h, count-append other done (placed core shape ∷ []), nothing)
 
-within_push : (core : ℕ) (names : List (List ℕ)) (done : List Placed) (shape : Shape) → AreWithin names done → ValueFits shape → count_in core done < 32
-    → length (numbered (names_of names done) (location_in shape)) ≤ 16 → AreWithin names (done ++ placed core shape ∷ [])
+within_push : (core : ℕ) (names : List (List ℕ)) (done : List Placed) (shape : Shape) → EntriesWithin names done → ValueFits shape → count_in core done < 32
+    → length (numbered (names_of names done) (location_in shape)) ≤ 16 → EntriesWithin names (done ++ placed core shape ∷ [])
 within_push core names done shape h fits room few = record {
   values = values-append done (placed core shape ∷ []) h.values (fits, tt);
   few = λ other. few-push core other shape done room (h.few other);
   room = subst (λ (l : List (List ℕ)). length l ≤ 16) (sym (names-push names done core shape)) few;
 }
 
-pub cell_taken : (core : ℕ) (names : List (List ℕ)) (done : List Placed) (p : Piece) (ps : List Piece) (r : Read) → AreWithin names done
+pub cell_taken : (core : ℕ) (names : List (List ℕ)) (done : List Placed) (p : Piece) (ps : List Piece) (r : Read) → EntriesWithin names done
     → cell_in core (instrs_of names done) (names_of names done) (p ∷ ps) ≡ Ok r → CellTaken core names done (p ∷ ps) r
 unfolding cell_in
 cell_taken core names done p ps r h e =
@@ -244,7 +246,7 @@ cell_taken core names done p ps r h e =
 
 -- ---- cells one after the other
 
-pub cells_found : (parts : List (List Piece)) (cells : List (Option Shape)) → AreReadAs parts cells → (core : ℕ) (names : List (List ℕ)) (done : List Placed) → AreWithin names (done ++ placed_from core cells)
+pub cells_found : (parts : List (List Piece)) (cells : List (Option Shape)) → AreReadAs parts cells → (core : ℕ) (names : List (List ℕ)) (done : List Placed) → EntriesWithin names (done ++ placed_from core cells)
     → cells_in core (instrs_of names done) (names_of names done) parts ≡ Ok (read_of names (done ++ placed_from core cells))
 unfolding cells_in cell_in
 cells_found [] [] are core names done h = ap (λ (l : List Placed). Ok (read_of names l)) (sym (append-nil done))
@@ -257,7 +259,7 @@ cells_found ((p ∷ ps) ∷ rest) (Some shape ∷ cs) are core names done h =
     let e = placed core shape in
     let others = placed_from (core + 1) cs in
     let regroup : (done ++ e ∷ []) ++ others ≡ done ++ e ∷ others = append_assoc done (e ∷ []) others in
-    let whole : AreWithin names ((done ++ e ∷ []) ++ others) = subst (λ (l : List Placed). AreWithin names l) (sym regroup) h in
+    let whole : EntriesWithin names ((done ++ e ∷ []) ++ others) = subst (λ (l : List Placed). EntriesWithin names l) (sym regroup) h in
     let first = cell_found core names done p ps shape are.0 (within_first names (done ++ e ∷ []) others whole) in
     ap (λ (r : Result Read Fault). r >>= λ read. cells_in (core + 1) read.0 read.1 rest) first
     ∙ cells_found rest cs are.1 (core + 1) names (done ++ e ∷ []) whole
@@ -267,10 +269,10 @@ cells_found ((p ∷ ps) ∷ rest) (Some shape ∷ cs) are core names done h =
 pub record CellsTaken (core : ℕ) (names : List (List ℕ)) (done : List Placed) (parts : List (List Piece)) (r : Read) : Type 0 where
   pub cells : List (Option Shape)
   pub are : AreReadAs parts cells
-  pub within : AreWithin names (done ++ placed_from core cells)
+  pub within : EntriesWithin names (done ++ placed_from core cells)
   pub given : r ≡ read_of names (done ++ placed_from core cells)
 
-pub cells_taken : (parts : List (List Piece)) (core : ℕ) (names : List (List ℕ)) (done : List Placed) (r : Read) → AreWithin names done
+pub cells_taken : (parts : List (List Piece)) (core : ℕ) (names : List (List ℕ)) (done : List Placed) (r : Read) → EntriesWithin names done
     → cells_in core (instrs_of names done) (names_of names done) parts ≡ Ok r → CellsTaken core names done parts r
 unfolding cells_in cell_in
 cells_taken [] core names done r h e =
@@ -278,7 +280,7 @@ cells_taken [] core names done r h e =
     record {
       cells = [];
       are = tt;
-      within = subst (λ (l : List Placed). AreWithin names l) (sym same) h;
+      within = subst (λ (l : List Placed). EntriesWithin names l) (sym same) h;
       given = sym (ok_is (read_of names done) r e) ∙ ap (λ (l : List Placed). read_of names l) (sym same);
     }
 cells_taken ([] ∷ rest) core names done r h e =
@@ -295,6 +297,6 @@ cells_taken ((p ∷ ps) ∷ rest) core names done r h e =
     record {
       cells = Some first.shape ∷ t.cells;
       are = (first.is, t.are);
-      within = subst (λ (l : List Placed). AreWithin names l) regroup t.within;
+      within = subst (λ (l : List Placed). EntriesWithin names l) regroup t.within;
       given = t.given ∙ ap (λ (l : List Placed). read_of names l) regroup;
     }

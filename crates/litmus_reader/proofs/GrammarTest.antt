@@ -1,8 +1,10 @@
 -- A whole text is read as it is spelled.
-use Rattle.std.proofs.Common.{◌≡◌, ℕ, suc, ◌≤◌, ◌+◌, true, false, ltb, List, [], ◌∷◌, ◌++◌, length, drop, Option, Result, Ok, Err, IfOk, refl, sym, ap, subst, ◌∙◌, inl, inr, append_assoc, length-append, arith, IsTrue}
+use Rattle.std.proofs.Common.{◌≡◌, ℕ, suc, ◌≤◌, ◌+◌, true, false, ltb, List, [], ◌∷◌, ◌++◌, length, map, drop, Option, Result, Ok, Err, IfOk, refl, sym, ap, subst, ◌∙◌, inl, inr, append_assoc, length-append, arith, IsTrue}
 use Rattle.std.proofs.lemmas.Bool.{ltb-false, le-ltb}
 use Rattle.std.proofs.lemmas.List.FromFn.{length-map-range_with_len}
+use Rattle.std.specs.List.{range_with_len}
 use Rattle.tso_model.specs.Litmus.{Litmus}
+use Rattle.tso_model.specs.declared.instruction.Instr.{Instr}
 use Rattle.litmus_tokens.specs.declared.token.Stop.{Stop}
 use Rattle.litmus_tokens.specs.Terms.{Term}
 use Rattle.litmus_tokens.specs.Pieces.{Piece, pieces_of}
@@ -12,17 +14,19 @@ use Rattle.litmus_reader.specs.Information.{braces_at}
 use Rattle.litmus_reader.specs.Initial.{Initial, words_of, registers_of, initial_at}
 use Rattle.litmus_reader.specs.Columns.{columns_at}
 use Rattle.litmus_reader.specs.Rows.{Rows, Table, table, table_at, rows_at}
-use Rattle.litmus_reader.specs.Reading.{test_of, tail_at, body_of, reading_of}
+use Rattle.litmus_reader.specs.Reading.{programs_from, test_of, tail_at, body_of, reading_of}
 use Rattle.litmus_reader.specs.Grammar.{terms}
 use Rattle.litmus_reader.specs.GrammarNames.{numbered, with_name}
 use Rattle.litmus_reader.specs.GrammarText.{IsHeaderLine, AreInformationLines}
 use Rattle.litmus_reader.specs.GrammarInitial.{IsInitialState, Fits, has_cores, names_in, first_words, first_registers}
 use Rattle.litmus_reader.specs.GrammarColumns.{IsHeaderRow}
-use Rattle.litmus_reader.specs.GrammarTable.{AreRows, AreWithin, placed_in, instrs_with, locations_of, ends_table}
+use Rattle.litmus_reader.specs.GrammarTable.{AreRows, ends_table}
+use Rattle.litmus_reader.proofs.Placed.{placed_in, instrs_with, locations_of, EntriesWithin}
 use Rattle.litmus_reader.specs.GrammarConditions.{condition, says_exists, says_forall, says_not_exists}
-use Rattle.litmus_reader.specs.GrammarEnding.{MayAsk, nothing, a_condition, IsEnding, at_once, behind_locations, names_asked, IsAskedWithin}
-use Rattle.litmus_reader.specs.GrammarTest.{IsBody, test_written, KeepsLimits}
+use Rattle.litmus_reader.specs.GrammarEnding.{MayAsk, nothing, a_condition, IsEnding, at_once, behind_locations, names_asked, condition_of, IsAskedWithin}
+use Rattle.litmus_reader.specs.GrammarTest.{IsBody, program, test_written, KeepsLimits}
 use Rattle.litmus_reader.specs.Spelling.{SpellsTest}
+use Rattle.litmus_reader.proofs.Columnwise.{named-same, programs-columns, entries_within, columns_within}
 use Rattle.litmus_reader.proofs.GrammarTokens.{chosen, bind_ok, ok_is}
 use Rattle.litmus_reader.proofs.GrammarNames.{numbered_append, with_name_by}
 use Rattle.litmus_reader.proofs.GrammarShapes.{entries_known, instrs_stay}
@@ -72,7 +76,7 @@ pub record Parts : Type 0 where
   pub columns_again : (stop : Stop) (ps : List Piece) (ts back : List Term) (cores : ℕ) → IsHeaderRow ts cores → terms ps ≡ ts ++ back → Reads (columns_at stop ps) cores back
   pub columns_takes : (stop : Stop) (ps rest : List Piece) (cores : ℕ) → columns_at stop ps ≡ Ok (cores, rest) → Begins (λ ts. IsHeaderRow ts cores) ps rest
   pub rows_again : (stop : Stop) (cores : ℕ) (names : List (List ℕ)) (ps : List Piece) (ts back : List Term) (table : List (List (Option Shape)))
-      → AreRows cores ts table → AreWithin names (placed_in table) → terms ps ≡ ts ++ back → ends_table back ≡ true → ReadsPlaced (rows_at stop cores names ps) names (placed_in table) back
+      → AreRows cores ts table → EntriesWithin names (placed_in table) → terms ps ≡ ts ++ back → ends_table back ≡ true → ReadsPlaced (rows_at stop cores names ps) names (placed_in table) back
   pub rows_takes : (stop : Stop) (cores : ℕ) (names : List (List ℕ)) (ps : List Piece) (r : Rows) → length names ≤ 16 → rows_at stop cores names ps ≡ Ok r → SpellsRows cores names ps r
   pub last_initial : (stop : Stop) (names : List (List ℕ)) (ps rest : List Piece) (i : Initial) → initial_at stop names ps ≡ Ok (i, rest) → AreLast ps rest
   pub last_columns : (stop : Stop) (ps rest : List Piece) (cores : ℕ) → columns_at stop ps ≡ Ok (cores, rest) → AreLast ps rest
@@ -111,6 +115,29 @@ parts_give w i =
     test_of w.name (given (numbered i.names (locations_of (placed_in w.table))) w.asked).1 i.words (first_registers w.settings w.cores)
     (instrs_with (numbered i.names (locations_of (placed_in w.table))) (placed_in w.table)) (given (numbered i.names (locations_of (placed_in w.table))) w.asked).0
 
+-- the test of these names and programs
+abbrev test_with : Written → List (List ℕ) → List (List Instr) → Litmus
+test_with w names programs = record {
+  name = w.name;
+  locations = names;
+  words = first_words w.settings names;
+  registers = first_registers w.settings w.cores;
+  programs = programs;
+  condition = condition_of names w.asked;
+}
+
+abbrev all_with : Written → List (List ℕ) → List (List ℕ)
+all_with w named = numbered (numbered (numbered [] (names_in w.settings)) named) (names_asked w.asked)
+
+-- the test where the rows name these locations
+abbrev test_by : Written → List (List ℕ) → Litmus
+test_by w named = test_with w (all_with w named) (map (program (all_with w named) w.table) (range_with_len 0 w.cores))
+
+by_columns : (w : Written) → test_with w (all_with w (locations_of (placed_in w.table))) (programs_from 0 w.cores (instrs_with (all_with w (locations_of (placed_in w.table))) (placed_in w.table))) ≡ test_written w
+by_columns w =
+    let all = all_with w (locations_of (placed_in w.table)) in
+    ap (test_with w all) (programs-columns all w.table w.cores 0) ∙ ap (test_by w) (named-same w.table)
+
 parts_are : (w : Written) (i : Initial) → Says w.settings i → parts_give w i ≡ test_written w
 parts_are w i says =
     let es = placed_in w.table in
@@ -121,7 +148,7 @@ parts_are w i says =
     (says.words (locations_of es ++ names_asked w.asked)) in
     let instrs : instrs_with all es ≡ instrs_with known es = instrs_stay es (names_asked w.asked) known (entries_known es i.names) in
     let first : i.names ≡ numbered [] (names_in w.settings) = says.names in
-    rw (cores_given w.settings w.cores, words, ← instrs, first) refl
+    rw (cores_given w.settings w.cores, words, ← instrs, first) (by_columns w)
 
 -- ---- found
 
@@ -137,14 +164,14 @@ body_found braces w laws b limits =
     let i = laws.initial_again stop ps b.initial (b.columns ++ (b.rows ++ terms b.ending)) w.settings b.is_initial limits.settings whole in
     let c = laws.columns_again stop i.1.rest b.columns (b.rows ++ terms b.ending) w.cores b.is_header_row i.1.behind in
     let registers : registers_of w.cores i.0.registers ≡ Ok (first_registers w.settings w.cores) = i.2.registers w.cores limits.cores in
-    let within : AreWithin i.0.names es = subst (λ names. AreWithin names es) (sym i.2.names) limits.rows in
+    let within : EntriesWithin i.0.names es = subst (λ names. EntriesWithin names es) (sym i.2.names) (entries_within (numbered [] (names_in w.settings)) w.table limits.rows) in
     let r = laws.rows_again stop w.cores i.0.names c.rest b.rows (terms b.ending) w.table b.are_rows within c.behind (ends_here braces stop b.ending w.asked b.is_ending) in
     let known = numbered i.0.names (locations_of es) in
     let last : AreLast ps r.rest =
     last_of_last ps c.rest r.rest (last_of_last ps i.1.rest c.rest (laws.last_initial stop [] ps i.1.rest i.0 i.1.is) (laws.last_columns stop i.1.rest c.rest w.cores c.is))
     (laws.last_rows stop w.cores i.0.names c.rest (rows_by i.0.names es r.rest) r.is) in
     let same : r.rest ≡ b.ending = same_end last.taken b.front r.rest b.ending (sym last.parts ∙ b.parts) (same_length r.rest b.ending r.behind) in
-    let asked : IsAskedWithin w.cores known w.asked = subst (λ names. IsAskedWithin w.cores (numbered names (locations_of es)) w.asked) (sym i.2.names) limits.condition in
+    let asked : IsAskedWithin w.cores known w.asked = subst (λ names. IsAskedWithin w.cores (numbered names (locations_of es)) w.asked) (sym i.2.names) (subst (λ named. IsAskedWithin w.cores (numbered (numbered [] (names_in w.settings)) named) w.asked) (sym (named-same w.table)) limits.condition) in
     let tail : tail_at braces stop w.cores known r.rest ≡ Ok (given known w.asked) =
     subst (λ (l : List Piece). tail_at braces stop w.cores known l ≡ Ok (given known w.asked)) (sym same) (tail_again braces stop w.cores known b.ending w.asked laws.closes b.is_ending asked) in
     rw (i.1.is, c.is, registers, r.is, tail) (ap (λ (t : Litmus). Ok t) (parts_are w i.0 i.2))
@@ -239,8 +266,9 @@ body_taken called braces t laws e =
       limits = record {
         settings = initial.2;
         cores = has;
-        rows = subst (λ names. AreWithin names es) says.names rows.within;
-        condition = subst (λ names. IsAskedWithin c.0.0 (numbered names (locations_of es)) ends.c) says.names ends.within;
+        rows = columns_within (numbered [] (names_in settings)) rows.table (subst (λ names. EntriesWithin names es) says.names rows.within);
+        condition = subst (λ named. IsAskedWithin c.0.0 (numbered (numbered [] (names_in settings)) named) ends.c) (named-same rows.table)
+            (subst (λ names. IsAskedWithin c.0.0 (numbered names (locations_of es)) ends.c) says.names ends.within);
       };
       says = sym gives ∙ parts_are w i.0.0 says;
     }

@@ -1,10 +1,12 @@
 -- Tokens at the front, found and taken.
-use Rattle.std.proofs.Common.{◌≡◌, ℕ, Bool, true, false, cond, eqb, eqb-true, if◌then◌else◌, List, [], ◌∷◌, Option, Some, None, Result, Ok, Err, refl, sym, ap, ◌∙◌, ◌⊎◌, inl, inr}
+use Rattle.std.proofs.Common.{◌≡◌, ℕ, Bool, true, false, cond, List, [], ◌∷◌, Option, Some, None, Result, Ok, Err, refl, sym, ap, ◌∙◌, ◌⊎◌, inl, inr}
+use Rattle.std.specs.Str.{bytes_eq}
+use Rattle.std.proofs.lemmas.Slice.Eq.{bytes_eq-Decides}
 use Rattle.litmus_tokens.specs.declared.token.Symbol.{Symbol}
 use Rattle.litmus_tokens.specs.declared.token.Symbol.TheVariants.{Equals, Semicolon, Colon, OpenSquare, CloseSquare, OpenCurly, CloseCurly, Bar, Comma, Dollar, Tilde, OpenRound, CloseRound, And, Or}
-use Rattle.litmus_tokens.specs.Terms.{Term, number, name, symbol}
+use Rattle.litmus_tokens.specs.Terms.{Term, number, name, symbol, spelling_of, symbols, symbol_of}
 use Rattle.litmus_tokens.specs.Pieces.{Piece}
-use Rattle.litmus_tokens.specs.Front.{code_of, is_symbol_term, is_symbol, symbol_at, name_then, name_at, number_then, number_at}
+use Rattle.litmus_tokens.specs.Front.{is_symbol_term, is_symbol, symbol_at, name_then, name_at, number_then, number_at}
 use Rattle.litmus_reader.specs.declared.fault.Fault.{Fault}
 use Rattle.litmus_reader.specs.declared.fault.Part.{Part}
 use Rattle.litmus_reader.specs.Faults.{◌>>=◌, there, or_unfit}
@@ -89,41 +91,34 @@ name_takes (p ∷ ps) rest x e = by_term p.term refl e
     by_term (name y) is h = let same = pair_is y x ps rest h in rw (is, same.0, same.1) refl
     by_term (symbol s) is h = absurd cc
 
--- a symbol by its code
-abbrev symbol_with : ℕ → Symbol
-symbol_with n =
-    if eqb n 0 then Equals
-    else if eqb n 1 then Semicolon
-    else if eqb n 2 then Colon
-    else if eqb n 3 then OpenSquare
-    else if eqb n 4 then CloseSquare
-    else if eqb n 5 then OpenCurly
-    else if eqb n 6 then CloseCurly
-    else if eqb n 7 then Bar
-    else if eqb n 8 then Comma
-    else if eqb n 9 then Dollar
-    else if eqb n 10 then Tilde
-    else if eqb n 11 then OpenRound
-    else if eqb n 12 then CloseRound
-    else if eqb n 13 then And
-    else Or
+-- a symbol is found by its spelling
+found_again : (s : Symbol) → symbol_of (spelling_of s) ≡ Some (s, [])
+unfolding symbol_of symbols
+found_again Equals = refl
+found_again Semicolon = refl
+found_again Colon = refl
+found_again OpenSquare = refl
+found_again CloseSquare = refl
+found_again OpenCurly = refl
+found_again CloseCurly = refl
+found_again Bar = refl
+found_again Comma = refl
+found_again Dollar = refl
+found_again Tilde = refl
+found_again OpenRound = refl
+found_again CloseRound = refl
+found_again And = refl
+found_again Or = refl
 
-with_code : (s : Symbol) → symbol_with (code_of s) ≡ s
-with_code Equals = refl
-with_code Semicolon = refl
-with_code Colon = refl
-with_code OpenSquare = refl
-with_code CloseSquare = refl
-with_code OpenCurly = refl
-with_code CloseCurly = refl
-with_code Bar = refl
-with_code Comma = refl
-with_code Dollar = refl
-with_code Tilde = refl
-with_code OpenRound = refl
-with_code CloseRound = refl
-with_code And = refl
-with_code Or = refl
+abbrev first_or : Symbol → Option (Symbol × List ℕ) → Symbol
+first_or s (Some found) = found.0
+first_or s None = s
+
+spelling_tells : (s t : Symbol) → spelling_of s ≡ spelling_of t → s ≡ t
+spelling_tells s t e = ap (first_or s) (sym (found_again s) ∙ ap symbol_of e ∙ found_again t)
+
+pub spelled_so : (s : Symbol) → bytes_eq (spelling_of s) (spelling_of s) ≡ true
+spelled_so s = (bytes_eq-Decides (spelling_of s) (spelling_of s)).1 refl
 
 pub symbol_is : (s : Symbol) (p : Piece) → is_symbol s p ≡ true → p.term ≡ symbol s
 unfolding is_symbol
@@ -132,7 +127,7 @@ symbol_is s p e = by_term p.term refl e
     by_term : (t : Term) → p.term ≡ t → is_symbol_term s t ≡ true → p.term ≡ symbol s
     by_term (number n) is h = absurd cc
     by_term (name x) is h = absurd cc
-    by_term (symbol t) is h = is ∙ ap (λ (u : Symbol). symbol u) (sym (with_code t) ∙ ap symbol_with (sym (eqb-true _ _ h)) ∙ with_code s)
+    by_term (symbol t) is h = is ∙ ap (λ (u : Symbol). symbol u) (sym (spelling_tells s t ((bytes_eq-Decides (spelling_of s) (spelling_of t)).0 h)))
 
 pub symbol_takes : (s : Symbol) (ps rest : List Piece) → symbol_at s ps ≡ Some rest → terms ps ≡ symbol s ∷ terms rest
 unfolding symbol_at

@@ -17,6 +17,9 @@ pub mod Named
 pub mod Known
 pub mod InitialKept
 pub mod TableKept
+pub mod Placed
+pub mod PlacedFaults
+pub mod Columnwise
 pub mod ClaimsKept
 pub mod Within
 pub mod Readings

@@ -11,7 +11,8 @@ use Rattle.litmus_reader.specs.Grammar.{terms}
 use Rattle.litmus_reader.specs.Forms.{spelled_in}
 use Rattle.litmus_reader.specs.Conditions.{Claimed, claimed, Proposition, Conditioned, conditioned, with_claim}
 use Rattle.tso_model.specs.declared.condition.Quantifier.{Quantifier}
-use Rattle.litmus_reader.specs.GrammarTable.{Placed, placed_in, AreWithin, AreRows, instrs_with, locations_of, ends_rows}
+use Rattle.litmus_reader.specs.GrammarTable.{AreRows, ends_rows}
+use Rattle.litmus_reader.proofs.Placed.{Placed, placed_in, instrs_with, locations_of, EntriesWithin}
 use Rattle.litmus_reader.specs.GrammarConditions.{IsCondition, IsWithin, locations_in, atoms_of, claim_of}
 use Rattle.litmus_reader.specs.GrammarInitial.{has_cores, names_in, first_words, first_registers}
 use Rattle.litmus_reader.specs.Written.{Setting, Shape, Phrase}
@@ -80,7 +81,7 @@ pub record SpellsRows (cores : ℕ) (names : List (List ℕ)) (ps : List Piece) 
   pub table : List (List (Option Shape))
   pub are : AreRows cores ts table
   pub parts : terms ps ≡ ts ++ terms r.rest
-  pub within : AreWithin names (placed_in table)
+  pub within : EntriesWithin names (placed_in table)
   pub given : r ≡ rows_by names (placed_in table) r.rest
   pub ended : ends_rows r.rest ≡ true
 

@@ -14,8 +14,11 @@ use Rattle.litmus_reader.specs.Forms.{spelled_in}
 use Rattle.litmus_reader.specs.Cells.{instr_of, count_of, cell_in, cells_in}
 use Rattle.litmus_reader.specs.Grammar.{terms}
 use Rattle.litmus_reader.specs.GrammarRows.{empty, full}
-use Rattle.litmus_reader.specs.GrammarTable.{Placed, placed, placed_from, ValueFits, AreWithin, of_core}
-use Rattle.litmus_reader.specs.RefusedTable.{IsCellFault, bad_instruction, bad_number, one_too_many, AreSpelled, none, more}
+use Rattle.litmus_reader.specs.GrammarTable.{ValueFits}
+use Rattle.litmus_reader.proofs.Placed.{Placed, placed, placed_from, EntriesWithin}
+use Rattle.litmus_reader.specs.Cells.{of_core}
+use Rattle.litmus_reader.specs.RefusedTable.{AreSpelled, none, more}
+use Rattle.litmus_reader.proofs.PlacedFaults.{IsEntryFault, bad_instruction, bad_number, one_too_many}
 use Rattle.litmus_reader.proofs.GrammarTokens.{chosen, some_is}
 use Rattle.litmus_reader.proofs.GrammarAtoms.{word_is}
 use Rattle.litmus_reader.proofs.GrammarCells.{cell_again, cell_takes}
@@ -116,7 +119,7 @@ cell_large core names done p ps shape g is fits e =
       ]
     ]
 
-cell_refuses : (core : ℕ) (names : List (List ℕ)) (done : List Placed) (p : Piece) (ps : List Piece) (why : Why) → AreWithin names done → IsCellFault names done core (p ∷ ps) why
+cell_refuses : (core : ℕ) (names : List (List ℕ)) (done : List Placed) (p : Piece) (ps : List Piece) (why : Why) → EntriesWithin names done → IsEntryFault names done core (p ∷ ps) why
     → cell_in core (instrs_of names done) (names_of names done) (p ∷ ps) ≡ Err (fault why p.left)
 cell_refuses core names done p ps _ h (bad_instruction never) = by_shape (spelled_in (p ∷ ps)) refl
   where
@@ -131,19 +134,19 @@ cell_refuses core names done p ps _ h (one_too_many shape is fits past) = by_rea
     by_read (Ok r) e =
         let t = cell_taken core names done p ps r h e in
         let same : t.shape ≡ shape = some_is t.shape shape (sym t.is ∙ cell_again (p ∷ ps) shape is) in
-        absurd (past (subst (λ (s : Shape). AreWithin names (done ++ placed core s ∷ [])) same t.within))
+        absurd (past (subst (λ (s : Shape). EntriesWithin names (done ++ placed core s ∷ [])) same t.within))
 
 cell_refused : (core : ℕ) (names : List (List ℕ)) (done : List Placed) (p : Piece) (ps : List Piece) (f : Fault) → cell_in core (instrs_of names done) (names_of names done) (p ∷ ps) ≡ Err f
-    → (why : Why) × IsCellFault names done core (p ∷ ps) why × (f ≡ fault why p.left)
+    → (why : Why) × IsEntryFault names done core (p ∷ ps) why × (f ≡ fault why p.left)
 cell_refused core names done p ps f e = by_shape (spelled_in (p ∷ ps)) refl
   where
-    by_number : (shape : Shape) → spelled_in (p ∷ ps) ≡ Some shape → ValueFits shape ⊎ ¬ (ValueFits shape) → (why : Why) × IsCellFault names done core (p ∷ ps) why × (f ≡ fault why p.left)
+    by_number : (shape : Shape) → spelled_in (p ∷ ps) ≡ Some shape → ValueFits shape ⊎ ¬ (ValueFits shape) → (why : Why) × IsEntryFault names done core (p ∷ ps) why × (f ≡ fault why p.left)
     by_number shape is (inr big) =
         (BadNumber, bad_number shape (cell_takes (p ∷ ps) shape is) big, err_is f (fault BadNumber p.left) (sym e ∙ cell_number core names done p ps shape is big))
     by_number shape is (inl fits) =
         (TooLarge, one_too_many shape (cell_takes (p ∷ ps) shape is) fits (λ within. let never = sym e ∙ cell_found core names done p ps shape is within in cc), cell_large core names done p ps shape f is fits e)
 
-    by_shape : (o : Option Shape) → spelled_in (p ∷ ps) ≡ o → (why : Why) × IsCellFault names done core (p ∷ ps) why × (f ≡ fault why p.left)
+    by_shape : (o : Option Shape) → spelled_in (p ∷ ps) ≡ o → (why : Why) × IsEntryFault names done core (p ∷ ps) why × (f ≡ fault why p.left)
     by_shape None is =
         (BadInstruction, bad_instruction (λ shape cell. let never = sym is ∙ cell_again (p ∷ ps) shape cell in cc), err_is f (fault BadInstruction p.left) (sym e ∙ cell_form core names done p ps is))
     by_shape (Some shape) is = by_number shape is (number_decided shape)
@@ -155,7 +158,7 @@ spelled_read _ _ none = tt
 spelled_read _ _ (more cell rest c cs is are) = (field_read (terms cell) c is cell refl, spelled_read rest cs are)
 
 cells_pass : (parts : List (List Piece)) (cells : List (Option Shape)) → AreReadAs parts cells → (core : ℕ) (names : List (List ℕ)) (done : List Placed) (rest : List (List Piece))
-    → AreWithin names (done ++ placed_from core cells) → cells_in core (instrs_of names done) (names_of names done) (parts ++ rest)
+    → EntriesWithin names (done ++ placed_from core cells) → cells_in core (instrs_of names done) (names_of names done) (parts ++ rest)
     ≡ cells_in (core + length parts) (instrs_of names (done ++ placed_from core cells)) (names_of names (done ++ placed_from core cells)) rest
 unfolding cells_in cell_in
 cells_pass [] [] are core names done rest h =
@@ -174,7 +177,7 @@ cells_pass ((p ∷ ps) ∷ parts) (Some shape ∷ cs) are core names done rest h
     let e = placed core shape in
     let others = placed_from (core + 1) cs in
     let regroup : (done ++ e ∷ []) ++ others ≡ done ++ e ∷ others = append_assoc done (e ∷ []) others in
-    let whole : AreWithin names ((done ++ e ∷ []) ++ others) = subst (λ (l : List Placed). AreWithin names l) (sym regroup) h in
+    let whole : EntriesWithin names ((done ++ e ∷ []) ++ others) = subst (λ (l : List Placed). EntriesWithin names l) (sym regroup) h in
     let first = cell_found core names done p ps shape are.0 (within_first names (done ++ e ∷ []) others whole) in
     let count : core + 1 + length parts ≡ core + length ((p ∷ ps) ∷ parts) = omega arith in
     ap (λ (r : Result Read Fault). r >>= λ read. cells_in (core + 1) read.0 read.1 (parts ++ rest)) first
@@ -188,7 +191,7 @@ unfolding cells_in
 cells_stop core names done cell after f e = rw e refl
 
 pub cells_refuse : (names : List (List ℕ)) (done : List Placed) (before after : List (List Piece)) (p : Piece) (ps : List Piece) (spelled : List (Option Shape)) (why : Why) → AreSpelled before spelled
-    → AreWithin names (done ++ placed_from 0 spelled) → IsCellFault names (done ++ placed_from 0 spelled) (length before) (p ∷ ps) why
+    → EntriesWithin names (done ++ placed_from 0 spelled) → IsEntryFault names (done ++ placed_from 0 spelled) (length before) (p ∷ ps) why
     → cells_in 0 (instrs_of names done) (names_of names done) (before ++ (p ∷ ps) ∷ after) ≡ Err (fault why p.left)
 cells_refuse names done before after p ps spelled why are h bad =
     let count : 0 + length before ≡ length before = omega arith in
@@ -207,11 +210,11 @@ pub record CellsRefused (core : ℕ) (names : List (List ℕ)) (done : List Plac
   pub why : Why
   pub cells : parts ≡ before ++ (first ∷ cell) ∷ after
   pub are : AreSpelled before spelled
-  pub within : AreWithin names (done ++ placed_from core spelled)
-  pub is : IsCellFault names (done ++ placed_from core spelled) (core + length before) (first ∷ cell) why
+  pub within : EntriesWithin names (done ++ placed_from core spelled)
+  pub is : IsEntryFault names (done ++ placed_from core spelled) (core + length before) (first ∷ cell) why
   pub place : f ≡ fault why first.left
 
-pub cells_refused : (parts : List (List Piece)) (core : ℕ) (names : List (List ℕ)) (done : List Placed) (f : Fault) → AreWithin names done
+pub cells_refused : (parts : List (List Piece)) (core : ℕ) (names : List (List ℕ)) (done : List Placed) (f : Fault) → EntriesWithin names done
     → cells_in core (instrs_of names done) (names_of names done) parts ≡ Err f → CellsRefused core names done parts f
 unfolding cells_in cell_in
 cells_refused [] core names done f h e = absurd cc
@@ -228,7 +231,7 @@ cells_refused ([] ∷ rest) core names done f h e =
       cells = ap (λ (l : List (List Piece)). [] ∷ l) r.cells;
       are = more [] r.before None r.spelled empty r.are;
       within = r.within;
-      is = subst (λ (k : ℕ). IsCellFault names (done ++ placed_from (core + 1) r.spelled) k (r.first ∷ r.cell) r.why) count r.is;
+      is = subst (λ (k : ℕ). IsEntryFault names (done ++ placed_from (core + 1) r.spelled) k (r.first ∷ r.cell) r.why) count r.is;
       place = r.place;
     }
 cells_refused ((p ∷ ps) ∷ rest) core names done f h e =
@@ -246,8 +249,8 @@ cells_refused ((p ∷ ps) ∷ rest) core names done f h e =
             why = why.0;
             cells = refl;
             are = none;
-            within = subst (λ (l : List Placed). AreWithin names l) same h;
-            is = subst (λ (k : ℕ). IsCellFault names (done ++ []) k (p ∷ ps) why.0) count (subst (λ (l : List Placed). IsCellFault names l core (p ∷ ps) why.0) same why.1);
+            within = subst (λ (l : List Placed). EntriesWithin names l) same h;
+            is = subst (λ (k : ℕ). IsEntryFault names (done ++ []) k (p ∷ ps) why.0) count (subst (λ (l : List Placed). IsEntryFault names l core (p ∷ ps) why.0) same why.1);
             place = why.2;
           }
       | inr c ↦
@@ -267,9 +270,9 @@ cells_refused ((p ∷ ps) ∷ rest) core names done f h e =
             why = r.why;
             cells = ap (λ (l : List (List Piece)). (p ∷ ps) ∷ l) r.cells;
             are = more (p ∷ ps) r.before (Some first.shape) r.spelled (full (terms (p ∷ ps)) first.shape (cell_takes (p ∷ ps) first.shape first.is)) r.are;
-            within = subst (λ (l : List Placed). AreWithin names l) regroup r.within;
-            is = subst (λ (k : ℕ). IsCellFault names (done ++ one ∷ placed_from (core + 1) r.spelled) k (r.first ∷ r.cell) r.why) count
-                (subst (λ (l : List Placed). IsCellFault names l (core + 1 + length r.before) (r.first ∷ r.cell) r.why) regroup r.is);
+            within = subst (λ (l : List Placed). EntriesWithin names l) regroup r.within;
+            is = subst (λ (k : ℕ). IsEntryFault names (done ++ one ∷ placed_from (core + 1) r.spelled) k (r.first ∷ r.cell) r.why) count
+                (subst (λ (l : List Placed). IsEntryFault names l (core + 1 + length r.before) (r.first ∷ r.cell) r.why) regroup r.is);
             place = r.place;
           }
     ]

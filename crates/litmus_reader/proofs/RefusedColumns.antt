@@ -133,8 +133,8 @@ columns_refuse stop _ _ _ (no_name ps at mis) (suc n) all = absurd (omega arith)
 columns_refuse stop _ _ _ (one_too_many this ps is) zero all = too_many stop most_cores (this ∷ ps) ps (same_name (in_columns stop) most_cores this ps is)
 columns_refuse stop _ _ _ (one_too_many this ps is) (suc n) all = absurd (omega arith)
 
-fifth_refused : (stop : Stop) (ps : List Piece) (f : Fault) → columns stop zero most_cores ps ≡ Err f → IsColumnsFault stop most_cores ps f
-fifth_refused stop ps f e =
+extra_refused : (stop : Stop) (ps : List Piece) (f : Fault) → columns stop zero most_cores ps ≡ Err f → IsColumnsFault stop most_cores ps f
+extra_refused stop ps f e =
     elim (core_there (in_columns stop) most_cores [] ps) [
       | inl m ↦ subst (IsColumnsFault stop most_cores ps) (err_is (unfit (in_columns stop) m.at) f (sym (misses_last stop most_cores ps m.at m.read zero) ∙ e)) (no_name ps m.at m.mis)
       | inr c ↦
@@ -153,7 +153,7 @@ by_more stop n core ps f lt c false p further e = let never = sym (one_further s
 pub columns_refused : (n : ℕ) (stop : Stop) (core : ℕ) (ps : List Piece) (f : Fault) → n + core ≡ most_cores → columns stop n core ps ≡ Err f → IsColumnsFault stop core ps f
 columns_refused zero stop core ps f all e =
     let is : most_cores ≡ core = omega arith in
-    subst (λ (k : ℕ). IsColumnsFault stop k ps f) is (fifth_refused stop ps f (subst (λ (k : ℕ). columns stop zero k ps ≡ Err f) (sym is) e))
+    subst (λ (k : ℕ). IsColumnsFault stop k ps f) is (extra_refused stop ps f (subst (λ (k : ℕ). columns stop zero k ps ≡ Err f) (sym is) e))
 columns_refused (suc n) stop core ps f all e =
     elim (core_there (in_columns stop) core (ends_column ∷ []) ps) [
       | inl m ↦ subst (IsColumnsFault stop core ps) (err_is (unfit (in_columns stop) m.at) f (sym (misses_last stop core ps m.at m.read (suc n)) ∙ e)) (unfit_token core ps m.at (omega arith) m.mis)

@@ -9,7 +9,9 @@ use Rattle.litmus_reader.specs.Rows.{Rows, rows_at}
 use Rattle.litmus_reader.specs.Grammar.{terms}
 use Rattle.litmus_reader.specs.GrammarInitial.{IsInitialState}
 use Rattle.litmus_reader.specs.GrammarColumns.{IsHeaderRow}
-use Rattle.litmus_reader.specs.GrammarTable.{AreRows, placed_in}
+use Rattle.litmus_reader.specs.GrammarTable.{AreRows}
+use Rattle.litmus_reader.proofs.Columnwise.{entries_within, columns_within}
+use Rattle.litmus_reader.proofs.Placed.{placed_in}
 use Rattle.litmus_reader.specs.Refusals.{PassesInitial, PassesHeaderRow, PassesRows}
 use Rattle.litmus_reader.proofs.GrammarBehind.{initial_leaves, header_row_leaves, all_rows_leave}
 use Rattle.litmus_reader.proofs.GrammarInitialJudged.{Holds}
@@ -82,7 +84,7 @@ columns_passed stop cores ps rest e =
 pub rows_pass : (stop : Stop) (cores : ℕ) (names : List (List ℕ)) (table : List (List (Option Shape))) (ps rest : List Piece) → PassesRows cores names table ps rest
     → rows_at stop cores names ps ≡ Ok (rows_by names (placed_in table) rest)
 rows_pass stop cores names table ps rest p =
-    let f = rows_again stop cores names ps (terms p.front) (terms rest) table p.are p.within (ap terms p.parts ∙ terms_append p.front rest) (sym (ends_is rest) ∙ p.ended) in
+    let f = rows_again stop cores names ps (terms p.front) (terms rest) table p.are (entries_within names table p.within) (ap terms p.parts ∙ terms_append p.front rest) (sym (ends_is rest) ∙ p.ended) in
     let same : f.rest ≡ rest = same_place ps p.front rest f.rest p.parts (all_rows_leave stop cores names ps (rows_by names (placed_in table) f.rest) f.is) f.behind in
     subst (λ (l : List Piece). rows_at stop cores names ps ≡ Ok (rows_by names (placed_in table) l)) same f.is
 
@@ -98,6 +100,6 @@ rows_passed stop cores names ps r few e =
     let front : terms last.taken ≡ t.ts = taken_terms ps last.taken r.rest t.ts last.parts t.parts in
     record {
       table = t.table;
-      passes = record { front = last.taken; parts = last.parts; are = subst (λ (l : List Term). AreRows cores l t.table) (sym front) t.are; within = t.within; ended = t.ended };
+      passes = record { front = last.taken; parts = last.parts; are = subst (λ (l : List Term). AreRows cores l t.table) (sym front) t.are; within = columns_within names t.table t.within; ended = t.ended };
       given = t.given;
     }

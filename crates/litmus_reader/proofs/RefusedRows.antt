@@ -14,8 +14,11 @@ use Rattle.litmus_reader.specs.Cells.{cells_in}
 use Rattle.litmus_reader.specs.Rows.{row_at, row_in, Rows, rows_at}
 use Rattle.litmus_reader.specs.Grammar.{terms}
 use Rattle.litmus_reader.specs.GrammarNames.{numbered}
-use Rattle.litmus_reader.specs.GrammarTable.{AreRows, none as no_rows, more as more_rows, Placed, placed_from, placed_in, ends_table, AreWithin, ends_rows}
-use Rattle.litmus_reader.specs.RefusedTable.{IsCellFault, IsRowFault, unclosed, wrong_cells, in_cell, IsRowsFault, in_row, row_in_front, cells_of}
+use Rattle.litmus_reader.specs.GrammarTable.{AreRows, none as no_rows, more as more_rows, ends_table, ends_rows}
+use Rattle.litmus_reader.proofs.Placed.{Placed, placed_from, placed_in, EntriesWithin}
+use Rattle.litmus_reader.specs.RefusedTable.{IsRowsFault, in_row, row_in_front, cells_of}
+use Rattle.litmus_reader.proofs.PlacedFaults.{IsEntryFault, IsEntriesFault, unclosed, wrong_cells, in_cell}
+use Rattle.litmus_reader.proofs.Columnwise.{entries_within, columns_within, entries_fault, row_fault}
 use Rattle.litmus_reader.proofs.Keeps.{ok_is as keeps_ok}
 use Rattle.litmus_reader.proofs.RowSteps.{RowsBehind, rows_start, rows_end, rows_go_on, row_fails, row_open}
 use Rattle.litmus_reader.proofs.GrammarTokens.{ok_is}
@@ -62,7 +65,7 @@ data RowRefuses (stop : Stop) (cores : ℕ) (names : List (List ℕ)) (done : Li
   at_end : row_at stop ps ≡ Err f → RowRefuses stop cores names done ps f
   in_cells : (row rest : List Piece) → row_at stop ps ≡ Ok (row, rest) → row_in cores (left_of ps) (instrs_of names done) (names_of names done) row ≡ Err f → RowRefuses stop cores names done ps f
 
-row_refuses : (stop : Stop) (cores : ℕ) (names : List (List ℕ)) (done : List Placed) (ps : List Piece) (f : Fault) → IsRowFault stop cores names done ps f → RowRefuses stop cores names done ps f
+row_refuses : (stop : Stop) (cores : ℕ) (names : List (List ℕ)) (done : List Placed) (ps : List Piece) (f : Fault) → IsEntriesFault stop cores names done ps f → RowRefuses stop cores names done ps f
 row_refuses stop cores names done ps _ (unclosed lacks) = at_end (row_missing stop ps lacks)
 row_refuses stop cores names done ps _ (wrong_cells some differs) =
     in_cells (row_in_front ps) (after_first (is_symbol Semicolon) ps) (row_there stop ps some) (row_counts cores (left_of ps) names done (row_in_front ps) differs)
@@ -78,8 +81,8 @@ number_decided m n = by_test (eqb m n) refl
     by_test true e = inl (eqb-true _ _ e)
     by_test false e = inr (eqb-false m n e)
 
-row_refused : (stop : Stop) (cores : ℕ) (names : List (List ℕ)) (done : List Placed) (ps row rest : List Piece) (f : Fault) → AreWithin names done → list_any (is_symbol Semicolon) ps ≡ true
-    → row_at stop ps ≡ Ok (row, rest) → row_in cores (left_of ps) (instrs_of names done) (names_of names done) row ≡ Err f → IsRowFault stop cores names done ps f
+row_refused : (stop : Stop) (cores : ℕ) (names : List (List ℕ)) (done : List Placed) (ps row rest : List Piece) (f : Fault) → EntriesWithin names done → list_any (is_symbol Semicolon) ps ≡ true
+    → row_at stop ps ≡ Ok (row, rest) → row_in cores (left_of ps) (instrs_of names done) (names_of names done) row ≡ Err f → IsEntriesFault stop cores names done ps f
 row_refused stop cores names done ps row rest f h some at e = by_count (number_decided (length (cells_of (row_in_front ps))) cores)
   where
     here : row_in cores (left_of ps) (instrs_of names done) (names_of names done) (row_in_front ps) ≡ Err f
@@ -87,14 +90,14 @@ row_refused stop cores names done ps row rest f h some at e = by_count (number_d
         let same : row_in_front ps ≡ row = ap (λ (r : List Piece × List Piece). r.0) (ok_is (row_in_front ps, after_first (is_symbol Semicolon) ps) (row, rest) (sym (row_there stop ps some) ∙ at)) in
         ap (row_in cores (left_of ps) (instrs_of names done) (names_of names done)) same ∙ e
 
-    by_count : (length (cells_of (row_in_front ps)) ≡ cores) ⊎ (length (cells_of (row_in_front ps)) ≢ cores) → IsRowFault stop cores names done ps f
+    by_count : (length (cells_of (row_in_front ps)) ≡ cores) ⊎ (length (cells_of (row_in_front ps)) ≢ cores) → IsEntriesFault stop cores names done ps f
     by_count (inr differs) =
-        subst (IsRowFault stop cores names done ps) (err_is (fault WrongCells (left_of ps)) f (sym (row_counts cores (left_of ps) names done (row_in_front ps) differs) ∙ here)) (wrong_cells some differs)
+        subst (IsEntriesFault stop cores names done ps) (err_is (fault WrongCells (left_of ps)) f (sym (row_counts cores (left_of ps) names done (row_in_front ps) differs) ∙ here)) (wrong_cells some differs)
     by_count (inl count) =
         let r = cells_refused (cells_of (row_in_front ps)) 0 names done f h (sym (row_reads cores (left_of ps) names done (row_in_front ps) count) ∙ here) in
         let number : 0 + length r.before ≡ length r.before = omega arith in
-        let is = subst (λ (k : ℕ). IsCellFault names (done ++ placed_from 0 r.spelled) k (r.first ∷ r.cell) r.why) number r.is in
-        subst (IsRowFault stop cores names done ps) (sym r.place) (in_cell r.before r.after r.first r.cell r.spelled r.why some count r.cells r.are r.within is)
+        let is = subst (λ (k : ℕ). IsEntryFault names (done ++ placed_from 0 r.spelled) k (r.first ∷ r.cell) r.why) number r.is in
+        subst (IsEntriesFault stop cores names done ps) (sym r.place) (in_cell r.before r.after r.first r.cell r.spelled r.why some count r.cells r.are r.within is)
 
 -- ---- rows one after the other
 
@@ -106,7 +109,7 @@ record RowsReached (stop : Stop) (cores : ℕ) (names : List (List ℕ)) (entrie
   pub last : AreLast ps rest
 
 rows_reach : (stop : Stop) (cores : ℕ) (names : List (List ℕ)) (ts : List Term) (table : List (List (Option Shape))) → AreRows cores ts table → (ps : List Piece) (total : Result Rows Fault) (done : List Placed)
-    (back : List Term) → terms ps ≡ ts ++ back → AreWithin names (done ++ placed_in table) → RowsBehind stop cores (instrs_of names done) (names_of names done) ps total
+    (back : List Term) → terms ps ≡ ts ++ back → EntriesWithin names (done ++ placed_in table) → RowsBehind stop cores (instrs_of names done) (names_of names done) ps total
     → RowsReached stop cores names (done ++ placed_in table) total back ps
 rows_reach stop cores names _ _ no_rows ps total done back e h b =
     let same : done ≡ done ++ [] = sym (append-nil done) in
@@ -116,7 +119,7 @@ rows_reach stop cores names _ _ (more_rows ts us cells others is are) ps total d
     let first = row_again stop cores ps ts (us ++ back) cells is front in
     let one = placed_from 0 cells in
     let regroup : (done ++ one) ++ placed_in others ≡ done ++ (one ++ placed_in others) = append_assoc done one (placed_in others) in
-    let whole : AreWithin names ((done ++ one) ++ placed_in others) = subst (λ (l : List Placed). AreWithin names l) (sym regroup) h in
+    let whole : EntriesWithin names ((done ++ one) ++ placed_in others) = subst (λ (l : List Placed). EntriesWithin names l) (sym regroup) h in
     let read = row_found cores (left_of ps) names done first.row cells (row_count cores ts cells is) first.cells_are (within_first names (done ++ one) (placed_in others) whole) in
     let go : ends_rows ps ≡ false = ends_is ps ∙ ap ends_table front ∙ row_begins cores ts cells is (us ++ back) in
     let shorter = row_shorter cores ts cells ps first.rest is (front ∙ ap (λ (l : List Term). ts ++ l) (sym first.behind)) in
@@ -141,10 +144,10 @@ unfolding numbered
 rows_refuse stop cores names _ _ (in_row front ps table f are within go bad) =
     let all = front ++ ps in
     let total = rows_at stop cores names all in
-    let r = rows_reach stop cores names (terms front) table are all total [] (terms ps) (terms_append front ps) within (rows_start stop cores names all) in
+    let r = rows_reach stop cores names (terms front) table are all total [] (terms ps) (terms_append front ps) (entries_within names table within) (rows_start stop cores names all) in
     let same : r.rest ≡ ps = same_place all front ps r.rest refl r.last r.behind in
     let on = subst (λ (l : List Piece). RowsBehind stop cores (instrs_of names (placed_in table)) (names_of names (placed_in table)) l total) same r.on in
-    stopped stop cores names (placed_in table) ps total f go (row_refuses stop cores names (placed_in table) ps f bad) on
+    stopped stop cores names (placed_in table) ps total f go (row_refuses stop cores names (placed_in table) ps f (entries_fault stop cores names table ps f bad)) on
 
 -- ---- the other way
 
@@ -155,11 +158,11 @@ record RowsRefused (stop : Stop) (cores : ℕ) (names : List (List ℕ)) (done :
   pub table : List (List (Option Shape))
   pub parts : ps ≡ front ++ rest
   pub are : AreRows cores (terms front) table
-  pub within : AreWithin names (done ++ placed_in table)
+  pub within : EntriesWithin names (done ++ placed_in table)
   pub go : ends_rows rest ≡ false
-  pub is : IsRowFault stop cores names (done ++ placed_in table) rest f
+  pub is : IsEntriesFault stop cores names (done ++ placed_in table) rest f
 
-row_at_once : (stop : Stop) (cores : ℕ) (names : List (List ℕ)) (done : List Placed) (ps : List Piece) (f : Fault) → AreWithin names done → ends_rows ps ≡ false → IsRowFault stop cores names done ps f
+row_at_once : (stop : Stop) (cores : ℕ) (names : List (List ℕ)) (done : List Placed) (ps : List Piece) (f : Fault) → EntriesWithin names done → ends_rows ps ≡ false → IsEntriesFault stop cores names done ps f
     → RowsRefused stop cores names done ps f
 row_at_once stop cores names done ps f h go is =
     let same : done ≡ done ++ [] = sym (append-nil done) in
@@ -169,14 +172,14 @@ row_at_once stop cores names done ps f h go is =
       table = [];
       parts = refl;
       are = no_rows;
-      within = subst (λ (l : List Placed). AreWithin names l) same h;
+      within = subst (λ (l : List Placed). EntriesWithin names l) same h;
       go = go;
-      is = subst (λ (l : List Placed). IsRowFault stop cores names l ps f) same is;
+      is = subst (λ (l : List Placed). IsEntriesFault stop cores names l ps f) same is;
     }
 
-rows_step : (stop : Stop) (cores : ℕ) (names : List (List ℕ)) (done : List Placed) (ps : List Piece) (total : Result Rows Fault) (f : Fault) → AreWithin names done
+rows_step : (stop : Stop) (cores : ℕ) (names : List (List ℕ)) (done : List Placed) (ps : List Piece) (total : Result Rows Fault) (f : Fault) → EntriesWithin names done
     → RowsBehind stop cores (instrs_of names done) (names_of names done) ps total → total ≡ Err f
-    → ((d : List Placed) (qs : List Piece) → length qs < length ps → AreWithin names d → RowsBehind stop cores (instrs_of names d) (names_of names d) qs total → RowsRefused stop cores names d qs f)
+    → ((d : List Placed) (qs : List Piece) → length qs < length ps → EntriesWithin names d → RowsBehind stop cores (instrs_of names d) (names_of names d) qs total → RowsRefused stop cores names d qs f)
     → RowsRefused stop cores names done ps f
 rows_step stop cores names done ps total f h b e further = by_end (ends_rows ps) refl
   where
@@ -205,9 +208,9 @@ rows_step stop cores names done ps total f h b e further = by_end (ends_rows ps)
           parts = last.parts ∙ ap (λ (l : List Piece). last.taken ++ l) others.parts ∙ sym (append_assoc last.taken others.front others.rest);
           are = subst (λ (l : List Term). AreRows cores l (cells ∷ others.table)) (ap (λ (l : List Term). l ++ terms others.front) (sym this) ∙ sym (terms_append last.taken others.front))
               (more_rows front.ts (terms others.front) cells others.table front.is others.are);
-          within = subst (λ (l : List Placed). AreWithin names l) regroup others.within;
+          within = subst (λ (l : List Placed). EntriesWithin names l) regroup others.within;
           go = others.go;
-          is = subst (λ (l : List Placed). IsRowFault stop cores names l others.rest f) regroup others.is;
+          is = subst (λ (l : List Placed). IsEntriesFault stop cores names l others.rest f) regroup others.is;
         }
 
     by_semicolon : ends_rows ps ≡ false → (b : Bool) → list_any (is_symbol Semicolon) ps ≡ b → RowsRefused stop cores names done ps f
@@ -217,13 +220,13 @@ rows_step stop cores names done ps total f h b e further = by_end (ends_rows ps)
         let missing = row_missing stop ps lacks in
         let g = at_stop (fault Unclosed (left_of ps)) stop in
         let same : g ≡ f = err_is g f (sym (row_open g stop cores (instrs_of names done) (names_of names done) ps total go missing b) ∙ e) in
-        row_at_once stop cores names done ps f h go (subst (IsRowFault stop cores names done ps) same (unclosed lacks))
+        row_at_once stop cores names done ps f h go (subst (IsEntriesFault stop cores names done ps) same (unclosed lacks))
 
     by_end : (b : Bool) → ends_rows ps ≡ b → RowsRefused stop cores names done ps f
     by_end true end = let never = sym (rows_end stop cores (instrs_of names done) (names_of names done) ps total end b) ∙ e in absurd cc
     by_end false go = by_semicolon go (list_any (is_symbol Semicolon) ps) refl
 
-rows_refused_in : (k : ℕ) (stop : Stop) (cores : ℕ) (names : List (List ℕ)) (done : List Placed) (ps : List Piece) (total : Result Rows Fault) (f : Fault) → length ps ≤ k → AreWithin names done
+rows_refused_in : (k : ℕ) (stop : Stop) (cores : ℕ) (names : List (List ℕ)) (done : List Placed) (ps : List Piece) (total : Result Rows Fault) (f : Fault) → length ps ≤ k → EntriesWithin names done
     → RowsBehind stop cores (instrs_of names done) (names_of names done) ps total → total ≡ Err f → RowsRefused stop cores names done ps f
 rows_refused_in zero stop cores names done ps total f enough h b e = rows_step stop cores names done ps total f h b e (λ d qs less k m. absurd (omega arith))
 rows_refused_in (suc k) stop cores names done ps total f enough h b e =
@@ -233,4 +236,4 @@ pub rows_refused : (stop : Stop) (cores : ℕ) (names : List (List ℕ)) (ps : L
 unfolding numbered
 rows_refused stop cores names ps f few e =
     let r = rows_refused_in (length ps) stop cores names [] ps (rows_at stop cores names ps) f (omega arith) (within_none names few) (rows_start stop cores names ps) e in
-    subst (λ (l : List Piece). IsRowsFault stop cores names l f) (sym r.parts) (in_row r.front r.rest r.table f r.are r.within r.go r.is)
+    subst (λ (l : List Piece). IsRowsFault stop cores names l f) (sym r.parts) (in_row r.front r.rest r.table f r.are (columns_within names r.table r.within) r.go (row_fault stop cores names r.table r.rest f r.is))

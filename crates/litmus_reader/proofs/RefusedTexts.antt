@@ -4,7 +4,7 @@ use Rattle.std.proofs.lemmas.Bool.{ltb-true, lt-ltb}
 use Rattle.tso_model.specs.Limits.{most_cores}
 use Rattle.tso_model.specs.Litmus.{Litmus}
 use Rattle.litmus_tokens.specs.declared.token.Symbol.TheVariants.{OpenCurly}
-use Rattle.litmus_tokens.specs.Terms.{single, symbol_of, term_at, symbol}
+use Rattle.litmus_tokens.specs.Terms.{symbols, symbol_of, term_at, symbol}
 use Rattle.litmus_tokens.specs.Gap.{is_space, gap_end}
 use Rattle.litmus_tokens.specs.Pieces.{Piece, piece_at, pieces_within, pieces_of}
 use Rattle.litmus_reader.specs.declared.fault.Why.TheVariants.{TooLarge}
@@ -19,7 +19,9 @@ use Rattle.litmus_reader.specs.Rows.{Rows, Table, table, table_at, rows_at}
 use Rattle.litmus_reader.specs.Reading.{test_of, tail_at, body_of, reading_of}
 use Rattle.litmus_reader.specs.GrammarText.{AreInformationLines, none, more}
 use Rattle.litmus_reader.specs.GrammarInitial.{Fits, names_in, first_registers}
-use Rattle.litmus_reader.specs.GrammarTable.{placed_in}
+use Rattle.litmus_reader.specs.GrammarNames.{numbered}
+use Rattle.litmus_reader.proofs.Placed.{placed_in, locations_of}
+use Rattle.litmus_reader.proofs.Columnwise.{named-same}
 use Rattle.litmus_reader.specs.RefusedInitial.{IsInitialFault, IsCoreFault}
 use Rattle.litmus_reader.specs.Refusals.{first_names, names_with, IsBodyFault, in_initial, in_header_row, of_core, in_rows, in_ending, IsFault, too_large, in_header, in_information, in_body}
 use Rattle.litmus_reader.proofs.GrammarTokens.{chosen, ok_is, bind_ok}
@@ -63,7 +65,9 @@ body_refuses called braces _ (in_ending settings cores table ps behind last f fi
     let registers : registers_of cores i.i.registers ≡ Ok (first_registers settings cores) = i.says.registers cores has in
     let names = first_names settings in
     let rows : rows_at stop cores i.i.names behind ≡ Ok (rows_by names (placed_in table) last) = ap (λ (l : List (List ℕ)). rows_at stop cores l behind) i.says.names ∙ rows_pass stop cores names table behind last third in
-    let tail = ending_refuses braces stop cores (names_with settings table) last f bad (λ s l e. last_refuses s cores (names_with settings table) l f third.within.room e) in
+    let known = numbered names (locations_of (placed_in table)) in
+    let same : names_with settings table ≡ known = ap (λ (l : List (List ℕ)). numbered names l) (sym (named-same table)) in
+    let tail = subst (λ (l : List (List ℕ)). tail_at braces stop cores l last ≡ Err f) same (ending_refuses braces stop cores (names_with settings table) last f bad (λ s l e. last_refuses s cores (names_with settings table) l f third.within.room e)) in
     rw (i.is, columns_pass stop cores ps behind second, registers, rows, tail) refl
 
 -- the tokens from the `{` on begin with it
@@ -74,7 +78,7 @@ record Opened (braces : List ℕ) : Type 0 where
   pub is : opener.term ≡ symbol OpenCurly
 
 curly_opens : (rest : List ℕ) → Opened (123 ∷ rest)
-unfolding pieces_of pieces_within piece_at gap_end is_space term_at symbol_of single
+unfolding pieces_of pieces_within piece_at gap_end is_space term_at symbol_of symbols
 curly_opens [] = record { opener = record { left = 1; term = symbol OpenCurly }; rest = []; parts = refl; is = refl }
 curly_opens (c ∷ cs) = record { opener = record { left = length (123 ∷ c ∷ cs); term = symbol OpenCurly }; rest = (pieces_within (length (c ∷ cs)) (c ∷ cs)).0; parts = refl; is = refl }
 
@@ -120,7 +124,7 @@ body_refused called braces f o e =
                 let few = few_names p.settings p.passes.fits in
                 let t = rows_passed stop c.0.0 names c.0.1 r.0 few (ap (λ (l : List (List ℕ)). rows_at stop c.0.0 l c.0.1) (sym p.says.names) ∙ r.1) in
                 let known = names_with p.settings t.table in
-                let names_are : r.0.names ≡ known = ap (λ (r : Rows). r.names) t.given in
+                let names_are : r.0.names ≡ known = ap (λ (r : Rows). r.names) t.given ∙ ap (λ (l : List (List ℕ)). numbered names l) (named-same t.table) in
                 let tail : tail_at braces stop b.0.cores b.0.rows.names b.0.rows.rest ≡ Err f = tail_fails called i.0.0.words b.0 f b.2 in
                 let here : tail_at braces stop c.0.0 known r.0.rest ≡ Err f =
                 subst (λ (l : List (List ℕ)). tail_at braces stop c.0.0 l r.0.rest ≡ Err f) names_are

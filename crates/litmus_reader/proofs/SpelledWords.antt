@@ -1,20 +1,19 @@
 -- The values of what a text spells are words: a word has room for each number that is written, and all else begins as 0.
-use Rattle.std.proofs.Common.{ℕ, ◌+◌, ◌^◌, zero, suc, Bool, true, false, cond, ltb, ◌==◌, ◌&&◌, IsTrue, List, [], ◌∷◌, filter, All, refl, subst, sym, arith}
+use Rattle.std.proofs.Common.{ℕ, ◌^◌, zero, suc, Bool, true, false, cond, ltb, ◌==◌, ◌&&◌, IsTrue, List, [], ◌∷◌, ◌++◌, Option, Some, None, All, refl, subst, sym, arith}
 use Rattle.std.specs.List.{list_all, range_with_len}
 use Rattle.std.specs.Str.{bytes_eq}
 use Rattle.std.proofs.lemmas.Bool.{and_parts, ltb-true}
-use Rattle.std.proofs.lemmas.List.Elements.{All-nil, All-cons, All-map, All-filter}
+use Rattle.std.proofs.lemmas.List.Elements.{All-nil, All-cons, All-head, All-tail, All-append, All-map, All-weaker}
 use Rattle.tso_model.specs.Litmus.{Litmus, HasWords, ConstantIsWord}
 use Rattle.tso_model.specs.Registers.{IsWord, AreRegisters, index_of}
 use Rattle.tso_model.specs.declared.register.Reg.{Reg}
 use Rattle.tso_model.specs.declared.register.Reg.TheVariants.{Eax, Ebx, Ecx, Edx, Esi, Edi}
 use Rattle.tso_model.specs.declared.instruction.Instr.{Instr}
 use Rattle.litmus_tokens.specs.Terms.{decimal}
-use Rattle.litmus_reader.specs.declared.cell.CoreInstr.{CoreInstr}
 use Rattle.litmus_reader.specs.Written.{Written, Setting, of_register, of_location, Shape, store_imm, store_reg, load, set_imm, set_reg, fence, xchg, xadd}
 use Rattle.litmus_reader.specs.GrammarInitial.{value_of, first_word, first_register, first_registers_of}
-use Rattle.litmus_reader.specs.GrammarTable.{Placed, instr_with, instrs_with, ValueFits, ValuesFit, placed_in}
-use Rattle.litmus_reader.specs.GrammarTest.{test_written, KeepsLimits, located, program_of, programs_from}
+use Rattle.litmus_reader.specs.GrammarTable.{in_field, in_row, in_rows, field_of, column, instr_with, ValueFits}
+use Rattle.litmus_reader.specs.GrammarTest.{program, test_written, KeepsLimits, located}
 use Rattle.litmus_reader.specs.Spelling.{SpellsTest}
 
 abbrev ValuesAreWords : List Setting → Type 0
@@ -56,16 +55,27 @@ instr-word names fence h = tt
 instr-word names (xchg x reg) h = tt
 instr-word names (xadd x reg) h = tt
 
-instrs-words : (names : List (List ℕ)) (entries : List Placed) → ValuesFit entries → All (λ i. ConstantIsWord i.instr) (instrs_with names entries)
-instrs-words names [] h = All-nil _
-instrs-words names (e ∷ es) h = All-cons (λ (i : CoreInstr). ConstantIsWord i.instr) _ (instrs_with names es) (instr-word names e.shape h.0) (instrs-words names es h.1)
+-- what holds of all instructions of the rows holds of those of a column
+in_row-parts : (P : Shape → Type 0) (c : Option Shape) (cells : List (Option Shape)) → All P (in_row (c ∷ cells)) → All P (in_field c) × All P (in_row cells)
+in_row-parts P None cells h = (All-nil P, h)
+in_row-parts P (Some shape) cells h = (All-cons P shape [] (All-head P shape (in_row cells) h) (All-nil P), All-tail P shape (in_row cells) h)
 
-programs-words : (core cores : ℕ) (instrs : List CoreInstr) → All (λ i. ConstantIsWord i.instr) instrs → All (λ p. All ConstantIsWord p) (programs_from core cores instrs)
-programs-words core zero instrs h = All-nil _
-programs-words core (suc cores) instrs h =
-    All-cons (λ (p : List Instr). All ConstantIsWord p) (program_of instrs core) (programs_from (core + 1) cores instrs)
-    (All-map ConstantIsWord (λ (i : CoreInstr). i.instr) (filter (λ (i : CoreInstr). i.core == core) instrs) (All-filter (λ (i : CoreInstr). i.core == core) (λ i. ConstantIsWord i.instr) instrs h))
-    (programs-words (core + 1) cores instrs h)
+field-each : (P : Shape → Type 0) (core : ℕ) (cells : List (Option Shape)) → All P (in_row cells) → All P (field_of core cells)
+field-each P core [] h = All-nil P
+field-each P zero (c ∷ cells) h = (in_row-parts P c cells h).0
+field-each P (suc core) (c ∷ cells) h = field-each P core cells (in_row-parts P c cells h).1
+
+rows-parts : (P : Shape → Type 0) (xs ys : List Shape) → All P (xs ++ ys) → All P xs × All P ys
+rows-parts P [] ys h = (All-nil P, h)
+rows-parts P (x ∷ xs) ys h =
+    let others = rows-parts P xs ys (All-tail P x (xs ++ ys) h) in
+    (All-cons P x xs (All-head P x (xs ++ ys) h) others.0, others.1)
+
+column-each : (P : Shape → Type 0) (core : ℕ) (table : List (List (Option Shape))) → All P (in_rows table) → All P (column core table)
+column-each P core [] h = All-nil P
+column-each P core (row ∷ others) h =
+    let parts = rows-parts P (in_row row) (in_rows others) h in
+    All-append P (field_of core row) (column core others) (field-each P core row parts.0) (column-each P core others parts.1)
 
 written-words : (w : Written) → KeepsLimits w → HasWords (test_written w)
 written-words w limits =
@@ -73,7 +83,9 @@ written-words w limits =
     record {
       words = All-map IsWord (λ x. first_word x 0 w.settings) (located w) (λ k d l. first_word-word _ 0 w.settings (omega arith) values);
       registers = All-map AreRegisters (first_registers_of w.settings) (range_with_len 0 w.cores) (λ k d l. first_registers-words w.settings _ values);
-      constants = programs-words 0 w.cores (instrs_with (located w) (placed_in w.table)) (instrs-words (located w) (placed_in w.table) limits.rows.values);
+      constants = All-map (λ (p : List Instr). All ConstantIsWord p) (program (located w) w.table) (range_with_len 0 w.cores)
+          (λ k d l. All-map ConstantIsWord (instr_with (located w)) (column _ w.table)
+          (All-weaker ValueFits (λ s. ConstantIsWord (instr_with (located w) s)) (instr-word (located w)) (column _ w.table) (column-each ValueFits _ w.table limits.rows.values)));
     }
 
 pub spelled_has_words : (text : List ℕ) (t : Litmus) → SpellsTest text t → HasWords t

@@ -28,9 +28,10 @@ use Rattle.litmus_reader.proofs.InitialKept.{HasLength, all_registers_keep}
 use Rattle.litmus_reader.proofs.Known.{AreNames, Grown, same_names, LocatesIn, located_keeps, All-one}
 use Rattle.litmus_reader.specs.Places.{left_of, in_columns}
 use Rattle.litmus_reader.specs.Written.{Shape, store_imm, store_reg, load, set_imm, set_reg, fence, xchg, xadd}
-use Rattle.litmus_reader.specs.GrammarTable.{of_core, ends_rows}
+use Rattle.litmus_reader.specs.GrammarTable.{ends_rows}
+use Rattle.litmus_reader.specs.Cells.{of_core}
 use Rattle.litmus_reader.specs.RefusedTable.{cells_of}
-use Rattle.litmus_reader.specs.GrammarTest.{program_of, programs_from}
+use Rattle.litmus_reader.specs.Reading.{program_of, programs_from}
 
 -- ---- the header row
 

@@ -31,7 +31,7 @@ use Rattle.litmus_reader.proofs.InitialKept.{KeptInitial, initial_keeps, length-
 use Rattle.litmus_reader.proofs.TableKept.{Kept, KeptTable, table_keeps, known_further, programs_fit, length-programs}
 use Rattle.litmus_reader.proofs.ClaimsKept.{KeptCondition, condition_keeps}
 use Rattle.litmus_reader.specs.GrammarText.{name_in}
-use Rattle.litmus_reader.specs.GrammarTest.{programs_from}
+use Rattle.litmus_reader.specs.Reading.{programs_from}
 
 -- ---- names are text
 

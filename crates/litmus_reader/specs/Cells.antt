@@ -15,7 +15,6 @@ use Rattle.litmus_reader.specs.Items.{word_at}
 use Rattle.litmus_reader.specs.Forms.{spelled_in}
 use Rattle.litmus_reader.specs.Places.{fault}
 use Rattle.litmus_reader.specs.Written.{Shape, store_imm, store_reg, load, set_imm, set_reg, fence, xchg, xadd}
-use Rattle.litmus_reader.specs.GrammarTable.{of_core}
 use Rattle.litmus_reader.specs.RefusedTable.{cells_of}
 
 -- the cells behind a bar, if there is one
@@ -46,6 +45,9 @@ instr_of left names (xchg x reg) = do
 instr_of left names (xadd x reg) = do
   loc ← located left names x
   Ok (Xadd loc.0 reg, loc.1)
+
+abbrev pub of_core : ℕ → Instr → CoreInstr
+of_core core instr = record { core = core; instr = instr }
 
 -- how many instructions this core has
 abbrev pub count_of : ℕ → List CoreInstr → ℕ

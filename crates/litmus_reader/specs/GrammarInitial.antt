@@ -37,8 +37,7 @@ value_of (of_location x value) = value
 abbrev pub same_place : Setting → Setting → Bool
 same_place (of_register core reg v) (of_register other r w) = bytes_eq other core && (index_of r == index_of reg)
 same_place (of_location x v) (of_location y w) = bytes_eq x y
-same_place (of_register core reg v) (of_location y w) = false
-same_place (of_location x v) (of_register other r w) = false
+same_place one other = false
 
 -- no location and no register of a core is given twice
 abbrev pub each_once : List Setting → Bool

@@ -1,12 +1,11 @@
 -- Which tokens spell which rows, and the instructions that these say. (This project's profile.)
-use Rattle.std.specs.Prelude.{◌<◌, ◌≤◌, ℕ, ◌+◌, ◌^◌, Bool, true, List, [], ◌∷◌, ◌++◌, length, map, count_by, Option, Some, None, ◌==◌, ◌||◌, false, codes}
+use Rattle.std.specs.Prelude.{◌<◌, ◌≤◌, ℕ, zero, suc, ◌^◌, Bool, true, List, [], ◌∷◌, ◌++◌, length, All, IfSome, Option, Some, None, ◌||◌, false, codes}
 use Rattle.tso_model.specs.declared.instruction.Instr.{Instr}
 use Rattle.tso_model.specs.declared.instruction.Instr.TheVariants.{StoreImm, StoreReg, Load, SetImm, SetReg, Fence, Xchg, Xadd}
 use Rattle.tso_model.specs.Limits.{most_instructions, most_locations}
 use Rattle.litmus_tokens.specs.declared.token.Symbol.TheVariants.{Tilde}
-use Rattle.litmus_tokens.specs.Terms.{Term, number, name, symbol}
+use Rattle.litmus_tokens.specs.Terms.{Term, name}
 use Rattle.litmus_tokens.specs.Front.{is_symbol_term, is_symbol}
-use Rattle.litmus_reader.specs.declared.cell.CoreInstr.{CoreInstr}
 use Rattle.litmus_reader.specs.GrammarNames.{numbered, location, number_of}
 use Rattle.litmus_reader.specs.GrammarRows.{IsRow}
 use Rattle.std.specs.Str.{bytes_eq}
@@ -20,9 +19,8 @@ pub data AreRows (cores : ℕ) : List Term → List (List (Option Shape)) → Ty
 
 -- `locations`, `exists` and `forall`
 abbrev pub ends_rows_term : Term → Bool
-ends_rows_term (number n) = false
 ends_rows_term (name x) = bytes_eq x (codes "locations") || bytes_eq x (codes "exists") || bytes_eq x (codes "forall")
-ends_rows_term (symbol s) = false
+ends_rows_term other = false
 
 -- the end of the tokens, or a token with which no row begins
 unfoldable pub ends_rows : List Piece → Bool
@@ -36,40 +34,48 @@ ends_table (t ∷ ts) = ends_rows_term t || is_symbol_term Tilde t
 
 -- ---- the instructions
 
--- an instruction in a core's column, with the name of its location
-pub record Placed : Type 0 where
-  pub core : ℕ
-  pub shape : Shape
+abbrev pub in_field : Option Shape → List Shape
+in_field None = []
+in_field (Some shape) = shape ∷ []
 
-abbrev pub placed : ℕ → Shape → Placed
-placed core shape = record { core = core; shape = shape }
+-- the instructions of a row, and those of all rows, from the first row down
+abbrev pub in_row : List (Option Shape) → List Shape
+in_row [] = []
+in_row (c ∷ cells) = in_field c ++ in_row cells
 
--- those of a row's cells, from this core's on
-abbrev pub placed_from : ℕ → List (Option Shape) → List Placed
-placed_from core [] = []
-placed_from core (None ∷ cells) = placed_from (core + 1) cells
-placed_from core (Some shape ∷ cells) = placed core shape ∷ placed_from (core + 1) cells
+abbrev pub in_rows : List (List (Option Shape)) → List Shape
+in_rows [] = []
+in_rows (row ∷ others) = in_row row ++ in_rows others
 
--- those of all rows, from the first row down
-abbrev pub placed_in : List (List (Option Shape)) → List Placed
-placed_in [] = []
-placed_in (row ∷ others) = placed_from 0 row ++ placed_in others
+-- what a row has in a core's column, and the instructions of that column from top to bottom
+abbrev pub field_of : ℕ → List (Option Shape) → List Shape
+field_of core [] = []
+field_of zero (c ∷ cells) = in_field c
+field_of (suc core) (c ∷ cells) = field_of core cells
+
+abbrev pub column : ℕ → List (List (Option Shape)) → List Shape
+column core [] = []
+column core (row ∷ others) = field_of core row ++ column core others
 
 -- the location that an instruction names, if it does
 abbrev pub location_in : Shape → List (List ℕ)
 location_in (store_imm x v) = x ∷ []
 location_in (store_reg x reg) = x ∷ []
 location_in (load reg x) = x ∷ []
-location_in (set_imm reg v) = []
-location_in (set_reg reg other) = []
-location_in fence = []
 location_in (xchg x reg) = x ∷ []
 location_in (xadd x reg) = x ∷ []
+location_in others = []
+
+-- the number that an instruction has, if it has one
+abbrev pub number_in : Shape → Option ℕ
+number_in (store_imm x v) = Some v
+number_in (set_imm reg v) = Some v
+number_in others = None
 
 -- the locations that all name, in their order
-abbrev pub locations_of : List Placed → List (List ℕ)
-locations_of [] = []
-locations_of (e ∷ others) = location_in e.shape ++ locations_of others
+abbrev pub named_by_all : List Shape → List (List ℕ)
+named_by_all [] = []
+named_by_all (shape ∷ others) = location_in shape ++ named_by_all others
 
 -- the instruction, where these are the names of the locations by their numbers
 abbrev pub instr_with : List (List ℕ) → Shape → Instr
@@ -82,32 +88,14 @@ instr_with names fence = Fence
 instr_with names (xchg x reg) = Xchg (location (number_of names x)) reg
 instr_with names (xadd x reg) = Xadd (location (number_of names x)) reg
 
-abbrev pub of_core : ℕ → Instr → CoreInstr
-of_core core instr = record { core = core; instr = instr }
-
--- all instructions, each with its core
-abbrev pub instrs_with : List (List ℕ) → List Placed → List CoreInstr
-instrs_with names entries = map (λ e. of_core e.core (instr_with names e.shape)) entries
-
 -- ---- what fits
 
 -- a word has room for the number
 abbrev pub ValueFits : Shape → Type 0
-ValueFits (store_imm x v) = v < 2 ^ 32
-ValueFits (store_reg x reg) = Unit {0}
-ValueFits (load reg x) = Unit {0}
-ValueFits (set_imm reg v) = v < 2 ^ 32
-ValueFits (set_reg reg other) = Unit {0}
-ValueFits fence = Unit {0}
-ValueFits (xchg x reg) = Unit {0}
-ValueFits (xadd x reg) = Unit {0}
+ValueFits shape = IfSome (number_in shape) (λ v. v < 2 ^ 32)
 
-abbrev pub ValuesFit : List Placed → Type 0
-ValuesFit [] = Unit {0}
-ValuesFit (e ∷ others) = ValueFits e.shape × ValuesFit others
-
--- behind what named these locations, entries are within the limits of a test
-pub record AreWithin (names : List (List ℕ)) (entries : List Placed) : Type 0 where
-  pub values : ValuesFit entries
-  pub few : (core : ℕ) → count_by (λ e. e.core == core) entries ≤ most_instructions
-  pub room : length (numbered names (locations_of entries)) ≤ most_locations
+-- behind what named these locations, rows are within the limits of a test
+pub record AreWithin (names : List (List ℕ)) (table : List (List (Option Shape))) : Type 0 where
+  pub values : All ValueFits (in_rows table)
+  pub few : (core : ℕ) → length (column core table) ≤ most_instructions
+  pub room : length (numbered names (named_by_all (in_rows table))) ≤ most_locations

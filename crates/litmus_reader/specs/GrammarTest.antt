@@ -1,5 +1,6 @@
 -- Which text spells which test. (This project's profile.)
-use Rattle.std.specs.Prelude.{◌≡◌, ◌≤◌, ℕ, List, [], ◌++◌, length, IsTrue, ◌+◌, zero, suc, ◌∷◌, map, filter, ◌==◌}
+use Rattle.std.specs.Prelude.{◌≡◌, ◌≤◌, ℕ, List, [], ◌++◌, length, IsTrue, map, Option}
+use Rattle.std.specs.List.{range_with_len}
 use Rattle.tso_model.specs.Litmus.{Litmus}
 use Rattle.litmus_tokens.specs.Terms.{Term}
 use Rattle.litmus_tokens.specs.Pieces.{Piece, pieces_of}
@@ -9,11 +10,10 @@ use Rattle.litmus_reader.specs.GrammarNames.{numbered}
 use Rattle.litmus_reader.specs.GrammarText.{IsHeaderLine, AreInformationLines}
 use Rattle.litmus_reader.specs.GrammarInitial.{IsInitialState, Fits, has_cores, names_in, first_words, first_registers}
 use Rattle.litmus_reader.specs.GrammarColumns.{IsHeaderRow}
-use Rattle.litmus_reader.specs.GrammarTable.{AreRows, AreWithin, placed_in, instrs_with, locations_of}
+use Rattle.litmus_reader.specs.GrammarTable.{AreRows, AreWithin, in_rows, column, named_by_all, instr_with}
 use Rattle.litmus_reader.specs.GrammarEnding.{IsEnding, IsAskedWithin, names_asked, condition_of}
 use Rattle.tso_model.specs.declared.instruction.Instr.{Instr}
-use Rattle.litmus_reader.specs.declared.cell.CoreInstr.{CoreInstr}
-use Rattle.litmus_reader.specs.Written.{Written}
+use Rattle.litmus_reader.specs.Written.{Shape, Written}
 
 -- ---- the text
 
@@ -44,20 +44,15 @@ pub record IsText (text : List ℕ) (w : Written) : Type 0 where
 
 -- the locations that the initial state and the rows name, each where it first appears
 abbrev pub located_in_rows : Written → List (List ℕ)
-located_in_rows w = numbered (numbered [] (names_in w.settings)) (locations_of (placed_in w.table))
+located_in_rows w = numbered (numbered [] (names_in w.settings)) (named_by_all (in_rows w.table))
 
 -- all locations: those of the condition stand last
 abbrev pub located : Written → List (List ℕ)
 located w = numbered (located_in_rows w) (names_asked w.asked)
 
--- a core's program: its instructions, in the order of the rows
-abbrev pub program_of : List CoreInstr → ℕ → List Instr
-program_of instrs core = map (λ i. i.instr) (filter (λ i. i.core == core) instrs)
-
--- the programs of n cores from this one on
-abbrev pub programs_from : ℕ → ℕ → List CoreInstr → List (List Instr)
-programs_from core zero instrs = []
-programs_from core (suc n) instrs = program_of instrs core ∷ programs_from (core + 1) n instrs
+-- a core's program: the instructions of its column
+abbrev pub program : List (List ℕ) → List (List (Option Shape)) → ℕ → List Instr
+program names table core = map (instr_with names) (column core table)
 
 -- the test that is written
 abbrev pub test_written : Written → Litmus
@@ -66,7 +61,7 @@ test_written w = record {
   locations = located w;
   words = first_words w.settings (located w);
   registers = first_registers w.settings w.cores;
-  programs = programs_from 0 w.cores (instrs_with (located w) (placed_in w.table));
+  programs = map (program (located w) w.table) (range_with_len 0 w.cores);
   condition = condition_of (located w) w.asked;
 }
 
@@ -74,5 +69,5 @@ test_written w = record {
 pub record KeepsLimits (w : Written) : Type 0 where
   pub settings : Fits w.settings
   pub cores : IsTrue (has_cores w.cores w.settings)
-  pub rows : AreWithin (numbered [] (names_in w.settings)) (placed_in w.table)
+  pub rows : AreWithin (numbered [] (names_in w.settings)) w.table
   pub condition : IsAskedWithin w.cores (located_in_rows w) w.asked

@@ -4,7 +4,7 @@ use Rattle.std.specs.Str.{bytes_eq}
 use Rattle.tso_model.specs.Names.{is_location_name}
 use Rattle.tso_model.specs.Registers.{register_named}
 use Rattle.litmus_tokens.specs.declared.token.Symbol.TheVariants.{Equals, Semicolon, Colon, OpenSquare, CloseSquare, CloseCurly, Bar}
-use Rattle.litmus_tokens.specs.Terms.{Term, number, name, symbol}
+use Rattle.litmus_tokens.specs.Terms.{Term, number, name}
 use Rattle.litmus_tokens.specs.Front.{is_symbol_term}
 use Rattle.litmus_tokens.specs.Pieces.{Piece}
 use Rattle.litmus_reader.specs.GrammarColumns.{core_name}
@@ -15,24 +15,20 @@ Slot = Term → Bool
 
 abbrev pub is_number : Slot
 is_number (number d) = true
-is_number (name x) = false
-is_number (symbol s) = false
+is_number other = false
 
 abbrev pub is_location : Slot
-is_location (number d) = false
 is_location (name x) = is_location_name x
-is_location (symbol s) = false
+is_location other = false
 
 abbrev pub is_register : Slot
-is_register (number d) = false
 is_register (name x) = is_some (register_named x)
-is_register (symbol s) = false
+is_register other = false
 
 -- this core's name, as header rows have it
 abbrev pub is_core : ℕ → Slot
-is_core core (number d) = false
 is_core core (name x) = bytes_eq x (core_name core)
-is_core core (symbol s) = false
+is_core core other = false
 
 -- `|` or `;`
 abbrev pub ends_column : Slot
@@ -54,9 +50,8 @@ value_slots behind = is_symbol_term Equals ∷ is_number ∷ behind
 
 abbrev pub setting_slots_of : Term → List Slot → List Slot
 setting_slots_of (number core) behind = is_number ∷ is_symbol_term Colon ∷ is_register ∷ value_slots behind
-setting_slots_of (name x) behind = is_location ∷ value_slots behind
-setting_slots_of (symbol s) behind =
-    if is_symbol_term OpenSquare (symbol s) then is_symbol_term OpenSquare ∷ is_location ∷ is_symbol_term CloseSquare ∷ value_slots behind
+setting_slots_of first behind =
+    if is_symbol_term OpenSquare first then is_symbol_term OpenSquare ∷ is_location ∷ is_symbol_term CloseSquare ∷ value_slots behind
     else is_location ∷ value_slots behind
 
 -- the slots of `c:REG=v`, `x=v` or `[x]=v`, told by the first token, and those behind it

@@ -1,7 +1,8 @@
 -- The reading of a whole text, part by part in the order of the text. (This project's profile.)
-use Rattle.std.specs.Prelude.{ℕ, List, [], ◌∷◌, length, Option, Some, None, Result, Ok, Err}
+use Rattle.std.specs.Prelude.{ℕ, zero, suc, ◌+◌, List, [], ◌∷◌, map, filter, ◌==◌, length, Option, Some, None, Result, Ok, Err}
 use Rattle.tso_model.specs.Litmus.{Litmus}
 use Rattle.tso_model.specs.Condition.{Condition}
+use Rattle.tso_model.specs.declared.instruction.Instr.{Instr}
 use Rattle.litmus_tokens.specs.declared.token.Stop.{Stop}
 use Rattle.litmus_tokens.specs.declared.token.Stop.TheVariants as stops
 use Rattle.litmus_tokens.specs.Line.{line_of}
@@ -18,7 +19,6 @@ use Rattle.litmus_reader.specs.Rows.{table_at}
 use Rattle.litmus_reader.specs.Observed.{observed_end}
 use Rattle.litmus_reader.specs.Conditions.{condition_at}
 use Rattle.litmus_reader.specs.Places.{fault}
-use Rattle.litmus_reader.specs.GrammarTest.{programs_from}
 
 -- the end of the text has to follow
 unfoldable pub end_at : Stop → List Piece → Result (Unit {0}) Fault
@@ -26,6 +26,15 @@ end_at stop (p ∷ ps) = Err (fault Trailing p.left)
 end_at stops.End [] = Ok tt
 end_at (stops.BadToken left) [] = Err (fault BadToken left)
 end_at (stops.Unclosed left) [] = Err (fault Unclosed left)
+
+-- a core's program: its instructions, in the order of the rows
+abbrev pub program_of : List CoreInstr → ℕ → List Instr
+program_of instrs core = map (λ i. i.instr) (filter (λ i. i.core == core) instrs)
+
+-- the programs of n cores from this one on
+abbrev pub programs_from : ℕ → ℕ → List CoreInstr → List (List Instr)
+programs_from core zero instrs = []
+programs_from core (suc n) instrs = program_of instrs core ∷ programs_from (core + 1) n instrs
 
 -- the test of what was read: each core has its registers and its program
 abbrev pub test_of : List ℕ → List (List ℕ) → List ℕ → List (List ℕ) → List CoreInstr → Option Condition → Litmus

@@ -10,7 +10,7 @@ use Rattle.litmus_reader.specs.GrammarNames.{numbered}
 use Rattle.litmus_reader.specs.GrammarText.{IsHeaderLine, AreInformationLines}
 use Rattle.litmus_reader.specs.GrammarInitial.{IsInitialState, Fits, has_cores, names_in}
 use Rattle.litmus_reader.specs.GrammarColumns.{IsHeaderRow}
-use Rattle.litmus_reader.specs.GrammarTable.{AreRows, AreWithin, placed_in, locations_of, ends_rows}
+use Rattle.litmus_reader.specs.GrammarTable.{AreRows, AreWithin, in_rows as instructions, named_by_all, ends_rows}
 use Rattle.litmus_reader.specs.RefusedBytes.{IsHeaderFault, IsInformationFault}
 use Rattle.litmus_reader.specs.RefusedInitial.{IsInitialFault, IsCoreFault}
 use Rattle.litmus_reader.specs.RefusedTable.{IsColumnsFault, IsRowsFault}
@@ -35,7 +35,7 @@ pub record PassesRows (cores : ℕ) (names : List (List ℕ)) (table : List (Lis
   pub front : List Piece
   pub parts : ps ≡ front ++ rest
   pub are : AreRows cores (terms front) table
-  pub within : AreWithin names (placed_in table)
+  pub within : AreWithin names table
   pub ended : IsTrue (ends_rows rest)
 
 -- the locations of the initial state by their numbers, and with those of the rows
@@ -43,7 +43,7 @@ abbrev pub first_names : List Setting → List (List ℕ)
 first_names settings = numbered [] (names_in settings)
 
 abbrev pub names_with : List Setting → List (List (Option Shape)) → List (List ℕ)
-names_with settings table = numbered (first_names settings) (locations_of (placed_in table))
+names_with settings table = numbered (first_names settings) (named_by_all (instructions table))
 
 -- ---- the part at fault
 

@@ -13,7 +13,7 @@ use Rattle.litmus_reader.specs.declared.fault.Fault.{Fault}
 use Rattle.litmus_reader.specs.Grammar.{terms}
 use Rattle.litmus_reader.specs.GrammarCells.{IsCell}
 use Rattle.litmus_reader.specs.GrammarRows.{IsField}
-use Rattle.litmus_reader.specs.GrammarTable.{AreRows, AreWithin, Placed, placed, placed_from, placed_in, ValueFits, ends_rows}
+use Rattle.litmus_reader.specs.GrammarTable.{AreRows, AreWithin, ValueFits, ends_rows}
 use Rattle.litmus_reader.specs.Misfits.{misfit, is_core, ends_column}
 use Rattle.litmus_reader.specs.Places.{fault, at_stop, left_of, unfit, in_columns}
 use Rattle.litmus_reader.specs.GrammarColumns.{core_name}
@@ -36,12 +36,17 @@ pub data IsColumnsFault (stop : Stop) : ℕ → List Piece → Fault → Type 0 
 
 -- ---- rows
 
--- what is at fault with a cell of this core that isn't empty, behind these entries and what named these locations
-pub data IsCellFault (names : List (List ℕ)) (before : List Placed) (core : ℕ) (cell : List Piece) : Why → Type 0 where
-  bad_instruction : ((shape : Shape) → ¬ (IsCell (terms cell) shape)) → IsCellFault names before core cell BadInstruction
-  bad_number : (shape : Shape) → IsCell (terms cell) shape → ¬ (ValueFits shape) → IsCellFault names before core cell BadNumber
+-- rows, and behind them the first cells of one more
+abbrev pub with_cells : List (List (Option Shape)) → List (Option Shape) → List (List (Option Shape))
+with_cells table cells = table ++ cells ∷ []
+
+-- what is at fault with a cell that isn't empty, behind these rows, these cells of its own row and what named these locations
+pub data IsCellFault (names : List (List ℕ)) (table : List (List (Option Shape))) (before : List (Option Shape)) (cell : List Piece) : Why → Type 0 where
+  bad_instruction : ((shape : Shape) → ¬ (IsCell (terms cell) shape)) → IsCellFault names table before cell BadInstruction
+  bad_number : (shape : Shape) → IsCell (terms cell) shape → ¬ (ValueFits shape) → IsCellFault names table before cell BadNumber
   -- else one location or one instruction too many
-  one_too_many : (shape : Shape) → IsCell (terms cell) shape → ValueFits shape → ¬ (AreWithin names (before ++ placed core shape ∷ [])) → IsCellFault names before core cell TooLarge
+  one_too_many : (shape : Shape) → IsCell (terms cell) shape → ValueFits shape → ¬ (AreWithin names (with_cells table (before ++ Some shape ∷ [])))
+      → IsCellFault names table before cell TooLarge
 
 -- cells, each with what it spells
 pub data AreSpelled : List (List Piece) → List (Option Shape) → Type 0 where
@@ -53,17 +58,17 @@ abbrev pub row_in_front : List Piece → List Piece
 row_in_front ps = before_first (is_symbol Semicolon) ps
 
 -- in the row that these tokens begin
-pub data IsRowFault (stop : Stop) (cores : ℕ) (names : List (List ℕ)) (before : List Placed) (ps : List Piece) : Fault → Type 0 where
-  unclosed : IsFalse (list_any (is_symbol Semicolon) ps) → IsRowFault stop cores names before ps (at_stop (fault Unclosed (left_of ps)) stop)
+pub data IsRowFault (stop : Stop) (cores : ℕ) (names : List (List ℕ)) (table : List (List (Option Shape))) (ps : List Piece) : Fault → Type 0 where
+  unclosed : IsFalse (list_any (is_symbol Semicolon) ps) → IsRowFault stop cores names table ps (at_stop (fault Unclosed (left_of ps)) stop)
   -- else there are not as many cells as cores
-  wrong_cells : IsTrue (list_any (is_symbol Semicolon) ps) → length (cells_of (row_in_front ps)) ≢ cores → IsRowFault stop cores names before ps (fault WrongCells (left_of ps))
+  wrong_cells : IsTrue (list_any (is_symbol Semicolon) ps) → length (cells_of (row_in_front ps)) ≢ cores → IsRowFault stop cores names table ps (fault WrongCells (left_of ps))
   -- else the first cell at fault, at its first token
   in_cell : (done after : List (List Piece)) (first : Piece) (cell : List Piece) (spelled : List (Option Shape)) (why : Why) → IsTrue (list_any (is_symbol Semicolon) ps)
       → length (cells_of (row_in_front ps)) ≡ cores → cells_of (row_in_front ps) ≡ done ++ (first ∷ cell) ∷ after → AreSpelled done spelled
-      → AreWithin names (before ++ placed_from 0 spelled) → IsCellFault names (before ++ placed_from 0 spelled) (length done) (first ∷ cell) why
-      → IsRowFault stop cores names before ps (fault why first.left)
+      → AreWithin names (with_cells table spelled) → IsCellFault names table spelled (first ∷ cell) why
+      → IsRowFault stop cores names table ps (fault why first.left)
 
 -- behind rows within the limits: in the next
 pub data IsRowsFault (stop : Stop) (cores : ℕ) (names : List (List ℕ)) : List Piece → Fault → Type 0 where
-  in_row : (front ps : List Piece) (table : List (List (Option Shape))) (f : Fault) → AreRows cores (terms front) table → AreWithin names (placed_in table) → IsFalse (ends_rows ps)
-      → IsRowFault stop cores names (placed_in table) ps f → IsRowsFault stop cores names (front ++ ps) f
+  in_row : (front ps : List Piece) (table : List (List (Option Shape))) (f : Fault) → AreRows cores (terms front) table → AreWithin names table → IsFalse (ends_rows ps)
+      → IsRowFault stop cores names table ps f → IsRowsFault stop cores names (front ++ ps) f

@@ -27,7 +27,7 @@ mod reader;
 mod refusals;
 mod row;
 
-pub use fault::{TextFault, Why};
+pub use fault::{Fault, TextFault, Why};
 pub use limits::{MAX_OPEN, MAX_TEST_NAME, MAX_TEXT, limits_are_as_defined};
-pub use reader::read_test;
+pub use reader::{fault_in, read_test};
 pub use refusals::texts_are_decided;

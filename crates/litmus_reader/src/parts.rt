@@ -7,7 +7,6 @@ ghost use Rattle.tso_model.specs.Names as names;
 ghost use Rattle.litmus_reader.specs.Locations.{texts};
 ghost use Rattle.litmus_reader.specs.Initial as initial;
 ghost use Rattle.litmus_reader.specs.Reading as spec;
-ghost use Rattle.litmus_reader.specs.GrammarTest as grammar;
 
 use crate::cell::CoreInstr;
 use std::alloc::{AllocError, Global};
@@ -48,7 +47,7 @@ fn words_of(alloc: Global, mut words: Vec<u32>, count: usize) -> Result<Vec<u32>
 }
 
 fn program_of(alloc: Global, instrs: &[CoreInstr], core: usize) -> Result<Vec<Instr>, AllocError>
-    ensures { IfOk result (λ v. v.items ≡ grammar.program_of instrs.now core) }
+    ensures { IfOk result (λ v. v.items ≡ spec.program_of instrs.now core) }
 {
     instrs
         .iter()
@@ -63,7 +62,7 @@ fn programs_of(
     instrs: &[CoreInstr],
     cores: usize,
 ) -> Result<Vec<Vec<Instr>>, NoMemory>
-    ensures { IfOk result (λ v. map (λ program. program.items) v.items ≡ grammar.programs_from 0 cores instrs.now) }
+    ensures { IfOk result (λ v. map (λ program. program.items) v.items ≡ spec.programs_from 0 cores instrs.now) }
 {
     let mut programs = Vec::new(alloc);
     for core in 0..cores {

@@ -1,9 +1,11 @@
-ghost use Rattle.std.specs.Prelude.{◌≡◌, ◌≢◌, ◌≤◌, Some, Ok, IfOk, IfErr, MatchResult, IsTrue};
+ghost use Rattle.std.specs.Prelude.{◌≡◌, ◌≢◌, ◌≤◌, Some, Ok, IfOk, IfErr, IfSome, MatchResult, IsTrue};
 ghost use Rattle.std.specs.Option.{option_map};
 ghost use Rattle.std.specs.Str.{IsUtf8};
 ghost use Rattle.tso_model.specs.Limits.{most_cores};
 ghost use Rattle.tso_model.specs.Litmus.{Litmus, IsTest};
+ghost use Rattle.litmus_reader.specs.declared.fault.Fault.{Fault};
 ghost use Rattle.litmus_reader.specs.declared.fault.TextFault.{TextFault};
+ghost use Rattle.litmus_reader.specs.Refusals.{IsFault};
 ghost use Rattle.tso_model.specs.Condition.{condition_of};
 ghost use Rattle.tso_model.specs.LitmusParts.{litmus_of};
 ghost use Rattle.litmus_tokens.specs.Pieces.{pieces};
@@ -26,7 +28,7 @@ use crate::row::read_table;
 use indexmap::IndexSet;
 use litmus_tokens::{Stop, Token, line_of, tokens_of};
 use std::alloc::Global;
-use tso_model::{Cond, Test, TestParts};
+use tso_model::{Cond, NoMemory, Test, TestParts};
 
 /// The end of the text has to follow.
 #[tactic(auto, unfolding(crate::specs::Reading::end_at))]
@@ -150,6 +152,23 @@ pub fn read_test(alloc: Global, text: &[u8]) -> Result<Test, TextFault>
     texts_are_read_as_they_are_spelled();
     texts_are_refused_as_they_are_read();
     read_whole(alloc, text)
+}
+
+/// What is at fault in a text, with its place: what [`read_test`] refuses the text for, on the line of
+/// that place. `None` where the text spells a test.
+///
+/// Fails only for want of memory.
+pub fn fault_in(alloc: Global, text: &[u8]) -> Result<Option<Fault>, NoMemory>
+    // What is answered is at fault, and what is at fault is answered.
+    ensures found { IfOk result (λ found. IfSome found (λ fault. IsFault text.now fault)) }
+    ensures only { (fault : Fault) → IsFault text.now fault → IfOk result (λ found. found ≡ Some fault) }
+{
+    texts_are_refused_as_they_are_read();
+    match read_parts(alloc, text) {
+        Ok(_) => Ok(None),
+        Err(ReadError::Fault(fault)) => Ok(Some(fault)),
+        Err(ReadError::NoMemory) => Err(NoMemory),
+    }
 }
 
 #[tactic(auto, using(crate::proofs::Within::spelled_is_test), unfolding(crate::specs::Reading::refusal_of))]

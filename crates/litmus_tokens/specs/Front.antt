@@ -1,31 +1,13 @@
 -- Single tokens at the front of some.
-use Rattle.std.specs.Prelude.{ℕ, Bool, false, List, [], ◌∷◌, Option, Some, None, ◌==◌, if◌then◌else◌}
+use Rattle.std.specs.Prelude.{ℕ, Bool, false, List, [], ◌∷◌, Option, Some, None, if◌then◌else◌}
+use Rattle.std.specs.Str.{bytes_eq}
 use Rattle.litmus_tokens.specs.declared.token.Symbol.{Symbol}
-use Rattle.litmus_tokens.specs.declared.token.Symbol.TheVariants.{Equals, Semicolon, Colon, OpenSquare, CloseSquare, OpenCurly, CloseCurly, Bar, Comma, Dollar, Tilde, OpenRound, CloseRound, And, Or}
-use Rattle.litmus_tokens.specs.Terms.{Term, number, name, symbol}
+use Rattle.litmus_tokens.specs.Terms.{Term, number, name, symbol, spelling_of}
 use Rattle.litmus_tokens.specs.Pieces.{Piece}
 
-abbrev pub code_of : Symbol → ℕ
-code_of Equals = 0
-code_of Semicolon = 1
-code_of Colon = 2
-code_of OpenSquare = 3
-code_of CloseSquare = 4
-code_of OpenCurly = 5
-code_of CloseCurly = 6
-code_of Bar = 7
-code_of Comma = 8
-code_of Dollar = 9
-code_of Tilde = 10
-code_of OpenRound = 11
-code_of CloseRound = 12
-code_of And = 13
-code_of Or = 14
-
 abbrev pub is_symbol_term : Symbol → Term → Bool
-is_symbol_term s (number digits) = false
-is_symbol_term s (name x) = false
-is_symbol_term s (symbol t) = code_of s == code_of t
+is_symbol_term s (symbol t) = bytes_eq (spelling_of s) (spelling_of t)
+is_symbol_term s other = false
 
 -- whether the token is this symbol
 unfoldable pub is_symbol : Symbol → Piece → Bool

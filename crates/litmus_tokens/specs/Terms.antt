@@ -1,6 +1,6 @@
 -- Single tokens: numbers, names and symbols. (This project's profile.)
-use Rattle.std.specs.Prelude.{ℕ, ◌+◌, ◌-◌, ◌*◌, ◌^◌, Bool, List, [], ◌∷◌, length, take, drop, Option, Some, None, Result, Ok, Err, nat_lt, ◌==◌, ◌&&◌, if◌then◌else◌}
-use Rattle.std.specs.List.{prefix_len}
+use Rattle.std.specs.Prelude.{ℕ, ◌+◌, ◌-◌, ◌*◌, ◌^◌, Bool, List, [], ◌∷◌, length, take, drop, Option, Some, None, Result, Ok, Err, nat_lt, nat_eq, codes, ◌==◌, if◌then◌else◌}
+use Rattle.std.specs.List.{prefix_len, starts_with}
 use Rattle.std.specs.Char.{is_ascii_digit}
 use Rattle.tso_model.specs.Limits.{longest_name}
 use Rattle.tso_model.specs.Names.{begins_name, continues_name}
@@ -41,37 +41,37 @@ term_of (code.Number digits) = number digits.now
 term_of (code.Name bytes) = name bytes.now
 term_of (code.Symbol s) = symbol s
 
--- a symbol of one byte
-unfoldable pub single : ℕ → Option Symbol
-single b =
-    if b == 61 then Some Equals
-    else if b == 59 then Some Semicolon
-    else if b == 58 then Some Colon
-    else if b == 91 then Some OpenSquare
-    else if b == 93 then Some CloseSquare
-    else if b == 123 then Some OpenCurly
-    else if b == 125 then Some CloseCurly
-    else if b == 124 then Some Bar
-    else if b == 44 then Some Comma
-    else if b == 36 then Some Dollar
-    else if b == 126 then Some Tilde
-    else if b == 40 then Some OpenRound
-    else if b == 41 then Some CloseRound
-    else None
+-- how each symbol is spelled; no spelling is the beginning of another
+abbrev pub spelling_of : Symbol → List ℕ
+spelling_of Equals = codes "="
+spelling_of Semicolon = codes ";"
+spelling_of Colon = codes ":"
+spelling_of OpenSquare = codes "["
+spelling_of CloseSquare = codes "]"
+spelling_of OpenCurly = codes "{"
+spelling_of CloseCurly = codes "}"
+spelling_of Bar = codes "|"
+spelling_of Comma = codes ","
+spelling_of Dollar = codes "$"
+spelling_of Tilde = codes "~"
+spelling_of OpenRound = codes "("
+spelling_of CloseRound = codes ")"
+spelling_of And = codes "/\\"
+spelling_of Or = codes "\\/"
 
--- the two symbols of two bytes, from the first byte on: `/\` and `\/`
-unfoldable pub wedge_at : ℕ → List ℕ → Option (Symbol × List ℕ)
-wedge_at b [] = None
-wedge_at b (c ∷ cs) = if (b == 47) && (c == 92) then Some (And, cs) else if (b == 92) && (c == 47) then Some (Or, cs) else None
+unfoldable pub symbols : List Symbol
+symbols = Equals ∷ Semicolon ∷ Colon ∷ OpenSquare ∷ CloseSquare ∷ OpenCurly ∷ CloseCurly ∷ Bar ∷ Comma ∷ Dollar ∷ Tilde
+    ∷ OpenRound ∷ CloseRound ∷ And ∷ Or ∷ []
 
-abbrev pub single_or : ℕ → List ℕ → Option Symbol → Option (Symbol × List ℕ)
-single_or b bs (Some s) = Some (s, bs)
-single_or b bs None = wedge_at b bs
+-- the one of these symbols that is spelled at the front, and what stands behind it
+abbrev pub symbol_among : List Symbol → List ℕ → Option (Symbol × List ℕ)
+symbol_among [] bytes = None
+symbol_among (s ∷ others) bytes =
+    if starts_with nat_eq bytes (spelling_of s) then Some (s, drop (length (spelling_of s)) bytes) else symbol_among others bytes
 
 -- the symbol at the front, and what stands behind it
 unfoldable pub symbol_of : List ℕ → Option (Symbol × List ℕ)
-symbol_of [] = None
-symbol_of (b ∷ bs) = single_or b bs (single b)
+symbol_of bytes = symbol_among symbols bytes
 
 -- the longest front of bytes that pass, and the rest
 abbrev pub run_of : (ℕ → Bool) → List ℕ → List ℕ × List ℕ

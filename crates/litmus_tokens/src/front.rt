@@ -6,7 +6,7 @@ ghost use Rattle.litmus_tokens.specs.Front as front;
 use crate::token::{Lexeme, Symbol, Token};
 
 /// Whether the token is this symbol.
-#[tactic(auto, unfolding(crate::specs::Front::is_symbol))]
+#[tactic(auto, using(crate::proofs::Symbols::same_spelling), unfolding(crate::specs::Front::is_symbol))]
 pub fn is_symbol(symbol: Symbol, token: &Token<'_>) -> bool
     ensures { result ≡ front.is_symbol symbol (piece_of token.now) }
 {

@@ -6,6 +6,7 @@ ghost use Rattle.tso_model.specs.Limits.{longest_name};
 ghost use Rattle.tso_model.specs.Names as names;
 ghost use Rattle.litmus_tokens.specs.Gap.{seen};
 ghost use Rattle.litmus_tokens.specs.Terms as terms;
+ghost use Rattle.litmus_tokens.specs.SymbolSteps as steps;
 ghost use Rattle.litmus_tokens.specs.Terms.{decimal, word_of, term_of};
 ghost use Rattle.litmus_tokens.specs.Pieces as spec;
 ghost use Rattle.litmus_tokens.specs.Pieces.{piece_of, pieces, pieces_of};
@@ -71,9 +72,9 @@ pub fn word(digits: &[u8]) -> Option<u32>
     Some(value as u32)
 }
 
-#[tactic(auto, unfolding(crate::specs::Terms::single))]
+#[tactic(auto, unfolding(crate::specs::SymbolSteps::single))]
 fn single(byte: u8) -> Option<Symbol>
-    ensures { result ≡ terms.single byte }
+    ensures { result ≡ steps.single byte }
 {
     match byte {
         b'=' => Some(Symbol::Equals),
@@ -94,7 +95,7 @@ fn single(byte: u8) -> Option<Symbol>
 }
 
 /// The symbol at the very front, and what stands behind it.
-#[tactic(auto, unfolding(crate::specs::Terms::symbol_of, crate::specs::Terms::wedge_at))]
+#[tactic(auto, using(crate::proofs::Symbols::symbol_by_bytes), unfolding(crate::specs::SymbolSteps::wedge_at))]
 fn symbol_of(bytes: &[u8]) -> Option<(Symbol, &[u8])>
     ensures value { option_map (λ x. (x.0, x.1.now)) result ≡ terms.symbol_of bytes.now }
     ensures shorter { IfSome result (λ x. length x.1.now < length bytes.now) }

@@ -11,6 +11,7 @@ use Rattle.tso_model.specs.declared.execution.Entry.{Entry}
 use Rattle.tso_model.specs.declared.choice.Choice.{Choice}
 use Rattle.tso_model.specs.declared.choice.Choice.TheVariants.{Step, Drain}
 use Rattle.tso_model.specs.declared.choice.Outcome.TheVariants.{Committed}
+use Rattle.machine_core.proofs.Draining.{drain_with, locked_with}
 
 pub record CommitsAtOnce (f : Effect) : Type 0 where
   pub outcome : f.outcome ≡ Committed
@@ -21,7 +22,7 @@ stored-commits zero s e loc h = record { outcome = refl; some = λ z. (let w : �
 stored-commits (suc n) s e loc h = absurd (h refl)
 
 locked-commits : (core : ℕ) (s : CoreState) (loc : Loc) (reg : Reg) (word value : ℕ) (pending : List Entry) → locked_access loc pending ≢ NoAccess
-    → CommitsAtOnce (locked core s loc reg word value pending)
+    → CommitsAtOnce (locked_with core s loc reg word value pending)
 locked-commits core s loc reg word value [] h = record { outcome = refl; some = λ z. (let w : ⊥ = cc in w) }
 locked-commits core s loc reg word value (p ∷ ps) h = absurd (h refl)
 
@@ -36,7 +37,7 @@ step-commits depth memory core (Some Fence) s h = absurd (h refl)
 step-commits depth memory core (Some (Xchg loc reg)) s h = locked-commits core s loc reg _ _ s.pending h
 step-commits depth memory core (Some (Xadd loc reg)) s h = locked-commits core s loc reg _ _ s.pending h
 
-drain-commits : (s : CoreState) (pending : List Entry) → drain_access pending ≢ NoAccess → CommitsAtOnce (drain_of s pending)
+drain-commits : (s : CoreState) (pending : List Entry) → drain_access pending ≢ NoAccess → CommitsAtOnce (drain_with s pending)
 drain-commits s [] h = absurd (h refl)
 drain-commits s (p ∷ ps) h = record { outcome = refl; some = λ z. (let w : ⊥ = cc in w) }
 

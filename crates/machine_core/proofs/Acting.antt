@@ -30,12 +30,9 @@ may-read b core loc pending none may =
     go (inl free) = inl free
     go (inr hit) = inr (isn't_not (would_hit b core loc.0 false) hit)
 
-pub may-write : (b : Bus) (core : ℕ) (items : List Pending) (store : Pending) → Some store ≡ slice_get items 0 → MayAct b core (drain_access (map (store_of core) items))
-    → IsFree b ⊎ IsTrue (would_hit b core store.loc.0 true)
-may-write b core [] store h may = absurd (let z : ⊥ = cc in z)
-may-write b core (p ∷ ps) store h (inl free) = inl free
-may-write b core (p ∷ ps) store h (inr hit) =
-    inr (subst (λ (s : Pending). IsTrue (would_hit b core s.loc.0 true)) (let z : p ≡ store = cc in z) (isn't_not (would_hit b core p.loc.0 true) hit))
+pub may-write : (b : Bus) (core : ℕ) (loc : Loc) → MayAct b core (Writes loc) → IsFree b ⊎ IsTrue (would_hit b core loc.0 true)
+may-write b core loc (inl free) = inl free
+may-write b core loc (inr hit) = inr (isn't_not (would_hit b core loc.0 true) hit)
 
 -- the access that a choice makes
 pub reads : (loc : Loc) (pending : List Entry) → list_any (writes_to loc.0) pending ≡ false → Reads loc ≡ load_access loc (filter (writes_to loc.0) pending)

@@ -14,10 +14,12 @@ use Rattle.snoop_bus.specs.declared.access.Access.{Access}
 use Rattle.snoop_bus.specs.Bus.{Bus, words_of, IsSameMachine}
 use Rattle.snoop_bus.specs.Accesses.{LoadsAt, WritesAt}
 use Rattle.machine_core.specs.declared.processor.Processor.{Processor}
+use Rattle.machine_core.specs.declared.cache_use.CacheUse.{CacheUse}
 use Rattle.machine_core.specs.declared.cache_use.CacheUse.TheVariants.{Unused, Forwarded, Through}
 use Rattle.machine_core.specs.Cores.{store_of, core_state, pending_in, step_by, drain_by}
 use Rattle.machine_core.specs.Caches.{Caches, caches_of, not_through, load_behind, write_by, use_of}
 use Rattle.machine_core.specs.Performed.{HasUsed}
+use Rattle.machine_core.proofs.Draining.{drain_with, fenced_with, locked_with}
 
 or_true : (b : Bool) → true ≡ (b || true)
 or_true true = refl
@@ -57,16 +59,16 @@ writes old new core loc word access done machine =
 pub rests : (b : Bus) (pending commits : List Entry) → commits ≡ [] → HasUsed (use_of (caches_of b) pending commits) b Unused
 rests b pending commits h = rw h (record { how_is = refl; caches = refl })
 
-fenced-uses : (c : Caches) (pending : List Entry) (core : ℕ) (s : CoreState) (waiting : List Entry) → use_of c pending (fenced core s waiting).commits ≡ not_through Unused c
+fenced-uses : (c : Caches) (pending : List Entry) (core : ℕ) (s : CoreState) (waiting : List Entry) → use_of c pending (fenced_with core s waiting).commits ≡ not_through Unused c
 fenced-uses c pending core s [] = refl
 fenced-uses c pending core s (p ∷ ps) = refl
 
-pub fences : (b : Bus) (pending : List Entry) (core : ℕ) (s : CoreState) (waiting : List Entry) → HasUsed (use_of (caches_of b) pending (fenced core s waiting).commits) b Unused
+pub fences : (b : Bus) (pending : List Entry) (core : ℕ) (s : CoreState) (waiting : List Entry) → HasUsed (use_of (caches_of b) pending (fenced_with core s waiting).commits) b Unused
 fences b pending core s waiting =
     subst (λ u. HasUsed u b Unused) (sym (fenced-uses (caches_of b) pending core s waiting)) (record { how_is = refl; caches = refl })
 
 locked-uses : (c : Caches) (pending : List Entry) (core : ℕ) (s : CoreState) (loc : Loc) (reg : Reg) (word value : ℕ) (items : List Pending) → items ≡ []
-    → use_of c pending (locked core s loc reg word value (map (store_of core) items)).commits ≡ write_by c core loc.0
+    → use_of c pending (locked_with core s loc reg word value (map (store_of core) items)).commits ≡ write_by c core loc.0
 locked-uses c pending core s loc reg word value [] h = refl
 locked-uses c pending core s loc reg word value (p ∷ ps) h = absurd (let z : ⊥ = cc in z)
 
@@ -85,13 +87,11 @@ adds core p old new loc reg word access h done machine =
     (writes old new core loc.0 word access done machine)
 
 drained-uses : (c : Caches) (pending : List Entry) (core : ℕ) (s : CoreState) (items : List Pending) (store : Pending) → Some store ≡ slice_get items 0
-    → use_of c pending (drain_of s (map (store_of core) items)).commits ≡ write_by c core store.loc.0
+    → use_of c pending (drain_with s (map (store_of core) items)).commits ≡ write_by c core store.loc.0
 drained-uses c pending core s [] store h = absurd (let z : ⊥ = cc in z)
 drained-uses c pending core s (p ∷ ps) store h = let e : store ≡ p = cc in ap (λ q. write_by c core q.loc.0) (sym e)
 
-pub drains : (core : ℕ) (p : Processor) (old new : Bus) (store : Pending) (word : ℕ) (access : Access) → Some store ≡ slice_get p.stores.items 0
-    → WritesAt old new core store.loc.0 word access → IsSameMachine old new
-    → HasUsed (use_of (caches_of old) (pending_in core p) (drain_by p core).commits) new (Through access)
-drains core p old new store word access h done machine =
-    subst (λ u. HasUsed u new (Through access)) (sym (drained-uses (caches_of old) (pending_in core p) core (core_state core p) p.stores.items store h))
-    (writes old new core store.loc.0 word access done machine)
+pub drains : (core : ℕ) (p : Processor) (old new : Bus) (store : Pending) (how : CacheUse) → Some store ≡ slice_get p.stores.items 0
+    → HasUsed (write_by (caches_of old) core store.loc.0) new how → HasUsed (use_of (caches_of old) (pending_in core p) (drain_by p core).commits) new how
+drains core p old new store how h used =
+    subst (λ u. HasUsed u new how) (sym (drained-uses (caches_of old) (pending_in core p) core (core_state core p) p.stores.items store h)) used

@@ -5,8 +5,8 @@ use Rattle.std.specs.Option.{option_map}
 use Rattle.std.specs.List.{last_or}
 use Rattle.tso_model.specs.ProgramOrder.{writes_to}
 use Rattle.tso_model.specs.Execution.{last_value}
-use Rattle.tso_model.specs.FlatMachine.{CoreState, stalled, fenced, locked, drain_of, started, idle}
-use Rattle.tso_model.specs.Runs.{is_none_pending, is_done, all_done}
+use Rattle.tso_model.specs.FlatMachine.{is_none_pending, CoreState, stalled, fenced, locked, drain_of, started, idle}
+use Rattle.tso_model.specs.Runs.{is_done, all_done}
 use Rattle.tso_model.specs.declared.register.Reg.{Reg}
 use Rattle.tso_model.specs.declared.instruction.Loc.{Loc}
 use Rattle.tso_model.specs.Thread.{value_in, sum_of}
@@ -19,6 +19,7 @@ use Rattle.machine_core.specs.declared.processor.Processor.{Processor}
 use Rattle.store_buffer.specs.Stores.{stores}
 use Rattle.machine_core.specs.Cores.{store_of, core_state, core_states, step_by}
 use Rattle.machine_core.specs.Kept.{IsCore}
+use Rattle.machine_core.proofs.Draining.{drain_with, fenced_with, locked_with}
 
 -- what a load sees, in the buffer and among the pending stores
 last_value-stores : (core loc word : ℕ) (o : Option Pending) (items : List Pending)
@@ -56,12 +57,12 @@ take-got (y ∷ ys) (suc k) x h = rw add-one (ap (λ zs. y ∷ zs) (rw add-one a
 pub holds_some : (b : Bool) (items : List Pending) → (items ≡ [] → IsTrue b) → b ≡ false → items ≡ [] → ⊥
 holds_some b items h f e = let t : b ≡ true = h e in let z : true ≡ false = sym t ∙ f in let w : ⊥ = cc in w
 
-pub fenced-waits : (core : ℕ) (s : CoreState) (items : List Pending) → (items ≡ [] → ⊥) → fenced core s (map (store_of core) items) ≡ stalled stall.Fence s
+pub fenced-waits : (core : ℕ) (s : CoreState) (items : List Pending) → (items ≡ [] → ⊥) → fenced_with core s (map (store_of core) items) ≡ stalled stall.Fence s
 fenced-waits core s [] h = absurd (h refl)
 fenced-waits core s (p ∷ ps) h = refl
 
 locked-waits : (core : ℕ) (s : CoreState) (loc : Loc) (reg : Reg) (word value : ℕ) (items : List Pending) → (items ≡ [] → ⊥)
-    → locked core s loc reg word value (map (store_of core) items) ≡ stalled stall.Lock s
+    → locked_with core s loc reg word value (map (store_of core) items) ≡ stalled stall.Lock s
 locked-waits core s loc reg word value [] h = absurd (h refl)
 locked-waits core s loc reg word value (p ∷ ps) h = refl
 
@@ -75,7 +76,7 @@ pub addition-waits : (core : ℕ) (p : Processor) (words : List ℕ) (loc : Loc)
 addition-waits core p words loc reg b f h =
     sym (locked-waits core (core_state core p) loc reg (slice_index words loc.0) (sum_of (slice_index words loc.0) (value_in p.registers reg)) p.stores.items (holds_some b p.stores.items f h))
 
-pub drain_of-nothing : (core : ℕ) (s : CoreState) (items : List Pending) → slice_get items 0 ≡ None → drain_of s (map (store_of core) items) ≡ stalled stall.Empty s
+pub drain_of-nothing : (core : ℕ) (s : CoreState) (items : List Pending) → slice_get items 0 ≡ None → drain_with s (map (store_of core) items) ≡ stalled stall.Empty s
 drain_of-nothing core s [] h = refl
 drain_of-nothing core s (p ∷ ps) h = absurd (let z : ⊥ = cc in z)
 

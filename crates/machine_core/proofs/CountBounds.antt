@@ -34,6 +34,7 @@ use Rattle.machine_core.specs.declared.cache_use.CacheUse.TheVariants.{Unused, F
 use Rattle.machine_core.specs.Caches.{Caches, not_through, load_by, write_by, load_behind, use_by_kind, use_of}
 use Rattle.machine_core.specs.Statistics.{no_counts, with_access, with_write_back, with_forward, with_flush, at_core, flush_counted, counted}
 use Rattle.machine_core.specs.Kept.{IsIssued, IsAtMost, IsAmong, IsFlusherAmong, done_by}
+use Rattle.machine_core.proofs.Draining.{drain_with, fenced_with, locked_with}
 
 -- one count more
 stays : {a n : ℕ} → a ≤ n → a ≤ n + 1
@@ -272,12 +273,12 @@ stored-advances (suc n) s e i h =
     else stalled stall.Full s))
     [ true ↦ buffered s Buffered e i h | false ↦ rests s (Stalled stall.Full) i ]
 
-fenced-advances : (core : ℕ) (s : CoreState) (pending : List Entry) → IsIssued s → s.place < most_instructions → Advances s (fenced core s pending)
+fenced-advances : (core : ℕ) (s : CoreState) (pending : List Entry) → IsIssued s → s.place < most_instructions → Advances s (fenced_with core s pending)
 fenced-advances core s [] i h = goes_on s _ s.registers _ i h
 fenced-advances core s (p ∷ ps) i h = rests s (Stalled stall.Fence) i
 
 locked-advances : (core : ℕ) (s : CoreState) (loc : Loc) (reg : Reg) (word value : ℕ) (pending : List Entry) → IsIssued s → s.place < most_instructions
-    → Advances s (locked core s loc reg word value pending)
+    → Advances s (locked_with core s loc reg word value pending)
 locked-advances core s loc reg word value [] i h = goes_on s _ (with_value s.registers reg word) _ i h
 locked-advances core s loc reg word value (p ∷ ps) i h = rests s (Stalled stall.Lock) i
 
@@ -306,7 +307,7 @@ step-advances depth memory core program (Some instr) s got size i =
     instr-advances depth memory core instr s i (let z : s.place < most_instructions = omega arith in z)
 
 drain-advances : (place : ℕ) (registers : List ℕ) (pending waiting : List Entry) → pending ≡ waiting → IsIssued (record { place = place; registers = registers; pending = pending })
-    → Advances (record { place = place; registers = registers; pending = pending }) (drain_of (record { place = place; registers = registers; pending = pending }) waiting)
+    → Advances (record { place = place; registers = registers; pending = pending }) (drain_with (record { place = place; registers = registers; pending = pending }) waiting)
 drain-advances place registers pending [] h i = rests (record { place = place; registers = registers; pending = pending }) (Stalled stall.Empty) i
 drain-advances place registers pending (p ∷ ps) h i =
     let waiting = i.pending in

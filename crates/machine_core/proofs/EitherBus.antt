@@ -7,7 +7,7 @@ use Rattle.tso_model.specs.SplitMachine.{Holder, Free, HeldBy, HeldBetween, Atte
 use Rattle.tso_model.specs.EitherBus.{BusState, effect_on, HitFits}
 use Rattle.tso_model.specs.declared.bus.Bus.{Bus}
 use Rattle.tso_model.specs.declared.bus.Bus.TheVariants.{Atomic, Split}
-use Rattle.tso_model.specs.declared.memory.NoMemory.{NoMemory}
+use Rattle.tso_model.specs.declared.out_of_memory.NoMemory.{NoMemory}
 use Rattle.tso_model.specs.declared.choice.Choice.{Choice}
 use Rattle.tso_model.specs.declared.choice.Outcome.{Outcome}
 use Rattle.split_laws.specs.Holders.{HolderFits}

@@ -28,6 +28,7 @@ use Rattle.machine_core.specs.Performed.{HasUsed}
 use Rattle.machine_core.specs.Split.{writes_last_in, use_by, IsLocked, WritesAs}
 use Rattle.machine_core.proofs.Finishing.{free-awaits}
 use Rattle.machine_core.proofs.Performing.{core_of-state_in, effect_in-step, access_of-step}
+use Rattle.machine_core.proofs.Draining.{locked_with}
 
 pub has-read : {P : Type 0} (t : Litmus) (m : Parts P) (e : Entry) → HolderFits Split t m.config.depth (state_in m).flat (state_in m).holder → (state_in m).holder ≡ HeldBetween e
     → HasRead t m.config.depth (state_in m).flat e
@@ -61,7 +62,7 @@ last_part core place s at into word due = record { outcome = Committed; after = 
 
 locked-last : (core : ℕ) (words : List ℕ) (s : CoreState) (loc at : Loc) (reg into : Reg) (word value due : ℕ) (pending : List Entry) → locked_access loc pending ≡ Locks at
     → slice_index words at.0 ≡ word → into ≡ reg → (slice_index words loc.0 ≡ word → due ≡ value)
-    → after_first (locked core s loc reg (slice_index words loc.0) value pending) ≡ last_part core s.place s at into word due
+    → after_first (locked_with core s loc reg (slice_index words loc.0) value pending) ≡ last_part core s.place s at into word due
 locked-last core words s loc at reg into word value due [] locks read register writes =
     let here : loc ≡ at = cc in
     let is : slice_index words loc.0 ≡ word = ap (λ (l : Loc). slice_index words l.0) here ∙ read in

@@ -1,4 +1,6 @@
+pub mod Draining
 pub mod CacheUses
+pub mod Storing
 pub mod Acting
 pub mod Splitting
 pub mod EitherBus

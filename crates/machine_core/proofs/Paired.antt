@@ -1,7 +1,7 @@
 -- Where nobody holds the bus, the load parts of locked instructions have their store parts.
 use Rattle.std.proofs.Common.{◌≡◌, ◌≢◌, ℕ, ◌==◌, ◌&&◌, inl, inr, Bool, true, false, if◌then◌else◌, List, [], ◌∷◌, refl, arith}
 use Rattle.std.proofs.lemmas.Bool.Decides.{nat_tests}
-use Rattle.tso_model.specs.Execution.{same_kind}
+use Rattle.tso_model.specs.ProgramOrder.{same_kind}
 use Rattle.tso_model.specs.SplitMachine.{Free}
 use Rattle.tso_model.specs.declared.execution.Entry.{Entry}
 use Rattle.tso_model.specs.declared.execution.Kind.{Kind}

@@ -7,7 +7,7 @@ use Rattle.tso_model.specs.Access.{NoAccess, access_of, step_access, drain_acces
 use Rattle.tso_model.specs.SplitMachine.{BusEffect, acts}
 use Rattle.tso_model.specs.declared.instruction.Core.{Core}
 use Rattle.tso_model.specs.declared.instruction.Instr.{Instr}
-use Rattle.tso_model.specs.declared.memory.NoMemory.{NoMemory}
+use Rattle.tso_model.specs.declared.out_of_memory.NoMemory.{NoMemory}
 use Rattle.tso_model.specs.declared.choice.Choice.{Choice}
 use Rattle.tso_model.specs.declared.choice.Choice.TheVariants.{Step, Drain}
 use Rattle.tso_model.specs.declared.choice.Outcome.{Outcome}
@@ -44,7 +44,7 @@ effect_in-done t m core p h q g =
 
 pub effect_in-drain : {P : Type 0} (t : Litmus) (m : Parts P) (core : Core) (p : Processor) → core.0 < length m.processors.items → p ≡ slice_index_or m.processors.items core.0 p
     → flat_effect_in t m (Drain core) ≡ drain_by p core.0
-effect_in-drain t m core p h q = ap (λ s. drain_of s s.pending) (core_of-state_in m core.0 p h q)
+effect_in-drain t m core p h q = ap (λ s. drain_of s) (core_of-state_in m core.0 p h q)
 
 -- the access that it makes
 pub access_of-step : {P : Type 0} (t : Litmus) (m : Parts P) (core : Core) (p : Processor) (instr : Instr) → core.0 < length m.processors.items → p ≡ slice_index_or m.processors.items core.0 p
@@ -120,7 +120,6 @@ Performs-done t m new core p h q g processors memory commits holder =
 pub FitsTest-next : {P : Type 0} (t : Litmus) (m new : Parts P) (i : ℕ) (p : Processor) → FitsTest t m → new.config ≡ m.config → new.processors.items ≡ slice_set m.processors.items i p
     → cores_of new.bus ≡ cores_of m.bus → length (words_of new.bus) ≡ length (words_of m.bus) → p.stores.depth ≡ m.config.depth → All (λ s. s.loc.0 < length (words_of m.bus)) p.stores.items → FitsTest t new
 FitsTest-next t m new i p fits config processors on_bus size depth known = record {
-  some_depth = subst (λ c. 0 < c.depth) (sym config) fits.some_depth;
   cores = ap length processors ∙ length-set m.processors.items i p ∙ fits.cores;
   on_bus = on_bus ∙ fits.on_bus;
   words = size ∙ fits.words;

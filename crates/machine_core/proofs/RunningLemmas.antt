@@ -5,7 +5,7 @@ use Rattle.tso_model.specs.FlatMachine.{chosen, core_of}
 use Rattle.tso_model.specs.Access.{access_of}
 use Rattle.tso_model.specs.SplitMachine.{Free, Attempt}
 use Rattle.tso_model.specs.EitherBus.{BusState, effect_on, after_on, HitFits}
-use Rattle.tso_model.specs.declared.memory.NoMemory.{NoMemory}
+use Rattle.tso_model.specs.declared.out_of_memory.NoMemory.{NoMemory}
 use Rattle.tso_model.specs.declared.choice.Outcome.{Outcome}
 use Rattle.split_laws.specs.BusChoices.{IsPossibleOn}
 use Rattle.machine_core.specs.declared.parts.Parts.{Parts}

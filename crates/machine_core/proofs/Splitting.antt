@@ -6,7 +6,7 @@ use Rattle.tso_model.specs.FlatMachine.{CoreState, State, Effect, stalled, after
 use Rattle.tso_model.specs.Access.{Access, NoAccess, Reads, Writes, Locks, access_of}
 use Rattle.tso_model.specs.SplitMachine.{Holder, Free, HeldBy, HeldBetween, Attempt, BusEffect, acts, asks, needs_bus, same_choice}
 use Rattle.tso_model.specs.EitherBus.{BusState, HitFits}
-use Rattle.tso_model.specs.declared.memory.NoMemory.{NoMemory}
+use Rattle.tso_model.specs.declared.out_of_memory.NoMemory.{NoMemory}
 use Rattle.tso_model.specs.declared.bus.Bus.TheVariants.{Split}
 use Rattle.tso_model.specs.declared.instruction.Core.{Core}
 use Rattle.tso_model.specs.declared.instruction.Loc.{Loc}
@@ -169,7 +169,6 @@ held-ask t depth old new choice core access b i a s h =
 pub fits-ask : {P : Type 0} (t : Litmus) (m new : Parts P) → FitsTest t m → new.config ≡ m.config → new.processors.items ≡ m.processors.items → words_of new.bus ≡ words_of m.bus
     → cores_of new.bus ≡ cores_of m.bus → FitsTest t new
 fits-ask t m new fits config processors words cores = record {
-  some_depth = rw config fits.some_depth;
   cores = ap length processors ∙ fits.cores;
   on_bus = cores ∙ fits.on_bus;
   words = ap length words ∙ fits.words;

@@ -1,11 +1,12 @@
 -- What a contract sees of a machine's configuration. (This project's profile.)
 use Rattle.std.specs.Prelude.{ℕ, ◌≤◌}
-use Rattle.tso_model.specs.Limits.{least_depth, most_depth}
+use Rattle.tso_model.specs.Limits.{most_depth}
 use Rattle.tso_model.specs.declared.bus.Bus.{Bus}
 use Rattle.snoop_bus.specs.Geometry.{Geometry}
 use Rattle.snoop_bus.specs.Geometry as shape
 
--- how many stores each core's buffer holds, the shape of each core's cache, and the kind of bus that the caches share
+-- how many stores each core's buffer holds (0: no core has a buffer), the shape of each core's cache, and the kind of bus
+-- that the caches share
 pub record Configuration : Type 0 where
   pub depth : ℕ
   pub shape : Geometry
@@ -13,4 +14,4 @@ pub record Configuration : Type 0 where
 
 -- the depth and the shape of the caches are within their limits
 abbrev pub IsWithinLimits : Configuration → Type 0
-IsWithinLimits c = (least_depth ≤ c.depth) × (c.depth ≤ most_depth) × shape.IsWithinLimits c.shape
+IsWithinLimits c = (c.depth ≤ most_depth) × shape.IsWithinLimits c.shape

@@ -34,7 +34,7 @@ step_by p core memory instr = step_of p.stores.depth memory core (Some instr) (c
 
 -- a drain of the core
 abbrev pub drain_by : Processor → ℕ → Effect
-drain_by p core = drain_of (core_state core p) (map (store_of core) p.stores.items)
+drain_by p core = drain_of (core_state core p)
 
 -- the core at its next instruction, with these registers
 abbrev pub advanced : Processor → List ℕ → Processor

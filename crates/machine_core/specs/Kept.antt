@@ -28,7 +28,7 @@ use Rattle.machine_core.specs.Cores.{state_of}
 use Rattle.machine_core.specs.Caches.{caches_of, at_access}
 use Rattle.machine_core.specs.Statistics.{Statistics}
 
--- a core's buffer has this depth and holds stores to one of so many locations
+-- a core's buffer has this depth, 0 where there is none, and holds stores to one of so many locations
 pub record IsCore (depth locations : ℕ) (p : Processor) : Type 0 where
   pub depth_is : p.stores.depth ≡ depth
   pub known : All (λ s. s.loc.0 < locations) p.stores.items
@@ -90,7 +90,6 @@ pub record IsTallied (t : Litmus) (state : BusState) (s : Statistics) : Type 0 w
 
 -- the parts of a machine of this test: its cores, all on one bus, and a word for each location
 pub record FitsTest {P : Type 0} (t : Litmus) (m : Parts P) : Type 0 where
-  pub some_depth : 0 < m.config.depth
   pub cores : length m.processors.items ≡ length t.programs
   pub on_bus : cores_of m.bus ≡ length t.programs
   pub words : length (words_of m.bus) ≡ length t.locations

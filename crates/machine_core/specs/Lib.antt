@@ -3,6 +3,7 @@ pub mod Caches
 pub mod Statistics
 pub mod Answered
 pub mod Running
+pub mod Buffers
 pub mod Cores
 pub mod Kept
 pub mod Performed

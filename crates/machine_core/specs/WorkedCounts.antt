@@ -1,7 +1,8 @@
 -- Worked runs, for what their accesses come to.
 use Rattle.std.specs.Prelude.{ℕ, List, [], ◌∷◌, None, codes}
+use Rattle.tso_model.specs.FlatMachine.{step, drain}
 use Rattle.tso_model.specs.Litmus.{Litmus}
-use Rattle.tso_model.specs.Examples.{loc_x, loc_y, zeros, step, drain}
+use Rattle.tso_model.specs.Examples.{loc_x, loc_y, zeros}
 use Rattle.tso_model.specs.declared.register.Reg.TheVariants.{Eax, Ebx}
 use Rattle.tso_model.specs.declared.instruction.Loc.{Loc}
 use Rattle.tso_model.specs.declared.instruction.Instr.{Instr}
@@ -26,6 +27,10 @@ missed n = counts 0 n 0 0 0 0
 abbrev pub in_turn : List Choice
 in_turn = step 0 ∷ (drain 0 ∷ (step 0 ∷ (step 1 ∷ (drain 1 ∷ (step 1 ∷ [])))))
 
+-- and without buffers, where each core's step is its store's way to memory
+abbrev pub sb_steps : List Choice
+sb_steps = step 0 ∷ (step 1 ∷ (step 0 ∷ (step 1 ∷ [])))
+
 -- of the test in which a core reads its own store before memory has it
 abbrev pub own_store_first : List Choice
 own_store_first = step 0 ∷ (step 0 ∷ (step 0 ∷ (step 1 ∷ (step 1 ∷ (drain 1 ∷ (drain 1 ∷ (drain 0 ∷ [])))))))
@@ -43,6 +48,10 @@ load_store = record {
 
 abbrev pub load_store_choices : List Choice
 load_store_choices = step 0 ∷ (step 0 ∷ (drain 0 ∷ []))
+
+-- without a buffer on a split bus: the load and the store ask, one after the other
+abbrev pub load_store_steps : List Choice
+load_store_steps = step 0 ∷ (step 0 ∷ (step 0 ∷ (step 0 ∷ [])))
 
 -- a core stores to two words, and another loads the first of them
 abbrev pub two_stores : Litmus

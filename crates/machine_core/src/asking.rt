@@ -3,7 +3,7 @@
 ghost use Rattle.std.specs.Prelude.{◌≡◌, ◌≢◌, ℕ, ◌<◌, true, false, IsOk, IfOk, OnErr, Some, None, All, filter, length};
 ghost use Rattle.tso_model.specs.Litmus.{KnownLocation};
 ghost use Rattle.tso_model.specs.FlatMachine.{chosen};
-ghost use Rattle.tso_model.specs.Access.{Writes, access_of, step_access, load_access, locked_access, drain_access};
+ghost use Rattle.tso_model.specs.Access.{Writes, access_of, step_access, store_access, load_access, locked_access, drain_access};
 ghost use Rattle.tso_model.specs.ProgramOrder.{writes_to};
 ghost use Rattle.tso_model.specs.SplitMachine.{needs_bus, same_choice};
 ghost use Rattle.tso_model.specs.EitherBus.{HitFits};
@@ -173,20 +173,28 @@ pub fn access_of<P: Protocol>(parts: &Parts<P>, test: &Test, choice: Choice) -> 
     }
 }
 
-/// The access of a step at this instruction: a plain store only waits in the buffer.
+/// The access of a step at this instruction.
 fn step_access(processor: &Processor, instr: Instr) -> MemoryAccess
-    requires { 0 < processor.now.stores.depth }
     ensures value { (core : ℕ) → access_in result ≡ step_access processor.now.stores.depth (Some instr) (pending_in core processor.now) }
     ensures known { (locations : ℕ) → KnownLocation locations instr → IsAccessAmong locations (access_in result) }
 {
     match instr {
+        Instr::StoreImm(loc, _) | Instr::StoreReg(loc, _) => store_access(processor, loc),
         Instr::Load(_, loc) => load_access(processor, loc),
         Instr::Xchg(loc, _) | Instr::Xadd(loc, _) => locked_access(processor, loc),
-        Instr::StoreImm(_, _)
-        | Instr::StoreReg(_, _)
-        | Instr::SetImm(_, _)
-        | Instr::SetReg(_, _)
-        | Instr::Fence => MemoryAccess::Nothing,
+        Instr::SetImm(_, _) | Instr::SetReg(_, _) | Instr::Fence => MemoryAccess::Nothing,
+    }
+}
+
+/// A plain store only waits in the buffer; without one it writes.
+fn store_access(processor: &Processor, loc: Loc) -> MemoryAccess
+    ensures value { access_in result ≡ store_access processor.now.stores.depth loc }
+    ensures known { (locations : ℕ) → loc.0 < locations → IsAccessAmong locations (access_in result) }
+{
+    if processor.stores.are_buffered() {
+        MemoryAccess::Nothing
+    } else {
+        MemoryAccess::Write(loc)
     }
 }
 

@@ -1,13 +1,14 @@
 //! The holder's next choice on a split bus: it completes the access that it asked for, and frees the bus; of
 //! a locked instruction the load part comes first, and the store part at the choice after it.
 
-ghost use Rattle.std.specs.Prelude.{◌≡◌, ◌≢◌, ℕ, ◌<◌, ◌++◌, ◌∷◌, [], IsOk, IfOk, OnOk, OnErr, Some, All, length, slice_index};
+ghost use Rattle.std.specs.Prelude.{◌≡◌, ◌≢◌, ℕ, ◌<◌, ◌++◌, ◌∷◌, [], IsOk, IfOk, OnOk, OnErr, Some, All, length, slice_index, slice_set};
 ghost use Rattle.tso_model.specs.Limits.{most_instructions};
 ghost use Rattle.tso_model.specs.Thread.{entry, with_value};
 ghost use Rattle.tso_model.specs.FlatMachine.{chosen, memory_after};
+ghost use Rattle.tso_model.specs.FlatMachine as flat;
 ghost use Rattle.tso_model.specs.Access.{NoAccess, drain_access};
 ghost use Rattle.tso_model.specs.SplitMachine.{HeldBy, HeldBetween};
-ghost use Rattle.tso_model.specs.declared.execution.Kind.TheVariants.{R, LR};
+ghost use Rattle.tso_model.specs.declared.execution.Kind.TheVariants.{R, W, LR};
 ghost use Rattle.tso_model.specs.declared.bus.Bus.TheVariants as Bus;
 ghost use Rattle.split_laws.specs.Holders.{HolderFits};
 ghost use Rattle.snoop_bus.specs.Bus.{words_of, cores_of, holder_of, IsFree};
@@ -59,7 +60,7 @@ pub fn complete<P: Protocol>(
     }
 }
 
-/// Completes a step: a load, or the load part of a locked instruction.
+/// Completes a step: a plain store, a load, or the load part of a locked instruction.
 fn complete_step<P: Protocol>(
     parts: &mut Parts<P>,
     test: &Test,
@@ -84,6 +85,31 @@ fn complete_step<P: Protocol>(
 {
     let processor = &mut parts.processors[core.0 as usize];
     match instruction_at(test.program(core), processor.place).unwrap() {
+        Instr::StoreImm(loc, value) => {
+            let access = store(
+                processor,
+                core,
+                loc,
+                value,
+                &mut parts.bus,
+                &mut parts.commits,
+            )?;
+            parts.holding = Holding::Free;
+            Ok((Outcome::Committed, CacheUse::Through(access)))
+        }
+        Instr::StoreReg(loc, reg) => {
+            let value = processor.register(reg);
+            let access = store(
+                processor,
+                core,
+                loc,
+                value,
+                &mut parts.bus,
+                &mut parts.commits,
+            )?;
+            parts.holding = Holding::Free;
+            Ok((Outcome::Committed, CacheUse::Through(access)))
+        }
         Instr::Load(reg, loc) => {
             let access = load(
                 processor,
@@ -130,7 +156,7 @@ fn complete_drain<P: Protocol>(
     ensures held { IsHeldAs test.now parts.new }
 {
     let processor = &mut parts.processors[core.0 as usize];
-    let access = store(processor, core, &mut parts.bus, &mut parts.commits)?;
+    let access = store_oldest(processor, core, &mut parts.bus, &mut parts.commits)?;
     parts.holding = Holding::Free;
     Ok((Outcome::Committed, CacheUse::Through(access)))
 }
@@ -171,8 +197,38 @@ fn load<P: Protocol>(
     Ok(access)
 }
 
-/// The oldest buffered store, which has asked, goes to memory.
+/// A plain store that has asked, since there is no buffer, goes to memory.
 fn store<P: Protocol>(
+    processor: &mut Processor,
+    core: Core,
+    loc: Loc,
+    value: u32,
+    bus: &mut SnoopBus<P>,
+    commits: &mut Commits,
+) -> Result<Access, NoMemory>
+    requires place { processor.old.place < most_instructions }
+    requires asked { holder_of bus.old ≡ Some (holder core loc Stage.Write) }
+
+    ensures after { OnOk result (core_state core.0 processor.new ≡ flat.advanced (core_state core.0 processor.old)) }
+    ensures commits { OnOk result (commits.new.entries ≡ commits.old.entries ++ entry core.0 processor.old.place W loc value ∷ []) }
+    ensures words { OnOk result (words_of bus.new ≡ slice_set (words_of bus.old) loc.0 value) }
+    ensures caches { IfOk result (λ access. HasUsed (completion_by (caches_of bus.old) core.0 loc.0) bus.new (CacheUse.Through access)) }
+    ensures free { OnOk result (IsFree bus.new) }
+    ensures count { length (words_of bus.new) ≡ length (words_of bus.old) }
+    ensures stores { processor.new.stores ≡ processor.old.stores }
+
+    ensures err_core { OnErr result (processor.new ≡ processor.old) }
+    ensures err_bus { OnErr result (bus.new ≡ bus.old) }
+    ensures err_commits { OnErr result (commits.new.entries ≡ commits.old.entries) }
+    ensures cores { cores_of bus.new ≡ cores_of bus.old }
+{
+    let access = write(core, processor.place, loc, value, bus, commits)?;
+    processor.place += 1;
+    Ok(access)
+}
+
+/// The oldest buffered store, which has asked, goes to memory.
+fn store_oldest<P: Protocol>(
     processor: &mut Processor,
     core: Core,
     bus: &mut SnoopBus<P>,
@@ -196,16 +252,43 @@ fn store<P: Protocol>(
     ensures cores { cores_of bus.new ≡ cores_of bus.old }
 {
     let store = processor.stores.oldest().unwrap();
+    let access = write(core, store.place, store.loc, store.value, bus, commits)?;
+    processor.stores.take_oldest();
+    Ok(access)
+}
+
+/// A plain store that has asked goes to memory, and is noted.
+///
+/// Fails only for want of memory, and then changes nothing.
+fn write<P: Protocol>(
+    core: Core,
+    place: u8,
+    loc: Loc,
+    value: u32,
+    bus: &mut SnoopBus<P>,
+    commits: &mut Commits,
+) -> Result<Access, NoMemory>
+    requires asked { holder_of bus.old ≡ Some (holder core loc Stage.Write) }
+
+    ensures words { OnOk result (words_of bus.new ≡ slice_set (words_of bus.old) loc.0 value) }
+    ensures commits { OnOk result (commits.new.entries ≡ commits.old.entries ++ entry core.0 place W loc value ∷ []) }
+    ensures caches { IfOk result (λ access. HasUsed (completion_by (caches_of bus.old) core.0 loc.0) bus.new (CacheUse.Through access)) }
+    ensures free { OnOk result (IsFree bus.new) }
+    ensures count { length (words_of bus.new) ≡ length (words_of bus.old) }
+
+    ensures err_bus { OnErr result (bus.new ≡ bus.old) }
+    ensures err_commits { OnErr result (commits.new.entries ≡ commits.old.entries) }
+    ensures cores { cores_of bus.new ≡ cores_of bus.old }
+{
     commits.make_room(1)?;
-    let access = bus.complete_store(core, store.loc, store.value)?;
+    let access = bus.complete_store(core, loc, value)?;
     commits.note(Entry {
         core,
-        place: store.place,
+        place,
         kind: Kind::W,
-        loc: store.loc,
-        value: store.value,
+        loc,
+        value,
     })?;
-    processor.stores.take_oldest();
     Ok(access)
 }
 

@@ -1,16 +1,16 @@
 ghost use Rattle.std.specs.Prelude.{◌≡◌, ◌≤◌, ◌↔◌, IsSome, IfSome};
 ghost use Rattle.snoop_bus.specs.Geometry.{IsLineSize};
-ghost use Rattle.tso_model.specs.Limits.{least_depth, most_depth};
+ghost use Rattle.tso_model.specs.Limits.{most_depth};
 ghost use Rattle.machine_core.specs.Configuration.{IsWithinLimits};
 
 use snoop_bus::Shape;
 use snoop_bus::shape::{MAX_SETS, MAX_WAYS};
 use std::marker::Model;
 use tso_model::Bus;
-use tso_model::limits::{MAX_DEPTH, MIN_DEPTH};
+use tso_model::limits::MAX_DEPTH;
 
 /// How a machine is built: how many stores each core's buffer holds, the shape of its cache, and the
-/// kind of bus that the caches share.
+/// kind of bus that the caches share. At depth 0 no core has a buffer.
 #[derive(Clone, Copy)]
 pub struct Config {
     depth: u8,
@@ -31,22 +31,22 @@ impl Model for Config {
 }
 
 impl Config {
-    /// The configuration with buffers of this depth, and caches of this shape on this kind of bus. `None`
-    /// exactly where the depth isn't from `MIN_DEPTH` to `MAX_DEPTH`.
+    /// The configuration with buffers of this depth, none at depth 0, and caches of this shape on this
+    /// kind of bus. `None` exactly where the depth is over `MAX_DEPTH`.
     pub fn new(depth: u8, shape: Shape, bus: Bus) -> Option<Config>
         ensures value { IfSome result (λ c. c ≡ record { depth = depth; shape = shape; bus = bus }) }
-        ensures valid { IsSome result ↔ ((least_depth ≤ depth) × (depth ≤ most_depth)) }
+        ensures valid { IsSome result ↔ (depth ≤ most_depth) }
     {
         // What a shape keeps is known from its readers.
         let _known = (shape.sets(), shape.ways(), shape.words());
-        if (MIN_DEPTH..=MAX_DEPTH).contains(&depth) {
+        if depth <= MAX_DEPTH {
             Some(Config { depth, shape, bus })
         } else {
             None
         }
     }
 
-    /// How many stores a core's buffer holds.
+    /// How many stores a core's buffer holds; 0 where it has none.
     pub fn depth(self) -> u8
         ensures value { result ≡ self.depth }
         ensures within { IsWithinLimits self }

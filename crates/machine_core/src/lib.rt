@@ -16,6 +16,7 @@ mod locked;
 pub mod machine;
 mod memory_access;
 mod parts;
+mod pending_stores;
 mod processor;
 mod tallying;
 pub mod worked;

@@ -1,5 +1,5 @@
 ghost use Rattle.std.specs.Prelude.{◌≡◌, ◌≢◌, ℕ, ◌<◌, ◌≤◌, [], true, false, IsOk, IfOk, OnOk, OnErr, All, length, map, replicate, slice_get, take};
-ghost use Rattle.tso_model.specs.Limits.{least_depth, most_depth};
+ghost use Rattle.tso_model.specs.Limits.{most_depth};
 ghost use Rattle.tso_model.specs.FlatMachine.{chosen, started, start};
 ghost use Rattle.tso_model.specs.Access.{access_of};
 ghost use Rattle.tso_model.specs.SplitMachine.{acts};
@@ -18,13 +18,13 @@ use crate::cache_use::CacheUse;
 use crate::config::Config;
 use crate::counts::Counts;
 use crate::holding::Holding;
+use crate::pending_stores::PendingStores;
 use crate::processor::{Processor, drain as drain_core, step as step_core};
 use crate::tallying::tally;
 use order_builder::Commits;
 use protocol_tables::Protocol;
 use snoop_bus::SnoopBus;
 use std::alloc::Global;
-use store_buffer::StoreBuffer;
 use tso_model::{Bus, Choice, Core, Instr, Loc, NoMemory, Outcome, Stall, Test};
 
 /// What a machine consists of: its cores, memory behind their caches, who holds the bus, what was
@@ -85,9 +85,9 @@ fn nothing_counted(alloc: Global, test: &Test) -> Result<Vec<Counts>, NoMemory>
 }
 
 /// Each core of the test before its first instruction, with its first registers and an empty buffer
-/// of this depth.
+/// of this depth; with none at depth 0.
 fn processors_of(alloc: Global, test: &Test, depth: u8) -> Result<Vec<Processor>, NoMemory>
-    requires { (least_depth ≤ depth) × (depth ≤ most_depth) }
+    requires { depth ≤ most_depth }
     ensures states { IfOk result (λ ps. core_states 0 ps.items ≡ started 0 test.now.programs test.now.registers) }
     ensures depths { IfOk result (λ ps. (locations : ℕ) → All (IsCore depth locations) ps.items) }
     ensures count { IfOk result (λ ps. length ps.items ≡ length test.now.programs) }
@@ -95,7 +95,7 @@ fn processors_of(alloc: Global, test: &Test, depth: u8) -> Result<Vec<Processor>
     let mut processors = Vec::new(alloc);
     for core in 0..test.cores() {
         let registers = test.initial_registers(Core(core));
-        let stores = StoreBuffer::new(alloc, depth)?;
+        let stores = PendingStores::new(alloc, depth)?;
         processors.push(Processor {
             place: 0,
             registers,

@@ -1,22 +1,24 @@
-ghost use Rattle.std.specs.Prelude.{◌≡◌, ◌≢◌, ℕ, ◌<◌, Some, ◌≤◌, ◌++◌, ◌∷◌, List, [], IsOk, IfOk, OnOk, OnErr, All, length, map, filter, slice_index};
+ghost use Rattle.std.specs.Prelude.{◌≡◌, ◌≢◌, ℕ, ◌<◌, Some, ◌≤◌, ◌++◌, ◌∷◌, List, [], IsOk, IfOk, OnOk, OnErr, All, length, map, filter, slice_index, slice_set};
 ghost use Rattle.tso_model.specs.Limits.{most_instructions};
 ghost use Rattle.tso_model.specs.Litmus.{KnownLocation};
 ghost use Rattle.tso_model.specs.ProgramOrder.{writes_to};
 ghost use Rattle.tso_model.specs.Execution.{last_value};
 ghost use Rattle.tso_model.specs.Thread.{entry, value_in, with_value};
 ghost use Rattle.tso_model.specs.FlatMachine.{memory_after};
-ghost use Rattle.tso_model.specs.Access.{step_access, load_access, drain_access};
+ghost use Rattle.tso_model.specs.Access.{Writes, step_access, store_access, load_access, drain_access};
+ghost use Rattle.tso_model.specs.declared.execution.Kind.TheVariants.{W};
 ghost use Rattle.snoop_bus.specs.Bus.{Bus, words_of, cores_of, holder_of};
 ghost use Rattle.machine_core.specs.Cores.{store_of, core_state, pending_in, advanced, step_by, drain_by};
 ghost use Rattle.machine_core.specs.Performed.{HasUsed, MayAct};
-ghost use Rattle.machine_core.specs.Caches.{caches_of, load_behind, use_of};
+ghost use Rattle.machine_core.specs.Caches.{caches_of, load_behind, write_by, use_of};
 
 use crate::cache_use::CacheUse;
 use crate::locked::{add, exchange};
+use crate::pending_stores::PendingStores;
 use order_builder::Commits;
 use protocol_tables::Protocol;
-use snoop_bus::SnoopBus;
-use store_buffer::{Pending, StoreBuffer};
+use snoop_bus::{Access, SnoopBus};
+use store_buffer::Pending;
 use tso_model::{Core, Entry, Instr, Kind, Loc, NoMemory, Outcome, Reg, Stall};
 
 /// A core: the place in its program, its registers, and the stores that it has issued and memory has
@@ -25,7 +27,7 @@ use tso_model::{Core, Entry, Instr, Kind, Loc, NoMemory, Outcome, Reg, Stall};
 pub struct Processor {
     pub place: u8,
     pub registers: [u32; 6],
-    pub stores: StoreBuffer,
+    pub stores: PendingStores,
 }
 
 impl Processor {
@@ -58,7 +60,6 @@ pub fn step<P: Protocol>(
     commits: &mut Commits,
 ) -> Result<(Outcome, CacheUse), NoMemory>
     requires place { processor.old.place < most_instructions }
-    requires depth { 0 < processor.old.stores.depth }
     requires core { core.0 < cores_of bus.old }
     requires free { MayAct bus.old core.0 (step_access processor.old.stores.depth (Some instr) (pending_in core.0 processor.old)) }
     requires known { KnownLocation (length (words_of bus.old)) instr }
@@ -81,10 +82,10 @@ pub fn step<P: Protocol>(
     ensures stores { All (λ s. s.loc.0 < length (words_of bus.old)) processor.new.stores.items }
 {
     match instr {
-        Instr::StoreImm(loc, value) => Ok((buffer(processor, loc, value), CacheUse::Unused)),
+        Instr::StoreImm(loc, value) => store(processor, core, loc, value, bus, commits),
         Instr::StoreReg(loc, reg) => {
             let value = processor.register(reg);
-            Ok((buffer(processor, loc, value), CacheUse::Unused))
+            store(processor, core, loc, value, bus, commits)
         }
         Instr::Load(reg, loc) => load(processor, core, reg, loc, bus, commits),
         Instr::SetImm(reg, value) => Ok((set(processor, reg, value), CacheUse::Unused)),
@@ -96,6 +97,44 @@ pub fn step<P: Protocol>(
         Instr::Xchg(loc, reg) => exchange(processor, core, reg, loc, bus, commits),
         Instr::Xadd(loc, reg) => add(processor, core, reg, loc, bus, commits),
     }
+}
+
+/// A plain store waits in the buffer. Without one it goes to memory at once.
+fn store<P: Protocol>(
+    processor: &mut Processor,
+    core: Core,
+    loc: Loc,
+    value: u32,
+    bus: &mut SnoopBus<P>,
+    commits: &mut Commits,
+) -> Result<(Outcome, CacheUse), NoMemory>
+    requires place { processor.old.place < most_instructions }
+    requires core { core.0 < cores_of bus.old }
+    requires free { MayAct bus.old core.0 (store_access processor.old.stores.depth loc) }
+    requires known { loc.0 < length (words_of bus.old) }
+
+    ensures outcome { IfOk result (λ r. r.0 ≡ (step_by processor.old core.0 (words_of bus.old) (Instr.StoreImm loc value)).outcome) }
+    ensures after { OnOk result (core_state core.0 processor.new ≡ (step_by processor.old core.0 (words_of bus.old) (Instr.StoreImm loc value)).after) }
+    ensures words { OnOk result (words_of bus.new ≡ memory_after (step_by processor.old core.0 (words_of bus.old) (Instr.StoreImm loc value)).commits (words_of bus.old)) }
+    ensures commits { OnOk result (commits.new.entries ≡ commits.old.entries ++ (step_by processor.old core.0 (words_of bus.old) (Instr.StoreImm loc value)).commits) }
+    ensures caches { IfOk result (λ r. HasUsed (use_of (caches_of bus.old) (pending_in core.0 processor.old) (step_by processor.old core.0 (words_of bus.old) (Instr.StoreImm loc value)).commits) bus.new r.1) }
+    ensures succeeds { (step_by processor.old core.0 (words_of bus.old) (Instr.StoreImm loc value)).outcome ≢ Outcome.Committed → IsOk result }
+
+    ensures err_core { OnErr result (processor.new ≡ processor.old) }
+    ensures err_bus { OnErr result (bus.new ≡ bus.old) }
+    ensures err_commits { OnErr result (commits.new.entries ≡ commits.old.entries) }
+    ensures cores { cores_of bus.new ≡ cores_of bus.old }
+    ensures holder { holder_of bus.new ≡ holder_of bus.old }
+    ensures count { length (words_of bus.new) ≡ length (words_of bus.old) }
+    ensures depth { processor.new.stores.depth ≡ processor.old.stores.depth }
+    ensures stores { (n : ℕ) → loc.0 < n → All (λ s. s.loc.0 < n) processor.old.stores.items → All (λ s. s.loc.0 < n) processor.new.stores.items }
+{
+    if processor.stores.are_buffered() {
+        return Ok((buffer(processor, loc, value), CacheUse::Unused));
+    }
+    let access = write(core, processor.place, loc, value, bus, commits)?;
+    processor.place += 1;
+    Ok((Outcome::Committed, CacheUse::Through(access)))
 }
 
 /// A plain store waits in the buffer, or stalls where that is full.
@@ -163,7 +202,7 @@ fn load<P: Protocol>(
 
 /// The value of the newest store to the location, or memory's word where none is buffered.
 fn see<P: Protocol>(
-    stores: &StoreBuffer,
+    stores: &PendingStores,
     core: Core,
     loc: Loc,
     bus: &mut SnoopBus<P>,
@@ -271,17 +310,46 @@ pub fn drain<P: Protocol>(
         None => Ok((Outcome::Stalled(Stall::Empty), CacheUse::Unused)),
         Some(store) => {
             let Pending { place, loc, value } = store;
-            commits.make_room(1)?;
-            let access = bus.store(core, loc, value)?;
-            commits.note(Entry {
-                core,
-                place,
-                kind: Kind::W,
-                loc,
-                value,
-            })?;
+            let access = write(core, place, loc, value, bus, commits)?;
             processor.stores.take_oldest();
             Ok((Outcome::Committed, CacheUse::Through(access)))
         }
     }
+}
+
+/// A plain store goes to memory, and is noted.
+///
+/// Fails only for want of memory, and then changes nothing.
+fn write<P: Protocol>(
+    core: Core,
+    place: u8,
+    loc: Loc,
+    value: u32,
+    bus: &mut SnoopBus<P>,
+    commits: &mut Commits,
+) -> Result<Access, NoMemory>
+    requires core { core.0 < cores_of bus.old }
+    requires free { MayAct bus.old core.0 (Writes loc) }
+    requires known { loc.0 < length (words_of bus.old) }
+
+    ensures words { OnOk result (words_of bus.new ≡ slice_set (words_of bus.old) loc.0 value) }
+    ensures commits { OnOk result (commits.new.entries ≡ commits.old.entries ++ entry core.0 place W loc value ∷ []) }
+    ensures caches { IfOk result (λ access. HasUsed (write_by (caches_of bus.old) core.0 loc.0) bus.new (CacheUse.Through access)) }
+
+    ensures err_bus { OnErr result (bus.new ≡ bus.old) }
+    ensures err_commits { OnErr result (commits.new.entries ≡ commits.old.entries) }
+    ensures cores { cores_of bus.new ≡ cores_of bus.old }
+    ensures holder { holder_of bus.new ≡ holder_of bus.old }
+    ensures count { length (words_of bus.new) ≡ length (words_of bus.old) }
+{
+    commits.make_room(1)?;
+    let access = bus.store(core, loc, value)?;
+    commits.note(Entry {
+        core,
+        place,
+        kind: Kind::W,
+        loc,
+        value,
+    })?;
+    Ok(access)
 }

@@ -7,7 +7,7 @@ ghost use Rattle.tso_model.specs.declared.register.Reg.TheVariants.{Eax, Ebx};
 ghost use Rattle.tso_model.specs.declared.instruction.Instr.TheVariants.{Load};
 ghost use Rattle.protocol_tables.specs.Tables.{msi, mesi, moesi};
 ghost use Rattle.machine_core.specs.Statistics.{counts, counts_of};
-ghost use Rattle.machine_core.specs.WorkedCounts.{two_lines, one_line, missed, in_turn, own_store_first, load_store, load_store_choices, two_stores, two_stores_choices, five_loads, five_loads_choices, sb_asks, sb_waits, added_beside, load_waits, load_between, store_exchange, store_exchange_choices};
+ghost use Rattle.machine_core.specs.WorkedCounts.{two_lines, one_line, missed, in_turn, sb_steps, own_store_first, load_store, load_store_choices, load_store_steps, two_stores, two_stores_choices, five_loads, five_loads_choices, sb_asks, sb_waits, added_beside, load_waits, load_between, store_exchange, store_exchange_choices};
 
 /// Counts of worked runs: hits, misses, upgrades, forwards, write-backs and flushes, in this order.
 pub fn worked_counts()
@@ -31,6 +31,10 @@ pub fn worked_counts()
 
     // The line that was used longest ago gives way: a hit keeps its line.
     ensures a_touched_line_stays { counts_of Atomic msi two_lines five_loads 4 five_loads_choices ≡ counts 2 3 0 0 0 0 ∷ [] }
+
+    // Without buffers each core misses at its store, and at its load of what the other core has stored.
+    ensures unbuffered_stores_are_flushed { counts_of Atomic msi two_lines sb 0 sb_steps ≡ counts 0 2 0 0 0 1 ∷ (counts 0 2 0 0 0 1 ∷ []) }
+    ensures an_unbuffered_store_asks { counts_of Split msi two_lines load_store 0 load_store_steps ≡ counts 0 1 1 0 0 0 ∷ [] }
 
     // On a split bus an access is counted when it is completed, and not when it is asked for.
     ensures each_misses_twice_on_a_split_bus { counts_of Split msi two_lines sb 4 sb_asks ≡ missed 2 ∷ (missed 2 ∷ []) }

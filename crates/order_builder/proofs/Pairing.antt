@@ -1,6 +1,7 @@
 -- Where each load part is put directly before its store part, the pairs are kept.
 use Rattle.std.proofs.Common.{◌≡◌, ◌≢◌, zero, suc, ◌==◌, ◌&&◌, Bool, true, false, if◌then◌else◌, List, [], ◌∷◌, Some, slice_get, refl, sym, ap, ◌∙◌, subst}
-use Rattle.tso_model.specs.Execution.{same_kind, is_at, KeepsPairs, IsStorePart}
+use Rattle.tso_model.specs.ProgramOrder.{same_kind}
+use Rattle.tso_model.specs.Execution.{is_at, KeepsPairs, IsStorePart}
 use Rattle.tso_model.specs.Together.{put_before, put_together}
 use Rattle.tso_model.specs.declared.execution.Entry.{Entry}
 use Rattle.tso_model.specs.declared.execution.Kind.{Kind}

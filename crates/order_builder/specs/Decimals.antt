@@ -7,7 +7,7 @@ use Rattle.std.specs.Char.{is_ascii_digit}
 abbrev pub is_number : List ℕ → Bool
 is_number text = nat_lt 0 (length text) && list_all is_ascii_digit text && (not (slice_index text 0 == 48) || (length text == 1))
 
--- the number that digits say behind those that said n
+-- the number that digits say after those that said n
 unfoldable pub decimal_from : ℕ → List ℕ → ℕ
 decimal_from n [] = n
 decimal_from n (d ∷ ds) = decimal_from (n * 10 + (d - 48)) ds

@@ -1,7 +1,8 @@
 -- The two parts of locked instructions in a list of commits.
 -- (Primer, chapter 4: the load part and the store part of a read-modify-write stand together in the order.)
 use Rattle.std.specs.Prelude.{◌==◌, ◌&&◌, Bool, true, false, IsTrue, if◌then◌else◌, List, [], ◌∷◌}
-use Rattle.tso_model.specs.Execution.{same_kind, is_at}
+use Rattle.tso_model.specs.ProgramOrder.{same_kind}
+use Rattle.tso_model.specs.Execution.{is_at}
 use Rattle.tso_model.specs.declared.execution.Entry.{Entry}
 use Rattle.tso_model.specs.declared.execution.Kind.TheVariants.{LR, LW}
 
@@ -14,6 +15,6 @@ abbrev pub are_answered : List Entry → Bool
 are_answered [] = true
 are_answered (e ∷ es) = (if same_kind e.kind LR then is_answered e es else true) && are_answered es
 
--- behind each load part of a locked instruction its store part comes, before any other entry of its core
+-- after each load part of a locked instruction its store part comes, before any other entry of its core
 abbrev pub IsPaired : List Entry → Type 0
 IsPaired commits = IsTrue (are_answered commits)

@@ -32,7 +32,7 @@ printed_end count = codes "Endorder " ++ decimal count
 abbrev pub order_lines : Litmus → List Entry → List (List ℕ)
 order_lines t order = codes "Order" ∷ (map (printed_entry t) order ++ (printed_end (length order) ∷ []))
 
--- lines one after the other, with a line feed behind each
+-- lines one after the other, with a line feed after each
 abbrev pub printed_lines : List (List ℕ) → List ℕ
 printed_lines [] = []
 printed_lines (line ∷ lines) = line ++ 10 ∷ printed_lines lines

@@ -18,15 +18,15 @@ abbrev pub ◌>>=◌ : {A B : Type 0} → Option A → (A → Option B) → Opti
 (Some x) >>= f = f x
 None >>= f = None
 
--- what stands before a place, and what behind it
+-- what stands before a place, and what after it
 abbrev pub halves_at : List ℕ → ℕ → List ℕ × List ℕ
 halves_at text i = (take i text, drop (i + 1) text)
 
--- what stands before the first such byte, and what behind it
+-- what stands before the first such byte, and what after it
 unfoldable pub split_once : ℕ → List ℕ → Option (List ℕ × List ℕ)
 split_once byte text = option_map (halves_at text) (position (λ b. b == byte) text)
 
--- what stands behind a prefix
+-- what stands after a prefix
 unfoldable pub without_prefix : List ℕ → List ℕ → Option (List ℕ)
 without_prefix prefix text = if bytes_eq (take (length prefix) text) prefix then Some (drop (length prefix) text) else None
 
@@ -89,30 +89,30 @@ end_in line = do
   digits ← without_prefix (codes "Endorder ") line
   numeral digits
 
--- an entry before those that are read behind it
+-- an entry before those that are read after it
 abbrev pub onto : Entry → Result (List Entry) OrderFault → Result (List Entry) OrderFault
 onto e (Ok es) = Ok (e ∷ es)
 onto e (Err fault) = Err fault
 
--- what a line gives: the end, an entry before what the lines behind it give, or a fault
+-- what a line gives: the end, an entry before what the lines after it give, or a fault
 abbrev pub line_gives : ℕ → ℕ → Option (List ℕ) → Option Entry → Result (List Entry) OrderFault → Result (List Entry) OrderFault
 line_gives number count (Some digits) entry behind = if number_of digits == count then Ok [] else Err BadCount
 line_gives number count None (Some e) behind = onto e behind
 line_gives number count None None behind = Err (BadLine number)
 
--- the entries of these lines, which stand behind so many lines up to `Order`, and then behind so many entries
+-- the entries of these lines, which stand after so many lines up to `Order`, and then after so many entries
 unfoldable pub entries_in : Litmus → ℕ → ℕ → List (List ℕ) → Result (List Entry) OrderFault
 entries_in t start count [] = Err BadCount
 entries_in t start count (line ∷ lines) =
     line_gives (start + count + 1) count (end_in line) (entry_in t line) (entries_in t start (count + 1) lines)
 
--- how many lines there are up to the first that is `Order`, and those behind it; so many stand before these
+-- how many lines there are up to the first that is `Order`, and those after it; so many stand before these
 unfoldable pub order_start : ℕ → List (List ℕ) → Option (ℕ × List (List ℕ))
 order_start before [] = None
 order_start before (line ∷ lines) =
     if bytes_eq line (codes "Order") then Some (before + 1, lines) else order_start (before + 1) lines
 
--- the order that is read behind the line `Order`
+-- the order that is read after the line `Order`
 abbrev pub order_from : Litmus → Option (ℕ × List (List ℕ)) → Result (List Entry) OrderFault
 order_from t (Some start) = entries_in t start.0 0 start.1
 order_from t None = Err NoOrder
@@ -121,7 +121,7 @@ order_from t None = Err NoOrder
 unfoldable pub order_of : Litmus → List ℕ → Result (List Entry) OrderFault
 order_of t text = order_from t (order_start 0 (lines_of text))
 
--- a fault that was answered is the one that reading gives; want of memory says nothing of the reading
+-- a fault that was answered is the one that reading gives; out of memory says nothing of the reading
 abbrev pub Fails : OrderFault → Result (List Entry) OrderFault → Type 0
 Fails NoMemory read = Unit {0}
 Fails NoOrder read = read ≡ Err NoOrder

@@ -35,7 +35,7 @@ pub record IsBefore (line : List ℕ) : Type 0 where
   pub other : line ≢ codes "Order"
   pub other_returned : line ≢ codes "Order\r"
 
--- the text spells the order: its lines are those of the order, with any lines behind them, and before them lines
+-- the text spells the order: its lines are those of the order, with any lines after them, and before them lines
 -- none of which is `Order`
 pub record SpellsOrder (t : Litmus) (text : List ℕ) (order : List Entry) : Type 0 where
   pub before : List (List ℕ)
@@ -58,7 +58,7 @@ IsNoEntry t line = (e : Entry) → IsEntryFor t e → line ≢ printed_entry t e
 abbrev pub IsNoEnd : List ℕ → Type 0
 IsNoEnd line = (digits : List ℕ) → is_number digits ≡ true → line ≢ codes "Endorder " ++ digits
 
--- the line of this number, from 1, is the first behind the entries, and is neither an entry nor an end
+-- the line of this number, from 1, is the first after the entries, and is neither an entry nor an end
 pub record HasBadLine (t : Litmus) (text : List ℕ) (number : ℕ) : Type 0 where
   pub before : List (List ℕ)
   pub order : List Entry
@@ -69,7 +69,7 @@ pub record HasBadLine (t : Litmus) (text : List ℕ) (number : ℕ) : Type 0 whe
   pub no_end : IsNoEnd line
   pub numbered : number ≡ length before + length order + 2
 
--- nothing is behind the entries, or an end with another number than that of the entries
+-- nothing is after the entries, or an end with another number than that of the entries
 abbrev pub HasNoCount : ℕ → List (List ℕ) → Type 0
 HasNoCount count [] = Unit {0}
 HasNoCount count (line ∷ lines) =
@@ -83,7 +83,7 @@ pub record HasBadCount (t : Litmus) (text : List ℕ) : Type 0 where
   pub begins : BeginsOrder t text before order rest
   pub no_count : HasNoCount (length order) rest
 
--- the fault of a text that spells no order; want of memory says nothing of the text
+-- the fault of a text that spells no order; out of memory says nothing of the text
 abbrev pub HasFault : Litmus → List ℕ → OrderFault → Type 0
 HasFault t text NoOrder = All IsOther (lines_of text)
 HasFault t text (BadLine number) = HasBadLine t text number

@@ -29,7 +29,7 @@ abbrev pub AreWaiting : List Entry → List Entry → Type 0
 AreWaiting [] es = Unit {0}
 AreWaiting (x ∷ xs) es = (x.kind ≡ LR) × IsTrue (is_answered x es) × IsNoneOf x.core.0 xs × AreWaiting xs es
 
--- what is built so far, and behind it what is left with those that wait put in, is the whole put together
+-- what is built so far, and after it what is left with those that wait put in, is the whole put together
 pub record IsBuiltSoFar (order waiting left whole : List Entry) : Type 0 where
   pub put : order ++ all_put waiting (put_together left) ≡ put_together whole
   pub waits : AreWaiting waiting left

@@ -1,6 +1,7 @@
 //! How commits become an order.
 ghost use Rattle.std.specs.Prelude.{◌≡◌, IfOk};
-ghost use Rattle.tso_model.specs.Execution.{same_kind, KeepsPairs};
+ghost use Rattle.tso_model.specs.Execution.{KeepsPairs};
+ghost use Rattle.tso_model.specs.ProgramOrder.{same_kind};
 ghost use Rattle.tso_model.specs.Together.{put_together};
 ghost use Rattle.tso_model.specs.declared.execution.Kind.TheVariants.{LR};
 ghost use Rattle.order_builder.specs.Pairs.{IsPaired};
@@ -13,14 +14,14 @@ use tso_model::{Core, Entry, Execution, Kind, NoMemory};
 /// The order that the commits make: the entries as they were noted, but for each load part of a
 /// locked instruction, which stands directly before its store part.
 ///
-/// Fails only for want of memory.
+/// Errors: out of memory only.
 pub fn build(alloc: Global, commits: &Commits) -> Result<Execution, NoMemory>
     requires { IsPaired commits.now.entries }
     ensures order { IfOk result (λ e. e.order.items ≡ put_together commits.now.entries) }
     ensures pairs { IfOk result (λ e. KeepsPairs e.order.items) }
 {
     let mut order = Vec::new(alloc);
-    // At most one load part for each core: behind it nothing of its core comes but its store part.
+    // At most one load part for each core: after it nothing of its core comes but its store part.
     let mut waiting = Vec::new(alloc);
     for entry in commits.entries() {
         if is_load_part(*entry) {

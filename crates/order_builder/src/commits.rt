@@ -1,3 +1,4 @@
+//! The commits of a run, in the order in which they are noted.
 ghost use Rattle.std.specs.Prelude.{◌≡◌, ◌+◌, ◌<◌, ◌≤◌, [], ◌∷◌, ◌++◌, IsOk, OnOk, OnErr};
 
 use std::alloc::Global;
@@ -30,7 +31,7 @@ impl Commits {
 
     /// Makes room for so many further entries, so that noting them can't fail. Nothing is noted.
     ///
-    /// Fails only for want of memory.
+    /// Errors: out of memory only.
     pub fn make_room(&mut self, entries: u8) -> Result<(), NoMemory>
         ensures ok { OnOk result (entries ≤ self.new.room) }
         ensures same { self.new.entries ≡ self.old.entries }
@@ -39,9 +40,9 @@ impl Commits {
         Ok(())
     }
 
-    /// Notes that the entry is committed now, behind all that were noted before.
+    /// Notes that the entry is committed now, after all that were noted before.
     ///
-    /// Fails only for want of memory, and not where there is room; then nothing is noted.
+    /// Errors: out of memory only, and not where there is room; then nothing is noted.
     pub fn note(&mut self, entry: Entry) -> Result<(), NoMemory>
         ensures ok { OnOk result (self.new.entries ≡ self.old.entries ++ entry ∷ []) }
         ensures room { self.old.room ≤ self.new.room + 1 }

@@ -13,7 +13,7 @@ use tso_model::NoMemory;
 pub enum OrderFault {
     /// No line is `Order`.
     NoOrder,
-    /// The line of this number, counted from 1, is behind the line `Order` and before a line
+    /// The line of this number, counted from 1, is after the line `Order` and before a line
     /// `Endorder n`, and is neither an entry nor such a line.
     BadLine(usize),
     /// No line `Endorder n` ends the entries, or its n isn't how many they are.

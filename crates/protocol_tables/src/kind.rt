@@ -1,12 +1,13 @@
 ghost use Rattle.std.specs.Prelude.{◌≡◌};
 ghost use Rattle.protocol_tables.specs.Names.{protocol_name};
 
-/// Which of the three protocols a machine's caches follow.
+/// Which protocol a machine's caches follow.
 #[derive(Clone, Copy)]
 pub enum ProtocolKind {
     Msi,
     Mesi,
     Moesi,
+    Mosi,
 }
 
 impl ProtocolKind {
@@ -18,6 +19,7 @@ impl ProtocolKind {
             ProtocolKind::Msi => "msi",
             ProtocolKind::Mesi => "mesi",
             ProtocolKind::Moesi => "moesi",
+            ProtocolKind::Mosi => "mosi",
         }
     }
 }

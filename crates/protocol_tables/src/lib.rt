@@ -15,4 +15,4 @@ pub use kind::ProtocolKind;
 pub use printing::table_text;
 pub use protocol::Protocol;
 pub use state::{Snoop, State};
-pub use tables::{Mesi, Moesi, Msi};
+pub use tables::{Mesi, Moesi, Mosi, Msi};

@@ -6,7 +6,7 @@ ghost use Rattle.protocol_tables.specs.PrintedTable.{letter, yes_or_no, printed_
 use crate::kind::ProtocolKind;
 use crate::protocol::Protocol;
 use crate::state::{Snoop, State};
-use crate::tables::{Mesi, Moesi, Msi};
+use crate::tables::{Mesi, Moesi, Mosi, Msi};
 use std::alloc::Global;
 use std::fmt;
 use tso_model::NoMemory;
@@ -20,12 +20,14 @@ pub fn table_text(alloc: Global, kind: ProtocolKind) -> Result<String, NoMemory>
     ensures shown { IfOk result (λ text. string_bytes text ≡ by_kind kind
         (printed_table (⟦<Msi as Protocol>⟧.called record {}) (⟦<Msi as Protocol>⟧.table record {}))
         (printed_table (⟦<Mesi as Protocol>⟧.called record {}) (⟦<Mesi as Protocol>⟧.table record {}))
-        (printed_table (⟦<Moesi as Protocol>⟧.called record {}) (⟦<Moesi as Protocol>⟧.table record {}))) }
+        (printed_table (⟦<Moesi as Protocol>⟧.called record {}) (⟦<Moesi as Protocol>⟧.table record {}))
+        (printed_table (⟦<Mosi as Protocol>⟧.called record {}) (⟦<Mosi as Protocol>⟧.table record {}))) }
 {
     match kind {
         ProtocolKind::Msi => text_of(alloc, &Msi),
         ProtocolKind::Mesi => text_of(alloc, &Mesi),
         ProtocolKind::Moesi => text_of(alloc, &Moesi),
+        ProtocolKind::Mosi => text_of(alloc, &Mosi),
     }
 }
 

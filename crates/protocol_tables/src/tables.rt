@@ -1,8 +1,8 @@
 ghost use Rattle.std.specs.Prelude.{◌≡◌, true, false};
 ghost use Rattle.std.proofs.Common.{rules};
-ghost use Rattle.protocol_tables.specs.declared.kind.ProtocolKind.TheVariants.{Msi as KindMsi, Mesi as KindMesi, Moesi as KindMoesi};
+ghost use Rattle.protocol_tables.specs.declared.kind.ProtocolKind.TheVariants.{Msi as KindMsi, Mesi as KindMesi, Moesi as KindMoesi, Mosi as KindMosi};
 ghost use Rattle.protocol_tables.specs.Names.{protocol_name};
-ghost use Rattle.protocol_tables.specs.Tables.{msi, mesi, moesi, snoop, filled_by_company, get_s_sending, get_s_owning, get_m, write, write_back};
+ghost use Rattle.protocol_tables.specs.Tables.{msi, mesi, moesi, mosi, snoop, filled_by_company, get_s_sending, get_s_owning, get_m, write, write_back};
 
 use crate::kind::ProtocolKind;
 use crate::protocol::Protocol;
@@ -19,6 +19,10 @@ pub struct Mesi;
 /// MESI and owned copies: a modified line is shared without being sent to memory.
 #[derive(Clone, Copy)]
 pub struct Moesi;
+
+/// MSI and owned copies: MOESI without exclusive copies.
+#[derive(Clone, Copy)]
+pub struct Mosi;
 
 impl Protocol for Msi {
     ghost table = { λ _. msi };
@@ -139,6 +143,52 @@ impl Protocol for Moesi {
 
     fn name(&self) -> &str {
         ProtocolKind::Moesi.name()
+    }
+
+    ghost fills_exclusive_only_alone = { λ _. Prim.search rules };
+
+    ghost shares = { λ _. Prim.search rules };
+
+    ghost cleans_by_memory = { λ _. Prim.search rules };
+
+    ghost supplies_to_readers = { λ _. Prim.search rules };
+
+    ghost supplies_to_writers = { λ _. Prim.search rules };
+
+    ghost gives_up = { λ _. Prim.search rules };
+
+    ghost writes_in_place = { λ _. Prim.search rules };
+
+    ghost writes_back_dirty = { λ _. Prim.search rules };
+}
+
+impl Protocol for Mosi {
+    ghost table = { λ _. mosi };
+
+    ghost called = { λ _. protocol_name KindMosi };
+
+    fn filled(&self, shared: bool) -> State {
+        Msi.filled(shared)
+    }
+
+    fn on_get_s(&self, state: State) -> Snoop {
+        shared_dirty(state)
+    }
+
+    fn on_get_m(&self, state: State) -> Snoop {
+        given_up(state)
+    }
+
+    fn written(&self, state: State) -> Option<State> {
+        written_in_place(state)
+    }
+
+    fn evicts_dirty(&self, state: State) -> bool {
+        is_dirty(state)
+    }
+
+    fn name(&self) -> &str {
+        ProtocolKind::Mosi.name()
     }
 
     ghost fills_exclusive_only_alone = { λ _. Prim.search rules };

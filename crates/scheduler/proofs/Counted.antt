@@ -1,5 +1,5 @@
 -- One entry more at the front of those that are passed, in the counts of plain stores.
-use Rattle.std.proofs.Common.{◌≡◌, ◌≢◌, ℕ, ◌+◌, ◌-◌, ◌<◌, ◌≤◌, ◌^◌, ◌==◌, ◌&&◌, nat_lt, zero, suc, Bool, true, false, if◌then◌else◌, List, [], ◌∷◌, length, get_or, take, drop, filter, sum, refl, ap, sym, ◌∙◌, add-one, arith, rules, drop-cons, subst, max, length-drop, All, ◌⊎◌, inl, inr}
+use Rattle.std.proofs.Common.{◌≡◌, ◌≢◌, ℕ, ◌+◌, ◌-◌, ◌<◌, ◌≤◌, ◌^◌, ◌==◌, ◌&&◌, nat_lt, zero, suc, Bool, true, false, if◌then◌else◌, List, [], ◌∷◌, length, get_or, take, drop, filter, sum, refl, ap, sym, ◌∙◌, ◌||◌, not, add-one, arith, rules, drop-cons, subst, max, length-drop, All, ◌⊎◌, inl, inr}
 use Rattle.std.proofs.Math.ListN.{set, length-set}
 use Rattle.std.proofs.lemmas.List.{take-set-le, get_or-take, get_or-set_same, get_or-set_other, length-take, get_or_default, take_all}
 use Rattle.std.proofs.Math.Seq.{take-set-lt}
@@ -8,7 +8,7 @@ use Rattle.std.proofs.lemmas.Bool.{ltb_from_iff, lt-ltb}
 use Rattle.std.proofs.lemmas.List.Sums.{sum_by-set, get_or-le-sum_by}
 use Rattle.std.specs.Ordering.{ord_max, nat_cmp}
 use borrow.Author.Tests.{tests}
-use Rattle.tso_model.specs.ProgramOrder.{is_store, is_load, is_before, rank, is_store_kind, is_load_kind, part_of}
+use Rattle.tso_model.specs.ProgramOrder.{same_kind, is_store, is_load, is_before}
 use Rattle.tso_laws.specs.Depth.{asked, needed, stores_before}
 use Rattle.scheduler.specs.Passed.{HaveCounted, stores_below}
 use Rattle.tso_model.specs.declared.execution.Entry.{Entry}
@@ -92,24 +92,19 @@ store cores rows x ys e i p h = record {
   below = λ core place k m. counted-at cores rows x ys core place (x.core.0 == core) refl e i p h k m;
 }
 
-halved : (a b : ℕ) → a + a + 0 < b + b + 0 → a < b
-halved a b h = omega arith
+alone : (b c : Bool) → (b || (c && false)) ≡ b
+alone true c = refl
+alone false true = refl
+alone false false = refl
 
-doubled : (a b : ℕ) → nat_lt (a + a + 0) (b + b + 0) ≡ nat_lt a b
-doubled a b = ltb_from_iff ((λ e. halved a b (search (tests, e))), (λ m. lt-ltb _ _ (omega arith)))
-
--- of a plain store and a plain load the ranks stand as the places do
-same-test : (s l : Kind) (a b : ℕ) (c : Bool) → is_load_kind l ≡ true →
-    (is_store_kind s && (c && nat_lt (a + a + part_of s) (b + b + part_of l))) ≡ (is_store_kind s && (c && nat_lt a b))
-same-test R l a b c e = refl
-same-test W R a b c e = rw (doubled a b) refl
-same-test W W a b c e = absurd (let q : ⊥ = cc in q)
-same-test W F a b c e = absurd (let q : ⊥ = cc in q)
-same-test W LR a b c e = absurd (let q : ⊥ = cc in q)
-same-test W LW a b c e = absurd (let q : ⊥ = cc in q)
-same-test F l a b c e = refl
-same-test LR l a b c e = refl
-same-test LW l a b c e = refl
+-- of a plain store and a plain load the places decide
+same-test : (s l : Kind) (a b : ℕ) (c : Bool) → same_kind l R ≡ true →
+    (same_kind s W && (c && (nat_lt a b || ((a == b) && (same_kind l LW && not (same_kind s LW)))))) ≡ (same_kind s W && (c && nat_lt a b))
+same-test s R a b c e = ap (λ t. same_kind s W && (c && t)) (alone (nat_lt a b) (a == b))
+same-test s W a b c e = absurd (let q : ⊥ = cc in q)
+same-test s F a b c e = absurd (let q : ⊥ = cc in q)
+same-test s LR a b c e = absurd (let q : ⊥ = cc in q)
+same-test s LW a b c e = absurd (let q : ⊥ = cc in q)
 
 same-filter : (p q : Entry → Bool) (ys : List Entry) → ((y : Entry) → p y ≡ q y) → filter p ys ≡ filter q ys
 same-filter p q [] h = refl

@@ -1,5 +1,5 @@
 -- The number that digits say.
-use Rattle.std.proofs.Common.{◌≡◌, ℕ, ◌+◌, ◌-◌, ◌*◌, ◌<◌, ◌≤◌, true, false, leb, List, [], ◌∷◌, length, get_or, drop, Some, None, refl, sym, ap, ◌∙◌, add-one, drop-cons, arith}
+use Rattle.std.proofs.Common.{◌≡◌, ℕ, ◌+◌, ◌-◌, ◌*◌, ◌/◌, ◌<◌, ◌≤◌, true, false, leb, List, [], ◌∷◌, length, get_or, drop, Some, None, refl, sym, ap, ◌∙◌, add-one, drop-cons, arith}
 use Rattle.std.proofs.lemmas.Bool.{le-leb, lt-leb, leb-true, and_parts}
 use Rattle.std.proofs.lemmas.List.Sums.{AllPass-from_list_all}
 use Rattle.std.proofs.lemmas.List.Elements.{All-get_or}
@@ -31,6 +31,11 @@ number_fits most n digits i past same fits =
     let is_there : leb (decimal digits) most ≡ true = le-leb _ _ (omega (arith, is_n)) in
     rw is_there (ap (λ (k : ℕ). Some k) is_n)
 
+-- another digit, where what was read is over a tenth
+pub number_over_tenth : (most n i : ℕ) (digits : List ℕ) → decimal_after n (drop i digits) ≡ decimal digits → i < length digits → most / 10 < n → number_up_to most digits ≡ None
+number_over_tenth most n i digits same there over =
+    number_over most (n * 10 + (get_or digits i 0 - 48)) digits (drop (i + 1) digits) (sym (decimal_more digits i n there) ∙ same) (omega arith)
+
 -- a byte of a numeral is '0' or above
 pub digit_at : (word : List ℕ) (i : ℕ) → i < length word → is_numeral word ≡ true → 48 ≤ get_or word i 0
 unfolding is_numeral is_digit
@@ -38,4 +43,4 @@ digit_at word i lt good =
     let all = AllPass-from_list_all is_digit word (and_parts _ _ good).1 in
     leb-true _ _ (and_parts _ _ (All-get_or (λ (b : ℕ). is_digit b ≡ true) word i 0 lt all)).0
 
-pub ruleset digit_by_digit = (decimal_more, number_over, number_fits, digit_at)
+pub ruleset digit_by_digit = (decimal_more, number_over, number_over_tenth, number_fits, digit_at)

@@ -1,12 +1,11 @@
 -- How one item is read, case by case.
-use Rattle.std.proofs.Common.{◌≡◌, ℕ, ◌+◌, ◌-◌, ◌<◌, ◌≤◌, true, false, eqb, List, [], ◌∷◌, ◌++◌, length, get_or, take, Some, None, Ok, Err, refl, ◌∙◌, arith}
+use Rattle.std.proofs.Common.{◌≡◌, ℕ, ◌+◌, ◌-◌, true, false, eqb, List, [], ◌∷◌, ◌++◌, length, get_or, take, drop, Some, None, Ok, Err, refl, ◌∙◌, arith}
 use Rattle.std.proofs.lemmas.List.{take_at, get_or_at, length-append}
-use denote.Ref.{Bor}
 use Rattle.scheduler.specs.declared.fault.ChoiceFault.TheVariants.{BadWord, NoSuchCore, TooMany}
 use Rattle.scheduler.specs.declared.item.Action.{Action}
 use Rattle.scheduler.specs.declared.item.Item.TheVariants.{One, Seeded}
 use Rattle.scheduler.specs.Words.{is_numeral}
-use Rattle.scheduler.specs.Reading.{texts, number_up_to, action_of, choice_by, one_from, one_of, seed_of, seeded_from, seeded_of}
+use Rattle.scheduler.specs.Reading.{number_up_to, action_of, choice_by, one_from, one_of, seed_of, seeded_from, seeded_of}
 
 pub one_is : (cores room number : ℕ) (word digits : List ℕ) (letter : ℕ) → word ≡ digits ++ letter ∷ [] → one_of cores room number word ≡ one_from cores room number digits (action_of letter)
 unfolding one_of
@@ -41,36 +40,38 @@ one_there cores room number word digits letter core action is has good there som
 
 -- ---- the choices of a seed
 
-pub seeded_short : (room number : ℕ) (rest : List (Bor (List ℕ))) → length rest < 2 → seeded_of room number (texts rest) ≡ Err (BadWord number)
+pub seeded_none : (room number : ℕ) (ws : List (List ℕ)) → ws ≡ [] → seeded_of room number ws ≡ Err (BadWord number)
 unfolding seeded_of
-seeded_short room number [] short = refl
-seeded_short room number (seed ∷ []) short = refl
-seeded_short room number (seed ∷ count ∷ rest) short = absurd (omega arith)
+seeded_none room number ws none = rw none refl
 
-pub seeded_is : (room number : ℕ) (rest : List (Bor (List ℕ))) (d e : Bor (List ℕ)) → 2 ≤ length rest
-    → seeded_of room number (texts rest) ≡ seeded_from room number (seed_of (get_or rest 0 d).now) (get_or rest 1 e).now
+pub seeded_short : (room number : ℕ) (ws us : List (List ℕ)) (seed : List ℕ) → ws ≡ seed ∷ us → us ≡ [] → seeded_of room number ws ≡ Err (BadWord number)
 unfolding seeded_of
-seeded_is room number [] d e long = absurd (omega arith)
-seeded_is room number (seed ∷ []) d e long = absurd (omega arith)
-seeded_is room number (seed ∷ count ∷ rest) d e long = refl
+seeded_short room number ws us seed first none = rw (first, none) refl
 
-pub seeded_bad_seed : (room number : ℕ) (rest : List (Bor (List ℕ))) (d : Bor (List ℕ)) → 2 ≤ length rest → None ≡ seed_of (get_or rest 0 d).now
-    → seeded_of room number (texts rest) ≡ Err (BadWord (number + 1))
-seeded_bad_seed room number rest d long none = seeded_is room number rest d d long ∙ rw (← none) refl
+seeded_is : (room number : ℕ) (ws us vs : List (List ℕ)) (seed count : List ℕ) → ws ≡ seed ∷ us → us ≡ count ∷ vs → seeded_of room number ws ≡ seeded_from room number (seed_of seed) count
+unfolding seeded_of
+seeded_is room number ws us vs seed count first second = rw (first, second) refl
 
-pub seeded_bad_count : (room number : ℕ) (rest : List (Bor (List ℕ))) (d e : Bor (List ℕ)) (seed : ℕ) → 2 ≤ length rest → Some seed ≡ seed_of (get_or rest 0 d).now
-    → is_numeral (get_or rest 1 e).now ≡ false → seeded_of room number (texts rest) ≡ Err (BadWord (number + 2))
-seeded_bad_count room number rest d e seed long some bad = seeded_is room number rest d e long ∙ rw (← some, bad) refl
+pub seeded_bad_seed : (room number : ℕ) (ws us vs : List (List ℕ)) (seed count : List ℕ) → ws ≡ seed ∷ us → us ≡ count ∷ vs → None ≡ seed_of seed
+    → seeded_of room number ws ≡ Err (BadWord (number + 1))
+seeded_bad_seed room number ws us vs seed count first second none = seeded_is room number ws us vs seed count first second ∙ rw (← none) refl
 
-pub seeded_too_many : (room number : ℕ) (rest : List (Bor (List ℕ))) (d e : Bor (List ℕ)) (seed : ℕ) → 2 ≤ length rest → Some seed ≡ seed_of (get_or rest 0 d).now
-    → is_numeral (get_or rest 1 e).now ≡ true → None ≡ number_up_to room (get_or rest 1 e).now → seeded_of room number (texts rest) ≡ Err (TooMany number)
-seeded_too_many room number rest d e seed long some good none = seeded_is room number rest d e long ∙ rw (← some, good, ← none) refl
+pub seeded_bad_count : (room number : ℕ) (ws us vs : List (List ℕ)) (seed count : List ℕ) (n : ℕ) → ws ≡ seed ∷ us → us ≡ count ∷ vs → Some n ≡ seed_of seed
+    → is_numeral count ≡ false → seeded_of room number ws ≡ Err (BadWord (number + 2))
+seeded_bad_count room number ws us vs seed count n first second some bad = seeded_is room number ws us vs seed count first second ∙ rw (← some, bad) refl
 
-pub seeded_there : (room number : ℕ) (rest : List (Bor (List ℕ))) (d e : Bor (List ℕ)) (seed count : ℕ) → 2 ≤ length rest → Some seed ≡ seed_of (get_or rest 0 d).now
-    → is_numeral (get_or rest 1 e).now ≡ true → Some count ≡ number_up_to room (get_or rest 1 e).now → seeded_of room number (texts rest) ≡ Ok (Seeded seed count)
-seeded_there room number rest d e seed count long some good is = seeded_is room number rest d e long ∙ rw (← some, good, ← is) refl
+pub seeded_too_many : (room number : ℕ) (ws us vs : List (List ℕ)) (seed count : List ℕ) (n : ℕ) → ws ≡ seed ∷ us → us ≡ count ∷ vs → Some n ≡ seed_of seed
+    → is_numeral count ≡ true → None ≡ number_up_to room count → seeded_of room number ws ≡ Err (TooMany number)
+seeded_too_many room number ws us vs seed count n first second some good none = seeded_is room number ws us vs seed count first second ∙ rw (← some, good, ← none) refl
+
+pub seeded_there : (room number : ℕ) (ws us vs : List (List ℕ)) (seed count : List ℕ) (n m : ℕ) → ws ≡ seed ∷ us → us ≡ count ∷ vs → Some n ≡ seed_of seed
+    → is_numeral count ≡ true → Some m ≡ number_up_to room count → seeded_of room number ws ≡ Ok (Seeded n m)
+seeded_there room number ws us vs seed count n m first second some good is = seeded_is room number ws us vs seed count first second ∙ rw (← some, good, ← is) refl
+
+pub behind_two : (ws us vs : List (List ℕ)) (seed count : List ℕ) → ws ≡ seed ∷ us → us ≡ count ∷ vs → vs ≡ drop 2 ws
+behind_two ws us vs seed count first second = rw (first, second) refl
 
 -- each way that a word is read, and the words behind `seed`
 pub ruleset one_word = (one_none, one_bad_letter, one_bad_digits, one_no_core, one_full, one_there)
 
-pub ruleset seed_words = (seeded_short, seeded_bad_seed, seeded_bad_count, seeded_too_many, seeded_there)
+pub ruleset seed_words = (seeded_none, seeded_short, behind_two, seeded_bad_seed, seeded_bad_count, seeded_too_many, seeded_there)

@@ -6,6 +6,7 @@ pub mod Found
 pub mod Whole
 pub mod Loop
 pub mod Cores
+mod FirstWord
 mod Counted
 mod AlongLemmas
 mod Fitting

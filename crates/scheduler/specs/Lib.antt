@@ -1,6 +1,7 @@
 pub mod Limits
 pub mod Words
 pub mod Seeds
+pub mod Coming
 pub mod Grammar
 pub mod Refusals
 pub mod Reading

@@ -1,7 +1,6 @@
 -- How the reader goes about one item: `Grammar` and `Refusals` as functions of its words, with the room that is left.
-use Rattle.std.specs.Prelude.{◌-◌, ◌+◌, ℕ, List, [], ◌∷◌, length, take, map, codes, slice_index, Option, Some, None, Result, Ok, Err, nat_le, ◌==◌, if◌then◌else◌}
+use Rattle.std.specs.Prelude.{◌-◌, ◌+◌, ℕ, List, [], ◌∷◌, length, take, codes, slice_index, Option, Some, None, Result, Ok, Err, nat_le, ◌==◌, if◌then◌else◌}
 use Rattle.std.specs.Str.{bytes_eq}
-use denote.Ref.{Bor}
 use Rattle.tso_model.specs.declared.choice.Choice.{Choice}
 use Rattle.tso_model.specs.declared.choice.Choice.TheVariants as choice
 use Rattle.scheduler.specs.declared.fault.ChoiceFault.{ChoiceFault}
@@ -12,10 +11,6 @@ use Rattle.scheduler.specs.declared.item.Item.{Item}
 use Rattle.scheduler.specs.declared.item.Item.TheVariants.{One, Seeded}
 use Rattle.scheduler.specs.Words.{is_numeral, decimal}
 use Rattle.scheduler.specs.Seeds.{seeded_choices}
-
--- the texts of words that are lent
-abbrev pub texts : List (Bor (List ℕ)) → List (List ℕ)
-texts words = map (λ word. word.now) words
 
 -- the choices of an item
 abbrev pub made_of : ℕ → Item → List Choice

@@ -5,13 +5,13 @@ ghost use Rattle.tso_model.specs.Runs.{CoresExist};
 ghost use Rattle.scheduler.specs.Limits.{most_choices};
 ghost use Rattle.scheduler.specs.Grammar.{WordsSpell, SpellsChoices};
 ghost use Rattle.scheduler.specs.Refusals.{AreRefused, IsRefused, IsDecided};
-ghost use Rattle.scheduler.specs.Reading.{texts};
+ghost use Rattle.scheduler.specs.Words.{words_of};
 ghost use Rattle.scheduler.specs.declared.fault.ChoiceFault.{ChoiceFault};
 ghost use Rattle.tso_model.specs.declared.choice.Choice.{Choice};
 
 use crate::fault::ChoiceFault;
 use crate::item::read_item;
-use crate::words::split_words;
+use crate::words::first_word;
 use std::alloc::Global;
 use tso_model::Choice;
 
@@ -23,18 +23,20 @@ pub fn limits_are_as_defined()
     ensures { MAX_CHOICES ≡ most_choices }
 {}
 
-fn choices_of_words(alloc: Global, cores: u8, words: &[&[u8]]) -> Result<Vec<Choice>, ChoiceFault>
+fn choices_of(alloc: Global, cores: u8, text: &[u8]) -> Result<Vec<Choice>, ChoiceFault>
     requires { 0 < cores }
-    ensures found { IfOk result (λ v. WordsSpell cores (texts words.now) v.items) }
-    ensures refused { IfErr result (λ f. f ≢ ChoiceFault.NoMemory → AreRefused cores (texts words.now) f) }
+    ensures found { IfOk result (λ v. SpellsChoices cores text.now v.items) }
+    ensures refused { IfErr result (λ f. f ≢ ChoiceFault.NoMemory → IsRefused cores text.now f) }
 {
     let mut choices = Vec::new(alloc);
-    let mut at = 0;
-    while at < words.len() {
+    let mut text = text;
+    let mut words = 0;
+    while let Some((word, behind)) = first_word(text) {
         let room = MAX_CHOICES - choices.len();
-        let item = read_item(cores, room, at + 1, words[at], &words[at + 1..])?;
-        item.push_to(&mut choices, cores)?;
-        at += item.words();
+        let read = read_item(cores, room, words + 1, word, behind)?;
+        read.item.push_to(&mut choices, cores)?;
+        words += read.item.words();
+        text = read.behind;
     }
     Ok(choices)
 }
@@ -64,8 +66,7 @@ pub fn read_choices(alloc: Global, cores: u8, text: &[u8]) -> Result<Vec<Choice>
     ensures refuses { (fault : ChoiceFault) → IsRefused cores text.now fault
         → MatchResult result (λ _. ⊥) (λ f. f ≢ ChoiceFault.NoMemory → f ≡ fault) }
 {
-    let words = split_words(alloc, text)?;
-    choices_of_words(alloc, cores, &words)
+    choices_of(alloc, cores, text)
 }
 
 /// Each text spells one list of choices or gets one refusal, and never both: a law of the definitions, with nothing to run.

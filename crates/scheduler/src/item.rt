@@ -1,11 +1,13 @@
 //! One item of a choice text.
 
-ghost use Rattle.std.specs.Prelude.{◌≡◌, ◌<◌, ◌≤◌, ◌+◌, ◌-◌, ◌^◌, ◌++◌, length, IfOk, OnOk};
-ghost use Rattle.scheduler.specs.Reading.{texts, made_of, words_in, action_of, choice_by, one_of, seed_of, seeded_of, item_of};
+ghost use Rattle.std.specs.Prelude.{◌≡◌, ◌<◌, ◌≤◌, ◌+◌, ◌-◌, ◌^◌, ◌++◌, length, drop, Ok, Err, MatchResult, IfOk, OnOk};
+ghost use Rattle.scheduler.specs.Words.{words_of};
+ghost use Rattle.scheduler.specs.Reading.{made_of, words_in, action_of, choice_by, one_of, seed_of, seeded_of, item_of};
 
 use crate::fault::ChoiceFault;
 use crate::numbers::{is_numeral, number_up_to};
 use crate::seeds::push_seeded;
+use crate::words::first_word;
 use tso_model::{Choice, Core, NoMemory};
 
 /// What a core is to do.
@@ -68,11 +70,19 @@ impl Item {
     }
 }
 
+/// An item that was read, and what stands behind its words.
+#[derive(Clone, Copy)]
+pub struct ItemRead<'a> {
+    pub item: Item,
+    pub behind: &'a [u8],
+}
+
 /// Reads a word that is to be digits and the letter of a step or a drain, where `room` choices more are allowed.
 #[tactic(auto, using(crate::proofs::Items::one_word))]
 fn read_one(cores: u8, room: usize, number: usize, word: &[u8]) -> Result<Item, ChoiceFault>
     requires { 0 < cores }
-    ensures { result ≡ one_of cores room number word.now }
+    ensures exact { result ≡ one_of cores room number word.now }
+    ensures one { IfOk result (λ item. words_in item ≡ 1) }
 {
     let Some((letter, digits)) = word.split_last() else {
         return Err(ChoiceFault::BadWord(number));
@@ -106,41 +116,51 @@ fn seed_of(word: &[u8]) -> Option<u64>
 
 /// Reads the two words behind `seed`, whose own number is `number`, where `room` choices more are allowed.
 #[tactic(auto, using(crate::proofs::Items::seed_words))]
-fn read_seeded(room: usize, number: usize, rest: &[&[u8]]) -> Result<Item, ChoiceFault>
-    requires { number + length rest.now < 2 ^ 64 }
-    ensures { result ≡ seeded_of room number (texts rest.now) }
+fn read_seeded(room: usize, number: usize, text: &[u8]) -> Result<ItemRead<'_>, ChoiceFault>
+    requires { number + length text.now < 2 ^ 64 }
+    ensures item { MatchResult result (λ r. seeded_of room number (words_of text.now) ≡ Ok r.item) (λ fault. seeded_of room number (words_of text.now) ≡ Err fault) }
+    ensures behind { IfOk result (λ r. words_of r.behind.now ≡ drop (words_in r.item - 1) (words_of text.now)) }
+    ensures shorter { IfOk result (λ r. words_in r.item + length r.behind.now ≤ 1 + length text.now) }
 {
-    if rest.len() < 2 {
+    let Some((seed, text)) = first_word(text) else {
         return Err(ChoiceFault::BadWord(number));
-    }
-    let Some(seed) = seed_of(rest[0]) else {
+    };
+    let Some((count, behind)) = first_word(text) else {
+        return Err(ChoiceFault::BadWord(number));
+    };
+    let Some(seed) = seed_of(seed) else {
         return Err(ChoiceFault::BadWord(number + 1));
     };
-    if !is_numeral(rest[1]) {
+    if !is_numeral(count) {
         return Err(ChoiceFault::BadWord(number + 2));
     }
-    let Some(count) = number_up_to(room as u64, rest[1]) else {
+    let Some(count) = number_up_to(room as u64, count) else {
         return Err(ChoiceFault::TooMany(number));
     };
-    Ok(Item::Seeded(seed, count as usize))
+    let item = Item::Seeded(seed, count as usize);
+    Ok(ItemRead { item, behind })
 }
 
-/// Reads the item that begins with a word, whose number is `number`, where `room` choices more are allowed.
+/// Reads the item that begins with a word, whose number is `number`, where `room` choices more are allowed. Behind the
+/// word stands this text.
 #[tactic(auto, unfolding(crate::specs::Reading::item_of))]
-pub fn read_item(
+pub fn read_item<'a>(
     cores: u8,
     room: usize,
     number: usize,
     word: &[u8],
-    rest: &[&[u8]],
-) -> Result<Item, ChoiceFault>
+    text: &'a [u8],
+) -> Result<ItemRead<'a>, ChoiceFault>
     requires there { 0 < cores }
-    requires numbered { number + length rest.now < 2 ^ 64 }
-    ensures { result ≡ item_of cores room number word.now (texts rest.now) }
+    requires numbered { number + length text.now < 2 ^ 64 }
+    ensures item { MatchResult result (λ r. item_of cores room number word.now (words_of text.now) ≡ Ok r.item) (λ fault. item_of cores room number word.now (words_of text.now) ≡ Err fault) }
+    ensures behind { IfOk result (λ r. words_of r.behind.now ≡ drop (words_in r.item - 1) (words_of text.now)) }
+    ensures shorter { IfOk result (λ r. words_in r.item + length r.behind.now ≤ 1 + length text.now) }
 {
     if word == b"seed".as_slice() {
-        read_seeded(room, number, rest)
+        read_seeded(room, number, text)
     } else {
-        read_one(cores, room, number, word)
+        let item = read_one(cores, room, number, word)?;
+        Ok(ItemRead { item, behind: text })
     }
 }

@@ -3,6 +3,7 @@
 
 mod along;
 mod choices;
+pub mod coming;
 mod depth;
 pub mod fault;
 mod item;
@@ -13,6 +14,7 @@ mod seeds;
 mod words;
 
 pub use choices::{MAX_CHOICES, read_choices, spelled_cores_exist, texts_are_decided};
+pub use coming::{Choices, Listed, Seeded};
 pub use fault::{ChoiceFault, WitnessFault};
 pub use printing::{choices_text, printed_choices_are_spelled};
 pub use reaching::witness;

@@ -33,12 +33,17 @@ pub fn number_up_to(most: u64, digits: &[u8]) -> Option<u64>
     ensures value { result ≡ number_up_to most digits.now }
     ensures within { IfSome result (λ n. n ≤ most) }
 {
-    let mut value = 0u128;
+    let tenth = most / 10;
+    let mut value = 0;
     for digit in digits {
-        value = value * 10 + u128::from(*digit - b'0');
-        if value > u128::from(most) {
+        if value > tenth {
             return None;
         }
+        let digit = u64::from(*digit - b'0');
+        if digit > most - value * 10 {
+            return None;
+        }
+        value = value * 10 + digit;
     }
-    Some(value as u64)
+    Some(value)
 }

@@ -1,18 +1,15 @@
 //! The choices of a seed.
 
 ghost use Rattle.std.specs.Prelude.{◌≡◌, ◌<◌, ◌++◌, IfOk, OnOk};
-ghost use Rattle.tso_model.specs.Runs.{CoresExist};
 ghost use Rattle.scheduler.specs.Seeds.{choice_of_word, seeded_choices};
 
-use rand_core::SeedableRng;
-use rand_core::utils::NextWord;
-use rand_pcg::Lcg64Xsh32;
+use crate::coming::{Choices, Seeded};
 use std::alloc::Global;
 use tso_model::{Choice, Core, NoMemory};
 
 /// The choice that a word of the generator says in a test with so many cores: modulo twice the cores, it is twice the
 /// core, and 1 more for a drain.
-fn choice_of_word(cores: u8, word: u32) -> Choice
+pub fn choice_of_word(cores: u8, word: u32) -> Choice
     requires { 0 < cores }
     ensures { result ≡ choice_of_word cores word }
 {
@@ -35,9 +32,9 @@ pub fn push_seeded(
     requires { 0 < cores }
     ensures { OnOk result (choices.new.items ≡ choices.old.items ++ seeded_choices cores seed count) }
 {
-    let mut generator = Lcg64Xsh32::seed_from_u64(seed);
-    for _made in 0..count {
-        choices.push(choice_of_word(cores, generator.next_word()))?;
+    let mut drawn = Seeded::new(cores, seed, count);
+    while let Some(choice) = drawn.next() {
+        choices.push(choice)?;
     }
     Ok(())
 }
@@ -52,8 +49,7 @@ pub fn seeded_choices(
     count: usize,
 ) -> Result<Vec<Choice>, NoMemory>
     requires { 0 < cores }
-    ensures exact { IfOk result (λ v. v.items ≡ seeded_choices cores seed count) }
-    ensures cores { IfOk result (λ v. CoresExist cores v.items) }
+    ensures { IfOk result (λ v. v.items ≡ seeded_choices cores seed count) }
 {
     let mut choices = Vec::new(alloc);
     push_seeded(&mut choices, cores, seed, count)?;

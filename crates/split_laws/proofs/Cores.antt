@@ -6,8 +6,8 @@ use Rattle.std.proofs.lemmas.Bool.Decides.{nat_tests}
 use Rattle.std.proofs.Math.ListN.{length-set}
 use Rattle.tso_model.specs.Litmus.{Litmus}
 use Rattle.tso_model.specs.ProgramOrder.{is_write}
-use Rattle.tso_model.specs.FlatMachine.{CoreState, State, Effect, idle, program_of, core_of, memory_after, applied, started}
-use Rattle.tso_model.specs.Runs.{is_none_pending, is_done, all_done, has_ended}
+use Rattle.tso_model.specs.FlatMachine.{is_none_pending, CoreState, State, Effect, idle, program_of, core_of, memory_after, applied, started}
+use Rattle.tso_model.specs.Runs.{is_done, all_done, has_ended}
 use Rattle.tso_model.specs.declared.instruction.Instr.{Instr}
 use Rattle.tso_model.specs.declared.execution.Entry.{Entry}
 use Rattle.tso_model.specs.declared.choice.Outcome.{Outcome}

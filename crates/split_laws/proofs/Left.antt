@@ -4,7 +4,7 @@
 use Rattle.std.proofs.Common.{◌≡◌, ◌≢◌, ◌<◌, ◌≤◌, ℕ, ◌+◌, ◌*◌, zero, suc, List, [], ◌∷◌, Option, Some, None, length, slice_get, slice_set, slice_index_or, drop, arith, ap, refl, ◌⊎◌, inl, inr, length-append}
 use Rattle.std.proofs.lemmas.Option.{slice_get_within}
 use Rattle.tso_model.specs.Litmus.{Litmus}
-use Rattle.tso_model.specs.FlatMachine.{CoreState, State, Effect, idle, stalled, step_of, drain_of, effect_of, chosen, core_of, program_of, applied, started}
+use Rattle.tso_model.specs.FlatMachine.{CoreState, State, Effect, idle, stalled, step_of, effect_of, chosen, core_of, program_of, applied, started}
 use Rattle.tso_model.specs.Runs.{stall_count}
 use Rattle.tso_model.specs.Access.{Access, NoAccess, Reads, Writes, Locks, step_access, drain_access, next_of, access_of}
 use Rattle.tso_model.specs.declared.instruction.Instr.{Instr}
@@ -14,6 +14,7 @@ use Rattle.tso_model.specs.declared.choice.Choice.TheVariants.{Step, Drain}
 use Rattle.tso_model.specs.declared.choice.Stall.{Stall}
 use Rattle.tso_model.specs.declared.choice.Stall.TheVariants as stall
 use Rattle.tso_laws.specs.Counting.{instructions}
+use Rattle.split_laws.proofs.Draining.{drain_with}
 use Rattle.split_laws.proofs.Basics.{lt-or, drop-at}
 use Rattle.split_laws.proofs.Cores.{no-program, no-core}
 use Rattle.split_laws.proofs.Steps.{put, StepForm, stalls, buffers, makes, pairs, step-form}
@@ -74,7 +75,7 @@ step-pays : (c d : ℕ) (p : List Instr) (memory : List ℕ) (s : CoreState) (i 
 step-pays c d p memory s None e = inr (record { none = refl; why = stall.Done; is = refl })
 step-pays c d p memory s (Some x) e = by-form c d p memory s x _ _ e (step-form d c memory (Some x) s)
 
-drain-pays : (p : List Instr) (s : CoreState) (q : List Entry) → s.pending ≡ q → Pays p s (drain_access q) (drain_of s q)
+drain-pays : (p : List Instr) (s : CoreState) (q : List Entry) → s.pending ≡ q → Pays p s (drain_access q) (drain_with s q)
 drain-pays p s [] z = inr (record { none = refl; why = stall.Empty; is = refl })
 drain-pays p s (y ∷ ys) z = inl (record { took = refl; less = let m = ap length z in omega arith; within = λ h. h })
 

@@ -1,3 +1,4 @@
+pub mod Draining
 pub mod Basics
 pub mod Cores
 pub mod Steps

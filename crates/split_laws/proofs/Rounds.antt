@@ -1,7 +1,7 @@
 -- In each round some choice takes effect, as long as there is something left to do.
 use Rattle.std.proofs.Common.{◌≡◌, ◌<◌, ◌≤◌, ℕ, ◌+◌, ◌*◌, zero, suc, List, [], ◌∷◌, ◌++◌, Option, Some, None, Bool, true, false, length, slice_index_or, arith, ap, sym, ◌∙◌, refl, ◌⊎◌, inl, inr, subst, if◌then◌else◌}
 use Rattle.tso_model.specs.Litmus.{Litmus}
-use Rattle.tso_model.specs.FlatMachine.{State, idle, effect_of, chosen, core_of, program_of, start}
+use Rattle.tso_model.specs.FlatMachine.{State, idle, effect_of, chosen, core_of, program_of, start, step, drain}
 use Rattle.tso_model.specs.Runs.{stall_count, is_done, has_ended}
 use Rattle.tso_model.specs.Access.{next_of, access_of}
 use Rattle.tso_model.specs.SplitMachine.{Holder, Free, HeldBy, HeldBetween, Attempt, needs_bus, acts, asks}
@@ -12,7 +12,6 @@ use Rattle.tso_model.specs.declared.instruction.Instr.{Instr}
 use Rattle.tso_model.specs.declared.execution.Entry.{Entry}
 use Rattle.tso_model.specs.declared.choice.Choice.{Choice}
 use Rattle.tso_model.specs.declared.choice.Choice.TheVariants.{Step, Drain}
-use Rattle.tso_laws.specs.Choices.{step, drain}
 use Rattle.tso_laws.specs.Counting.{instructions}
 use Rattle.tso_laws.specs.Rounds.{Among, IsRound, CanBeCutIntoRounds}
 use Rattle.split_laws.specs.BusChoices.{state_on}

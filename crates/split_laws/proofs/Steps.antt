@@ -3,16 +3,17 @@ use Rattle.std.proofs.Common.{◌≡◌, ◌≢◌, ℕ, ◌+◌, zero, suc, Lis
 use Rattle.std.proofs.lemmas.Bool.Decides.{nat_tests}
 use Rattle.std.specs.Prelude.{filter}
 use Rattle.tso_model.specs.Litmus.{Litmus}
-use Rattle.tso_model.specs.Thread.{entry, value_in, sum_of}
-use Rattle.tso_model.specs.ProgramOrder.{is_write, writes_to}
-use Rattle.tso_model.specs.Execution.{same_kind}
-use Rattle.tso_model.specs.FlatMachine.{CoreState, State, Effect, stalled, stored, fenced, locked, step_of, drain_of, core_of, chosen, effect_of}
+use Rattle.tso_model.specs.Actions.{action_of}
+use Rattle.tso_model.specs.Thread.{entry, value_in, value_of, updated}
+use Rattle.tso_model.specs.ProgramOrder.{same_kind, is_write, writes_to}
+use Rattle.tso_model.specs.FlatMachine.{CoreState, State, Effect, stalled, stored, effect_by, step_of, core_of, chosen, effect_of}
 use Rattle.tso_model.specs.Runs.{stall_count}
-use Rattle.tso_model.specs.Access.{Access, NoAccess, Writes, Locks, store_access, load_access, locked_access, step_access, drain_access, next_of, access_of}
+use Rattle.tso_model.specs.Access.{Access, NoAccess, Writes, Locks, store_access, load_access, locked_access, access_by, step_access, drain_access, next_of, access_of}
 use Rattle.tso_model.specs.declared.register.Reg.{Reg}
 use Rattle.tso_model.specs.declared.instruction.Loc.{Loc}
 use Rattle.tso_model.specs.declared.instruction.Instr.{Instr}
-use Rattle.tso_model.specs.declared.instruction.Instr.TheVariants.{StoreImm, StoreReg, Load, SetImm, SetReg, Fence, Xchg, Xadd}
+use Rattle.tso_model.specs.declared.action.Action.{Action}
+use Rattle.tso_model.specs.declared.action.Action.TheVariants.{Store, Load, Move, Fence, Lock}
 use Rattle.tso_model.specs.declared.execution.Entry.{Entry}
 use Rattle.tso_model.specs.declared.execution.Kind.TheVariants.{W, LR, LW}
 use Rattle.tso_model.specs.declared.choice.Choice.{Choice}
@@ -20,6 +21,7 @@ use Rattle.tso_model.specs.declared.choice.Choice.TheVariants.{Step, Drain}
 use Rattle.tso_model.specs.declared.choice.Stall.{Stall}
 use Rattle.tso_model.specs.declared.choice.Stall.TheVariants as stall
 use Rattle.tso_model.specs.declared.choice.Outcome.TheVariants.{Committed, Buffered}
+use Rattle.split_laws.proofs.Draining.{drain_with, fenced_with, locked_with}
 use Rattle.split_laws.proofs.Basics.{Each}
 
 -- a plain store of this core, as all that it has pending is
@@ -99,7 +101,7 @@ load-no-lock : (loc l : Loc) (q : List Entry) → load_access loc q ≢ Locks l
 load-no-lock loc l [] h = cc
 load-no-lock loc l (p ∷ ps) h = cc
 
-fenced-form : (core : ℕ) (memory : List ℕ) (i : Option Instr) (s : CoreState) (q : List Entry) → s.pending ≡ q → StepForm core memory i NoAccess s (fenced core s q)
+fenced-form : (core : ℕ) (memory : List ℕ) (i : Option Instr) (s : CoreState) (q : List Entry) → s.pending ≡ q → StepForm core memory i NoAccess s (fenced_with core s q)
 fenced-form core memory i s [] e = makes (record {
   no_lock = λ l h. let z : ⊥ = cc in z;
   took = refl;
@@ -120,26 +122,26 @@ moved-form core memory i s f o p q c = makes (record {
 })
 
 locked-form : (core : ℕ) (memory : List ℕ) (i : Option Instr) (s : CoreState) (loc : Loc) (reg : Reg) (value : ℕ) (q : List Entry) → s.pending ≡ q
-    → StepForm core memory i (locked_access loc q) s (locked core s loc reg (slice_index memory loc.0) value q)
+    → StepForm core memory i (locked_access loc q) s (locked_with core s loc reg (slice_index memory loc.0) value q)
 locked-form core memory i s loc reg value [] e = pairs loc refl (record { empty = e; took = refl; place = refl; pending = refl; value = value; commits = refl })
 locked-form core memory i s loc reg value (p ∷ ps) e = stalls (record { none = refl; why = stall.Lock; is = refl; cause = inr (λ h. let z : ⊥ = cc in z) })
 
 pub step-form : (depth core : ℕ) (memory : List ℕ) (i : Option Instr) (s : CoreState) → StepForm core memory i (step_access depth i s.pending) s (step_of depth memory core i s)
 step-form depth core memory None s = stalls (record { none = refl; why = stall.Done; is = refl; cause = inl refl })
-step-form depth core memory (Some (StoreImm loc value)) s = stored-form depth core memory _ s loc value
-step-form depth core memory (Some (StoreReg loc reg)) s = stored-form depth core memory _ s loc (value_in s.registers reg)
-step-form depth core memory (Some (Load reg loc)) s = makes (record {
-  no_lock = λ l. load-no-lock loc l (filter (writes_to loc.0) s.pending);
-  took = refl;
-  place = refl;
-  pending = refl;
-  plain = (record { mine = refl; no_load_part = refl; no_store_part = refl; place = λ w. absurd (let z : ⊥ = cc in z) }, tt);
-})
-step-form depth core memory (Some (SetImm reg value)) s = moved-form core memory _ s _ refl refl refl refl
-step-form depth core memory (Some (SetReg reg other)) s = moved-form core memory _ s _ refl refl refl refl
-step-form depth core memory (Some Fence) s = fenced-form core memory _ s s.pending refl
-step-form depth core memory (Some (Xchg loc reg)) s = locked-form core memory _ s loc reg (value_in s.registers reg) s.pending refl
-step-form depth core memory (Some (Xadd loc reg)) s = locked-form core memory _ s loc reg (sum_of (slice_index memory loc.0) (value_in s.registers reg)) s.pending refl
+step-form depth core memory (Some x) s = by_action (action_of x)
+  where
+    by_action : (a : Action) → StepForm core memory (Some x) (access_by depth a s.pending) s (effect_by depth memory core a s)
+    by_action (Store loc operand) = stored-form depth core memory (Some x) s loc (value_of s.registers operand)
+    by_action (Load reg loc) = makes (record {
+      no_lock = λ l. load-no-lock loc l (filter (writes_to loc.0) s.pending);
+      took = refl;
+      place = refl;
+      pending = refl;
+      plain = (record { mine = refl; no_load_part = refl; no_store_part = refl; place = λ w. absurd (let z : ⊥ = cc in z) }, tt);
+    })
+    by_action (Move reg operand) = moved-form core memory (Some x) s _ refl refl refl refl
+    by_action Fence = fenced-form core memory (Some x) s s.pending refl
+    by_action (Lock loc reg update) = locked-form core memory (Some x) s loc reg (updated update (slice_index memory loc.0) (value_in s.registers reg)) s.pending refl
 
 -- a drain makes no locked access
 pub drain-no-lock : (q : List Entry) (l : Loc) → drain_access q ≢ Locks l
@@ -148,7 +150,7 @@ drain-no-lock (p ∷ ps) l h = cc
 
 -- ---- what a choice commits
 
-drain-plain : (core : ℕ) (s : CoreState) (q : List Entry) → Each (IsStore core) q → Each (IsPlain core (drain_access q)) (drain_of s q).commits
+drain-plain : (core : ℕ) (s : CoreState) (q : List Entry) → Each (IsStore core) q → Each (IsPlain core (drain_access q)) (drain_with s q).commits
 drain-plain core s [] h = tt
 drain-plain core s (p ∷ ps) h = (store-plain core p h.0, tt)
 

@@ -4,14 +4,17 @@ use Rattle.std.specs.Prelude.{filter}
 use Rattle.tso_model.specs.Litmus.{Litmus}
 use Rattle.tso_model.specs.ProgramOrder.{is_write, writes_to}
 use Rattle.tso_model.specs.FlatMachine.{CoreState, State, Effect, program_of, step_of, drain_of, effect_of, chosen, core_of, applied, start}
-use Rattle.tso_model.specs.Access.{Access, NoAccess, Writes, Locks, load_access, step_access, drain_access, next_of, access_of}
+use Rattle.tso_model.specs.Actions.{action_of}
+use Rattle.tso_model.specs.Access.{Access, NoAccess, Writes, Locks, load_access, access_by, step_access, drain_access, next_of, access_of}
 use Rattle.tso_model.specs.SplitMachine.{same_choice, load_part}
 use Rattle.tso_model.specs.declared.instruction.Loc.{Loc}
 use Rattle.tso_model.specs.declared.instruction.Instr.{Instr}
-use Rattle.tso_model.specs.declared.instruction.Instr.TheVariants.{StoreImm, StoreReg, Load, SetImm, SetReg, Fence, Xchg, Xadd}
+use Rattle.tso_model.specs.declared.action.Action.{Action}
+use Rattle.tso_model.specs.declared.action.Action.TheVariants.{Store, Load, Move, Fence, Lock}
 use Rattle.tso_model.specs.declared.execution.Entry.{Entry}
 use Rattle.tso_model.specs.declared.choice.Choice.{Choice}
 use Rattle.tso_model.specs.declared.choice.Choice.TheVariants.{Step, Drain}
+use Rattle.split_laws.proofs.Draining.{drain_with}
 use Rattle.split_laws.specs.Holders.{HasRead}
 use Rattle.split_laws.proofs.Basics.{test-true, Each, each-append, each-map}
 use Rattle.split_laws.proofs.Cores.{core-cases, memory-kept, starts-idle}
@@ -26,7 +29,7 @@ step-stores core memory i what s f (buffers w) h = subst (λ z. Each (IsStore co
 step-stores core memory i what s f (makes w) h = subst (λ z. Each (IsStore core) z) (sym w.pending) h
 step-stores core memory i what s f (pairs loc q w) h = subst (λ z. Each (IsStore core) z) (sym w.pending) h
 
-drain-stores : (core : ℕ) (s : CoreState) (q : List Entry) → s.pending ≡ q → Each (IsStore core) s.pending → Each (IsStore core) (drain_of s q).after.pending
+drain-stores : (core : ℕ) (s : CoreState) (q : List Entry) → s.pending ≡ q → Each (IsStore core) s.pending → Each (IsStore core) (drain_with s q).after.pending
 drain-stores core s [] e h = h
 drain-stores core s (p ∷ ps) e h = (subst (λ z. Each (IsStore core) z) e h).1
 
@@ -57,20 +60,20 @@ load-drained loc y ys = go (writes_to loc.0 y)
 
 step-drained : (depth : ℕ) (i : Option Instr) (y : Entry) (ys : List Entry) → step_access depth i (y ∷ ys) ≢ NoAccess → step_access depth i ys ≡ step_access depth i (y ∷ ys)
 step-drained depth None y ys n = refl
-step-drained depth (Some (StoreImm loc value)) y ys n = refl
-step-drained depth (Some (StoreReg loc reg)) y ys n = refl
-step-drained depth (Some (Load reg loc)) y ys n = load-drained loc y ys n
-step-drained depth (Some (SetImm reg value)) y ys n = refl
-step-drained depth (Some (SetReg reg other)) y ys n = refl
-step-drained depth (Some Fence) y ys n = refl
-step-drained depth (Some (Xchg loc reg)) y ys n = absurd (n refl)
-step-drained depth (Some (Xadd loc reg)) y ys n = absurd (n refl)
+step-drained depth (Some x) y ys n = by_action (action_of x) n
+  where
+    by_action : (a : Action) → access_by depth a (y ∷ ys) ≢ NoAccess → access_by depth a ys ≡ access_by depth a (y ∷ ys)
+    by_action (Store loc operand) n = refl
+    by_action (Load reg loc) n = load-drained loc y ys n
+    by_action (Move reg operand) n = refl
+    by_action Fence n = refl
+    by_action (Lock loc reg update) n = absurd (n refl)
 
 -- the access of a core's step
 abbrev step_in : Litmus → ℕ → ℕ → CoreState → Access
 step_in t depth core s = step_access depth (slice_get (program_of t core) s.place) s.pending
 
-after-drain : (t : Litmus) (depth core : ℕ) (s : CoreState) (q : List Entry) → s.pending ≡ q → step_in t depth core s ≢ NoAccess → step_in t depth core (drain_of s q).after ≡ step_in t depth core s
+after-drain : (t : Litmus) (depth core : ℕ) (s : CoreState) (q : List Entry) → s.pending ≡ q → step_in t depth core s ≢ NoAccess → step_in t depth core (drain_with s q).after ≡ step_in t depth core s
 after-drain t depth core s [] e n = refl
 after-drain t depth core s (y ∷ ys) e n =
     let i : Option Instr = slice_get (program_of t core) s.place in
@@ -103,7 +106,7 @@ access-kept t depth state (Drain c) (Drain d) n h =
     ]
 access-kept t depth state (Step c) (Drain d) n h =
     elim (core-cases state d.0 c.0 (effect_of t depth state (Drain d))) [
-      | inl w ↦ ap (λ s. step_in t depth c.0 s) (w.2 ∙ ap (λ k. (drain_of (core_of state k) (core_of state k).pending).after) (sym w.0))
+      | inl w ↦ ap (λ s. step_in t depth c.0 s) (w.2 ∙ ap (λ k. (drain_of (core_of state k)).after) (sym w.0))
           ∙ after-drain t depth c.0 (core_of state c.0) (core_of state c.0).pending refl n
       | inr w ↦ ap (λ s. step_in t depth c.0 s) w
     ]
@@ -125,8 +128,8 @@ pub reader-empty : (t : Litmus) (depth : ℕ) (state : State) (e : Entry) → Ha
 reader-empty t depth state e r = (choice-pair t depth state e.core.0 e.loc r.access).empty
 
 -- a drain of it finds nothing
-drained : (t : Litmus) (depth : ℕ) (state : State) (e : Entry) (core : ℕ) → HasRead t depth state e → core ≡ e.core.0 → drain_of (core_of state core) (core_of state core).pending ≡ drain_of (core_of state core) []
-drained t depth state e core r q = ap (λ p. drain_of (core_of state core) p) (ap (λ k. (core_of state k).pending) q ∙ reader-empty t depth state e r)
+drained : (t : Litmus) (depth : ℕ) (state : State) (e : Entry) (core : ℕ) → HasRead t depth state e → core ≡ e.core.0 → drain_of (core_of state core) ≡ drain_with (core_of state core) []
+drained t depth state e core r q = ap (λ p. drain_with (core_of state core) p) (ap (λ k. (core_of state k).pending) q ∙ reader-empty t depth state e r)
 
 reader-kept : (t : Litmus) (depth : ℕ) (state : State) (e : Entry) (b : Choice) → HasRead t depth state e → same_choice (Step e.core) b ≡ false
     → core_of (applied state (chosen b) (effect_of t depth state b)) e.core.0 ≡ core_of state e.core.0

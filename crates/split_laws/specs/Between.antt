@@ -11,12 +11,12 @@ pub record IsApart (x e : Entry) : Type 0 where
   pub no_load_part : e.kind ≢ LR
   pub no_store_part : e.kind ≢ LW
 
--- behind the load part x such entries come, and then its store part; or it still waits for that, and holds the bus
+-- after the load part x such entries come, and then its store part; or it still waits for that, and holds the bus
 abbrev pub IsAnswered : Entry → List Entry → Holder → Type 0
 IsAnswered x [] holder = holder ≡ HeldBetween x
 IsAnswered x (e ∷ es) holder = IsStorePart x e ⊎ (IsApart x e × IsAnswered x es holder)
 
--- this is so behind each load part
+-- this is so after each load part
 abbrev pub ArePaired : List Entry → Holder → Type 0
 ArePaired [] holder = Unit {0}
 ArePaired (e ∷ es) holder = (e.kind ≡ LR → IsAnswered e es holder) × ArePaired es holder

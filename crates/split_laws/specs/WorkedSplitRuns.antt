@@ -1,8 +1,9 @@
 -- Worked runs on the split bus.
 use Rattle.std.specs.Prelude.{ℕ, true, false, List, [], ◌∷◌, ◌++◌, None, codes}
+use Rattle.tso_model.specs.FlatMachine.{step, drain}
 use Rattle.tso_model.specs.Litmus.{Litmus}
 use Rattle.tso_model.specs.Thread.{entry}
-use Rattle.tso_model.specs.Examples.{loc_x, loc_y, zeros, step, drain}
+use Rattle.tso_model.specs.Examples.{loc_x, loc_y, zeros}
 use Rattle.tso_model.specs.SplitMachine.{Attempt}
 use Rattle.tso_model.specs.declared.register.Reg.TheVariants.{Eax, Ebx}
 use Rattle.tso_model.specs.declared.instruction.Instr.{Instr}

@@ -15,13 +15,13 @@ ghost use Rattle.std.specs.Prelude.{ℕ, ◌*◌, ◌≡◌, ◌≢◌, true, fa
 ghost use Rattle.tso_model.specs.Litmus.{Litmus, IsTest};
 ghost use Rattle.tso_model.specs.Thread.{entry};
 ghost use Rattle.tso_model.specs.Execution.{IsTsoExecution, KeepsAllOrder};
-ghost use Rattle.tso_model.specs.FlatMachine.{State, start, after_choice};
+ghost use Rattle.tso_model.specs.FlatMachine.{State, start, after_choice, drain, registers_in};
 ghost use Rattle.tso_model.specs.Runs.{run, has_ended};
 ghost use Rattle.tso_model.specs.Access.{NoAccess, access_of};
 ghost use Rattle.tso_model.specs.SplitMachine.{Free, Attempt, same_choice};
 ghost use Rattle.tso_model.specs.EitherBus.{BusState, unheld, effect_on, after_on, run_on, choices_in, HitFits, HitsFit};
 ghost use Rattle.tso_model.specs.Together.{put_together, together};
-ghost use Rattle.tso_model.specs.Examples.{loc_x, zeros, drain, sb, sb_order, n6};
+ghost use Rattle.tso_model.specs.Examples.{loc_x, zeros, sb, sb_order, n6};
 ghost use Rattle.tso_model.specs.declared.bus.Bus.{Bus};
 ghost use Rattle.tso_model.specs.declared.bus.Bus.TheVariants.{Atomic, Split};
 ghost use Rattle.tso_model.specs.declared.execution.Entry.{Entry};
@@ -30,7 +30,7 @@ ghost use Rattle.tso_model.specs.declared.choice.Choice.{Choice};
 ghost use Rattle.tso_model.specs.declared.choice.Stall.{Stall};
 ghost use Rattle.tso_model.specs.declared.choice.Stall.TheVariants as stall;
 ghost use Rattle.tso_model.specs.declared.choice.Outcome.TheVariants.{Stalled};
-ghost use Rattle.tso_laws.specs.EndedRuns.{IsExecution, registers_in};
+ghost use Rattle.tso_laws.specs.EndedRuns.{IsExecution};
 ghost use Rattle.tso_laws.specs.Counting.{instructions};
 ghost use Rattle.tso_laws.specs.Rounds.{CanBeCutIntoRounds};
 ghost use Rattle.split_laws.specs.BusChoices.{IsPossibleOn};
@@ -61,7 +61,7 @@ pub fn what_holds_so_far_on_either_bus()
 {}
 
 /// A run uses its choices up to the first moment at which the test has ended, and counts the
-/// others as unused; behind that moment no choice commits or changes anything, and nobody holds the
+/// others as unused; after that moment no choice commits or changes anything, and nobody holds the
 /// bus, whatever the caches answer.
 pub fn runs_on_either_bus_stop_where_they_end()
     ensures stops { (bus : Bus) (t : Litmus) (depth : ℕ) (attempts : List Attempt) → StopsAtTheEndOn bus t depth attempts (run_on bus t depth attempts) }

@@ -44,7 +44,7 @@ impl StoreBuffer {
 
     /// An empty buffer for `depth` stores, from `MIN_DEPTH` to `MAX_DEPTH` of `tso_model`. No other call takes memory.
     ///
-    /// Fails only for want of memory.
+    /// Errors: out of memory only.
     pub fn new(alloc: Global, depth: u8) -> Result<Self, NoMemory>
         requires { (least_depth ≤ depth) × (depth ≤ most_depth) }
         ensures { IfOk result (λ b. b ≡ stores [] depth) }

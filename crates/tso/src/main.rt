@@ -7,11 +7,14 @@
 ghost use Rattle.std.specs.Prelude.{◌≡◌, IfOk};
 ghost use Rattle.tso_cli.specs.Limits.{HasDepth};
 
+mod kept;
+
+use kept::Kept;
 use std::alloc::AllocError;
 use std::io::Write;
 use std::process::ExitCode;
 use std::{env, io};
-use tso_cli::{Counted, LineFault, RunFault, Settings, Status, run_command, settings_of};
+use tso_cli::{Counted, LineFault, RunFault, Settings, Status, hint, run_command, settings_of};
 
 /// The exit status of a line that is refused; `--help` is such a line too.
 const BAD_LINE: u8 = 2;
@@ -84,15 +87,31 @@ fn words_of_line(rt: &HostRuntime) -> Result<Settings, LineError>
 fn run(rt: &HostRuntime, settings: &Settings) -> u8
     requires { HasDepth settings.now }
 {
-    let mut reader = Counted::new(rt.reader());
+    let mut reader = Counted::new(Kept::new(rt.alloc(), rt.reader()));
     let mut writer = Counted::new(io::writer(rt));
     match run_command(rt.alloc(), &mut reader, &mut writer, settings) {
         Ok(status) => match writer.flush() {
-            Ok(()) => exit_status(status),
+            Ok(()) => {
+                let kept = reader.into_inner();
+                tell_hint(rt, settings, status, kept.bytes());
+                exit_status(status)
+            }
             Err(_) => fault(rt, "fault device", FAULT),
         },
         Err(RunFault::Device) => fault(rt, "fault device", FAULT),
         Err(RunFault::NoMemory) => fault(rt, "fault memory", FAULT),
+    }
+}
+
+/// Tells the hint of an answer on standard error, if there is one, and memory for it.
+fn tell_hint(rt: &HostRuntime, settings: &Settings, status: Status, input: Option<&[u8]>) {
+    let Some(input) = input else {
+        return;
+    };
+    if let Ok(hint) = hint(rt.alloc(), settings, status, input) {
+        if !hint.is_empty() {
+            let _ = rt.eprint(hint.as_str());
+        }
     }
 }
 

@@ -1,7 +1,7 @@
 -- Runs on either bus: the choices with the caches' answers, and what an ended run leaves.
-use Rattle.std.proofs.Common.{◌≡◌, ℕ, suc, true, List, [], ◌∷◌, ◌++◌, length, append-nil, refl, sym, ap, subst, ◌∙◌}
+use Rattle.std.proofs.Common.{◌≡◌, ℕ, zero, suc, arith, true, List, [], ◌∷◌, ◌++◌, length, append-nil, refl, sym, ap, subst, ◌∙◌}
 use Rattle.tso_model.specs.Litmus.{Litmus, IsTest}
-use Rattle.tso_model.specs.Execution.{IsTsoExecution}
+use Rattle.tso_model.specs.Execution.{IsTsoExecution, KeepsAllOrder}
 use Rattle.tso_model.specs.FinalState.{final_words, final_registers}
 use Rattle.tso_model.specs.FlatMachine.{State, start}
 use Rattle.tso_model.specs.Runs.{Run, run}
@@ -130,6 +130,23 @@ ended-words table c t choices laws test fit ended =
     let f = followed table c t choices laws fit ended in
     subst (λ (s : State). HoldsWords r.commits s) f.state
     (subst (λ (es : List Entry). HoldsWords es (run t c.depth f.choices).state) f.commits (laws.words t c.depth f.choices test))
+
+-- without buffers its order keeps program order without exception
+abbrev pub UnbufferedRuns : Type 0
+UnbufferedRuns = (bus : Bus) (t : Litmus) (attempts : List Attempt) → IsTest t → HitsFit bus t 0 (unheld (start t)) attempts → EndOn bus t 0 attempts
+    → KeepsAllOrder (put_together (run_on bus t 0 attempts).run.commits)
+
+at-depth : (bus : Bus) (t : Litmus) (depth : ℕ) (attempts : List Attempt) → UnbufferedRuns → depth ≡ 0 → IsTest t → HitsFit bus t depth (unheld (start t)) attempts
+    → EndOn bus t depth attempts → KeepsAllOrder (put_together (run_on bus t depth attempts).run.commits)
+at-depth bus t zero attempts law none test fit over = law bus t attempts test fit over
+at-depth bus t (suc n) attempts law none test fit over = absurd (omega arith)
+
+pub ended-all-order : (table : Table) (c : Configuration) (t : Litmus) (choices : List Choice) → AtomicRuns → UnbufferedRuns → c.depth ≡ 0 → IsTest t → AnswersFitBy table c t choices
+    → (run_by c.bus table c t choices).ended ≡ true → KeepsAllOrder (run_by c.bus table c t choices).commits
+ended-all-order table c t choices atomic law none test fit ended =
+    let is = run-is table c t choices atomic in
+    let over : EndOn c.bus t c.depth (attempts_in table c t choices) = sym (ap (λ (r : Run). r.ended) is) ∙ ended in
+    subst (λ (r : Run). KeepsAllOrder r.commits) (sym is) (at-depth c.bus t c.depth (attempts_in table c t choices) law none test fit over)
 
 pub atomic-fit : (table : Table) (c : Configuration) (t : Litmus) (choices : List Choice)
     → ((t : Litmus) (depth : ℕ) (attempts : List Attempt) → HitsFit Atomic t depth (unheld (start t)) attempts) → c.bus ≡ Atomic → AnswersFitBy table c t choices

@@ -1,11 +1,13 @@
 -- A machine that is driven through choices: how far it has come, and where it stops.
-use Rattle.std.proofs.Common.{◌≡◌, ◌+◌, ℕ, true, false, List, [], ◌∷◌, ◌++◌, length, append-nil, append_assoc, refl, sym, ap, subst, ◌∙◌, arith}
+use Rattle.std.proofs.Common.{◌≡◌, ◌⊎◌, inl, inr, ◌+◌, ℕ, true, false, List, [], ◌∷◌, ◌++◌, length, append-nil, append_assoc, refl, sym, ap, subst, ◌∙◌, arith}
 use Rattle.tso_model.specs.Litmus.{Litmus}
 use Rattle.tso_model.specs.Runs.{has_ended, stall_count}
 use Rattle.tso_model.specs.SplitMachine.{Holder, Free, Attempt}
 use Rattle.tso_model.specs.EitherBus.{BusState, BusRun, effect_on, after_on, run_on, then_on, resting_on, HitFits, HitsFit}
 use Rattle.tso_model.specs.declared.bus.Bus.{Bus}
 use Rattle.tso_model.specs.declared.choice.Choice.{Choice}
+use Rattle.tso_model.specs.declared.choice.Outcome.{Outcome}
+use Rattle.tso_model.specs.declared.choice.Outcome.TheVariants.{Committed, Buffered, Moved, Asked}
 use Rattle.tso_model.specs.declared.execution.Entry.{Entry}
 use Rattle.split_laws.specs.BusChoices.{IsPossibleOn}
 use Rattle.split_laws.specs.BusRuns.{EndOn, left_by, ChangesNothingOn, StopsAtTheEndOn}
@@ -96,6 +98,13 @@ one-more old m new all left rest c used stalled more laws s is after live fits s
     let here : SoFar old m all (c ∷ rest) used stalled = subst (λ (l : List Choice). SoFar old m all l used stalled) is s in
     subst (λ (n : Running). SoFar old n all rest (used + 1) (stalled + more)) (sym after)
     (subst (λ (k : ℕ). SoFar old (machine_after m c) all rest (used + 1) (stalled + k)) (sym stalls) (made old m all rest c used stalled laws here live fits))
+
+-- the outcomes that aren't stalls
+pub no-stall : (o : Outcome) → (o ≡ Committed) ⊎ ((o ≡ Buffered) ⊎ ((o ≡ Moved) ⊎ (o ≡ Asked))) → stall_count o ≡ 0
+no-stall o (inl is) = ap stall_count is
+no-stall o (inr (inl is)) = ap stall_count is
+no-stall o (inr (inr (inl is))) = ap stall_count is
+no-stall o (inr (inr (inr is))) = ap stall_count is
 
 -- ---- where the test has ended, all answers fit
 

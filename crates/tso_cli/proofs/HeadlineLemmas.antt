@@ -1,7 +1,7 @@
 -- The headline holds of each answer.
 use Rattle.std.proofs.Common.{◌≡◌, ◌<◌, ◌^◌, ℕ, Bool, List, length, true, false, Option, Some, None, IfSome, subst, refl, arith}
 use Rattle.tso_model.specs.Litmus.{Litmus, IsTest}
-use Rattle.tso_model.specs.Execution.{IsWhole, StandsIn}
+use Rattle.tso_model.specs.Execution.{IsWhole, KeepsAllOrder, StandsIn}
 use Rattle.tso_model.specs.declared.bus.Bus.TheVariants.{Atomic}
 use Rattle.tso_model.specs.declared.choice.Choice.{Choice}
 use Rattle.tso_model.specs.declared.execution.Entry.{Entry}
@@ -38,13 +38,14 @@ abbrev Spells : Litmus → ProtocolKind → Configuration → Bool → List Choi
 Spells t kind c json choices out = json ≡ false → SpellsOrder t out (run_under t kind c choices).commits
 
 prints : (t : Litmus) (kind : ProtocolKind) (c : Configuration) (json : Bool) (choices : List Choice) (out : List ℕ) → IsExecution t (run_under t kind c choices)
-    → out ≡ report_in json t kind c (shown_of t (counts_under t kind c choices) (run_under t kind c choices)) → Spells t kind c json choices out
+    → (c.depth ≡ 0 → KeepsAllOrder (run_under t kind c choices).commits) → out ≡ report_in json t kind c (shown_of t (counts_under t kind c choices) (run_under t kind c choices)) → Spells t kind c json choices out
     → PrintsExecution t kind c json choices out
-prints t kind c json choices out e printed spelled = record {
+prints t kind c json choices out e all printed spelled = record {
   shown = shown_of t (counts_under t kind c choices) (run_under t kind c choices);
   printed = printed;
   exactly_once = e.order.whole;
   program_order = e.order.program_order;
+  unbuffered = all;
   adjacent = e.order.pairs;
   read_values = e.order.read_values;
   registers = e.registers;
@@ -63,18 +64,19 @@ abbrev HasEnded : Litmus → ProtocolKind → Configuration → List Choice → 
 HasEnded t kind c choices = (run_under t kind c choices).ended ≡ true
 
 prints-one : (t : Litmus) (kind : ProtocolKind) (c : Configuration) (json : Bool) (choices : List Choice) (out : List ℕ) → out ≡ written_of t kind c json choices
-    → (HasEnded t kind c choices → IsExecution t (run_under t kind c choices)) → (HasEnded t kind c choices → Spells t kind c json choices out)
-    → HasEnded t kind c choices → PrintsExecution t kind c json choices out
-prints-one t kind c json choices out text law spelled ended = prints t kind c json choices out (law ended) (rw ended at text) (spelled ended)
+    → (HasEnded t kind c choices → IsExecution t (run_under t kind c choices)) → (c.depth ≡ 0 → HasEnded t kind c choices → KeepsAllOrder (run_under t kind c choices).commits)
+    → (HasEnded t kind c choices → Spells t kind c json choices out) → HasEnded t kind c choices → PrintsExecution t kind c json choices out
+prints-one t kind c json choices out text law all spelled ended = prints t kind c json choices out (law ended) (λ none. all none ended) (rw ended at text) (spelled ended)
 
 run-means : (t : Litmus) (kind : ProtocolKind) (c : Configuration) (json : Bool) (text out : List ℕ) (status : Status) → IsDecided (length t.programs) text
     → ((choices : List Choice) → AnswersFit t kind c choices → HasEnded t kind c choices → IsExecution t (run_under t kind c choices))
+    → ((choices : List Choice) → c.depth ≡ 0 → AnswersFit t kind c choices → HasEnded t kind c choices → KeepsAllOrder (run_under t kind c choices).commits)
     → ((choices : List Choice) (out : List ℕ) → AnswersFit t kind c choices → out ≡ written_of t kind c json choices → HasEnded t kind c choices → Spells t kind c json choices out)
     → IsRunAnswer t kind c json text out status → PrintsEachRun t kind c json text out
-run-means t kind c json text _ _ decided law spells (refused fault h) = λ choices spelled. absurd (decided.never_both choices fault spelled h)
-run-means t kind c json text _ _ decided law spells (ran made spelled fit) = λ choices read.
+run-means t kind c json text _ _ decided law all spells (refused fault h) = λ choices spelled. absurd (decided.never_both choices fault spelled h)
+run-means t kind c json text _ _ decided law all spells (ran made spelled fit) = λ choices read.
     subst (λ cs. HasEnded t kind c cs → PrintsExecution t kind c json cs (written_of t kind c json made)) (decided.one_list made choices spelled read)
-    (prints-one t kind c json made (written_of t kind c json made) refl (law made fit) (spells made (written_of t kind c json made) fit refl))
+    (prints-one t kind c json made (written_of t kind c json made) refl (law made fit) (λ none. all made none fit) (spells made (written_of t kind c json made) fit refl))
 
 -- what is known of runs and reports
 pub record Runs : Type 0 where
@@ -82,6 +84,8 @@ pub record Runs : Type 0 where
       → (run_by c.bus table c t choices).ended ≡ true → IsExecution t (run_by c.bus table c t choices)
   pub words : (table : Table) (c : Configuration) (t : Litmus) (choices : List Choice) → IsTest t → AnswersFitBy table c t choices
       → (run_by c.bus table c t choices).ended ≡ true → HoldsWords (run_by c.bus table c t choices).commits (run_by c.bus table c t choices).state
+  pub unbuffered : (table : Table) (c : Configuration) (t : Litmus) (choices : List Choice) → c.depth ≡ 0 → IsTest t → AnswersFitBy table c t choices
+      → (run_by c.bus table c t choices).ended ≡ true → KeepsAllOrder (run_by c.bus table c t choices).commits
   pub atomic : (table : Table) (c : Configuration) (t : Litmus) (choices : List Choice) → c.bus ≡ Atomic → AnswersFitBy table c t choices
   pub fits : (t : Litmus) (order : List Entry) (e : Entry) → IsTest t → IsWhole t order → StandsIn order e → FitsTest t e
   pub report_spells : (t : Litmus) (kind : ProtocolKind) (c : Configuration) (s : Shown) → IsTest t → c.depth < 2 ^ 64 → IsShape c.shape → IsOrderFor t s.order → SpellsOrder t (report t kind c s) s.order
@@ -90,17 +94,18 @@ pub report-spells : (t : Litmus) (kind : ProtocolKind) (c : Configuration) (json
     → AnswersFit t kind c choices → out ≡ written_of t kind c json choices → HasEnded t kind c choices → Spells t kind c json choices out
 report-spells t kind c true choices out laws test within fit is ended plain = absurd (let no : ⊥ = cc in no)
 report-spells t kind c false choices out laws test within fit is ended plain =
-    let depth : c.depth < 2 ^ 64 = let d = within.1 in omega arith in
-    run-spells t kind c (run_under t kind c choices) (shown_of t (counts_under t kind c choices) (run_under t kind c choices)) out test depth within.2 laws.report_spells laws.fits
+    let depth : c.depth < 2 ^ 64 = let d = within.0 in omega arith in
+    run-spells t kind c (run_under t kind c choices) (shown_of t (counts_under t kind c choices) (run_under t kind c choices)) out test depth within.1 laws.report_spells laws.fits
     (laws.executions (table_of kind) c t choices test fit ended) refl (rw ended at is) (laws.words (table_of kind) c t choices test fit ended).values
 
 answer-means : (task : Task) (t : Litmus) (text out : List ℕ) (status : Status) → Texts → Runs → Reaching → IsTaskWithinLimits task → IsTest t → length text < 2 ^ 64
     → IsAnswerTo task t text out status → HeadlineOf task t text out
 answer-means (tasks.Run kind c json) t text out status texts runs reaching within test short is =
     run-means t kind c json text out status (texts.decided (length t.programs) text test.some_core) (λ choices. runs.executions (table_of kind) c t choices test)
+    (λ choices none. runs.unbuffered (table_of kind) c t choices none test)
     (λ choices out. report-spells t kind c json choices out runs test within) is
 answer-means (tasks.Sweep kind c plan) t text out status texts runs reaching within test short is =
-    sweep-means t kind c plan out status (λ choices. runs.executions (table_of kind) c t choices test) (runs.atomic (table_of kind) c t) is
+    sweep-means t kind c plan out status (λ choices. runs.executions (table_of kind) c t choices test) (λ choices none. runs.unbuffered (table_of kind) c t choices none test) (runs.atomic (table_of kind) c t) is
 answer-means tasks.Check t text out status texts runs reaching within test short is =
     check-means t text out status texts.real texts.one texts.once texts.never_both test short is
 answer-means (tasks.Witness depth) t text out status texts runs reaching within test short is =

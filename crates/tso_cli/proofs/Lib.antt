@@ -7,6 +7,7 @@ pub mod StateLemmas
 pub mod SweepLemmas
 pub mod AnswerLemmas
 pub mod PartLemmas
+mod Lines
 pub mod OneAnswer
 pub mod WitnessLemmas
 pub mod HeadlineLemmas

@@ -63,7 +63,7 @@ made_few core (p ∷ ps) registers order h =
     let further = made_few (core + 1) ps registers order (All-tail (λ (p : List Instr). length p ≤ 32) p ps h) in
     omega (arith, length-append (made_by core p (slice_index_or registers core []) order) (made_from (core + 1) ps registers order))
 
-order_few : (t : Litmus) (order : List Entry) → IsTest t → IsTsoExecution t order → length order ≤ 256
+order_few : (t : Litmus) (order : List Entry) → IsTest t → IsTsoExecution t order → length order ≤ 512
 order_few t order test execution =
     let sizes : All (λ p. length p ≤ 32) t.programs = All-weaker (IsProgram (length t.locations)) (λ (p : List Instr). length p ≤ 32) (λ p fits. fits.size) t.programs test.programs_fit in
     let cores = test.cores in

@@ -1,7 +1,7 @@
 -- What `witness` prints, and what `run` answers to it.
 use Rattle.std.proofs.Common.{◌≡◌, ◌*◌, ◌≤◌, ◌<◌, ℕ, Bool, true, List, [], ◌∷◌, ◌++◌, length, codes, length-append, refl, sym, ap, subst, ◌∙◌, arith}
 use Rattle.std.specs.Fmt.{decimal}
-use Rattle.std.proofs.lemmas.Fmt.{length-decimal-le_succ}
+use Rattle.std.proofs.lemmas.Fmt.{length-decimal-le}
 use Rattle.tso_model.specs.Litmus.{Litmus, IsTest}
 use Rattle.tso_model.specs.Execution.{IsTsoExecution}
 use Rattle.tso_model.specs.FlatMachine.{chosen}
@@ -34,31 +34,31 @@ use Rattle.tso_cli.proofs.WitnessLemmas.{Reaching, choices-few, line-spells}
 
 -- ---- the line of choices is short
 
-choice-short : (c : Choice) → chosen c < 4 → length (printed_choice c) ≤ 5
-choice-short (Step core) small = let digits = length-decimal-le_succ core.0 (omega arith) in omega (arith, length-append (decimal core.0) (codes "s"))
-choice-short (Drain core) small = let digits = length-decimal-le_succ core.0 (omega arith) in omega (arith, length-append (decimal core.0) (codes "d"))
+choice-short : (c : Choice) → chosen c < 8 → length (printed_choice c) ≤ 5
+choice-short (Step core) small = let digits = length-decimal-le 1 core.0 (omega arith) (omega arith) (omega arith) in omega (arith, length-append (decimal core.0) (codes "s"))
+choice-short (Drain core) small = let digits = length-decimal-le 1 core.0 (omega arith) (omega arith) (omega arith) in omega (arith, length-append (decimal core.0) (codes "d"))
 
-behind-short : (cores : ℕ) (cs : List Choice) → cores ≤ 4 → CoresExist cores cs → length (printed_behind cs) ≤ 6 * length cs
+behind-short : (cores : ℕ) (cs : List Choice) → cores ≤ 8 → CoresExist cores cs → length (printed_behind cs) ≤ 6 * length cs
 behind-short cores [] few there = omega arith
 behind-short cores (c ∷ cs) few there =
-    let below : chosen c < 4 = let b = there.0 in omega (arith, b, few) in
+    let below : chosen c < 8 = let b = there.0 in omega (arith, b, few) in
     let first = choice-short c below in
     let others = behind-short cores cs few there.1 in
     omega (arith, length-append (printed_choice c) (printed_behind cs))
 
-choices-short : (cores : ℕ) (cs : List Choice) → cores ≤ 4 → CoresExist cores cs → length (printed_choices cs) ≤ 6 * length cs
+choices-short : (cores : ℕ) (cs : List Choice) → cores ≤ 8 → CoresExist cores cs → length (printed_choices cs) ≤ 6 * length cs
 choices-short cores [] few there = omega arith
 choices-short cores (c ∷ cs) few there =
-    let below : chosen c < 4 = let b = there.0 in omega (arith, b, few) in
+    let below : chosen c < 8 = let b = there.0 in omega (arith, b, few) in
     let first = choice-short c below in
     let others = behind-short cores cs few there.1 in
     omega (arith, length-append (printed_choice c) (printed_behind cs))
 
-line-short : (t : Litmus) (depth : ℕ) (choices : List Choice) (order : List Entry) → Reaching → IsTest t → 0 < depth → LeadTo t depth choices order
-    → length (choices_line choices) ≤ 2000
-line-short t depth choices order laws test some lead =
+line-short : (t : Litmus) (depth : ℕ) (choices : List Choice) (order : List Entry) → Reaching → IsTest t → LeadTo t depth choices order
+    → length (choices_line choices) ≤ 4000
+line-short t depth choices order laws test lead =
     let cores = test.cores in
-    let few = choices-few t depth choices order laws test some lead in
+    let few = choices-few t depth choices order laws test lead in
     let short = choices-short (length t.programs) choices (omega arith) lead.cores in
     omega (arith, length-append (printed_choices choices) (10 ∷ []))
 
@@ -108,7 +108,7 @@ replays kind c json t order out _ _ laws test spells atomic ended (ran choices r
     rw (flat, same, ended) (refl, refl)
 
 replayed-joined : (kind : ProtocolKind) (c : Configuration) (json : Bool) (test out input answer : List ℕ) (status : Status) (t : Litmus) (order : List Entry) → Texts
-    → input ≡ joined test out → parts_of (joined test out) ≡ record { test = test; rest = out } → length out ≤ 2000 → SpellsTest test t
+    → input ≡ joined test out → parts_of (joined test out) ≡ record { test = test; rest = out } → length out ≤ 4000 → SpellsTest test t
     → SpellsChoices (length t.programs) out (choices_along t order) → c.bus ≡ Atomic → (run t c.depth (choices_along t order)).ended ≡ true
     → IsInputAnswer (tasks.Run kind c json) input answer status → Replays kind c json t order answer status
 replayed-joined kind c json test out input _ _ t order laws same parted short spelled spells atomic ended (too_large large) =
@@ -131,12 +131,11 @@ pub replayed : (kind : ProtocolKind) (c : Configuration) (json : Bool) (input ou
 replayed kind c json input out answer status texts reaching atomic within parted is answered_so =
     let f = found c.depth input out Good refl is in
     let test = texts.test (parts_of input).test f.t f.test_spelled in
-    let some : 0 < c.depth = let least = within.0 in omega arith in
     let choices : List Choice = choices_along f.t f.order in
     let lead = reaching.lead f.t c.depth f.order test f.execution f.enough in
     let spells : SpellsChoices (length f.t.programs) out choices =
-    subst (λ text. SpellsChoices (length f.t.programs) text choices) (sym f.is) (line-spells f.t c.depth choices f.order reaching test some lead) in
-    let short : length out ≤ 2000 = subst (λ (text : List ℕ). length text ≤ 2000) (sym f.is) (line-short f.t c.depth choices f.order reaching test some lead) in
+    subst (λ text. SpellsChoices (length f.t.programs) text choices) (sym f.is) (line-spells f.t c.depth choices f.order reaching test lead) in
+    let short : length out ≤ 4000 = subst (λ (text : List ℕ). length text ≤ 4000) (sym f.is) (line-short f.t c.depth choices f.order reaching test lead) in
     let answers = replayed-joined kind c json (parts_of input).test out (joined (parts_of input).test out) answer status f.t f.order texts refl parted short f.test_spelled spells atomic lead.ended answered_so in (
       record {
         t = f.t;

@@ -1,8 +1,8 @@
 -- From a machine that was driven to the answer of a simulation.
-use Rattle.std.proofs.Common.{◌≡◌, ◌<◌, ◌-◌, ◌+◌, ◌*◌, ℕ, zero, suc, Bool, true, false, List, [], ◌∷◌, length, All, slice_get, slice_index_or, Option, Some, None, is_some, Result, Ok, Err, IfOk, arith, ap, sym, ◌∙◌, refl, subst}
+use Rattle.std.proofs.Common.{◌≡◌, ◌<◌, ◌-◌, ◌+◌, ◌*◌, ℕ, zero, suc, Bool, true, false, List, [], ◌∷◌, length, All, slice_get, slice_index_or, Option, Some, None, is_some, Result, Ok, Err, IfOk, OnOk, arith, ap, sym, ◌∙◌, refl, subst}
 use Rattle.std.specs.Option.{option_map}
 use Rattle.tso_model.specs.Litmus.{Litmus}
-use Rattle.tso_model.specs.Execution.{StandsIn}
+use Rattle.tso_model.specs.Execution.{StandsIn, KeepsAllOrder}
 use Rattle.tso_model.specs.Condition.{Condition, truth_of}
 use Rattle.tso_model.specs.FlatMachine.{State}
 use Rattle.tso_model.specs.Runs as flat
@@ -17,6 +17,7 @@ use Rattle.tso_model.specs.declared.execution.Entry.{Entry}
 use Rattle.tso_model.specs.declared.execution.Kind.{Kind}
 use Rattle.tso_model.specs.declared.execution.Kind.TheVariants.{R, W, F, LR, LW}
 use Rattle.tso_laws.specs.Counting.{instructions, stores}
+use Rattle.tso_laws.specs.EndedRuns.{End}
 use Rattle.tso_laws.specs.Entries.{FitsTest}
 use Rattle.tso_laws.specs.Rounds.{CanBeCutIntoRounds}
 use Rattle.split_laws.specs.BusRuns.{EndOn, StopsAtTheEndOn}
@@ -30,7 +31,7 @@ use Rattle.tso_report.specs.Shown.{Shown}
 use Rattle.tso_cli.specs.Runs.{run_by, AnswersFitBy}
 use Rattle.tso_cli.specs.declared.simulation.Ending.{Ending}
 use Rattle.tso_cli.specs.declared.simulation.Ending.TheVariants.{Ended, Unfinished}
-use Rattle.tso_cli.specs.Simulation.{Drives, shown_of, verdict, registers_in, IsEndingOf, IsCounted, HasEnded}
+use Rattle.tso_cli.specs.Simulation.{Drives, shown_of, verdict, registers_in, IsEndingOf, IsCounted, HasAllOrder, HasEnded, drains}
 use Rattle.tso_cli.proofs.BusLemmas.{AtomicRuns, attempts_in, bus_run, choices-in, length-in, run-is, atomic-run}
 
 -- what the laws of either bus say of runs
@@ -148,16 +149,34 @@ is_some-verdict t registers memory = is_some-option_map (λ c. truth_of register
 
 -- ---- of all runs
 
+-- by the depth
+pub choices-counted : (t : Litmus) (depth : ℕ) (choices : List Choice)
+    → ((t : Litmus) (depth : ℕ) (choices : List Choice) → 0 < depth → End t depth choices → (flat.run t depth choices).used ≡ (flat.run t depth choices).stalled + (instructions t.programs + stores t.programs))
+    → ((t : Litmus) (choices : List Choice) → End t 0 choices → (flat.run t 0 choices).used ≡ (flat.run t 0 choices).stalled + instructions t.programs)
+    → End t depth choices → (flat.run t depth choices).used ≡ (flat.run t depth choices).stalled + (instructions t.programs + drains t depth)
+choices-counted t zero choices buffered unbuffered over = let count = unbuffered t choices over in omega arith
+choices-counted t (suc n) choices buffered unbuffered over = buffered t (suc n) choices (omega arith) over
+
 pub counted : {E : Type 0} (table : Table) (c : Configuration) (t : Litmus) (choices : List Choice) (r : Result Ending E) → c.bus ≡ Atomic
-    → ((flat.run t c.depth choices).ended ≡ true → (flat.run t c.depth choices).used ≡ (flat.run t c.depth choices).stalled + (instructions t.programs + stores t.programs))
-    → IfOk r (IsEndingOf t (run_by c.bus table c t choices)) → IfOk r (IsCounted t)
+    → ((flat.run t c.depth choices).ended ≡ true → (flat.run t c.depth choices).used ≡ (flat.run t c.depth choices).stalled + (instructions t.programs + drains t c.depth))
+    → IfOk r (IsEndingOf t (run_by c.bus table c t choices)) → IfOk r (IsCounted t c.depth)
 counted table c t choices r atomic law is = by_result r (subst (λ (x : Run). IfOk r (IsEndingOf t x)) (atomic-run table c t choices atomic) is)
   where
-    by_result : {E : Type 0} (r : Result Ending E) → IfOk r (IsEndingOf t (flat.run t c.depth choices)) → IfOk r (IsCounted t)
+    by_result : {E : Type 0} (r : Result Ending E) → IfOk r (IsEndingOf t (flat.run t c.depth choices)) → IfOk r (IsCounted t c.depth)
     by_result (Ok (Ended run)) is =
         let used = ap (λ s. s.used) is.1 in let stalled = ap (λ s. s.stalled) is.1 in let count = law is.0 in omega arith
     by_result (Ok (Unfinished used stalled)) is = tt
     by_result (Err e) is = tt
+
+pub on-ok : {E : Type 0} {A B : Type 0} (r : Result Ending E) → (A → B) → OnOk r A → OnOk r B
+on-ok (Ok ending) f a = f a
+on-ok (Err e) f a = tt
+
+-- without buffers the order of an ended run keeps program order without exception
+pub all-order : {E : Type 0} (t : Litmus) (x : Run) (r : Result Ending E) → (OnOk r (x.ended ≡ true → KeepsAllOrder x.commits)) → IfOk r (IsEndingOf t x) → IfOk r HasAllOrder
+all-order t x (Ok (Ended run)) law is = subst KeepsAllOrder (ap (λ (s : Shown). s.order) (sym is.1)) (law is.0)
+all-order t x (Ok (Unfinished used stalled)) law is = tt
+all-order t x (Err e) law is = tt
 
 ended-by : {E : Type 0} (t : Litmus) (x : Run) (r : Result Ending E) → x.ended ≡ true → IfOk r (IsEndingOf t x) → IfOk r HasEnded
 ended-by t x (Ok (Ended run)) over is = tt

@@ -5,7 +5,7 @@ use Rattle.std.specs.Prelude.{bytes_eq, sum}
 use Rattle.std.specs.Option.{option_map}
 use Rattle.std.specs.Map.{values_of}
 use Rattle.tso_model.specs.Litmus.{Litmus}
-use Rattle.tso_model.specs.Execution.{IsTsoExecution}
+use Rattle.tso_model.specs.Execution.{IsTsoExecution, KeepsAllOrder}
 use Rattle.tso_model.specs.Condition.{Condition, truth_of}
 use Rattle.tso_model.specs.FinalState.{final_words, final_registers}
 use Rattle.tso_model.specs.Runs.{Run}
@@ -241,6 +241,14 @@ execution-is t r law = by_end r.ended refl
     by_end true e = (law e).order
     by_end false e = tt
 
+-- and whose order keeps program order without exception if it ended
+all-order-is : (r : Run) → (r.ended ≡ true → KeepsAllOrder r.commits) → IfSome (order_in r) KeepsAllOrder
+all-order-is r law = by_end r.ended refl
+  where
+    by_end : (b : Bool) → r.ended ≡ b → IfSome (cond b (Some r.commits) None) KeepsAllOrder
+    by_end true e = law e
+    by_end false e = tt
+
 -- the answers fit for one more seed
 pub fit-more : (t : Litmus) (kind : ProtocolKind) (c : Configuration) (count from seeds length seed : ℕ) → AnswersFitFrom t kind c count from seeds
     → length ≡ count → seed ≡ from + seeds → AnswersFit t kind c (choices_of t length seed) → AnswersFitFrom t kind c count from (seeds + 1)
@@ -261,9 +269,10 @@ where-there-is (Some k) P f = f k refl
 
 pub sweep-means : (t : Litmus) (kind : ProtocolKind) (c : Configuration) (plan : Plan) (out : List ℕ) (status : Status)
     → ((choices : List Choice) → AnswersFit t kind c choices → (run_under t kind c choices).ended ≡ true → IsExecution t (run_under t kind c choices))
+    → ((choices : List Choice) → c.depth ≡ 0 → AnswersFit t kind c choices → (run_under t kind c choices).ended ≡ true → KeepsAllOrder (run_under t kind c choices).commits)
     → ((choices : List Choice) → c.bus ≡ Atomic → AnswersFit t kind c choices)
     → IsSweepAnswer t kind c plan out status → PrintsSweep t kind c plan out
-sweep-means t kind c plan out status executions fit is =
+sweep-means t kind c plan out status executions all fit is =
     let count = plan.length in
     let from = plan.from in
     let seeds = plan.seeds in
@@ -274,6 +283,7 @@ sweep-means t kind c plan out status executions fit is =
       runs = runs-are t kind c count from seeds;
       executions = λ n l. execution-is t (seeded_run t kind c count (from + n)) (law n l);
       every_seed = λ atomic seed. execution-is t (seeded_run t kind c count seed) (executions (choices_of t count seed) (fit (choices_of t count seed) atomic));
+      unbuffered = λ none n l. all-order-is (seeded_run t kind c count (from + n)) (all (choices_of t count (from + n)) none (is.answers n l));
       states = each-counted (sweep_counts t kind c plan).states _ (ascend t kind c count from seeds) (given t kind c count from seeds) (λ v. found t kind c count from v seeds law);
       held = where-there-is t.condition _ (λ k there. held-are t kind c count from k there seeds law);
       failed = where-there-is t.condition _ (λ k there. failed-are t kind c count from k there seeds law);

@@ -1,5 +1,5 @@
 -- What `witness` answers, and what that means.
-use Rattle.std.proofs.Common.{◌≡◌, ◌≢◌, ◌+◌, ◌*◌, ◌≤◌, ◌<◌, ◌^◌, ℕ, true, false, IsTrue, List, [], ◌∷◌, ◌++◌, length, All, refl, sym, ap, subst, ◌∙◌, arith}
+use Rattle.std.proofs.Common.{◌≡◌, ◌≢◌, ◌+◌, ◌*◌, ◌≤◌, ◌<◌, ◌^◌, ℕ, zero, suc, true, false, IsTrue, List, [], ◌∷◌, ◌++◌, length, All, refl, sym, ap, subst, ◌∙◌, arith}
 use Rattle.std.specs.List.{list_all}
 use Rattle.std.proofs.lemmas.List.Elements.{All-head, All-tail, All-weaker}
 use Rattle.tso_model.specs.Limits.{most_depth}
@@ -20,7 +20,7 @@ use Rattle.scheduler.specs.Printed.{printed_choices}
 use Rattle.scheduler.specs.Words.{is_space}
 use Rattle.tso_cli.specs.Headline.{WitnessesOrder, WitnessesEachOrder, reached, unreached, broken}
 use Rattle.tso_cli.specs.Limits.{IsDepth}
-use Rattle.tso_cli.specs.Simulation.{IsEndingOf}
+use Rattle.tso_cli.specs.Simulation.{IsEndingOf, drains}
 use Rattle.tso_cli.specs.Witness.{choices_line, IsWitness, IsWitnessAnswer, HasEndedWith, reached, too_small, invalid, refused, judged}
 use Rattle.tso_cli.specs.declared.simulation.Ending.{Ending}
 use Rattle.tso_cli.specs.declared.simulation.Ending.TheVariants.{Ended, Unfinished}
@@ -33,8 +33,8 @@ use Rattle.tso_cli.proofs.OneAnswer.{Texts}
 pub record Reaching : Type 0 where
   pub lead : (t : Litmus) (depth : ℕ) (order : List Entry) → IsTest t → IsTsoExecution t order → needed order ≤ depth → LeadTo t depth (choices_along t order) order
   pub never : (t : Litmus) (depth : ℕ) (order : List Entry) (choices : List Choice) → IsTest t → 0 < depth → depth < needed order → (run t depth choices).commits ≢ order
-  pub counted : (t : Litmus) (depth : ℕ) (choices : List Choice) → 0 < depth → End t depth choices
-      → (run t depth choices).used ≡ (run t depth choices).stalled + (instructions t.programs + stores t.programs)
+  pub counted : (t : Litmus) (depth : ℕ) (choices : List Choice) → End t depth choices
+      → (run t depth choices).used ≡ (run t depth choices).stalled + (instructions t.programs + drains t depth)
   pub spelled : (cores : ℕ) (choices : List Choice) (white : List ℕ) → cores < 2 ^ 64 → CoresExist cores choices → length choices ≤ most_choices
       → IsTrue (list_all is_space white) → SpellsChoices cores (printed_choices choices ++ white) choices
 
@@ -62,24 +62,29 @@ work-few (p ∷ ps) small =
     let others = work-few ps (All-tail (λ (p : List Instr). length p ≤ 32) p ps small) in
     omega arith
 
-pub choices-few : (t : Litmus) (depth : ℕ) (choices : List Choice) (order : List Entry) → Reaching → IsTest t → 0 < depth → LeadTo t depth choices order → length choices ≤ 256
-choices-few t depth choices order laws test some lead =
+drains-few : (t : Litmus) (depth : ℕ) → drains t depth ≤ stores t.programs
+drains-few t zero = omega arith
+drains-few t (suc n) = omega arith
+
+pub choices-few : (t : Litmus) (depth : ℕ) (choices : List Choice) (order : List Entry) → Reaching → IsTest t → LeadTo t depth choices order → length choices ≤ 512
+choices-few t depth choices order laws test lead =
     let sizes : All (λ p. length p ≤ 32) t.programs = All-weaker (IsProgram (length t.locations)) (λ (p : List Instr). length p ≤ 32) (λ p fits. fits.size) t.programs test.programs_fit in
     let cores = test.cores in
     let work = work-few t.programs sizes in
-    let count = laws.counted t depth choices some lead.ended in
+    let count = laws.counted t depth choices lead.ended in
+    let drained = drains-few t depth in
     let used = lead.used in
     let stalled = lead.stalled in
     omega arith
 
 -- ---- the line of the choices spells them
 
-pub line-spells : (t : Litmus) (depth : ℕ) (choices : List Choice) (order : List Entry) → Reaching → IsTest t → 0 < depth → LeadTo t depth choices order
+pub line-spells : (t : Litmus) (depth : ℕ) (choices : List Choice) (order : List Entry) → Reaching → IsTest t → LeadTo t depth choices order
     → SpellsChoices (length t.programs) (choices_line choices) choices
 unfolding is_space
-line-spells t depth choices order laws test some lead =
+line-spells t depth choices order laws test lead =
     let cores = test.cores in
-    let few = choices-few t depth choices order laws test some lead in
+    let few = choices-few t depth choices order laws test lead in
     laws.spelled (length t.programs) choices (10 ∷ []) (omega arith) lead.cores (omega arith) refl
 
 -- ---- what the answer means
@@ -88,7 +93,7 @@ order-means : (t : Litmus) (depth : ℕ) (order : List Entry) (out : List ℕ) (
     → IsWitness t depth order out status → WitnessesOrder t depth order out
 order-means t depth order _ _ laws test within (reached is enough) =
     let lead = laws.lead t depth order test is enough in
-    reached (choices_along t order) is (line-spells t depth (choices_along t order) order laws test (let least = within.0 in omega arith) lead) lead
+    reached (choices_along t order) is (line-spells t depth (choices_along t order) order laws test lead) lead
 order-means t depth order _ _ laws test within (too_small is less) =
     unreached is (λ choices. laws.never t depth order choices test (let least = within.0 in omega arith) less) refl
 order-means t depth order _ _ laws test within (invalid b first) = broken b first refl

@@ -2,7 +2,7 @@
 -- (Primer, chapter 4, for the axioms; x86-TSO, section 3, for fences and locked instructions.)
 use Rattle.std.specs.Prelude.{ℕ, zero, suc, ◌+◌, ◌<◌, ◌≤◌, ◌≡◌, ◌≢◌, ◌↔◌, Bool, true, false, not, if◌then◌else◌, List, length, bytes_eq, All, Option, Some, None, IfSome, is_none}
 use Rattle.tso_model.specs.Litmus.{Litmus}
-use Rattle.tso_model.specs.Execution.{IsWhole, KeepsProgramOrder, KeepsPairs, HasReadValues, IsTsoExecution}
+use Rattle.tso_model.specs.Execution.{IsWhole, KeepsProgramOrder, KeepsAllOrder, KeepsPairs, HasReadValues, IsTsoExecution}
 use Rattle.tso_model.specs.FinalState.{final_words, final_registers}
 use Rattle.tso_model.specs.Condition.{Claim, truth_of}
 use Rattle.tso_model.specs.Runs.{run}
@@ -40,15 +40,17 @@ use Rattle.tso_cli.specs.declared.settings.Settings.{Settings}
 use Rattle.tso_cli.specs.declared.settings.Settings.TheVariants as settings
 
 -- what was printed is the report of a run of the test, plain or as JSON: its order holds each memory action of the
--- programs exactly once and meets every TSO axiom; its registers and memory are what the programs and that order give,
--- and its verdict is the condition's truth in them; its order is what the machine committed under these very choices (on
--- the split bus with each locked instruction's load part put directly before its store part); and a plain report can be
--- read again, as the text of that order
+-- programs exactly once and meets every TSO axiom, and at depth 0, where no core has a store buffer, it keeps program
+-- order without exception; its registers and memory are what the programs and that order give, and its verdict is the
+-- condition's truth in them; its order is what the machine committed under these very choices (on the split bus with each
+-- locked instruction's load part put directly before its store part); and a plain report can be read again, as the text of
+-- that order
 pub record PrintsExecution (t : Litmus) (kind : ProtocolKind) (c : Configuration) (json : Bool) (choices : List Choice) (out : List ℕ) : Type 0 where
   pub shown : Shown
   pub printed : out ≡ report_in json t kind c shown
   pub exactly_once : IsWhole t shown.order
   pub program_order : KeepsProgramOrder shown.order
+  pub unbuffered : c.depth ≡ 0 → KeepsAllOrder shown.order
   pub adjacent : KeepsPairs shown.order
   pub read_values : HasReadValues t shown.order
   pub registers : shown.registers ≡ final_registers t shown.order
@@ -93,14 +95,16 @@ seeds_with t kind c plan test = seeds_from (λ seed. test (seeded_order t kind c
 
 -- what was printed is what these lines say of the plan's runs, one for each seed: where a run ended, its order is a TSO
 -- execution of the test, that the machine committed under the choices of the seed (on the atomic bus this is so of every
--- seed, in the plan or not); each state that is printed is the final state of as many of them as its line says; and the
--- condition's proposition is true, and false, in the final states of as many as the last line says
+-- seed, in the plan or not), and at depth 0 it keeps program order without exception; each state that is printed is the
+-- final state of as many of them as its line says; and the condition's proposition is true, and false, in the final states
+-- of as many as the last line says
 pub record PrintsSweep (t : Litmus) (kind : ProtocolKind) (c : Configuration) (plan : Plan) (out : List ℕ) : Type 0 where
   pub counts : RunCounts
   pub printed : out ≡ sweep_lines t kind c plan counts
   pub runs : runs_in counts ≡ plan.seeds
   pub executions : (n : ℕ) → n < plan.seeds → IfSome (seeded_order t kind c plan (plan.from + n)) (IsTsoExecution t)
   pub every_seed : c.bus ≡ Atomic → (seed : ℕ) → IfSome (seeded_order t kind c plan seed) (IsTsoExecution t)
+  pub unbuffered : c.depth ≡ 0 → (n : ℕ) → n < plan.seeds → IfSome (seeded_order t kind c plan (plan.from + n)) KeepsAllOrder
   pub states : All (λ state. (0 < state.1) × (state.1 ≡ seeds_with t kind c plan (has_values t state.0))) counts.states
   pub held : IfSome t.condition (λ condition. counts.held ≡ seeds_with t kind c plan (has_truth t condition.claim true))
   pub failed : IfSome t.condition (λ condition. counts.failed ≡ seeds_with t kind c plan (has_truth t condition.claim false))

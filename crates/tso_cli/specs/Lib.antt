@@ -11,3 +11,4 @@ pub mod CheckLines
 pub mod Witness
 pub mod Answers
 pub mod Headline
+pub mod Hints

@@ -1,8 +1,9 @@
 -- What a simulation answers: the machine's run, as a report shows it. (This project's profile.)
-use Rattle.std.specs.Prelude.{ℕ, ◌+◌, ◌≡◌, Bool, true, false, List, ◌++◌, map, Option}
+use Rattle.std.specs.Prelude.{ℕ, zero, suc, ◌+◌, ◌≡◌, Bool, true, false, List, ◌++◌, map, Option}
 use Rattle.std.specs.Option.{option_map}
 use Rattle.tso_model.specs.Litmus.{Litmus}
 use Rattle.tso_model.specs.Condition.{truth_of}
+use Rattle.tso_model.specs.Execution.{KeepsAllOrder}
 use Rattle.tso_model.specs.FlatMachine.{State}
 use Rattle.tso_model.specs.Runs.{Run}
 use Rattle.tso_model.specs.EitherBus.{BusRun, run_on_from, HitsFit}
@@ -77,10 +78,20 @@ abbrev pub FitsEnding : Litmus → Ending → Type 0
 FitsEnding t (Ended run) = IsOf t (shown run)
 FitsEnding t (Unfinished used stalled) = Unit {0}
 
--- in a run that ended, the choices that didn't stall are as many as all instructions and all plain stores together
-abbrev pub IsCounted : Litmus → Ending → Type 0
-IsCounted t (Ended run) = run.used ≡ run.stalled + (instructions t.programs + stores t.programs)
-IsCounted t (Unfinished used stalled) = Unit {0}
+-- the drains that it takes to end the test: one for each plain store, and none where no core has a buffer
+abbrev pub drains : Litmus → ℕ → ℕ
+drains t zero = 0
+drains t (suc depth) = stores t.programs
+
+-- in a run that ended, the choices that didn't stall are as many as all instructions and all drains together
+abbrev pub IsCounted : Litmus → ℕ → Ending → Type 0
+IsCounted t depth (Ended run) = run.used ≡ run.stalled + (instructions t.programs + drains t depth)
+IsCounted t depth (Unfinished used stalled) = Unit {0}
+
+-- the order of a run that ended keeps program order without exception
+abbrev pub HasAllOrder : Ending → Type 0
+HasAllOrder (Ended run) = KeepsAllOrder run.execution.order.items
+HasAllOrder (Unfinished used stalled) = Unit {0}
 
 abbrev pub HasEnded : Ending → Type 0
 HasEnded (Ended run) = Unit {0}

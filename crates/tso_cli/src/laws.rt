@@ -3,7 +3,7 @@
 ghost use Rattle.std.specs.Prelude.{◌≡◌, ◌<◌, ◌≤◌, ◌^◌, ℕ, Bool, true, false, List, Option, Some, length};
 ghost use Rattle.tso_model.specs.Limits.{most_depth};
 ghost use Rattle.tso_model.specs.Litmus.{Litmus, IsTest};
-ghost use Rattle.tso_model.specs.Execution.{IsTsoExecution};
+ghost use Rattle.tso_model.specs.Execution.{IsTsoExecution, KeepsAllOrder};
 ghost use Rattle.tso_model.specs.Runs.{run};
 ghost use Rattle.tso_model.specs.declared.bus.Bus.TheVariants.{Atomic};
 ghost use Rattle.tso_model.specs.declared.choice.Choice.{Choice};
@@ -34,8 +34,8 @@ use litmus_reader::laws::test_is_spelled_once;
 use order_builder::laws::order_is_spelled_once;
 use scheduler::{printed_choices_are_spelled, texts_are_decided};
 use split_laws::{
-    atomic_runs_are_flat_runs, runs_on_either_bus_are_flat_runs,
-    runs_on_either_bus_stop_where_they_end,
+    atomic_runs_are_flat_runs, no_buffer_no_reordering_on_either_bus,
+    runs_on_either_bus_are_flat_runs, runs_on_either_bus_stop_where_they_end,
 };
 use tso_laws::{
     ended_runs_are_executions, every_execution_is_reached, most_stores_are_depth_enough,
@@ -45,7 +45,8 @@ use tso_laws::{
 use tso_report::laws::{report_spells_its_order, reports_are_short};
 
 /// What an ended run on either bus leaves: its order is a TSO execution of the test, its registers and
-/// memory are the final state of that order, and all values in them are words. On the atomic bus the
+/// memory are the final state of that order, and all values in them are words. At depth 0, where no
+/// core has a store buffer, the order keeps program order without exception. On the atomic bus the
 /// answers of all caches fit.
 pub fn ended_runs_of_machines_are_executions()
     ensures executions { (table : Table) (c : Configuration) (t : Litmus) (choices : List Choice)
@@ -53,12 +54,16 @@ pub fn ended_runs_of_machines_are_executions()
     ensures words { (table : Table) (c : Configuration) (t : Litmus) (choices : List Choice)
         → IsTest t → AnswersFitBy table c t choices → (run_by c.bus table c t choices).ended ≡ true
         → HoldsWords (run_by c.bus table c t choices).commits (run_by c.bus table c t choices).state }
+    ensures unbuffered { (table : Table) (c : Configuration) (t : Litmus) (choices : List Choice)
+        → c.depth ≡ 0 → IsTest t → AnswersFitBy table c t choices → (run_by c.bus table c t choices).ended ≡ true
+        → KeepsAllOrder (run_by c.bus table c t choices).commits }
     ensures atomic { (table : Table) (c : Configuration) (t : Litmus) (choices : List Choice) → c.bus ≡ Atomic → AnswersFitBy table c t choices }
 {
     atomic_runs_are_flat_runs();
     runs_on_either_bus_are_flat_runs();
     runs_on_either_bus_stop_where_they_end();
     ended_runs_are_executions();
+    no_buffer_no_reordering_on_either_bus();
     values_are_words();
 }
 

@@ -1,4 +1,4 @@
-ghost use Rattle.std.specs.Prelude.{◌≡◌};
+ghost use Rattle.std.specs.Prelude.{◌≡◌, ◌<◌, ◌≤◌, length};
 ghost use Rattle.std.specs.Option.{option_map};
 ghost use Rattle.tso_cli.specs.Parts as words;
 
@@ -15,22 +15,34 @@ pub fn parts_of(input: &[u8]) -> Parts<'_>
     ensures test { result.test.now ≡ (words.parts_of input.now).test }
     ensures rest { result.rest.now ≡ (words.parts_of input.now).rest }
 {
-    let mut at_line = true;
-    for at in 0..input.len() {
-        if at_line {
-            if let Some(rest) = behind_divider(&input[at..]) {
-                return Parts {
-                    test: &input[..at],
-                    rest,
-                };
-            }
+    // Where a line begins.
+    let mut at = 0;
+    while at < input.len() {
+        let (test, lines) = input.split_at(at);
+        if let Some(rest) = behind_divider(lines) {
+            return Parts { test, rest };
         }
-        at_line = input[at] == b'\n';
+        at += line_length(lines);
     }
     Parts {
         test: input,
         rest: &[],
     }
+}
+
+/// How many bytes the first line of a text has, its line feed included.
+#[tactic(auto, using(crate::proofs::Lines::line_more, crate::proofs::Lines::line_ends, crate::proofs::Lines::line_past, crate::proofs::Lines::line_within, crate::proofs::Lines::line_some))]
+fn line_length(text: &[u8]) -> usize
+    ensures exact { result ≡ words.line_length text.now }
+    ensures within { result ≤ length text.now }
+    ensures some { 0 < length text.now → 0 < result }
+{
+    for at in 0..text.len() {
+        if text[at] == b'\n' {
+            return at + 1;
+        }
+    }
+    text.len()
 }
 
 fn behind_divider(text: &[u8]) -> Option<&[u8]>

@@ -1,6 +1,7 @@
 ghost use Rattle.std.specs.Prelude.{IfOk, IfSome};
 ghost use Rattle.tso_cli.specs.Limits.{IsWithinLimits, HasDepth};
 
+use crate::help;
 use crate::plan::SweepPlan;
 use clap::builder::ValueParser;
 use clap::{Arg, ArgAction, ArgMatches, Command};
@@ -38,10 +39,17 @@ pub enum Settings {
 }
 
 /// The protocols as a command line names them.
-static PROTOCOLS: [&str; 3] = ["msi", "mesi", "moesi"];
+static PROTOCOLS: [&str; 4] = ["msi", "mesi", "moesi", "mosi"];
 
 /// The kinds of bus as a command line names them.
 static BUSES: [&str; 2] = ["atomic", "split"];
+
+/// What the depth of a machine that is run is.
+static MACHINE_DEPTH: &str =
+    "How many stores each core's buffer holds, 0 to 32; 0 is a machine without buffers";
+
+/// What the depth that a witness may have is.
+static WITNESS_DEPTH: &str = "How many stores each core's buffer holds, 1 to 32";
 
 /// Why a command line is refused.
 #[derive(Debug, Drop, Error)]
@@ -72,7 +80,9 @@ pub fn settings_of(alloc: Global, words: &[&str]) -> Result<Settings, LineFault>
 
 fn command_line<'a>(alloc: Global) -> Result<Command<'a>, AllocError> {
     Command::new(alloc, "tso")
-        .about("Runs x86 litmus tests on a simulated multiprocessor under total store order")
+        .version("1.0")
+        .about("Runs x86 litmus tests on a simulated multiprocessor under total store order (TSO)")
+        .after_help(help::TSO)
         .subcommand_required(true)
         .subcommand(run_line(alloc)?)?
         .subcommand(sweep_line(alloc)?)?
@@ -82,12 +92,16 @@ fn command_line<'a>(alloc: Global) -> Result<Command<'a>, AllocError> {
 }
 
 fn run_line<'a>(alloc: Global) -> Result<Command<'a>, AllocError> {
-    let line = Command::new(alloc, "run").about("Runs a test under a list of choices");
+    let line = Command::new(alloc, "run")
+        .about("Runs a test under a list of choices, and reports the order that memory saw")
+        .after_help(help::RUN);
     machine_options(alloc, line)?.arg(json_option(alloc))
 }
 
 fn sweep_line<'a>(alloc: Global) -> Result<Command<'a>, AllocError> {
-    let line = Command::new(alloc, "sweep").about("Runs a test under the choices of many seeds");
+    let line = Command::new(alloc, "sweep")
+        .about("Runs a test under the choices of many seeds, and counts its final states")
+        .after_help(help::SWEEP);
     machine_options(alloc, line)?
         .arg(from_option(alloc))?
         .arg(seeds_option(alloc))?
@@ -96,8 +110,8 @@ fn sweep_line<'a>(alloc: Global) -> Result<Command<'a>, AllocError> {
 
 /// The options that a machine is built by.
 fn machine_options<'a>(alloc: Global, line: Command<'a>) -> Result<Command<'a>, AllocError> {
-    line.arg(protocol_option(alloc))?
-        .arg(depth_option(alloc))?
+    line.arg(protocol_option(alloc, "Coherence protocol of the caches"))?
+        .arg(depth_option(alloc, 0, MACHINE_DEPTH))?
         .arg(sets_option(alloc))?
         .arg(ways_option(alloc))?
         .arg(words_option(alloc))?
@@ -105,33 +119,39 @@ fn machine_options<'a>(alloc: Global, line: Command<'a>) -> Result<Command<'a>, 
 }
 
 fn check_line<'a>(alloc: Global) -> Command<'a> {
-    Command::new(alloc, "check").about("Checks an order of a test against the axioms")
+    Command::new(alloc, "check")
+        .about("Judges an order of a test by the axioms of TSO")
+        .after_help(help::CHECK)
 }
 
 fn witness_line<'a>(alloc: Global) -> Result<Command<'a>, AllocError> {
     Command::new(alloc, "witness")
-        .about("Finds the choices that reach an order of a test")
-        .arg(depth_option(alloc))
+        .about("Finds choices that reach an order of a test")
+        .after_help(help::WITNESS)
+        .arg(depth_option(alloc, 1, WITNESS_DEPTH))
 }
 
 fn tables_line<'a>(alloc: Global) -> Result<Command<'a>, AllocError> {
     Command::new(alloc, "tables")
-        .about("Prints the table of a protocol")
-        .arg(protocol_option(alloc))
+        .about("Prints the table of a coherence protocol")
+        .after_help(help::TABLES)
+        .arg(protocol_option(alloc, "Which protocol"))
 }
 
-fn depth_option<'a>(alloc: Global) -> Arg<'a> {
+fn depth_option<'a>(alloc: Global, least: i64, help: &'a str) -> Arg<'a> {
     Arg::new(alloc, "depth")
         .long("depth")
-        .help("How many stores each core's buffer holds")
-        .value_parser(clap::value_parser!(u8).range(1..=32))
+        .value_name("N")
+        .help(help)
+        .value_parser(clap::value_parser!(u8).range(least..=32))
         .default_value("4")
 }
 
 fn sets_option<'a>(alloc: Global) -> Arg<'a> {
     Arg::new(alloc, "sets")
         .long("sets")
-        .help("How many sets each core's cache has")
+        .value_name("N")
+        .help("How many sets each core's cache has, 1 to 8")
         .value_parser(clap::value_parser!(u8).range(1..=8))
         .default_value("1")
 }
@@ -139,7 +159,8 @@ fn sets_option<'a>(alloc: Global) -> Arg<'a> {
 fn ways_option<'a>(alloc: Global) -> Arg<'a> {
     Arg::new(alloc, "ways")
         .long("ways")
-        .help("For how many lines each set has room")
+        .value_name("N")
+        .help("For how many lines each set has room, 1 to 8")
         .value_parser(clap::value_parser!(u8).range(1..=8))
         .default_value("2")
 }
@@ -147,15 +168,17 @@ fn ways_option<'a>(alloc: Global) -> Arg<'a> {
 fn words_option<'a>(alloc: Global) -> Arg<'a> {
     Arg::new(alloc, "words")
         .long("words")
-        .help("How many words a line has")
+        .value_name("N")
+        .help("How many words a cache line has: 1, 2 or 4")
         .value_parser(clap::value_parser!(u8).range(1..=4))
         .default_value("1")
 }
 
-fn protocol_option<'a>(alloc: Global) -> Arg<'a> {
+fn protocol_option<'a>(alloc: Global, help: &'a str) -> Arg<'a> {
     Arg::new(alloc, "protocol")
         .long("protocol")
-        .help("Which protocol the caches follow")
+        .value_name("NAME")
+        .help(help)
         .value_parser(ValueParser::Names(&PROTOCOLS))
         .default_value("msi")
 }
@@ -163,7 +186,8 @@ fn protocol_option<'a>(alloc: Global) -> Arg<'a> {
 fn bus_option<'a>(alloc: Global) -> Arg<'a> {
     Arg::new(alloc, "bus")
         .long("bus")
-        .help("Which bus the caches share")
+        .value_name("KIND")
+        .help("Whether the bus answers at once (atomic) or later (split)")
         .value_parser(ValueParser::Names(&BUSES))
         .default_value("atomic")
 }
@@ -171,14 +195,15 @@ fn bus_option<'a>(alloc: Global) -> Arg<'a> {
 fn json_option<'a>(alloc: Global) -> Arg<'a> {
     Arg::new(alloc, "json")
         .long("json")
-        .help("Prints the report as JSON")
+        .help("Print the report as one line of JSON")
         .action(ArgAction::SetTrue)
 }
 
 fn from_option<'a>(alloc: Global) -> Arg<'a> {
     Arg::new(alloc, "from")
         .long("from")
-        .help("The first seed")
+        .value_name("N")
+        .help("The first seed, 0 to 4294967295")
         .value_parser(clap::value_parser!(u32))
         .default_value("0")
 }
@@ -186,7 +211,8 @@ fn from_option<'a>(alloc: Global) -> Arg<'a> {
 fn seeds_option<'a>(alloc: Global) -> Arg<'a> {
     Arg::new(alloc, "seeds")
         .long("seeds")
-        .help("How many seeds there are, each for a run")
+        .value_name("N")
+        .help("How many seeds, each for a run, 1 to 1000")
         .value_parser(clap::value_parser!(u32).range(1..=1000))
         .default_value("10")
 }
@@ -194,7 +220,8 @@ fn seeds_option<'a>(alloc: Global) -> Arg<'a> {
 fn length_option<'a>(alloc: Global) -> Arg<'a> {
     Arg::new(alloc, "length")
         .long("length")
-        .help("How many choices each seed makes")
+        .value_name("N")
+        .help("How many choices each seed makes, 0 to 100000")
         .value_parser(clap::value_parser!(u32).range(0..=100000))
         .default_value("1000")
 }
@@ -287,6 +314,7 @@ fn protocol_in(matches: &ArgMatches<'_>) -> Option<ProtocolKind> {
         "msi" => Some(ProtocolKind::Msi),
         "mesi" => Some(ProtocolKind::Mesi),
         "moesi" => Some(ProtocolKind::Moesi),
+        "mosi" => Some(ProtocolKind::Mosi),
         _ => None,
     }
 }

@@ -1,17 +1,18 @@
-ghost use Rattle.std.specs.Prelude.{◌≡◌, ◌≤◌, ◌*◌, false, IfOk, OnOk, length};
+ghost use Rattle.std.specs.Prelude.{◌≡◌, ◌+◌, ◌*◌, false, IfOk, OnOk, length};
 ghost use Rattle.tso_model.specs.Runs.{CoresExist};
-ghost use Rattle.tso_model.specs.Runs as runs;
 ghost use Rattle.tso_cli.specs.Runs.{run_by, run_under, AnswersFit, AnswersFitBy};
-ghost use Rattle.tso_cli.specs.Simulation.{IsEndingOf, FitsEnding, HasCounts, IsCounted, HasEnded, Drives, verdict};
+ghost use Rattle.tso_cli.specs.Simulation.{IsEndingOf, FitsEnding, HasCounts, IsCounted, HasAllOrder, HasEnded, Drives, verdict};
 ghost use Rattle.protocol_tables.specs.Tables.{table_of};
 ghost use Rattle.machine_core.specs.Statistics.{counts_of};
+ghost use Rattle.scheduler.specs.Seeds.{seeded_choices};
 ghost use Rattle.split_laws.specs.BusChoices.{IsPossibleOn};
 ghost use Rattle.tso_laws.specs.Rounds.{CanBeCutIntoRounds};
 ghost use Rattle.tso_laws.specs.Counting.{instructions, longest};
 
 use crate::laws::ended_runs_of_machines_are_executions;
 use machine_core::{Bus, Choice, Config, Final, Machine, Outcome};
-use protocol_tables::{Mesi, Moesi, Msi, Protocol, ProtocolKind};
+use protocol_tables::{Mesi, Moesi, Mosi, Msi, Protocol, ProtocolKind};
+use scheduler::{Choices, Listed, Seeded};
 use split_laws::{
     atomic_runs_are_flat_runs, attempts_lead_from_state_to_state, fair_rounds_end_on_either_bus,
     runs_on_either_bus_stop_where_they_end, what_holds_so_far_on_either_bus,
@@ -70,8 +71,11 @@ pub fn simulate(
     // The counts go by the protocol's table and the shape of the caches too.
     ensures counts { IfOk result (HasCounts (counts_of config.bus (table_of protocol) config.shape test.now config.depth choices.now)) }
 
-    // On the atomic bus an ended run took each instruction once, and drained each plain store once.
-    ensures counting { config.bus ≡ Bus.Atomic → IfOk result (IsCounted test.now) }
+    // On the atomic bus an ended run took each instruction once, and drained each plain store once that was buffered.
+    ensures counting { config.bus ≡ Bus.Atomic → IfOk result (IsCounted test.now config.depth) }
+
+    // Without buffers the order of an ended run keeps program order, without exception.
+    ensures unbuffered { config.depth ≡ 0 → IfOk result HasAllOrder }
 
     // Enough fair rounds end the test: on the atomic bus fewer than on either.
     ensures fair { config.bus ≡ Bus.Atomic → CanBeCutIntoRounds (length test.now.programs) (2 * longest test.now.programs) choices.now → IfOk result HasEnded }
@@ -81,42 +85,70 @@ pub fn simulate(
     fair_rounds_end();
     fair_rounds_end_on_either_bus();
     atomic_runs_are_flat_runs();
-    let _known = config.depth();
-    run_with(alloc, test, protocol, config, choices)
+    ended_runs_of_machines_are_executions();
+    let _known = test.cores();
+    run_with(alloc, test, protocol, config, Listed::new(choices))
 }
 
-fn run_with(
+/// Runs a test under the first `count` choices of a seed, as `simulate` does under a list. They are drawn
+/// as they are used.
+///
+/// Fails only for want of memory.
+pub fn simulate_seed(
     alloc: Global,
     test: &Test,
     protocol: ProtocolKind,
     config: Config,
-    choices: &[Choice],
+    seed: u64,
+    count: usize,
 ) -> Result<Ending, SimFault>
-    requires { CoresExist (length test.now.programs) choices.now }
-    ensures ending { IfOk result (IsEndingOf test.now (run_under test.now protocol config choices.now)) }
+    ensures ending { IfOk result (IsEndingOf test.now (run_under test.now protocol config (seeded_choices (length test.now.programs) seed count))) }
     ensures fits { IfOk result (FitsEnding test.now) }
-    ensures answers { OnOk result (AnswersFit test.now protocol config choices.now) }
-    ensures counts { IfOk result (HasCounts (counts_of config.bus (table_of protocol) config.shape test.now config.depth choices.now)) }
+    ensures answers { OnOk result (AnswersFit test.now protocol config (seeded_choices (length test.now.programs) seed count)) }
+    ensures counts { IfOk result (HasCounts (counts_of config.bus (table_of protocol) config.shape test.now config.depth (seeded_choices (length test.now.programs) seed count))) }
+{
+    run_with(
+        alloc,
+        test,
+        protocol,
+        config,
+        Seeded::new(test.cores(), seed, count),
+    )
+}
+
+fn run_with<C: Choices>(
+    alloc: Global,
+    test: &Test,
+    protocol: ProtocolKind,
+    config: Config,
+    choices: C,
+) -> Result<Ending, SimFault>
+    requires { CoresExist (length test.now.programs) (C.coming choices) }
+    ensures ending { IfOk result (IsEndingOf test.now (run_under test.now protocol config (C.coming choices))) }
+    ensures fits { IfOk result (FitsEnding test.now) }
+    ensures answers { OnOk result (AnswersFit test.now protocol config (C.coming choices)) }
+    ensures counts { IfOk result (HasCounts (counts_of config.bus (table_of protocol) config.shape test.now config.depth (C.coming choices))) }
 {
     match protocol {
         ProtocolKind::Msi => run_to_the_end(alloc, test, Msi, config, choices),
         ProtocolKind::Mesi => run_to_the_end(alloc, test, Mesi, config, choices),
         ProtocolKind::Moesi => run_to_the_end(alloc, test, Moesi, config, choices),
+        ProtocolKind::Mosi => run_to_the_end(alloc, test, Mosi, config, choices),
     }
 }
 
-fn run_to_the_end<P: Protocol>(
+fn run_to_the_end<P: Protocol, C: Choices>(
     alloc: Global,
     test: &Test,
     protocol: P,
     config: Config,
-    choices: &[Choice],
+    choices: C,
 ) -> Result<Ending, SimFault>
-    requires { CoresExist (length test.now.programs) choices.now }
-    ensures ending { IfOk result (IsEndingOf test.now (run_by config.bus (P.table protocol) config test.now choices.now)) }
+    requires { CoresExist (length test.now.programs) (C.coming choices) }
+    ensures ending { IfOk result (IsEndingOf test.now (run_by config.bus (P.table protocol) config test.now (C.coming choices))) }
     ensures fits { IfOk result (FitsEnding test.now) }
-    ensures answers { OnOk result (AnswersFitBy (P.table protocol) config test.now choices.now) }
-    ensures counts { IfOk result (HasCounts (counts_of config.bus (P.table protocol) config.shape test.now config.depth choices.now)) }
+    ensures answers { OnOk result (AnswersFitBy (P.table protocol) config test.now (C.coming choices)) }
+    ensures counts { IfOk result (HasCounts (counts_of config.bus (P.table protocol) config.shape test.now config.depth (C.coming choices))) }
 {
     attempts_lead_from_state_to_state();
     atomic_runs_are_flat_runs();
@@ -125,7 +157,8 @@ fn run_to_the_end<P: Protocol>(
     whole_orders_have_each_entry_once();
     let _known = test.cores();
     let mut machine = Machine::new(alloc, protocol, test, config)?;
-    let progress = drive(&mut machine, choices)?;
+    let mut choices = choices;
+    let progress = drive(&mut machine, &mut choices)?;
     if !machine.is_ended() {
         return Ok(Ending::Unfinished {
             used: progress.used,
@@ -142,7 +175,7 @@ fn run_to_the_end<P: Protocol>(
         holds,
         used: progress.used,
         stalled: progress.stalled,
-        unused: choices.len() - progress.used,
+        unused: choices.left(),
     }))
 }
 
@@ -155,37 +188,38 @@ struct Progress {
 
 /// Makes the choices one after the other, until the test has ended. The caches' answers along all of
 /// them fit, those behind the end too: there nobody holds the bus.
-fn drive<P: Protocol>(
+fn drive<P: Protocol, C: Choices>(
     machine: &mut Machine<'_, P>,
-    choices: &[Choice],
+    choices: &mut C,
 ) -> Result<Progress, NoMemory>
     requires fresh { machine.old.failed ≡ false }
-    requires cores { CoresExist (length machine.old.test.programs) choices.now }
+    requires cores { CoresExist (length machine.old.test.programs) (C.coming choices.old) }
     requires possible { IsPossibleOn machine.old.bus machine.old.test machine.old.depth machine.old.commits machine.old.state }
-    ensures drives { IfOk result (λ p. Drives machine.old machine.new choices.now p.used p.stalled) }
-    ensures within { IfOk result (λ p. p.used ≤ length choices.now) }
+    ensures drives { IfOk result (λ p. Drives machine.old machine.new (C.coming choices.old) p.used p.stalled) }
+    ensures left { IfOk result (λ p. p.used + length (C.coming choices.new) ≡ length (C.coming choices.old)) }
 {
     attempts_lead_from_state_to_state();
     what_holds_so_far_on_either_bus();
     runs_on_either_bus_stop_where_they_end();
+    let _known = choices.left();
     let mut used = 0;
     let mut stalled = 0;
-    while used < choices.len() && !machine.is_ended() {
-        let outcome = machine.choose(choices[used])?;
+    let mut ended = machine.is_ended();
+    while !ended {
+        let Some(choice) = choices.next() else {
+            return Ok(Progress { used, stalled });
+        };
+        let outcome = machine.choose(choice)?;
         used += 1;
-        stalled += stall_count(outcome);
+        match outcome {
+            // A stall changes nothing, so no test ends by one.
+            Outcome::Stalled(_) => stalled += 1,
+            Outcome::Committed | Outcome::Buffered | Outcome::Moved | Outcome::Asked => {
+                ended = machine.is_ended();
+            }
+        }
     }
     Ok(Progress { used, stalled })
-}
-
-fn stall_count(outcome: Outcome) -> usize
-    ensures value { result ≡ runs.stall_count outcome }
-    ensures bound { result ≤ 1 }
-{
-    match outcome {
-        Outcome::Stalled(_) => 1,
-        Outcome::Committed | Outcome::Buffered | Outcome::Moved | Outcome::Asked => 0,
-    }
 }
 
 /// The truth of the test's condition in the state that a machine left, if it has one.

@@ -5,10 +5,9 @@ ghost use Rattle.tso_cli.specs.Sweep.{choices_of, seeded_run, with_one_run, swee
 
 use crate::answer::{Answer, Status};
 use crate::plan::SweepPlan;
-use crate::simulation::{Ending, SimFault, simulate};
+use crate::simulation::{Ending, SimFault, simulate_seed};
 use machine_core::Config;
 use protocol_tables::ProtocolKind;
-use scheduler::seeded_choices;
 use std::alloc::Global;
 use tso_model::{NoMemory, Test};
 use tso_report::{Tally, head_text};
@@ -94,8 +93,7 @@ fn count_run(
     ensures test { tally.new.test ≡ tally.old.test }
     ensures answers { OnOk result (AnswersFit test.now protocol config (choices_of test.now length seed)) }
 {
-    let choices = seeded_choices(alloc, test.cores(), seed, length)?;
-    match simulate(alloc, test, protocol, config, &choices) {
+    match simulate_seed(alloc, test, protocol, config, seed, length) {
         Ok(Ending::Ended(run)) => {
             tally.add(&run)?;
             Ok(true)

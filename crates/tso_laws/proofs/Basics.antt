@@ -1,7 +1,8 @@
 -- Small facts on numbers, tests and kinds of entries.
-use Rattle.std.proofs.Common.{max, ◌≡◌, ◌≢◌, ◌<◌, ◌≤◌, ℕ, Bool, true, false, arith, refl, ◌⊎◌, inl, inr, ◌==◌, ◌&&◌}
+use Rattle.std.proofs.Common.{max, ◌≡◌, ◌≢◌, ◌<◌, ◌≤◌, ℕ, Bool, true, false, arith, refl, ◌⊎◌, inl, inr, ◌==◌, ◌&&◌, nat_lt, ◌∙◌}
 use Rattle.std.proofs.lemmas.Bool.Decides.{nat_tests}
-use Rattle.tso_model.specs.ProgramOrder.{is_before, is_load_kind, part_of, rank}
+use Rattle.tso_model.specs.ProgramOrder.{is_before}
+use Rattle.tso_laws.proofs.Ranks.{is_load_kind, part_of, rank, by-rank}
 use Rattle.tso_model.specs.declared.execution.Entry.{Entry}
 use Rattle.tso_model.specs.declared.execution.Kind.{Kind}
 use Rattle.tso_model.specs.declared.execution.Kind.TheVariants.{R, W, F, LR, LW}
@@ -77,10 +78,10 @@ load-kind LR h = absurd (let z : ⊥ = cc in z)
 load-kind LW h = absurd (let z : ⊥ = cc in z)
 
 pub not-itself : (x : Entry) → is_before x x ≡ false
-not-itself x = grind (arith, nat_tests)
+not-itself x = by-rank x x ∙ (let z : ((x.core.0 == x.core.0) && nat_lt (rank x) (rank x)) ≡ false = grind (arith, nat_tests) in z)
 
 pub before : (x y : Entry) → x.core.0 ≡ y.core.0 → rank x < rank y → is_before x y ≡ true
-before x y k h = grind (arith, nat_tests)
+before x y k h = by-rank x y ∙ (let z : ((x.core.0 == y.core.0) && nat_lt (rank x) (rank y)) ≡ true = grind (arith, nat_tests) in z)
 
 pub core-before : (x y : Entry) → is_before x y ≡ true → x.core.0 ≡ y.core.0
 core-before x y h = grind (arith, nat_tests)

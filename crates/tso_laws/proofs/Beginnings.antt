@@ -7,11 +7,11 @@ use Rattle.tso_laws.proofs.Basics.{and-right}
 use Rattle.tso_laws.proofs.Folds.{needed-is, HasEnded, HasLocations}
 use Rattle.tso_model.specs.declared.instruction.Instr.{Instr}
 use Rattle.tso_model.specs.declared.choice.Choice.{Choice}
-use Rattle.tso_model.specs.FlatMachine.{core_of, CoreState, State, idle, program_of, effect_of, after_choice, start}
+use Rattle.tso_model.specs.FlatMachine.{is_none_pending, core_of, CoreState, State, idle, program_of, effect_of, after_choice, start}
 use Rattle.tso_laws.specs.Depth.{needed}
 use Rattle.tso_laws.specs.EndedRuns.{IsExecution}
 use Rattle.tso_laws.specs.Choices.{state_after, commits_of}
-use Rattle.tso_model.specs.Runs.{is_none_pending, is_done, has_ended, Run, then_run, resting, run, run_from}
+use Rattle.tso_model.specs.Runs.{is_done, has_ended, Run, then_run, resting, run, run_from}
 use Rattle.tso_laws.proofs.World.{World, world-run, world-start}
 use Rattle.tso_laws.proofs.Final.{ended_is_tso, ended_has_registers, memory-list, keeps_all, world-needs}
 use Rattle.tso_laws.proofs.Work.{run-ended, is_none-is, done-length}

@@ -1,8 +1,9 @@
 -- Orders of entries with one more in the middle, as one core sees them.
 use Rattle.std.proofs.Common.{◌≡◌, ◌<◌, ◌≤◌, ℕ, suc, List, [], ◌∷◌, ◌++◌, Bool, true, false, length, slice_index, arith, sym, ◌∙◌, append_assoc, refl, subst, ◌==◌, ◌&&◌, if◌then◌else◌}
 use Rattle.std.proofs.lemmas.Bool.Decides.{nat_tests}
-use Rattle.tso_model.specs.ProgramOrder.{is_write, is_read, is_write_kind, is_read_kind, is_before, may_be_passed, writes_to, is_store, is_load}
-use Rattle.tso_model.specs.Execution.{read_value, is_at, same_kind}
+use Rattle.tso_model.specs.ProgramOrder.{same_kind, is_write, is_read, is_before, may_be_passed, writes_to, is_store, is_load}
+use Rattle.tso_laws.proofs.Ranks.{is_write_kind, is_read_kind}
+use Rattle.tso_model.specs.Execution.{read_value, is_at}
 use Rattle.tso_laws.proofs.Basics.{and-true}
 use Rattle.tso_laws.proofs.Folds.{last_word, last_own, passed}
 use Rattle.tso_model.specs.declared.execution.Entry.{Entry}

@@ -1,15 +1,17 @@
 -- The entries of a program have its places and its locations.
-use Rattle.std.proofs.Common.{◌≡◌, ◌≢◌, ◌<◌, ◌≤◌, ℕ, ◌+◌, zero, suc, List, [], ◌∷◌, Some, length, take, slice_get, arith, sym, refl, subst}
+use Rattle.std.proofs.Common.{◌≡◌, ◌≢◌, ◌<◌, ◌≤◌, ℕ, ◌+◌, zero, suc, List, [], ◌∷◌, Some, IfSome, length, take, slice_get, slice_index, arith, sym, refl, subst}
 use Rattle.tso_model.specs.Litmus.{Litmus, IsTest, KnownLocation}
-use Rattle.tso_model.specs.Thread.{entries_of}
+use Rattle.tso_model.specs.Actions.{action_of, location_of}
+use Rattle.tso_model.specs.Thread.{entries_by, entries_of}
 use Rattle.tso_model.specs.Execution.{IsWhole, StandsIn, made, made_by, read_values}
 use Rattle.tso_model.specs.FlatMachine.{program_of}
 use Rattle.tso_model.specs.declared.instruction.Instr.{Instr}
-use Rattle.tso_model.specs.declared.instruction.Instr.TheVariants.{StoreImm, StoreReg, Load, SetImm, SetReg, Fence, Xchg, Xadd}
+use Rattle.tso_model.specs.declared.action.Action.{Action}
+use Rattle.tso_model.specs.declared.action.Action.TheVariants.{Store, Load, Move, Fence, Lock}
 use Rattle.tso_model.specs.declared.execution.Entry.{Entry}
 use Rattle.tso_model.specs.declared.execution.Kind.TheVariants.{F}
 use Rattle.tso_laws.specs.Entries.{FitsTest}
-use Rattle.tso_laws.proofs.Lists.{Each, Member}
+use Rattle.tso_laws.proofs.Lists.{Each, each-append, Member}
 use Rattle.tso_laws.proofs.Folds.{HasLocations}
 use Rattle.tso_laws.proofs.Held.{each-of}
 use Rattle.tso_laws.proofs.Goes.{first_of}
@@ -19,16 +21,18 @@ use Rattle.tso_laws.proofs.Whole.{at-member, made-at, of-core, whole-own}
 abbrev Placed : ℕ → Entry → Type 0
 Placed n e = (e.kind ≢ F → e.loc.0 < n) × (e.kind ≡ F → (e.loc.0 ≡ 0) × (e.value ≡ 0))
 
-entries-located : (n c place : ℕ) (p : List Instr) (registers reads : List ℕ) → ((i : ℕ) (x : Instr) → slice_get p i ≡ Some x → KnownLocation n x) → Each (Placed n) (entries_of c place p registers reads)
-entries-located n c place [] registers reads f = tt
-entries-located n c place (StoreImm loc value ∷ p) registers reads f = ((λ k. f 0 (StoreImm loc value) refl, λ k. absurd (let z : ⊥ = cc in z)), entries-located n c (place + 1) p _ _ (λ i. f (suc i)))
-entries-located n c place (StoreReg loc reg ∷ p) registers reads f = ((λ k. f 0 (StoreReg loc reg) refl, λ k. absurd (let z : ⊥ = cc in z)), entries-located n c (place + 1) p _ _ (λ i. f (suc i)))
-entries-located n c place (Load reg loc ∷ p) registers reads f = ((λ k. f 0 (Load reg loc) refl, λ k. absurd (let z : ⊥ = cc in z)), entries-located n c (place + 1) p _ _ (λ i. f (suc i)))
-entries-located n c place (SetImm reg value ∷ p) registers reads f = entries-located n c (place + 1) p _ _ (λ i. f (suc i))
-entries-located n c place (SetReg reg other ∷ p) registers reads f = entries-located n c (place + 1) p _ _ (λ i. f (suc i))
-entries-located n c place (Fence ∷ p) registers reads f = ((λ k. absurd (k refl), λ k. (refl, refl)), entries-located n c (place + 1) p _ _ (λ i. f (suc i)))
-entries-located n c place (Xchg loc reg ∷ p) registers reads f = ((λ k. f 0 (Xchg loc reg) refl, λ k. absurd (let z : ⊥ = cc in z)), ((λ k. f 0 (Xchg loc reg) refl, λ k. absurd (let z : ⊥ = cc in z)), entries-located n c (place + 1) p _ _ (λ i. f (suc i))))
-entries-located n c place (Xadd loc reg ∷ p) registers reads f = ((λ k. f 0 (Xadd loc reg) refl, λ k. absurd (let z : ⊥ = cc in z)), ((λ k. f 0 (Xadd loc reg) refl, λ k. absurd (let z : ⊥ = cc in z)), entries-located n c (place + 1) p _ _ (λ i. f (suc i))))
+located : (n c place : ℕ) (a : Action) (registers : List ℕ) (word : ℕ) → IfSome (location_of a) (λ loc. loc.0 < n) → Each (Placed n) (entries_by c place a registers word)
+located n c place (Store loc operand) registers word l = ((λ k. l, λ k. absurd (let z : ⊥ = cc in z)), tt)
+located n c place (Load reg loc) registers word l = ((λ k. l, λ k. absurd (let z : ⊥ = cc in z)), tt)
+located n c place (Move reg operand) registers word l = tt
+located n c place Fence registers word l = ((λ k. absurd (k refl), λ k. (refl, refl)), tt)
+located n c place (Lock loc reg update) registers word l = ((λ k. l, λ k. absurd (let z : ⊥ = cc in z)), ((λ k. l, λ k. absurd (let z : ⊥ = cc in z)), tt))
+
+entries-located : (n c place : ℕ) (p : List Instr) (registers values : List ℕ) → ((i : ℕ) (x : Instr) → slice_get p i ≡ Some x → KnownLocation n x) → Each (Placed n) (entries_of c place p registers values)
+entries-located n c place [] registers values f = tt
+entries-located n c place (i ∷ p) registers values f =
+    each-append (Placed n) (entries_by c place (action_of i) registers (slice_index values 0)) _ (located n c place (action_of i) registers (slice_index values 0) (f 0 i refl))
+    (entries-located n c (place + 1) p _ _ (λ k. f (suc k)))
 
 -- an entry that a beginning of a program makes
 pub made-fits : (t : Litmus) (n : ℕ) (order : List Entry) (e : Entry) → IsTest t → HasLocations t → e.core.0 < length t.programs

@@ -1,8 +1,9 @@
 -- Choices that go on along an order.
-use Rattle.std.proofs.Common.{◌≡◌, ◌≢◌, ◌<◌, ◌≤◌, ℕ, ◌+◌, List, [], ◌∷◌, ◌++◌, Bool, false, length, slice_index_or, arith, ap, sym, ◌∙◌, append_assoc, refl, inl, inr, subst, ◌==◌, ◌&&◌, nat_lt}
+use Rattle.std.proofs.Common.{◌≡◌, ◌≢◌, ◌<◌, ◌≤◌, ℕ, ◌+◌, List, [], ◌∷◌, ◌++◌, Bool, false, length, slice_index, slice_index_or, arith, ap, sym, ◌∙◌, append_assoc, refl, inl, inr, subst, ◌==◌, ◌&&◌, nat_lt}
 use Rattle.std.proofs.lemmas.Option.{slice_get-get_or}
 use Rattle.std.proofs.lemmas.Bool.Decides.{nat_tests}
-use Rattle.tso_model.specs.Thread.{entries_of}
+use Rattle.tso_model.specs.Actions.{action_of}
+use Rattle.tso_model.specs.Thread.{entries_by, entries_of}
 use Rattle.tso_model.specs.Litmus.{Litmus}
 use Rattle.tso_laws.proofs.Basics.{decide}
 use Rattle.tso_laws.proofs.Folds.{needs, HasDueValues, HasLocations}
@@ -10,12 +11,13 @@ use Rattle.tso_model.specs.ProgramOrder.{is_store}
 use Rattle.tso_model.specs.Execution.{made_by}
 use Rattle.tso_model.specs.declared.execution.Entry.{Entry}
 use Rattle.tso_model.specs.declared.instruction.Instr.{Instr}
-use Rattle.tso_model.specs.declared.instruction.Instr.TheVariants.{StoreImm, StoreReg, Load, SetImm, SetReg, Fence, Xchg, Xadd}
+use Rattle.tso_model.specs.declared.action.Action.{Action}
+use Rattle.tso_model.specs.declared.action.Action.TheVariants.{Store, Load, Move, Fence, Lock}
 use Rattle.tso_model.specs.declared.choice.Choice.{Choice}
 use Rattle.tso_model.specs.FlatMachine.{core_of, State, idle, program_of, effect_of, chosen, after_choice}
 use Rattle.tso_laws.specs.Choices.{state_after, commits_of}
 use Rattle.tso_model.specs.Runs.{stall_count}
-use Rattle.tso_laws.proofs.Lists.{Each, each-map, Member, append-nil}
+use Rattle.tso_laws.proofs.Lists.{Each, each-map, each-append, Member, append-nil}
 use Rattle.tso_laws.proofs.Entries.{Ordered}
 use Rattle.tso_laws.proofs.Holds.{Holds, Paired}
 use Rattle.tso_laws.proofs.World.{World, world-choose}
@@ -111,17 +113,19 @@ choice-goes d t order front done back state a k n g st q l o c m p u w = record 
     mine : core_of (after_choice t d state a) k ≡ (effect_of t d state a).after
     mine = subst (λ z. core_of (after_choice t d state a) z ≡ (effect_of t d state a).after) q (own-core t d state a (rw (q, st.world.size) l))
 
--- the entries of a program from a place on
-weaker : (c place : ℕ) (xs : List Entry) → Each (λ e. (e.core.0 ≡ c) × (place + 1 ≤ e.place)) xs → Each (λ e. (e.core.0 ≡ c) × (place ≤ e.place)) xs
-weaker c place xs h = each-map (λ e. (e.core.0 ≡ c) × (place + 1 ≤ e.place)) (λ e. (e.core.0 ≡ c) × (place ≤ e.place)) xs (λ e q. (q.0, let l = q.1 in omega arith)) h
+-- an action's entries are of its core and its place
+pub entries-at : (c place : ℕ) (a : Action) (registers : List ℕ) (word : ℕ) → Each (λ e. (e.core.0 ≡ c) × (e.place ≡ place)) (entries_by c place a registers word)
+entries-at c place (Store loc operand) registers word = ((refl, refl), tt)
+entries-at c place (Load reg loc) registers word = ((refl, refl), tt)
+entries-at c place (Move reg operand) registers word = tt
+entries-at c place Fence registers word = ((refl, refl), tt)
+entries-at c place (Lock loc reg update) registers word = ((refl, refl), ((refl, refl), tt))
 
-pub entries-from : (c place : ℕ) (p : List Instr) (registers reads : List ℕ) → Each (λ e. (e.core.0 ≡ c) × (place ≤ e.place)) (entries_of c place p registers reads)
-entries-from c place [] registers reads = tt
-entries-from c place (StoreImm loc value ∷ p) registers reads = ((refl, omega arith), weaker c place _ (entries-from c (place + 1) p _ _))
-entries-from c place (StoreReg loc reg ∷ p) registers reads = ((refl, omega arith), weaker c place _ (entries-from c (place + 1) p _ _))
-entries-from c place (Load reg loc ∷ p) registers reads = ((refl, omega arith), weaker c place _ (entries-from c (place + 1) p _ _))
-entries-from c place (SetImm reg value ∷ p) registers reads = weaker c place _ (entries-from c (place + 1) p _ _)
-entries-from c place (SetReg reg other ∷ p) registers reads = weaker c place _ (entries-from c (place + 1) p _ _)
-entries-from c place (Fence ∷ p) registers reads = ((refl, omega arith), weaker c place _ (entries-from c (place + 1) p _ _))
-entries-from c place (Xchg loc reg ∷ p) registers reads = ((refl, omega arith), ((refl, omega arith), weaker c place _ (entries-from c (place + 1) p _ _)))
-entries-from c place (Xadd loc reg ∷ p) registers reads = ((refl, omega arith), ((refl, omega arith), weaker c place _ (entries-from c (place + 1) p _ _)))
+-- the entries of a program from a place on
+pub entries-from : (c place : ℕ) (p : List Instr) (registers values : List ℕ) → Each (λ e. (e.core.0 ≡ c) × (place ≤ e.place)) (entries_of c place p registers values)
+entries-from c place [] registers values = tt
+entries-from c place (i ∷ p) registers values =
+    let es : List Entry = entries_by c place (action_of i) registers (slice_index values 0) in
+    each-append (λ e. (e.core.0 ≡ c) × (place ≤ e.place)) es _
+    (each-map (λ e. (e.core.0 ≡ c) × (e.place ≡ place)) (λ e. (e.core.0 ≡ c) × (place ≤ e.place)) es (λ e q. (q.0, let l = q.1 in omega arith)) (entries-at c place (action_of i) registers (slice_index values 0)))
+    (each-map (λ e. (e.core.0 ≡ c) × (place + 1 ≤ e.place)) (λ e. (e.core.0 ≡ c) × (place ≤ e.place)) _ (λ e q. (q.0, let l = q.1 in omega arith)) (entries-from c (place + 1) p _ _))

@@ -1,7 +1,8 @@
 -- The stores of a core that stand before a place in its program, in the order of a list.
-use Rattle.std.proofs.Common.{◌≡◌, ◌≢◌, ◌<◌, ◌≤◌, ℕ, ◌+◌, suc, List, [], ◌∷◌, ◌++◌, Bool, true, false, length, arith, ap, sym, ◌∙◌, refl, ◌⊎◌, inl, inr, subst, ◌==◌, ◌&&◌, nat_lt, if◌then◌else◌}
+use Rattle.std.proofs.Common.{◌≡◌, ◌≢◌, ◌<◌, ◌≤◌, ℕ, ◌+◌, suc, List, [], ◌∷◌, ◌++◌, Bool, true, false, length, arith, ap, sym, ◌∙◌, refl, ◌⊎◌, inl, inr, subst, ◌==◌, ◌&&◌, nat_lt, if◌then◌else◌, ◌||◌}
 use Rattle.std.proofs.lemmas.Bool.Decides.{nat_tests}
-use Rattle.tso_model.specs.ProgramOrder.{is_before, rank, part_of, writes_to, is_store, is_store_kind}
+use Rattle.tso_model.specs.ProgramOrder.{is_before, writes_to, is_store}
+use Rattle.tso_laws.proofs.Ranks.{rank, part_of, is_store_kind, by-rank}
 use Rattle.tso_laws.proofs.Basics.{and-true, and-false}
 use Rattle.tso_laws.proofs.Folds.{passes, last_word, last_own, passed}
 use Rattle.tso_model.specs.declared.execution.Entry.{Entry}
@@ -88,7 +89,7 @@ some-test : (b : Bool) (c k p n : ℕ) → c ≡ k → b ≡ true → p < n → 
 some-test b c k p n e h l = grind (arith, nat_tests)
 
 not_before : (x y : Entry) → y.core.0 ≡ x.core.0 → is_before y x ≡ false → rank x ≤ rank y
-not_before x y k h = grind (arith, nat_tests)
+not_before x y k h = let f : ((y.core.0 == x.core.0) && nat_lt (rank y) (rank x)) ≡ false = sym (by-rank y x) ∙ h in grind (arith, nat_tests)
 
 pub is_store-kind : (e : Entry) → is_store e ≡ true → e.kind ≡ W
 is_store-kind e h = go e.kind h
@@ -148,12 +149,14 @@ held-length k m n (y ∷ ys) l = both (is_held k m y) (is_held k n y) (more (is_
 pub same-before : (x y : Entry) → x.kind ≡ R → (is_store y && is_before y x) ≡ is_held x.core.0 x.place y
 same-before x y r = rw r (go y.kind)
   where
-    double-lt : (a b : ℕ) → nat_lt (a + a + 0) (b + b + 0) ≡ nat_lt a b
-    double-lt a b = grind (arith, nat_tests)
+    alone : (b c : Bool) → (b || (c && false)) ≡ b
+    alone true c = refl
+    alone false true = refl
+    alone false false = refl
 
-    go : (k : Kind) → (is_store_kind k && ((y.core.0 == x.core.0) && nat_lt (y.place + y.place + part_of k) (x.place + x.place + 0))) ≡ (is_store_kind k && ((y.core.0 == x.core.0) && nat_lt y.place x.place))
+    go : (k : Kind) → (is_store_kind k && ((y.core.0 == x.core.0) && (nat_lt y.place x.place || ((y.place == x.place) && false)))) ≡ (is_store_kind k && ((y.core.0 == x.core.0) && nat_lt y.place x.place))
     go R = refl
-    go W = rw (double-lt y.place x.place) refl
+    go W = rw (alone (nat_lt y.place x.place) (y.place == x.place)) refl
     go F = refl
     go LR = refl
     go LW = refl
@@ -171,9 +174,15 @@ pub own-held : (x : Entry) (ys : List Entry) (v : ℕ) → x.kind ≡ R → ((e 
 own-held x [] v r f = refl
 own-held x (y ∷ ys) v r f = rw (← same-before x y r) (go (is_before y x) refl (own-held x ys _ r (λ e m. f e (inr m))) (own-held x ys _ r (λ e m. f e (inr m))))
   where
+    stays : (b : Bool) → b ≡ true
+        → last_own x ys (if writes_to x.loc.0 y then y.value else v) ≡ last_word x.loc.0 (held x.core.0 x.place ys) (if writes_to x.loc.0 y then y.value else v)
+        → last_own x ys (if writes_to x.loc.0 y then y.value else v) ≡ last_word x.loc.0 (if b && true then y ∷ held x.core.0 x.place ys else held x.core.0 x.place ys) v
+    stays true e a = a
+    stays false e a = absurd (let z : ⊥ = cc in z)
+
     go : (t : Bool) → is_before y x ≡ t
         → last_own x ys (if writes_to x.loc.0 y then y.value else v) ≡ last_word x.loc.0 (held x.core.0 x.place ys) (if writes_to x.loc.0 y then y.value else v)
         → last_own x ys v ≡ last_word x.loc.0 (held x.core.0 x.place ys) v
         → last_own x ys (if writes_to x.loc.0 y && t then y.value else v) ≡ last_word x.loc.0 (if is_store y && t then y ∷ held x.core.0 x.place ys else held x.core.0 x.place ys) v
-    go true q a b = rw (and-true (writes_to x.loc.0 y), f y (inl refl) q) a
+    go true q a b = rw (and-true (writes_to x.loc.0 y)) (stays (is_store y) (f y (inl refl) q) a)
     go false q a b = rw (and-false (writes_to x.loc.0 y), and-false (is_store y)) b

@@ -1,17 +1,21 @@
 -- What each core's state keeps, and that a choice keeps it.
-use Rattle.std.proofs.Common.{◌≡◌, ◌≢◌, ◌<◌, ◌≤◌, ℕ, ◌+◌, zero, suc, List, [], ◌∷◌, ◌++◌, Option, Some, None, Bool, true, false, length, slice_get, slice_index, take, drop, arith, ap, sym, ◌∙◌, append_assoc, refl, length-append, subst, nat_lt, if◌then◌else◌}
+use Rattle.std.proofs.Common.{◌≡◌, ◌≢◌, ◌<◌, ◌≤◌, ℕ, ◌+◌, zero, suc, List, [], ◌∷◌, ◌++◌, Option, Some, None, IfSome, Bool, true, false, length, slice_get, slice_index, take, drop, arith, ap, sym, ◌∙◌, append_assoc, refl, length-append, subst, nat_lt, if◌then◌else◌}
 use Rattle.std.proofs.lemmas.Option.{slice_get_within}
 use Rattle.std.proofs.lemmas.Bool.Decides.{nat_tests}
 use Rattle.tso_model.specs.Litmus.{KnownLocation}
-use Rattle.tso_model.specs.Thread.{entry, fence, value_in, with_value, sum_of}
-use Rattle.tso_model.specs.ProgramOrder.{is_write, is_write_kind, rank}
+use Rattle.tso_model.specs.Actions.{action_of, location_of}
+use Rattle.tso_model.specs.Thread.{entry, fence, value_in, with_value, value_of, updated}
+use Rattle.tso_model.specs.ProgramOrder.{is_write}
+use Rattle.tso_laws.proofs.Draining.{waits-or-acts, drains}
+use Rattle.tso_laws.proofs.Ranks.{is_write_kind, rank}
 use Rattle.tso_model.specs.Execution.{IsStorePart, is_at, read_value, made_by}
 use Rattle.tso_model.specs.FinalState.{registers_of}
-use Rattle.tso_model.specs.FlatMachine.{CoreState, step_of, drain_of, stalled, stored, advanced, advanced_with, seen, fenced, locked}
+use Rattle.tso_model.specs.FlatMachine.{CoreState, effect_by, step_of, drain_of, stalled, stored, advanced, advanced_with, load_value, fenced, locked}
 use Rattle.tso_model.specs.declared.register.Reg.{Reg}
 use Rattle.tso_model.specs.declared.instruction.Instr.{Instr}
 use Rattle.tso_model.specs.declared.instruction.Loc.{Loc}
-use Rattle.tso_model.specs.declared.instruction.Instr.TheVariants.{StoreImm, StoreReg, Load, SetImm, SetReg, Fence, Xchg, Xadd}
+use Rattle.tso_model.specs.declared.action.Action.{Action}
+use Rattle.tso_model.specs.declared.action.Action.TheVariants.{Store, Load, Move, Fence, Lock}
 use Rattle.tso_model.specs.declared.execution.Entry.{Entry}
 use Rattle.tso_model.specs.declared.execution.Kind.TheVariants.{R, W, LR, LW}
 use Rattle.tso_model.specs.declared.choice.Stall.TheVariants as stall
@@ -129,9 +133,9 @@ holds-written d c program first words commits s i e h at k p w l none next =
 pub holds-load : (d c : ℕ) (program : List Instr) (first words memory : List ℕ) (commits : List Entry) (s : CoreState) (i : Instr) (loc : Loc) (reg : Reg) → Holds d c program first words commits s
     → slice_get program s.place ≡ Some i → IsMemory words commits memory → loc.0 < length words
     → ((X : List Entry) (v : ℕ) → read_value c s.place R X ≡ v → Issues c s i X (entry c s.place R loc v ∷ []) (with_value s.registers reg v))
-    → Holds d c program first words (commits ++ (entry c s.place R loc (seen memory s loc.0) ∷ [])) (advanced_with s reg (seen memory s loc.0))
+    → Holds d c program first words (commits ++ (entry c s.place R loc (load_value memory s loc.0) ∷ [])) (advanced_with s reg (load_value memory s loc.0))
 holds-load d c program first words memory commits s i loc reg h at m l next =
-    let v : ℕ = seen memory s loc.0 in
+    let v : ℕ = load_value memory s loc.0 in
     let e : Entry = entry c s.place R loc v in
     let read : (X : List Entry) → read_value c s.place R (commits ++ (e ∷ X)) ≡ v = λ X.
     read_value-behind c s.place R commits X e (behind_place c s.place commits (each-left (Behind c (s.place + s.place)) commits s.pending h.sees.behind)) (reads c s.place loc v) in
@@ -200,56 +204,62 @@ holds-moved d c program first words commits s i reg v h at next = record {
 
 -- a fence, where nothing is pending
 holds-fenced : (d c : ℕ) (program : List Instr) (first words : List ℕ) (commits : List Entry) (s : CoreState) (i : Instr) → Holds d c program first words commits s
-    → slice_get program s.place ≡ Some i → (p : List Entry) → s.pending ≡ p
+    → slice_get program s.place ≡ Some i
     → ((X : List Entry) → Issues c s i X (fence c s.place ∷ []) s.registers)
-    → Holds d c program first words (commits ++ (fenced c s p).commits) (fenced c s p).after
-holds-fenced d c program first words commits s i h at (x ∷ xs) q next = same-commits d c program first words commits s h
-holds-fenced d c program first words commits s i h at [] q next =
-    let e : Entry = fence c s.place in
-    let v : Sees d c (s.place + s.place) words h.done commits = subst (λ z. Sees d c (s.place + s.place) words h.done z) (ap (λ z. commits ++ z) q ∙ append-nil commits) h.sees in
-    record {
-      done = h.done ++ (e ∷ []);
-      sees = subst (λ z. Sees d c ((s.place + 1) + (s.place + 1)) words (h.done ++ (e ∷ [])) z) (sym (ap (λ z. (commits ++ (e ∷ [])) ++ z) q ∙ append-nil (commits ++ (e ∷ []))))
-          (sees-last d c (s.place + s.place) ((s.place + 1) + (s.place + 1)) words h.done commits e v refl (omega arith) (omega arith) refl (λ r. absurd (let z : ⊥ = cc in z)));
-      queued = h.queued;
-      made = λ X. rw (append_assoc commits (e ∷ []) X) (more-made d c program first words commits s i (e ∷ []) h at (e ∷ X) (next (commits ++ (e ∷ X))).entries);
-      now = λ X. rw (append_assoc commits (e ∷ []) X) (more-now d c program first words commits s i s.registers h at (e ∷ X) (next (commits ++ (e ∷ X))).registers);
-      fits = h.fits;
-      within = next-within program s.place i at;
-    }
+    → Holds d c program first words (commits ++ (fenced c s).commits) (fenced c s).after
+holds-fenced d c program first words commits s i h at next =
+    waits-or-acts (λ f. Holds d c program first words (commits ++ f.commits) f.after) stall.Fence s _ acts (same-commits d c program first words commits s h)
+  where
+    acts : s.pending ≡ [] → Holds d c program first words (commits ++ (fence c s.place ∷ [])) (advanced s)
+    acts q =
+        let e : Entry = fence c s.place in
+        let v : Sees d c (s.place + s.place) words h.done commits = subst (λ z. Sees d c (s.place + s.place) words h.done z) (ap (λ z. commits ++ z) q ∙ append-nil commits) h.sees in
+        record {
+          done = h.done ++ (e ∷ []);
+          sees = subst (λ z. Sees d c ((s.place + 1) + (s.place + 1)) words (h.done ++ (e ∷ [])) z) (sym (ap (λ z. (commits ++ (e ∷ [])) ++ z) q ∙ append-nil (commits ++ (e ∷ []))))
+              (sees-last d c (s.place + s.place) ((s.place + 1) + (s.place + 1)) words h.done commits e v refl (omega arith) (omega arith) refl (λ r. absurd (let z : ⊥ = cc in z)));
+          queued = h.queued;
+          made = λ X. rw (append_assoc commits (e ∷ []) X) (more-made d c program first words commits s i (e ∷ []) h at (e ∷ X) (next (commits ++ (e ∷ X))).entries);
+          now = λ X. rw (append_assoc commits (e ∷ []) X) (more-now d c program first words commits s i s.registers h at (e ∷ X) (next (commits ++ (e ∷ X))).registers);
+          fits = h.fits;
+          within = next-within program s.place i at;
+        }
 
 -- a locked instruction, where nothing is pending
 holds-locked : (d c : ℕ) (program : List Instr) (first words memory : List ℕ) (commits : List Entry) (s : CoreState) (i : Instr) (loc : Loc) (reg : Reg) (w : ℕ) → Holds d c program first words commits s
-    → slice_get program s.place ≡ Some i → IsMemory words commits memory → loc.0 < length words → (p : List Entry) → s.pending ≡ p
+    → slice_get program s.place ≡ Some i → IsMemory words commits memory → loc.0 < length words
     → ((X : List Entry) → read_value c s.place LR X ≡ slice_index memory loc.0
     → Issues c s i X (entry c s.place LR loc (slice_index memory loc.0) ∷ (entry c s.place LW loc w ∷ [])) (with_value s.registers reg (slice_index memory loc.0)))
-    → Holds d c program first words (commits ++ (locked c s loc reg (slice_index memory loc.0) w p).commits) (locked c s loc reg (slice_index memory loc.0) w p).after
-holds-locked d c program first words memory commits s i loc reg w h at m l (x ∷ xs) q next = same-commits d c program first words commits s h
-holds-locked d c program first words memory commits s i loc reg w h at m l [] q next =
-    let v : ℕ = slice_index memory loc.0 in
-    let a : Entry = entry c s.place LR loc v in
-    let b : Entry = entry c s.place LW loc w in
-    let before : Sees d c (s.place + s.place) words h.done commits = subst (λ z. Sees d c (s.place + s.place) words h.done z) (ap (λ z. commits ++ z) q ∙ append-nil commits) h.sees in
-    let read : Sees d c (s.place + s.place + 1) words (h.done ++ (a ∷ [])) (commits ++ (a ∷ [])) =
-    sees-last d c (s.place + s.place) (s.place + s.place + 1) words h.done commits a before refl (omega arith) (omega arith) refl (λ r. m loc.0 l) in
-    let both : Sees d c ((s.place + 1) + (s.place + 1)) words ((h.done ++ (a ∷ [])) ++ (b ∷ [])) ((commits ++ (a ∷ [])) ++ (b ∷ [])) =
-    sees-store d c (s.place + s.place + 1) ((s.place + 1) + (s.place + 1)) words (h.done ++ (a ∷ [])) (commits ++ (a ∷ [])) b read refl (omega arith) (omega arith) refl in
-    let value : (X : List Entry) → read_value c s.place LR (commits ++ (a ∷ (b ∷ X))) ≡ v = λ X.
-    read_value-behind c s.place LR commits (b ∷ X) a (behind_place c s.place commits before.behind) (reads c s.place loc v) in
-    record {
-      done = h.done ++ (a ∷ (b ∷ []));
-      sees = subst (λ z. Sees d c ((s.place + 1) + (s.place + 1)) words z ((commits ++ (a ∷ (b ∷ []))) ++ s.pending)) (append_assoc h.done (a ∷ []) (b ∷ []))
-          (subst (λ z. Sees d c ((s.place + 1) + (s.place + 1)) words ((h.done ++ (a ∷ [])) ++ (b ∷ [])) z)
-          (append_assoc commits (a ∷ []) (b ∷ []) ∙ sym (append-nil (commits ++ (a ∷ (b ∷ [])))) ∙ sym (ap (λ z. (commits ++ (a ∷ (b ∷ []))) ++ z) q)) both);
-      queued = h.queued;
-      made = λ X. rw (append_assoc commits (a ∷ (b ∷ [])) X) (more-made d c program first words commits s i (a ∷ (b ∷ [])) h at (a ∷ (b ∷ X)) (next (commits ++ (a ∷ (b ∷ X))) (value X)).entries);
-      now = λ X. rw (append_assoc commits (a ∷ (b ∷ [])) X) (more-now d c program first words commits s i (with_value s.registers reg v) h at (a ∷ (b ∷ X)) (next (commits ++ (a ∷ (b ∷ X))) (value X)).registers);
-      fits = h.fits;
-      within = next-within program s.place i at;
-    }
+    → Holds d c program first words (commits ++ (locked c s loc reg (slice_index memory loc.0) w).commits) (locked c s loc reg (slice_index memory loc.0) w).after
+holds-locked d c program first words memory commits s i loc reg w h at m l next =
+    waits-or-acts (λ f. Holds d c program first words (commits ++ f.commits) f.after) stall.Lock s _ acts (same-commits d c program first words commits s h)
   where
     reads : (c place : ℕ) (loc : Loc) (v : ℕ) → is_at c place LR (entry c place LR loc v) ≡ true
     reads c place loc v = grind (arith, nat_tests)
+
+    acts : s.pending ≡ [] → Holds d c program first words (commits ++ (entry c s.place LR loc (slice_index memory loc.0) ∷ (entry c s.place LW loc w ∷ []))) (advanced_with s reg (slice_index memory loc.0))
+    acts q =
+        let v : ℕ = slice_index memory loc.0 in
+        let a : Entry = entry c s.place LR loc v in
+        let b : Entry = entry c s.place LW loc w in
+        let before : Sees d c (s.place + s.place) words h.done commits = subst (λ z. Sees d c (s.place + s.place) words h.done z) (ap (λ z. commits ++ z) q ∙ append-nil commits) h.sees in
+        let read : Sees d c (s.place + s.place + 1) words (h.done ++ (a ∷ [])) (commits ++ (a ∷ [])) =
+        sees-last d c (s.place + s.place) (s.place + s.place + 1) words h.done commits a before refl (omega arith) (omega arith) refl (λ r. m loc.0 l) in
+        let both : Sees d c ((s.place + 1) + (s.place + 1)) words ((h.done ++ (a ∷ [])) ++ (b ∷ [])) ((commits ++ (a ∷ [])) ++ (b ∷ [])) =
+        sees-store d c (s.place + s.place + 1) ((s.place + 1) + (s.place + 1)) words (h.done ++ (a ∷ [])) (commits ++ (a ∷ [])) b read refl (omega arith) (omega arith) refl in
+        let value : (X : List Entry) → read_value c s.place LR (commits ++ (a ∷ (b ∷ X))) ≡ v = λ X.
+        read_value-behind c s.place LR commits (b ∷ X) a (behind_place c s.place commits before.behind) (reads c s.place loc v) in
+        record {
+          done = h.done ++ (a ∷ (b ∷ []));
+          sees = subst (λ z. Sees d c ((s.place + 1) + (s.place + 1)) words z ((commits ++ (a ∷ (b ∷ []))) ++ s.pending)) (append_assoc h.done (a ∷ []) (b ∷ []))
+              (subst (λ z. Sees d c ((s.place + 1) + (s.place + 1)) words ((h.done ++ (a ∷ [])) ++ (b ∷ [])) z)
+              (append_assoc commits (a ∷ []) (b ∷ []) ∙ sym (append-nil (commits ++ (a ∷ (b ∷ [])))) ∙ sym (ap (λ z. (commits ++ (a ∷ (b ∷ []))) ++ z) q)) both);
+          queued = h.queued;
+          made = λ X. rw (append_assoc commits (a ∷ (b ∷ [])) X) (more-made d c program first words commits s i (a ∷ (b ∷ [])) h at (a ∷ (b ∷ X)) (next (commits ++ (a ∷ (b ∷ X))) (value X)).entries);
+          now = λ X. rw (append_assoc commits (a ∷ (b ∷ [])) X) (more-now d c program first words commits s i (with_value s.registers reg v) h at (a ∷ (b ∷ X)) (next (commits ++ (a ∷ (b ∷ X))) (value X)).registers);
+          fits = h.fits;
+          within = next-within program s.place i at;
+        }
 
 -- a step of the core itself
 pub holds-step : (c d : ℕ) (program : List Instr) (first words memory : List ℕ) (commits : List Entry) (s : CoreState) → Holds d c program first words commits s
@@ -257,33 +267,29 @@ pub holds-step : (c d : ℕ) (program : List Instr) (first words memory : List �
     → (i : Option Instr) → slice_get program s.place ≡ i
     → Holds d c program first words (commits ++ (step_of d memory c i s).commits) (step_of d memory c i s).after
 holds-step c d program first words memory commits s h m k None e = same-commits d c program first words commits s h
-holds-step c d program first words memory commits s h m k (Some (StoreImm loc value)) e =
-    holds-stored c d program first words commits s (StoreImm loc value) (entry c s.place W loc value) h e refl refl refl (k s.place (StoreImm loc value) e)
-    (λ X. record { entries = refl; registers = refl })
-holds-step c d program first words memory commits s h m k (Some (StoreReg loc reg)) e =
-    holds-stored c d program first words commits s (StoreReg loc reg) (entry c s.place W loc (value_in s.registers reg)) h e refl refl refl (k s.place (StoreReg loc reg) e)
-    (λ X. record { entries = refl; registers = refl })
-holds-step c d program first words memory commits s h m k (Some (Load reg loc)) e =
-    holds-load d c program first words memory commits s (Load reg loc) loc reg h e m (k s.place (Load reg loc) e)
-    (λ X v r. record { entries = rw r refl; registers = rw r refl })
-holds-step c d program first words memory commits s h m k (Some (SetImm reg value)) e =
-    same-commits d c program first words commits _ (holds-moved d c program first words commits s (SetImm reg value) reg value h e (λ X. record { entries = refl; registers = refl }))
-holds-step c d program first words memory commits s h m k (Some (SetReg reg other)) e =
-    same-commits d c program first words commits _ (holds-moved d c program first words commits s (SetReg reg other) reg (value_in s.registers other) h e (λ X. record { entries = refl; registers = refl }))
-holds-step c d program first words memory commits s h m k (Some Fence) e =
-    holds-fenced d c program first words commits s Fence h e s.pending refl (λ X. record { entries = refl; registers = refl })
-holds-step c d program first words memory commits s h m k (Some (Xchg loc reg)) e =
-    holds-locked d c program first words memory commits s (Xchg loc reg) loc reg (value_in s.registers reg) h e m (k s.place (Xchg loc reg) e) s.pending refl
-    (λ X r. record { entries = rw r refl; registers = rw r refl })
-holds-step c d program first words memory commits s h m k (Some (Xadd loc reg)) e =
-    holds-locked d c program first words memory commits s (Xadd loc reg) loc reg (sum_of (slice_index memory loc.0) (value_in s.registers reg)) h e m (k s.place (Xadd loc reg) e) s.pending refl
-    (λ X r. record { entries = rw r refl; registers = rw r refl })
+holds-step c d program first words memory commits s h m k (Some i) e = by_action (action_of i) refl
+  where
+    by_action : (a : Action) → action_of i ≡ a → Holds d c program first words (commits ++ (effect_by d memory c a s).commits) (effect_by d memory c a s).after
+    by_action (Store loc operand) is =
+        holds-stored c d program first words commits s i (entry c s.place W loc (value_of s.registers operand)) h e refl refl refl (rw is at (k s.place i e))
+        (λ X. record { entries = rw is refl; registers = rw is refl })
+    by_action (Load reg loc) is =
+        holds-load d c program first words memory commits s i loc reg h e m (rw is at (k s.place i e))
+        (λ X v r. record { entries = rw (is, r) refl; registers = rw (is, r) refl })
+    by_action (Move reg operand) is =
+        same-commits d c program first words commits _ (holds-moved d c program first words commits s i reg (value_of s.registers operand) h e (λ X. record { entries = rw is refl; registers = rw is refl }))
+    by_action Fence is =
+        holds-fenced d c program first words commits s i h e (λ X. record { entries = rw is refl; registers = rw is refl })
+    by_action (Lock loc reg update) is =
+        holds-locked d c program first words memory commits s i loc reg (updated update (slice_index memory loc.0) (value_in s.registers reg)) h e m (rw is at (k s.place i e))
+        (λ X r. record { entries = rw (is, r) refl; registers = rw (is, r) refl })
 
 -- a drain of the core itself
 pub holds-drained : (d c : ℕ) (program : List Instr) (first words : List ℕ) (commits : List Entry) (s : CoreState) → Holds d c program first words commits s
-    → (p : List Entry) → s.pending ≡ p → Holds d c program first words (commits ++ (drain_of s p).commits) (drain_of s p).after
-holds-drained d c program first words commits s h [] e = same-commits d c program first words commits s h
-holds-drained d c program first words commits s h (x ∷ xs) e = holds-drain d c program first words commits s x xs h e
+    → Holds d c program first words (commits ++ (drain_of s).commits) (drain_of s).after
+holds-drained d c program first words commits s h =
+    drains (λ f. Holds d c program first words (commits ++ f.commits) f.after) s (same-commits d c program first words commits s h)
+    (λ x xs e. holds-drain d c program first words commits s x xs h e)
 
 -- commits of another core
 pub holds-others : (d c : ℕ) (program : List Instr) (first words : List ℕ) (commits es : List Entry) (s : CoreState) → Holds d c program first words commits s
@@ -302,9 +308,9 @@ abbrev pub KnownAt : ℕ → Option Instr → Type 0
 KnownAt locations None = Unit {0}
 KnownAt locations (Some i) = KnownLocation locations i
 
-locked-commits : (c locations : ℕ) (s : CoreState) (loc : Loc) (reg : Reg) (v w : ℕ) → loc.0 < locations → (p : List Entry) → Each (Commits c locations) (locked c s loc reg v w p).commits
-locked-commits c locations s loc reg v w l [] = (record { own = refl; known = λ f. l }, (record { own = refl; known = λ f. l }, tt))
-locked-commits c locations s loc reg v w l (p ∷ ps) = tt
+locked-commits : (c locations : ℕ) (s : CoreState) (loc : Loc) (reg : Reg) (v w : ℕ) → loc.0 < locations → Each (Commits c locations) (locked c s loc reg v w).commits
+locked-commits c locations s loc reg v w l =
+    waits-or-acts (λ f. Each (Commits c locations) f.commits) stall.Lock s _ (λ e. (record { own = refl; known = λ f. l }, (record { own = refl; known = λ f. l }, tt))) tt
 
 stored-commits : (c locations depth : ℕ) (s : CoreState) (e : Entry) → e.core.0 ≡ c → e.loc.0 < locations → Each (Commits c locations) (stored depth s e).commits
 stored-commits c locations zero s e k l = (record { own = k; known = λ f. l }, tt)
@@ -312,22 +318,20 @@ stored-commits c locations (suc n) s e k l = elim (nat_lt (length s.pending) (su
 
 pub step-commits : (c depth locations : ℕ) (memory : List ℕ) (i : Option Instr) (s : CoreState) → KnownAt locations i → Each (Commits c locations) (step_of depth memory c i s).commits
 step-commits c depth locations memory None s known = tt
-step-commits c depth locations memory (Some (StoreImm loc value)) s known = stored-commits c locations depth s _ refl known
-step-commits c depth locations memory (Some (StoreReg loc reg)) s known = stored-commits c locations depth s _ refl known
-step-commits c depth locations memory (Some (Load reg loc)) s known = (record { own = refl; known = λ f. absurd (let z : ⊥ = cc in z) }, tt)
-step-commits c depth locations memory (Some (SetImm reg value)) s known = tt
-step-commits c depth locations memory (Some (SetReg reg other)) s known = tt
-step-commits c depth locations memory (Some Fence) s known = go s.pending
+step-commits c depth locations memory (Some i) s known = by_action (action_of i) known
   where
-    go : (p : List Entry) → Each (Commits c locations) (fenced c s p).commits
-    go [] = (record { own = refl; known = λ f. absurd (let z : ⊥ = cc in z) }, tt)
-    go (p ∷ ps) = tt
-step-commits c depth locations memory (Some (Xchg loc reg)) s known = locked-commits c locations s loc _ _ _ known s.pending
-step-commits c depth locations memory (Some (Xadd loc reg)) s known = locked-commits c locations s loc _ _ _ known s.pending
+    by_action : (a : Action) → IfSome (location_of a) (λ loc. loc.0 < locations) → Each (Commits c locations) (effect_by depth memory c a s).commits
+    by_action (Store loc operand) known = stored-commits c locations depth s _ refl known
+    by_action (Load reg loc) known = (record { own = refl; known = λ f. absurd (let z : ⊥ = cc in z) }, tt)
+    by_action (Move reg operand) known = tt
+    by_action Fence known =
+        waits-or-acts (λ f. Each (Commits c locations) f.commits) stall.Fence s _ (λ e. (record { own = refl; known = λ f. absurd (let z : ⊥ = cc in z) }, tt)) tt
+    by_action (Lock loc reg update) known = locked-commits c locations s loc _ _ _ known
 
-pub drain-commits : (c locations : ℕ) (s : CoreState) (p : List Entry) → Each (Queued c locations) p → Each (Commits c locations) (drain_of s p).commits
-drain-commits c locations s [] q = tt
-drain-commits c locations s (x ∷ xs) q = (record { own = q.0.own; known = λ f. q.0.known }, tt)
+pub drain-commits : (c locations : ℕ) (s : CoreState) → Each (Queued c locations) s.pending → Each (Commits c locations) (drain_of s).commits
+drain-commits c locations s q =
+    drains (λ f. Each (Commits c locations) f.commits) s tt
+    (λ x xs e. let h = (subst (λ z. Each (Queued c locations) z) e q).0 in (record { own = h.own; known = λ f. h.known }, tt))
 
 -- each load part in the list is followed at once by its store part
 pub record Next (x : Entry) (xs : List Entry) : Type 0 where
@@ -349,26 +353,22 @@ stored-paired : (depth : ℕ) (s : CoreState) (e : Entry) → e.kind ≡ W → P
 stored-paired zero s e w = (λ q. absurd (let z : ⊥ = cc in z), tt)
 stored-paired (suc n) s e w = elim (nat_lt (length s.pending) (suc n)) as (λ b. Paired (if b then put s e else stalled stall.Full s).commits) [ true ↦ tt | false ↦ tt ]
 
-locked-paired : (c : ℕ) (s : CoreState) (loc : Loc) (reg : Reg) (v w : ℕ) (p : List Entry) → Paired (locked c s loc reg v w p).commits
-locked-paired c s loc reg v w [] =
-    (λ e. record { store = entry c s.place LW loc w; rest = []; is = refl; pair = record { core = refl; place = refl; kind = refl } }, (λ e. absurd (let z : ⊥ = cc in z), tt))
-locked-paired c s loc reg v w (p ∷ ps) = tt
+locked-paired : (c : ℕ) (s : CoreState) (loc : Loc) (reg : Reg) (v w : ℕ) → Paired (locked c s loc reg v w).commits
+locked-paired c s loc reg v w =
+    waits-or-acts (λ f. Paired f.commits) stall.Lock s _
+    (λ n. (λ e. record { store = entry c s.place LW loc w; rest = []; is = refl; pair = record { core = refl; place = refl; kind = refl } }, (λ e. absurd (let z : ⊥ = cc in z), tt))) tt
 
 pub step-paired : (c depth : ℕ) (memory : List ℕ) (i : Option Instr) (s : CoreState) → Paired (step_of depth memory c i s).commits
 step-paired c depth memory None s = tt
-step-paired c depth memory (Some (StoreImm loc value)) s = stored-paired depth s _ refl
-step-paired c depth memory (Some (StoreReg loc reg)) s = stored-paired depth s _ refl
-step-paired c depth memory (Some (Load reg loc)) s = (λ e. absurd (let z : ⊥ = cc in z), tt)
-step-paired c depth memory (Some (SetImm reg value)) s = tt
-step-paired c depth memory (Some (SetReg reg other)) s = tt
-step-paired c depth memory (Some Fence) s = go s.pending
+step-paired c depth memory (Some i) s = by_action (action_of i)
   where
-    go : (p : List Entry) → Paired (fenced c s p).commits
-    go [] = (λ e. absurd (let z : ⊥ = cc in z), tt)
-    go (p ∷ ps) = tt
-step-paired c depth memory (Some (Xchg loc reg)) s = locked-paired c s loc _ _ _ s.pending
-step-paired c depth memory (Some (Xadd loc reg)) s = locked-paired c s loc _ _ _ s.pending
+    by_action : (a : Action) → Paired (effect_by depth memory c a s).commits
+    by_action (Store loc operand) = stored-paired depth s _ refl
+    by_action (Load reg loc) = (λ e. absurd (let z : ⊥ = cc in z), tt)
+    by_action (Move reg operand) = tt
+    by_action Fence = waits-or-acts (λ f. Paired f.commits) stall.Fence s _ (λ n. (λ e. absurd (let z : ⊥ = cc in z), tt)) tt
+    by_action (Lock loc reg update) = locked-paired c s loc _ _ _
 
-pub drain-paired : (c locations : ℕ) (s : CoreState) (p : List Entry) → Each (Queued c locations) p → Paired (drain_of s p).commits
-drain-paired c locations s [] q = tt
-drain-paired c locations s (x ∷ xs) q = (λ e. absurd (let k = q.0.kind in let z : ⊥ = cc in z), tt)
+pub drain-paired : (c locations : ℕ) (s : CoreState) → Each (Queued c locations) s.pending → Paired (drain_of s).commits
+drain-paired c locations s q =
+    drains (λ f. Paired f.commits) s tt (λ x xs e. (λ l. absurd (let k = (subst (λ z. Each (Queued c locations) z) e q).0.kind in let z : ⊥ = cc in z), tt))

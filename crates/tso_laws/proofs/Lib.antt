@@ -1,3 +1,5 @@
+pub mod Ranks
+pub mod Draining
 pub mod Basics
 pub mod Lists
 pub mod Folds

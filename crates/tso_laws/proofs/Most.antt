@@ -1,17 +1,20 @@
 -- No order needs more depth than a program has plain stores.
-use Rattle.std.proofs.Common.{◌≡◌, ◌<◌, ◌≤◌, ℕ, ◌+◌, zero, suc, List, [], ◌∷◌, ◌++◌, Bool, true, false, length, slice_index_or, arith, ap, sym, ◌∙◌, refl, inl, inr, subst, if◌then◌else◌, nat_lt, ◌==◌, ◌&&◌}
+use Rattle.std.proofs.Common.{◌≡◌, ◌<◌, ◌≤◌, ℕ, ◌+◌, zero, suc, List, [], ◌∷◌, ◌++◌, Bool, true, false, length, slice_index, slice_index_or, arith, ap, sym, ◌∙◌, refl, inl, inr, subst, if◌then◌else◌, nat_lt, ◌==◌, ◌&&◌}
 use Rattle.std.proofs.lemmas.Bool.Decides.{nat_tests}
-use Rattle.tso_model.specs.Thread.{entries_of}
+use Rattle.tso_model.specs.Actions.{action_of}
+use Rattle.tso_model.specs.Thread.{entries_by, entries_of}
 use Rattle.tso_model.specs.Litmus.{Litmus}
 use Rattle.tso_laws.proofs.Basics.{max-left, max-right, max-within, load-kind}
 use Rattle.tso_laws.specs.Depth.{needed}
-use Rattle.tso_laws.specs.Counting.{stores_in, most_stores}
-use Rattle.tso_model.specs.ProgramOrder.{rank, is_store, is_load}
+use Rattle.tso_laws.specs.Counting.{store_count, stores_in, most_stores}
+use Rattle.tso_model.specs.ProgramOrder.{is_store, is_load}
+use Rattle.tso_laws.proofs.Ranks.{rank}
 use Rattle.tso_laws.proofs.Folds.{needed-is, passed, asks, needs}
 use Rattle.tso_model.specs.Execution.{read_values, made_by, IsTsoExecution}
 use Rattle.tso_model.specs.declared.execution.Entry.{Entry}
 use Rattle.tso_model.specs.declared.instruction.Instr.{Instr}
-use Rattle.tso_model.specs.declared.instruction.Instr.TheVariants.{StoreImm, StoreReg, Load, SetImm, SetReg, Fence, Xchg, Xadd}
+use Rattle.tso_model.specs.declared.action.Action.{Action}
+use Rattle.tso_model.specs.declared.action.Action.TheVariants.{Store, Load, Move, Fence, Lock}
 use Rattle.tso_model.specs.FlatMachine.{program_of}
 use Rattle.tso_laws.proofs.Lists.{Member}
 use Rattle.tso_laws.proofs.Held.{member-left, member-right, member-split, each-of, Distinct, Apart, is_held, held, held-passed}
@@ -45,16 +48,17 @@ pick-member e (y ∷ ys) (inr m) w = go (is_store y) (pick-member e ys m w)
     go true h = inr h
     go false h = h
 
-pick-count : (c place : ℕ) (p : List Instr) (registers reads : List ℕ) → length (pick (entries_of c place p registers reads)) ≡ stores_in p
-pick-count c place [] registers reads = refl
-pick-count c place (StoreImm loc value ∷ p) registers reads = let h = pick-count c (place + 1) p registers reads in omega arith
-pick-count c place (StoreReg loc reg ∷ p) registers reads = let h = pick-count c (place + 1) p registers reads in omega arith
-pick-count c place (Load reg loc ∷ p) registers reads = pick-count c (place + 1) p _ _ ∙ (let z : stores_in p ≡ 0 + stores_in p = omega arith in z)
-pick-count c place (SetImm reg value ∷ p) registers reads = pick-count c (place + 1) p _ _ ∙ (let z : stores_in p ≡ 0 + stores_in p = omega arith in z)
-pick-count c place (SetReg reg other ∷ p) registers reads = pick-count c (place + 1) p _ _ ∙ (let z : stores_in p ≡ 0 + stores_in p = omega arith in z)
-pick-count c place (Fence ∷ p) registers reads = pick-count c (place + 1) p _ _ ∙ (let z : stores_in p ≡ 0 + stores_in p = omega arith in z)
-pick-count c place (Xchg loc reg ∷ p) registers reads = pick-count c (place + 1) p _ _ ∙ (let z : stores_in p ≡ 0 + stores_in p = omega arith in z)
-pick-count c place (Xadd loc reg ∷ p) registers reads = pick-count c (place + 1) p _ _ ∙ (let z : stores_in p ≡ 0 + stores_in p = omega arith in z)
+pick-by : (c place : ℕ) (a : Action) (registers : List ℕ) (word : ℕ) (xs : List Entry) → length (pick (entries_by c place a registers word ++ xs)) ≡ store_count a + length (pick xs)
+pick-by c place (Store loc operand) registers word xs = omega arith
+pick-by c place (Load reg loc) registers word xs = omega arith
+pick-by c place (Move reg operand) registers word xs = omega arith
+pick-by c place Fence registers word xs = omega arith
+pick-by c place (Lock loc reg update) registers word xs = omega arith
+
+pick-count : (c place : ℕ) (p : List Instr) (registers values : List ℕ) → length (pick (entries_of c place p registers values)) ≡ stores_in p
+pick-count c place [] registers values = refl
+pick-count c place (i ∷ p) registers values =
+    pick-by c place (action_of i) registers (slice_index values 0) _ ∙ ap (λ n. store_count (action_of i) + n) (pick-count c (place + 1) p _ _)
 
 -- what is held are stores of the core, in the list
 pub record In (k : ℕ) (ys : List Entry) (e : Entry) : Type 0 where

@@ -1,12 +1,13 @@
 -- What the entry at the head of the back needs, and that it is then committed.
-use Rattle.std.proofs.Common.{◌≡◌, ◌≢◌, ◌<◌, ◌≤◌, ℕ, ◌+◌, suc, List, [], ◌∷◌, ◌++◌, Some, Bool, true, false, length, slice_get, slice_set, slice_index, slice_index_or, drop, arith, ap, sym, ◌∙◌, refl, ◌⊎◌, inl, inr, subst, ◌==◌, ◌&&◌, ◌%◌, ◌^◌}
+use Rattle.std.proofs.Common.{◌≡◌, ◌≢◌, ◌<◌, ◌≤◌, ℕ, ◌+◌, suc, List, [], ◌∷◌, ◌++◌, Some, Bool, true, false, length, slice_get, slice_index, slice_index_or, drop, arith, ap, sym, ◌∙◌, refl, ◌⊎◌, inl, inr, subst, ◌==◌, ◌&&◌}
 use Rattle.std.proofs.lemmas.Option.{slice_get-get_or}
-use Rattle.tso_model.specs.Registers.{index_of}
-use Rattle.tso_model.specs.Thread.{entry, entries_of}
+use Rattle.tso_model.specs.Actions.{action_of}
+use Rattle.tso_model.specs.Thread.{entry, value_in, with_value, value_of, updated, entries_by, entries_of}
 use Rattle.tso_model.specs.Litmus.{Litmus}
 use Rattle.tso_laws.proofs.Basics.{le-by, max-left, max-right, and-false, part-small, load-kind, before, core-before}
 use Rattle.tso_laws.proofs.Folds.{needs, asks, passed, passes, last_word, last_own, word-is}
-use Rattle.tso_model.specs.ProgramOrder.{is_write, is_read_kind, is_before, rank, may_be_passed, is_store, is_store_kind, is_load, is_load_kind}
+use Rattle.tso_model.specs.ProgramOrder.{is_write, is_before, may_be_passed, is_store, is_load}
+use Rattle.tso_laws.proofs.Ranks.{is_read_kind, rank, is_store_kind, is_load_kind}
 use Rattle.tso_model.specs.Execution.{read_value, read_values}
 use Rattle.tso_model.specs.declared.execution.Entry.{Entry}
 use Rattle.tso_model.specs.declared.instruction.Loc.{Loc}
@@ -14,15 +15,19 @@ use Rattle.tso_model.specs.declared.register.Reg.{Reg}
 use Rattle.tso_model.specs.declared.execution.Kind.{Kind}
 use Rattle.tso_model.specs.declared.execution.Kind.TheVariants.{R, W, F, LR, LW}
 use Rattle.tso_model.specs.declared.instruction.Instr.{Instr}
-use Rattle.tso_model.specs.declared.instruction.Instr.TheVariants.{StoreImm, StoreReg, Load, SetImm, SetReg, Fence, Xchg, Xadd}
-use Rattle.tso_laws.specs.Choices.{step, drain}
-use Rattle.tso_model.specs.FlatMachine.{core_of, CoreState, State, program_of, loaded, seen, fenced, locked, effect_of, after_choice}
+use Rattle.tso_model.specs.declared.instruction.Instr.TheVariants as instr
+use Rattle.tso_model.specs.declared.action.Action.{Action}
+use Rattle.tso_model.specs.declared.action.Action.TheVariants.{Store, Load, Move, Fence, Lock}
+use Rattle.tso_model.specs.FlatMachine.{core_of, CoreState, State, program_of, advanced, advanced_with, loaded, load_value, fenced, locked, effect_of, after_choice, step, drain}
 use Rattle.tso_laws.specs.Along.{drained}
-use Rattle.tso_laws.proofs.Lists.{Each, each-map, Member, drop_at}
+use Rattle.tso_laws.proofs.Lists.{Each, each-map, each-append, Member, drop_at}
 use Rattle.tso_laws.proofs.Entries.{Fine}
+use Rattle.tso_laws.proofs.Draining.{acts-when}
+use Rattle.tso_model.specs.declared.choice.Stall.TheVariants as stall
+use Rattle.tso_model.specs.declared.choice.Outcome.TheVariants.{Committed}
 use Rattle.tso_laws.proofs.Holds.{left, Paired, Next}
 use Rattle.tso_laws.proofs.Held.{member-right, each-of, held, held-same, held-none, held-more, held-passed, own-held}
-use Rattle.tso_laws.proofs.Goes.{first_of, Good, Stands, Goes, goes-append, choice-goes}
+use Rattle.tso_laws.proofs.Goes.{first_of, entries-at, Good, Stands, Goes, goes-append, choice-goes}
 use Rattle.tso_laws.proofs.Quiet.{at-place, in-back, OnlyStores, back-ordered, back-distinct, quiet-goes, drain-goes}
 
 passes-store : (a b : Kind) → passes a b ≡ true → is_store_kind a ≡ true
@@ -161,7 +166,7 @@ held-skipped k n x back h = rw h refl
 pub load-onward : (d : ℕ) (t : Litmus) (order front back : List Entry) (state : State) (x : Entry) (reg : Reg) (loc : Loc) (rv : ℕ) → Good d t order → Stands d t order front (x ∷ back) state → x.core.0 < length t.programs
     → (core_of state x.core.0).place ≡ x.place → x.place < length (program_of t x.core.0) → loc.0 < length t.words
     → (q : List Instr) (registers reads : List ℕ) → left x.core.0 (program_of t x.core.0) (core_of state x.core.0) order ≡ (entry x.core.0 (core_of state x.core.0).place R loc rv ∷ []) ++ entries_of x.core.0 ((core_of state x.core.0).place + 1) q registers reads
-    → effect_of t d state (step x.core.0) ≡ loaded (core_of state x.core.0) reg (entry x.core.0 (core_of state x.core.0).place R loc (seen state.memory (core_of state x.core.0) loc.0))
+    → effect_of t d state (step x.core.0) ≡ loaded (core_of state x.core.0) reg (entry x.core.0 (core_of state x.core.0).place R loc (load_value state.memory (core_of state x.core.0) loc.0))
     → One d t order front x back state
 load-onward d t order front back state x reg loc rv g st l p u known q registers reads eq effect =
     let k : ℕ = x.core.0 in
@@ -174,10 +179,10 @@ load-onward d t order front back state x reg loc rv g st l p u known q registers
     let waits : s.pending ≡ held k x.place back = st.waits k l ∙ held-skipped k s.place x back not ∙ ap (λ z. held k z back) p in
     let value : x.value ≡ last_own x back (last_word x.loc.0 front (slice_index t.words x.loc.0)) = g.due front x back st.is (ap is_read_kind kind) in
     let own = own-held x back (last_word x.loc.0 front (slice_index t.words x.loc.0)) kind (λ y m b. passes-store y.kind x.kind (fine-at d t order front back state x y g st l m b)) in
-    let seen_is : seen state.memory s loc.0 ≡ x.value =
+    let seen_is : load_value state.memory s loc.0 ≡ x.value =
     word-is loc.0 s.pending (slice_index state.memory loc.0) ∙ ap (λ z. last_word loc.0 s.pending z) (st.world.memory loc.0 known) ∙ ap (λ z. last_word loc.0 z (last_word loc.0 front (slice_index t.words loc.0))) waits
     ∙ ap (λ z. last_word z.0 (held k x.place back) (last_word z.0 front (slice_index t.words z.0))) (sym where_) ∙ sym own ∙ sym value in
-    let committed : entry k s.place R loc (seen state.memory s loc.0) ≡ x = ap (λ z. entry k s.place R loc z) (seen_is ∙ ap (λ z. z.value) is) ∙ sym is in
+    let committed : entry k s.place R loc (load_value state.memory s loc.0) ≡ x = ap (λ z. entry k s.place R loc z) (seen_is ∙ ap (λ z. z.value) is) ∙ sym is in
     let same = held-same k s.place back (λ y m c w. other-held d t order front back state x (e ∷ []) g st l q registers reads eq (refl, tt) y (inr m) c w) in
     record {
       goes = rw not (choice-goes d t order front (x ∷ []) back state (step k) k (x.place + 1) g st refl l (rw effect refl) (rw effect (ap (λ z. z ∷ []) committed)) (refl, tt)
@@ -212,7 +217,7 @@ fence-onward : (d : ℕ) (t : Litmus) (order front back : List Entry) (state : S
     → (core_of state x.core.0).place ≡ x.place → x.place < length (program_of t x.core.0)
     → (q : List Instr) (registers reads : List ℕ) → left x.core.0 (program_of t x.core.0) (core_of state x.core.0) order
     ≡ (entry x.core.0 (core_of state x.core.0).place F (record { 0 = 0 }) 0 ∷ []) ++ entries_of x.core.0 ((core_of state x.core.0).place + 1) q registers reads
-    → effect_of t d state (step x.core.0) ≡ fenced x.core.0 (core_of state x.core.0) (core_of state x.core.0).pending
+    → effect_of t d state (step x.core.0) ≡ fenced x.core.0 (core_of state x.core.0)
     → One d t order front x back state
 fence-onward d t order front back state x g st l p u q registers reads eq effect =
     let k : ℕ = x.core.0 in
@@ -223,7 +228,7 @@ fence-onward d t order front back state x g st l p u q registers reads eq effect
     let load : is_load x ≡ false = ap is_load is in
     let empty = none-waits d t order front back state x g st l p load in
     let later = none-after d t order front back state x (e ∷ []) back g st l p load q registers reads eq (refl, tt) (λ y m. m) in
-    let acts : effect_of t d state (step k) ≡ fenced k s [] = effect ∙ ap (λ z. fenced k s z) empty in
+    let acts : effect_of t d state (step k) ≡ record { outcome = Committed; after = advanced s; commits = e ∷ [] } = effect ∙ acts-when stall.Fence s _ empty in
     record {
       goes = rw not (choice-goes d t order front (x ∷ []) back state (step k) k (x.place + 1) g st refl l (rw acts refl) (rw acts (ap (λ z. z ∷ []) (sym is))) (refl, tt)
           (rw acts (ap (λ z. z + 1) p)) (omega arith) (rw acts (empty ∙ sym later)));
@@ -255,7 +260,7 @@ locked-onward : (d : ℕ) (t : Litmus) (order front back : List Entry) (state : 
     → (core_of state x.core.0).place ≡ x.place → x.place < length (program_of t x.core.0) → loc.0 < length t.words
     → (q : List Instr) (registers reads : List ℕ) → left x.core.0 (program_of t x.core.0) (core_of state x.core.0) order
     ≡ (entry x.core.0 (core_of state x.core.0).place LR loc rv ∷ (entry x.core.0 (core_of state x.core.0).place LW loc (f rv) ∷ [])) ++ entries_of x.core.0 ((core_of state x.core.0).place + 1) q registers reads
-    → effect_of t d state (step x.core.0) ≡ locked x.core.0 (core_of state x.core.0) loc reg (slice_index state.memory loc.0) (f (slice_index state.memory loc.0)) (core_of state x.core.0).pending
+    → effect_of t d state (step x.core.0) ≡ locked x.core.0 (core_of state x.core.0) loc reg (slice_index state.memory loc.0) (f (slice_index state.memory loc.0))
     → Two d t order front x back state
 locked-onward d t order front back state x reg loc rv f g st l p u known q registers reads eq effect =
     let k : ℕ = x.core.0 in
@@ -278,7 +283,7 @@ locked-onward d t order front back state x reg loc rv f g st l p u known q regis
     let value : x.value ≡ last_own x back (last_word x.loc.0 front (slice_index t.words x.loc.0)) = g.due front x back st.is (ap is_read_kind kind) in
     let own = own-none x back (last_word x.loc.0 front (slice_index t.words x.loc.0)) (λ z m h. let i = passes-load z.kind x.kind (fine-at d t order front back state x z g st l m h) in let w : ⊥ = cc in w) in
     let word : slice_index state.memory loc.0 ≡ rv = st.world.memory loc.0 known ∙ ap (λ z. last_word z.0 front (slice_index t.words z.0)) (sym where_) ∙ sym own ∙ sym value ∙ ap (λ z. z.value) is in
-    let acts : effect_of t d state (step k) ≡ locked k s loc reg rv (f rv) [] = effect ∙ ap (λ z. locked k s loc reg (slice_index state.memory loc.0) (f (slice_index state.memory loc.0)) z) empty ∙ ap (λ z. locked k s loc reg z (f z) []) word in
+    let acts : effect_of t d state (step k) ≡ record { outcome = Committed; after = advanced_with s reg rv; commits = a ∷ (b ∷ []) } = effect ∙ ap (λ z. locked k s loc reg z (f z)) word ∙ acts-when stall.Lock s _ empty in
     let st' : Stands d t order front ((x ∷ (y ∷ [])) ++ next.rest) state = subst (λ z. Stands d t order front (x ∷ z) state) next.is st in
     record {
       other = y;
@@ -310,45 +315,38 @@ locked-onward d t order front back state x reg loc rv f g st l p u known q regis
 by-instruction : (d : ℕ) (t : Litmus) (order front back : List Entry) (state : State) (x : Entry) → Good d t order → Stands d t order front (x ∷ back) state → x.core.0 < length t.programs
     → (core_of state x.core.0).place ≡ x.place → x.place < length (program_of t x.core.0)
     → (i : Instr) → slice_get (program_of t x.core.0) (core_of state x.core.0).place ≡ Some i → Onward d t order front x back state
-by-instruction d t order front back state x g st l p u (StoreImm loc value) e =
-    let k : ℕ = x.core.0 in let s : CoreState = core_of state k in let q : List Instr = drop (s.place + 1) (program_of t k) in
-    inl (store-onward d t order front back state x (entry k s.place W loc value) g st l p u q s.registers (read_values k (s.place + 1) q order) (rw (drop_at (program_of t k) s.place (StoreImm loc value) e) refl) refl)
-by-instruction d t order front back state x g st l p u (StoreReg loc reg) e =
-    let k : ℕ = x.core.0 in let s : CoreState = core_of state k in let q : List Instr = drop (s.place + 1) (program_of t k) in
-    inl (store-onward d t order front back state x (entry k s.place W loc (slice_index s.registers (index_of reg))) g st l p u q s.registers (read_values k (s.place + 1) q order) (rw (drop_at (program_of t k) s.place (StoreReg loc reg) e) refl) refl)
-by-instruction d t order front back state x g st l p u (Load reg loc) e =
-    let k : ℕ = x.core.0 in let s : CoreState = core_of state k in let q : List Instr = drop (s.place + 1) (program_of t k) in let v : ℕ = read_value k s.place R order in
-    inl (load-onward d t order front back state x reg loc v g st l p u (g.known k s.place (Load reg loc) e) q (slice_set s.registers (index_of reg) v) (read_values k (s.place + 1) q order) (rw (drop_at (program_of t k) s.place (Load reg loc) e) refl) (rw e refl))
-by-instruction d t order front back state x g st l p u (SetImm reg value) e =
-    let k : ℕ = x.core.0 in let s : CoreState = core_of state k in let q : List Instr = drop (s.place + 1) (program_of t k) in
-    absurd (at-place d t order front (x ∷ back) state k g st l [] q (slice_set s.registers (index_of reg) value) (read_values k (s.place + 1) q order) (rw (drop_at (program_of t k) s.place (SetImm reg value) e) refl) x (x-in-order d t order front back state x x st (inl refl)) refl (sym p))
-by-instruction d t order front back state x g st l p u (SetReg reg other) e =
-    let k : ℕ = x.core.0 in let s : CoreState = core_of state k in let q : List Instr = drop (s.place + 1) (program_of t k) in
-    absurd (at-place d t order front (x ∷ back) state k g st l [] q (slice_set s.registers (index_of reg) (slice_index s.registers (index_of other))) (read_values k (s.place + 1) q order) (rw (drop_at (program_of t k) s.place (SetReg reg other) e) refl) x (x-in-order d t order front back state x x st (inl refl)) refl (sym p))
-by-instruction d t order front back state x g st l p u Fence e =
-    let k : ℕ = x.core.0 in let s : CoreState = core_of state k in let q : List Instr = drop (s.place + 1) (program_of t k) in
-    inl (fence-onward d t order front back state x g st l p u q s.registers (read_values k (s.place + 1) q order) (rw (drop_at (program_of t k) s.place Fence e) refl) (rw e refl))
-by-instruction d t order front back state x g st l p u (Xchg loc reg) e =
-    let k : ℕ = x.core.0 in let s : CoreState = core_of state k in let q : List Instr = drop (s.place + 1) (program_of t k) in let v : ℕ = read_value k s.place LR order in
-    inr (locked-onward d t order front back state x reg loc v (λ z. slice_index s.registers (index_of reg)) g st l p u (g.known k s.place (Xchg loc reg) e) q (slice_set s.registers (index_of reg) v) (read_values k (s.place + 1) q order) (rw (drop_at (program_of t k) s.place (Xchg loc reg) e) refl) (rw e refl))
-by-instruction d t order front back state x g st l p u (Xadd loc reg) e =
-    let k : ℕ = x.core.0 in let s : CoreState = core_of state k in let q : List Instr = drop (s.place + 1) (program_of t k) in let v : ℕ = read_value k s.place LR order in
-    inr (locked-onward d t order front back state x reg loc v (λ z. (z + slice_index s.registers (index_of reg)) % 2 ^ 32) g st l p u (g.known k s.place (Xadd loc reg) e) q (slice_set s.registers (index_of reg) v) (read_values k (s.place + 1) q order) (rw (drop_at (program_of t k) s.place (Xadd loc reg) e) refl) (rw e refl))
+by-instruction d t order front back state x g st l p u i e = by_action (action_of i) refl
+  where
+    by_action : (a : Action) → action_of i ≡ a → Onward d t order front x back state
+    by_action (Store loc operand) is =
+        let k : ℕ = x.core.0 in let s : CoreState = core_of state k in let q : List Instr = drop (s.place + 1) (program_of t k) in
+        inl (store-onward d t order front back state x (entry k s.place W loc (value_of s.registers operand)) g st l p u q s.registers (read_values k (s.place + 1) q order) (rw (drop_at (program_of t k) s.place i e, is) refl) refl)
+    by_action (Load reg loc) is =
+        let k : ℕ = x.core.0 in let s : CoreState = core_of state k in let q : List Instr = drop (s.place + 1) (program_of t k) in
+        let v : ℕ = read_value k s.place R order in
+        inl (load-onward d t order front back state x reg loc v g st l p u (rw is at (g.known k s.place i e)) q (with_value s.registers reg v) (read_values k (s.place + 1) q order) (rw (drop_at (program_of t k) s.place i e, is) refl) (rw (e, is) refl))
+    by_action (Move reg operand) is =
+        let k : ℕ = x.core.0 in let s : CoreState = core_of state k in let q : List Instr = drop (s.place + 1) (program_of t k) in
+        absurd (at-place d t order front (x ∷ back) state k g st l [] q (with_value s.registers reg (value_of s.registers operand)) (read_values k (s.place + 1) q order) (rw (drop_at (program_of t k) s.place i e, is) refl) x (x-in-order d t order front back state x x st (inl refl)) refl (sym p))
+    by_action Fence is =
+        let k : ℕ = x.core.0 in let s : CoreState = core_of state k in let q : List Instr = drop (s.place + 1) (program_of t k) in
+        inl (fence-onward d t order front back state x g st l p u q s.registers (read_values k (s.place + 1) q order) (rw (drop_at (program_of t k) s.place i e, is) refl) (rw (e, is) refl))
+    by_action (Lock loc reg update) is =
+        let k : ℕ = x.core.0 in let s : CoreState = core_of state k in let q : List Instr = drop (s.place + 1) (program_of t k) in
+        let v : ℕ = read_value k s.place LR order in
+        inr (locked-onward d t order front back state x reg loc v (λ z. updated update z (value_in s.registers reg)) g st l p u (rw is at (g.known k s.place i e)) q (with_value s.registers reg v) (read_values k (s.place + 1) q order) (rw (drop_at (program_of t k) s.place i e, is) refl) (rw (e, is) refl))
 
 higher : (place n : ℕ) (xs : List Entry) → Each (λ e. e.place < (place + 1) + n) xs → Each (λ e. e.place < place + suc n) xs
 higher place n xs h = each-map (λ e. e.place < (place + 1) + n) (λ e. e.place < place + suc n) xs (λ e q. omega (arith, q)) h
 
 -- an entry of a program has a place within it
-pub entries-below : (c place : ℕ) (p : List Instr) (registers reads : List ℕ) → Each (λ e. e.place < place + length p) (entries_of c place p registers reads)
-entries-below c place [] registers reads = tt
-entries-below c place (StoreImm loc value ∷ p) registers reads = (omega arith, higher place (length p) _ (entries-below c (place + 1) p _ _))
-entries-below c place (StoreReg loc reg ∷ p) registers reads = (omega arith, higher place (length p) _ (entries-below c (place + 1) p _ _))
-entries-below c place (Load reg loc ∷ p) registers reads = (omega arith, higher place (length p) _ (entries-below c (place + 1) p _ _))
-entries-below c place (SetImm reg value ∷ p) registers reads = higher place (length p) _ (entries-below c (place + 1) p _ _)
-entries-below c place (SetReg reg other ∷ p) registers reads = higher place (length p) _ (entries-below c (place + 1) p _ _)
-entries-below c place (Fence ∷ p) registers reads = (omega arith, higher place (length p) _ (entries-below c (place + 1) p _ _))
-entries-below c place (Xchg loc reg ∷ p) registers reads = (omega arith, (omega arith, higher place (length p) _ (entries-below c (place + 1) p _ _)))
-entries-below c place (Xadd loc reg ∷ p) registers reads = (omega arith, (omega arith, higher place (length p) _ (entries-below c (place + 1) p _ _)))
+pub entries-below : (c place : ℕ) (p : List Instr) (registers values : List ℕ) → Each (λ e. e.place < place + length p) (entries_of c place p registers values)
+entries-below c place [] registers values = tt
+entries-below c place (i ∷ p) registers values =
+    let es : List Entry = entries_by c place (action_of i) registers (slice_index values 0) in
+    each-append (λ e. e.place < place + suc (length p)) es _
+    (each-map (λ e. (e.core.0 ≡ c) × (e.place ≡ place)) (λ e. e.place < place + suc (length p)) es (λ e q. let l = q.1 in omega arith) (entries-at c place (action_of i) registers (slice_index values 0)))
+    (higher place (length p) _ (entries-below c (place + 1) p _ _))
 
 pub place-below : (d : ℕ) (t : Litmus) (order : List Entry) (x : Entry) → Good d t order → Member x order → x.place < length (program_of t x.core.0)
 place-below d t order x g m =
@@ -360,5 +358,5 @@ pub step-onward : (d : ℕ) (t : Litmus) (order front back : List Entry) (state 
     → (core_of state x.core.0).place ≡ x.place → Onward d t order front x back state
 step-onward d t order front back state x g st l p =
     let u = place-below d t order x g (x-in-order d t order front back state x x st (inl refl)) in
-    by-instruction d t order front back state x g st l p u (slice_index_or (program_of t x.core.0) (core_of state x.core.0).place Fence)
-    (slice_get-get_or (program_of t x.core.0) (core_of state x.core.0).place Fence (rw p u))
+    by-instruction d t order front back state x g st l p u (slice_index_or (program_of t x.core.0) (core_of state x.core.0).place instr.Fence)
+    (slice_get-get_or (program_of t x.core.0) (core_of state x.core.0).place instr.Fence (rw p u))

@@ -1,19 +1,20 @@
 -- The steps of a core up to an entry of the order.
-use Rattle.std.proofs.Common.{◌≡◌, ◌<◌, ◌≤◌, ℕ, ◌+◌, zero, suc, List, [], ◌∷◌, ◌++◌, Some, Bool, true, false, length, slice_get, slice_set, slice_index, slice_index_or, drop, arith, ap, sym, ◌∙◌, refl, inl, inr, subst, ◌==◌, ◌&&◌, nat_lt, length-append}
+use Rattle.std.proofs.Common.{◌≡◌, ◌<◌, ◌≤◌, ℕ, ◌+◌, zero, suc, List, [], ◌∷◌, ◌++◌, Some, Bool, true, false, length, slice_get, slice_index_or, drop, arith, ap, sym, ◌∙◌, refl, inl, inr, subst, ◌==◌, ◌&&◌, nat_lt, length-append}
 use Rattle.std.proofs.lemmas.Option.{slice_get-get_or}
 use Rattle.std.proofs.lemmas.Bool.Decides.{nat_tests}
-use Rattle.tso_model.specs.Registers.{index_of}
-use Rattle.tso_model.specs.Thread.{entry, entries_of}
+use Rattle.tso_model.specs.Actions.{action_of}
+use Rattle.tso_model.specs.Thread.{entry, fence, with_value, value_of, entries_of}
 use Rattle.tso_model.specs.Litmus.{Litmus}
 use Rattle.tso_model.specs.ProgramOrder.{is_store}
 use Rattle.tso_model.specs.Execution.{read_value, read_values, made_by}
 use Rattle.tso_model.specs.declared.execution.Entry.{Entry}
 use Rattle.tso_model.specs.declared.register.Reg.{Reg}
-use Rattle.tso_model.specs.declared.execution.Kind.TheVariants.{R, W, F, LR}
+use Rattle.tso_model.specs.declared.execution.Kind.TheVariants.{R, W, LR}
 use Rattle.tso_model.specs.declared.instruction.Instr.{Instr}
-use Rattle.tso_model.specs.declared.instruction.Instr.TheVariants.{StoreImm, StoreReg, Load, SetImm, SetReg, Fence, Xchg, Xadd}
-use Rattle.tso_laws.specs.Choices.{step, drain}
-use Rattle.tso_model.specs.FlatMachine.{core_of, CoreState, State, Effect, program_of, stored, moved, step_of, effect_of, after_choice}
+use Rattle.tso_model.specs.declared.instruction.Instr.TheVariants as instr
+use Rattle.tso_model.specs.declared.action.Action.{Action}
+use Rattle.tso_model.specs.declared.action.Action.TheVariants.{Store, Load, Move, Fence, Lock}
+use Rattle.tso_model.specs.FlatMachine.{core_of, CoreState, State, Effect, program_of, stored, moved, effect_by, step_of, effect_of, after_choice, step, drain}
 use Rattle.tso_laws.specs.Along.{steps}
 use Rattle.tso_model.specs.Runs.{stall_count}
 use Rattle.tso_laws.proofs.Lists.{Member, drop_at, append-nil}
@@ -117,32 +118,24 @@ not-there d t order front back state k n e g st l b f m c p w =
 pub quiet-step : (d : ℕ) (t : Litmus) (order front back : List Entry) (state : State) (k n : ℕ) (i : Instr) → Good d t order → Stands d t order front back state → k < length t.programs
     → (core_of state k).place < n → OnlyStores k n back → length (held k n back) ≤ d → slice_get (program_of t k) (core_of state k).place ≡ Some i
     → Quiet k (core_of state k) (step_of d state.memory k (Some i) (core_of state k)) back
-quiet-step d t order front back state k n (StoreImm loc value) g st l b f r e =
-    let s : CoreState = core_of state k in
-    store-quiet d t order front back state k n (entry k s.place W loc value) g st l b r refl refl refl (rw (drop_at (program_of t k) s.place (StoreImm loc value) e) (inl refl))
-quiet-step d t order front back state k n (StoreReg loc reg) g st l b f r e =
-    let s : CoreState = core_of state k in
-    store-quiet d t order front back state k n (entry k s.place W loc (slice_index s.registers (index_of reg))) g st l b r refl refl refl (rw (drop_at (program_of t k) s.place (StoreReg loc reg) e) (inl refl))
-quiet-step d t order front back state k n (Load reg loc) g st l b f r e =
-    let s : CoreState = core_of state k in
-    absurd (not-there d t order front back state k n (entry k s.place R loc (read_value k s.place R order)) g st l b f (rw (drop_at (program_of t k) s.place (Load reg loc) e) (inl refl)) refl refl refl)
-quiet-step d t order front back state k n (SetImm reg value) g st l b f r e =
-    let s : CoreState = core_of state k in
-    move-quiet d t order front back state k reg value g st l (drop (s.place + 1) (program_of t k)) (slice_set s.registers (index_of reg) value) (read_values k (s.place + 1) (drop (s.place + 1) (program_of t k)) order)
-    (rw (drop_at (program_of t k) s.place (SetImm reg value) e) refl)
-quiet-step d t order front back state k n (SetReg reg other) g st l b f r e =
-    let s : CoreState = core_of state k in
-    move-quiet d t order front back state k reg (slice_index s.registers (index_of other)) g st l (drop (s.place + 1) (program_of t k)) (slice_set s.registers (index_of reg) (slice_index s.registers (index_of other))) (read_values k (s.place + 1) (drop (s.place + 1) (program_of t k)) order)
-    (rw (drop_at (program_of t k) s.place (SetReg reg other) e) refl)
-quiet-step d t order front back state k n Fence g st l b f r e =
-    let s : CoreState = core_of state k in
-    absurd (not-there d t order front back state k n (entry k s.place F (record { 0 = 0 }) 0) g st l b f (rw (drop_at (program_of t k) s.place Fence e) (inl refl)) refl refl refl)
-quiet-step d t order front back state k n (Xchg loc reg) g st l b f r e =
-    let s : CoreState = core_of state k in
-    absurd (not-there d t order front back state k n (entry k s.place LR loc (read_value k s.place LR order)) g st l b f (rw (drop_at (program_of t k) s.place (Xchg loc reg) e) (inl refl)) refl refl refl)
-quiet-step d t order front back state k n (Xadd loc reg) g st l b f r e =
-    let s : CoreState = core_of state k in
-    absurd (not-there d t order front back state k n (entry k s.place LR loc (read_value k s.place LR order)) g st l b f (rw (drop_at (program_of t k) s.place (Xadd loc reg) e) (inl refl)) refl refl refl)
+quiet-step d t order front back state k n i g st l b f r e = by_action (action_of i) refl
+  where
+    by_action : (a : Action) → action_of i ≡ a → Quiet k (core_of state k) (effect_by d state.memory k a (core_of state k)) back
+    by_action (Store loc operand) is =
+        let s : CoreState = core_of state k in
+        store-quiet d t order front back state k n (entry k s.place W loc (value_of s.registers operand)) g st l b r refl refl refl (rw (drop_at (program_of t k) s.place i e, is) (inl refl))
+    by_action (Load reg loc) is =
+        let s : CoreState = core_of state k in
+        absurd (not-there d t order front back state k n (entry k s.place R loc (read_value k s.place R order)) g st l b f (rw (drop_at (program_of t k) s.place i e, is) (inl refl)) refl refl refl)
+    by_action (Move reg operand) is =
+        let s : CoreState = core_of state k in let v : ℕ = value_of s.registers operand in let q : List Instr = drop (s.place + 1) (program_of t k) in
+        move-quiet d t order front back state k reg v g st l q (with_value s.registers reg v) (read_values k (s.place + 1) q order) (rw (drop_at (program_of t k) s.place i e, is) refl)
+    by_action Fence is =
+        let s : CoreState = core_of state k in
+        absurd (not-there d t order front back state k n (fence k s.place) g st l b f (rw (drop_at (program_of t k) s.place i e, is) (inl refl)) refl refl refl)
+    by_action (Lock loc reg update) is =
+        let s : CoreState = core_of state k in
+        absurd (not-there d t order front back state k n (entry k s.place LR loc (read_value k s.place LR order)) g st l b f (rw (drop_at (program_of t k) s.place i e, is) (inl refl)) refl refl refl)
 
 -- one step that commits nothing, of the whole machine
 pub quiet-goes : (d : ℕ) (t : Litmus) (order front back : List Entry) (state : State) (k n : ℕ) → Good d t order → Stands d t order front back state → k < length t.programs
@@ -150,8 +143,8 @@ pub quiet-goes : (d : ℕ) (t : Litmus) (order front back : List Entry) (state :
     → Goes d t order front [] back state k ((core_of state k).place + 1) (step k ∷ [])
 quiet-goes d t order front back state k n g st l b u f r =
     let s : CoreState = core_of state k in
-    let i : Instr = slice_index_or (program_of t k) s.place Fence in
-    let e : slice_get (program_of t k) s.place ≡ Some i = slice_get-get_or (program_of t k) s.place Fence (omega arith) in
+    let i : Instr = slice_index_or (program_of t k) s.place instr.Fence in
+    let e : slice_get (program_of t k) s.place ≡ Some i = slice_get-get_or (program_of t k) s.place instr.Fence (omega arith) in
     let q : Quiet k s (effect_of t d state (step k)) back = rw e (quiet-step d t order front back state k n i g st l b f r e) in
     choice-goes d t order front [] back state (step k) k (s.place + 1) g st refl l q.took q.none tt q.place (omega arith) q.waits
 

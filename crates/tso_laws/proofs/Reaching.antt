@@ -1,14 +1,16 @@
 -- The greatest depth is enough, and what runs end with are exactly the executions.
 use Rattle.std.proofs.Common.{◌<◌, ◌≤◌, ◌↔◌, ◌≢◌, ap, ℕ, suc, List, [], ◌∷◌, length, slice_index_or, arith, subst}
 use Rattle.tso_model.specs.Litmus.{Litmus, IsTest}
+use Rattle.tso_model.specs.Actions.{action_of}
 use Rattle.tso_model.specs.Execution.{IsTsoExecution}
 use Rattle.tso_model.specs.declared.instruction.Instr.{Instr}
-use Rattle.tso_model.specs.declared.instruction.Instr.TheVariants.{StoreImm, StoreReg, Load, SetImm, SetReg, Fence, Xchg, Xadd}
+use Rattle.tso_model.specs.declared.action.Action.{Action}
+use Rattle.tso_model.specs.declared.action.Action.TheVariants.{Store, Load, Move, Fence, Lock}
 use Rattle.tso_model.specs.declared.execution.Entry.{Entry}
 use Rattle.tso_model.specs.Runs.{run}
 use Rattle.tso_model.specs.declared.choice.Choice.{Choice}
 use Rattle.tso_laws.proofs.Basics.{max-within}
-use Rattle.tso_laws.specs.Counting.{is_plain_store, stores_in, most_stores}
+use Rattle.tso_laws.specs.Counting.{store_count, stores_in, most_stores}
 use Rattle.tso_laws.specs.Depth.{needed}
 use Rattle.tso_laws.specs.Along.{choices_along, LeadTo}
 use Rattle.tso_laws.specs.Reached.{IsReached}
@@ -24,17 +26,14 @@ execution-leads t d order test tso n = witness-leads d t order (tso-good d t ord
 
 stores-length : (p : List Instr) → stores_in p ≤ length p
 stores-length [] = omega arith
-stores-length (x ∷ p) = let h = stores-length p in let w = one x in omega arith
+stores-length (x ∷ p) = let h = stores-length p in let w = one (action_of x) in omega arith
   where
-    one : (x : Instr) → is_plain_store x ≤ 1
-    one (StoreImm loc value) = omega arith
-    one (StoreReg loc reg) = omega arith
+    one : (a : Action) → store_count a ≤ 1
+    one (Store loc operand) = omega arith
     one (Load reg loc) = omega arith
-    one (SetImm reg value) = omega arith
-    one (SetReg reg other) = omega arith
+    one (Move reg operand) = omega arith
     one Fence = omega arith
-    one (Xchg loc reg) = omega arith
-    one (Xadd loc reg) = omega arith
+    one (Lock loc reg update) = omega arith
 
 most-within : (ps : List (List Instr)) (n : ℕ) → ((k : ℕ) → k < length ps → length (slice_index_or ps k []) ≤ n) → most_stores ps ≤ n
 most-within [] n f = omega arith

@@ -7,11 +7,13 @@ use Rattle.tso_laws.proofs.Basics.{decide, max-left, max-right}
 use Rattle.tso_laws.specs.Counting.{longest}
 use Rattle.tso_model.specs.declared.execution.Entry.{Entry}
 use Rattle.tso_model.specs.declared.instruction.Instr.{Instr}
-use Rattle.tso_model.specs.declared.instruction.Instr.TheVariants.{StoreImm, StoreReg, Load, SetImm, SetReg, Fence, Xchg, Xadd}
+use Rattle.tso_model.specs.declared.action.Action.{Action}
+use Rattle.tso_model.specs.declared.action.Action.TheVariants.{Store, Load, Move, Fence, Lock}
 use Rattle.tso_model.specs.declared.choice.Choice.{Choice}
-use Rattle.tso_laws.specs.Choices.{step, drain, state_after}
-use Rattle.tso_model.specs.FlatMachine.{core_of, CoreState, State, idle, program_of, stored, step_of, effect_of, chosen, after_choice, started, start}
-use Rattle.tso_model.specs.Runs.{is_none_pending, is_done, all_done, has_ended, then_run, resting, run, run_from, stall_count}
+use Rattle.tso_laws.specs.Choices.{state_after}
+use Rattle.tso_model.specs.Actions.{action_of}
+use Rattle.tso_model.specs.FlatMachine.{is_none_pending, core_of, CoreState, State, idle, program_of, stored, effect_by, effect_of, chosen, after_choice, started, start, step, drain}
+use Rattle.tso_model.specs.Runs.{is_done, all_done, has_ended, then_run, resting, run, run_from, stall_count}
 use Rattle.tso_laws.specs.Rounds.{Among, CanBeCutIntoRounds}
 use Rattle.tso_laws.proofs.Work.{undone, work, weight, store_weight, choice-changes, length-starts}
 
@@ -92,18 +94,15 @@ stored-takes zero s e q = refl
 stored-takes (suc n) s e q = rw q (let z : nat_lt 0 (suc n) ≡ true = grind (arith, nat_tests) in rw z refl)
 
 -- with nothing pending an instruction takes effect
-step-takes : (c d : ℕ) (memory : List ℕ) (x : Instr) (s : CoreState) → s.pending ≡ [] → stall_count (step_of d memory c (Some x) s).outcome ≡ 0
-step-takes c d memory (StoreImm loc value) s q = stored-takes d s _ q
-step-takes c d memory (StoreReg loc reg) s q = stored-takes d s _ q
+step-takes : (c d : ℕ) (memory : List ℕ) (a : Action) (s : CoreState) → s.pending ≡ [] → stall_count (effect_by d memory c a s).outcome ≡ 0
+step-takes c d memory (Store loc operand) s q = stored-takes d s _ q
 step-takes c d memory (Load reg loc) s q = refl
-step-takes c d memory (SetImm reg value) s q = refl
-step-takes c d memory (SetReg reg other) s q = refl
+step-takes c d memory (Move reg operand) s q = refl
 step-takes c d memory Fence s q = rw q refl
-step-takes c d memory (Xchg loc reg) s q = rw q refl
-step-takes c d memory (Xadd loc reg) s q = rw q refl
+step-takes c d memory (Lock loc reg update) s q = rw q refl
 
 able-step : (t : Litmus) (d k : ℕ) (s : CoreState) (x : Instr) → s.pending ≡ [] → slice_get (program_of t k) s.place ≡ Some x → Able t d s (step k)
-able-step t d k s x p e = λ state q. rw (q, e) (step-takes k d state.memory x s p)
+able-step t d k s x p e = λ state q. rw (q, e) (step-takes k d state.memory (action_of x) s p)
 
 able-drain : (t : Litmus) (d k : ℕ) (s : CoreState) (y : Entry) (ys : List Entry) → s.pending ≡ y ∷ ys → Able t d s (drain k)
 able-drain t d k s y ys p = λ state q. rw (q, p) refl
@@ -161,21 +160,18 @@ all-done (p ∷ ps) (s ∷ ss) f = rw (f 0 (omega arith)) (all-done ps ss (λ k 
 work-none : (d : ℕ) (p : List Instr) (n : ℕ) → n ≤ length p → work d (drop n p) ≡ 0 → length p ≡ n
 work-none d [] zero l e = refl
 work-none d [] (suc n) l e = absurd (omega arith)
-work-none d (x ∷ xs) zero l e = absurd (let w = positive d x in omega arith)
+work-none d (x ∷ xs) zero l e = absurd (let w = positive d (action_of x) in omega arith)
   where
     store-positive : (d : ℕ) → 0 < store_weight d
     store-positive zero = omega arith
     store-positive (suc n) = omega arith
 
-    positive : (d : ℕ) (x : Instr) → 0 < weight d x
-    positive d (StoreImm loc value) = store-positive d
-    positive d (StoreReg loc reg) = store-positive d
+    positive : (d : ℕ) (a : Action) → 0 < weight d a
+    positive d (Store loc operand) = store-positive d
     positive d (Load reg loc) = omega arith
-    positive d (SetImm reg value) = omega arith
-    positive d (SetReg reg other) = omega arith
+    positive d (Move reg operand) = omega arith
     positive d Fence = omega arith
-    positive d (Xchg loc reg) = omega arith
-    positive d (Xadd loc reg) = omega arith
+    positive d (Lock loc reg update) = omega arith
 work-none d (x ∷ xs) (suc n) l e = ap suc (work-none d xs n (omega arith) e)
 
 pub done-now : (d : ℕ) (p : List Instr) (s : CoreState) → undone d p s ≡ 0 → s.place ≤ length p → is_done p s ≡ true
@@ -194,21 +190,18 @@ done-now d p s u l =
 
 work-twice : (d : ℕ) (p : List Instr) → work d p ≤ 2 * length p
 work-twice d [] = omega arith
-work-twice d (x ∷ xs) = let h = work-twice d xs in let w = at_most d x in omega arith
+work-twice d (x ∷ xs) = let h = work-twice d xs in let w = at_most d (action_of x) in omega arith
   where
     store-at_most : (d : ℕ) → store_weight d ≤ 2
     store-at_most zero = omega arith
     store-at_most (suc n) = omega arith
 
-    at_most : (d : ℕ) (x : Instr) → weight d x ≤ 2
-    at_most d (StoreImm loc value) = store-at_most d
-    at_most d (StoreReg loc reg) = store-at_most d
+    at_most : (d : ℕ) (a : Action) → weight d a ≤ 2
+    at_most d (Store loc operand) = store-at_most d
     at_most d (Load reg loc) = omega arith
-    at_most d (SetImm reg value) = omega arith
-    at_most d (SetReg reg other) = omega arith
+    at_most d (Move reg operand) = omega arith
     at_most d Fence = omega arith
-    at_most d (Xchg loc reg) = omega arith
-    at_most d (Xadd loc reg) = omega arith
+    at_most d (Lock loc reg update) = omega arith
 
 longest-at : (ps : List (List Instr)) (k : ℕ) → length (slice_index_or ps k []) ≤ longest ps
 longest-at [] k = omega arith

@@ -1,7 +1,8 @@
 -- What a core's commits and pending writes keep, as one list, when an entry is added.
-use Rattle.std.proofs.Common.{◌≡◌, ◌≢◌, ◌<◌, ◌≤◌, ℕ, ◌+◌, suc, List, [], ◌∷◌, ◌++◌, true, false, length, slice_index, arith, ap, sym, ◌∙◌, refl, subst, ◌&&◌, length-append}
+use Rattle.std.proofs.Common.{◌≡◌, ◌≢◌, ◌<◌, ◌≤◌, ℕ, ◌+◌, suc, List, [], ◌∷◌, ◌++◌, true, false, length, slice_index, arith, ap, sym, ◌∙◌, refl, subst, ◌&&◌, length-append, nat_lt, ◌==◌}
 use Rattle.std.proofs.lemmas.Bool.Decides.{nat_tests}
-use Rattle.tso_model.specs.ProgramOrder.{is_write, is_read, is_write_kind, is_read_kind, is_before, rank, writes_to, is_store, is_load}
+use Rattle.tso_model.specs.ProgramOrder.{is_write, is_read, is_before, writes_to, is_store, is_load}
+use Rattle.tso_laws.proofs.Ranks.{is_write_kind, is_read_kind, rank, by-rank}
 use Rattle.tso_laws.proofs.Basics.{test-false, test-true, and-false, before}
 use Rattle.tso_laws.proofs.Folds.{last_word, passed}
 use Rattle.tso_model.specs.declared.execution.Entry.{Entry}
@@ -29,7 +30,7 @@ pub record Sees (d c place : ℕ) (words : List ℕ) (done list : List Entry) : 
   pub members : Each (λ e. Member e list) done
 
 not_before : (c place : ℕ) (x e : Entry) → e.core.0 ≡ c → place ≤ rank e → Behind c place x → is_before e x ≡ false
-not_before c place x e k p h = grind (arith, nat_tests)
+not_before c place x e k p h = by-rank e x ∙ (let z : ((e.core.0 == x.core.0) && nat_lt (rank e) (rank x)) ≡ false = grind (arith, nat_tests) in z)
 
 apart : (x e : Entry) → x.core.0 ≢ e.core.0 → is_before x e ≡ false
 apart x e k = grind (arith, nat_tests)

@@ -1,12 +1,13 @@
 -- A program cut at a place: what it makes, and its registers, are those of the first part and then of the rest.
-use Rattle.std.proofs.Common.{◌≡◌, ℕ, ◌+◌, zero, suc, List, [], ◌∷◌, ◌++◌, Some, take, drop, slice_get, arith, ap, refl, add-one, subst}
-use Rattle.tso_model.specs.Thread.{entry, fence, value_in, sum_of, entries_of, registers_after}
-use Rattle.tso_model.specs.Execution.{read_value, read_values, made_by}
+use Rattle.std.proofs.Common.{◌≡◌, ℕ, ◌+◌, zero, suc, List, [], ◌∷◌, ◌++◌, Some, take, drop, slice_get, slice_index, arith, ap, sym, ◌∙◌, append_assoc, refl, add-one, subst}
+use Rattle.tso_model.specs.Actions.{action_of}
+use Rattle.tso_model.specs.Thread.{entries_by, registers_by, values_after, entries_of, registers_after}
+use Rattle.tso_model.specs.Execution.{values_by, read_values, made_by}
 use Rattle.tso_model.specs.FinalState.{registers_of}
 use Rattle.tso_model.specs.declared.instruction.Instr.{Instr}
-use Rattle.tso_model.specs.declared.instruction.Instr.TheVariants.{StoreImm, StoreReg, Load, SetImm, SetReg, Fence, Xchg, Xadd}
+use Rattle.tso_model.specs.declared.action.Action.{Action}
+use Rattle.tso_model.specs.declared.action.Action.TheVariants.{Store, Load, Move, Fence, Lock}
 use Rattle.tso_model.specs.declared.execution.Entry.{Entry}
-use Rattle.tso_model.specs.declared.execution.Kind.TheVariants.{R, W, LR, LW}
 
 -- what a program makes from a place on, with the order's own read values
 abbrev pub makes : ℕ → ℕ → List Instr → List ℕ → List Entry → List Entry
@@ -19,33 +20,50 @@ leaves c k p regs order = registers_after p regs (read_values c k p order)
 shift : (k n : ℕ) → (k + 1) + n ≡ k + suc n
 shift k n = omega arith
 
-pub leaves-split : (c k n : ℕ) (p : List Instr) (regs : List ℕ) (order : List Entry)
+-- the value that an action reads in the order; 0 where it reads none
+abbrev word_by : ℕ → ℕ → Action → List Entry → ℕ
+word_by c k a order = slice_index (values_by c k a order) 0
+
+-- an action takes its own value from the front, and leaves the others
+registers-first : (c k : ℕ) (a : Action) (p : List Instr) (regs values : List ℕ) (order : List Entry)
+    → registers_after p (registers_by a regs (slice_index (values_by c k a order ++ values) 0)) (values_after a (values_by c k a order ++ values)) ≡ registers_after p (registers_by a regs (word_by c k a order)) values
+registers-first c k (Store loc operand) p regs values order = refl
+registers-first c k (Load reg loc) p regs values order = refl
+registers-first c k (Move reg operand) p regs values order = refl
+registers-first c k Fence p regs values order = refl
+registers-first c k (Lock loc reg update) p regs values order = refl
+
+entries-first : (c k : ℕ) (a : Action) (p : List Instr) (regs values : List ℕ) (order : List Entry)
+    → entries_by c k a regs (slice_index (values_by c k a order ++ values) 0) ++ entries_of c (k + 1) p (registers_by a regs (slice_index (values_by c k a order ++ values) 0)) (values_after a (values_by c k a order ++ values))
+    ≡ entries_by c k a regs (word_by c k a order) ++ entries_of c (k + 1) p (registers_by a regs (word_by c k a order)) values
+entries-first c k (Store loc operand) p regs values order = refl
+entries-first c k (Load reg loc) p regs values order = refl
+entries-first c k (Move reg operand) p regs values order = refl
+entries-first c k Fence p regs values order = refl
+entries-first c k (Lock loc reg update) p regs values order = refl
+
+leaves-first : (c k : ℕ) (i : Instr) (p : List Instr) (regs : List ℕ) (order : List Entry) → leaves c k (i ∷ p) regs order ≡ leaves c (k + 1) p (registers_by (action_of i) regs (word_by c k (action_of i) order)) order
+leaves-first c k i p regs order = registers-first c k (action_of i) p regs (read_values c (k + 1) p order) order
+
+makes-first : (c k : ℕ) (i : Instr) (p : List Instr) (regs : List ℕ) (order : List Entry)
+    → makes c k (i ∷ p) regs order ≡ entries_by c k (action_of i) regs (word_by c k (action_of i) order) ++ makes c (k + 1) p (registers_by (action_of i) regs (word_by c k (action_of i) order)) order
+makes-first c k i p regs order = entries-first c k (action_of i) p regs (read_values c (k + 1) p order) order
+
+leaves-split : (c k n : ℕ) (p : List Instr) (regs : List ℕ) (order : List Entry)
     → leaves c k p regs order ≡ leaves c (k + n) (drop n p) (leaves c k (take n p) regs order) order
 leaves-split c k zero p regs order = rw (let z : k + 0 ≡ k = omega arith in z) refl
 leaves-split c k (suc n) [] regs order = refl
-leaves-split c k (suc n) (StoreImm loc value ∷ p) regs order = rw (← shift k n) (leaves-split c (k + 1) n p _ order)
-leaves-split c k (suc n) (StoreReg loc reg ∷ p) regs order = rw (← shift k n) (leaves-split c (k + 1) n p _ order)
-leaves-split c k (suc n) (Load reg loc ∷ p) regs order = rw (← shift k n) (leaves-split c (k + 1) n p _ order)
-leaves-split c k (suc n) (SetImm reg value ∷ p) regs order = rw (← shift k n) (leaves-split c (k + 1) n p _ order)
-leaves-split c k (suc n) (SetReg reg other ∷ p) regs order = rw (← shift k n) (leaves-split c (k + 1) n p _ order)
-leaves-split c k (suc n) (Fence ∷ p) regs order = rw (← shift k n) (leaves-split c (k + 1) n p _ order)
-leaves-split c k (suc n) (Xchg loc reg ∷ p) regs order = rw (← shift k n) (leaves-split c (k + 1) n p _ order)
-leaves-split c k (suc n) (Xadd loc reg ∷ p) regs order = rw (← shift k n) (leaves-split c (k + 1) n p _ order)
+leaves-split c k (suc n) (i ∷ p) regs order =
+    rw (leaves-first c k i p regs order, leaves-first c k i (take n p) regs order, ← shift k n) (leaves-split c (k + 1) n p _ order)
 
 pub makes-split : (c k n : ℕ) (p : List Instr) (regs : List ℕ) (order : List Entry)
     → makes c k p regs order ≡ makes c k (take n p) regs order ++ makes c (k + n) (drop n p) (leaves c k (take n p) regs order) order
 makes-split c k zero p regs order = rw (let z : k + 0 ≡ k = omega arith in z) refl
 makes-split c k (suc n) [] regs order = refl
-makes-split c k (suc n) (StoreImm loc value ∷ p) regs order = rw (← shift k n) (ap (λ z. entry c k W loc value ∷ z) (makes-split c (k + 1) n p _ order))
-makes-split c k (suc n) (StoreReg loc reg ∷ p) regs order = rw (← shift k n) (ap (λ z. entry c k W loc (value_in regs reg) ∷ z) (makes-split c (k + 1) n p _ order))
-makes-split c k (suc n) (Load reg loc ∷ p) regs order = rw (← shift k n) (ap (λ z. entry c k R loc (read_value c k R order) ∷ z) (makes-split c (k + 1) n p _ order))
-makes-split c k (suc n) (SetImm reg value ∷ p) regs order = rw (← shift k n) (makes-split c (k + 1) n p _ order)
-makes-split c k (suc n) (SetReg reg other ∷ p) regs order = rw (← shift k n) (makes-split c (k + 1) n p _ order)
-makes-split c k (suc n) (Fence ∷ p) regs order = rw (← shift k n) (ap (λ z. fence c k ∷ z) (makes-split c (k + 1) n p _ order))
-makes-split c k (suc n) (Xchg loc reg ∷ p) regs order =
-    rw (← shift k n) (ap (λ z. entry c k LR loc (read_value c k LR order) ∷ (entry c k LW loc (value_in regs reg) ∷ z)) (makes-split c (k + 1) n p _ order))
-makes-split c k (suc n) (Xadd loc reg ∷ p) regs order =
-    rw (← shift k n) (ap (λ z. entry c k LR loc (read_value c k LR order) ∷ (entry c k LW loc (sum_of (read_value c k LR order) (value_in regs reg)) ∷ z)) (makes-split c (k + 1) n p _ order))
+makes-split c k (suc n) (i ∷ p) regs order =
+    let a : Action = action_of i in let w : ℕ = word_by c k a order in let es : List Entry = entries_by c k a regs w in let next : List ℕ = registers_by a regs w in
+    rw (makes-first c k i p regs order, makes-first c k i (take n p) regs order, leaves-first c k i (take n p) regs order, ← shift k n)
+    (ap (λ z. es ++ z) (makes-split c (k + 1) n p next order) ∙ sym (append_assoc es (makes c (k + 1) (take n p) next order) _))
 
 -- one instruction more
 take-more : (p : List Instr) (n : ℕ) (i : Instr) → slice_get p n ≡ Some i → take n (take (suc n) p) ≡ take n p

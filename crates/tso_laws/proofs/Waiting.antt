@@ -1,13 +1,16 @@
 -- What is pending are the issued and uncommitted plain stores of a core, in program order.
-use Rattle.std.proofs.Common.{◌≡◌, ◌<◌, ◌≤◌, ℕ, ◌+◌, suc, List, [], ◌∷◌, ◌++◌, Bool, true, false, not, length, take, slice_index, arith, ap, sym, ◌∙◌, refl, inl, inr, subst, ◌==◌, ◌&&◌, ◌||◌, if◌then◌else◌}
+use Rattle.std.proofs.Common.{◌≡◌, ◌<◌, ◌≤◌, ℕ, ◌+◌, suc, List, [], ◌∷◌, ◌++◌, Bool, true, false, not, length, take, slice_index, arith, ap, sym, ◌∙◌, refl, inl, inr, subst, ◌==◌, ◌&&◌, ◌||◌, if◌then◌else◌, nat_lt}
 use Rattle.std.specs.Prelude.{filter}
 use Rattle.std.proofs.lemmas.Bool.Decides.{nat_tests}
-use Rattle.tso_model.specs.Thread.{entry, fence, value_in, sum_of, entries_of}
-use Rattle.tso_model.specs.ProgramOrder.{is_before, rank, part_of, is_store, is_store_kind, is_load_kind}
-use Rattle.tso_model.specs.Execution.{same_kind, is_at, made_by, read_values}
+use Rattle.tso_model.specs.Actions.{action_of}
+use Rattle.tso_model.specs.Thread.{entry, fence, value_in, value_of, updated, entries_by, entries_of}
+use Rattle.tso_model.specs.ProgramOrder.{same_kind, is_before, is_store}
+use Rattle.tso_laws.proofs.Ranks.{rank, part_of, is_store_kind, is_load_kind, by-rank}
+use Rattle.tso_model.specs.Execution.{is_at, made_by, read_values}
 use Rattle.tso_model.specs.FlatMachine.{CoreState}
 use Rattle.tso_model.specs.declared.instruction.Instr.{Instr}
-use Rattle.tso_model.specs.declared.instruction.Instr.TheVariants.{StoreImm, StoreReg, Load, SetImm, SetReg, Fence, Xchg, Xadd}
+use Rattle.tso_model.specs.declared.action.Action.{Action}
+use Rattle.tso_model.specs.declared.action.Action.TheVariants.{Store, Load, Move, Fence, Lock}
 use Rattle.tso_model.specs.declared.execution.Entry.{Entry}
 use Rattle.tso_model.specs.declared.execution.Kind.{Kind}
 use Rattle.tso_model.specs.declared.execution.Kind.TheVariants.{R, W, F, LR, LW}
@@ -58,24 +61,17 @@ later c place e xs l h =
     let s = part-small e.kind in
     each-map (λ y. (y.core.0 ≡ c) × (place + 1 ≤ y.place)) (λ y. rank e < rank y) xs (λ y q. let p = q.1 in omega (arith, p, l, s)) h
 
-entries-sorted : (c place : ℕ) (p : List Instr) (registers reads : List ℕ) → Sorted (entries_of c place p registers reads)
-entries-sorted c place [] registers reads = tt
-entries-sorted c place (StoreImm loc value ∷ p) registers reads = (later c place (entry c place W loc value) _ refl (entries-from c (place + 1) p _ _), entries-sorted c (place + 1) p _ _)
-entries-sorted c place (StoreReg loc reg ∷ p) registers reads =
-    (later c place (entry c place W loc (value_in registers reg)) _ refl (entries-from c (place + 1) p _ _), entries-sorted c (place + 1) p _ _)
-entries-sorted c place (Load reg loc ∷ p) registers reads =
-    (later c place (entry c place R loc (slice_index reads 0)) _ refl (entries-from c (place + 1) p _ _), entries-sorted c (place + 1) p _ _)
-entries-sorted c place (SetImm reg value ∷ p) registers reads = entries-sorted c (place + 1) p _ _
-entries-sorted c place (SetReg reg other ∷ p) registers reads = entries-sorted c (place + 1) p _ _
-entries-sorted c place (Fence ∷ p) registers reads = (later c place (fence c place) _ refl (entries-from c (place + 1) p _ _), entries-sorted c (place + 1) p _ _)
-entries-sorted c place (Xchg loc reg ∷ p) registers reads = (
-  (omega arith, later c place (entry c place LR loc (slice_index reads 0)) _ refl (entries-from c (place + 1) p _ _)),
-  (later c place (entry c place LW loc (value_in registers reg)) _ refl (entries-from c (place + 1) p _ _), entries-sorted c (place + 1) p _ _),
-)
-entries-sorted c place (Xadd loc reg ∷ p) registers reads = (
-  (omega arith, later c place (entry c place LR loc (slice_index reads 0)) _ refl (entries-from c (place + 1) p _ _)),
-  (later c place (entry c place LW loc (sum_of (slice_index reads 0) (value_in registers reg))) _ refl (entries-from c (place + 1) p _ _), entries-sorted c (place + 1) p _ _),
-)
+sorted-by : (c place : ℕ) (a : Action) (registers : List ℕ) (word : ℕ) (xs : List Entry) → Each (λ y. (y.core.0 ≡ c) × (place + 1 ≤ y.place)) xs → Sorted xs → Sorted (entries_by c place a registers word ++ xs)
+sorted-by c place (Store loc operand) registers word xs h s = (later c place (entry c place W loc (value_of registers operand)) xs refl h, s)
+sorted-by c place (Load reg loc) registers word xs h s = (later c place (entry c place R loc word) xs refl h, s)
+sorted-by c place (Move reg operand) registers word xs h s = s
+sorted-by c place Fence registers word xs h s = (later c place (fence c place) xs refl h, s)
+sorted-by c place (Lock loc reg update) registers word xs h s =
+    ((omega arith, later c place (entry c place LR loc word) xs refl h), (later c place (entry c place LW loc (updated update word (value_in registers reg))) xs refl h, s))
+
+entries-sorted : (c place : ℕ) (p : List Instr) (registers values : List ℕ) → Sorted (entries_of c place p registers values)
+entries-sorted c place [] registers values = tt
+entries-sorted c place (i ∷ p) registers values = sorted-by c place (action_of i) registers (slice_index values 0) _ (entries-from c (place + 1) p _ _) (entries-sorted c (place + 1) p _ _)
 
 each-filter : (P : Entry → Type 0) (test : Entry → Bool) (xs : List Entry) → Each P xs → Each P (filter test xs)
 each-filter P test [] h = tt
@@ -229,7 +225,7 @@ queue-sorted d c n (y ∷ ys) o u q = (each-from (λ z. rank y < rank z) ys (λ 
     not-passed a b w h = let l : is_load_kind b ≡ false = rw w refl in let e : ⊥ = grind (arith, l, h) in e
 
     less : (x y : Entry) → x.core.0 ≡ y.core.0 → (is_before y x ≡ true → ⊥) → (rank x ≡ rank y → ⊥) → rank x < rank y
-    less x y c f g = grind (arith, nat_tests)
+    less x y c f g = let b = λ (h : ((y.core.0 == x.core.0) && nat_lt (rank y) (rank x)) ≡ true). f (by-rank y x ∙ h) in grind (arith, nat_tests)
 
     above : (z : Entry) → Member z ys → rank y < rank z
     above z m =

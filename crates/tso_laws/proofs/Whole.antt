@@ -1,16 +1,18 @@
 -- A TSO execution has just the entries of the programs, each once.
-use Rattle.std.proofs.Common.{◌≡◌, ◌≢◌, ◌<◌, ◌≤◌, ℕ, ◌+◌, zero, suc, List, [], ◌∷◌, ◌++◌, Some, Bool, true, false, length, slice_get, slice_index, slice_index_or, arith, ap, sym, ◌∙◌, refl, inl, inr, subst, ◌%◌, ◌^◌}
-use Rattle.tso_model.specs.Registers.{index_of}
-use Rattle.tso_model.specs.Thread.{entry, entries_of}
+use Rattle.std.proofs.Common.{◌≡◌, ◌≢◌, ◌<◌, ◌≤◌, ℕ, ◌+◌, zero, suc, List, [], ◌∷◌, ◌++◌, Some, Bool, true, false, length, slice_get, slice_index, slice_index_or, arith, ap, sym, ◌∙◌, refl, inl, inr, subst}
+use Rattle.tso_model.specs.Actions.{action_of}
+use Rattle.tso_model.specs.Thread.{entry, fence, value_in, value_of, updated, entries_by, entries_of}
 use Rattle.tso_model.specs.Litmus.{Litmus}
-use Rattle.tso_model.specs.ProgramOrder.{rank, may_be_passed}
+use Rattle.tso_model.specs.ProgramOrder.{may_be_passed}
+use Rattle.tso_laws.proofs.Ranks.{rank}
 use Rattle.tso_laws.proofs.Basics.{part-small}
 use Rattle.tso_laws.proofs.Folds.{due-is, needs, HasLocations}
 use Rattle.tso_model.specs.Execution.{read_values, made_by, made_from, made, KeepsProgramOrder, IsStorePart, KeepsPairs, StandsIn, IsWhole, IsTsoExecution}
 use Rattle.tso_model.specs.declared.execution.Entry.{Entry}
 use Rattle.tso_model.specs.declared.instruction.Instr.{Instr}
-use Rattle.tso_model.specs.declared.instruction.Instr.TheVariants.{StoreImm, StoreReg, Load, SetImm, SetReg, Fence, Xchg, Xadd}
-use Rattle.tso_model.specs.declared.execution.Kind.TheVariants.{R, W, F, LR, LW}
+use Rattle.tso_model.specs.declared.action.Action.{Action}
+use Rattle.tso_model.specs.declared.action.Action.TheVariants.{Store, Load, Move, Fence, Lock}
+use Rattle.tso_model.specs.declared.execution.Kind.TheVariants.{R, W, LR, LW}
 use Rattle.tso_model.specs.FlatMachine.{program_of}
 use Rattle.tso_laws.proofs.Lists.{Each, each-map, Member, member-at}
 use Rattle.tso_laws.proofs.Entries.{Fine, Ordered}
@@ -87,18 +89,17 @@ apart-later c place e xs l h =
     let s = part-small e.kind in
     each-map (λ y. (y.core.0 ≡ c) × (place + 1 ≤ y.place)) (Apart e) xs (λ y q. λ k r. let p = q.1 in omega (arith, r, p, l, s)) h
 
-pub entries-distinct : (c place : ℕ) (p : List Instr) (registers reads : List ℕ) → Distinct (entries_of c place p registers reads)
-entries-distinct c place [] registers reads = tt
-entries-distinct c place (StoreImm loc value ∷ p) registers reads = (apart-later c place (entry c place W loc value) _ refl (entries-from c (place + 1) p _ _), entries-distinct c (place + 1) p _ _)
-entries-distinct c place (StoreReg loc reg ∷ p) registers reads = (apart-later c place (entry c place W loc (slice_index registers (index_of reg))) _ refl (entries-from c (place + 1) p _ _), entries-distinct c (place + 1) p _ _)
-entries-distinct c place (Load reg loc ∷ p) registers reads = (apart-later c place (entry c place R loc (slice_index reads 0)) _ refl (entries-from c (place + 1) p _ _), entries-distinct c (place + 1) p _ _)
-entries-distinct c place (SetImm reg value ∷ p) registers reads = entries-distinct c (place + 1) p _ _
-entries-distinct c place (SetReg reg other ∷ p) registers reads = entries-distinct c (place + 1) p _ _
-entries-distinct c place (Fence ∷ p) registers reads = (apart-later c place (entry c place F (record { 0 = 0 }) 0) _ refl (entries-from c (place + 1) p _ _), entries-distinct c (place + 1) p _ _)
-entries-distinct c place (Xchg loc reg ∷ p) registers reads =
-    (((λ k r. omega (arith, r)), apart-later c place (entry c place LR loc (slice_index reads 0)) _ refl (entries-from c (place + 1) p _ _)), (apart-later c place (entry c place LW loc (slice_index registers (index_of reg))) _ refl (entries-from c (place + 1) p _ _), entries-distinct c (place + 1) p _ _))
-entries-distinct c place (Xadd loc reg ∷ p) registers reads =
-    (((λ k r. omega (arith, r)), apart-later c place (entry c place LR loc (slice_index reads 0)) _ refl (entries-from c (place + 1) p _ _)), (apart-later c place (entry c place LW loc ((slice_index reads 0 + slice_index registers (index_of reg)) % 2 ^ 32)) _ refl (entries-from c (place + 1) p _ _), entries-distinct c (place + 1) p _ _))
+distinct-by : (c place : ℕ) (a : Action) (registers : List ℕ) (word : ℕ) (xs : List Entry) → Each (λ y. (y.core.0 ≡ c) × (place + 1 ≤ y.place)) xs → Distinct xs → Distinct (entries_by c place a registers word ++ xs)
+distinct-by c place (Store loc operand) registers word xs h d = (apart-later c place (entry c place W loc (value_of registers operand)) xs refl h, d)
+distinct-by c place (Load reg loc) registers word xs h d = (apart-later c place (entry c place R loc word) xs refl h, d)
+distinct-by c place (Move reg operand) registers word xs h d = d
+distinct-by c place Fence registers word xs h d = (apart-later c place (fence c place) xs refl h, d)
+distinct-by c place (Lock loc reg update) registers word xs h d =
+    (((λ k r. omega (arith, r)), apart-later c place (entry c place LR loc word) xs refl h), (apart-later c place (entry c place LW loc (updated update word (value_in registers reg))) xs refl h, d))
+
+pub entries-distinct : (c place : ℕ) (p : List Instr) (registers values : List ℕ) → Distinct (entries_of c place p registers values)
+entries-distinct c place [] registers values = tt
+entries-distinct c place (i ∷ p) registers values = distinct-by c place (action_of i) registers (slice_index values 0) _ (entries-from c (place + 1) p _ _) (entries-distinct c (place + 1) p _ _)
 
 distinct-append : (xs ys : List Entry) → Distinct xs → Distinct ys → ((x y : Entry) → Member x xs → Member y ys → x.core.0 ≢ y.core.0) → Distinct (xs ++ ys)
 distinct-append [] ys a b f = b

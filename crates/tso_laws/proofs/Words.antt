@@ -1,18 +1,25 @@
 -- Whatever a run commits and leaves are words: the constants of the programs and the first values are, and each choice keeps it.
-use Rattle.std.proofs.Common.{◌≡◌, ℕ, ◌+◌, ◌<◌, ◌≤◌, ◌^◌, ◌%◌, zero, suc, Bool, true, false, cond, ltb, List, [], ◌∷◌, ◌++◌, length, filter, All, Option, Some, None, IfSome, slice_get, slice_index, slice_index_or, slice_set, set, get_or, refl, subst, sym, ◌∙◌, arith}
+use Rattle.std.proofs.Common.{◌≡◌, ℕ, ◌+◌, ◌<◌, ◌≤◌, zero, suc, Bool, true, false, cond, ltb, List, [], ◌∷◌, ◌++◌, length, filter, All, Option, Some, None, IfSome, slice_get, slice_index, slice_index_or, slice_set, refl, ◌∙◌, arith, subst}
 use Rattle.std.proofs.lemmas.List.{length-set}
-use Rattle.std.proofs.lemmas.List.Elements.{All-nil, All-cons, All-head, All-tail, All-append, All-push, All-set, All-filter, All-get_or}
+use Rattle.std.proofs.lemmas.List.Elements.{All-nil, All-cons, All-head, All-tail, All-append, All-push, All-set, All-filter}
 use Rattle.tso_model.specs.Litmus.{Litmus, IsTest, HasWords, ConstantIsWord}
 use Rattle.tso_model.specs.Registers.{IsWord, AreRegisters, index_of}
-use Rattle.tso_model.specs.Thread.{entry, fence, value_in, with_value, sum_of}
+use Rattle.tso_model.specs.Actions.{action_of}
+use Rattle.tso_model.specs.Thread.{entry, fence, value_in, value_of, sum_of, updated}
 use Rattle.tso_model.specs.ProgramOrder.{is_write, writes_to}
-use Rattle.tso_model.specs.Execution.{last_value, IsTsoExecution}
-use Rattle.tso_model.specs.FlatMachine.{CoreState, State, Effect, stalled, advanced, advanced_with, stored, seen, loaded, moved, fenced, locked, step_of, drain_of, idle, program_of, core_of, chosen, effect_of, memory_after, applied, after_choice, started, start}
+use Rattle.tso_model.specs.Execution.{last_value}
+use Rattle.tso_model.specs.FlatMachine.{CoreState, State, Effect, stalled, advanced_with, stored, load_value, loaded, moved, fenced, locked, effect_by, step_of, drain_of, idle, program_of, core_of, chosen, effect_of, memory_after, after_choice, started, start}
 use Rattle.tso_model.specs.Runs.{Run, has_ended, resting, then_run, run_from, run}
 use Rattle.tso_model.specs.declared.register.Reg.{Reg}
 use Rattle.tso_model.specs.declared.instruction.Loc.{Loc}
 use Rattle.tso_model.specs.declared.instruction.Instr.{Instr}
-use Rattle.tso_model.specs.declared.instruction.Instr.TheVariants.{StoreImm, StoreReg, Load, SetImm, SetReg, Fence, Xchg, Xadd}
+use Rattle.tso_model.specs.declared.instruction.Instr.TheVariants.{StoreImm, SetImm}
+use Rattle.tso_model.specs.declared.action.Operand.{Operand}
+use Rattle.tso_model.specs.declared.action.Operand.TheVariants.{Number, Held}
+use Rattle.tso_model.specs.declared.action.Update.{Update}
+use Rattle.tso_model.specs.declared.action.Update.TheVariants.{Exchange, Add}
+use Rattle.tso_model.specs.declared.action.Action.{Action}
+use Rattle.tso_model.specs.declared.action.Action.TheVariants.{Store, Load, Move, Fence, Lock}
 use Rattle.tso_model.specs.declared.execution.Entry.{Entry}
 use Rattle.tso_model.specs.declared.execution.Kind.TheVariants.{R, W, LR, LW}
 use Rattle.tso_model.specs.declared.choice.Choice.{Choice}
@@ -20,6 +27,7 @@ use Rattle.tso_model.specs.declared.choice.Choice.TheVariants.{Step, Drain}
 use Rattle.tso_model.specs.declared.choice.Stall.{Stall}
 use Rattle.tso_model.specs.declared.choice.Stall.TheVariants as stall
 use Rattle.tso_model.specs.declared.choice.Outcome.TheVariants.{Buffered}
+use Rattle.tso_laws.proofs.Draining.{waits-or-acts, drains}
 use Rattle.tso_laws.specs.Words.{HasWord, HoldsWords}
 
 no-word : IsWord 0
@@ -70,43 +78,66 @@ good-loaded s reg e h w = record { core = with-word s reg e.value h w; commits =
 good-moved : (s : CoreState) (reg : Reg) (value : ℕ) → GoodCore s → IsWord value → GoodEffect s (moved s reg value)
 good-moved s reg value h w = record { core = with-word s reg value h w; commits = All-nil _; size = length-set s.registers (index_of reg) value }
 
-good-fenced : (core : ℕ) (s : CoreState) (pending : List Entry) → GoodCore s → GoodEffect s (fenced core s pending)
-good-fenced core s [] h = record { core = record { registers = h.registers; pending = h.pending }; commits = All-cons HasWord (fence core s.place) [] no-word (All-nil _); size = refl }
-good-fenced core s (p ∷ ps) h = good-stalled s stall.Fence h
+good-fenced : (core : ℕ) (s : CoreState) → GoodCore s → GoodEffect s (fenced core s)
+good-fenced core s h =
+    waits-or-acts (λ f. GoodEffect s f) stall.Fence s _
+    (λ e. record { core = record { registers = h.registers; pending = h.pending }; commits = All-cons HasWord (fence core s.place) [] no-word (All-nil _); size = refl })
+    (good-stalled s stall.Fence h)
 
-good-locked : (core : ℕ) (s : CoreState) (loc : Loc) (reg : Reg) (word value : ℕ) (pending : List Entry) → GoodCore s → IsWord word → IsWord value
-    → GoodEffect s (locked core s loc reg word value pending)
-good-locked core s loc reg word value [] h w v = record {
-  core = with-word s reg word h w;
-  commits = All-cons HasWord (entry core s.place LR loc word) (entry core s.place LW loc value ∷ []) w (All-cons HasWord (entry core s.place LW loc value) [] v (All-nil _));
-  size = length-set s.registers (index_of reg) word;
-}
-good-locked core s loc reg word value (p ∷ ps) h w v = good-stalled s stall.Lock h
+good-locked : (core : ℕ) (s : CoreState) (loc : Loc) (reg : Reg) (word value : ℕ) → GoodCore s → IsWord word → IsWord value → GoodEffect s (locked core s loc reg word value)
+good-locked core s loc reg word value h w v =
+    waits-or-acts (λ f. GoodEffect s f) stall.Lock s _
+    (λ e. record {
+      core = with-word s reg word h w;
+      commits = All-cons HasWord (entry core s.place LR loc word) (entry core s.place LW loc value ∷ []) w (All-cons HasWord (entry core s.place LW loc value) [] v (All-nil _));
+      size = length-set s.registers (index_of reg) word;
+    }) (good-stalled s stall.Lock h)
+
+-- the number in an action, if it has one, is a word
+abbrev OperandIsWord : Operand → Type 0
+OperandIsWord (Number value) = IsWord value
+OperandIsWord (Held reg) = Unit {0}
+
+abbrev NumberIsWord : Action → Type 0
+NumberIsWord (Store loc operand) = OperandIsWord operand
+NumberIsWord (Move reg operand) = OperandIsWord operand
+NumberIsWord _ = Unit {0}
+
+number-word : (i : Instr) → ConstantIsWord i → NumberIsWord (action_of i)
+number-word (StoreImm loc value) w = w
+number-word (SetImm reg value) w = w
+number-word _ w = tt
+
+operand-word : (registers : List ℕ) (operand : Operand) → All IsWord registers → OperandIsWord operand → IsWord (value_of registers operand)
+operand-word registers (Number value) h w = w
+operand-word registers (Held reg) h w = word-at registers (index_of reg) h
+
+updated-word : (update : Update) (word value : ℕ) → IsWord value → IsWord (updated update word value)
+updated-word Exchange word value w = w
+updated-word Add word value w = sum-word word value
+
+good-action : (depth : ℕ) (memory : List ℕ) (core : ℕ) (a : Action) (s : CoreState) → All IsWord memory → NumberIsWord a → GoodCore s → GoodEffect s (effect_by depth memory core a s)
+good-action depth memory core (Store loc operand) s m n h =
+    good-stored depth s (entry core s.place W loc (value_of s.registers operand)) h (operand-word s.registers operand h.registers n)
+good-action depth memory core (Load reg loc) s m n h =
+    good-loaded s reg (entry core s.place R loc (load_value memory s loc.0)) h
+    (last-word (filter (writes_to loc.0) s.pending) (slice_index memory loc.0) (All-filter (writes_to loc.0) HasWord s.pending h.pending) (word-at memory loc.0 m))
+good-action depth memory core (Move reg operand) s m n h = good-moved s reg (value_of s.registers operand) h (operand-word s.registers operand h.registers n)
+good-action depth memory core Fence s m n h = good-fenced core s h
+good-action depth memory core (Lock loc reg update) s m n h =
+    good-locked core s loc reg (slice_index memory loc.0) (updated update (slice_index memory loc.0) (value_in s.registers reg)) h (word-at memory loc.0 m)
+    (updated-word update (slice_index memory loc.0) (value_in s.registers reg) (word-at s.registers (index_of reg) h.registers))
 
 good-step : (depth : ℕ) (memory : List ℕ) (core : ℕ) (next : Option Instr) (s : CoreState) → All IsWord memory → IfSome next ConstantIsWord → GoodCore s
     → GoodEffect s (step_of depth memory core next s)
 good-step depth memory core None s m i h = good-stalled s stall.Done h
-good-step depth memory core (Some (StoreImm loc value)) s m i h = good-stored depth s (entry core s.place W loc value) h i
-good-step depth memory core (Some (StoreReg loc reg)) s m i h = good-stored depth s (entry core s.place W loc (value_in s.registers reg)) h (word-at s.registers (index_of reg) h.registers)
-good-step depth memory core (Some (Load reg loc)) s m i h =
-    good-loaded s reg (entry core s.place R loc (seen memory s loc.0)) h
-    (last-word (filter (writes_to loc.0) s.pending) (slice_index memory loc.0) (All-filter (writes_to loc.0) HasWord s.pending h.pending) (word-at memory loc.0 m))
-good-step depth memory core (Some (SetImm reg value)) s m i h = good-moved s reg value h i
-good-step depth memory core (Some (SetReg reg other)) s m i h = good-moved s reg (value_in s.registers other) h (word-at s.registers (index_of other) h.registers)
-good-step depth memory core (Some Fence) s m i h = good-fenced core s s.pending h
-good-step depth memory core (Some (Xchg loc reg)) s m i h =
-    good-locked core s loc reg (slice_index memory loc.0) (value_in s.registers reg) s.pending h (word-at memory loc.0 m) (word-at s.registers (index_of reg) h.registers)
-good-step depth memory core (Some (Xadd loc reg)) s m i h =
-    good-locked core s loc reg (slice_index memory loc.0) (sum_of (slice_index memory loc.0) (value_in s.registers reg)) s.pending h (word-at memory loc.0 m)
-    (sum-word (slice_index memory loc.0) (value_in s.registers reg))
+good-step depth memory core (Some x) s m i h = good-action depth memory core (action_of x) s m (number-word x i) h
 
-good-drain : (s : CoreState) (pending : List Entry) → GoodCore s → All HasWord pending → GoodEffect s (drain_of s pending)
-good-drain s [] h p = good-stalled s stall.Empty h
-good-drain s (e ∷ es) h p = record {
-  core = record { registers = h.registers; pending = All-tail HasWord e es p };
-  commits = All-cons HasWord e [] (All-head HasWord e es p) (All-nil _);
-  size = refl;
-}
+good-drain : (s : CoreState) → GoodCore s → GoodEffect s (drain_of s)
+good-drain s h =
+    drains (λ f. GoodEffect s f) s (good-stalled s stall.Empty h)
+    (λ x xs e. let p : All HasWord (x ∷ xs) = subst (λ z. All HasWord z) e h.pending in
+    record { core = record { registers = h.registers; pending = All-tail HasWord x xs p }; commits = All-cons HasWord x [] (All-head HasWord x xs p) (All-nil _); size = refl })
 
 -- ---- all cores, and memory
 
@@ -156,7 +187,7 @@ effect-good t depth state (Step core) words h =
     (next-good (program_of t core.0) (core_of state core.0).place (program-good t.programs core.0 words.constants)) (core-at state.cores core.0 h.cores)
 effect-good t depth state (Drain core) words h =
     let here = core-at state.cores core.0 h.cores in
-    good-drain (core_of state core.0) (core_of state core.0).pending here here.pending
+    good-drain (core_of state core.0) here
 
 choice-good : (t : Litmus) (depth : ℕ) (state : State) (c : Choice) → HasWords t → Good state → Good (after_choice t depth state c)
 choice-good t depth state c words h =

@@ -5,40 +5,35 @@ use Rattle.std.proofs.lemmas.Option.{slice_get_within}
 use Rattle.std.proofs.lemmas.Bool.Decides.{nat_tests}
 use Rattle.tso_model.specs.Litmus.{Litmus}
 use Rattle.tso_model.specs.declared.execution.Entry.{Entry}
-use Rattle.tso_model.specs.declared.instruction.Loc.{Loc}
 use Rattle.tso_model.specs.declared.instruction.Instr.{Instr}
-use Rattle.tso_model.specs.declared.instruction.Instr.TheVariants.{StoreImm, StoreReg, Load, SetImm, SetReg, Fence, Xchg, Xadd}
+use Rattle.tso_model.specs.declared.action.Action.{Action}
+use Rattle.tso_model.specs.declared.action.Action.TheVariants.{Store, Load, Move, Fence, Lock}
 use Rattle.tso_model.specs.declared.choice.Choice.{Choice}
 use Rattle.tso_model.specs.declared.choice.Choice.TheVariants.{Step, Drain}
 use Rattle.tso_model.specs.declared.choice.Stall.{Stall}
 use Rattle.tso_model.specs.declared.choice.Stall.TheVariants as stall
 use Rattle.tso_model.specs.declared.choice.Outcome.TheVariants.{Committed}
-use Rattle.tso_model.specs.declared.register.Reg.{Reg}
-use Rattle.tso_model.specs.FlatMachine.{core_of, stalled, advanced, CoreState, State, Effect, idle, program_of, stored, fenced, locked, step_of, drain_of, effect_of, chosen, after_choice, started, start}
+use Rattle.tso_model.specs.Actions.{action_of}
+use Rattle.tso_model.specs.FlatMachine.{is_none_pending, core_of, stalled, advanced, CoreState, State, Effect, idle, program_of, stored, when_drained, effect_by, step_of, drain_of, effect_of, chosen, after_choice, started, start}
+use Rattle.tso_laws.proofs.Draining.{waits-or-acts, drains}
 use Rattle.tso_laws.proofs.Basics.{lt-or, and-left, and-right}
 use Rattle.tso_laws.proofs.Folds.{put}
-use Rattle.tso_model.specs.Runs.{is_none_pending, is_done, all_done, has_ended, stall_count, then_run, resting, run, run_from}
-use Rattle.tso_laws.specs.Counting.{is_plain_store, stores_in, instructions, stores}
+use Rattle.tso_model.specs.Runs.{is_done, all_done, has_ended, stall_count, then_run, resting, run, run_from}
+use Rattle.tso_laws.specs.Counting.{store_count, stores_in, instructions, stores}
 use Rattle.tso_laws.proofs.Lists.{drop_at, drop_end}
 
 abbrev pub store_weight : ℕ → ℕ
 store_weight zero = 1
 store_weight (suc n) = 2
 
--- how many choices an instruction takes
-abbrev pub weight : ℕ → Instr → ℕ
-weight d (StoreImm loc value) = store_weight d
-weight d (StoreReg loc reg) = store_weight d
-weight d (Load reg loc) = 1
-weight d (SetImm reg value) = 1
-weight d (SetReg reg other) = 1
-weight d Fence = 1
-weight d (Xchg loc reg) = 1
-weight d (Xadd loc reg) = 1
+-- how many choices an action takes
+abbrev pub weight : ℕ → Action → ℕ
+weight d (Store loc operand) = store_weight d
+weight d _ = 1
 
 abbrev pub work : ℕ → List Instr → ℕ
 work d [] = 0
-work d (x ∷ xs) = weight d x + work d xs
+work d (x ∷ xs) = weight d (action_of x) + work d xs
 
 -- how many effective choices a core has still to make
 abbrev pub undone : ℕ → List Instr → CoreState → ℕ
@@ -61,46 +56,43 @@ stays : (d : ℕ) (p : List Instr) (s : CoreState) (why : Stall) → Changes d p
 stays d p s why = inr (record { stalled = refl; same = refl; none = refl })
 
 one-less : (d : ℕ) (p : List Instr) (s : CoreState) (x : Instr) (f : Effect) → slice_get p s.place ≡ Some x → stall_count f.outcome ≡ 0 → f.after.place ≡ s.place + 1
-    → weight d x + length s.pending ≡ suc (length f.after.pending) → Advances d p s f
+    → weight d (action_of x) + length s.pending ≡ suc (length f.after.pending) → Advances d p s f
 one-less d p s x f e o n w = record {
   took = o;
   less = rw (n, drop_at p s.place x e) (omega arith);
   within = λ h. rw n (let l = slice_get_within p s.place x e in omega arith);
 }
 
-stored-changes : (d : ℕ) (p : List Instr) (s : CoreState) (x : Instr) (y : Entry) → slice_get p s.place ≡ Some x → weight d x ≡ store_weight d → Changes d p s (stored d s y)
+stored-changes : (d : ℕ) (p : List Instr) (s : CoreState) (x : Instr) (y : Entry) → slice_get p s.place ≡ Some x → weight d (action_of x) ≡ store_weight d → Changes d p s (stored d s y)
 stored-changes zero p s x y e w = inl (one-less 0 p s x (record { outcome = Committed; after = advanced s; commits = y ∷ [] }) e refl refl (omega arith))
 stored-changes (suc n) p s x y e w =
     elim (nat_lt (length s.pending) (suc n)) as (λ b. Changes (suc n) p s (if b then put s y else stalled stall.Full s))
     [ true ↦ inl (one-less (suc n) p s x (put s y) e refl refl (let m = length-append s.pending (y ∷ []) in omega arith)) | false ↦ stays (suc n) p s stall.Full ]
 
-locked-changes : (c d : ℕ) (p : List Instr) (s : CoreState) (x : Instr) (loc : Loc) (reg : Reg) (v w : ℕ) → slice_get p s.place ≡ Some x → weight d x ≡ 1
-    → (q : List Entry) → s.pending ≡ q → Changes d p s (locked c s loc reg v w q)
-locked-changes c d p s x loc reg v w e u [] z = inl (one-less d p s x _ e refl refl (let m = ap length z in omega arith))
-locked-changes c d p s x loc reg v w e u (y ∷ ys) z = stays d p s stall.Lock
-
-fenced-changes : (c d : ℕ) (p : List Instr) (s : CoreState) → slice_get p s.place ≡ Some Fence → (q : List Entry) → s.pending ≡ q → Changes d p s (fenced c s q)
-fenced-changes c d p s e [] z = inl (one-less d p s Fence _ e refl refl (let m = ap length z in omega arith))
-fenced-changes c d p s e (y ∷ ys) z = stays d p s stall.Fence
+-- an instruction that waits until nothing is pending
+waits-changes : (d : ℕ) (p : List Instr) (s : CoreState) (x : Instr) (why : Stall) (f : Effect) → slice_get p s.place ≡ Some x → weight d (action_of x) ≡ 1
+    → stall_count f.outcome ≡ 0 → f.after.place ≡ s.place + 1 → f.after.pending ≡ s.pending → Changes d p s (when_drained why s f)
+waits-changes d p s x why f e u o n q =
+    waits-or-acts (λ f. Changes d p s f) why s f (λ none. inl (one-less d p s x f e o n (let a = ap length none in let b = ap length q in omega arith))) (stays d p s why)
 
 pub step-changes : (c d : ℕ) (p : List Instr) (memory : List ℕ) (s : CoreState) (i : Option Instr) → slice_get p s.place ≡ i → Changes d p s (step_of d memory c i s)
 step-changes c d p memory s None e = stays d p s stall.Done
-step-changes c d p memory s (Some (StoreImm loc value)) e = stored-changes d p s (StoreImm loc value) _ e refl
-step-changes c d p memory s (Some (StoreReg loc reg)) e = stored-changes d p s (StoreReg loc reg) _ e refl
-step-changes c d p memory s (Some (Load reg loc)) e = inl (one-less d p s (Load reg loc) _ e refl refl (omega arith))
-step-changes c d p memory s (Some (SetImm reg value)) e = inl (one-less d p s (SetImm reg value) _ e refl refl (omega arith))
-step-changes c d p memory s (Some (SetReg reg other)) e = inl (one-less d p s (SetReg reg other) _ e refl refl (omega arith))
-step-changes c d p memory s (Some Fence) e = fenced-changes c d p s e s.pending refl
-step-changes c d p memory s (Some (Xchg loc reg)) e = locked-changes c d p s (Xchg loc reg) loc _ _ _ e refl s.pending refl
-step-changes c d p memory s (Some (Xadd loc reg)) e = locked-changes c d p s (Xadd loc reg) loc _ _ _ e refl s.pending refl
+step-changes c d p memory s (Some x) e = by_action (action_of x) refl
+  where
+    by_action : (a : Action) → action_of x ≡ a → Changes d p s (effect_by d memory c a s)
+    by_action (Store loc operand) q = stored-changes d p s x _ e (ap (weight d) q)
+    by_action (Load reg loc) q = inl (one-less d p s x _ e refl refl (rw q (omega arith)))
+    by_action (Move reg operand) q = inl (one-less d p s x _ e refl refl (rw q (omega arith)))
+    by_action Fence q = waits-changes d p s x stall.Fence _ e (ap (weight d) q) refl refl refl
+    by_action (Lock loc reg update) q = waits-changes d p s x stall.Lock _ e (ap (weight d) q) refl refl refl
 
-pub drain-changes : (d : ℕ) (p : List Instr) (s : CoreState) (q : List Entry) → s.pending ≡ q → Changes d p s (drain_of s q)
-drain-changes d p s [] z = stays d p s stall.Empty
-drain-changes d p s (y ∷ ys) z = inl (record { took = refl; less = let m = ap length z in omega arith; within = λ h. h })
+pub drain-changes : (d : ℕ) (p : List Instr) (s : CoreState) → Changes d p s (drain_of s)
+drain-changes d p s =
+    drains (λ f. Changes d p s f) s (stays d p s stall.Empty) (λ x xs z. inl (record { took = refl; less = let m = ap length z in omega arith; within = λ h. h }))
 
 pub choice-changes : (t : Litmus) (d : ℕ) (state : State) (a : Choice) → Changes d (program_of t (chosen a)) (core_of state (chosen a)) (effect_of t d state a)
 choice-changes t d state (Step c) = step-changes c.0 d (program_of t c.0) state.memory (core_of state c.0) (slice_get (program_of t c.0) (core_of state c.0).place) refl
-choice-changes t d state (Drain c) = drain-changes d (program_of t c.0) (core_of state c.0) (core_of state c.0).pending refl
+choice-changes t d state (Drain c) = drain-changes d (program_of t c.0) (core_of state c.0)
 
 set-same : (xs : List CoreState) (k : ℕ) → slice_set xs k (slice_index_or xs k idle) ≡ xs
 set-same [] k = refl
@@ -214,37 +206,31 @@ pub length-starts : (c : ℕ) (ps : List (List Instr)) (registers : List (List �
 length-starts c [] registers = refl
 length-starts c (p ∷ ps) registers = ap suc (length-starts (c + 1) ps registers)
 
-weight-is : (n : ℕ) (x : Instr) → weight (suc n) x ≡ 1 + is_plain_store x
-weight-is n (StoreImm loc value) = refl
-weight-is n (StoreReg loc reg) = refl
+weight-is : (n : ℕ) (a : Action) → weight (suc n) a ≡ 1 + store_count a
+weight-is n (Store loc operand) = refl
 weight-is n (Load reg loc) = refl
-weight-is n (SetImm reg value) = refl
-weight-is n (SetReg reg other) = refl
+weight-is n (Move reg operand) = refl
 weight-is n Fence = refl
-weight-is n (Xchg loc reg) = refl
-weight-is n (Xadd loc reg) = refl
+weight-is n (Lock loc reg update) = refl
 
 work-is : (n : ℕ) (p : List Instr) → work (suc n) p ≡ length p + stores_in p
 work-is n [] = refl
-work-is n (x ∷ xs) = let h = work-is n xs in let w = weight-is n x in omega arith
+work-is n (x ∷ xs) = let h = work-is n xs in let w = weight-is n (action_of x) in omega arith
 
 works-are : (n : ℕ) (ps : List (List Instr)) → works (suc n) ps ≡ instructions ps + stores ps
 works-are n [] = refl
 works-are n (p ∷ ps) = let h = works-are n ps in let w = work-is n p in omega arith
 
-weight-none : (x : Instr) → weight 0 x ≡ 1
-weight-none (StoreImm loc value) = refl
-weight-none (StoreReg loc reg) = refl
+weight-none : (a : Action) → weight 0 a ≡ 1
+weight-none (Store loc operand) = refl
 weight-none (Load reg loc) = refl
-weight-none (SetImm reg value) = refl
-weight-none (SetReg reg other) = refl
+weight-none (Move reg operand) = refl
 weight-none Fence = refl
-weight-none (Xchg loc reg) = refl
-weight-none (Xadd loc reg) = refl
+weight-none (Lock loc reg update) = refl
 
 work-none : (p : List Instr) → work 0 p ≡ length p
 work-none [] = refl
-work-none (x ∷ xs) = let h = work-none xs in let w = weight-none x in omega arith
+work-none (x ∷ xs) = let h = work-none xs in let w = weight-none (action_of x) in omega arith
 
 works-none : (ps : List (List Instr)) → works 0 ps ≡ instructions ps
 works-none [] = refl

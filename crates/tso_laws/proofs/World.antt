@@ -99,9 +99,9 @@ present-choose t d commits state (Drain c) a w l =
     let s : CoreState = slice_index_or state.cores c.0 idle in
     let h = w.cores c.0 s (slice_get-get_or state.cores c.0 idle (rw w.size l)) in
     world-apply d t commits state c.0 (effect_of t d state (Drain c)) w l
-    (holds-drained d c.0 (program_of t c.0) (slice_index_or t.registers c.0 []) t.words commits s h s.pending refl)
-    (drain-commits c.0 (length t.words) s s.pending h.queued)
-    (drain-paired c.0 (length t.words) s s.pending h.queued)
+    (holds-drained d c.0 (program_of t c.0) (slice_index_or t.registers c.0 []) t.words commits s h)
+    (drain-commits c.0 (length t.words) s h.queued)
+    (drain-paired c.0 (length t.words) s h.queued)
 
 -- every choice keeps it; one of a core that isn't there changes nothing
 pub world-choose : (t : Litmus) (d : ℕ) (commits : List Entry) (state : State) (c : Choice) → HasLocations t → World d t commits state

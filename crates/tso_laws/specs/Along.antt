@@ -1,9 +1,9 @@
 -- Choices made along an order, and what it is that choices lead to an order.
 use Rattle.std.specs.Prelude.{max, ℕ, ◌+◌, ◌-◌, ◌≡◌, true, if◌then◌else◌, List, [], ◌∷◌, ◌++◌, length, slice_index, slice_set, zero, suc}
+use Rattle.tso_model.specs.FlatMachine.{step, drain}
 use Rattle.tso_model.specs.Litmus.{Litmus}
 use Rattle.tso_model.specs.ProgramOrder.{is_store}
 use Rattle.tso_model.specs.Runs.{run, CoresExist}
-use Rattle.tso_laws.specs.Choices.{step, drain}
 use Rattle.tso_model.specs.declared.instruction.Instr.{Instr}
 use Rattle.tso_model.specs.declared.execution.Entry.{Entry}
 use Rattle.tso_model.specs.declared.choice.Choice.{Choice}

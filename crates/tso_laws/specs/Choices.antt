@@ -4,14 +4,6 @@ use Rattle.tso_model.specs.Litmus.{Litmus}
 use Rattle.tso_model.specs.FlatMachine.{State, start, effect_of, after_choice}
 use Rattle.tso_model.specs.declared.execution.Entry.{Entry}
 use Rattle.tso_model.specs.declared.choice.Choice.{Choice}
-use Rattle.tso_model.specs.declared.choice.Choice.TheVariants.{Step, Drain}
-
--- the two choices of a core, by its number
-abbrev pub step : ℕ → Choice
-step core = Step (record { 0 = core })
-
-abbrev pub drain : ℕ → Choice
-drain core = Drain (record { 0 = core })
 
 -- the state after these choices
 abbrev pub state_after : Litmus → ℕ → State → List Choice → State

@@ -1,18 +1,17 @@
 -- How much there is to do in a test.
 use Rattle.std.specs.Prelude.{max, ℕ, ◌+◌, List, [], ◌∷◌, length}
+use Rattle.tso_model.specs.Actions.{action_of}
 use Rattle.tso_model.specs.declared.instruction.Instr.{Instr}
-use Rattle.tso_model.specs.declared.instruction.Instr.TheVariants.{StoreImm, StoreReg, Load, SetImm, SetReg, Fence, Xchg, Xadd}
+use Rattle.tso_model.specs.declared.action.Action.{Action}
+use Rattle.tso_model.specs.declared.action.Action.TheVariants.{Store}
 
 -- 1 for a plain store, else 0
+abbrev pub store_count : Action → ℕ
+store_count (Store loc operand) = 1
+store_count _ = 0
+
 abbrev pub is_plain_store : Instr → ℕ
-is_plain_store (StoreImm loc value) = 1
-is_plain_store (StoreReg loc reg) = 1
-is_plain_store (Load reg loc) = 0
-is_plain_store (SetImm reg value) = 0
-is_plain_store (SetReg reg other) = 0
-is_plain_store Fence = 0
-is_plain_store (Xchg loc reg) = 0
-is_plain_store (Xadd loc reg) = 0
+is_plain_store i = store_count (action_of i)
 
 -- the plain stores of a program
 abbrev pub stores_in : List Instr → ℕ

@@ -1,19 +1,15 @@
 -- Runs that have ended, and what they leave.
-use Rattle.std.specs.Prelude.{ℕ, ◌≡◌, true, List, map}
+use Rattle.std.specs.Prelude.{ℕ, ◌≡◌, true, List}
 use Rattle.tso_model.specs.Litmus.{Litmus}
 use Rattle.tso_model.specs.Execution.{IsTsoExecution}
 use Rattle.tso_model.specs.FinalState.{final_words, final_registers}
-use Rattle.tso_model.specs.FlatMachine.{State}
+pub use Rattle.tso_model.specs.FlatMachine.{registers_in}
 use Rattle.tso_model.specs.Runs.{Run, run}
 use Rattle.tso_model.specs.declared.choice.Choice.{Choice}
 
 -- the choices end the test
 abbrev pub End : Litmus → ℕ → List Choice → Type 0
 End t depth choices = (run t depth choices).ended ≡ true
-
--- the registers of each core
-abbrev pub registers_in : State → List (List ℕ)
-registers_in state = map (λ s. s.registers) state.cores
 
 -- the commits are a TSO execution of the test, and memory and registers are the final state of that order
 pub record IsExecution (t : Litmus) (r : Run) : Type 0 where

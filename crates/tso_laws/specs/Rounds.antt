@@ -1,7 +1,7 @@
 -- Rounds of choices.
 use Rattle.std.specs.Prelude.{ℕ, ◌<◌, ◌≡◌, List, [], ◌∷◌, ◌++◌, ◌⊎◌, zero, suc}
+use Rattle.tso_model.specs.FlatMachine.{step, drain}
 use Rattle.tso_model.specs.declared.choice.Choice.{Choice}
-use Rattle.tso_laws.specs.Choices.{step, drain}
 
 abbrev pub Among : Choice → List Choice → Type 0
 Among a [] = ⊥
@@ -11,7 +11,7 @@ Among a (c ∷ cs) = (a ≡ c) ⊎ Among a cs
 abbrev pub IsRound : ℕ → List Choice → Type 0
 IsRound cores cs = (k : ℕ) → k < cores → Among (step k) cs × Among (drain k) cs
 
--- the list can be cut into so many rounds, one behind the other, and a rest
+-- the list can be cut into so many rounds, one after the other, and a rest
 abbrev pub CanBeCutIntoRounds : ℕ → ℕ → List Choice → Type 0
 CanBeCutIntoRounds cores zero cs = Unit {0}
 CanBeCutIntoRounds cores (suc n) cs = (round : List Choice) × (rest : List Choice) × (cs ≡ round ++ rest) × IsRound cores round × CanBeCutIntoRounds cores n rest

@@ -27,7 +27,7 @@ abbrev pub is_waiting : List Entry → Entry → Bool
 is_waiting commits e = is_store e && not (is_committed commits e)
 
 -- of one core: it stands within its program; what is pending are its issued and uncommitted plain stores, in
--- program order, no more than the buffer holds, and commits with these behind them keep program order; all else that
+-- program order, no more than the buffer holds, and commits with these after them keep program order; all else that
 -- it has issued is committed; its registers are its thread's so far
 pub record CoreSoFar (t : Litmus) (depth : ℕ) (commits : List Entry) (core : ℕ) (s : CoreState) : Type 0 where
   pub place : s.place ≤ length (program_of t core)
@@ -44,7 +44,7 @@ pub record IsIssued (t : Litmus) (commits : List Entry) (state : State) (e : Ent
   pub entry : StandsIn (issued t e.core.0 (core_of state e.core.0).place commits) e
 
 -- each committed read has the value of the last of the writes that count: those before it in the commits, and those
--- before it in its program, which may be committed behind it or still be pending
+-- before it in its program, which may be committed after it or still be pending
 abbrev pub HasReadValuesSoFar : Litmus → List Entry → State → Type 0
 HasReadValuesSoFar t commits state =
     (front : List Entry) (x : Entry) (back : List Entry) → commits ≡ front ++ (x ∷ back) → is_read x ≡ true

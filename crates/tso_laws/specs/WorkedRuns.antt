@@ -1,5 +1,6 @@
 -- Worked runs, and choices along worked orders.
 use Rattle.std.specs.Prelude.{List, [], ◌∷◌, ◌++◌, None, codes}
+use Rattle.tso_model.specs.FlatMachine.{step, drain}
 use Rattle.tso_model.specs.Litmus.{Litmus}
 use Rattle.tso_model.specs.Thread.{entry}
 use Rattle.tso_model.specs.Examples.{loc_x, loc_y, zeros}
@@ -9,7 +10,6 @@ use Rattle.tso_model.specs.declared.instruction.Instr.TheVariants.{StoreImm, Loa
 use Rattle.tso_model.specs.declared.execution.Entry.{Entry}
 use Rattle.tso_model.specs.declared.execution.Kind.TheVariants.{R, W}
 use Rattle.tso_model.specs.declared.choice.Choice.{Choice}
-use Rattle.tso_laws.specs.Choices.{step, drain}
 
 -- along the order of n6: 0s 0s 0s 1s 1d 1s 1d 0d
 abbrev pub n6_along : List Choice
@@ -48,7 +48,7 @@ two_passed = entry 0 2 R loc_z 0 ∷ (entry 0 0 W loc_x 1 ∷ (entry 0 1 W loc_y
 abbrev pub two_stalled : List Choice
 two_stalled = step 0 ∷ (step 0 ∷ (drain 0 ∷ (step 0 ∷ (drain 0 ∷ (step 0 ∷ [])))))
 
--- a store, and a register move behind it
+-- a store, and a register move after it
 abbrev pub moved_last : Litmus
 moved_last = record {
   name = codes "moved";

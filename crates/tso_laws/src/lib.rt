@@ -73,7 +73,7 @@ pub fn ended_runs_are_executions()
 {}
 
 /// A run uses its choices up to the first moment at which the test has ended, and counts the
-/// others as unused; behind that moment no choice commits or changes anything.
+/// others as unused; after that moment no choice commits or changes anything.
 pub fn runs_stop_where_they_end()
     ensures stops { (t : Litmus) (depth : ℕ) (choices : List Choice) → StopsAtTheEnd t depth choices (run t depth choices) }
     ensures nothing_more { (t : Litmus) (depth : ℕ) (choices : List Choice) (choice : Choice) → End t depth choices → ChangesNothing t depth (run t depth choices).state choice }
@@ -192,7 +192,7 @@ pub fn premises_are_met()
 
 /// What fails without the laws' premises.
 ///
-/// Outside the limits: a location without a word keeps no store, so that a load behind the store
+/// Outside the limits: a location without a word keeps no store, so that a load after the store
 /// returns 0. Not ended: a run of no choices is no execution, and its counts aren't the program's.
 /// One round less: a drain that comes before the step of its round finds nothing. A buffer: both
 /// loads of store buffering pass their stores. No buffer: an order that needs a depth of 1 is

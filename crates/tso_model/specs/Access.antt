@@ -2,11 +2,13 @@
 -- (x86-TSO, section 3, for loads that the own buffer answers; Primer, chapter 7, for accesses on a bus.)
 use Rattle.std.specs.Prelude.{ℕ, List, [], ◌∷◌, filter, Option, Some, None, slice_get, zero, suc}
 use Rattle.tso_model.specs.Litmus.{Litmus}
+use Rattle.tso_model.specs.Actions.{action_of}
 use Rattle.tso_model.specs.ProgramOrder.{writes_to}
 use Rattle.tso_model.specs.FlatMachine.{State, program_of, core_of}
 use Rattle.tso_model.specs.declared.instruction.Loc.{Loc}
 use Rattle.tso_model.specs.declared.instruction.Instr.{Instr}
-use Rattle.tso_model.specs.declared.instruction.Instr.TheVariants.{StoreImm, StoreReg, Load, SetImm, SetReg, Fence, Xchg, Xadd}
+use Rattle.tso_model.specs.declared.action.Action.{Action}
+use Rattle.tso_model.specs.declared.action.Action.TheVariants.{Store, Load, Move, Fence, Lock}
 use Rattle.tso_model.specs.declared.execution.Entry.{Entry}
 use Rattle.tso_model.specs.declared.choice.Choice.{Choice}
 use Rattle.tso_model.specs.declared.choice.Choice.TheVariants.{Step, Drain}
@@ -33,17 +35,18 @@ abbrev pub locked_access : Loc → List Entry → Access
 locked_access loc [] = Locks loc
 locked_access loc (p ∷ ps) = NoAccess
 
+-- the access of an action, with these stores pending
+abbrev pub access_by : ℕ → Action → List Entry → Access
+access_by depth (Store loc operand) pending = store_access depth loc
+access_by depth (Load reg loc) pending = load_access loc (filter (writes_to loc.0) pending)
+access_by depth (Move reg operand) pending = NoAccess
+access_by depth Fence pending = NoAccess
+access_by depth (Lock loc reg update) pending = locked_access loc pending
+
 -- the access of a step, at this instruction with these stores pending
 abbrev pub step_access : ℕ → Option Instr → List Entry → Access
 step_access depth None pending = NoAccess
-step_access depth (Some (StoreImm loc value)) pending = store_access depth loc
-step_access depth (Some (StoreReg loc reg)) pending = store_access depth loc
-step_access depth (Some (Load reg loc)) pending = load_access loc (filter (writes_to loc.0) pending)
-step_access depth (Some (SetImm reg value)) pending = NoAccess
-step_access depth (Some (SetReg reg other)) pending = NoAccess
-step_access depth (Some Fence) pending = NoAccess
-step_access depth (Some (Xchg loc reg)) pending = locked_access loc pending
-step_access depth (Some (Xadd loc reg)) pending = locked_access loc pending
+step_access depth (Some i) pending = access_by depth (action_of i) pending
 
 -- a drain writes the oldest of these pending stores
 abbrev pub drain_access : List Entry → Access

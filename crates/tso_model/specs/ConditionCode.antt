@@ -1,4 +1,5 @@
--- A claim written down as a list of numbers and read back: a proof tells stored claims apart by it.
+-- No claim rests on this: it serves the model of a test alone. A claim written down as a list of numbers and read back, by
+-- which a proof tells stored claims apart.
 use Rattle.std.specs.Prelude.{ℕ, ◌==◌, ◌≡◌, refl, Bool, true, false, if◌then◌else◌, List, [], ◌∷◌, ◌++◌}
 use Rattle.std.specs.Coded.{Coded, code_by, coded×, coded_ℕ, coded_list}
 use Rattle.std.proofs.Common.{append_assoc, append-nil, ap, ◌∙◌, sym}
@@ -18,7 +19,7 @@ abbrev pub bit_of : Bool → ℕ
 bit_of true = 1
 bit_of false = 0
 
--- the claim with each form behind its parts
+-- the claim with each form after its parts
 abbrev pub tokens_of : Claim → List Token
 tokens_of (TruthClaim truth) = token 0 (bit_of truth) 0 0 ∷ []
 tokens_of (RegClaim core reg value) = token 1 core (index_of reg) value ∷ []

@@ -32,7 +32,7 @@ after_on bus t depth state a = record {
   holder = (effect_on bus t depth state a).holder;
 }
 
--- a run, and who holds the bus behind it
+-- a run, and who holds the bus after it
 pub record BusRun : Type 0 where
   pub run : Run
   pub holder : Holder

@@ -2,13 +2,13 @@
 use Rattle.std.specs.Prelude.{ℕ, List, [], ◌∷◌, None, codes}
 use Rattle.tso_model.specs.Litmus.{Litmus}
 use Rattle.tso_model.specs.Thread.{entry}
+use Rattle.tso_model.specs.FlatMachine.{step, drain}
 use Rattle.tso_model.specs.declared.register.Reg.TheVariants.{Eax, Ebx}
 use Rattle.tso_model.specs.declared.instruction.Loc.{Loc}
 use Rattle.tso_model.specs.declared.instruction.Instr.TheVariants.{StoreImm, Load, Xadd}
 use Rattle.tso_model.specs.declared.execution.Entry.{Entry}
 use Rattle.tso_model.specs.declared.execution.Kind.TheVariants.{R, W, LR, LW}
 use Rattle.tso_model.specs.declared.choice.Choice.{Choice}
-use Rattle.tso_model.specs.declared.choice.Choice.TheVariants.{Step, Drain}
 
 abbrev pub loc_x : Loc
 loc_x = record { 0 = 0 }
@@ -18,12 +18,6 @@ loc_y = record { 0 = 1 }
 
 abbrev pub zeros : List ℕ
 zeros = 0 ∷ (0 ∷ (0 ∷ (0 ∷ (0 ∷ (0 ∷ [])))))
-
-abbrev pub step : ℕ → Choice
-step core = Step (record { 0 = core })
-
-abbrev pub drain : ℕ → Choice
-drain core = Drain (record { 0 = core })
 
 -- store buffering: each core stores to one location and loads the other
 abbrev pub sb : Litmus

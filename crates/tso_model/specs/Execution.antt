@@ -1,22 +1,16 @@
 -- When an order of entries is a TSO execution of a test.
 -- (Primer, chapter 4, the axioms of TSO; x86-TSO, section 3, for fences and locked instructions.)
 use Rattle.std.specs.Prelude.{ℕ, ◌+◌, ◌<◌, ◌≡◌, ◌==◌, ◌&&◌, Bool, true, false, if◌then◌else◌, List, [], ◌∷◌, ◌++◌, filter, length, Some, slice_get, slice_index, slice_index_or, suc}
+use Rattle.tso_model.specs.Actions.{action_of}
 use Rattle.tso_model.specs.Thread.{entries_of}
-use Rattle.tso_model.specs.ProgramOrder.{is_before, may_be_passed, is_read, writes_to}
+use Rattle.tso_model.specs.ProgramOrder.{same_kind, is_before, may_be_passed, is_read, writes_to}
 use Rattle.tso_model.specs.Litmus.{Litmus}
 use Rattle.tso_model.specs.declared.instruction.Instr.{Instr}
-use Rattle.tso_model.specs.declared.instruction.Instr.TheVariants.{StoreImm, StoreReg, Load, SetImm, SetReg, Fence, Xchg, Xadd}
+use Rattle.tso_model.specs.declared.action.Action.{Action}
+use Rattle.tso_model.specs.declared.action.Action.TheVariants.{Store, Load, Move, Fence, Lock}
 use Rattle.tso_model.specs.declared.execution.Entry.{Entry}
 use Rattle.tso_model.specs.declared.execution.Kind.{Kind}
-use Rattle.tso_model.specs.declared.execution.Kind.TheVariants.{R, W, F, LR, LW}
-
-abbrev pub same_kind : Kind → Kind → Bool
-same_kind R R = true
-same_kind W W = true
-same_kind F F = true
-same_kind LR LR = true
-same_kind LW LW = true
-same_kind _ _ = false
+use Rattle.tso_model.specs.declared.execution.Kind.TheVariants.{R, LR, LW}
 
 -- the entry of this core, place and kind
 abbrev pub is_at : ℕ → ℕ → Kind → Entry → Bool
@@ -27,17 +21,18 @@ abbrev pub read_value : ℕ → ℕ → Kind → List Entry → ℕ
 read_value core place kind [] = 0
 read_value core place kind (e ∷ es) = if is_at core place kind e then e.value else read_value core place kind es
 
+-- the value that the order itself gives what an action reads, if it reads
+abbrev pub values_by : ℕ → ℕ → Action → List Entry → List ℕ
+values_by core place (Store loc operand) order = []
+values_by core place (Load reg loc) order = read_value core place R order ∷ []
+values_by core place (Move reg operand) order = []
+values_by core place Fence order = []
+values_by core place (Lock loc reg update) order = read_value core place LR order ∷ []
+
 -- the order's own values for the reads of a program from a place on, in program order
 abbrev pub read_values : ℕ → ℕ → List Instr → List Entry → List ℕ
 read_values core place [] order = []
-read_values core place (StoreImm loc value ∷ rest) order = read_values core (place + 1) rest order
-read_values core place (StoreReg loc reg ∷ rest) order = read_values core (place + 1) rest order
-read_values core place (Load reg loc ∷ rest) order = read_value core place R order ∷ read_values core (place + 1) rest order
-read_values core place (SetImm reg value ∷ rest) order = read_values core (place + 1) rest order
-read_values core place (SetReg reg other ∷ rest) order = read_values core (place + 1) rest order
-read_values core place (Fence ∷ rest) order = read_values core (place + 1) rest order
-read_values core place (Xchg loc reg ∷ rest) order = read_value core place LR order ∷ read_values core (place + 1) rest order
-read_values core place (Xadd loc reg ∷ rest) order = read_value core place LR order ∷ read_values core (place + 1) rest order
+read_values core place (i ∷ rest) order = values_by core place (action_of i) order ++ read_values core (place + 1) rest order
 
 -- the entries that a core's program makes with the order's own read values
 abbrev pub made_by : ℕ → List Instr → List ℕ → List Entry → List Entry
@@ -85,7 +80,7 @@ KeepsPairs order =
     → (y : Entry) × (slice_get order (suc i) ≡ Some y) × IsStorePart x y
 
 -- the writes that count for a read x, as they stand in the order: those to its location that are before it in the
--- order (front), or behind it (back) but before it in its program
+-- order (front), or after it (back) but before it in its program
 abbrev pub counting : Entry → List Entry → List Entry → List Entry
 counting x front back = filter (writes_to x.loc.0) (front ++ filter (λ e. is_before e x) back)
 
@@ -94,7 +89,7 @@ abbrev pub last_value : List Entry → ℕ → ℕ
 last_value [] word = word
 last_value (e ∷ es) word = last_value es e.value
 
--- the value that is due to a read x with `front` before it in the order and `back` behind it
+-- the value that is due to a read x with `front` before it in the order and `back` after it
 abbrev pub due_value : Litmus → Entry → List Entry → List Entry → ℕ
 due_value t x front back = last_value (counting x front back) (slice_index t.words x.loc.0)
 

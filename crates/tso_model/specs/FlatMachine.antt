@@ -1,17 +1,19 @@
 -- The flat machine: one memory, and for each core the stores that are pending. One choice acts at a time.
 -- (x86-TSO, section 3, the abstract machine; the bounded buffer, the stalls and the locked instruction
 -- in one step are this project's profile.)
-use Rattle.std.specs.Prelude.{ℕ, ◌+◌, ◌<◌, ◌==◌, ◌&&◌, nat_lt, Bool, true, false, if◌then◌else◌, List, [], ◌∷◌, ◌++◌, filter, length, Option, Some, None, slice_get, slice_index, slice_index_or, slice_set, zero, suc}
-use Rattle.tso_model.specs.Thread.{entry, fence, value_in, with_value, sum_of}
+use Rattle.std.specs.Prelude.{ℕ, ◌+◌, nat_lt, if◌then◌else◌, List, [], ◌∷◌, ◌++◌, map, filter, length, Option, Some, None, slice_get, slice_index, slice_index_or, slice_set, take, drop, zero, suc, Bool, true, false}
+use Rattle.tso_model.specs.Actions.{action_of}
+use Rattle.tso_model.specs.Thread.{entry, fence, value_in, with_value, value_of, updated}
 use Rattle.tso_model.specs.ProgramOrder.{is_write, writes_to}
 use Rattle.tso_model.specs.Execution.{last_value}
 use Rattle.tso_model.specs.Litmus.{Litmus}
 use Rattle.tso_model.specs.declared.register.Reg.{Reg}
 use Rattle.tso_model.specs.declared.instruction.Loc.{Loc}
 use Rattle.tso_model.specs.declared.instruction.Instr.{Instr}
-use Rattle.tso_model.specs.declared.instruction.Instr.TheVariants.{StoreImm, StoreReg, Load, SetImm, SetReg, Fence, Xchg, Xadd}
+use Rattle.tso_model.specs.declared.action.Action.{Action}
+use Rattle.tso_model.specs.declared.action.Action.TheVariants.{Store, Load, Move, Fence, Lock}
 use Rattle.tso_model.specs.declared.execution.Entry.{Entry}
-use Rattle.tso_model.specs.declared.execution.Kind.TheVariants.{R, W, F, LR, LW}
+use Rattle.tso_model.specs.declared.execution.Kind.TheVariants.{R, W, LR, LW}
 use Rattle.tso_model.specs.declared.choice.Choice.{Choice}
 use Rattle.tso_model.specs.declared.choice.Choice.TheVariants.{Step, Drain}
 use Rattle.tso_model.specs.declared.choice.Stall.{Stall}
@@ -35,6 +37,10 @@ pub record Effect : Type 0 where
   pub after : CoreState
   pub commits : List Entry
 
+abbrev pub is_none_pending : List Entry → Bool
+is_none_pending [] = true
+is_none_pending (p ∷ ps) = false
+
 abbrev pub stalled : Stall → CoreState → Effect
 stalled why s = record { outcome = Stalled why; after = s; commits = [] }
 
@@ -54,9 +60,9 @@ stored (suc n) s e =
     then record { outcome = Buffered; after = record { place = s.place + 1; registers = s.registers; pending = s.pending ++ e ∷ [] }; commits = [] }
     else stalled stall.Full s
 
--- the value that a load sees: of the newest own pending store to the location, else of memory
-abbrev pub seen : List ℕ → CoreState → ℕ → ℕ
-seen memory s loc = last_value (filter (writes_to loc) s.pending) (slice_index memory loc)
+-- the value that a load gets: of the newest own pending store to the location, else of memory
+abbrev pub load_value : List ℕ → CoreState → ℕ → ℕ
+load_value memory s loc = last_value (filter (writes_to loc) s.pending) (slice_index memory loc)
 
 abbrev pub loaded : CoreState → Reg → Entry → Effect
 loaded s reg e = record { outcome = Committed; after = advanced_with s reg e.value; commits = e ∷ [] }
@@ -64,39 +70,47 @@ loaded s reg e = record { outcome = Committed; after = advanced_with s reg e.val
 abbrev pub moved : CoreState → Reg → ℕ → Effect
 moved s reg value = record { outcome = Moved; after = advanced_with s reg value; commits = [] }
 
+-- this effect once nothing is pending; until then a stall
+abbrev pub when_drained : Stall → CoreState → Effect → Effect
+when_drained why s f = if is_none_pending s.pending then f else stalled why s
+
 -- a fence waits until nothing is pending
-abbrev pub fenced : ℕ → CoreState → List Entry → Effect
-fenced core s [] = record { outcome = Committed; after = advanced s; commits = fence core s.place ∷ [] }
-fenced core s (p ∷ ps) = stalled stall.Fence s
+abbrev pub fenced : ℕ → CoreState → Effect
+fenced core s = when_drained stall.Fence s (record { outcome = Committed; after = advanced s; commits = fence core s.place ∷ [] })
 
 -- a locked instruction waits until nothing is pending; it reads the word and writes this value in one step
-abbrev pub locked : ℕ → CoreState → Loc → Reg → ℕ → ℕ → List Entry → Effect
-locked core s loc reg word value [] =
-    record {
+abbrev pub locked : ℕ → CoreState → Loc → Reg → ℕ → ℕ → Effect
+locked core s loc reg word value =
+    when_drained stall.Lock s (record {
       outcome = Committed;
       after = advanced_with s reg word;
       commits = entry core s.place LR loc word ∷ (entry core s.place LW loc value ∷ []);
-    }
-locked core s loc reg word value (p ∷ ps) = stalled stall.Lock s
+    })
+
+-- what an action does at the core whose next it is
+abbrev pub effect_by : ℕ → List ℕ → ℕ → Action → CoreState → Effect
+effect_by depth memory core (Store loc operand) s = stored depth s (entry core s.place W loc (value_of s.registers operand))
+effect_by depth memory core (Load reg loc) s = loaded s reg (entry core s.place R loc (load_value memory s loc.0))
+effect_by depth memory core (Move reg operand) s = moved s reg (value_of s.registers operand)
+effect_by depth memory core Fence s = fenced core s
+effect_by depth memory core (Lock loc reg update) s =
+    locked core s loc reg (slice_index memory loc.0) (updated update (slice_index memory loc.0) (value_in s.registers reg))
 
 -- a step of a core at its next instruction, if there is one
 abbrev pub step_of : ℕ → List ℕ → ℕ → Option Instr → CoreState → Effect
 step_of depth memory core None s = stalled stall.Done s
-step_of depth memory core (Some (StoreImm loc value)) s = stored depth s (entry core s.place W loc value)
-step_of depth memory core (Some (StoreReg loc reg)) s = stored depth s (entry core s.place W loc (value_in s.registers reg))
-step_of depth memory core (Some (Load reg loc)) s = loaded s reg (entry core s.place R loc (seen memory s loc.0))
-step_of depth memory core (Some (SetImm reg value)) s = moved s reg value
-step_of depth memory core (Some (SetReg reg other)) s = moved s reg (value_in s.registers other)
-step_of depth memory core (Some Fence) s = fenced core s s.pending
-step_of depth memory core (Some (Xchg loc reg)) s =
-    locked core s loc reg (slice_index memory loc.0) (value_in s.registers reg) s.pending
-step_of depth memory core (Some (Xadd loc reg)) s =
-    locked core s loc reg (slice_index memory loc.0) (sum_of (slice_index memory loc.0) (value_in s.registers reg)) s.pending
+step_of depth memory core (Some i) s = effect_by depth memory core (action_of i) s
 
 -- a drain: the oldest pending store is committed
-abbrev pub drain_of : CoreState → List Entry → Effect
-drain_of s [] = stalled stall.Empty s
-drain_of s (p ∷ ps) = record { outcome = Committed; after = record { place = s.place; registers = s.registers; pending = ps }; commits = p ∷ [] }
+abbrev pub drain_of : CoreState → Effect
+drain_of s =
+    if is_none_pending s.pending
+    then stalled stall.Empty s
+    else record {
+      outcome = Committed;
+      after = record { place = s.place; registers = s.registers; pending = drop 1 s.pending };
+      commits = take 1 s.pending;
+    }
 
 -- a core at the end of no program, which stands where there is no core
 abbrev pub idle : CoreState
@@ -108,6 +122,13 @@ program_of t core = slice_index_or t.programs core []
 abbrev pub core_of : State → ℕ → CoreState
 core_of state core = slice_index_or state.cores core idle
 
+-- the two choices of a core, by its number
+abbrev pub step : ℕ → Choice
+step core = Step (record { 0 = core })
+
+abbrev pub drain : ℕ → Choice
+drain core = Drain (record { 0 = core })
+
 -- the core that a choice names
 abbrev pub chosen : Choice → ℕ
 chosen (Step core) = core.0
@@ -117,7 +138,7 @@ chosen (Drain core) = core.0
 abbrev pub effect_of : Litmus → ℕ → State → Choice → Effect
 effect_of t depth state (Step core) =
     step_of depth state.memory core.0 (slice_get (program_of t core.0) (core_of state core.0).place) (core_of state core.0)
-effect_of t depth state (Drain core) = drain_of (core_of state core.0) (core_of state core.0).pending
+effect_of t depth state (Drain core) = drain_of (core_of state core.0)
 
 -- memory after these entries, one after the other
 abbrev pub memory_after : List Entry → List ℕ → List ℕ
@@ -132,6 +153,10 @@ applied state core effect =
 -- the state after a choice
 abbrev pub after_choice : Litmus → ℕ → State → Choice → State
 after_choice t depth state choice = applied state (chosen choice) (effect_of t depth state choice)
+
+-- the registers of each core
+abbrev pub registers_in : State → List (List ℕ)
+registers_in state = map (λ s. s.registers) state.cores
 
 -- each core at the beginning of its program, with its first registers and nothing pending
 abbrev pub started : ℕ → List (List Instr) → List (List ℕ) → List CoreState

@@ -1,6 +1,7 @@
 pub mod Limits
 pub mod Registers
 pub mod Condition
+pub mod Actions
 pub mod Names
 pub mod Litmus
 pub mod LitmusParts

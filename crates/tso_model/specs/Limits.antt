@@ -3,7 +3,7 @@ use Rattle.std.specs.Prelude.{ℕ}
 
 -- cores of a test, at most
 abbrev pub most_cores : ℕ
-most_cores = 4
+most_cores = 8
 
 -- locations of a test, at most
 abbrev pub most_locations : ℕ

@@ -1,13 +1,14 @@
 -- A test, and the limits that every test keeps. (This project's profile.)
-use Rattle.std.specs.Prelude.{ℕ, ◌<◌, ◌≤◌, ◌≡◌, ◌&&◌, Bool, IsTrue, true, not, List, [], ◌∷◌, length, Option, All}
+use Rattle.std.specs.Prelude.{ℕ, ◌<◌, ◌≤◌, ◌≡◌, ◌&&◌, Bool, IsTrue, true, not, List, [], ◌∷◌, length, Option, IfSome, All}
 use Rattle.std.specs.Option.{ForSome}
 use Rattle.std.specs.List.{list_all}
 use Rattle.tso_model.specs.Limits.{most_cores, most_locations, most_instructions, most_atoms, most_open}
 use Rattle.tso_model.specs.Registers.{IsWord, AreRegisters}
+use Rattle.tso_model.specs.Actions.{action_of, location_of}
 use Rattle.tso_model.specs.Condition.{Condition, NamesExist, atoms_in, negations_in}
 use Rattle.tso_model.specs.Names.{is_test_name, is_location_name, is_among}
 use Rattle.tso_model.specs.declared.instruction.Instr.{Instr}
-use Rattle.tso_model.specs.declared.instruction.Instr.TheVariants.{StoreImm, StoreReg, Load, SetImm, SetReg, Fence, Xchg, Xadd}
+use Rattle.tso_model.specs.declared.instruction.Instr.TheVariants.{StoreImm, SetImm}
 
 -- a test: the names of its locations and their first words, and for each core its first registers and its program
 pub record Litmus : Type 0 where
@@ -20,25 +21,13 @@ pub record Litmus : Type 0 where
 
 -- the location of the instruction, if it has one, is below this number
 abbrev pub KnownLocation : ℕ → Instr → Type 0
-KnownLocation locations (StoreImm loc value) = loc.0 < locations
-KnownLocation locations (StoreReg loc reg) = loc.0 < locations
-KnownLocation locations (Load reg loc) = loc.0 < locations
-KnownLocation locations (SetImm reg value) = Unit {0}
-KnownLocation locations (SetReg reg other) = Unit {0}
-KnownLocation locations Fence = Unit {0}
-KnownLocation locations (Xchg loc reg) = loc.0 < locations
-KnownLocation locations (Xadd loc reg) = loc.0 < locations
+KnownLocation locations i = IfSome (location_of (action_of i)) (λ loc. loc.0 < locations)
 
 -- the constant of the instruction, if it has one, is a word
 abbrev pub ConstantIsWord : Instr → Type 0
 ConstantIsWord (StoreImm loc value) = IsWord value
-ConstantIsWord (StoreReg loc reg) = Unit {0}
-ConstantIsWord (Load reg loc) = Unit {0}
 ConstantIsWord (SetImm reg value) = IsWord value
-ConstantIsWord (SetReg reg other) = Unit {0}
-ConstantIsWord Fence = Unit {0}
-ConstantIsWord (Xchg loc reg) = Unit {0}
-ConstantIsWord (Xadd loc reg) = Unit {0}
+ConstantIsWord _ = Unit {0}
 
 -- a program within the limits, over so many locations
 pub record IsProgram (locations : ℕ) (program : List Instr) : Type 0 where

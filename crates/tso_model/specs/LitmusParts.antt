@@ -1,9 +1,8 @@
 -- The test that its parts make, and how a test is stored in a proof.
-use Rattle.std.specs.Prelude.{map, string_bytes, Option, None, Some}
+use Rattle.std.specs.Prelude.{map, string_bytes}
 use Rattle.tso_model.specs.Litmus.{Litmus}
-use Rattle.tso_model.specs.Condition.{condition_of, Condition}
+use Rattle.tso_model.specs.Condition.{condition_of}
 use Rattle.tso_model.specs.declared.litmus.TestParts.{TestParts}
-use Rattle.tso_model.specs.declared.condition.Cond.{Cond}
 use Rattle.std.specs.Option.{option_map}
 
 -- the test that these parts would be

@@ -1,71 +1,44 @@
 -- Kinds of entries, and their order in a program. (Primer, chapter 4: memory actions and program order.)
-use Rattle.std.specs.Prelude.{ℕ, ◌+◌, ◌==◌, ◌&&◌, nat_lt, Bool, true, false}
+use Rattle.std.specs.Prelude.{ℕ, ◌==◌, ◌&&◌, ◌||◌, nat_lt, not, Bool, true, false}
 use Rattle.tso_model.specs.declared.execution.Entry.{Entry}
 use Rattle.tso_model.specs.declared.execution.Kind.{Kind}
 use Rattle.tso_model.specs.declared.execution.Kind.TheVariants.{R, W, F, LR, LW}
 
+abbrev pub same_kind : Kind → Kind → Bool
+same_kind R R = true
+same_kind W W = true
+same_kind F F = true
+same_kind LR LR = true
+same_kind LW LW = true
+same_kind _ _ = false
+
 -- a plain load
-abbrev pub is_load_kind : Kind → Bool
-is_load_kind R = true
-is_load_kind W = false
-is_load_kind F = false
-is_load_kind LR = false
-is_load_kind LW = false
+abbrev pub is_load : Entry → Bool
+is_load e = same_kind e.kind R
 
 -- a plain store
-abbrev pub is_store_kind : Kind → Bool
-is_store_kind R = false
-is_store_kind W = true
-is_store_kind F = false
-is_store_kind LR = false
-is_store_kind LW = false
+abbrev pub is_store : Entry → Bool
+is_store e = same_kind e.kind W
 
 -- a load, or the load part of a locked instruction
-abbrev pub is_read_kind : Kind → Bool
-is_read_kind R = true
-is_read_kind W = false
-is_read_kind F = false
-is_read_kind LR = true
-is_read_kind LW = false
+abbrev pub is_read : Entry → Bool
+is_read e = same_kind e.kind R || same_kind e.kind LR
 
 -- a store, or the store part of a locked instruction
-abbrev pub is_write_kind : Kind → Bool
-is_write_kind R = false
-is_write_kind W = true
-is_write_kind F = false
-is_write_kind LR = false
-is_write_kind LW = true
-
-abbrev pub is_load : Entry → Bool
-is_load e = is_load_kind e.kind
-
-abbrev pub is_store : Entry → Bool
-is_store e = is_store_kind e.kind
-
-abbrev pub is_read : Entry → Bool
-is_read e = is_read_kind e.kind
-
 abbrev pub is_write : Entry → Bool
-is_write e = is_write_kind e.kind
+is_write e = same_kind e.kind W || same_kind e.kind LW
 
 -- a write to this location
 abbrev pub writes_to : ℕ → Entry → Bool
 writes_to loc e = is_write e && (e.loc.0 == loc)
 
--- of the two parts of a locked instruction the store is the later
-abbrev pub part_of : Kind → ℕ
-part_of R = 0
-part_of W = 0
-part_of F = 0
-part_of LR = 0
-part_of LW = 1
-
-abbrev pub rank : Entry → ℕ
-rank e = e.place + e.place + part_of e.kind
+-- of one place, y is the store part of a locked instruction and x is not
+abbrev pub is_earlier_part : Entry → Entry → Bool
+is_earlier_part x y = (x.place == y.place) && (same_kind y.kind LW && not (same_kind x.kind LW))
 
 -- program order: x stands before y in the program of their core
 abbrev pub is_before : Entry → Entry → Bool
-is_before x y = (x.core.0 == y.core.0) && nat_lt (rank x) (rank y)
+is_before x y = (x.core.0 == y.core.0) && (nat_lt x.place y.place || is_earlier_part x y)
 
 -- the one exception of TSO: a plain store may be passed by a later plain load
 abbrev pub may_be_passed : Entry → Entry → Bool

@@ -1,17 +1,13 @@
 -- Runs of the flat machine under a list of choices, up to the first moment at which the test has ended.
 -- (This project's profile.)
-use Rattle.std.specs.Prelude.{ℕ, ◌+◌, ◌<◌, ◌==◌, ◌&&◌, Bool, true, false, if◌then◌else◌, List, [], ◌∷◌, ◌++◌, length, suc}
+use Rattle.std.specs.Prelude.{ℕ, ◌+◌, ◌<◌, ◌==◌, ◌&&◌, Bool, true, if◌then◌else◌, List, [], ◌∷◌, ◌++◌, length, suc}
 use Rattle.tso_model.specs.Litmus.{Litmus}
-use Rattle.tso_model.specs.FlatMachine.{CoreState, State, Effect, effect_of, after_choice, start, chosen}
+use Rattle.tso_model.specs.FlatMachine.{CoreState, State, Effect, is_none_pending, effect_of, after_choice, start, chosen}
 use Rattle.tso_model.specs.declared.instruction.Instr.{Instr}
 use Rattle.tso_model.specs.declared.execution.Entry.{Entry}
 use Rattle.tso_model.specs.declared.choice.Choice.{Choice}
 use Rattle.tso_model.specs.declared.choice.Outcome.{Outcome}
 use Rattle.tso_model.specs.declared.choice.Outcome.TheVariants.{Committed, Buffered, Moved, Asked, Stalled}
-
-abbrev pub is_none_pending : List Entry → Bool
-is_none_pending [] = true
-is_none_pending (p ∷ ps) = false
 
 -- a core is done: at the end of its program, with nothing pending
 abbrev pub is_done : List Instr → CoreState → Bool
@@ -27,7 +23,7 @@ abbrev pub has_ended : Litmus → State → Bool
 has_ended t state = all_done t.programs state.cores
 
 -- a run: whether it ended, its last state, its commits in their order, and how many choices were used (the stalled
--- ones too), how many of these stalled, and how many stood behind the end
+-- ones too), how many of these stalled, and how many stood after the end
 pub record Run : Type 0 where
   pub ended : Bool
   pub state : State

@@ -3,9 +3,9 @@ use Rattle.std.specs.Prelude.{ℕ, List}
 use Rattle.tso_model.specs.declared.execution.Entry.{Entry}
 
 -- the order, and how often an entry of it was looked at
-pub record Seen : Type 0 where
+pub record WatchedOrder : Type 0 where
   pub order : List Entry
   pub looks : ℕ
 
-abbrev pub watched : List Entry → ℕ → Seen
+abbrev pub watched : List Entry → ℕ → WatchedOrder
 watched order looks = record { order = order; looks = looks }

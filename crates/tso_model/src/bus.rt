@@ -1,3 +1,5 @@
+//! The buses that the caches may share.
+
 /// Which bus the caches share.
 #[derive(Clone, Copy)]
 pub enum Bus {

@@ -1,3 +1,5 @@
+//! The choices of a schedule, and what may come of one.
+
 use crate::instruction::Core;
 
 /// One step of a schedule: which core acts, and how.

@@ -1,3 +1,4 @@
+//! Conditions on final states, and their truth in one state.
 ghost use Rattle.std.specs.Prelude.{◌≡◌, length};
 ghost use Rattle.tso_model.specs.Condition.{claim_of, truth_of, NamesExist};
 

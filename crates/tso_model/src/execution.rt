@@ -1,3 +1,5 @@
+//! Memory actions, and orders of them.
+
 use crate::instruction::{Core, Loc};
 
 /// The kind of a memory action.

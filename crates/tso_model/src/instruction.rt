@@ -1,3 +1,5 @@
+//! Cores, locations and instructions.
+
 use crate::register::Reg;
 
 /// A core, by its number from 0.

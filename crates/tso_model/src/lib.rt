@@ -5,6 +5,7 @@
 //! the flat machine, and the machine on a split bus.
 #![tactic(auto)]
 
+pub mod action;
 pub mod bus;
 pub mod choice;
 pub mod condition;
@@ -12,21 +13,22 @@ pub mod execution;
 pub mod instruction;
 pub mod limits;
 pub mod litmus;
-pub mod memory;
 pub mod names;
+pub mod out_of_memory;
 pub mod register;
 pub mod thread;
 mod validity;
 pub mod watched;
 mod words;
 
+pub use action::{Action, Operand, Update};
 pub use bus::Bus;
 pub use choice::{Choice, Outcome, Stall};
 pub use condition::{Cond, Prop, Quantifier, cond_holds};
 pub use execution::{Entry, Execution, Kind};
 pub use instruction::{Core, Instr, Loc};
 pub use litmus::{Test, TestParts};
-pub use memory::NoMemory;
+pub use out_of_memory::NoMemory;
 pub use register::Reg;
 pub use thread::{Thread, read_count, thread_entries};
 pub use watched::Watched;

@@ -3,31 +3,31 @@
 ghost use Rattle.std.specs.Prelude.{◌≡◌};
 ghost use Rattle.tso_model.specs.Limits.{most_cores, most_locations, most_instructions, most_atoms, most_open, longest_name, longest_test_name, least_depth, most_depth};
 
-/// Cores of a test, at most.
-pub const MAX_CORES: usize = 4;
+/// Maximum number of cores of a test.
+pub const MAX_CORES: usize = 8;
 
-/// Locations of a test, at most.
+/// Maximum number of locations of a test.
 pub const MAX_LOCATIONS: usize = 16;
 
-/// Instructions of one core's program, at most.
+/// Maximum length of a core's program, in instructions.
 pub const MAX_INSTRUCTIONS: usize = 32;
 
-/// Atoms of a condition, at most; `true` and `false` count.
+/// Maximum size of a condition, in atoms; `true` and `false` count.
 pub const MAX_ATOMS: usize = 256;
 
-/// Negations of a condition, and brackets of its text, that stand within one another, at most.
+/// Maximum nesting of a condition's negations, and of the brackets of its text.
 pub const MAX_OPEN: usize = 64;
 
-/// Bytes of a location's name, at most.
+/// Maximum length of a location's name, in bytes.
 pub const MAX_NAME: usize = 32;
 
-/// Bytes of a test's name, at most.
+/// Maximum length of a test's name, in bytes.
 pub const MAX_TEST_NAME: usize = 64;
 
-/// The least depth of a store buffer.
+/// Minimum depth of a store buffer, in stores.
 pub const MIN_DEPTH: u8 = 1;
 
-/// The greatest depth of a store buffer.
+/// Maximum depth of a store buffer, in stores.
 pub const MAX_DEPTH: u8 = 32;
 
 /// Each limit is the number that the definitions have: a law, with nothing to run.

@@ -1,3 +1,4 @@
+//! Litmus tests within the limits.
 ghost use Rattle.std.specs.Prelude.{◌≡◌, ◌<◌, ◌≤◌, ◌↔◌, length, slice_index, slice_index_or, [], IsSome, IfSome, All};
 ghost use Rattle.std.specs.Option.{option_map};
 ghost use Rattle.tso_model.specs.Condition.{condition_of};

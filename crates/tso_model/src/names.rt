@@ -1,3 +1,4 @@
+//! The names that tests and locations may have.
 ghost use Rattle.std.specs.Prelude.{◌≡◌, nat_le, length};
 ghost use Rattle.std.specs.List.{list_all};
 ghost use Rattle.tso_model.specs.Names as words;

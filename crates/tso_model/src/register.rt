@@ -1,3 +1,4 @@
+//! The general registers, their numbers and their names.
 ghost use Rattle.std.specs.Prelude.{◌≡◌, ◌<◌};
 ghost use Rattle.tso_model.specs.Registers.{index_of, name_of, register_named};
 

@@ -1,11 +1,13 @@
+//! What a core's program does, given the values that its reads return.
 ghost use Rattle.std.specs.Prelude.{◌≡◌, ◌<◌, ◌≤◌, ◌+◌, List, [], ◌∷◌, ◌++◌, length, IfOk, slice_index_or};
 ghost use Rattle.tso_model.specs.declared.instruction.Instr.{Instr};
-ghost use Rattle.tso_model.specs.Thread.{entry, entries_of, registers_after, reads_in};
+ghost use Rattle.tso_model.specs.Thread.{entry, entries_of, registers_after, reads_in, entries_with, registers_with};
 
+use crate::action::Action;
 use crate::execution::{Entry, Kind};
 use crate::instruction::{Core, Instr, Loc};
 use crate::litmus::Test;
-use crate::memory::NoMemory;
+use crate::out_of_memory::NoMemory;
 use std::alloc::Global;
 
 /// What a core's program does: its entries in program order, and its registers at the end.
@@ -28,7 +30,7 @@ fn reads_of(program: &[Instr]) -> usize
 {
     let mut count = 0;
     for instr in program {
-        if matches!(instr, Instr::Load(..) | Instr::Xchg(..) | Instr::Xadd(..)) {
+        if matches!(instr.action(), Action::Load(..) | Action::Lock(..)) {
             count += 1;
         }
     }
@@ -38,7 +40,7 @@ fn reads_of(program: &[Instr]) -> usize
 /// The entries of a core's program in program order and its registers at the end, where its reads
 /// return these values, used in program order.
 ///
-/// Fails only for want of memory.
+/// Errors: out of memory only.
 pub fn thread_entries(
     alloc: Global,
     test: &Test,
@@ -47,8 +49,8 @@ pub fn thread_entries(
 ) -> Result<Thread, NoMemory>
     requires known { core.0 < length test.now.programs }
     requires reads { length reads.now ≡ reads_in (slice_index_or test.now.programs core.0 []) }
-    ensures entries { IfOk result (λ t. t.entries.items ≡ entries_of core.0 0 (slice_index_or test.now.programs core.0 []) (slice_index_or test.now.registers core.0 []) reads.now) }
-    ensures registers { IfOk result (λ t. t.registers ≡ registers_after (slice_index_or test.now.programs core.0 []) (slice_index_or test.now.registers core.0 []) reads.now) }
+    ensures entries { IfOk result (λ t. t.entries.items ≡ entries_with test.now core.0 reads.now) }
+    ensures registers { IfOk result (λ t. t.registers ≡ registers_with test.now core.0 reads.now) }
 {
     let mut thread = Thread {
         entries: Vec::new(alloc),
@@ -76,47 +78,31 @@ fn run_instruction<'a>(
     ensures registers { IfOk result (λ left. (rest : List Instr) → registers_after (instr ∷ rest) thread.old.registers reads.now ≡ registers_after rest thread.new.registers left.now) }
     ensures left { IfOk result (λ left. length left.now + reads_in (instr ∷ []) ≡ length reads.now) }
 {
-    match instr {
-        Instr::StoreImm(loc, value) => {
+    match instr.action() {
+        Action::Store(loc, operand) => {
+            let value = operand.value(&thread.registers);
             note(thread, core, place, Kind::W, loc, value)?;
             Ok(reads)
         }
-        Instr::StoreReg(loc, reg) => {
-            let value = thread.registers[reg.index()];
-            note(thread, core, place, Kind::W, loc, value)?;
-            Ok(reads)
-        }
-        Instr::Load(reg, loc) => {
+        Action::Load(reg, loc) => {
             let loaded = reads[0];
             note(thread, core, place, Kind::R, loc, loaded)?;
             thread.registers[reg.index()] = loaded;
             Ok(&reads[1..])
         }
-        Instr::SetImm(reg, value) => {
-            thread.registers[reg.index()] = value;
+        Action::Move(reg, operand) => {
+            thread.registers[reg.index()] = operand.value(&thread.registers);
             Ok(reads)
         }
-        Instr::SetReg(reg, other) => {
-            thread.registers[reg.index()] = thread.registers[other.index()];
-            Ok(reads)
-        }
-        Instr::Fence => {
+        Action::Fence => {
             note(thread, core, place, Kind::F, Loc(0), 0)?;
             Ok(reads)
         }
-        Instr::Xchg(loc, reg) => {
-            let old = reads[0];
-            let given = thread.registers[reg.index()];
-            note(thread, core, place, Kind::LR, loc, old)?;
-            note(thread, core, place, Kind::LW, loc, given)?;
-            thread.registers[reg.index()] = old;
-            Ok(&reads[1..])
-        }
-        Instr::Xadd(loc, reg) => {
+        Action::Lock(loc, reg, update) => {
             let word = reads[0];
-            let sum = word.wrapping_add(thread.registers[reg.index()]);
+            let written = update.apply(word, thread.registers[reg.index()]);
             note(thread, core, place, Kind::LR, loc, word)?;
-            note(thread, core, place, Kind::LW, loc, sum)?;
+            note(thread, core, place, Kind::LW, loc, written)?;
             thread.registers[reg.index()] = word;
             Ok(&reads[1..])
         }

@@ -1,3 +1,4 @@
+//! Whether the parts of a test are within the limits.
 ghost use Rattle.std.specs.Prelude.{◌≡◌, ◌<◌, ◌≤◌, ◌-◌, ◌↔◌, length, IsTrue, All, map, string_bytes};
 ghost use Rattle.std.specs.List.{list_all};
 ghost use Rattle.std.specs.Option.{SomeIff, ForSome, option_map};
@@ -100,13 +101,9 @@ fn program_fits(program: &[Instr], locations: usize) -> bool
 fn has_location_below(instr: &Instr, locations: usize) -> bool
     ensures { IsTrue result ↔ KnownLocation locations instr.now }
 {
-    match instr {
-        Instr::StoreImm(loc, _)
-        | Instr::StoreReg(loc, _)
-        | Instr::Load(_, loc)
-        | Instr::Xchg(loc, _)
-        | Instr::Xadd(loc, _) => (loc.0 as usize) < locations,
-        Instr::SetImm(..) | Instr::SetReg(..) | Instr::Fence => true,
+    match instr.action().location() {
+        Some(loc) => (loc.0 as usize) < locations,
+        None => true,
     }
 }
 

@@ -1,3 +1,4 @@
+//! An order that counts how often an entry of it is looked at.
 ghost use Rattle.std.specs.Prelude.{◌≡◌, ◌+◌, ◌<◌, length, slice_get, Some};
 ghost use Rattle.tso_model.specs.Watched.{watched};
 
@@ -16,9 +17,9 @@ pub struct Watched<'a, L: Ledger> {
 
 impl<'a, L: Ledger> Model for Watched<'a, L> {
     ghost use Rattle.std.specs.Prelude.{◌<◌};
-    ghost use Rattle.tso_model.specs.Watched.{Seen, watched};
+    ghost use Rattle.tso_model.specs.Watched.{WatchedOrder, watched};
 
-    ghost Value = { Seen };
+    ghost Value = { WatchedOrder };
 
     ghost view = { λ w. watched w.execution.now.order.items w.book.total };
 

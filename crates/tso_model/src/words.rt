@@ -53,11 +53,6 @@ fn know_constant(instr: &Instr)
         Instr::StoreImm(_, value) | Instr::SetImm(_, value) => {
             let _known = *value;
         }
-        Instr::StoreReg(..)
-        | Instr::Load(..)
-        | Instr::SetReg(..)
-        | Instr::Fence
-        | Instr::Xchg(..)
-        | Instr::Xadd(..) => {}
+        _ => {}
     }
 }

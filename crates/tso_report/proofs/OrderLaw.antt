@@ -23,7 +23,7 @@ use Rattle.order_builder.specs.Spelling.{IsBefore, IsOrderFor, SpellsOrder}
 use Rattle.tso_report.specs.Shown.{Shown}
 use Rattle.protocol_tables.specs.Names.{protocol_name}
 use Rattle.protocol_tables.specs.declared.kind.ProtocolKind.{ProtocolKind}
-use Rattle.protocol_tables.specs.declared.kind.ProtocolKind.TheVariants.{Msi, Mesi, Moesi}
+use Rattle.protocol_tables.specs.declared.kind.ProtocolKind.TheVariants.{Msi, Mesi, Moesi, Mosi}
 use Rattle.snoop_bus.specs.Geometry.{Geometry, IsLineSize, IsWithinLimits}
 use Rattle.machine_core.specs.Configuration.{Configuration}
 use Rattle.tso_report.specs.Report.{report, line, test_line, shape_text, bus_text, register_lines, memory_line, condition_line, choices_line, cache_lines}
@@ -100,6 +100,7 @@ unfolding machine_text
 line_of_machine Msi c small fits = line_of_depth c small fits
 line_of_machine Mesi c small fits = line_of_depth c small fits
 line_of_machine Moesi c small fits = line_of_depth c small fits
+line_of_machine Mosi c small fits = line_of_depth c small fits
 
 -- ---- no line `Order`
 

@@ -25,7 +25,7 @@ use Rattle.order_builder.specs.PrintedOrder.{letters_of, printed_access, printed
 use Rattle.order_builder.specs.Spelling.{HasAccess, IsEntryFor, IsOrderFor}
 use Rattle.protocol_tables.specs.Names.{protocol_name}
 use Rattle.protocol_tables.specs.declared.kind.ProtocolKind.{ProtocolKind}
-use Rattle.protocol_tables.specs.declared.kind.ProtocolKind.TheVariants.{Msi, Mesi, Moesi}
+use Rattle.protocol_tables.specs.declared.kind.ProtocolKind.TheVariants.{Msi, Mesi, Moesi, Mosi}
 use Rattle.snoop_bus.specs.Geometry.{Geometry, IsWithinLimits as IsShape, IsLineSize}
 use Rattle.machine_core.specs.Configuration.{Configuration, IsWithinLimits}
 use Rattle.machine_core.specs.Kept.{IsAtMost}
@@ -120,13 +120,13 @@ lines-append (x ∷ xs) ys =
     let further = lines-append xs ys in
     omega (arith, length-append x (10 ∷ printed_lines (xs ++ ys)), length-append x (10 ∷ printed_lines xs))
 
-order_short : (t : Litmus) (es : List Entry) → IsTest t → IsOrderFor t es → length es ≤ 256 → length (printed_order t es) ≤ 14355
+order_short : (t : Litmus) (es : List Entry) → IsTest t → IsOrderFor t es → length es ≤ 512 → length (printed_order t es) ≤ 28691
 order_short t es test h few =
     let entries = entries_short t es test h in
     let last : length (printed_end (length es)) ≤ 12 = joined (codes "Endorder ") (decimal (length es)) 9 3 (omega arith) (three_digits (length es) (omega arith)) in
     let end : length (printed_lines (printed_end (length es) ∷ [])) ≤ 13 = joined (printed_end (length es)) (10 ∷ []) 12 1 last (omega arith) in
     let lines = lines-append (map (printed_entry t) es) (printed_end (length es) ∷ []) in
-    joined (codes "Order") (10 ∷ printed_lines (map (printed_entry t) es ++ (printed_end (length es) ∷ []))) 5 14350 (omega arith) (omega arith)
+    joined (codes "Order") (10 ∷ printed_lines (map (printed_entry t) es ++ (printed_end (length es) ∷ []))) 5 28686 (omega arith) (omega arith)
 
 -- ---- registers and memory
 
@@ -197,6 +197,7 @@ protocol_short : (kind : ProtocolKind) → length (protocol_name kind) ≤ 5
 protocol_short Msi = omega arith
 protocol_short Mesi = omega arith
 protocol_short Moesi = omega arith
+protocol_short Mosi = omega arith
 
 few_words : (words : ℕ) → IsLineSize words → words ≤ 4
 few_words words (inl e) = omega arith
@@ -220,8 +221,8 @@ machine_short kind c h =
     joined (codes "Machine ") _ 8 47 (omega arith)
     (joined (protocol_name kind) _ 5 42 (protocol_short kind)
     (joined (codes " depth=") _ 7 35 (omega arith)
-    (joined (decimal c.depth) (line (shape_text c.shape ++ bus_text c.bus)) 2 33 (let d = h.1 in two_digits c.depth (omega arith))
-    (ended (shape_text c.shape ++ bus_text c.bus) 32 (joined (shape_text c.shape) (bus_text c.bus) 22 10 (shape_short c.shape h.2) (bus_short c.bus))))))
+    (joined (decimal c.depth) (line (shape_text c.shape ++ bus_text c.bus)) 2 33 (let d = h.0 in two_digits c.depth (omega arith))
+    (ended (shape_text c.shape ++ bus_text c.bus) 32 (joined (shape_text c.shape) (bus_text c.bus) 22 10 (shape_short c.shape h.1) (bus_short c.bus))))))
 
 quantifier_short : (q : Quantifier) → length (printed_quantifier q) ≤ 7
 quantifier_short Exists = omega arith
@@ -284,12 +285,12 @@ report_short t kind c s test within small =
     let words = words_short t.locations s.memory test.locations_spelled small.memory in
     let registers = register_lines_short 0 s.registers (omega arith) small.registers in
     let counts = cache_lines_short 0 s.counts (omega arith) small.counts in
-    let whole : length (report t kind c s) ≤ 16218 =
-    joined (test_line t ++ machine_line kind c) _ 125 16093
+    let whole : length (report t kind c s) ≤ 31466 =
+    joined (test_line t ++ machine_line kind c) _ 125 31341
     (joined (test_line t) (machine_line kind c) 70 55 (joined (codes "Test ") (line t.name) 5 65 (omega arith) (ended t.name 64 name)) (machine_short kind c within))
-    (joined (printed_order t s.order) _ 14355 1738 (order_short t s.order test small.order small.entries)
-    (joined (register_lines 0 s.registers) _ 412 1326 (omega arith)
-    (joined (memory_line t s.memory) _ 711 615 (joined (codes "Memory") (line (printed_words t.locations s.memory)) 6 705 (omega arith) (ended (printed_words t.locations s.memory) 704 (omega arith)))
-    (joined (condition_line t s.holds) _ 24 591 (joined (codes "Condition ") (line (printed_verdict t.condition s.holds)) 10 14 (omega arith) (ended (printed_verdict t.condition s.holds) 13 (verdict_short t.condition s.holds)))
-    (joined (choices_line s.used s.stalled s.unused) (cache_lines 0 s.counts) 91 500 (choices_short s.used s.stalled s.unused small.used small.stalled small.unused) (omega arith)))))) in
+    (joined (printed_order t s.order) _ 28691 2650 (order_short t s.order test small.order small.entries)
+    (joined (register_lines 0 s.registers) _ 824 1826 (omega arith)
+    (joined (memory_line t s.memory) _ 711 1115 (joined (codes "Memory") (line (printed_words t.locations s.memory)) 6 705 (omega arith) (ended (printed_words t.locations s.memory) 704 (omega arith)))
+    (joined (condition_line t s.holds) _ 24 1091 (joined (codes "Condition ") (line (printed_verdict t.condition s.holds)) 10 14 (omega arith) (ended (printed_verdict t.condition s.holds) 13 (verdict_short t.condition s.holds)))
+    (joined (choices_line s.used s.stalled s.unused) (cache_lines 0 s.counts) 91 1000 (choices_short s.used s.stalled s.unused small.used small.stalled small.unused) (omega arith)))))) in
     omega arith

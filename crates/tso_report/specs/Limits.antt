@@ -9,7 +9,7 @@ use Rattle.tso_report.specs.Shown.{Shown}
 
 -- bytes of a report, at most
 abbrev pub longest_report : ℕ
-longest_report = 16384
+longest_report = 32768
 
 -- entries of an order that a run of a test leaves, at most: a locked instruction has two
 abbrev pub most_entries : ℕ

@@ -7,7 +7,7 @@ ghost use Rattle.snoop_bus.specs.Held.{holder, stage_for};
 ghost use Rattle.snoop_bus.specs.declared.holding.Stage.TheVariants.{Load, Write, Locked};
 
 use crate::bus::{copy_is, memory_has, missed, quiet, read, store, two_cores};
-use protocol_tables::{Mesi, Moesi, Msi, Protocol, State};
+use protocol_tables::{Mesi, Moesi, Mosi, Msi, Protocol, State};
 use snoop_bus::{Access, AccessKind, SnoopBus};
 use std::alloc::Global;
 use std::process::Abort;
@@ -201,7 +201,12 @@ fn accesses_in_two_halves(rt: HostRuntime) -> Result<(), Fail> {
         flushed: None,
         memory: 0,
     };
-    each_half(&rt, rt.alloc(), Moesi, owned)
+    each_half(&rt, rt.alloc(), Moesi, owned)?;
+    let upgraded = Expected {
+        store: AccessKind::Upgrade,
+        ..owned
+    };
+    each_half(&rt, rt.alloc(), Mosi, upgraded)
 }
 
 /// A locked instruction on a line in E, and one on a line in M: each is a hit.

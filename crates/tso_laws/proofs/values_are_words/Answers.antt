@@ -1,5 +1,4 @@
 use Rattle.std.proofs.Common.{All, subst, arith}
-use Rattle.tso_model.specs.Execution.{IsTsoExecution}
 use Rattle.tso_laws.specs.Depth.{needed}
 use Rattle.tso_laws.specs.Along.{choices_along}
 use Rattle.tso_laws.specs.Words.{HasWord}

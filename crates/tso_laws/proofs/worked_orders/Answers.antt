@@ -1,4 +1,4 @@
-use Rattle.std.proofs.Common.{◌≡◌, ◌<◌, ℕ, [], ◌∷◌, Some, slice_get, arith, refl, ap, ◌∙◌, rules}
+use Rattle.std.proofs.Common.{◌≡◌, ◌<◌, ℕ, [], Some, slice_get, arith, refl, ap, ◌∙◌, rules}
 use Rattle.tso_model.specs.Litmus.{IsTest}
 use Rattle.tso_model.specs.Examples.{sb, sb_choices, n6, parted_order, loc_x, loc_y}
 use Rattle.tso_model.specs.Thread.{entry}

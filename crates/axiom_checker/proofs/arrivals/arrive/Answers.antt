@@ -1,6 +1,5 @@
-use Rattle.std.proofs.Common.{◌≡◌, ◌<◌, length, Some, true, false, ap, sym, ◌∙◌, arith, inl, inr}
+use Rattle.std.proofs.Common.{◌<◌, length, sym, ◌∙◌, arith, inl, inr}
 use Rattle.std.proofs.lemmas.Option.{slice_get_within}
-use Rattle.axiom_checker.specs.Entries.{same_but_value}
 use Rattle.axiom_checker.proofs.Coming.{some-there, none-there, came-before, came-not, comes, not-extra}
 use Rattle.axiom_checker.proofs.arrivals.arrive.Goals as goal
 

@@ -1,4 +1,4 @@
-use Rattle.std.proofs.Common.{◌≡◌, Some, slice_get, ap, sym, ◌∙◌, arith, subst, refl}
+use Rattle.std.proofs.Common.{slice_get, ap, sym, ◌∙◌, arith, refl}
 use Rattle.axiom_checker.specs.Entries.{IsStray}
 use Rattle.axiom_checker.proofs.Firsts.{one_more, none_at_all}
 use Rattle.axiom_checker.proofs.arrivals.first_stray.Goals as goal

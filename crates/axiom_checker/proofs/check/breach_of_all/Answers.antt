@@ -1,7 +1,7 @@
-use Rattle.std.proofs.Common.{◌≡◌, ◌<◌, ◌*◌, ◌++◌, Some, length, slice_get, ap, sym, ◌∙◌, subst, arith}
+use Rattle.std.proofs.Common.{◌*◌, ◌++◌, length, slice_get, ap, sym, ◌∙◌, subst, arith}
 use Rattle.axiom_checker.specs.Slots.{Ascends, slots_of_a_core}
 use Rattle.axiom_checker.proofs.Ascending.{made-ascends}
-use Rattle.axiom_checker.proofs.Following.{made-fits}
+use Rattle.axiom_checker.proofs.Sooner.{made-fits}
 use Rattle.axiom_checker.proofs.Known.{writes-known}
 use Rattle.axiom_checker.proofs.Judging.{of-programs}
 use Rattle.axiom_checker.proofs.check.breach_of_all.Goals as goal

@@ -1,4 +1,4 @@
-use Rattle.std.proofs.Common.{◌≡◌, ◌*◌, Some, ◌∙◌, arith}
+use Rattle.std.proofs.Common.{◌*◌, Some, ◌∙◌, arith}
 use Rattle.std.proofs.lemmas.List.{length-set}
 use Rattle.std.proofs.lemmas.Grind.{common_steps}
 use Rattle.axiom_checker.specs.Slots.{slots_of_a_core}

@@ -1,7 +1,6 @@
-use Rattle.std.proofs.Common.{◌≡◌, ◌<◌, Some, length, slice_get, slice_index, ap, sym, ◌∙◌, arith, subst, refl, max, ◌+◌}
+use Rattle.std.proofs.Common.{◌<◌, length, slice_get, ap, sym, ◌∙◌, arith, subst, refl, ◌+◌}
 use Rattle.std.proofs.lemmas.List.{length-set}
 use Rattle.std.specs.Option.{unwrap_or}
-use Rattle.tso_model.specs.ProgramOrder.{rank}
 use Rattle.axiom_checker.proofs.Marking.{AreMarks, AreWords, of_core, past_loads, marks-none, all-reached, all-settled, words-written}
 use Rattle.axiom_checker.proofs.Meeting.{met-more, met-all, nothing-met, late-within, ahead, no-more-looks}
 use Rattle.axiom_checker.proofs.passing.pass.Goals as goal

@@ -1,6 +1,6 @@
-use Rattle.std.proofs.Common.{◌≡◌, ◌<◌, ◌+◌, Some, length, length-append, ap, sym, ◌∙◌, subst, arith}
-use Rattle.std.proofs.lemmas.Option.{slice_get-get_or, slice_get_within}
-use Rattle.axiom_checker.proofs.Following.{AreLatest, sources-step, latest-step}
+use Rattle.std.proofs.Common.{◌+◌, length, length-append, ap, ◌∙◌, arith}
+use Rattle.std.proofs.lemmas.Option.{slice_get_within}
+use Rattle.axiom_checker.proofs.OwnWrites.{sources-step, latest-step}
 use Rattle.axiom_checker.proofs.sources.find_sources.Goals as goal
 
 pub loop-e-preserved : goal.loop-e-preserved

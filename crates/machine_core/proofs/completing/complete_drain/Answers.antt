@@ -12,14 +12,14 @@ use Rattle.machine_core.proofs.Performing.{Performs-by, access_of-drain, within-
 use Rattle.machine_core.proofs.Completions.{held-asked, some-asked, use-frees, completes_in-drain, drain-commits}
 use Rattle.machine_core.proofs.completing.complete_drain.Goals as goal
 
-pub store-requires-clause-asked : goal.store-requires-clause-asked
-store-requires-clause-asked g c =
+pub store_oldest-requires-clause-asked : goal.store_oldest-requires-clause-asked
+store_oldest-requires-clause-asked g c =
     let within = within-cores c.args.test.now c.args.parts.now c.args.core.0 c.requires.fits c.requires.core in
     sym (held-asked c.args.test.now c.args.parts.now (Drain c.args.core) c.requires.held c.requires.asked
     ∙ ap (held_for c.args.core) (access_of-drain c.args.test.now c.args.parts.now c.args.core c.index_mut-processor.result.now within c.index_mut-processor.ensures.value))
 
-pub store-requires-clause-some : goal.store-requires-clause-some
-store-requires-clause-some g c = λ none.
+pub store_oldest-requires-clause-some : goal.store_oldest-requires-clause-some
+store_oldest-requires-clause-some g c = λ none.
     let within = within-cores c.args.test.now c.args.parts.now c.args.core.0 c.requires.fits c.requires.core in
     some-asked c.args.test.now c.args.parts.now (Drain c.args.core) c.requires.holder c.requires.asked
     (access_of-drain c.args.test.now c.args.parts.now c.args.core c.index_mut-processor.result.now within c.index_mut-processor.ensures.value ∙ none)
@@ -29,7 +29,7 @@ returns-clause-ok g c =
     let p = c.index_mut-processor.result.now in
     let within = within-cores c.args.test.now c.args.parts.now c.args.core.0 c.requires.fits c.requires.core in
     let some = some-asked c.args.test.now c.args.parts.now (Drain c.args.core) c.requires.holder c.requires.asked in
-    Performs-by c.args.parts.now _ (Drain c.args.core) Committed c.store.new.processor (completes_in c.args.test.now c.args.parts.now (Drain c.args.core)) (acts (drain_by p c.args.core.0) Free)
+    Performs-by c.args.parts.now _ (Drain c.args.core) Committed c.store_oldest.new.processor (completes_in c.args.test.now c.args.parts.now (Drain c.args.core)) (acts (drain_by p c.args.core.0) Free)
     (completes_in-drain c.args.test.now c.args.parts.now c.args.core p within c.index_mut-processor.ensures.value) refl
     c.in_ok-access.ensures.after c.in_ok-access.ensures.words c.in_ok-access.ensures.commits refl
     (sym (drain-commits c.args.test.now c.args.parts.now c.args.core p within c.index_mut-processor.ensures.value some))
@@ -43,4 +43,4 @@ returns-clause-caches g c =
     (ap (λ e. is_awaited e.holder) (completes_in-drain c.args.test.now c.args.parts.now c.args.core p within c.index_mut-processor.ensures.value))
     ∙ ap (at_access (not_through Unused (caches_of c.args.parts.now.bus)) (λ loc write. completion_by (caches_of c.args.parts.now.bus) c.args.core.0 loc.0))
     (access_of-drain c.args.test.now c.args.parts.now c.args.core p within c.index_mut-processor.ensures.value) in
-    subst (λ u. HasUsed u c.store.new.bus (Through c.in_ok-access.access)) (sym same) c.in_ok-access.ensures.caches
+    subst (λ u. HasUsed u c.store_oldest.new.bus (Through c.in_ok-access.access)) (sym same) c.in_ok-access.ensures.caches

@@ -1,4 +1,4 @@
-use Rattle.std.proofs.Common.{refl, ap, ◌∙◌, subst, length, arith, All}
+use Rattle.std.proofs.Common.{refl, ap, ◌∙◌, subst, length, All}
 use Rattle.snoop_bus.specs.Bus.{words_of}
 use Rattle.machine_core.specs.Kept.{IsCore}
 use Rattle.machine_core.proofs.TallyLemmas.{tallied-first}
@@ -6,7 +6,6 @@ use Rattle.machine_core.proofs.parts.begin.Goals as goal
 
 pub returns-clause-fits : goal.returns-clause-fits
 returns-clause-fits g c = record {
-  some_depth = omega (arith, c.depth.ensures.within.0, c.depth.ensures.value);
   cores = c.in_ok-processors.ensures.count;
   on_bus = c.in_ok-bus.ensures.cores ∙ c.cores.ensures.value;
   words = ap length c.in_ok-bus.ensures.words ∙ c.initial_words.ensures.each;

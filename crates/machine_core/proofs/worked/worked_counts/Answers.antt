@@ -17,3 +17,7 @@ returns-clause-a_load_hits_between c = refl
 pub returns-clause-an_exchange_hits_once : goal.returns-clause-an_exchange_hits_once
 unfolding awaiting
 returns-clause-an_exchange_hits_once c = refl
+
+pub returns-clause-an_unbuffered_store_asks : goal.returns-clause-an_unbuffered_store_asks
+unfolding awaiting
+returns-clause-an_unbuffered_store_asks c = refl

@@ -15,7 +15,6 @@ returns-in-Some c =
       only = is_only c.args.test.now c.args.text.now c.read_entries.result test small read;
       fault = is_fault c.args.test.now c.args.text.now c.read_entries.result test read;
       only_fault = is_only_fault c.args.test.now c.args.text.now c.read_entries.result test read;
-      exact = read;
     }
 
 pub returns-in-None : goal.returns-in-None
@@ -28,5 +27,4 @@ returns-in-None c =
       only = is_only c.args.test.now c.args.text.now (Err NoOrder) test small read;
       fault = is_fault c.args.test.now c.args.text.now (Err NoOrder) test read;
       only_fault = is_only_fault c.args.test.now c.args.text.now (Err NoOrder) test read;
-      exact = read;
     }

@@ -3,13 +3,7 @@ use Rattle.scheduler.specs.Words.{words_of}
 use Rattle.scheduler.proofs.choices.read_choices.Goals as goal
 
 pub returns-clause-only : goal.returns-clause-only
-returns-clause-only c =
-    only_these c.args.cores (words_of c.args.text.now) c.choices_of_words.result c.requires
-    (rw c.in_ok-words.ensures at (rw c.deref.ensures.value at c.choices_of_words.ensures.found))
-    (rw c.in_ok-words.ensures at (rw c.deref.ensures.value at c.choices_of_words.ensures.refused))
+returns-clause-only c = only_these c.args.cores (words_of c.args.text.now) c.choices_of.result c.requires c.choices_of.ensures.found c.choices_of.ensures.refused
 
 pub returns-clause-refuses : goal.returns-clause-refuses
-returns-clause-refuses c =
-    only_this c.args.cores (words_of c.args.text.now) c.choices_of_words.result c.requires
-    (rw c.in_ok-words.ensures at (rw c.deref.ensures.value at c.choices_of_words.ensures.found))
-    (rw c.in_ok-words.ensures at (rw c.deref.ensures.value at c.choices_of_words.ensures.refused))
+returns-clause-refuses c = only_this c.args.cores (words_of c.args.text.now) c.choices_of.result c.requires c.choices_of.ensures.found c.choices_of.ensures.refused

@@ -1,10 +1,15 @@
-use Rattle.std.proofs.Common.{◌≡◌, ◌++◌, map}
-use Rattle.scheduler.specs.Seeds.{first_words, generator, choice_of_word}
-use Rattle.scheduler.proofs.Generated.{left}
+use Rattle.std.proofs.Common.{◌≡◌, List, ◌++◌, length, map}
+use Rattle.tso_model.specs.declared.choice.Choice.{Choice}
+use Rattle.scheduler.specs.Seeds.{choice_of_word, first_words, seeded_choices}
+use Rattle.scheduler.specs.declared.coming.Seeded.{Seeded}
 use Rattle.scheduler.proofs.seeds.push_seeded.Given as goal
 
-abbrev pub invariant-loop-made : goal.invariant-loop-made
-invariant-loop-made l = record {
-  made : l.choices.items ≡ l.fn.choices.items ++ map (choice_of_word l.fn.cores) (first_words l._made (generator l.fn.seed));
-  rest : l.generator ≡ left l._made (generator l.fn.seed);
-}
+abbrev to_come : Seeded → List Choice
+to_come s = map (choice_of_word s.cores) (first_words s.left s.generator)
+
+-- what is made and what is to come are the whole
+abbrev pub invariant-loop-choice : goal.invariant-loop-choice
+invariant-loop-choice l = l.choices.items ++ to_come l.drawn ≡ l.fn.choices.items ++ seeded_choices l.fn.cores l.fn.seed l.fn.count
+
+abbrev pub decreases-loop-choice : goal.decreases-loop-choice
+decreases-loop-choice l = length (to_come l.drawn)

@@ -1,5 +1,6 @@
 use Rattle.tso_cli.proofs.OneAnswer.{Texts}
 use Rattle.tso_cli.proofs.HeadlineLemmas.{Runs, input-means, command-means}
+use Rattle.tso_cli.proofs.SimulationLemmas.{choices-counted}
 use Rattle.tso_cli.proofs.WitnessLemmas.{Reaching}
 use Rattle.tso_cli.proofs.laws.answers_meet_the_headline.Goals as goal
 
@@ -20,6 +21,7 @@ returns c =
     let runs : Runs = record {
       executions = c.ended_runs_of_machines_are_executions.ensures.executions;
       words = c.ended_runs_of_machines_are_executions.ensures.words;
+      unbuffered = c.ended_runs_of_machines_are_executions.ensures.unbuffered;
       atomic = c.ended_runs_of_machines_are_executions.ensures.atomic;
       fits = c.whole_orders_have_each_entry_once.ensures.fits;
       report_spells = c.report_spells_its_order.ensures;
@@ -27,7 +29,7 @@ returns c =
     let reaching : Reaching = record {
       lead = c.every_execution_is_reached.ensures;
       never = c.smaller_depths_never_reach.ensures.never;
-      counted = c.runs_are_counted.ensures.buffered;
+      counted = λ t depth choices. choices-counted t depth choices c.runs_are_counted.ensures.buffered c.runs_are_counted.ensures.unbuffered;
       spelled = c.printed_choices_are_spelled.ensures;
     } in
     record {

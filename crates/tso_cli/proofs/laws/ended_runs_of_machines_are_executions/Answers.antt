@@ -1,4 +1,4 @@
-use Rattle.tso_cli.proofs.BusLemmas.{EndedRuns, ended-execution, ended-words, atomic-fit}
+use Rattle.tso_cli.proofs.BusLemmas.{EndedRuns, ended-execution, ended-words, ended-all-order, atomic-fit}
 use Rattle.tso_cli.proofs.laws.ended_runs_of_machines_are_executions.Goals as goal
 
 pub returns : goal.returns
@@ -13,5 +13,6 @@ returns c =
     record {
       executions = λ table config t choices. ended-execution table config t choices runs;
       words = λ table config t choices. ended-words table config t choices runs;
+      unbuffered = λ table config t choices. ended-all-order table config t choices runs.atomic c.no_buffer_no_reordering_on_either_bus.ensures;
       atomic = λ table config t choices. atomic-fit table config t choices c.atomic_runs_are_flat_runs.ensures.fit;
     }

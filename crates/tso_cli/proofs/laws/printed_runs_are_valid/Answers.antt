@@ -23,6 +23,7 @@ returns-clause-inputs c =
     let runs : Runs = record {
       executions = c.ended_runs_of_machines_are_executions.ensures.executions;
       words = c.ended_runs_of_machines_are_executions.ensures.words;
+      unbuffered = c.ended_runs_of_machines_are_executions.ensures.unbuffered;
       atomic = c.ended_runs_of_machines_are_executions.ensures.atomic;
       fits = c.whole_orders_have_each_entry_once.ensures.fits;
       report_spells = c.report_spells_its_order.ensures;

@@ -1,5 +1,6 @@
 use Rattle.tso_cli.specs.Parts.{parts_of}
 use Rattle.tso_cli.proofs.OneAnswer.{Texts}
+use Rattle.tso_cli.proofs.SimulationLemmas.{choices-counted}
 use Rattle.tso_cli.proofs.WitnessLemmas.{Reaching}
 use Rattle.tso_cli.proofs.Replayed.{replayed}
 use Rattle.tso_cli.proofs.laws.witnesses_reach_their_orders.Goals as goal
@@ -21,7 +22,7 @@ returns c =
     let reaching : Reaching = record {
       lead = c.every_execution_is_reached.ensures;
       never = c.smaller_depths_never_reach.ensures.never;
-      counted = c.runs_are_counted.ensures.buffered;
+      counted = λ t depth choices. choices-counted t depth choices c.runs_are_counted.ensures.buffered c.runs_are_counted.ensures.unbuffered;
       spelled = c.printed_choices_are_spelled.ensures;
     } in
     λ kind config json input out answer status atomic within ends whole is ran.

@@ -1,14 +1,17 @@
-use Rattle.std.proofs.Common.{◌≤◌, ◌-◌, length, drop}
+use Rattle.std.proofs.Common.{◌≡◌, ◌≤◌, ◌+◌, length}
+use Rattle.tso_model.specs.Runs.{has_ended, CoresExist}
 use Rattle.tso_cli.proofs.DriveLemmas.{SoFar}
 use Rattle.tso_cli.proofs.simulation.drive.Given as goal
 
 -- the whole run is what was done so far and the run from here on
-abbrev pub invariant-loop-used : goal.invariant-loop-used
-invariant-loop-used g l = record {
-  within : l.used ≤ length l.choices;
+abbrev pub invariant-loop-ended : goal.invariant-loop-ended
+invariant-loop-ended g l = record {
+  left : l.used + length (g.C.Choices.coming l.choices) ≡ length (g.C.Choices.coming l.initial.choices);
+  cores : CoresExist (length l.initial.machine.test.programs) (g.C.Choices.coming l.choices);
   fewer : l.stalled ≤ l.used;
-  so_far : SoFar l.initial.machine l.machine l.choices (drop l.used l.choices) l.used l.stalled;
+  over : l.ended ≡ has_ended l.machine.test l.machine.state.flat;
+  so_far : SoFar l.initial.machine l.machine (g.C.Choices.coming l.initial.choices) (g.C.Choices.coming l.choices) l.used l.stalled;
 }
 
-abbrev pub decreases-loop-used : goal.decreases-loop-used
-decreases-loop-used g l = length l.choices - l.used
+abbrev pub decreases-loop-ended : goal.decreases-loop-ended
+decreases-loop-ended g l = length (g.C.Choices.coming l.choices)

@@ -15,12 +15,12 @@ returns-then-not-is_ended-clause-ending g c =
       atomic = record { atomic = c.atomic_runs_are_flat_runs.ensures.atomic; side_by_side = c.atomic_runs_are_flat_runs.ensures.together };
       stops = c.runs_on_either_bus_stop_where_they_end.ensures.stops;
     } in
-    unfinished-is (g.P.Protocol.table c.args.protocol) c.args.config c.args.test.now _ _ c.args.choices.now _ _ laws (c.in_ok-machine.ensures, c.in_ok-progress.ensures.drives)
+    unfinished-is (g.P.Protocol.table c.args.protocol) c.args.config c.args.test.now _ _ (g.C.Choices.coming c.args.choices) _ _ laws (c.in_ok-machine.ensures, c.in_ok-progress.ensures.drives)
     (sym c.is_ended.ensures ∙ (let q : c.is_ended.result ≡ false = grind arith in q))
 
 pub returns-then-not-is_ended-clause-answers : goal.returns-then-not-is_ended-clause-answers
 returns-then-not-is_ended-clause-answers g c =
-    answers-fit (g.P.Protocol.table c.args.protocol) c.args.config c.args.test.now _ _ c.args.choices.now _ _ (c.in_ok-machine.ensures, c.in_ok-progress.ensures.drives)
+    answers-fit (g.P.Protocol.table c.args.protocol) c.args.config c.args.test.now _ _ (g.C.Choices.coming c.args.choices) _ _ (c.in_ok-machine.ensures, c.in_ok-progress.ensures.drives)
 
 pub returns-clause-ending : goal.returns-clause-ending
 returns-clause-ending g c =
@@ -29,17 +29,17 @@ returns-clause-ending g c =
       stops = c.runs_on_either_bus_stop_where_they_end.ensures.stops;
     } in
     let ended : c.is_ended.result ≡ true = grind arith in
-    ended-is (g.P.Protocol.table c.args.protocol) c.args.config c.args.test.now _ _ c.args.choices.now _ _ _ laws (c.in_ok-machine.ensures, c.in_ok-progress.ensures.drives)
+    ended-is (g.P.Protocol.table c.args.protocol) c.args.config c.args.test.now _ _ (g.C.Choices.coming c.args.choices) _ _ _ laws (c.in_ok-machine.ensures, c.in_ok-progress.ensures.drives)
     (sym c.is_ended.ensures ∙ ended) c.in_ok-left.ensures.order c.in_ok-left.ensures.registers c.in_ok-left.ensures.memory
-    c.verdict_of-holds.ensures refl refl refl
+    c.verdict_of-holds.ensures refl refl (omega (arith, c.left.ensures, c.in_ok-progress.ensures.left))
 
 pub returns-clause-answers : goal.returns-clause-answers
 returns-clause-answers g c =
-    answers-fit (g.P.Protocol.table c.args.protocol) c.args.config c.args.test.now _ _ c.args.choices.now _ _ (c.in_ok-machine.ensures, c.in_ok-progress.ensures.drives)
+    answers-fit (g.P.Protocol.table c.args.protocol) c.args.config c.args.test.now _ _ (g.C.Choices.coming c.args.choices) _ _ (c.in_ok-machine.ensures, c.in_ok-progress.ensures.drives)
 
 pub returns-clause-counts : goal.returns-clause-counts
 returns-clause-counts g c =
-    counts-are (g.P.Protocol.table c.args.protocol) c.args.config c.args.test.now _ _ c.args.choices.now _ _ c.in_ok-left.left.counts.items
+    counts-are (g.P.Protocol.table c.args.protocol) c.args.config c.args.test.now _ _ (g.C.Choices.coming c.args.choices) _ _ c.in_ok-left.left.counts.items
     (c.in_ok-machine.ensures, c.in_ok-progress.ensures.drives) c.in_ok-left.ensures.counts
 
 pub returns-clause-fits : goal.returns-clause-fits
@@ -47,7 +47,7 @@ returns-clause-fits g c =
     let t = c.args.test.now in
     let table = g.P.Protocol.table c.args.protocol in
     let config = c.args.config in
-    let choices = c.args.choices.now in
+    let choices = g.C.Choices.coming c.args.choices in
     let order = c.in_ok-left.left.execution.order.items in
     let r = run_by config.bus table config t choices in
     let laws : RunLaws = record {

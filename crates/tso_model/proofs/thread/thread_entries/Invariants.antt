@@ -1,4 +1,4 @@
-use Rattle.std.proofs.Common.{◌≡◌, ◌≤◌, ◌+◌, ◌++◌, length, drop, slice_index_or, []}
+use Rattle.std.proofs.Common.{◌≡◌, ◌++◌, length, drop, slice_index_or, []}
 use Rattle.tso_model.specs.Thread.{entries_of, registers_after, reads_in}
 use Rattle.tso_model.proofs.thread.thread_entries.Given as goal
 

@@ -1,8 +1,8 @@
-use Rattle.std.proofs.Common.{arith, ◌≡◌, IsTrue, All, length, map, string_bytes, subst, sym}
+use Rattle.std.proofs.Common.{arith, ◌≡◌, IsTrue, All, length, string_bytes, subst, sym}
 use Rattle.std.specs.Option.{ForSome}
 use Rattle.std.proofs.lemmas.Grind.{common_steps}
 use Rattle.std.proofs.lemmas.List.{length-map}
-use Rattle.tso_model.specs.Litmus.{IsTest, IsProgram, IsCondition}
+use Rattle.tso_model.specs.Litmus.{IsProgram, IsCondition}
 use Rattle.tso_model.specs.LitmusParts.{litmus_of}
 use Rattle.tso_model.proofs.validity.parts_fit.Goals as goal
 

@@ -1,6 +1,6 @@
 use Rattle.std.proofs.Common.{arith, ◌≡◌, slice_index_or, [], subst}
 use Rattle.std.proofs.lemmas.Grind.{common_steps}
-use Rattle.tso_model.specs.Litmus.{IsTest, IsProgram}
+use Rattle.tso_model.specs.Litmus.{IsTest}
 use Rattle.tso_model.proofs.LitmusLemmas.{IsProgram-of_core}
 use Rattle.tso_model.proofs.litmus.Test.program.Goals as goal
 

@@ -1,0 +1,72 @@
+-- Small facts on lists, tests and numbers.
+use Rattle.std.proofs.Common.{◌≡◌, ◌<◌, ℕ, zero, suc, Bool, true, false, List, [], ◌∷◌, ◌++◌, length, map, Some, slice_get, slice_set, arith, ap, sym, refl, ◌==◌, ◌&&◌, subst}
+use Rattle.std.proofs.lemmas.Bool.Decides.{nat_tests}
+
+pub test-true : (a b : ℕ) → a ≡ b → (a == b) ≡ true
+test-true a b h = grind (arith, nat_tests)
+
+pub and-left : (a b : Bool) → (a && b) ≡ true → a ≡ true
+and-left true b h = refl
+and-left false b h = absurd (let z : ⊥ = cc in z)
+
+pub and-right : (a b : Bool) → (a && b) ≡ true → b ≡ true
+and-right true b h = h
+and-right false b h = absurd (let z : ⊥ = cc in z)
+
+pub map-set : {A B : Type 0} (f : A → B) (xs : List A) (k : ℕ) (v : A) → map f (slice_set xs k v) ≡ slice_set (map f xs) k (f v)
+map-set f [] k v = refl
+map-set f (x ∷ xs) zero v = refl
+map-set f (x ∷ xs) (suc k) v = ap (λ z. f x ∷ z) (map-set f xs k v)
+
+pub map-get : {A B : Type 0} (f : A → B) (xs : List A) (k : ℕ) (x : A) → slice_get xs k ≡ Some x → slice_get (map f xs) k ≡ Some (f x)
+map-get f [] k x e = absurd (let z : ⊥ = cc in z)
+map-get f (y ∷ ys) zero x e = let q : y ≡ x = cc in ap (λ z. Some (f z)) q
+map-get f (y ∷ ys) (suc k) x e = map-get f ys k x e
+
+pub get-map : {A B : Type 0} (f : A → B) (xs : List A) (k : ℕ) (y : B) → slice_get (map f xs) k ≡ Some y → (x : A) × (slice_get xs k ≡ Some x) × (f x ≡ y)
+get-map f [] k y e = absurd (let z : ⊥ = cc in z)
+get-map f (x ∷ xs) zero y e = (x, refl, let q : f x ≡ y = cc in q)
+get-map f (x ∷ xs) (suc k) y e = get-map f xs k y e
+
+pub set-get : {A : Type 0} (xs : List A) (k : ℕ) (v : A) → k < length xs → slice_get (slice_set xs k v) k ≡ Some v
+set-get [] k v l = absurd (omega arith)
+set-get (x ∷ xs) zero v l = refl
+set-get (x ∷ xs) (suc k) v l = set-get xs k v (omega arith)
+
+pub set-set : {A : Type 0} (xs : List A) (k : ℕ) (v w : A) → slice_set (slice_set xs k v) k w ≡ slice_set xs k w
+set-set [] k v w = refl
+set-set (x ∷ xs) zero v w = refl
+set-set (x ∷ xs) (suc k) v w = ap (λ z. x ∷ z) (set-set xs k v w)
+
+pub set-same : {A : Type 0} (xs : List A) (k : ℕ) (x : A) → slice_get xs k ≡ Some x → slice_set xs k x ≡ xs
+set-same [] k x e = refl
+set-same (y ∷ ys) zero x e = let q : y ≡ x = cc in ap (λ z. z ∷ ys) (sym q)
+set-same (y ∷ ys) (suc k) x e = ap (λ z. y ∷ z) (set-same ys k x e)
+
+pub length-set : {A : Type 0} (xs : List A) (k : ℕ) (v : A) → length (slice_set xs k v) ≡ length xs
+length-set [] k v = refl
+length-set (x ∷ xs) zero v = refl
+length-set (x ∷ xs) (suc k) v = ap suc (length-set xs k v)
+
+pub length-map : {A B : Type 0} (f : A → B) (xs : List A) → length (map f xs) ≡ length xs
+length-map f [] = refl
+length-map f (x ∷ xs) = ap suc (length-map f xs)
+
+abbrev pub Each : {A : Type 0} → (A → Type 0) → List A → Type 0
+Each P [] = Unit {0}
+Each P (x ∷ xs) = P x × Each P xs
+
+pub each-append : {A : Type 0} (P : A → Type 0) (xs ys : List A) → Each P xs → Each P ys → Each P (xs ++ ys)
+each-append P [] ys h k = k
+each-append P (x ∷ xs) ys h k = (h.0, each-append P xs ys h.1 k)
+
+-- what stands in the list at a place after a write there or elsewhere
+pub each-set : {A : Type 0} (P : A → Type 0) (xs : List A) (k : ℕ) (v : A) → Each P xs → P v → Each P (slice_set xs k v)
+each-set P [] k v h p = tt
+each-set P (x ∷ xs) zero v h p = (p, h.1)
+each-set P (x ∷ xs) (suc k) v h p = (h.0, each-set P xs k v h.1 p)
+
+pub each-at : {A : Type 0} (P : A → Type 0) (xs : List A) (k : ℕ) (x : A) → Each P xs → slice_get xs k ≡ Some x → P x
+each-at P [] k x h e = absurd (let w : ⊥ = cc in w)
+each-at P (y ∷ ys) zero x h e = let q : y ≡ x = cc in subst P q h.0
+each-at P (y ∷ ys) (suc k) x h e = each-at P ys k x h.1 e

@@ -1,0 +1,33 @@
+-- Runs of the abstract machine that end a test, and their memory orders.
+-- (Sewell and others, "x86-TSO", 2010, section 3; the two parts of a locked instruction put side by side is this project's
+-- way to say the order.)
+use Rattle.std.specs.Prelude.{ℕ, ◌≡◌, List, [], length, map, Some, slice_get, slice_index_or}
+use Rattle.tso_model.specs.Litmus.{Litmus}
+use Rattle.tso_model.specs.Together.{put_together}
+use Rattle.tso_model.specs.declared.execution.Entry.{Entry}
+use Rattle.abstract_machine.specs.Machine.{HardwareThread, Machine, first}
+use Rattle.abstract_machine.specs.Steps.{Runs}
+
+-- a thread has come to the end of its program, and its buffer is empty
+pub record IsFinished (t : Litmus) (p : ℕ) (h : HardwareThread) : Type 0 where
+  pub place : h.place ≡ length (slice_index_or t.programs p [])
+  pub buffer : h.buffer ≡ []
+
+-- the test has ended
+abbrev pub HasEnded : Litmus → Machine → Type 0
+HasEnded t m = (p : ℕ) (h : HardwareThread) → slice_get m.threads p ≡ Some h → IsFinished t p h
+
+abbrev pub registers_of : Machine → List (List ℕ)
+registers_of m = map (λ h. h.registers) m.threads
+
+-- a run that ends the test in this machine, with this memory order: what its steps gave, the read of each locked instruction
+-- put directly before its write
+pub record EndsWith (t : Litmus) (order : List Entry) (m : Machine) : Type 0 where
+  pub given : List Entry
+  pub run : Runs t (first t) given m
+  pub ended : HasEnded t m
+  pub together : put_together given ≡ order
+
+-- some run ends the test with this order
+abbrev pub IsReachedFreely : Litmus → List Entry → Type 0
+IsReachedFreely t order = (m : Machine) × EndsWith t order m

@@ -1,0 +1,69 @@
+-- The steps of the abstract machine, rule by rule.
+-- (Sewell and others, "x86-TSO", Communications of the ACM, 2010, section 3, the machine's transitions.)
+use Rattle.std.specs.Prelude.{ℕ, ◌≡◌, true, List, [], ◌∷◌, ◌++◌, filter, Some, None, slice_get, slice_index, slice_index_or}
+use Rattle.tso_model.specs.Litmus.{Litmus}
+use Rattle.tso_model.specs.Actions.{action_of}
+use Rattle.tso_model.specs.Thread.{entry, fence, value_in, value_of, updated}
+use Rattle.tso_model.specs.ProgramOrder.{writes_to}
+use Rattle.tso_model.specs.declared.register.Reg.{Reg}
+use Rattle.tso_model.specs.declared.instruction.Loc.{Loc}
+use Rattle.tso_model.specs.declared.instruction.Instr.{Instr}
+use Rattle.tso_model.specs.declared.action.Operand.{Operand}
+use Rattle.tso_model.specs.declared.action.Update.{Update}
+use Rattle.tso_model.specs.declared.action.Action.{Action}
+use Rattle.tso_model.specs.declared.action.Action.TheVariants.{Store, Load, Move, Fence, Lock}
+use Rattle.tso_model.specs.declared.execution.Entry.{Entry}
+use Rattle.tso_model.specs.declared.execution.Kind.TheVariants.{R, W, LR, LW}
+use Rattle.abstract_machine.specs.Machine.{Progress, NotLocked, HasBegun, HasRead, HasWritten, HardwareThread, Machine, IsNotBlocked, with_thread, with_lock, with_word, passed, given, with_buffer, with_progress}
+
+-- thread p stands at an instruction with this action, and is so far with it
+pub record StandsAt (t : Litmus) (p : ℕ) (h : HardwareThread) (progress : Progress) (action : Action) : Type 0 where
+  pub instruction : Instr
+  pub is : slice_get (slice_index_or t.programs p []) h.place ≡ Some instruction
+  pub does : action_of instruction ≡ action
+  pub so_far : h.progress ≡ progress
+
+-- the value that a thread can read at a location
+pub data CanRead (m : Machine) (h : HardwareThread) (loc : ℕ) : ℕ → Type 0 where
+  -- from memory, where its buffer has no write to the location
+  from_memory : filter (writes_to loc) h.buffer ≡ [] → CanRead m h loc (slice_index m.memory loc)
+  -- from its buffer, of the newest write to the location
+  from_buffer : (older newer : List Entry) (w : Entry) → h.buffer ≡ older ++ (w ∷ newer) → writes_to loc w ≡ true
+      → filter (writes_to loc) newer ≡ [] → CanRead m h loc w.value
+
+-- a step of thread p, which is h, with the entries that it gives to the memory order
+pub data Step (t : Litmus) (m : Machine) (p : ℕ) (h : HardwareThread) : List Entry → Machine → Type 0 where
+  -- a load, of a thread that is not blocked
+  read : (reg : Reg) (loc : Loc) (v : ℕ) → StandsAt t p h NotLocked (Load reg loc) → IsNotBlocked m p → CanRead m h loc.0 v
+      → Step t m p h (entry p h.place R loc v ∷ []) (with_thread m p (passed (given h reg v)))
+  -- a store goes to the write buffer, at any time
+  write : (loc : Loc) (operand : Operand) → StandsAt t p h NotLocked (Store loc operand)
+      → Step t m p h [] (with_thread m p (passed (with_buffer h (h.buffer ++ (entry p h.place W loc (value_of h.registers operand) ∷ [])))))
+  -- the oldest write of the buffer goes to memory, silently, of a thread that is not blocked
+  flush : (w : Entry) (rest : List Entry) → IsNotBlocked m p → h.buffer ≡ w ∷ rest
+      → Step t m p h (w ∷ []) (with_thread (with_word m w) p (with_buffer h rest))
+  -- a register move, at any time
+  move : (reg : Reg) (operand : Operand) → StandsAt t p h NotLocked (Move reg operand)
+      → Step t m p h [] (with_thread m p (passed (given h reg (value_of h.registers operand))))
+  -- a fence, where the buffer is empty
+  mfence : StandsAt t p h NotLocked Fence → h.buffer ≡ []
+      → Step t m p h (fence p h.place ∷ []) (with_thread m p (passed h))
+  -- a locked instruction begins, where nobody holds the lock
+  lock : (loc : Loc) (reg : Reg) (update : Update) → StandsAt t p h NotLocked (Lock loc reg update) → m.lock ≡ None
+      → Step t m p h [] (with_lock (with_thread m p (with_progress h HasBegun)) (Some p))
+  -- it reads, as a load does
+  locked_read : (loc : Loc) (reg : Reg) (update : Update) (v : ℕ) → StandsAt t p h HasBegun (Lock loc reg update) → IsNotBlocked m p
+      → CanRead m h loc.0 v → Step t m p h (entry p h.place LR loc v ∷ []) (with_thread m p (with_progress h (HasRead v)))
+  -- it writes, as a store does
+  locked_write : (loc : Loc) (reg : Reg) (update : Update) (v : ℕ) → StandsAt t p h (HasRead v) (Lock loc reg update)
+      → Step t m p h [] (with_thread m p (with_progress (given (with_buffer h
+      (h.buffer ++ (entry p h.place LW loc (updated update v (value_in h.registers reg)) ∷ []))) reg v) HasWritten))
+  -- it ends, where the thread holds the lock and its buffer is empty
+  unlock : h.progress ≡ HasWritten → m.lock ≡ Some p → h.buffer ≡ []
+      → Step t m p h [] (with_lock (with_thread m p (passed h)) None)
+
+-- steps of the threads in any order, with all that they give to the memory order
+pub data Runs (t : Litmus) : Machine → List Entry → Machine → Type 0 where
+  rests : (m : Machine) → Runs t m [] m
+  goes_on : (m n o : Machine) (p : ℕ) (h : HardwareThread) (es fs : List Entry) → slice_get m.threads p ≡ Some h
+      → Step t m p h es n → Runs t n fs o → Runs t m (es ++ fs) o

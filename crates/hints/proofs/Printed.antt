@@ -1,0 +1,39 @@
+-- What is shown is printable, and so a text.
+use Rattle.std.proofs.Common.{◌≡◌, ◌++◌, ◌∷◌, [], List, ℕ, ◌≤◌, ◌<◌, true, length, All, codes, map, take, sym, ap, arith, refl}
+use Rattle.std.specs.List.{list_all}
+use Rattle.std.specs.Str.{IsUtf8}
+use Rattle.std.proofs.Math.Nat.{min-le_left}
+use Rattle.std.proofs.lemmas.Bool.{and_from}
+use Rattle.std.proofs.lemmas.Bool.Decides.{nat_tests}
+use Rattle.std.proofs.lemmas.List.Sums.{AllPass-from_list_all}
+use Rattle.std.proofs.lemmas.List.Elements.{All-weaker}
+use Rattle.std.proofs.lemmas.List.{length-map, length-append, length-take}
+use Rattle.std.proofs.lemmas.Str.{IsUtf8-from_ascii}
+use Rattle.std.proofs.lemmas.Str.Ascii.{IsAscii-from_all}
+use Rattle.tso_model.specs.Names.{is_printable}
+use Rattle.hints.specs.Hint.{IsHint, longest_hint, most_words, printable}
+
+shown_is_printable : (c : ℕ) → is_printable (printable c) ≡ true
+unfolding printable
+shown_is_printable c = grind (arith, nat_tests)
+
+pub shown_are_printable : (bytes : List ℕ) → list_all is_printable (map printable bytes) ≡ true
+shown_are_printable [] = refl
+shown_are_printable (b ∷ bs) = and_from (is_printable (printable b)) _ (shown_is_printable b) (shown_are_printable bs)
+
+printable_ascii : (c : ℕ) → is_printable c ≡ true → c < 128
+printable_ascii c h = grind (arith, nat_tests)
+
+pub words_are_text : (bytes words : List ℕ) → words ≡ map printable (take most_words bytes) → IsUtf8 words
+words_are_text bytes words is =
+    rw is (IsUtf8-from_ascii _ (IsAscii-from_all _ (All-weaker (λ c. is_printable c ≡ true) (λ c. c < 128) printable_ascii _ (AllPass-from_list_all is_printable _ (shown_are_printable (take most_words bytes))))))
+
+pub is_hint : (bytes words text : List ℕ) → words ≡ map printable (take most_words bytes) → text ≡ codes "hint: " ++ words ++ (10 ∷ []) → IsHint text
+is_hint bytes words text shown is =
+    let many : length words ≤ most_words = rw (shown, length-map (take most_words bytes) printable, length-take most_words bytes) (min-le_left most_words (length bytes)) in
+    record {
+      words = words;
+      is = is;
+      printable = rw shown (shown_are_printable (take most_words bytes));
+      short = rw (is, length-append (codes "hint: ") (words ++ (10 ∷ [])), length-append words (10 ∷ [])) (omega (arith, many));
+    }

@@ -1,0 +1,37 @@
+//! A dividing line that isn't there.
+
+use crate::hinting::Asked;
+use crate::quotes::{is_choice, word};
+use crate::words::{Words, naming};
+
+/// What is said where an input without a dividing line goes on behind its test as it would behind such
+/// a line.
+pub fn missing_divider<'a>(asked: Asked, is_divided: bool, rest: &'a [u8]) -> Option<Words<'a>> {
+    if is_divided {
+        return None;
+    }
+    let word = word(rest);
+    if word.starts_with(b"=") {
+        return Some(naming(
+            word,
+            " divides nothing: the dividing line is ==== alone, with no space before or after it",
+        ));
+    }
+    if is_choice(word) {
+        return Some(naming(
+            word,
+            " is no part of a test: put a line ==== between the test and the choices",
+        ));
+    }
+    if begins_order(asked, word) {
+        return Some(naming(
+            word,
+            " is no part of a test: put a line ==== between the test and the order",
+        ));
+    }
+    None
+}
+
+fn begins_order(asked: Asked, word: &[u8]) -> bool {
+    matches!(asked, Asked::Order) && (word == b"Order".as_slice() || word == b"Test".as_slice())
+}

@@ -1,0 +1,68 @@
+//! What is said of a fault in a test.
+
+use crate::cells::bad_instruction;
+use crate::conditions::bad_condition;
+use crate::divider::missing_divider;
+use crate::hinting::Asked;
+use crate::numbers::bad_number;
+use crate::openings::{bad_init, bad_token, no_header, unclosed};
+use crate::place::Place;
+use crate::quotes::up_to;
+use crate::rows::{bad_header_row, too_large, wrong_cells};
+use crate::words::{Piece, Words, around, naming};
+use litmus_reader::Why;
+use std::alloc::Global;
+use tso_model::NoMemory;
+
+/// The words for a fault at a place of a test.
+///
+/// Fails only for want of memory.
+pub fn test_words<'a>(
+    alloc: Global,
+    asked: Asked,
+    is_divided: bool,
+    place: Place<'a>,
+    why: Why,
+) -> Result<Words<'a>, NoMemory> {
+    match why {
+        Why::NoHeader => Ok(no_header(place)),
+        Why::Unclosed => Ok(unclosed(asked, is_divided, place)),
+        Why::BadToken => Ok(bad_token(place)),
+        Why::BadInit => Ok(bad_init(place)),
+        Why::BadHeaderRow => Ok(bad_header_row(place)),
+        Why::WrongCells => Ok(wrong_cells(place)),
+        Why::BadInstruction => bad_instruction(alloc, place.rest),
+        Why::BadNumber => bad_number(alloc, place.rest),
+        Why::TwiceInit => Ok(twice_given(place)),
+        Why::NoSuchCore => Ok(no_such_core(place)),
+        Why::TooLarge => Ok(too_large(place)),
+        Why::BadCondition => Ok(bad_condition(place)),
+        Why::Trailing => Ok(trailing(asked, is_divided, place)),
+        Why::NoMemory => Err(NoMemory),
+    }
+}
+
+fn twice_given<'a>(place: Place<'a>) -> Words<'a> {
+    naming(
+        up_to(place.rest, b'='),
+        " has a value already: one stands for each location and each register",
+    )
+}
+
+fn no_such_core<'a>(place: Place<'a>) -> Words<'a> {
+    around(
+        "there is no core ",
+        Piece::Named(place.token()),
+        ": the row P0 | P1 | .. names the cores",
+    )
+}
+
+fn trailing<'a>(asked: Asked, is_divided: bool, place: Place<'a>) -> Words<'a> {
+    match missing_divider(asked, is_divided, place.rest) {
+        Some(words) => words,
+        None => naming(
+            place.token(),
+            " stands after the end of the test, where nothing may",
+        ),
+    }
+}

@@ -1,0 +1,24 @@
+//! Hints: one line that says what was expected where an input was refused, or where a run didn't end.
+//!
+//! A hint is made of what is known at the fault: its place, the name of the refusal, and the bytes that
+//! stand there. What is promised of it is its form; which words it has is held by tests.
+#![tactic(auto)]
+
+mod cells;
+mod choices;
+mod conditions;
+mod divider;
+mod faults;
+mod hinting;
+mod numbers;
+mod openings;
+mod orders;
+mod place;
+mod printing;
+mod quotes;
+mod rows;
+mod unended;
+mod words;
+
+pub use hinting::{Asked, general_hint, refusal_hint, size_hint, unended_hint};
+pub use printing::{MAX_HINT, limits_are_as_defined};

@@ -1,0 +1,36 @@
+//! What is said of a number that is too great.
+
+use crate::words::{Words, naming, plain};
+use litmus_tokens::{Lexeme, Symbol, Token, is_symbol, tokens_of, word};
+use std::alloc::Global;
+use tso_model::NoMemory;
+
+/// Of an item with a value over the greatest.
+///
+/// Fails only for want of memory.
+pub fn bad_number<'a>(alloc: Global, rest: &'a [u8]) -> Result<Words<'a>, NoMemory> {
+    let tokens = tokens_of(alloc, rest)?;
+    Ok(match first_over(&tokens.items) {
+        Some(digits) => naming(digits, " is over 4294967295, the greatest value"),
+        None => plain("a value is at most 4294967295"),
+    })
+}
+
+/// The first number that is too great and names no core.
+fn first_over<'a>(tokens: &[Token<'a>]) -> Option<&'a [u8]> {
+    let mut over = None;
+    for token in tokens {
+        if over.is_some() && !is_symbol(Symbol::Colon, token) {
+            return over;
+        }
+        over = over_in(token);
+    }
+    over
+}
+
+fn over_in<'a>(token: &Token<'a>) -> Option<&'a [u8]> {
+    match token.lexeme {
+        Lexeme::Number(digits) if word(digits).is_none() => Some(digits),
+        _ => None,
+    }
+}

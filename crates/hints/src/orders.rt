@@ -1,0 +1,155 @@
+//! What is said of orders.
+
+use crate::printing::Where;
+use crate::quotes::{is_choice, is_space, up_to, word};
+use crate::words::{Piece, Words, around, listed, naming, plain};
+use order_builder::OrderFault;
+use tso_model::{Loc, NoMemory, Test};
+
+/// The place and the words of a fault in an order of a test.
+///
+/// Fails only for want of memory.
+pub fn order_words<'a>(
+    test: &Test,
+    text: &'a [u8],
+    fault: OrderFault,
+) -> Result<(Where, Words<'a>), NoMemory> {
+    match fault {
+        OrderFault::NoOrder => Ok((Where::Input, no_order(text))),
+        OrderFault::BadLine(number) => Ok((
+            Where::LineBehind(number),
+            bad_line(test, nth_line(text, number)),
+        )),
+        OrderFault::BadCount => Ok(bad_count(text)),
+        OrderFault::NoMemory => Err(NoMemory),
+    }
+}
+
+fn no_order<'a>(text: &'a [u8]) -> Words<'a> {
+    let word = first_word(text);
+    if word.is_empty() {
+        plain("no order: give one after a line ====, as run prints it, or use --help")
+    } else if word.starts_with(b"{") {
+        plain("no line is Order: give the report that run prints without --json")
+    } else if is_choice(word) {
+        around(
+            "no line is Order: ",
+            Piece::Named(word),
+            " is a choice; check and witness read an order, as run prints it",
+        )
+    } else {
+        plain(
+            "no line is Order: an order begins with this line and ends with a line Endorder n, as run prints it",
+        )
+    }
+}
+
+/// The first word of a text, or no bytes.
+pub fn first_word(text: &[u8]) -> &[u8] {
+    let spaces = text.iter().take_while(|byte| is_space(**byte)).count();
+    let (_, rest) = text.split_at(spaces.min(text.len()));
+    word(rest)
+}
+
+/// A line without a carriage return at its end.
+fn without_return(line: &[u8]) -> &[u8] {
+    match line.split_last() {
+        Some((last, front)) if *last == b'\r' => front,
+        _ => line,
+    }
+}
+
+/// The line of this number, from 1.
+fn nth_line(text: &[u8], number: usize) -> &[u8] {
+    let mut at = 1usize;
+    for line in text.split(|byte| *byte == b'\n') {
+        if at == number {
+            return without_return(line);
+        }
+        at = at.saturating_add(1);
+    }
+    &[]
+}
+
+fn bad_line<'a>(test: &Test, line: &'a [u8]) -> Words<'a> {
+    if line.is_empty() {
+        return plain("an empty line stands in the order");
+    }
+    if line.starts_with(b"Endorder") {
+        return naming(
+            line,
+            ": the order ends with Endorder, one space and the number of entries",
+        );
+    }
+    match location_in(line) {
+        Some(name) if !is_location(test, name) => naming(name, " is no location of the test"),
+        _ => naming(
+            line,
+            " is no entry: P0:1 R x=0 with R, W, LR or LW, or P0:1 F",
+        ),
+    }
+}
+
+/// What stands before `=` in the third of three pieces, which one space separates.
+fn location_in(line: &[u8]) -> Option<&[u8]> {
+    let behind_place = behind(line, b' ')?;
+    let access = behind(behind_place, b' ')?;
+    if access.contains(&b' ') || !access.contains(&b'=') {
+        return None;
+    }
+    Some(up_to(access, b'='))
+}
+
+/// What stands behind the first such byte.
+fn behind(text: &[u8], byte: u8) -> Option<&[u8]> {
+    let (_, rest) = text.split_at(up_to(text, byte).len().min(text.len()));
+    let (_, behind) = rest.split_first()?;
+    Some(behind)
+}
+
+fn is_location(test: &Test, name: &[u8]) -> bool {
+    for loc in 0..test.locations() {
+        if test.location_name(Loc(loc)).as_bytes() == name {
+            return true;
+        }
+    }
+    false
+}
+
+/// The place and the words for an order whose end is missing, or counts other entries.
+fn bad_count<'a>(text: &'a [u8]) -> (Where, Words<'a>) {
+    let mut number = 0usize;
+    let mut start = 0usize;
+    for line in text.split(|byte| *byte == b'\n') {
+        number = number.saturating_add(1);
+        if start == 0 {
+            if without_return(line) == b"Order".as_slice() {
+                start = number;
+            }
+        } else if line.starts_with(b"Endorder ") {
+            return (
+                Where::LineBehind(number),
+                counted(
+                    without_return(line),
+                    number.saturating_sub(start).saturating_sub(1),
+                ),
+            );
+        }
+    }
+    (
+        Where::Input,
+        plain("no line Endorder n ends the order, n being the number of its entries"),
+    )
+}
+
+fn counted<'a>(line: &'a [u8], entries: usize) -> Words<'a> {
+    if entries == 1 {
+        return naming(line, " ends an order of 1 entry");
+    }
+    listed(
+        Piece::Named(line),
+        Piece::Text(" ends an order of "),
+        Piece::Number(entries),
+        Piece::Text(" entries"),
+    )
+}

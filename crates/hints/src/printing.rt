@@ -1,0 +1,144 @@
+//! Hints as they are printed.
+
+ghost use Rattle.std.specs.Prelude.{◌≡◌, IfOk, map, take, string_bytes};
+ghost use Rattle.std.specs.Str.{IsUtf8};
+ghost use Rattle.hints.specs.Hint as spec;
+ghost use Rattle.hints.specs.Hint.{IsHint, longest_hint, most_words};
+
+use crate::quotes::{first_bytes, is_bare};
+use crate::words::{Piece, Words};
+use std::alloc::{AllocError, Global};
+use tso_model::NoMemory;
+
+/// Bytes of a hint, at most, with its line feed.
+pub const MAX_HINT: usize = 256;
+
+/// The limit is the number that the definitions have: a law, with nothing to run.
+pub fn limits_are_as_defined()
+    ensures { MAX_HINT ≡ longest_hint }
+{}
+
+/// Bytes that are shown of one thing, at most.
+const MAX_SHOWN: usize = 32;
+
+/// What a hint is about.
+#[derive(Clone, Copy)]
+pub enum Where {
+    /// An input as a whole.
+    Input,
+    /// A line of a test, from 1.
+    Line(usize),
+    /// A word of choices, from 1.
+    Word(usize),
+    /// A line behind the dividing line, from 1.
+    LineBehind(usize),
+}
+
+/// The line that says these words.
+///
+/// Fails only for want of memory.
+pub fn hint(alloc: Global, place: Where, words: &Words<'_>) -> Result<String, NoMemory>
+    ensures { IfOk result (λ text. IsHint (string_bytes text)) }
+{
+    let mut bytes = Vec::new(alloc);
+    push_place(alloc, &mut bytes, place)?;
+    for piece in &words.pieces {
+        push_piece(alloc, &mut bytes, *piece)?;
+    }
+    printed(alloc, &bytes)
+}
+
+fn printed(alloc: Global, words: &[u8]) -> Result<String, NoMemory>
+    ensures { IfOk result (λ text. IsHint (string_bytes text)) }
+{
+    let words = printable_words(alloc, words)?;
+    let words = string_of(alloc, &words)?;
+    Ok(format!(in alloc; "hint: {words}\n")?)
+}
+
+fn string_of(alloc: Global, bytes: &[u8]) -> Result<String, AllocError>
+    requires { IsUtf8 bytes.now }
+    ensures { IfOk result (λ text. string_bytes text ≡ bytes.now) }
+{
+    String::from_utf8_lossy(alloc, bytes)
+}
+
+fn printable_words(alloc: Global, words: &[u8]) -> Result<Vec<u8>, AllocError>
+    ensures { IfOk result (λ v. v.items ≡ map spec.printable (take most_words words.now)) }
+{
+    words
+        .iter()
+        .take(249)
+        .map(|byte| printable(*byte))
+        .collect(alloc)
+}
+
+/// The byte itself from space to tilde, a space for white space, and a question mark for any other.
+#[tactic(auto, unfolding(crate::specs::Hint::printable))]
+fn printable(byte: u8) -> u8
+    ensures { result ≡ spec.printable byte }
+{
+    match byte {
+        b' '..=b'~' => byte,
+        b'\t' | b'\n' | b'\r' => b' ',
+        _ => b'?',
+    }
+}
+
+fn push_place(alloc: Global, bytes: &mut Vec<u8>, place: Where) -> Result<(), NoMemory> {
+    match place {
+        Where::Input => Ok(()),
+        Where::Line(number) => push_numbered(alloc, bytes, "line ", number, ": "),
+        Where::Word(number) => push_numbered(alloc, bytes, "word ", number, ": "),
+        Where::LineBehind(number) => push_numbered(alloc, bytes, "line ", number, " after ====: "),
+    }
+}
+
+fn push_numbered(
+    alloc: Global,
+    bytes: &mut Vec<u8>,
+    before: &str,
+    number: usize,
+    after: &str,
+) -> Result<(), NoMemory> {
+    bytes.extend_from_slice(before.as_bytes())?;
+    push_number(alloc, bytes, number)?;
+    bytes.extend_from_slice(after.as_bytes())?;
+    Ok(())
+}
+
+fn push_piece(alloc: Global, bytes: &mut Vec<u8>, piece: Piece<'_>) -> Result<(), NoMemory> {
+    match piece {
+        Piece::Text(text) => Ok(bytes.extend_from_slice(text.as_bytes())?),
+        Piece::Named(name) => push_named(bytes, name),
+        Piece::Shown(shown) => push_shown(bytes, shown),
+        Piece::Number(number) => push_number(alloc, bytes, number),
+    }
+}
+
+fn push_number(alloc: Global, bytes: &mut Vec<u8>, number: usize) -> Result<(), NoMemory> {
+    let digits = format!(in alloc; "{number}")?;
+    bytes.extend_from_slice(digits.as_bytes())?;
+    Ok(())
+}
+
+/// A name or a number bare, everything else in quotation marks.
+fn push_named(bytes: &mut Vec<u8>, name: &[u8]) -> Result<(), NoMemory> {
+    if is_bare(name) {
+        return push_shown(bytes, name);
+    }
+    bytes.push(b'\'')?;
+    push_shown(bytes, name)?;
+    bytes.push(b'\'')?;
+    Ok(())
+}
+
+/// The bytes; of too many the first, and two points.
+fn push_shown(bytes: &mut Vec<u8>, shown: &[u8]) -> Result<(), NoMemory> {
+    if shown.len() <= MAX_SHOWN {
+        return Ok(bytes.extend_from_slice(shown)?);
+    }
+    bytes.extend_from_slice(first_bytes(shown, MAX_SHOWN - 2))?;
+    bytes.extend_from_slice(b"..")?;
+    Ok(())
+}

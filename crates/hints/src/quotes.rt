@@ -1,0 +1,113 @@
+//! What stands at a place of a text: the bytes that a hint names.
+
+use tso_model::names::continues_name;
+
+/// Whether a byte is white space.
+pub fn is_space(byte: u8) -> bool {
+    matches!(byte, b' ' | b'\t' | b'\r' | b'\n')
+}
+
+/// The first so many bytes, or all where there are fewer.
+pub fn first_bytes(bytes: &[u8], count: usize) -> &[u8] {
+    let (first, _) = bytes.split_at(count.min(bytes.len()));
+    first
+}
+
+/// The last so many bytes, or all where there are fewer.
+fn last_bytes(bytes: &[u8], count: usize) -> &[u8] {
+    let (_, last) = bytes.split_at(bytes.len().saturating_sub(count));
+    last
+}
+
+/// Whether these are digits, one or more.
+pub fn is_all_digits(bytes: &[u8]) -> bool {
+    !bytes.is_empty() && bytes.iter().all(|byte| byte.is_ascii_digit())
+}
+
+/// Whether these are letters, digits and underscores, one or more.
+pub fn is_bare(bytes: &[u8]) -> bool {
+    !bytes.is_empty() && bytes.iter().all(|byte| continues_name(*byte))
+}
+
+/// The name or the digits at the front, as long as they go; or `/\` or `\/`; or else one byte.
+pub fn token(text: &[u8]) -> &[u8] {
+    first_bytes(text, token_len(text))
+}
+
+fn token_len(text: &[u8]) -> usize {
+    let Some(first) = text.first() else {
+        return 0;
+    };
+    if first.is_ascii_digit() {
+        text.iter().take_while(|byte| byte.is_ascii_digit()).count()
+    } else if continues_name(*first) {
+        digits_and_letters(text).len()
+    } else if text.starts_with(b"/\\") || text.starts_with(b"\\/") {
+        2
+    } else {
+        1
+    }
+}
+
+/// The letters, digits and underscores at the front.
+pub fn digits_and_letters(text: &[u8]) -> &[u8] {
+    first_bytes(
+        text,
+        text.iter()
+            .take_while(|byte| continues_name(**byte))
+            .count(),
+    )
+}
+
+/// What stands before the next white space.
+pub fn word(text: &[u8]) -> &[u8] {
+    first_bytes(
+        text,
+        text.iter().take_while(|byte| !is_space(**byte)).count(),
+    )
+}
+
+/// What stands before the first such byte, or all where there is none.
+pub fn up_to(text: &[u8], stop: u8) -> &[u8] {
+    first_bytes(text, text.iter().take_while(|byte| **byte != stop).count())
+}
+
+/// The bytes without white space at their end.
+pub fn without_end(bytes: &[u8]) -> &[u8] {
+    let spaces = bytes
+        .iter()
+        .rev()
+        .take_while(|byte| is_space(**byte))
+        .count();
+    first_bytes(bytes, bytes.len().saturating_sub(spaces))
+}
+
+/// The letters, digits and underscores that a text ends with, white space aside; or else its last byte.
+pub fn last_word(text: &[u8]) -> &[u8] {
+    let text = without_end(text);
+    let count = text
+        .iter()
+        .rev()
+        .take_while(|byte| continues_name(**byte))
+        .count();
+    last_bytes(text, count.max(1))
+}
+
+/// Whether a text begins with a letter.
+pub fn begins_with_letter(text: &[u8]) -> bool {
+    match text.first() {
+        Some(first) => first.is_ascii_alphabetic(),
+        None => false,
+    }
+}
+
+/// Whether a word is a choice of one core, or begins those of a seed.
+pub fn is_choice(word: &[u8]) -> bool {
+    if word == b"seed".as_slice() {
+        return true;
+    }
+    match word.split_last() {
+        Some((last, digits)) => matches!(last, b's' | b'd') && is_all_digits(digits),
+        None => false,
+    }
+}

@@ -1,0 +1,84 @@
+//! What is said of a run that didn't end.
+
+use crate::orders::first_word;
+use crate::words::{Piece, Words, around, plain};
+use tso_model::{Core, Instr, Test};
+
+/// Of a sweep whose seeds make so many choices.
+pub fn sweep_ends<'a>(length: u32) -> Words<'a> {
+    around(
+        "some runs didn't end: raise --length, which is ",
+        Piece::Number(length as usize),
+        "",
+    )
+}
+
+/// Of a run under choices that are too few.
+pub fn choices_end<'a>(test: &Test, buffered: bool, choices: &[u8]) -> Words<'a> {
+    if first_word(choices).is_empty() {
+        return plain("no choices: give some after a line ====, or use --help");
+    }
+    let steps = count(test, false);
+    let drains = if buffered { count(test, true) } else { 0 };
+    taking_at_least(steps, drains)
+}
+
+fn taking_at_least<'a>(steps: usize, drains: usize) -> Words<'a> {
+    let opening = Piece::Text("the choices end before the test, which takes at least ");
+    let number = Piece::Number(steps);
+    let unit = unit_of_steps(steps);
+    let joint = joint(drains);
+    let second = number_of_drains(drains);
+    let closing = closing(drains);
+    let pieces = [opening, number, unit, joint, second, closing];
+    Words { pieces }
+}
+
+fn unit_of_steps<'a>(steps: usize) -> Piece<'a> {
+    match steps {
+        1 => Piece::Text(" step"),
+        _ => Piece::Text(" steps"),
+    }
+}
+
+fn joint<'a>(drains: usize) -> Piece<'a> {
+    match drains {
+        0 => Piece::Text(""),
+        _ => Piece::Text(" and "),
+    }
+}
+
+fn number_of_drains<'a>(drains: usize) -> Piece<'a> {
+    match drains {
+        0 => Piece::Text(""),
+        _ => Piece::Number(drains),
+    }
+}
+
+fn closing<'a>(drains: usize) -> Piece<'a> {
+    match drains {
+        0 => Piece::Text(": give more, or seed 1 1000 after them"),
+        1 => Piece::Text(" drain: give more, or seed 1 1000 after them"),
+        _ => Piece::Text(" drains: give more, or seed 1 1000 after them"),
+    }
+}
+
+/// How many instructions the cores have; or how many plain stores.
+fn count(test: &Test, only_stores: bool) -> usize {
+    let mut all = 0usize;
+    for core in 0..test.cores() {
+        all = all.saturating_add(count_in(test.program(Core(core)), only_stores));
+    }
+    all
+}
+
+fn count_in(program: &[Instr], only_stores: bool) -> usize {
+    program
+        .iter()
+        .filter(|instr| !only_stores || is_plain_store(**instr))
+        .count()
+}
+
+fn is_plain_store(instr: Instr) -> bool {
+    matches!(instr, Instr::StoreImm(..) | Instr::StoreReg(..))
+}

@@ -1,0 +1,54 @@
+//! The words of a hint, before they are printed.
+
+/// A piece of a hint's words.
+#[derive(Clone, Copy)]
+pub enum Piece<'a> {
+    /// These words.
+    Text(&'a str),
+    /// Bytes of the input: bare where they are a name or a number, and else in quotation marks.
+    Named(&'a [u8]),
+    /// Bytes of the input as they stand.
+    Shown(&'a [u8]),
+    /// A number.
+    Number(usize),
+}
+
+/// The words of a hint.
+#[derive(Clone, Copy)]
+pub struct Words<'a> {
+    pub pieces: [Piece<'a>; 6],
+}
+
+const NOTHING: &str = "";
+
+/// These words alone.
+pub fn plain<'a>(text: &'a str) -> Words<'a> {
+    around(text, Piece::Text(NOTHING), NOTHING)
+}
+
+/// What is named, and then these words.
+pub fn naming<'a>(bytes: &'a [u8], text: &'a str) -> Words<'a> {
+    around(NOTHING, Piece::Named(bytes), text)
+}
+
+/// Words with a piece between them.
+pub fn around<'a>(before: &'a str, piece: Piece<'a>, after: &'a str) -> Words<'a> {
+    listed(
+        Piece::Text(before),
+        piece,
+        Piece::Text(after),
+        Piece::Text(NOTHING),
+    )
+}
+
+/// Four pieces.
+pub fn listed<'a>(
+    first: Piece<'a>,
+    second: Piece<'a>,
+    third: Piece<'a>,
+    fourth: Piece<'a>,
+) -> Words<'a> {
+    let nothing = Piece::Text(NOTHING);
+    let pieces = [first, second, third, fourth, nothing, nothing];
+    Words { pieces }
+}

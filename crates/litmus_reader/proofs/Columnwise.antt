@@ -1,0 +1,189 @@
+-- Rows by their columns, and as one list of instructions with their cores.
+use Rattle.std.proofs.Common.{◌≡◌, ℕ, zero, suc, ◌+◌, ◌<◌, ◌≤◌, Bool, true, false, cond, eqb, eqb-true, eq-eqb, List, [], ◌∷◌, ◌++◌, length, map, filter, All, Option, Some, None, refl, sym, ap, subst, ◌∙◌, append_assoc, append-nil, arith}
+use Rattle.std.specs.Prelude.{count_by}
+use Rattle.std.specs.List.{range_with_len}
+use Rattle.std.proofs.lemmas.List.{map-append}
+use Rattle.std.proofs.lemmas.List.Sums.{sum_by-append}
+use Rattle.std.proofs.lemmas.List.Elements.{All-nil, All-cons, All-head, All-tail}
+use Rattle.tso_model.specs.declared.instruction.Instr.{Instr}
+use Rattle.litmus_tokens.specs.declared.token.Stop.{Stop}
+use Rattle.litmus_tokens.specs.Pieces.{Piece}
+use Rattle.litmus_reader.specs.declared.cell.CoreInstr.{CoreInstr}
+use Rattle.litmus_reader.specs.declared.fault.Why.{Why}
+use Rattle.litmus_reader.specs.declared.fault.Fault.{Fault}
+use Rattle.litmus_reader.specs.Cells.{of_core}
+use Rattle.litmus_reader.specs.Reading.{program_of, programs_from}
+use Rattle.litmus_reader.specs.GrammarNames.{numbered}
+use Rattle.litmus_reader.specs.GrammarTable.{in_row, in_rows, field_of, column, location_in, named_by_all, instr_with, ValueFits, AreWithin}
+use Rattle.litmus_reader.specs.GrammarTest.{program}
+use Rattle.litmus_reader.specs.RefusedTable.{AreSpelled, none, more, with_cells, IsCellFault, IsRowFault}
+use Rattle.litmus_reader.specs.RefusedTable as refused
+use Rattle.litmus_reader.specs.Written.{Shape}
+use Rattle.litmus_reader.proofs.Placed.{Placed, placed, placed_from, placed_in, locations_of, instrs_with, ValuesFit, EntriesWithin}
+use Rattle.litmus_reader.proofs.PlacedFaults.{IsEntryFault, IsEntriesFault}
+use Rattle.litmus_reader.proofs.PlacedFaults as read
+
+-- ---- all instructions
+
+abbrev shape_of : Placed → Shape
+shape_of e = e.shape
+
+shapes-from : (core : ℕ) (cells : List (Option Shape)) → map shape_of (placed_from core cells) ≡ in_row cells
+shapes-from core [] = refl
+shapes-from core (None ∷ cells) = shapes-from (core + 1) cells
+shapes-from core (Some shape ∷ cells) = ap (λ (l : List Shape). shape ∷ l) (shapes-from (core + 1) cells)
+
+shapes-in : (table : List (List (Option Shape))) → map shape_of (placed_in table) ≡ in_rows table
+shapes-in [] = refl
+shapes-in (row ∷ others) =
+    map-append shape_of (placed_from 0 row) (placed_in others) ∙ ap (λ (l : List Shape). l ++ map shape_of (placed_in others)) (shapes-from 0 row)
+    ∙ ap (λ (l : List Shape). in_row row ++ l) (shapes-in others)
+
+locations-named : (es : List Placed) → locations_of es ≡ named_by_all (map shape_of es)
+locations-named [] = refl
+locations-named (e ∷ es) = ap (λ (l : List (List ℕ)). location_in e.shape ++ l) (locations-named es)
+
+pub named-same : (table : List (List (Option Shape))) → locations_of (placed_in table) ≡ named_by_all (in_rows table)
+named-same table = locations-named (placed_in table) ∙ ap named_by_all (shapes-in table)
+
+values-each : (es : List Placed) → ValuesFit es → All ValueFits (map shape_of es)
+values-each [] h = All-nil _
+values-each (e ∷ es) h = All-cons ValueFits e.shape (map shape_of es) h.0 (values-each es h.1)
+
+values-all : (es : List Placed) → All ValueFits (map shape_of es) → ValuesFit es
+values-all [] h = tt
+values-all (e ∷ es) h = (All-head ValueFits e.shape (map shape_of es) h, values-all es (All-tail ValueFits e.shape (map shape_of es) h))
+
+-- ---- those of a core
+
+abbrev picked : ℕ → List Placed → List Shape
+picked core [] = []
+picked core (e ∷ es) = cond (eqb e.core core) (e.shape ∷ picked core es) (picked core es)
+
+picked-append : (core : ℕ) (xs ys : List Placed) → picked core (xs ++ ys) ≡ picked core xs ++ picked core ys
+picked-append core [] ys = refl
+picked-append core (x ∷ xs) ys = by_test (eqb x.core core) (picked-append core xs ys)
+  where
+    by_test : (b : Bool) → picked core (xs ++ ys) ≡ picked core xs ++ picked core ys
+        → cond b (x.shape ∷ picked core (xs ++ ys)) (picked core (xs ++ ys)) ≡ cond b (x.shape ∷ picked core xs) (picked core xs) ++ picked core ys
+    by_test true others = ap (λ (l : List Shape). x.shape ∷ l) others
+    by_test false others = others
+
+apart : (m n : ℕ) → (m ≡ n → ⊥) → eqb m n ≡ false
+apart m n differ = by_test (eqb m n) refl
+  where
+    by_test : (b : Bool) → eqb m n ≡ b → eqb m n ≡ false
+    by_test true e = absurd (differ (eqb-true _ _ e))
+    by_test false e = e
+
+none-before : (cells : List (Option Shape)) (core other : ℕ) → other < core → picked other (placed_from core cells) ≡ []
+none-before [] core other lt = refl
+none-before (None ∷ cells) core other lt = none-before cells (core + 1) other (omega arith)
+none-before (Some shape ∷ cells) core other lt = rw (apart core other (λ same. omega (arith, same, lt))) (none-before cells (core + 1) other (omega arith))
+
+picked-from : (cells : List (Option Shape)) (place core other : ℕ) → other ≡ core + place → picked other (placed_from core cells) ≡ field_of place cells
+picked-from [] place core other e = refl
+picked-from (None ∷ cells) zero core other e = none-before cells (core + 1) other (omega arith)
+picked-from (Some shape ∷ cells) zero core other e =
+    rw (eq-eqb core other (omega arith)) (ap (λ (l : List Shape). shape ∷ l) (none-before cells (core + 1) other (omega arith)))
+picked-from (None ∷ cells) (suc place) core other e = picked-from cells place (core + 1) other (omega arith)
+picked-from (Some shape ∷ cells) (suc place) core other e =
+    rw (apart core other (λ same. omega (arith, same, e))) (picked-from cells place (core + 1) other (omega arith))
+
+picked-column : (core : ℕ) (table : List (List (Option Shape))) → picked core (placed_in table) ≡ column core table
+picked-column core [] = refl
+picked-column core (row ∷ others) =
+    picked-append core (placed_from 0 row) (placed_in others) ∙ ap (λ (l : List Shape). l ++ picked core (placed_in others)) (picked-from row core 0 core (omega arith))
+    ∙ ap (λ (l : List Shape). field_of core row ++ l) (picked-column core others)
+
+picked-count : (core : ℕ) (es : List Placed) → count_by (λ e. eqb e.core core) es ≡ length (picked core es)
+picked-count core [] = refl
+picked-count core (e ∷ es) = sum_by-append (λ (x : Placed). cond (eqb x.core core) 1 0) (e ∷ []) es ∙ by_test (eqb e.core core) (picked-count core es)
+  where
+    by_test : (b : Bool) → count_by (λ e. eqb e.core core) es ≡ length (picked core es) → 0 + cond b 1 0 + count_by (λ e. eqb e.core core) es ≡ length (cond b (e.shape ∷ picked core es) (picked core es))
+    by_test true others = omega (arith, others)
+    by_test false others = omega (arith, others)
+
+picked-program : (core : ℕ) (names : List (List ℕ)) (es : List Placed) → program_of (instrs_with names es) core ≡ map (instr_with names) (picked core es)
+picked-program core names [] = refl
+picked-program core names (e ∷ es) = by_test (eqb e.core core) (picked-program core names es)
+  where
+    by_test : (b : Bool) → program_of (instrs_with names es) core ≡ map (instr_with names) (picked core es) → map (λ (i : CoreInstr). i.instr) (cond b (of_core e.core (instr_with names e.shape) ∷ filter (λ (i : CoreInstr). eqb i.core core) (instrs_with names es)) (filter (λ (i : CoreInstr). eqb i.core core) (instrs_with names es)))
+        ≡ map (instr_with names) (cond b (e.shape ∷ picked core es) (picked core es))
+    by_test true others = ap (λ (l : List Instr). instr_with names e.shape ∷ l) others
+    by_test false others = others
+
+pub programs-columns : (names : List (List ℕ)) (table : List (List (Option Shape))) (cores core : ℕ) → programs_from core cores (instrs_with names (placed_in table)) ≡ map (program names table) (range_with_len core cores)
+programs-columns names table zero core = refl
+programs-columns names table (suc cores) core =
+    ap (λ (l : List Instr). l ∷ programs_from (core + 1) cores (instrs_with names (placed_in table))) (picked-program core names (placed_in table) ∙ ap (map (instr_with names)) (picked-column core table))
+    ∙ ap (λ (l : List (List Instr)). program names table core ∷ l) (programs-columns names table cores (core + 1))
+
+-- ---- what fits
+
+pub entries_within : (names : List (List ℕ)) (table : List (List (Option Shape))) → AreWithin names table → EntriesWithin names (placed_in table)
+entries_within names table h = record {
+  values = values-all (placed_in table) (subst (All ValueFits) (sym (shapes-in table)) h.values);
+  few = λ core. omega (arith, h.few core, picked-count core (placed_in table), ap (λ (l : List Shape). length l) (picked-column core table));
+  room = subst (λ (l : List (List ℕ)). length (numbered names l) ≤ 16) (sym (named-same table)) h.room;
+}
+
+pub columns_within : (names : List (List ℕ)) (table : List (List (Option Shape))) → EntriesWithin names (placed_in table) → AreWithin names table
+columns_within names table h = record {
+  values = subst (All ValueFits) (shapes-in table) (values-each (placed_in table) h.values);
+  few = λ core. omega (arith, h.few core, picked-count core (placed_in table), ap (λ (l : List Shape). length l) (picked-column core table));
+  room = subst (λ (l : List (List ℕ)). length (numbered names l) ≤ 16) (named-same table) h.room;
+}
+
+-- ---- one row more, and one cell more
+
+placed-more : (table : List (List (Option Shape))) (cells : List (Option Shape)) → placed_in (with_cells table cells) ≡ placed_in table ++ placed_from 0 cells
+placed-more [] cells = append-nil (placed_from 0 cells)
+placed-more (row ∷ others) cells = ap (λ (l : List Placed). placed_from 0 row ++ l) (placed-more others cells) ∙ sym (append_assoc (placed_from 0 row) (placed_in others) (placed_from 0 cells))
+
+placed-further : (core other : ℕ) (cells : List (Option Shape)) (shape : Shape) → other ≡ core + length cells → placed_from core (cells ++ Some shape ∷ []) ≡ placed_from core cells ++ placed other shape ∷ []
+placed-further core other [] shape e = let same : core ≡ other = omega arith in ap (λ (k : ℕ). (let l : List Placed = placed k shape ∷ [] in l)) same
+placed-further core other (None ∷ cells) shape e = placed-further (core + 1) other cells shape (omega arith)
+placed-further core other (Some s ∷ cells) shape e = ap (λ (l : List Placed). placed core s ∷ l) (placed-further (core + 1) other cells shape (omega arith))
+
+with-cell : (table : List (List (Option Shape))) (cells : List (Option Shape)) (shape : Shape) (core : ℕ) → core ≡ length cells
+    → (placed_in table ++ placed_from 0 cells) ++ placed core shape ∷ [] ≡ placed_in (with_cells table (cells ++ Some shape ∷ []))
+with-cell table cells shape core e =
+    append_assoc (placed_in table) (placed_from 0 cells) (placed core shape ∷ [])
+    ∙ ap (λ (l : List Placed). placed_in table ++ l) (sym (placed-further 0 core cells shape (omega arith))) ∙ sym (placed-more table (cells ++ Some shape ∷ []))
+
+spelled_count : (parts : List (List Piece)) (cells : List (Option Shape)) → AreSpelled parts cells → length parts ≡ length cells
+spelled_count _ _ none = refl
+spelled_count _ _ (more cell rest c cs is are) = ap (λ (n : ℕ). suc n) (spelled_count rest cs are)
+
+-- ---- faults
+
+entry_fault : (names : List (List ℕ)) (table : List (List (Option Shape))) (before : List (Option Shape)) (core : ℕ) (cell : List Piece) (why : Why) → core ≡ length before
+    → IsCellFault names table before cell why → IsEntryFault names (placed_in table ++ placed_from 0 before) core cell why
+entry_fault names table before core cell _ e (refused.bad_instruction never) = read.bad_instruction never
+entry_fault names table before core cell _ e (refused.bad_number shape is big) = read.bad_number shape is big
+entry_fault names table before core cell _ e (refused.one_too_many shape is fits past) =
+    read.one_too_many shape is fits (λ within. past (columns_within names (with_cells table (before ++ Some shape ∷ [])) (subst (EntriesWithin names) (with-cell table before shape core e) within)))
+
+cell_fault : (names : List (List ℕ)) (table : List (List (Option Shape))) (before : List (Option Shape)) (core : ℕ) (cell : List Piece) (why : Why) → core ≡ length before
+    → IsEntryFault names (placed_in table ++ placed_from 0 before) core cell why → IsCellFault names table before cell why
+cell_fault names table before core cell _ e (read.bad_instruction never) = refused.bad_instruction never
+cell_fault names table before core cell _ e (read.bad_number shape is big) = refused.bad_number shape is big
+cell_fault names table before core cell _ e (read.one_too_many shape is fits past) =
+    refused.one_too_many shape is fits (λ within. past (subst (EntriesWithin names) (sym (with-cell table before shape core e)) (entries_within names (with_cells table (before ++ Some shape ∷ [])) within)))
+
+pub entries_fault : (stop : Stop) (cores : ℕ) (names : List (List ℕ)) (table : List (List (Option Shape))) (ps : List Piece) (f : Fault) → IsRowFault stop cores names table ps f
+    → IsEntriesFault stop cores names (placed_in table) ps f
+entries_fault stop cores names table ps _ (refused.unclosed lacks) = read.unclosed lacks
+entries_fault stop cores names table ps _ (refused.wrong_cells some differs) = read.wrong_cells some differs
+entries_fault stop cores names table ps _ (refused.in_cell done after first cell spelled why some count cells are within bad) =
+    read.in_cell done after first cell spelled why some count cells are (subst (EntriesWithin names) (placed-more table spelled) (entries_within names (with_cells table spelled) within))
+    (entry_fault names table spelled (length done) (first ∷ cell) why (spelled_count done spelled are) bad)
+
+pub row_fault : (stop : Stop) (cores : ℕ) (names : List (List ℕ)) (table : List (List (Option Shape))) (ps : List Piece) (f : Fault) → IsEntriesFault stop cores names (placed_in table) ps f
+    → IsRowFault stop cores names table ps f
+row_fault stop cores names table ps _ (read.unclosed lacks) = refused.unclosed lacks
+row_fault stop cores names table ps _ (read.wrong_cells some differs) = refused.wrong_cells some differs
+row_fault stop cores names table ps _ (read.in_cell done after first cell spelled why some count cells are within bad) =
+    refused.in_cell done after first cell spelled why some count cells are (columns_within names (with_cells table spelled) (subst (EntriesWithin names) (sym (placed-more table spelled)) within))
+    (cell_fault names table spelled (length done) (first ∷ cell) why (spelled_count done spelled are) bad)

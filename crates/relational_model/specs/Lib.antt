@@ -1,0 +1,10 @@
+pub mod Events
+pub mod Candidates
+pub mod Relations
+pub mod Model
+pub mod CandidatesOfOrders
+pub mod WorkedCandidates
+pub use Rattle.tso_model.specs.Litmus
+pub use Rattle.tso_model.specs.Execution
+pub use Rattle.tso_model.specs.FinalState
+pub use Rattle.tso_model.specs.Examples

@@ -1,0 +1,115 @@
+-- Worked candidates.
+use Rattle.std.specs.Prelude.{ℕ, ◌==◌, ◌&&◌, if◌then◌else◌, List, [], ◌∷◌, Option, Some, None, zero, suc, codes}
+use Rattle.tso_model.specs.Litmus.{Litmus}
+use Rattle.tso_model.specs.Thread.{entry}
+use Rattle.tso_model.specs.Examples.{loc_x, loc_y, zeros}
+use Rattle.tso_model.specs.declared.register.Reg.TheVariants.{Eax, Ebx}
+use Rattle.tso_model.specs.declared.instruction.Instr.{Instr}
+use Rattle.tso_model.specs.declared.instruction.Instr.TheVariants.{StoreImm, Load, Fence, Xadd}
+use Rattle.tso_model.specs.declared.execution.Entry.{Entry}
+use Rattle.tso_model.specs.declared.execution.Kind.TheVariants.{W, LW}
+use Rattle.relational_model.specs.Candidates.{Candidate}
+
+-- the coherence orders of x and y
+abbrev pub of_x_and_y : List Entry → List Entry → ℕ → List Entry
+of_x_and_y xs ys zero = xs
+of_x_and_y xs ys (suc zero) = ys
+of_x_and_y xs ys (suc (suc n)) = []
+
+-- each read reads the initial word
+abbrev pub initial : Entry → Option Entry
+initial r = None
+
+-- the read of this core and place reads from w, the others as they are told
+abbrev pub reading : ℕ → ℕ → Entry → (Entry → Option Entry) → Entry → Option Entry
+reading core place w others r = if (r.core.0 == core) && (r.place == place) then Some w else others r
+
+-- a test on x and y, which begin as 0
+abbrev pub on_x_and_y : List ℕ → List (List Instr) → List (List ℕ) → Litmus
+on_x_and_y name programs registers = record {
+  name = name;
+  locations = codes "x" ∷ (codes "y" ∷ []);
+  words = 0 ∷ (0 ∷ []);
+  registers = registers;
+  programs = programs;
+  condition = None;
+}
+
+abbrev pub two_cores : List (List ℕ)
+two_cores = zeros ∷ (zeros ∷ [])
+
+-- store buffering: both loads read 0
+abbrev pub sb_candidate : Candidate
+sb_candidate = record {
+  reads = (0 ∷ []) ∷ ((0 ∷ []) ∷ []);
+  source = initial;
+  coherence = of_x_and_y (entry 0 0 W loc_x 1 ∷ []) (entry 1 0 W loc_y 1 ∷ []);
+}
+
+-- n6: the first core reads x from its own store, which reaches memory last
+abbrev pub n6_candidate : Candidate
+n6_candidate = record {
+  reads = (1 ∷ (0 ∷ [])) ∷ ([] ∷ []);
+  source = reading 0 1 (entry 0 0 W loc_x 1) initial;
+  coherence = of_x_and_y (entry 1 1 W loc_x 2 ∷ (entry 0 0 W loc_x 1 ∷ [])) (entry 1 0 W loc_y 2 ∷ []);
+}
+
+-- store buffering with a fence behind each store: both loads read 0
+abbrev pub fenced : Litmus
+fenced = on_x_and_y (codes "SB+mfences")
+    ((StoreImm loc_x 1 ∷ (Fence ∷ (Load Eax loc_y ∷ []))) ∷ ((StoreImm loc_y 1 ∷ (Fence ∷ (Load Eax loc_x ∷ []))) ∷ []))
+    two_cores
+
+abbrev pub fenced_candidate : Candidate
+fenced_candidate = sb_candidate
+
+-- message passing: the flag y is read as set, and x as not yet stored
+abbrev pub passing : Litmus
+passing = on_x_and_y (codes "MP")
+    ((StoreImm loc_x 1 ∷ (StoreImm loc_y 1 ∷ [])) ∷ ((Load Eax loc_y ∷ (Load Ebx loc_x ∷ [])) ∷ []))
+    two_cores
+
+abbrev pub passing_candidate : Candidate
+passing_candidate = record {
+  reads = [] ∷ ((1 ∷ (0 ∷ [])) ∷ []);
+  source = reading 1 0 (entry 0 1 W loc_y 1) initial;
+  coherence = of_x_and_y (entry 0 0 W loc_x 1 ∷ []) (entry 0 1 W loc_y 1 ∷ []);
+}
+
+-- load buffering: each core reads what the other one stores afterwards
+abbrev pub buffering : Litmus
+buffering = on_x_and_y (codes "LB")
+    ((Load Eax loc_x ∷ (StoreImm loc_y 1 ∷ [])) ∷ ((Load Eax loc_y ∷ (StoreImm loc_x 1 ∷ [])) ∷ []))
+    two_cores
+
+abbrev pub buffering_candidate : Candidate
+buffering_candidate = record {
+  reads = (1 ∷ []) ∷ ((1 ∷ []) ∷ []);
+  source = reading 0 0 (entry 1 1 W loc_x 1) (reading 1 0 (entry 0 1 W loc_y 1) initial);
+  coherence = of_x_and_y (entry 1 1 W loc_x 1 ∷ []) (entry 0 1 W loc_y 1 ∷ []);
+}
+
+-- independent reads of independent writes: two cores see the two stores in opposite orders
+abbrev pub independent : Litmus
+independent = on_x_and_y (codes "IRIW")
+    ((StoreImm loc_x 1 ∷ []) ∷ ((StoreImm loc_y 1 ∷ [])
+    ∷ ((Load Eax loc_x ∷ (Load Ebx loc_y ∷ [])) ∷ ((Load Eax loc_y ∷ (Load Ebx loc_x ∷ [])) ∷ []))))
+    (zeros ∷ (zeros ∷ two_cores))
+
+abbrev pub independent_candidate : Candidate
+independent_candidate = record {
+  reads = [] ∷ ([] ∷ ((1 ∷ (0 ∷ [])) ∷ ((1 ∷ (0 ∷ [])) ∷ [])));
+  source = reading 2 0 (entry 0 0 W loc_x 1) (reading 3 0 (entry 1 0 W loc_y 1) initial);
+  coherence = of_x_and_y (entry 0 0 W loc_x 1 ∷ []) (entry 1 0 W loc_y 1 ∷ []);
+}
+
+-- a locked addition of 0, and a store of another core that comes between its two parts
+abbrev pub between : Litmus
+between = on_x_and_y (codes "between") ((Xadd loc_x Eax ∷ []) ∷ ((StoreImm loc_x 1 ∷ []) ∷ [])) two_cores
+
+abbrev pub between_candidate : Candidate
+between_candidate = record {
+  reads = (0 ∷ []) ∷ ([] ∷ []);
+  source = initial;
+  coherence = of_x_and_y (entry 1 0 W loc_x 1 ∷ (entry 0 0 LW loc_x 0 ∷ [])) [];
+}

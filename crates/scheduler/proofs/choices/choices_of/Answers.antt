@@ -1,0 +1,35 @@
+use Rattle.std.proofs.Common.{length, arith, sym, ap, subst, refl, ◌∙◌}
+use Rattle.std.proofs.lemmas.Result.{err_from_is_err_and}
+use Rattle.scheduler.specs.Words.{words_of}
+use Rattle.scheduler.specs.Grammar.{AreItems, none}
+use Rattle.scheduler.proofs.Loop.{went_on, refused_at, all_read}
+use Rattle.scheduler.proofs.choices.choices_of.Goals as goal
+
+pub loop-word-init : goal.loop-word-init
+loop-word-init c = record {
+  items = subst (AreItems c.args.cores _) (sym c.new-choices.ensures.items) none;
+  few = omega (arith, ap length c.new-choices.ensures.items);
+  to_come = refl;
+  within = omega arith;
+}
+
+pub returns-in_err-read-clause-refused : goal.returns-in_err-read-clause-refused
+returns-in_err-read-clause-refused c =
+    let p = err_from_is_err_and c.from_residual.result c.from_residual.ensures.1 in
+    let i = c.loop-word.invariant in
+    rw (p.1, p.2) (λ _. refused_at c.args.cores _ c.loop-word.words (words_of c.args.text.now) (words_of c.in-Some.behind.now) c.in-Some.word.now c.loop-word.choices.items _ c.requires i.few
+    (omega (arith, c.len-room.ensures)) (i.to_come ∙ c.in-Some.ensures.some) c.in_err-read.ensures.item i.items)
+
+pub loop-word-preserved : goal.loop-word-preserved
+loop-word-preserved c =
+    let i = c.loop-word.invariant in
+    let on = went_on c.args.cores _ _ c.loop-word.words (words_of c.args.text.now) (words_of c.in-Some.behind.now) (words_of c.in_ok-read.read.behind.now) c.in-Some.word.now c.loop-word.choices.items
+    c.in_ok-read.read.item c.requires i.few (omega (arith, c.len-room.ensures)) (i.to_come ∙ c.in-Some.ensures.some) c.in_ok-read.ensures.item c.in_ok-read.ensures.behind i.items in
+    let shorter = c.in-Some.ensures.shorter in
+    let used = c.in_ok-read.ensures.shorter in
+    rw (c.words-words.ensures, c.in_ok-push_to.ensures) (record { items = on.items; few = on.few; to_come = on.to_come; within = omega (arith, i.within, shorter, used) })
+
+pub returns-clause-found : goal.returns-clause-found
+returns-clause-found c =
+    let i = c.loop-word.invariant in
+    record { items = all_read c.args.cores c.loop-word.words _ _ _ i.items i.to_come c.in_default.ensures.none; few = i.few }

@@ -1,0 +1,93 @@
+//! What `--help` says of each command, after its options: what it reads and prints, its exit status, an example.
+
+/// Of `tso`.
+pub const TSO: &str = "\
+Standard input is read whole, and the answer is written to standard output. An input is a test. For\n\
+run, choices follow it after a line ====; for check and witness, an order as run prints it follows\n\
+after such a line. sweep reads the test alone, and tables reads nothing.\n\
+\n\
+Exit status:\n\
+\x20 0  the test ended, the order is valid, choices reach it, or the table is printed\n\
+\x20 1  a text was refused: standard output names the line or word, standard error has a hint\n\
+\x20 2  the command line was refused, or help or the version was asked for\n\
+\x20 3  the choices ended before the test did; of a sweep, those of one seed or more\n\
+\x20 4  the order isn't valid, or needs deeper buffers than --depth\n\
+\x20 5  memory was refused, or standard input or output failed\n\
+\n\
+Example:\n\
+\x20 tso run --depth 2 < FILE\n\
+\n\
+tso COMMAND --help tells what a command reads and prints.";
+
+/// Of `tso run`.
+pub const RUN: &str = "\
+Standard input is a test, a line ====, and choices, separated by spaces or line ends:\n\
+\x20 0s        core 0 takes its next step\n\
+\x20 0d        core 0 drains its oldest buffered store to memory\n\
+\x20 seed N M  M choices drawn from the seed N (below 2^64)\n\
+There are at most 100000 choices. They are used until the test ends: each core has taken all its\n\
+steps, and each buffer is empty.\n\
+\n\
+Exit status: 0 the test ended, 1 a text was refused, 2 the command line was, 3 the choices ended\n\
+before the test did, 5 memory, input or output failed.\n\
+\n\
+Example:\n\
+tso run << 'END'\n\
+X86 SB\n\
+{ }\n\
+\x20P0          | P1          ;\n\
+\x20MOV [x],$1  | MOV [y],$1  ;\n\
+\x20MOV EAX,[y] | MOV EAX,[x] ;\n\
+exists (0:EAX=0 /\\ 1:EAX=0)\n\
+====\n\
+0s 1s 0s 1s 0d 1d\n\
+END";
+
+/// Of `tso sweep`.
+pub const SWEEP: &str = "\
+Standard input is a test; what follows a line ==== isn't read. Seed number i of the sweep runs the\n\
+choices seed FROM+i LENGTH. Printed are each final state that was met, how often, and how often the\n\
+condition's proposition was true and false. A state that isn't met may still be possible.\n\
+\n\
+Exit status: 0 all runs ended, 1 the test was refused, 2 the command line was, 3 a run didn't end,\n\
+5 memory, input or output failed.\n\
+\n\
+Example:\n\
+\x20 tso sweep --seeds 100 --depth 1 < FILE";
+
+/// Of `tso check`.
+pub const CHECK: &str = "\
+Standard input is a test, a line ====, and an order: the lines from Order to Endorder, as run prints\n\
+them. What stands before and after these lines isn't read. Printed is Check valid, or Check invalid\n\
+and the first breach: C1 an entry is missing, twice or extra, C2 a store of a wrong value, C3 program\n\
+order isn't kept, C4 a locked instruction is in two parts, C5 a load of a wrong value.\n\
+\n\
+Exit status: 0 valid, 1 a text was refused, 2 the command line was, 4 not valid, 5 memory, input or\n\
+output failed.\n\
+\n\
+Example:\n\
+\x20 tso check < FILE";
+
+/// Of `tso witness`.
+pub const WITNESS: &str = "\
+Standard input is a test, a line ====, and an order, as for check. Printed are choices under which run\n\
+at the same depth ends with that very order, on the atomic bus; or the depth that the order needs\n\
+(Depth needed=N); or its first breach, as by check.\n\
+\n\
+Exit status: 0 choices were found, 1 a text was refused, 2 the command line was, 4 the order isn't\n\
+valid or needs deeper buffers, 5 memory, input or output failed.\n\
+\n\
+Example:\n\
+\x20 tso witness --depth 1 < FILE";
+
+/// Of `tso tables`.
+pub const TABLES: &str = "\
+Standard input isn't read. Printed is a row for each state that the protocol reaches: what another\n\
+core's request to read (GetS) and to write (GetM) makes of a copy, whether the copy supplies the\n\
+words, whether it goes to memory, whether it can be written in place, and whether it is dirty when\n\
+it is replaced.\n\
+\n\
+Exit status: 0 the table is printed, 2 the command line was refused, 5 memory or output failed.\n\
+\n\
+Example:\n\
+\x20 tso tables --protocol moesi";
