@@ -1,3 +1,13 @@
 pub mod Lists
 pub mod Together
+pub mod Reading
+pub mod States
 pub mod Following
+pub mod Leading
+pub mod Joining
+pub mod FlatStates
+pub mod Unlocked
+pub mod Tracks
+pub mod Holder
+pub mod Returning
+pub mod Bounded

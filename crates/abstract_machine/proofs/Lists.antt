@@ -1,5 +1,5 @@
 -- Small facts on lists, tests and numbers.
-use Rattle.std.proofs.Common.{◌≡◌, ◌<◌, ℕ, zero, suc, Bool, true, false, List, [], ◌∷◌, ◌++◌, length, map, Some, slice_get, slice_set, arith, ap, sym, refl, ◌==◌, ◌&&◌, subst}
+use Rattle.std.proofs.Common.{◌≡◌, ◌≢◌, ◌<◌, ℕ, zero, suc, Bool, true, false, List, [], ◌∷◌, ◌++◌, length, map, Some, slice_get, slice_set, slice_index_or, arith, ap, sym, refl, ◌⊎◌, inl, inr, ◌==◌, ◌&&◌, subst}
 use Rattle.std.proofs.lemmas.Bool.Decides.{nat_tests}
 
 pub test-true : (a b : ℕ) → a ≡ b → (a == b) ≡ true
@@ -23,7 +23,8 @@ map-get f [] k x e = absurd (let z : ⊥ = cc in z)
 map-get f (y ∷ ys) zero x e = let q : y ≡ x = cc in ap (λ z. Some (f z)) q
 map-get f (y ∷ ys) (suc k) x e = map-get f ys k x e
 
-pub get-map : {A B : Type 0} (f : A → B) (xs : List A) (k : ℕ) (y : B) → slice_get (map f xs) k ≡ Some y → (x : A) × (slice_get xs k ≡ Some x) × (f x ≡ y)
+pub get-map : {A B : Type 0} (f : A → B) (xs : List A) (k : ℕ) (y : B) → slice_get (map f xs) k ≡ Some y
+    → (x : A) × (slice_get xs k ≡ Some x) × (f x ≡ y)
 get-map f [] k y e = absurd (let z : ⊥ = cc in z)
 get-map f (x ∷ xs) zero y e = (x, refl, let q : f x ≡ y = cc in q)
 get-map f (x ∷ xs) (suc k) y e = get-map f xs k y e
@@ -70,3 +71,54 @@ pub each-at : {A : Type 0} (P : A → Type 0) (xs : List A) (k : ℕ) (x : A) �
 each-at P [] k x h e = absurd (let w : ⊥ = cc in w)
 each-at P (y ∷ ys) zero x h e = let q : y ≡ x = cc in subst P q h.0
 each-at P (y ∷ ys) (suc k) x h e = each-at P ys k x h.1 e
+
+pub append-nil : {A : Type 0} (xs : List A) → xs ++ [] ≡ xs
+append-nil [] = refl
+append-nil (x ∷ xs) = ap (λ r. x ∷ r) (append-nil xs)
+
+pub append-one : {A : Type 0} (xs : List A) (x : A) → length (xs ++ (x ∷ [])) ≡ suc (length xs)
+append-one [] x = refl
+append-one (y ∷ xs) x = ap suc (append-one xs x)
+
+pub not-empty : {A : Type 0} (xs : List A) (x : A) → xs ++ (x ∷ []) ≡ [] → ⊥
+not-empty [] x e = let z : ⊥ = cc in z
+not-empty (y ∷ xs) x e = let z : ⊥ = cc in z
+
+pub within : {A : Type 0} (xs : List A) (k : ℕ) (x : A) → slice_get xs k ≡ Some x → k < length xs
+within [] k x e = absurd (let z : ⊥ = cc in z)
+within (y ∷ ys) zero x e = omega arith
+within (y ∷ ys) (suc k) x e = let l = within ys k x e in omega arith
+
+pub get-or : {A : Type 0} (xs : List A) (k : ℕ) (x default : A) → slice_get xs k ≡ Some x → slice_index_or xs k default ≡ x
+get-or [] k x default e = absurd (let z : ⊥ = cc in z)
+get-or (y ∷ ys) zero x default e = let q : y ≡ x = cc in q
+get-or (y ∷ ys) (suc k) x default e = get-or ys k x default e
+
+pub get-other : {A : Type 0} (xs : List A) (k j : ℕ) (v : A) → k ≢ j → slice_get (slice_set xs k v) j ≡ slice_get xs j
+get-other [] k j v n = refl
+get-other (x ∷ xs) zero zero v n = absurd (n refl)
+get-other (x ∷ xs) zero (suc j) v n = refl
+get-other (x ∷ xs) (suc k) zero v n = refl
+get-other (x ∷ xs) (suc k) (suc j) v n = get-other xs k j v (λ q. n (ap suc q))
+
+pub set-apart : {A : Type 0} (xs : List A) (k j : ℕ) (v w : A) → k ≢ j
+    → slice_set (slice_set xs k v) j w ≡ slice_set (slice_set xs j w) k v
+set-apart [] k j v w n = refl
+set-apart (x ∷ xs) zero zero v w n = absurd (n refl)
+set-apart (x ∷ xs) zero (suc j) v w n = refl
+set-apart (x ∷ xs) (suc k) zero v w n = refl
+set-apart (x ∷ xs) (suc k) (suc j) v w n = ap (λ z. x ∷ z) (set-apart xs k j v w (λ q. n (ap suc q)))
+
+pub map-map : {A B C : Type 0} (g : B → C) (f : A → B) (xs : List A) → map g (map f xs) ≡ map (λ x. g (f x)) xs
+map-map g f [] = refl
+map-map g f (x ∷ xs) = ap (λ z. g (f x) ∷ z) (map-map g f xs)
+
+pub decide : (a b : ℕ) → (a ≡ b) ⊎ (a ≢ b)
+decide a b = go (a == b) refl
+  where
+    go : (t : Bool) → (a == b) ≡ t → (a ≡ b) ⊎ (a ≢ b)
+    go true q = inl (let z : a ≡ b = grind (arith, nat_tests) in z)
+    go false q = inr (let z : a ≢ b = grind (arith, nat_tests) in z)
+
+pub test-false : (a b : ℕ) → a ≢ b → (a == b) ≡ false
+test-false a b h = grind (arith, nat_tests)

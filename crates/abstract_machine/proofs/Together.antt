@@ -18,7 +18,7 @@ load-kind LW h = absurd (let z : ⊥ = cc in z)
 store-part-at : (x y : Entry) → IsStorePart x y → is_at x.core.0 x.place LW y ≡ true
 store-part-at x y s = rw (s.core, s.place, s.kind, test-true x.core.0 x.core.0 refl, test-true x.place x.place refl) refl
 
-before-part : (x : Entry) (es : List Entry) → ((y : Entry) × (slice_get es 0 ≡ Some y) × IsStorePart x y) → put_before x es ≡ x ∷ es
+pub before-part : (x : Entry) (es : List Entry) → ((y : Entry) × (slice_get es 0 ≡ Some y) × IsStorePart x y) → put_before x es ≡ x ∷ es
 before-part x [] h = refl
 before-part x (e ∷ es) h =
     let q : e ≡ h.0 = let w = h.1 in cc in
@@ -28,6 +28,7 @@ pub already-together : (order : List Entry) → KeepsPairs order → put_togethe
 already-together [] pairs = refl
 already-together (e ∷ es) pairs = go (same_kind e.kind LR) refl (already-together es (λ i x q k. pairs (suc i) x q k))
   where
-    go : (b : Bool) → same_kind e.kind LR ≡ b → put_together es ≡ es → (if b then put_before e (put_together es) else e ∷ put_together es) ≡ e ∷ es
+    go : (b : Bool) → same_kind e.kind LR ≡ b → put_together es ≡ es
+        → (if b then put_before e (put_together es) else e ∷ put_together es) ≡ e ∷ es
     go true q h = ap (λ z. put_before e z) h ∙ before-part e es (pairs 0 e refl (load-kind e.kind q))
     go false q h = ap (λ z. e ∷ z) h

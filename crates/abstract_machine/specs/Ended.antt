@@ -1,6 +1,6 @@
 -- Runs of the abstract machine that end a test, and their memory orders.
--- (Sewell and others, "x86-TSO", 2010, section 3; the two parts of a locked instruction put side by side is this project's
--- way to say the order.)
+-- (Sewell and others, "x86-TSO", 2010, section 3. The two parts of a locked instruction are put side by side, as this
+-- project's orders have them.)
 use Rattle.std.specs.Prelude.{ℕ, ◌≡◌, List, [], length, map, Some, slice_get, slice_index_or}
 use Rattle.tso_model.specs.Litmus.{Litmus}
 use Rattle.tso_model.specs.Together.{put_together}
@@ -13,10 +13,11 @@ pub record IsFinished (t : Litmus) (p : ℕ) (h : HardwareThread) : Type 0 where
   pub place : h.place ≡ length (slice_index_or t.programs p [])
   pub buffer : h.buffer ≡ []
 
--- the test has ended
+-- the test has ended: every thread is finished
 abbrev pub HasEnded : Litmus → Machine → Type 0
 HasEnded t m = (p : ℕ) (h : HardwareThread) → slice_get m.threads p ≡ Some h → IsFinished t p h
 
+-- the registers of each thread
 abbrev pub registers_of : Machine → List (List ℕ)
 registers_of m = map (λ h. h.registers) m.threads
 

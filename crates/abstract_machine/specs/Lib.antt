@@ -4,8 +4,8 @@ pub mod Ended
 pub use Rattle.tso_model.specs.Litmus
 pub use Rattle.tso_model.specs.Execution
 pub use Rattle.tso_model.specs.FinalState
-pub use Rattle.tso_model.specs.Runs
 pub use Rattle.tso_model.specs.Together
 pub use Rattle.tso_model.specs.Examples
 pub use Rattle.tso_laws.specs.Counting
 pub use Rattle.tso_laws.specs.Reached
+pub use Rattle.tso_laws.specs.WorkedRuns

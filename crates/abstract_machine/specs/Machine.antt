@@ -34,12 +34,14 @@ IsNotBlocked m p = (m.lock ≡ None) ⊎ (m.lock ≡ Some p)
 
 -- ---- what steps change
 
+-- this thread in its place
 abbrev pub with_thread : Machine → ℕ → HardwareThread → Machine
 with_thread m p h = record { memory = m.memory; threads = slice_set m.threads p h; lock = m.lock }
 
 abbrev pub with_lock : Machine → Option ℕ → Machine
 with_lock m lock = record { memory = m.memory; threads = m.threads; lock = lock }
 
+-- the value of this write in memory, at its location
 abbrev pub with_word : Machine → Entry → Machine
 with_word m w = record { memory = slice_set m.memory w.loc.0 w.value; threads = m.threads; lock = m.lock }
 
@@ -47,9 +49,10 @@ with_word m w = record { memory = slice_set m.memory w.loc.0 w.value; threads = 
 abbrev pub passed : HardwareThread → HardwareThread
 passed h = record { place = h.place + 1; registers = h.registers; buffer = h.buffer; progress = NotLocked }
 
--- with this value in the register
-abbrev pub given : HardwareThread → Reg → ℕ → HardwareThread
-given h reg value = record { place = h.place; registers = with_value h.registers reg value; buffer = h.buffer; progress = h.progress }
+-- this value in the register
+abbrev pub with_register : HardwareThread → Reg → ℕ → HardwareThread
+with_register h reg value =
+    record { place = h.place; registers = with_value h.registers reg value; buffer = h.buffer; progress = h.progress }
 
 abbrev pub with_buffer : HardwareThread → List Entry → HardwareThread
 with_buffer h buffer = record { place = h.place; registers = h.registers; buffer = buffer; progress = h.progress }
@@ -59,11 +62,13 @@ with_progress h progress = record { place = h.place; registers = h.registers; bu
 
 -- ---- the first state
 
+-- a thread for each program, from this number on
 abbrev pub first_threads : ℕ → List (List Instr) → List (List ℕ) → List HardwareThread
 first_threads p [] registers = []
 first_threads p (program ∷ programs) registers =
-    record { place = 0; registers = slice_index_or registers p []; buffer = []; progress = NotLocked } ∷ first_threads (p + 1) programs registers
+    record { place = 0; registers = slice_index_or registers p []; buffer = []; progress = NotLocked }
+    ∷ first_threads (p + 1) programs registers
 
--- each thread at the beginning of its program, all buffers empty, the lock free
+-- each thread at the beginning of its program, all buffers empty, nobody holding the lock
 abbrev pub first : Litmus → Machine
 first t = record { memory = t.words; threads = first_threads 0 t.programs t.registers; lock = None }

@@ -1,5 +1,5 @@
-//! The abstract machine of the x86-TSO paper, and that each TSO execution is the memory order of a
-//! run of it. That its runs give no other orders isn't said here.
+//! The abstract machine of the x86-TSO paper, and that the orders of its runs are exactly the TSO
+//! executions.
 //!
 //! Nothing here computes. Each public function has no code of its own, and its contract is a law on
 //! the definitions. The machine stands in `specs/`, rule by rule as the paper has it: write buffers
@@ -11,17 +11,69 @@
 //! Programmer's Model for x86 Multiprocessors", Communications of the ACM, 2010, section 3.
 #![tactic(auto)]
 
-ghost use Rattle.std.specs.Prelude.{List};
+ghost use Rattle.std.specs.Prelude.{ℕ, ◌≡◌, ◌≤◌, ◌↔◌, List};
 ghost use Rattle.tso_model.specs.Litmus.{Litmus, IsTest};
 ghost use Rattle.tso_model.specs.Execution.{IsTsoExecution};
+ghost use Rattle.tso_model.specs.FinalState.{final_words, final_registers};
+ghost use Rattle.tso_model.specs.Examples.{sb, sb_order, n6, n6_order, added, parted_order};
 ghost use Rattle.tso_model.specs.declared.execution.Entry.{Entry};
-ghost use Rattle.abstract_machine.specs.Ended.{IsReachedFreely};
+ghost use Rattle.tso_laws.specs.Counting.{most_stores};
+ghost use Rattle.tso_laws.specs.Reached.{IsReached};
+ghost use Rattle.tso_laws.specs.WorkedRuns.{short_order, turned_order, wrong_order};
+ghost use Rattle.abstract_machine.specs.Machine.{Machine};
+ghost use Rattle.abstract_machine.specs.Ended.{registers_of, EndsWith, IsReachedFreely};
 
-use tso_laws::every_execution_is_reached;
+use tso_laws::{
+    choices_lead_from_state_to_state, ended_runs_are_executions, every_execution_is_reached,
+    most_stores_are_depth_enough, runs_stop_where_they_end, worked_orders,
+};
+
+/// A run of the abstract machine that ends the test has the memory order of a TSO execution, and
+/// leaves the final state of that order.
+pub fn runs_of_the_abstract_machine_are_executions()
+    ensures order { (t : Litmus) (order : List Entry) (m : Machine) → IsTest t → EndsWith t order m → IsTsoExecution t order }
+    ensures memory { (t : Litmus) (order : List Entry) (m : Machine) → IsTest t → EndsWith t order m → m.memory ≡ final_words t order }
+    ensures registers { (t : Litmus) (order : List Entry) (m : Machine) → IsTest t → EndsWith t order m
+        → registers_of m ≡ final_registers t order }
+{
+    choices_lead_from_state_to_state();
+    runs_stop_where_they_end();
+    ended_runs_are_executions();
+}
 
 /// Each TSO execution is the memory order of a run of the abstract machine that ends the test.
 pub fn executions_are_runs_of_the_abstract_machine()
     ensures { (t : Litmus) (order : List Entry) → IsTest t → IsTsoExecution t order → IsReachedFreely t order }
 {
     every_execution_is_reached();
+}
+
+/// Bounded buffers lose nothing: at each depth that is at least the greatest number of plain stores
+/// of a program, the runs of this project's machine end with exactly the orders with which those of
+/// the abstract machine do. By the two laws above these are the TSO executions of the test.
+pub fn bounded_buffers_lose_nothing()
+    ensures { (t : Litmus) (depth : ℕ) (order : List Entry) → IsTest t → most_stores t.programs ≤ depth
+        → IsReached t depth order ↔ IsReachedFreely t order }
+{
+    ended_runs_are_executions();
+    every_execution_is_reached();
+    most_stores_are_depth_enough();
+    executions_are_runs_of_the_abstract_machine();
+    runs_of_the_abstract_machine_are_executions();
+}
+
+/// Worked runs, held against the worked orders: store buffering with both loads reading 0, and a core
+/// that reads its own store before memory has it, are reached; the orders that are each spoiled for
+/// one part of what makes an execution are not.
+pub fn worked_runs_of_the_abstract_machine()
+    ensures sb_is_reached { IsReachedFreely sb sb_order }
+    ensures n6_is_reached { IsReachedFreely n6 n6_order }
+    ensures short_is_not_reached { IsReachedFreely sb short_order → ⊥ }
+    ensures turned_is_not_reached { IsReachedFreely n6 turned_order → ⊥ }
+    ensures parted_is_not_reached { IsReachedFreely added parted_order → ⊥ }
+    ensures wrong_is_not_reached { IsReachedFreely sb wrong_order → ⊥ }
+{
+    worked_orders();
+    executions_are_runs_of_the_abstract_machine();
+    runs_of_the_abstract_machine_are_executions();
 }

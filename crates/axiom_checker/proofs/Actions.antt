@@ -14,30 +14,11 @@ use Rattle.axiom_checker.proofs.Slots.{each-at, AllApart}
 
 same_kind-is : (a b : Kind) → same_kind a b ≡ true → a ≡ b
 same_kind-is R R h = refl
-same_kind-is R W h = absurd (let z : ⊥ = cc in z)
-same_kind-is R F h = absurd (let z : ⊥ = cc in z)
-same_kind-is R LR h = absurd (let z : ⊥ = cc in z)
-same_kind-is R LW h = absurd (let z : ⊥ = cc in z)
-same_kind-is W R h = absurd (let z : ⊥ = cc in z)
 same_kind-is W W h = refl
-same_kind-is W F h = absurd (let z : ⊥ = cc in z)
-same_kind-is W LR h = absurd (let z : ⊥ = cc in z)
-same_kind-is W LW h = absurd (let z : ⊥ = cc in z)
-same_kind-is F R h = absurd (let z : ⊥ = cc in z)
-same_kind-is F W h = absurd (let z : ⊥ = cc in z)
 same_kind-is F F h = refl
-same_kind-is F LR h = absurd (let z : ⊥ = cc in z)
-same_kind-is F LW h = absurd (let z : ⊥ = cc in z)
-same_kind-is LR R h = absurd (let z : ⊥ = cc in z)
-same_kind-is LR W h = absurd (let z : ⊥ = cc in z)
-same_kind-is LR F h = absurd (let z : ⊥ = cc in z)
 same_kind-is LR LR h = refl
-same_kind-is LR LW h = absurd (let z : ⊥ = cc in z)
-same_kind-is LW R h = absurd (let z : ⊥ = cc in z)
-same_kind-is LW W h = absurd (let z : ⊥ = cc in z)
-same_kind-is LW F h = absurd (let z : ⊥ = cc in z)
-same_kind-is LW LR h = absurd (let z : ⊥ = cc in z)
 same_kind-is LW LW h = refl
+same_kind-is _ _ h = absurd (let z : ⊥ = cc in z)
 
 same_kind-itself : (a : Kind) → same_kind a a ≡ true
 same_kind-itself R = refl

@@ -1,4 +1,4 @@
--- The entries that the programs make have slots of their own, one behind the other.
+-- The entries that the programs make have slots of their own, one after the other.
 use Rattle.std.proofs.Common.{◌≡◌, ◌<◌, ◌≤◌, ℕ, ◌+◌, ◌*◌, suc, zero, List, [], ◌∷◌, ◌++◌, length, Some, slice_get, slice_index, slice_index_or, replicate, All, arith, subst, inl, inr}
 use Rattle.tso_model.specs.Limits.{most_instructions}
 use Rattle.tso_model.specs.Actions.{action_of}

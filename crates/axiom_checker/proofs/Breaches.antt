@@ -6,13 +6,13 @@ use Rattle.tso_model.specs.Execution.{made, IsWhole, KeepsProgramOrder, KeepsPai
 use Rattle.tso_model.specs.declared.execution.Entry.{Entry}
 use Rattle.axiom_checker.specs.First.{IsFirst, IsNowhere}
 use Rattle.axiom_checker.specs.Entries.{IsExtra, IsStray, IsMissing, IsWrongWrite, written_value}
-use Rattle.axiom_checker.specs.Axioms.{Overtakes, IsLate, IsParted, IsWrongRead, due_at}
+use Rattle.axiom_checker.specs.Axioms.{Overtakes, IsLate, IsSeparated, IsWrongRead, due_at}
 use Rattle.axiom_checker.specs.FirstBreach.{IsFirstBreach}
 use Rattle.axiom_checker.specs.declared.breach.Breach.{Breach}
 use Rattle.axiom_checker.specs.declared.breach.Breach.TheVariants.{Extra, Twice, Missing, WrongValue, ProgramOrder, NotAdjacent, ReadValue, NoMemory}
 use Rattle.axiom_checker.proofs.Firsts.{three-ways}
 use Rattle.axiom_checker.proofs.Whole.{whole-clean}
-use Rattle.axiom_checker.proofs.Keeps.{none-late, none-parted, none-wrong}
+use Rattle.axiom_checker.proofs.Keeps.{none-late, none-separated, none-wrong}
 
 -- the letters of the breaches, from 0
 abbrev pub level : Breach → ℕ
@@ -41,7 +41,7 @@ OccursAt t order zero = Occurs order (IsStray (made t order) order)
 OccursAt t order (suc zero) = Occurs (made t order) (IsMissing order)
 OccursAt t order (suc (suc zero)) = Occurs order (IsWrongWrite (made t order))
 OccursAt t order (suc (suc (suc zero))) = Occurs order (IsLate order)
-OccursAt t order (suc (suc (suc (suc zero)))) = Occurs order (IsParted order)
+OccursAt t order (suc (suc (suc (suc zero)))) = Occurs order (IsSeparated order)
 OccursAt t order (suc (suc (suc (suc (suc n))))) = Occurs order (IsWrongRead t order)
 
 pub occurs-at : (t : Litmus) (order : List Entry) (b : Breach) → IsFirstBreach t order b → OccursAt t order (level b)
@@ -50,7 +50,7 @@ occurs-at t order (Twice x) f = occurs order (IsStray (made t order) order) f.1.
 occurs-at t order (Missing core place kind loc) f = occurs (made t order) (IsMissing order) f.1.0 (entry core.0 place kind loc f.1.1) f.1.2
 occurs-at t order (WrongValue x due) f = occurs order (IsWrongWrite (made t order)) f.2.0 x f.2.1
 occurs-at t order (ProgramOrder a b) f = occurs order (IsLate order) f.1.0 a f.1.2
-occurs-at t order (NotAdjacent x) f = occurs order (IsParted order) f.2.0 x f.2.1
+occurs-at t order (NotAdjacent x) f = occurs order (IsSeparated order) f.2.0 x f.2.1
 occurs-at t order (ReadValue x due) f = occurs order (IsWrongRead t order) f.3.0 x f.3.1
 occurs-at t order NoMemory f = absurd f
 
@@ -72,7 +72,7 @@ clear-ordered t order w k n l o = elim (below-or n 3 l) [
 
 clear-paired : (t : Litmus) (order : List Entry) → IsWhole t order → KeepsProgramOrder order → KeepsPairs order → (n : ℕ) → n < 5 → OccursAt t order n → ⊥
 clear-paired t order w k p n l o = elim (below-or n 4 l) [
-  | inl q ↦ nowhere order (IsParted order) (none-parted order p) (subst (λ m. OccursAt t order m) q o)
+  | inl q ↦ nowhere order (IsSeparated order) (none-separated order p) (subst (λ m. OccursAt t order m) q o)
   | inr s ↦ clear-ordered t order w k n s o
 ]
 
@@ -140,7 +140,7 @@ same-letter t order (ProgramOrder a b) (ProgramOrder a' b') l f g =
     subst (λ at. IsFirst order (Overtakes at a') f.1.1 b) s.place (subst (λ z. IsFirst order (Overtakes f.1.0 z) f.1.1 b) s.entry f.1.3) in
     let u = one-first order (Overtakes g.1.0 a') f.1.1 g.1.1 b b' moved g.1.3 in
     ap (λ z. ProgramOrder z b) s.entry ∙ ap (λ z. ProgramOrder a' z) u.entry
-same-letter t order (NotAdjacent x) (NotAdjacent y) l f g = let s = one-first order (IsParted order) f.2.0 g.2.0 x y f.2.1 g.2.1 in ap NotAdjacent s.entry
+same-letter t order (NotAdjacent x) (NotAdjacent y) l f g = let s = one-first order (IsSeparated order) f.2.0 g.2.0 x y f.2.1 g.2.1 in ap NotAdjacent s.entry
 same-letter t order (ReadValue x due) (ReadValue y due') l f g =
     let s = one-first order (IsWrongRead t order) f.3.0 g.3.0 x y f.3.1 g.3.1 in
     ap (λ d. ReadValue x d) (f.3.2 ∙ ap (λ at. due_at t order at x) s.place ∙ ap (λ z. due_at t order g.3.0 z) s.entry ∙ sym g.3.2) ∙ ap (λ z. ReadValue z due') s.entry

@@ -43,7 +43,7 @@ overtaking_none order at a h l =
     let f : must_stand_before a l.1 ≡ false = found_none (λ y. must_stand_before a y) (take at order) h l.0 l.1 (in_front order at l.0 l.1 o.sooner l.2) in
     let t = o.swapped in let z : ⊥ = cc in z
 
--- the last of the writes that count, found by going over what stands before the read and then what stands behind it
+-- the last of the writes that count, found by going over what stands before the read and then what stands after it
 pub last_value-append : (xs ys : List Entry) (w : ℕ) → last_value (xs ++ ys) w ≡ last_value ys (last_value xs w)
 last_value-append [] ys w = refl
 last_value-append (x ∷ xs) ys w = last_value-append xs ys x.value

@@ -3,11 +3,7 @@ use Rattle.std.proofs.Common.{◌≡◌, ◌<◌, ◌≤◌, ℕ, ◌+◌, suc, 
 use Rattle.std.proofs.lemmas.Option.{slice_get_within}
 use Rattle.std.specs.List.{list_any}
 use Rattle.tso_model.specs.declared.execution.Entry.{Entry}
-use Rattle.axiom_checker.specs.First.{IsFirst, IsNowhere}
-
--- the fact holds of no entry before this place
-abbrev pub NoneBefore : List Entry → (ℕ → Entry → Type 0) → ℕ → Type 0
-NoneBefore list Fact at = (k : ℕ) (y : Entry) → k < at → slice_get list k ≡ Some y → Fact k y → ⊥
+use Rattle.axiom_checker.specs.First.{NoneBefore, IsFirst, IsNowhere}
 
 -- two places are one, or the one is before the other
 pub three-ways : (i j : ℕ) → (i ≡ j) ⊎ ((i < j) ⊎ (j < i))

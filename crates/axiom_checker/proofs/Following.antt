@@ -54,7 +54,7 @@ last-kept p q (x ∷ xs) zero s w here ps qs h =
 last-kept p q (x ∷ xs) (suc j) s w here ps qs h =
     passes (p x) (q x) x q (filter p xs) w s.value refl (λ v. last-kept p q xs j s v here ps qs (λ k e l f. h (suc k) e (omega arith) f))
 
--- places behind a place
+-- places after a place
 behind-by : (list : List Entry) (n j m : ℕ) (e : Entry) → m ≡ n + j → slice_get (drop n list) j ≡ Some e → slice_get list m ≡ Some e
 behind-by [] zero j m e q h = absurd (let z : ⊥ = cc in z)
 behind-by [] (suc n) j m e q h = absurd (let z : ⊥ = cc in z)
@@ -111,7 +111,7 @@ module _ (t : Litmus) (order : List Entry) (at : ℕ) (x : Entry) (valid : IsTes
       let s : SameAction e d = record { core = ap (λ z. z.core.0) p; place = ap (λ z. z.place) p; kind = ap (λ z. z.kind) p } in
       (one-place order (none-twice (made t order) order (whole-clean t order whole).no_stray) k j e d f g s, p)
 
-  -- a write of the read's program that stands behind the read
+  -- a write of the read's program that stands after the read
   abbrev Follows : ℕ → Entry → Type 0
   Follows k e = (at < k) × (slice_get order k ≡ Some e) × Before e x × (writes_to x.loc.0 e ≡ true)
 

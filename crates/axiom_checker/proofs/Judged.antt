@@ -7,17 +7,17 @@ use Rattle.tso_model.specs.Execution.{made, IsTsoExecution}
 use Rattle.tso_model.specs.declared.execution.Entry.{Entry}
 use Rattle.tso_model.specs.declared.execution.Kind.{Kind}
 use Rattle.tso_model.specs.declared.execution.Kind.TheVariants.{R, W, F, LR, LW}
-use Rattle.axiom_checker.specs.First.{IsFirst, IsEarliest, IsNowhere}
+use Rattle.axiom_checker.specs.First.{NoneBefore, IsFirst, IsEarliest, IsNowhere}
 use Rattle.axiom_checker.specs.Entries.{same_action, same_but_value, IsExtra, IsStray, IsMissing, IsWrongWrite, written_value}
-use Rattle.axiom_checker.specs.Axioms.{must_stand_before, Overtakes, IsLate, IsParted, IsWrongRead, due_at}
+use Rattle.axiom_checker.specs.Axioms.{must_stand_before, Overtakes, IsLate, IsSeparated, IsWrongRead, due_at}
 use Rattle.axiom_checker.specs.FirstBreach.{IsFirstBreach}
 use Rattle.axiom_checker.specs.declared.breach.Breach.{Breach}
 use Rattle.axiom_checker.specs.declared.breach.Breach.TheVariants.{Extra, Twice, Missing, WrongValue, ProgramOrder, NotAdjacent, ReadValue}
-use Rattle.axiom_checker.proofs.Firsts.{NoneBefore, one_more, none_at_all, none_in_nothing, any_at, none_passes}
+use Rattle.axiom_checker.proofs.Firsts.{one_more, none_at_all, none_in_nothing, any_at, none_passes}
 use Rattle.axiom_checker.proofs.Finds.{extra_tells, made_tells, twice_tells, once_tells, overtaking_found, overtaking_none}
 use Rattle.axiom_checker.proofs.Keeps.{equal-or-not, next-of}
 use Rattle.axiom_checker.proofs.Coming.{true-or-false, there-or-not, past}
-use Rattle.axiom_checker.proofs.Named.{names-extra, names-twice, names-missing, names-wrong, names-late, names-parted, names-read, names-none}
+use Rattle.axiom_checker.proofs.Named.{names-extra, names-twice, names-missing, names-wrong, names-late, names-separated, names-read, names-none}
 
 -- whether the fact holds can be told
 abbrev Told : (ℕ → Entry → Type 0) → Type 0
@@ -85,12 +85,12 @@ load-part F = inr (λ h. let z : ⊥ = cc in z)
 load-part LR = inl refl
 load-part LW = inr (λ h. let z : ⊥ = cc in z)
 
-told-parted : (order : List Entry) → Told (IsParted order)
-told-parted order k x = elim (load-part x.kind) [
+told-separated : (order : List Entry) → Told (IsSeparated order)
+told-separated order k x = elim (load-part x.kind) [
   | inr n ↦ inr (λ p. n p.load_part)
   | inl l ↦ elim (next-of x (slice_get order (suc k))) [
-    | inl none ↦ inl (record { load_part = l; parted = none })
-    | inr next ↦ inr (λ p. p.parted next.0 next.1 next.2)
+    | inl none ↦ inl (record { load_part = l; separated = none })
+    | inr next ↦ inr (λ p. p.separated next.0 next.1 next.2)
   ]
 ]
 
@@ -122,11 +122,11 @@ judged t order = let m = made t order in elim (searched order (IsStray m order) 
       | inl s ↦ inr (WrongValue s.0 (written_value m s.0), names-wrong t order m refl stray missing s.0 (written_value m s.0) s.1 refl)
       | inr wrong ↦ elim (searched order (IsLate order) (told-late order)) [
         | inl s ↦ let p = late-pair order s.1.0 s.0 s.1.1 in inr (ProgramOrder s.0 p.0, names-late t order m refl stray missing wrong s.0 p.0 (p.1, p.2, p.3, p.4))
-        | inr late ↦ elim (searched order (IsParted order) (told-parted order)) [
-          | inl s ↦ inr (NotAdjacent s.0, names-parted t order m refl stray missing wrong late s.0 s.1)
-          | inr parted ↦ elim (searched order (IsWrongRead t order) (told-wrong-read t order)) [
-            | inl s ↦ inr (ReadValue s.0 (due_at t order s.1.0 s.0), names-read t order m refl stray missing wrong late parted s.0 (due_at t order s.1.0 s.0) (s.1.0, s.1.1, refl))
-            | inr read ↦ inl (names-none t order m refl stray missing wrong late parted read)
+        | inr late ↦ elim (searched order (IsSeparated order) (told-separated order)) [
+          | inl s ↦ inr (NotAdjacent s.0, names-separated t order m refl stray missing wrong late s.0 s.1)
+          | inr separated ↦ elim (searched order (IsWrongRead t order) (told-wrong-read t order)) [
+            | inl s ↦ inr (ReadValue s.0 (due_at t order s.1.0 s.0), names-read t order m refl stray missing wrong late separated s.0 (due_at t order s.1.0 s.0) (s.1.0, s.1.1, refl))
+            | inr read ↦ inl (names-none t order m refl stray missing wrong late separated read)
           ]
         ]
       ]

@@ -9,7 +9,7 @@ use Rattle.axiom_checker.specs.First.{IsFirst, IsEarliest, IsNowhere}
 use Rattle.axiom_checker.specs.Entries.{IsExtra, IsStray, IsWrongWrite}
 use Rattle.axiom_checker.specs.Programs.{shape_from, reads_that_came}
 use Rattle.axiom_checker.specs.Slots.{Ascends, IsIndex, HasCome, HasNotCome, NamesStray, slots_of_a_core}
-use Rattle.axiom_checker.specs.Axioms.{Overtakes, IsLate, IsParted, IsWrongRead, due_at}
+use Rattle.axiom_checker.specs.Axioms.{Overtakes, IsLate, IsSeparated, IsWrongRead, due_at}
 use Rattle.axiom_checker.specs.Passing.{IsMatched, HasMet, AreOfPrograms}
 use Rattle.axiom_checker.specs.FirstBreach.{IsFirstBreach}
 use Rattle.axiom_checker.specs.declared.passing.Met.{Met}
@@ -22,7 +22,7 @@ use Rattle.axiom_checker.proofs.Shapes.{AreAlike, all-turned, extra-alike, shape
 use Rattle.axiom_checker.proofs.Coming.{stray-alike, first-missing, none-missing, index-alike}
 use Rattle.axiom_checker.proofs.Reading.{ReadsAll, came-reads}
 use Rattle.axiom_checker.proofs.Keeps.{keeps-order}
-use Rattle.axiom_checker.proofs.Named.{is-whole, names-late, names-parted, names-read, names-none}
+use Rattle.axiom_checker.proofs.Named.{is-whole, names-late, names-separated, names-read, names-none}
 
 module _ (t : Litmus) (order : List Entry) (met : Met) (matched : IsMatched t order) (all : HasMet t order met) where
   no-wrong-write : met.wrong_write ≡ None → IsNowhere order (IsWrongWrite (made t order))
@@ -31,8 +31,8 @@ module _ (t : Litmus) (order : List Entry) (met : Met) (matched : IsMatched t or
   none-late : met.late ≡ None → IsNowhere order (IsLate order)
   none-late e = all.none_late (subst (λ o. IsNone o) (sym e) refl)
 
-  none-parted : met.parted ≡ None → IsNowhere order (IsParted order)
-  none-parted e = all.none_parted (subst (λ o. IsNone o) (sym e) refl)
+  none-separated : met.separated ≡ None → IsNowhere order (IsSeparated order)
+  none-separated e = all.none_separated (subst (λ o. IsNone o) (sym e) refl)
 
   whole : met.wrong_write ≡ None → IsWhole t order
   whole w = is-whole t order (made t order) refl matched.no_stray matched.no_missing (no-wrong-write w)
@@ -45,19 +45,19 @@ module _ (t : Litmus) (order : List Entry) (met : Met) (matched : IsMatched t or
       names-late t order (made t order) refl matched.no_stray matched.no_missing (no-wrong-write w) a b
       (at, first.0, subst (λ o. IfSome o (λ a. IsFirst order (IsLate order) a.0 a.1)) e all.late, first.1)
 
-  pub names-met-parted : met.wrong_write ≡ None → met.late ≡ None → (x : Entry) → met.parted ≡ Some x → IsFirstBreach t order (NotAdjacent x)
-  names-met-parted w l x e =
-      names-parted t order (made t order) refl matched.no_stray matched.no_missing (no-wrong-write w) (none-late l) x
-      (subst (λ o. IfSome o (λ x. IsEarliest order (IsParted order) x)) e all.parted)
+  pub names-met-separated : met.wrong_write ≡ None → met.late ≡ None → (x : Entry) → met.separated ≡ Some x → IsFirstBreach t order (NotAdjacent x)
+  names-met-separated w l x e =
+      names-separated t order (made t order) refl matched.no_stray matched.no_missing (no-wrong-write w) (none-late l) x
+      (subst (λ o. IfSome o (λ x. IsEarliest order (IsSeparated order) x)) e all.separated)
 
-  pub names-met-read : met.wrong_write ≡ None → met.late ≡ None → met.parted ≡ None → (x : Entry) (due : ℕ) → met.wrong_read ≡ Some (x, due) → IsFirstBreach t order (ReadValue x due)
+  pub names-met-read : met.wrong_write ≡ None → met.late ≡ None → met.separated ≡ None → (x : Entry) (due : ℕ) → met.wrong_read ≡ Some (x, due) → IsFirstBreach t order (ReadValue x due)
   names-met-read w l p x due e =
-      names-read t order (made t order) refl matched.no_stray matched.no_missing (no-wrong-write w) (none-late l) (none-parted p) x due
+      names-read t order (made t order) refl matched.no_stray matched.no_missing (no-wrong-write w) (none-late l) (none-separated p) x due
       (subst (λ o. IfSome o (λ w. (at : ℕ) × IsFirst order (IsWrongRead t order) at w.0 × (w.1 ≡ due_at t order at w.0))) e (all.wrong_read (whole w) (keeps-order order (none-late l))))
 
-  pub names-met-none : met.wrong_write ≡ None → met.late ≡ None → met.parted ≡ None → met.wrong_read ≡ None → IsTsoExecution t order
+  pub names-met-none : met.wrong_write ≡ None → met.late ≡ None → met.separated ≡ None → met.wrong_read ≡ None → IsTsoExecution t order
   names-met-none w l p r =
-      names-none t order (made t order) refl matched.no_stray matched.no_missing (no-wrong-write w) (none-late l) (none-parted p)
+      names-none t order (made t order) refl matched.no_stray matched.no_missing (no-wrong-write w) (none-late l) (none-separated p)
       (all.no_wrong_read (whole w) (keeps-order order (none-late l)) (subst (λ o. IsNone o) (sym r) refl))
 
 pub of-programs : (t : Litmus) (order entries : List Entry) (cores words : ℕ) → IsTest t → IsMatched t order → entries ≡ made t order → cores ≡ length t.programs → words ≡ length t.locations

@@ -11,7 +11,7 @@ use Rattle.axiom_checker.specs.Ranks.{rank}
 use Rattle.axiom_checker.proofs.ByRank.{by-rank}
 use Rattle.axiom_checker.specs.First.{IsNowhere}
 use Rattle.axiom_checker.proofs.Firsts.{three-ways}
-use Rattle.axiom_checker.specs.Axioms.{IsLate, IsParted, IsWrongRead, due_at}
+use Rattle.axiom_checker.specs.Axioms.{IsLate, IsSeparated, IsWrongRead, due_at}
 
 -- program order
 not-before-itself : (x : Entry) → is_before x x ≡ false
@@ -75,14 +75,14 @@ next-of x (Some y) = elim (store-part-or-not x y) [
   | inr n ↦ inl (λ w e s. let q : w ≡ y = cc in n (subst (λ z. IsStorePart x z) q s))
 ]
 
-pub keeps-pairs : (order : List Entry) → IsNowhere order (IsParted order) → KeepsPairs order
+pub keeps-pairs : (order : List Entry) → IsNowhere order (IsSeparated order) → KeepsPairs order
 keeps-pairs order n i x e k = elim (next-of x (slice_get order (suc i))) [
-  | inl none ↦ absurd (n i x e (record { load_part = k; parted = none }))
+  | inl none ↦ absurd (n i x e (record { load_part = k; separated = none }))
   | inr next ↦ next
 ]
 
-pub none-parted : (order : List Entry) → KeepsPairs order → IsNowhere order (IsParted order)
-none-parted order h i x e p = let n = h i x e p.load_part in p.parted n.0 n.1 n.2
+pub none-separated : (order : List Entry) → KeepsPairs order → IsNowhere order (IsSeparated order)
+none-separated order h i x e p = let n = h i x e p.load_part in p.separated n.0 n.1 n.2
 
 -- read values
 cut-at : (order : List Entry) (at : ℕ) (x : Entry) → slice_get order at ≡ Some x → order ≡ take at order ++ (x ∷ drop (suc at) order)

@@ -8,16 +8,16 @@ use Rattle.tso_model.specs.ProgramOrder.{is_read, writes_to}
 use Rattle.tso_model.specs.Execution.{made, IsWhole, KeepsProgramOrder, IsStorePart, last_value}
 use Rattle.tso_model.specs.declared.execution.Entry.{Entry}
 use Rattle.tso_model.specs.declared.execution.Kind.TheVariants.{LR, LW}
-use Rattle.axiom_checker.specs.First.{IsFirst, IsEarliest}
+use Rattle.axiom_checker.specs.First.{NoneBefore, IsFirst, IsEarliest}
 use Rattle.axiom_checker.specs.Entries.{IsWrongWrite, written_value}
-use Rattle.axiom_checker.specs.Axioms.{IsLate, IsParted, IsWrongRead, due_at}
+use Rattle.axiom_checker.specs.Axioms.{IsLate, IsSeparated, IsWrongRead, due_at}
 use Rattle.axiom_checker.specs.Progress.{is_late}
 use Rattle.axiom_checker.specs.Sources.{IsSource}
-use Rattle.axiom_checker.specs.Passing.{HasMet, first_of, due_from}
+use Rattle.axiom_checker.specs.Passing.{HasMet, IsFirstWrongWrite, IsFirstWrongRead, NamesWrongWrite, NamesWrongRead, IsDueFrom, first_of, due_from}
 use Rattle.axiom_checker.proofs.Marking.{AreMarks, AreWords, of_core, past_loads, late-tells}
 use Rattle.axiom_checker.proofs.Following.{due-right}
 use Rattle.axiom_checker.specs.declared.passing.Met.{Met}
-use Rattle.axiom_checker.proofs.Firsts.{NoneBefore, one_more, none_at_all, none_in_nothing}
+use Rattle.axiom_checker.proofs.Firsts.{one_more, none_at_all, none_in_nothing}
 
 -- what is named is the first of which the fact holds; where nothing is, it holds of none before this place
 pub record SoFar {X : Type 0} (list : List Entry) (Fact : ℕ → Entry → Type 0) (at : ℕ) (Names : X → Type 0) (found : Option X) : Type 0 where
@@ -25,11 +25,11 @@ pub record SoFar {X : Type 0} (list : List Entry) (Fact : ℕ → Entry → Type
   pub none : IsNone found → NoneBefore list Fact at
 
 pub record HasMetSoFar (t : Litmus) (order : List Entry) (at : ℕ) (met : Met) : Type 0 where
-  pub wrong_write : SoFar order (IsWrongWrite (made t order)) at (λ w. IsEarliest order (IsWrongWrite (made t order)) w.0 × (w.1 ≡ written_value (made t order) w.0)) met.wrong_write
+  pub wrong_write : SoFar order (IsWrongWrite (made t order)) at (IsFirstWrongWrite t order) met.wrong_write
   pub late : SoFar order (IsLate order) at (λ a. IsFirst order (IsLate order) a.0 a.1) met.late
-  pub parted : SoFar order (IsParted order) at (λ x. IsEarliest order (IsParted order) x) met.parted
+  pub separated : SoFar order (IsSeparated order) at (λ x. IsEarliest order (IsSeparated order) x) met.separated
   pub wrong_read : IsWhole t order → KeepsProgramOrder order
-      → SoFar order (IsWrongRead t order) at (λ w. (at : ℕ) × IsFirst order (IsWrongRead t order) at w.0 × (w.1 ≡ due_at t order at w.0)) met.wrong_read
+      → SoFar order (IsWrongRead t order) at (IsFirstWrongRead t order) met.wrong_read
 
 pub nothing-so-far : {X : Type 0} (list : List Entry) (Fact : ℕ → Entry → Type 0) (Names : X → Type 0) → SoFar list Fact 0 Names None
 nothing-so-far list Fact Names = record { named = tt; none = λ _. none_in_nothing list Fact }
@@ -45,8 +45,8 @@ met-all t order at met all so = record {
   no_wrong_write = λ n. none_at_all order (IsWrongWrite (made t order)) at all (so.wrong_write.none n);
   late = so.late.named;
   none_late = λ n. none_at_all order (IsLate order) at all (so.late.none n);
-  parted = so.parted.named;
-  none_parted = λ n. none_at_all order (IsParted order) at all (so.parted.none n);
+  separated = so.separated.named;
+  none_separated = λ n. none_at_all order (IsSeparated order) at all (so.separated.none n);
   wrong_read = λ w k. (so.wrong_read w k).named;
   no_wrong_read = λ w k n. none_at_all order (IsWrongRead t order) at all ((so.wrong_read w k).none n);
 }
@@ -62,13 +62,13 @@ module _ (t : Litmus) (order : List Entry) (at : ℕ) (x : Entry) (here : slice_
 
   -- what the tests said of it
   pub record Written (next : Option (Entry × ℕ)) : Type 0 where
-    pub found : IfSome next (λ w. (w.0 ≡ x) × IsWrongWrite (made t order) 0 x × (w.1 ≡ written_value (made t order) x))
-    pub none : IsNone next → IsWrongWrite (made t order) 0 x → ⊥
+    pub found : IfSome next (NamesWrongWrite (made t order) x)
+    pub none : IsNone next → ¬ IsWrongWrite (made t order) 0 x
 
-  wrote : (found next : Option (Entry × ℕ)) → Written next → SoFar order (IsWrongWrite (made t order)) at (λ w. IsEarliest order (IsWrongWrite (made t order)) w.0 × (w.1 ≡ written_value (made t order) w.0)) found
-      → SoFar order (IsWrongWrite (made t order)) (at + 1) (λ w. IsEarliest order (IsWrongWrite (made t order)) w.0 × (w.1 ≡ written_value (made t order) w.0)) (first_of found next)
+  wrote : (found next : Option (Entry × ℕ)) → Written next → SoFar order (IsWrongWrite (made t order)) at (IsFirstWrongWrite t order) found
+      → SoFar order (IsWrongWrite (made t order)) (at + 1) (IsFirstWrongWrite t order) (first_of found next)
   wrote found next w so =
-      so-far-more order (IsWrongWrite (made t order)) at (λ w. IsEarliest order (IsWrongWrite (made t order)) w.0 × (w.1 ≡ written_value (made t order) w.0)) x found next here
+      so-far-more order (IsWrongWrite (made t order)) at (IsFirstWrongWrite t order) x found next here
       (λ none. if-some _ _ next (λ v h. ((at, first-here (IsWrongWrite (made t order)) v.0 h.0 h.1 none), h.2 ∙ ap (λ y. written_value (made t order) y) (sym h.0))) w.found)
       w.none so
 
@@ -83,15 +83,15 @@ module _ (t : Litmus) (order : List Entry) (at : ℕ) (x : Entry) (here : slice_
   next-is : (o : Option Entry) (y : Entry) → o ≡ Some y → unwrap_or o x ≡ y
   next-is o y e = ap (λ z. unwrap_or z x) e
 
-  parted-now : (next : Entry) → next ≡ unwrap_or (slice_get order (at + 1)) x → x.kind ≡ LR → (IsStorePart x next → ⊥) → IsParted order at x
-  parted-now next is load apart = record {
+  separated-now : (next : Entry) → next ≡ unwrap_or (slice_get order (at + 1)) x → x.kind ≡ LR → (IsStorePart x next → ⊥) → IsSeparated order at x
+  separated-now next is load apart = record {
     load_part = load;
-    parted = λ y e part.
+    separated = λ y e part.
         let f : slice_get order (at + 1) ≡ Some y = ap (λ n. slice_get order n) (let q : at + 1 ≡ suc at = omega arith in q) ∙ e in
         apart (subst (λ z. IsStorePart x z) (sym (is ∙ next-is (slice_get order (at + 1)) y f)) part);
   }
 
-  together : (next : Entry) → next ≡ unwrap_or (slice_get order (at + 1)) x → (x.kind ≡ LR → IsStorePart x next) → IsParted order at x → ⊥
+  together : (next : Entry) → next ≡ unwrap_or (slice_get order (at + 1)) x → (x.kind ≡ LR → IsStorePart x next) → IsSeparated order at x → ⊥
   together next is part p = go (slice_get order (at + 1)) refl
     where
       go : (o : Option Entry) → slice_get order (at + 1) ≡ o → ⊥
@@ -102,21 +102,21 @@ module _ (t : Litmus) (order : List Entry) (at : ℕ) (x : Entry) (here : slice_
           let z : ⊥ = cc in z
       go (Some y) e =
           let f : slice_get order (suc at) ≡ Some y = ap (λ n. slice_get order n) (let q : suc at ≡ at + 1 = omega arith in q) ∙ e in
-          p.parted y f (subst (λ z. IsStorePart x z) (is ∙ next-is (slice_get order (at + 1)) y e) (part p.load_part))
+          p.separated y f (subst (λ z. IsStorePart x z) (is ∙ next-is (slice_get order (at + 1)) y e) (part p.load_part))
 
   split : (found : Option Entry) (next : Entry) (now : Option Entry) → next ≡ unwrap_or (slice_get order (at + 1)) x → IfSome now (λ p. (p ≡ x) × (x.kind ≡ LR) × (IsStorePart x next → ⊥))
-      → (IsNone now → x.kind ≡ LR → IsStorePart x next) → SoFar order (IsParted order) at (λ x. IsEarliest order (IsParted order) x) found
-      → SoFar order (IsParted order) (at + 1) (λ x. IsEarliest order (IsParted order) x) (first_of found now)
+      → (IsNone now → x.kind ≡ LR → IsStorePart x next) → SoFar order (IsSeparated order) at (λ x. IsEarliest order (IsSeparated order) x) found
+      → SoFar order (IsSeparated order) (at + 1) (λ x. IsEarliest order (IsSeparated order) x) (first_of found now)
   split found next now is found_it never so =
-      so-far-more order (IsParted order) at (λ x. IsEarliest order (IsParted order) x) x found now here
-      (λ none. if-some _ _ now (λ p h. (at, first-here (IsParted order) p h.0 (parted-now next is h.1 h.2) none)) found_it)
+      so-far-more order (IsSeparated order) at (λ x. IsEarliest order (IsSeparated order) x) x found now here
+      (λ none. if-some _ _ now (λ p h. (at, first-here (IsSeparated order) p h.0 (separated-now next is h.1 h.2) none)) found_it)
       (λ n. together next is (never n)) so
 
   read : (found now : Option (Entry × ℕ)) → IfSome now (λ w. (w.0 ≡ x) × (is_read x ≡ true) × (x.value ≢ w.1) × (w.1 ≡ due_at t order at x)) → (IsNone now → is_read x ≡ true → x.value ≡ due_at t order at x)
-      → SoFar order (IsWrongRead t order) at (λ w. (at : ℕ) × IsFirst order (IsWrongRead t order) at w.0 × (w.1 ≡ due_at t order at w.0)) found
-      → SoFar order (IsWrongRead t order) (at + 1) (λ w. (at : ℕ) × IsFirst order (IsWrongRead t order) at w.0 × (w.1 ≡ due_at t order at w.0)) (first_of found now)
+      → SoFar order (IsWrongRead t order) at (IsFirstWrongRead t order) found
+      → SoFar order (IsWrongRead t order) (at + 1) (IsFirstWrongRead t order) (first_of found now)
   read found now found_it never so =
-      so-far-more order (IsWrongRead t order) at (λ w. (at : ℕ) × IsFirst order (IsWrongRead t order) at w.0 × (w.1 ≡ due_at t order at w.0)) x found now here
+      so-far-more order (IsWrongRead t order) at (IsFirstWrongRead t order) x found now here
       (λ none. if-some _ _ now (λ w h. (at, first-here (IsWrongRead t order) w.0 h.0 (record { read = h.1; wrong = λ e. h.2 (e ∙ sym h.3) }) none, h.3 ∙ ap (λ y. due_at t order at y) (sym h.0))) found_it)
       (λ n f. f.wrong (never n f.read)) so
 
@@ -124,47 +124,47 @@ module _ (t : Litmus) (order : List Entry) (at : ℕ) (x : Entry) (here : slice_
 pub met-more : (t : Litmus) (order : List Entry) (at : ℕ) (x : Entry) → IsTest t → slice_get order at ≡ Some x → (entries : List Entry) → entries ≡ made t order
     → (all others words first : List ℕ) → t.words ≡ first → AreMarks order at of_core all → AreMarks order at past_loads others → AreWords order at first words → x.core.0 < length all → x.core.0 < length others
     → (next : Entry) → next ≡ unwrap_or (slice_get order (at + 1)) x
-    → (write : Option (Entry × ℕ)) → IfSome write (λ w. (w.0 ≡ x) × IsWrongWrite entries 0 x × (w.1 ≡ written_value entries x)) → (IsNone write → IsWrongWrite entries 0 x → ⊥)
+    → (write : Option (Entry × ℕ)) → IfSome write (NamesWrongWrite entries x) → (IsNone write → ¬ IsWrongWrite entries 0 x)
     → (late : Option (ℕ × Entry)) → late ≡ (if is_late all others x then Some (at, x) else None)
-    → (parted : Option Entry) → IfSome parted (λ p. (p ≡ x) × (x.kind ≡ LR) × (IsStorePart x next → ⊥)) → (IsNone parted → x.kind ≡ LR → IsStorePart x next)
-    → (misread : Option (Entry × ℕ)) → IfSome misread (λ w. (w.0 ≡ x) × (is_read x ≡ true) × (x.value ≢ w.1) × ((source : Option Entry) × IsSource entries x source × (w.1 ≡ due_from source others words x)))
-    → (IsNone misread → is_read x ≡ true → (source : Option Entry) × IsSource entries x source × (x.value ≡ due_from source others words x))
-    → (met now : Met) → now.wrong_write ≡ first_of met.wrong_write write → now.late ≡ first_of met.late late → now.parted ≡ first_of met.parted parted → now.wrong_read ≡ first_of met.wrong_read misread
+    → (separated : Option Entry) → IfSome separated (λ p. (p ≡ x) × (x.kind ≡ LR) × (IsStorePart x next → ⊥)) → (IsNone separated → x.kind ≡ LR → IsStorePart x next)
+    → (misread : Option (Entry × ℕ)) → IfSome misread (NamesWrongRead entries others words x)
+    → (IsNone misread → is_read x ≡ true → IsDueFrom entries others words x x.value)
+    → (met now : Met) → now.wrong_write ≡ first_of met.wrong_write write → now.late ≡ first_of met.late late → now.separated ≡ first_of met.separated separated → now.wrong_read ≡ first_of met.wrong_read misread
     → HasMetSoFar t order at met → HasMetSoFar t order (at + 1) now
-met-more t order at x valid here entries is all others words first same_words a o ws l m next next_is write w_found w_none late late_is parted p_found p_none misread r_found r_none met now e1 e2 e3 e4 so =
+met-more t order at x valid here entries is all others words first same_words a o ws l m next next_is write w_found w_none late late_is separated p_found p_none misread r_found r_none met now e1 e2 e3 e4 so =
     let tells = late-tells order at all others x a o l m in
     record {
       wrong_write =
-          subst (λ f. SoFar order (IsWrongWrite (made t order)) (at + 1) (λ w. IsEarliest order (IsWrongWrite (made t order)) w.0 × (w.1 ≡ written_value (made t order) w.0)) f) (sym e1)
+          subst (λ f. SoFar order (IsWrongWrite (made t order)) (at + 1) (IsFirstWrongWrite t order) f) (sym e1)
           (wrote t order at x here met.wrong_write write (record {
-            found = subst (λ es. IfSome write (λ w. (w.0 ≡ x) × IsWrongWrite es 0 x × (w.1 ≡ written_value es x))) is w_found;
-            none = subst (λ es. IsNone write → IsWrongWrite es 0 x → ⊥) is w_none;
+            found = subst (λ es. IfSome write (NamesWrongWrite es x)) is w_found;
+            none = subst (λ es. IsNone write → ¬ IsWrongWrite es 0 x) is w_none;
           }) so.wrong_write);
       late =
           subst (λ f. SoFar order (IsLate order) (at + 1) (λ a. IsFirst order (IsLate order) a.0 a.1) f) (sym (e2 ∙ ap (λ n. first_of met.late n) late_is))
           (behind t order at x here met.late (is_late all others x) tells.0 tells.1 so.late);
-      parted =
-          subst (λ f. SoFar order (IsParted order) (at + 1) (λ x. IsEarliest order (IsParted order) x) f) (sym e3)
-          (split t order at x here met.parted next parted next_is p_found p_none so.parted);
+      separated =
+          subst (λ f. SoFar order (IsSeparated order) (at + 1) (λ x. IsEarliest order (IsSeparated order) x) f) (sym e3)
+          (split t order at x here met.separated next separated next_is p_found p_none so.separated);
       wrong_read = λ whole keeps.
           let word : slice_index words x.loc.0 ≡ last_value (filter (writes_to x.loc.0) (take at order)) (slice_index t.words x.loc.0) =
           ws x.loc.0 ∙ ap (λ v. last_value (filter (writes_to x.loc.0) (take at order)) (slice_index v x.loc.0)) (sym same_words) in
           let due : is_read x ≡ true → (source : Option Entry) → IsSource entries x source → due_from source others words x ≡ due_at t order at x =
           λ reads source own. due-right t order at x valid here reads whole keeps others words (o x.core.0 m) word source (subst (λ es. IsSource es x source) is own) in
-          subst (λ f. SoFar order (IsWrongRead t order) (at + 1) (λ w. (at : ℕ) × IsFirst order (IsWrongRead t order) at w.0 × (w.1 ≡ due_at t order at w.0)) f) (sym e4)
+          subst (λ f. SoFar order (IsWrongRead t order) (at + 1) (IsFirstWrongRead t order) f) (sym e4)
           (read t order at x here met.wrong_read misread
           (if-some _ (λ w. (w.0 ≡ x) × (is_read x ≡ true) × (x.value ≢ w.1) × (w.1 ≡ due_at t order at x)) misread (λ w h. (h.0, h.1, h.2, h.3.2 ∙ due h.1 h.3.0 h.3.1)) r_found)
           (λ n reads. let s = r_none n reads in s.2 ∙ due reads s.0 s.1) (so.wrong_read whole keeps));
     }
 
-pub nothing-met : (t : Litmus) (order : List Entry) (met : Met) → met.wrong_write ≡ None → met.late ≡ None → met.parted ≡ None → met.wrong_read ≡ None → HasMetSoFar t order 0 met
+pub nothing-met : (t : Litmus) (order : List Entry) (met : Met) → met.wrong_write ≡ None → met.late ≡ None → met.separated ≡ None → met.wrong_read ≡ None → HasMetSoFar t order 0 met
 nothing-met t order met e1 e2 e3 e4 = record {
-  wrong_write = subst (λ f. SoFar order (IsWrongWrite (made t order)) 0 (λ w. IsEarliest order (IsWrongWrite (made t order)) w.0 × (w.1 ≡ written_value (made t order) w.0)) f) (sym e1)
-      (nothing-so-far order (IsWrongWrite (made t order)) (λ w. IsEarliest order (IsWrongWrite (made t order)) w.0 × (w.1 ≡ written_value (made t order) w.0)));
+  wrong_write = subst (λ f. SoFar order (IsWrongWrite (made t order)) 0 (IsFirstWrongWrite t order) f) (sym e1)
+      (nothing-so-far order (IsWrongWrite (made t order)) (IsFirstWrongWrite t order));
   late = subst (λ f. SoFar order (IsLate order) 0 (λ a. IsFirst order (IsLate order) a.0 a.1) f) (sym e2) (nothing-so-far order (IsLate order) (λ a. IsFirst order (IsLate order) a.0 a.1));
-  parted = subst (λ f. SoFar order (IsParted order) 0 (λ x. IsEarliest order (IsParted order) x) f) (sym e3) (nothing-so-far order (IsParted order) (λ x. IsEarliest order (IsParted order) x));
-  wrong_read = λ _ _. subst (λ f. SoFar order (IsWrongRead t order) 0 (λ w. (at : ℕ) × IsFirst order (IsWrongRead t order) at w.0 × (w.1 ≡ due_at t order at w.0)) f) (sym e4)
-      (nothing-so-far order (IsWrongRead t order) (λ w. (at : ℕ) × IsFirst order (IsWrongRead t order) at w.0 × (w.1 ≡ due_at t order at w.0)));
+  separated = subst (λ f. SoFar order (IsSeparated order) 0 (λ x. IsEarliest order (IsSeparated order) x) f) (sym e3) (nothing-so-far order (IsSeparated order) (λ x. IsEarliest order (IsSeparated order) x));
+  wrong_read = λ _ _. subst (λ f. SoFar order (IsWrongRead t order) 0 (IsFirstWrongRead t order) f) (sym e4)
+      (nothing-so-far order (IsWrongRead t order) (IsFirstWrongRead t order));
 }
 
 -- the entry ahead, and the looks

@@ -5,7 +5,7 @@ use Rattle.tso_model.specs.Execution.{made, IsWhole, IsTsoExecution}
 use Rattle.tso_model.specs.declared.execution.Entry.{Entry}
 use Rattle.axiom_checker.specs.First.{IsFirst, IsNowhere}
 use Rattle.axiom_checker.specs.Entries.{IsExtra, IsStray, IsMissing, IsWrongWrite, written_value}
-use Rattle.axiom_checker.specs.Axioms.{Overtakes, IsLate, IsParted, IsWrongRead, due_at}
+use Rattle.axiom_checker.specs.Axioms.{Overtakes, IsLate, IsSeparated, IsWrongRead, due_at}
 use Rattle.axiom_checker.specs.FirstBreach.{IsFirstBreach}
 use Rattle.axiom_checker.specs.declared.breach.Breach.TheVariants.{Extra, Twice, Missing, WrongValue, ProgramOrder, NotAdjacent, ReadValue}
 use Rattle.axiom_checker.proofs.Whole.{whole-from}
@@ -42,19 +42,19 @@ module _ (t : Litmus) (order entries : List Entry) (is : entries ≡ made t orde
       → (a b : Entry) → (at j : ℕ) × IsFirst order (IsLate order) at a × IsFirst order (Overtakes at a) j b → IsFirstBreach t order (ProgramOrder a b)
   names-late stray missing wrong a b first = (is-whole stray missing wrong, first)
 
-  pub names-parted : IsNowhere order (IsStray entries order) → IsNowhere entries (IsMissing order) → IsNowhere order (IsWrongWrite entries) → IsNowhere order (IsLate order)
-      → (x : Entry) → (at : ℕ) × IsFirst order (IsParted order) at x → IsFirstBreach t order (NotAdjacent x)
-  names-parted stray missing wrong late x first = (is-whole stray missing wrong, keeps-order order late, first)
+  pub names-separated : IsNowhere order (IsStray entries order) → IsNowhere entries (IsMissing order) → IsNowhere order (IsWrongWrite entries) → IsNowhere order (IsLate order)
+      → (x : Entry) → (at : ℕ) × IsFirst order (IsSeparated order) at x → IsFirstBreach t order (NotAdjacent x)
+  names-separated stray missing wrong late x first = (is-whole stray missing wrong, keeps-order order late, first)
 
-  pub names-read : IsNowhere order (IsStray entries order) → IsNowhere entries (IsMissing order) → IsNowhere order (IsWrongWrite entries) → IsNowhere order (IsLate order) → IsNowhere order (IsParted order)
+  pub names-read : IsNowhere order (IsStray entries order) → IsNowhere entries (IsMissing order) → IsNowhere order (IsWrongWrite entries) → IsNowhere order (IsLate order) → IsNowhere order (IsSeparated order)
       → (x : Entry) (due : ℕ) → (at : ℕ) × IsFirst order (IsWrongRead t order) at x × (due ≡ due_at t order at x) → IsFirstBreach t order (ReadValue x due)
-  names-read stray missing wrong late parted x due first = (is-whole stray missing wrong, keeps-order order late, keeps-pairs order parted, first)
+  names-read stray missing wrong late separated x due first = (is-whole stray missing wrong, keeps-order order late, keeps-pairs order separated, first)
 
-  pub names-none : IsNowhere order (IsStray entries order) → IsNowhere entries (IsMissing order) → IsNowhere order (IsWrongWrite entries) → IsNowhere order (IsLate order) → IsNowhere order (IsParted order)
+  pub names-none : IsNowhere order (IsStray entries order) → IsNowhere entries (IsMissing order) → IsNowhere order (IsWrongWrite entries) → IsNowhere order (IsLate order) → IsNowhere order (IsSeparated order)
       → IsNowhere order (IsWrongRead t order) → IsTsoExecution t order
-  names-none stray missing wrong late parted read = record {
+  names-none stray missing wrong late separated read = record {
     whole = is-whole stray missing wrong;
     program_order = keeps-order order late;
-    pairs = keeps-pairs order parted;
+    pairs = keeps-pairs order separated;
     read_values = has-values t order read;
   }

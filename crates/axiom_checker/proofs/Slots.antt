@@ -30,7 +30,7 @@ each-at P [] k x h e = absurd (let w : ⊥ = cc in w)
 each-at P (y ∷ ys) zero x h e = let q : y ≡ x = cc in subst P q h.0
 each-at P (y ∷ ys) (suc k) x h e = each-at P ys k x h.1 e
 
--- each entry's core, place and kind are unlike those of all behind it
+-- each entry's core, place and kind are unlike those of all after it
 abbrev pub AllApart : List Entry → Type 0
 AllApart [] = Unit {0}
 AllApart (x ∷ xs) = Each (λ y. same_action x y ≡ false) xs × AllApart xs
@@ -66,7 +66,7 @@ entries-from core place (i ∷ rest) registers values =
     each-append (IsFrom core place) (entries_by core place (action_of i) registers (slice_index values 0)) _ (from-by core place (action_of i) registers (slice_index values 0))
     (all-from core place _ (entries-from core (place + 1) rest _ _))
 
--- an entry of this place, and one behind it in the program
+-- an entry of this place, and one after it in the program
 apart-later : (core place : ℕ) (x y : Entry) → x.place ≡ place → IsFrom core (place + 1) y → same_action x y ≡ false
 apart-later core place x y p h = let l = h.on in unlike (y.core.0 == x.core.0) (y.place == x.place) (same_kind y.kind x.kind) (let q : x.place < y.place = omega arith in grind (arith, nat_tests))
   where

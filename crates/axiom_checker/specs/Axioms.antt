@@ -21,9 +21,9 @@ abbrev pub IsLate : List Entry → ℕ → Entry → Type 0
 IsLate order at a = (j : ℕ) × (b : Entry) × (slice_get order j ≡ Some b) × Overtakes at a j b
 
 -- the load part of a locked instruction that isn't followed at once by its store part
-pub record IsParted (order : List Entry) (at : ℕ) (x : Entry) : Type 0 where
+pub record IsSeparated (order : List Entry) (at : ℕ) (x : Entry) : Type 0 where
   pub load_part : x.kind ≡ LR
-  pub parted : (y : Entry) → slice_get order (suc at) ≡ Some y → ¬ IsStorePart x y
+  pub separated : (y : Entry) → slice_get order (suc at) ≡ Some y → ¬ IsStorePart x y
 
 -- the value that is due to a read at its place: what stands before it there, and what stands after it
 abbrev pub due_at : Litmus → List Entry → ℕ → Entry → ℕ

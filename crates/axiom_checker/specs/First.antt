@@ -2,11 +2,15 @@
 use Rattle.std.specs.Prelude.{ℕ, ◌<◌, ◌≡◌, List, Some, slice_get}
 use Rattle.tso_model.specs.declared.execution.Entry.{Entry}
 
+-- the fact holds of no entry before this place
+abbrev pub NoneBefore : List Entry → (ℕ → Entry → Type 0) → ℕ → Type 0
+NoneBefore list Fact at = (k : ℕ) (y : Entry) → k < at → slice_get list k ≡ Some y → ¬ Fact k y
+
 -- x stands at this place of the list, the fact holds of it there, and of no entry before it
 pub record IsFirst (list : List Entry) (Fact : ℕ → Entry → Type 0) (at : ℕ) (x : Entry) : Type 0 where
   pub stands : slice_get list at ≡ Some x
   pub holds : Fact at x
-  pub earliest : (k : ℕ) (y : Entry) → k < at → slice_get list k ≡ Some y → ¬ Fact k y
+  pub earliest : NoneBefore list Fact at
 
 -- x is the earliest entry of the list of which the fact holds
 abbrev pub IsEarliest : List Entry → (ℕ → Entry → Type 0) → Entry → Type 0

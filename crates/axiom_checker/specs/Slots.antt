@@ -32,7 +32,8 @@ pub record HasCome (shape order : List Entry) (at : ℕ) (came : List (Option �
   pub has : (k : ℕ) (x : Entry) → k < at → slice_get order k ≡ Some x
       → (i : ℕ) × (e : Entry) × (slice_get shape i ≡ Some e) × (same_but_value e x ≡ true) × (kept_in came i ≡ Some x.value)
   pub only : (i value : ℕ) → kept_in came i ≡ Some value
-      → (k : ℕ) × (x e : Entry) × (k < at) × (slice_get order k ≡ Some x) × (slice_get shape i ≡ Some e) × (same_action e x ≡ true) × (x.value ≡ value)
+      → (k : ℕ) × (x e : Entry) × (k < at) × (slice_get order k ≡ Some x) × (slice_get shape i ≡ Some e)
+      × (same_action e x ≡ true) × (x.value ≡ value)
 
 -- an entry of the programs that didn't come
 abbrev pub HasNotCome : List (Option ℕ) → ℕ → Entry → Type 0

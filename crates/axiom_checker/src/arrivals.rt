@@ -1,7 +1,7 @@
 //! Which of the programs' entries come in an order, and which don't.
 ghost use Rattle.std.specs.Prelude.{◌≡◌, ◌+◌, ◌<◌, ◌≤◌, ℕ, List, length, slice_get, slice_set, Some, None, IfSome, IsNone};
 ghost use Rattle.tso_model.specs.declared.execution.Entry.{Entry};
-ghost use Rattle.axiom_checker.specs.First.{IsFirst, IsNowhere};
+ghost use Rattle.axiom_checker.specs.First.{NoneBefore, IsFirst, IsNowhere};
 ghost use Rattle.axiom_checker.specs.Entries.{IsStray};
 ghost use Rattle.axiom_checker.specs.Programs.{kept_in};
 ghost use Rattle.axiom_checker.specs.Slots.{IsIndex, HasCome, NamesStray, HasNotCome};
@@ -47,10 +47,11 @@ fn arrive(
     requires index { IsIndex shape.now slots.now }
     requires size { length came.old ≡ length shape.now }
     ensures size { length came.new ≡ length came.old }
-    ensures found { (order : List Entry) (at : ℕ) → slice_get order at ≡ Some x.now → ((k : ℕ) (y : Entry) → k < at → slice_get order k ≡ Some y → IsStray shape.now order k y → ⊥)
+    ensures found { (order : List Entry) (at : ℕ) → slice_get order at ≡ Some x.now → NoneBefore order (IsStray shape.now order) at
         → HasCome shape.now order at came.old → IfSome result (NamesStray shape.now order) }
     ensures none { (order : List Entry) (at : ℕ) → slice_get order at ≡ Some x.now
-        → HasCome shape.now order at came.old → IsNone result → HasCome shape.now order (at + 1) came.new × (IsStray shape.now order at x.now → ⊥) }
+        → HasCome shape.now order at came.old → IsNone result
+        → HasCome shape.now order (at + 1) came.new × ¬ IsStray shape.now order at x.now }
 {
     let Some(i) = find(shape, slots, x) else {
         return Some(Breach::Extra(*x));

@@ -6,7 +6,7 @@ ghost use Rattle.tso_model.specs.Execution as execution;
 ghost use Rattle.axiom_checker.specs.Passing.{IsMatched, HasMet};
 ghost use Rattle.axiom_checker.specs.Programs.{shape_from, kept_in};
 ghost use Rattle.axiom_checker.specs.Slots.{IsIndex};
-ghost use Rattle.axiom_checker.specs.FirstBreach.{IsFirstBreach};
+ghost use Rattle.axiom_checker.specs.FirstBreach.{IsFirstBreach, TellsFirstBreach, IsJudged};
 
 use crate::arrivals::{first_missing, first_stray};
 use crate::breach::Breach;
@@ -28,9 +28,7 @@ use tso_model::{Entry, Execution, NoMemory, Test, Watched};
 /// Else the first breach: of the first variant of [`Breach`] that occurs, `Extra` and `Twice` taken
 /// as one, and of its entries the earliest. `NoMemory` alone says nothing of the order.
 pub fn check_order(alloc: Global, test: &Test, execution: &Execution) -> Result<(), Breach>
-    ensures valid { OnOk result (IsTsoExecution test.now execution.now.order.items) }
-    ensures accepted { IsTsoExecution test.now execution.now.order.items → IsOkUnless result Breach.NoMemory }
-    ensures first { IfErr result (λ b. b ≢ Breach.NoMemory → IsFirstBreach test.now execution.now.order.items b) }
+    ensures { IsJudged test.now execution.now.order.items result }
 {
     check_on::<Brand>(Blank::new(1), alloc, test, execution)
 }
@@ -45,9 +43,7 @@ fn check_on<L: Ledger>(
     requires name { blank.name ≡ L.name }
     requires parts { blank.parts ≡ L.parts }
     requires some { 0 < blank.parts }
-    ensures valid { OnOk result (IsTsoExecution test.now execution.now.order.items) }
-    ensures accepted { IsTsoExecution test.now execution.now.order.items → IsOkUnless result Breach.NoMemory }
-    ensures first { IfErr result (λ b. b ≢ Breach.NoMemory → IsFirstBreach test.now execution.now.order.items b) }
+    ensures { IsJudged test.now execution.now.order.items result }
 {
     let mut order = Watched::<L>::new(blank, execution);
     check_counted(alloc, test, &mut order)
@@ -60,9 +56,7 @@ pub fn check_counted<L: Ledger>(
     test: &Test,
     order: &mut Watched<'_, L>,
 ) -> Result<(), Breach>
-    ensures valid { OnOk result (IsTsoExecution test.now order.old.order) }
-    ensures accepted { IsTsoExecution test.now order.old.order → IsOkUnless result Breach.NoMemory }
-    ensures first { IfErr result (λ b. b ≢ Breach.NoMemory → IsFirstBreach test.now order.old.order b) }
+    ensures judged { IsJudged test.now order.old.order result }
     ensures same { order.new.order ≡ order.old.order }
     ensures looks { order.new.looks ≤ order.old.looks + 3 * length order.old.order }
 {
@@ -78,8 +72,7 @@ fn first_breach<L: Ledger>(
     test: &Test,
     order: &mut Watched<'_, L>,
 ) -> Result<Option<Breach>, NoMemory>
-    ensures found { IfOk result (λ r. IfSome r (IsFirstBreach test.now order.old.order)) }
-    ensures none { IfOk result (λ r. IsNone r → IsTsoExecution test.now order.old.order) }
+    ensures breach { IfOk result (TellsFirstBreach test.now order.old.order) }
     ensures same { order.new.order ≡ order.old.order }
     ensures looks { order.new.looks ≤ order.old.looks + 3 * length order.old.order }
 {
@@ -103,8 +96,7 @@ fn breach_by_shape<L: Ledger>(
     requires index { IsIndex shape.now slots.now }
     requires size { length came.old ≡ length shape.now }
     requires fresh { (i : ℕ) → kept_in came.old i ≡ None }
-    ensures found { IfOk result (λ r. IfSome r (IsFirstBreach test.now order.old.order)) }
-    ensures none { IfOk result (λ r. IsNone r → IsTsoExecution test.now order.old.order) }
+    ensures breach { IfOk result (TellsFirstBreach test.now order.old.order) }
     ensures same { order.new.order ≡ order.old.order }
     ensures looks { order.new.looks ≤ order.old.looks + 3 * length order.old.order }
 {
@@ -131,8 +123,7 @@ fn breach_of_all<L: Ledger>(
     requires index { IsIndex made.now slots.now }
     requires matched { IsMatched test.now order.old.order }
     requires test { IsTest test.now }
-    ensures found { IfOk result (λ r. IfSome r (IsFirstBreach test.now order.old.order)) }
-    ensures none { IfOk result (λ r. IsNone r → IsTsoExecution test.now order.old.order) }
+    ensures breach { IfOk result (TellsFirstBreach test.now order.old.order) }
     ensures same { order.new.order ≡ order.old.order }
     ensures looks { order.new.looks ≤ order.old.looks + 2 * length order.old.order }
 {
@@ -153,8 +144,10 @@ fn breach_of_all<L: Ledger>(
 /// The first of the axioms' order among what was met.
 fn first_met<L: Ledger>(met: Met, order: &mut Watched<'_, L>) -> Option<Breach>
     requires { IfSome met.late (λ a. a.0 < length order.old.order) }
-    ensures found { (t : Litmus) → IsMatched t order.old.order → HasMet t order.old.order met → IfSome result (IsFirstBreach t order.old.order) }
-    ensures none { (t : Litmus) → IsMatched t order.old.order → HasMet t order.old.order met → IsNone result → IsTsoExecution t order.old.order }
+    ensures found { (t : Litmus) → IsMatched t order.old.order → HasMet t order.old.order met
+        → IfSome result (IsFirstBreach t order.old.order) }
+    ensures none { (t : Litmus) → IsMatched t order.old.order → HasMet t order.old.order met
+        → IsNone result → IsTsoExecution t order.old.order }
     ensures same { order.new.order ≡ order.old.order }
     ensures looks { order.new.looks ≤ order.old.looks + length order.old.order }
 {
@@ -165,7 +158,7 @@ fn first_met<L: Ledger>(met: Met, order: &mut Watched<'_, L>) -> Option<Breach>
         let b = first_overtaking(order, at, &a)?;
         return Some(Breach::ProgramOrder(a, b));
     }
-    if let Some(x) = met.parted {
+    if let Some(x) = met.separated {
         return Some(Breach::NotAdjacent(x));
     }
     let (x, due) = met.wrong_read?;

@@ -6,7 +6,7 @@ ghost use Rattle.tso_model.specs.declared.execution.Entry.{Entry};
 ghost use Rattle.axiom_checker.specs.declared.breach.Breach.{Breach};
 ghost use Rattle.axiom_checker.specs.First.{IsNowhere};
 ghost use Rattle.axiom_checker.specs.Entries.{IsStray, IsMissing, IsWrongWrite};
-ghost use Rattle.axiom_checker.specs.Axioms.{IsLate, IsParted, IsWrongRead};
+ghost use Rattle.axiom_checker.specs.Axioms.{IsLate, IsSeparated, IsWrongRead};
 ghost use Rattle.axiom_checker.specs.FirstBreach.{IsFirstBreach};
 
 /// An order is whole exactly where no entry is extra, there twice, missing or a write of a wrong
@@ -16,7 +16,7 @@ pub fn axioms_fail_by_breaches()
         ↔ (IsNowhere order (IsStray (made t order) order) × IsNowhere (made t order) (IsMissing order)
         × IsNowhere order (IsWrongWrite (made t order))) }
     ensures program_order { (order : List Entry) → KeepsProgramOrder order ↔ IsNowhere order (IsLate order) }
-    ensures pairs { (order : List Entry) → KeepsPairs order ↔ IsNowhere order (IsParted order) }
+    ensures pairs { (order : List Entry) → KeepsPairs order ↔ IsNowhere order (IsSeparated order) }
     ensures read_values { (t : Litmus) (order : List Entry)
         → HasReadValues t order ↔ IsNowhere order (IsWrongRead t order) }
 {}

@@ -1,18 +1,16 @@
 //! The pass over a whole order that looks for breaches of the axioms.
-ghost use Rattle.std.specs.Prelude.{◌≡◌, ◌≢◌, ◌+◌, ◌≤◌, ◌<◌, ◌↔◌, ℕ, true, IsTrue, length, slice_get, slice_index, Option, Some, None, if◌then◌else◌, IfSome, IsNone};
+ghost use Rattle.std.specs.Prelude.{◌≡◌, ◌+◌, ◌≤◌, ◌<◌, ℕ, true, length, slice_get, slice_index, Some, None, if◌then◌else◌, IfSome, IsNone};
 ghost use Rattle.std.specs.Option.{unwrap_or};
 ghost use Rattle.tso_model.specs.ProgramOrder as program_order;
-ghost use Rattle.tso_model.specs.Execution.{made, IsStorePart};
-ghost use Rattle.tso_model.specs.Litmus.{Litmus, IsTest};
-ghost use Rattle.tso_model.specs.declared.execution.Entry.{Entry};
+ghost use Rattle.tso_model.specs.Execution.{IsStorePart};
 ghost use Rattle.axiom_checker.specs.First.{IsEarliest};
-ghost use Rattle.axiom_checker.specs.Entries.{IsExtra, IsWrongWrite, written_value};
+ghost use Rattle.axiom_checker.specs.Entries.{IsExtra, IsWrongWrite};
 ghost use Rattle.axiom_checker.specs.Axioms.{Overtakes, IsLate};
 ghost use Rattle.axiom_checker.specs.Slots.{IsIndex};
-ghost use Rattle.axiom_checker.specs.Sources.{HasSources, IsSource};
+ghost use Rattle.axiom_checker.specs.Sources.{HasSources};
 ghost use Rattle.tso_model.specs.declared.execution.Kind.TheVariants.{LR};
 ghost use Rattle.axiom_checker.specs.Progress as progress;
-ghost use Rattle.axiom_checker.specs.Passing.{AreOfPrograms, HasMet, due_from, first_of};
+ghost use Rattle.axiom_checker.specs.Passing.{AreOfPrograms, HasMetFor, IsDueFrom, NamesWrongWrite, NamesWrongRead, due_from, first_of};
 
 use crate::entries::{is_read, is_store_part, is_write, must_stand_before, rank};
 use crate::progress::{is_late, reach, settle, write};
@@ -39,7 +37,7 @@ pub struct Met {
     /// An entry that came too late, and its place in the order.
     pub late: Option<(usize, Entry)>,
     /// A load part that isn't followed at once by its store part.
-    pub parted: Option<Entry>,
+    pub separated: Option<Entry>,
     /// A read of another value than is due, and that value.
     pub wrong_read: Option<(Entry, u32)>,
 }
@@ -59,7 +57,7 @@ pub fn pass<L: Ledger>(
     requires of_programs { AreOfPrograms programs.made.now (length reached.old) (length words.old) order.old.order }
     requires settled { length settled.old ≡ length reached.old }
     requires none_yet { (c : ℕ) → (slice_index reached.old c ≡ 0) × (slice_index settled.old c ≡ 0) }
-    ensures met { (t : Litmus) → IsTest t → t.words ≡ words.old → programs.entry.made.now ≡ made t order.old.order → HasMet t order.old.order result }
+    ensures met { HasMetFor words.old programs.entry.made.now order.old.order result }
     ensures within { IfSome result.late (λ a. a.0 < length order.old.order) }
     ensures same { order.new.order ≡ order.old.order }
     ensures looks { order.new.looks ≤ order.old.looks + length order.old.order }
@@ -67,7 +65,7 @@ pub fn pass<L: Ledger>(
     let mut met = Met {
         wrong_write: None,
         late: None,
-        parted: None,
+        separated: None,
         wrong_read: None,
     };
     if order.len() == 0 {
@@ -75,11 +73,11 @@ pub fn pass<L: Ledger>(
     }
     let mut x = order.look(0);
     for at in 0..order.len() {
-        let next = entry_behind(order, at, x);
+        let next = entry_after(order, at, x);
         met = Met {
             wrong_write: first(met.wrong_write, wrong_write(programs, &x)),
             late: first(met.late, late(reached, settled, at, &x)),
-            parted: first(met.parted, parted(&x, &next)),
+            separated: first(met.separated, separated(&x, &next)),
             wrong_read: first(met.wrong_read, wrong_read(programs, settled, words, &x)),
         };
         reach(reached, &x);
@@ -101,7 +99,7 @@ fn first<T: Copy>(earlier: Option<T>, later: Option<T>) -> Option<T>
 }
 
 /// The entry after this place, or x, the one at this place, where it is the last.
-fn entry_behind<L: Ledger>(order: &mut Watched<'_, L>, at: usize, x: Entry) -> Entry
+fn entry_after<L: Ledger>(order: &mut Watched<'_, L>, at: usize, x: Entry) -> Entry
     requires { at < length order.old.order }
     ensures next { result ≡ unwrap_or (slice_get order.old.order (at + 1)) x }
     ensures same { order.new.order ≡ order.old.order }
@@ -118,7 +116,7 @@ fn entry_behind<L: Ledger>(order: &mut Watched<'_, L>, at: usize, x: Entry) -> E
 /// A write with the value that its program gives it, where that is another.
 fn wrong_write(programs: Programs<'_>, x: &Entry) -> Option<(Entry, u32)>
     requires { IsIndex programs.made.now programs.slots.now }
-    ensures found { ¬ IsExtra programs.entry.made.now x.now → IfSome result (λ w. (w.0 ≡ x.now) × IsWrongWrite programs.entry.made.now 0 x.now × (w.1 ≡ written_value programs.entry.made.now x.now)) }
+    ensures found { ¬ IsExtra programs.entry.made.now x.now → IfSome result (NamesWrongWrite programs.entry.made.now x.now) }
     ensures none { ¬ IsExtra programs.entry.made.now x.now → IsNone result → ¬ IsWrongWrite programs.entry.made.now 0 x.now }
 {
     if !is_write(x) {
@@ -145,7 +143,7 @@ fn late(reached: &[u32], settled: &[u32], at: usize, x: &Entry) -> Option<(usize
 }
 
 /// The entry where it is a load part and the next one isn't its store part.
-fn parted(x: &Entry, next: &Entry) -> Option<Entry>
+fn separated(x: &Entry, next: &Entry) -> Option<Entry>
     ensures found { IfSome result (λ p. (p ≡ x.now) × (x.now.kind ≡ LR) × ¬ IsStorePart x.now next.now) }
     ensures none { IsNone result → x.now.kind ≡ LR → IsStorePart x.now next.now }
 {
@@ -166,10 +164,10 @@ fn wrong_read(
 ) -> Option<(Entry, u32)>
     requires index { IsIndex programs.made.now programs.slots.now }
     requires sources { HasSources programs.made.now programs.sources.now }
-    ensures found { ¬ IsExtra programs.entry.made.now x.now → IfSome result (λ w. (w.0 ≡ x.now) × (program_order.is_read x.now ≡ true) × (x.now.value ≢ w.1)
-        × ((source : Option Entry) × IsSource programs.entry.made.now x.now source × (w.1 ≡ due_from source settled.now words.now x.now))) }
+    ensures found { ¬ IsExtra programs.entry.made.now x.now
+        → IfSome result (NamesWrongRead programs.entry.made.now settled.now words.now x.now) }
     ensures none { ¬ IsExtra programs.entry.made.now x.now → IsNone result → program_order.is_read x.now ≡ true
-        → ((source : Option Entry) × IsSource programs.entry.made.now x.now source × (x.now.value ≡ due_from source settled.now words.now x.now)) }
+        → IsDueFrom programs.entry.made.now settled.now words.now x.now x.now.value }
 {
     if !is_read(x) {
         return None;

@@ -1,3 +1,5 @@
+//! The hash of a line's number.
+
 ghost use Rattle.std.specs.Prelude.{◌≡◌, fold};
 
 use std::hash::{BuildHasher, Hasher};

@@ -69,7 +69,7 @@ impl CacheSet {
     /// An empty set for `ways` lines, from 1 to `MAX_WAYS`. Of the other calls only `fill` takes
     /// memory.
     ///
-    /// Fails only for want of memory.
+    /// Errors: out of memory only.
     pub fn new(alloc: Global, ways: u8) -> Result<Self, NoMemory>
         requires { (0 < ways) × (ways ≤ most_ways) }
         ensures { IfOk result (λ s. s ≡ contents [] ways) }
@@ -107,7 +107,7 @@ impl CacheSet {
     /// A line that is not here comes in at the front, in a state other than I. A full set hands its
     /// last line back.
     ///
-    /// Fails only for want of memory; nothing is changed then.
+    /// Errors: out of memory only; nothing is changed then.
     pub fn fill(
         &mut self,
         line: u8,
@@ -161,5 +161,14 @@ impl CacheSet {
         ensures copies { (k : ℕ) → copy_of self.new k ≡ (if nat_eq k line then None else copy_of self.old k) }
     {
         self.lines.pop(&line).unwrap()
+    }
+
+    /// Every line leaves, so that the set is as `new` left it.
+    pub fn clear(&mut self)
+        ensures exact { self.new ≡ contents [] self.old.ways }
+        ensures valid { IsCacheSet self.new }
+        ensures copies { (k : ℕ) → copy_of self.new k ≡ None }
+    {
+        self.lines.clear();
     }
 }

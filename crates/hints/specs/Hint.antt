@@ -7,7 +7,7 @@ use Rattle.tso_model.specs.Names.{is_printable}
 abbrev pub longest_hint : ℕ
 longest_hint = 256
 
--- bytes of its words, at most: six stand before them, and one behind
+-- bytes of its words, at most: six stand before them, and one after
 abbrev pub most_words : ℕ
 most_words = 249
 

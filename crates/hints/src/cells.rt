@@ -11,7 +11,7 @@ const NO_INSTRUCTION: &str = " is not one of MOV, MFENCE, XCHG, LOCK XADD";
 
 /// Of the cell at the front of a text.
 ///
-/// Fails only for want of memory.
+/// Errors: out of memory only.
 pub fn bad_instruction<'a>(alloc: Global, rest: &'a [u8]) -> Result<Words<'a>, NoMemory> {
     let cell = without_end(up_to(up_to(rest, b'|'), b';'));
     if cell.contains(&b'\n') {
@@ -41,7 +41,7 @@ fn cell_words<'a>(cell: &'a [u8], tokens: &[Token<'a>]) -> Words<'a> {
     }
 }
 
-/// Of what stands behind LOCK.
+/// Of what stands after LOCK.
 fn locked_words<'a>(tokens: &[Token<'a>]) -> Words<'a> {
     if let Some((first, rest)) = tokens.split_first() {
         let name = name_of(first);
@@ -55,7 +55,7 @@ fn locked_words<'a>(tokens: &[Token<'a>]) -> Words<'a> {
     plain("LOCK stands before XCHG or XADD alone")
 }
 
-/// Of an instruction without LOCK, by its name and what stands behind it.
+/// Of an instruction without LOCK, by its name and what stands after it.
 fn single_words<'a>(cell: &'a [u8], name: &[u8], tokens: &[Token<'a>]) -> Words<'a> {
     if name.eq_ignore_ascii_case(b"MOV") {
         operand_words(

@@ -9,7 +9,7 @@ use tso_model::NoMemory;
 
 /// The place and the words of a fault in choices of a test with so many cores.
 ///
-/// Fails only for want of memory.
+/// Errors: out of memory only.
 pub fn choice_words<'a>(
     alloc: Global,
     cores: u8,
@@ -68,7 +68,7 @@ enum Part {
     Count,
 }
 
-/// Which word of its item stands behind these words.
+/// Which word of its item stands after these words.
 fn part_behind(words: &[&[u8]]) -> Part {
     let mut part = Part::First;
     for word in words {

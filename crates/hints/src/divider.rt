@@ -4,7 +4,7 @@ use crate::hinting::Asked;
 use crate::quotes::{is_choice, word};
 use crate::words::{Words, naming};
 
-/// What is said where an input without a dividing line goes on behind its test as it would behind such
+/// What is said where an input without a dividing line goes on after its test as it would after such
 /// a line.
 pub fn missing_divider<'a>(asked: Asked, is_divided: bool, rest: &'a [u8]) -> Option<Words<'a>> {
     if is_divided {

@@ -16,7 +16,7 @@ use tso_model::NoMemory;
 
 /// The words for a fault at a place of a test.
 ///
-/// Fails only for want of memory.
+/// Errors: out of memory only.
 pub fn test_words<'a>(
     alloc: Global,
     asked: Asked,

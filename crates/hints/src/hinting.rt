@@ -16,7 +16,7 @@ use scheduler::{ChoiceFault, read_choices};
 use std::alloc::Global;
 use tso_model::{NoMemory, Test};
 
-/// What a command reads behind the dividing line, or whose choices it makes.
+/// What a command reads after the dividing line, or whose choices it makes.
 #[derive(Clone, Copy)]
 pub enum Asked {
     /// Choices, for a machine with store buffers or without.
@@ -29,7 +29,7 @@ pub enum Asked {
 
 /// The hint of an input that has too many bytes.
 ///
-/// Fails only for want of memory.
+/// Errors: out of memory only.
 pub fn size_hint(alloc: Global) -> Result<String, NoMemory>
     ensures { IfOk result (λ text. IsHint (string_bytes text)) }
 {
@@ -40,10 +40,10 @@ pub fn size_hint(alloc: Global) -> Result<String, NoMemory>
     )
 }
 
-/// The hint of an input that was refused: of the test that is its first part, or of what stands behind
+/// The hint of an input that was refused: of the test that is its first part, or of what stands after
 /// the dividing line. `None` says that there is no such line.
 ///
-/// Fails only for want of memory.
+/// Errors: out of memory only.
 pub fn refusal_hint(
     alloc: Global,
     asked: Asked,
@@ -119,7 +119,7 @@ fn refused_order(alloc: Global, test: &Test, text: &[u8]) -> Option<OrderFault> 
 
 /// The hint of which nothing more is known.
 ///
-/// Fails only for want of memory.
+/// Errors: out of memory only.
 pub fn general_hint(alloc: Global) -> Result<String, NoMemory>
     ensures { IfOk result (λ text. IsHint (string_bytes text)) }
 {
@@ -131,9 +131,9 @@ pub fn general_hint(alloc: Global) -> Result<String, NoMemory>
 }
 
 /// The hint of a run that didn't end, or of a sweep some of whose runs didn't: of its test, and of what
-/// stands behind the dividing line.
+/// stands after the dividing line.
 ///
-/// Fails only for want of memory.
+/// Errors: out of memory only.
 pub fn unended_hint(
     alloc: Global,
     asked: Asked,

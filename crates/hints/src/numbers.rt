@@ -7,7 +7,7 @@ use tso_model::NoMemory;
 
 /// Of an item with a value over the greatest.
 ///
-/// Fails only for want of memory.
+/// Errors: out of memory only.
 pub fn bad_number<'a>(alloc: Global, rest: &'a [u8]) -> Result<Words<'a>, NoMemory> {
     let tokens = tokens_of(alloc, rest)?;
     Ok(match first_over(&tokens.items) {

@@ -68,7 +68,7 @@ fn unclosed_row<'a>(asked: Asked, is_divided: bool, place: Place<'a>) -> Words<'
     }
 }
 
-/// What is said of a word that is nearly one that stands behind the rows.
+/// What is said of a word that is nearly one that stands after the rows.
 fn nearly_keyword<'a>(token: &'a [u8]) -> Option<Words<'a>> {
     if token.eq_ignore_ascii_case(b"exist") || token.eq_ignore_ascii_case(b"exists") {
         Some(naming(token, " is no instruction: write exists"))

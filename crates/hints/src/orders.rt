@@ -8,7 +8,7 @@ use tso_model::{Loc, NoMemory, Test};
 
 /// The place and the words of a fault in an order of a test.
 ///
-/// Fails only for want of memory.
+/// Errors: out of memory only.
 pub fn order_words<'a>(
     test: &Test,
     text: &'a [u8],
@@ -100,7 +100,7 @@ fn location_in(line: &[u8]) -> Option<&[u8]> {
     Some(up_to(access, b'='))
 }
 
-/// What stands behind the first such byte.
+/// What stands after the first such byte.
 fn behind(text: &[u8], byte: u8) -> Option<&[u8]> {
     let (_, rest) = text.split_at(up_to(text, byte).len().min(text.len()));
     let (_, behind) = rest.split_first()?;

@@ -30,13 +30,13 @@ pub enum Where {
     Line(usize),
     /// A word of choices, from 1.
     Word(usize),
-    /// A line behind the dividing line, from 1.
+    /// A line after the dividing line, from 1.
     LineBehind(usize),
 }
 
 /// The line that says these words.
 ///
-/// Fails only for want of memory.
+/// Errors: out of memory only.
 pub fn hint(alloc: Global, place: Where, words: &Words<'_>) -> Result<String, NoMemory>
     ensures { IfOk result (λ text. IsHint (string_bytes text)) }
 {

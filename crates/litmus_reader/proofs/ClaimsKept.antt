@@ -16,12 +16,12 @@ use Rattle.litmus_reader.specs.declared.fault.Fault.{Fault}
 use Rattle.litmus_reader.specs.Faults.{◌>>=◌, or_unfit}
 use Rattle.litmus_reader.specs.Locations.{located}
 use Rattle.litmus_reader.specs.Items.{setting_at, word_at, core_of}
-use Rattle.litmus_reader.specs.Conditions.{claim_in, Claimed, claimed, one_more, truth_at, truth_atom, setting_atom, atom_at, Proposition, joined_to, chain, chain_of, both, either, conjunction, disjunction, negation_at, opens_unit, negated, bracketed, unit_by, unit_at, proposition_at, Conditioned, with_claim, quantified, not_exists, condition_at}
+use Rattle.litmus_reader.specs.Conditions.{claim_in, Claimed, claimed, one_more, truth_at, truth_atom, setting_atom, atom_at, Proposition, joined_to, chain, chain_of, both, either, conjunction, disjunction, negation_at, opens_unit, negated, bracketed, unit_by, unit_at, proposition_at, Conditioned, with_claim, quantified, not_exists, condition_at, in_condition}
 use Rattle.litmus_reader.specs.Keywords.{word_behind}
 use Rattle.litmus_reader.proofs.Keeps.{Any, ok_any, some_any, bind_keeps, there_keeps, cond_keeps, core_keeps}
 use Rattle.litmus_reader.proofs.Named.{NamedSetting, setting_named}
 use Rattle.litmus_reader.proofs.Known.{AreNames, Grown, same_names, grown_further, LocatesIn, located_keeps}
-use Rattle.litmus_reader.specs.Places.{left_of, in_condition}
+use Rattle.litmus_reader.specs.Places.{left_of}
 use Rattle.litmus_reader.specs.Written.{Setting, of_register, of_location}
 
 exist_further : (cores m n : ℕ) (c : Claim) → m ≤ n → NamesExist cores m c → NamesExist cores n c
@@ -54,7 +54,7 @@ claim_keeps cores left names (of_location x v) h is =
 
 -- ---- propositions
 
--- what has been read of a proposition behind so many atoms, with at most d negations within one another
+-- what has been read of a proposition after so many atoms, with at most d negations within one another
 pub record KeptClaim (cores d before : ℕ) (old : List (List ℕ)) (c : Claimed) : Type 0 where
   pub grown : Grown old c.names
   pub exist : NamesExist cores (length c.names) c.claim

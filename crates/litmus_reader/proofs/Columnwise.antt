@@ -1,7 +1,7 @@
 -- Rows by their columns, and as one list of instructions with their cores.
 use Rattle.std.proofs.Common.{◌≡◌, ℕ, zero, suc, ◌+◌, ◌<◌, ◌≤◌, Bool, true, false, cond, eqb, eqb-true, eq-eqb, List, [], ◌∷◌, ◌++◌, length, map, filter, All, Option, Some, None, refl, sym, ap, subst, ◌∙◌, append_assoc, append-nil, arith}
-use Rattle.std.specs.Prelude.{count_by}
-use Rattle.std.specs.List.{range_with_len}
+use Rattle.std.specs.Prelude.{count_by, slice_index_or}
+use Rattle.std.specs.List.{range_with_len, flat_map}
 use Rattle.std.proofs.lemmas.List.{map-append}
 use Rattle.std.proofs.lemmas.List.Sums.{sum_by-append}
 use Rattle.std.proofs.lemmas.List.Elements.{All-nil, All-cons, All-head, All-tail}
@@ -14,9 +14,8 @@ use Rattle.litmus_reader.specs.declared.fault.Fault.{Fault}
 use Rattle.litmus_reader.specs.Cells.{of_core}
 use Rattle.litmus_reader.specs.Reading.{program_of, programs_from}
 use Rattle.litmus_reader.specs.GrammarNames.{numbered}
-use Rattle.litmus_reader.specs.GrammarTable.{in_row, in_rows, field_of, column, location_in, named_by_all, instr_with, ValueFits, AreWithin}
-use Rattle.litmus_reader.specs.GrammarTest.{program}
-use Rattle.litmus_reader.specs.RefusedTable.{AreSpelled, none, more, with_cells, IsCellFault, IsRowFault}
+use Rattle.litmus_reader.specs.GrammarTable.{in_rows, column, location_in, instr_with, ValueFits, AreWithin, in_field}
+use Rattle.litmus_reader.specs.RefusedTable.{AreSpelled, none, more, add_cells, IsCellFault, IsRowFault}
 use Rattle.litmus_reader.specs.RefusedTable as refused
 use Rattle.litmus_reader.specs.Written.{Shape}
 use Rattle.litmus_reader.proofs.Placed.{Placed, placed, placed_from, placed_in, locations_of, instrs_with, ValuesFit, EntriesWithin}
@@ -24,6 +23,29 @@ use Rattle.litmus_reader.proofs.PlacedFaults.{IsEntryFault, IsEntriesFault}
 use Rattle.litmus_reader.proofs.PlacedFaults as read
 
 -- ---- all instructions
+
+-- the instructions of a row, and the locations that some name
+abbrev pub in_row : List (Option Shape) → List Shape
+in_row cells = flat_map in_field cells
+
+abbrev pub named_by_all : List Shape → List (List ℕ)
+named_by_all shapes = flat_map location_in shapes
+
+-- a core's program: the instructions of its column
+abbrev pub program : List (List ℕ) → List (List (Option Shape)) → ℕ → List Instr
+program names table core = map (instr_with names) (column core table)
+
+-- what a row has in a core's column
+abbrev pub field_of : ℕ → List (Option Shape) → List Shape
+field_of core [] = []
+field_of zero (c ∷ cells) = in_field c
+field_of (suc core) (c ∷ cells) = field_of core cells
+
+pub field-there : (core : ℕ) (row : List (Option Shape)) → field_of core row ≡ in_field (slice_index_or row core None)
+field-there zero [] = refl
+field-there (suc core) [] = refl
+field-there zero (c ∷ cells) = refl
+field-there (suc core) (c ∷ cells) = field-there core cells
 
 abbrev shape_of : Placed → Shape
 shape_of e = e.shape
@@ -94,7 +116,7 @@ picked-column : (core : ℕ) (table : List (List (Option Shape))) → picked cor
 picked-column core [] = refl
 picked-column core (row ∷ others) =
     picked-append core (placed_from 0 row) (placed_in others) ∙ ap (λ (l : List Shape). l ++ picked core (placed_in others)) (picked-from row core 0 core (omega arith))
-    ∙ ap (λ (l : List Shape). field_of core row ++ l) (picked-column core others)
+    ∙ ap (λ (l : List Shape). field_of core row ++ l) (picked-column core others) ∙ ap (λ (l : List Shape). l ++ column core others) (field-there core row)
 
 picked-count : (core : ℕ) (es : List Placed) → count_by (λ e. eqb e.core core) es ≡ length (picked core es)
 picked-count core [] = refl
@@ -137,7 +159,7 @@ columns_within names table h = record {
 
 -- ---- one row more, and one cell more
 
-placed-more : (table : List (List (Option Shape))) (cells : List (Option Shape)) → placed_in (with_cells table cells) ≡ placed_in table ++ placed_from 0 cells
+placed-more : (table : List (List (Option Shape))) (cells : List (Option Shape)) → placed_in (add_cells table cells) ≡ placed_in table ++ placed_from 0 cells
 placed-more [] cells = append-nil (placed_from 0 cells)
 placed-more (row ∷ others) cells = ap (λ (l : List Placed). placed_from 0 row ++ l) (placed-more others cells) ∙ sym (append_assoc (placed_from 0 row) (placed_in others) (placed_from 0 cells))
 
@@ -147,7 +169,7 @@ placed-further core other (None ∷ cells) shape e = placed-further (core + 1) o
 placed-further core other (Some s ∷ cells) shape e = ap (λ (l : List Placed). placed core s ∷ l) (placed-further (core + 1) other cells shape (omega arith))
 
 with-cell : (table : List (List (Option Shape))) (cells : List (Option Shape)) (shape : Shape) (core : ℕ) → core ≡ length cells
-    → (placed_in table ++ placed_from 0 cells) ++ placed core shape ∷ [] ≡ placed_in (with_cells table (cells ++ Some shape ∷ []))
+    → (placed_in table ++ placed_from 0 cells) ++ placed core shape ∷ [] ≡ placed_in (add_cells table (cells ++ Some shape ∷ []))
 with-cell table cells shape core e =
     append_assoc (placed_in table) (placed_from 0 cells) (placed core shape ∷ [])
     ∙ ap (λ (l : List Placed). placed_in table ++ l) (sym (placed-further 0 core cells shape (omega arith))) ∙ sym (placed-more table (cells ++ Some shape ∷ []))
@@ -163,21 +185,21 @@ entry_fault : (names : List (List ℕ)) (table : List (List (Option Shape))) (be
 entry_fault names table before core cell _ e (refused.bad_instruction never) = read.bad_instruction never
 entry_fault names table before core cell _ e (refused.bad_number shape is big) = read.bad_number shape is big
 entry_fault names table before core cell _ e (refused.one_too_many shape is fits past) =
-    read.one_too_many shape is fits (λ within. past (columns_within names (with_cells table (before ++ Some shape ∷ [])) (subst (EntriesWithin names) (with-cell table before shape core e) within)))
+    read.one_too_many shape is fits (λ within. past (columns_within names (add_cells table (before ++ Some shape ∷ [])) (subst (EntriesWithin names) (with-cell table before shape core e) within)))
 
 cell_fault : (names : List (List ℕ)) (table : List (List (Option Shape))) (before : List (Option Shape)) (core : ℕ) (cell : List Piece) (why : Why) → core ≡ length before
     → IsEntryFault names (placed_in table ++ placed_from 0 before) core cell why → IsCellFault names table before cell why
 cell_fault names table before core cell _ e (read.bad_instruction never) = refused.bad_instruction never
 cell_fault names table before core cell _ e (read.bad_number shape is big) = refused.bad_number shape is big
 cell_fault names table before core cell _ e (read.one_too_many shape is fits past) =
-    refused.one_too_many shape is fits (λ within. past (subst (EntriesWithin names) (sym (with-cell table before shape core e)) (entries_within names (with_cells table (before ++ Some shape ∷ [])) within)))
+    refused.one_too_many shape is fits (λ within. past (subst (EntriesWithin names) (sym (with-cell table before shape core e)) (entries_within names (add_cells table (before ++ Some shape ∷ [])) within)))
 
 pub entries_fault : (stop : Stop) (cores : ℕ) (names : List (List ℕ)) (table : List (List (Option Shape))) (ps : List Piece) (f : Fault) → IsRowFault stop cores names table ps f
     → IsEntriesFault stop cores names (placed_in table) ps f
 entries_fault stop cores names table ps _ (refused.unclosed lacks) = read.unclosed lacks
 entries_fault stop cores names table ps _ (refused.wrong_cells some differs) = read.wrong_cells some differs
 entries_fault stop cores names table ps _ (refused.in_cell done after first cell spelled why some count cells are within bad) =
-    read.in_cell done after first cell spelled why some count cells are (subst (EntriesWithin names) (placed-more table spelled) (entries_within names (with_cells table spelled) within))
+    read.in_cell done after first cell spelled why some count cells are (subst (EntriesWithin names) (placed-more table spelled) (entries_within names (add_cells table spelled) within))
     (entry_fault names table spelled (length done) (first ∷ cell) why (spelled_count done spelled are) bad)
 
 pub row_fault : (stop : Stop) (cores : ℕ) (names : List (List ℕ)) (table : List (List (Option Shape))) (ps : List Piece) (f : Fault) → IsEntriesFault stop cores names (placed_in table) ps f
@@ -185,5 +207,5 @@ pub row_fault : (stop : Stop) (cores : ℕ) (names : List (List ℕ)) (table : L
 row_fault stop cores names table ps _ (read.unclosed lacks) = refused.unclosed lacks
 row_fault stop cores names table ps _ (read.wrong_cells some differs) = refused.wrong_cells some differs
 row_fault stop cores names table ps _ (read.in_cell done after first cell spelled why some count cells are within bad) =
-    refused.in_cell done after first cell spelled why some count cells are (columns_within names (with_cells table spelled) (subst (EntriesWithin names) (sym (placed-more table spelled)) within))
+    refused.in_cell done after first cell spelled why some count cells are (columns_within names (add_cells table spelled) (subst (EntriesWithin names) (sym (placed-more table spelled)) within))
     (cell_fault names table spelled (length done) (first ∷ cell) why (spelled_count done spelled are) bad)

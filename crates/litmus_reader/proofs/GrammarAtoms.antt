@@ -10,7 +10,8 @@ use Rattle.tso_model.specs.Names.{is_name, is_register_word, is_keyword, is_loca
 use Rattle.tso_model.specs.declared.instruction.Loc.{Loc}
 use Rattle.litmus_tokens.specs.declared.token.Stop.{Stop}
 use Rattle.litmus_tokens.specs.declared.token.Symbol.TheVariants.{Equals, Colon, OpenSquare, CloseSquare, OpenRound}
-use Rattle.litmus_tokens.specs.Terms.{Term, number, name, symbol, decimal}
+use Rattle.decimals.specs.Decimals.{decimal_value}
+use Rattle.litmus_tokens.specs.Terms.{Term, number, name, symbol}
 use Rattle.litmus_tokens.specs.Pieces.{Piece}
 use Rattle.litmus_tokens.specs.Front.{is_symbol, symbol_at, name_at}
 use Rattle.litmus_reader.specs.declared.fault.Why.TheVariants.{TooLarge, NoSuchCore}
@@ -18,20 +19,37 @@ use Rattle.litmus_reader.specs.Faults.{there}
 use Rattle.litmus_reader.specs.Keywords.{if_word, word_behind}
 use Rattle.litmus_reader.specs.Locations.{located}
 use Rattle.litmus_reader.specs.Items.{setting_at, or_bad_number, word_at, core_of}
-use Rattle.litmus_reader.specs.Conditions.{claim_in, Claimed, claimed, one_more, truth_at, truth_atom, setting_atom, atom_at, negation_at}
+use Rattle.litmus_reader.specs.Conditions.{claim_in, Claimed, claimed, one_more, truth_at, truth_atom, setting_atom, atom_at, negation_at, in_condition}
 use Rattle.litmus_reader.specs.Grammar.{terms}
 use Rattle.litmus_reader.specs.GrammarItems.{IsSetting, sets_register, sets_location, sets_in_squares}
+use Rattle.litmus_reader.specs.GrammarInitial.{names_in, is_allowed}
 use Rattle.litmus_reader.specs.GrammarNames.{numbered, number_of, with_name, location}
-use Rattle.litmus_reader.specs.GrammarConditions.{IsAtom, says_true, says_false, says_setting, named_by, SettingFits, setting_claim, IsWithin}
+use Rattle.litmus_reader.specs.GrammarConditions.{IsAtom, says_true, says_false, says_setting, Fits, claim_of, IsWithin}
 use Rattle.litmus_reader.proofs.GrammarTokens.{chosen, there_is, there_some, some_is, ok_is, ok_pair, bind_ok, opened, name_takes}
 use Rattle.litmus_reader.proofs.GrammarItems.{setting_found, setting_taken}
 use Rattle.litmus_reader.proofs.GrammarPhrases.{Finds, Taken, Takes, Anything}
 use Rattle.litmus_reader.proofs.GrammarNames.{with_name_by, place_below, place_none, known_with, number_with}
 use Rattle.litmus_reader.proofs.Readings.{Begins, given_by, ReadsPhrase}
-use Rattle.litmus_reader.specs.Places.{fault, left_of, in_condition}
+use Rattle.litmus_reader.specs.Places.{fault, left_of}
 use Rattle.litmus_reader.specs.Written.{Setting, of_register, of_location, truth, atom}
 
 -- ---- atoms
+
+-- the core is one of the test, and a word has room for the number
+abbrev pub SettingFits : ℕ → Setting → Type 0
+SettingFits cores (of_register core reg v) = (decimal_value core < cores) × (v < 2 ^ 32)
+SettingFits cores (of_location x v) = v < 2 ^ 32
+
+pub atom_fits : (cores : ℕ) (s : Setting) → SettingFits cores s → Fits cores (atom s)
+atom_fits cores (of_register core reg v) f = rw (lt-ltb (decimal_value core) cores f.0, lt-ltb v (2 ^ 32) f.1) refl
+atom_fits cores (of_location x v) f = rw (lt-ltb v (2 ^ 32) f) refl
+
+pub fits_atom : (cores : ℕ) (s : Setting) → Fits cores (atom s) → SettingFits cores s
+fits_atom cores (of_register core reg v) f =
+    let whole = and_parts (is_allowed cores (of_register core reg v)) true f in
+    let parts = and_parts (ltb (decimal_value core) cores) (ltb v (2 ^ 32)) whole.0 in
+    (ltb-true _ _ parts.0, ltb-true _ _ parts.1)
+fits_atom cores (of_location x v) f = ltb-true _ _ (and_parts (ltb v (2 ^ 32)) true f).0
 
 one_more_ok : (left atoms n : ℕ) → one_more left atoms ≡ Ok n → (n ≡ atoms + 1) × (atoms < 256)
 one_more_ok left atoms n e =
@@ -53,19 +71,19 @@ word_ok left v n e = by_room (ltb v (2 ^ 32)) refl e
 pub word_is : (left v : ℕ) → v < 2 ^ 32 → word_at left v ≡ Ok v
 word_is left v small = rw (lt-ltb v (2 ^ 32) small) refl
 
-core_ok : (cores left : ℕ) (digits : List ℕ) (n : ℕ) → core_of cores left digits ≡ Ok n → (decimal digits ≡ n) × (decimal digits < cores)
+core_ok : (cores left : ℕ) (digits : List ℕ) (n : ℕ) → core_of cores left digits ≡ Ok n → (decimal_value digits ≡ n) × (decimal_value digits < cores)
 core_ok cores left digits n e =
-    elim (chosen (ltb (decimal digits) cores) (Ok (decimal digits)) (Err (fault NoSuchCore left)) (Ok n) e) [
-      | inl hit ↦ (ok_is (decimal digits) n hit.1, ltb-true _ _ hit.0)
+    elim (chosen (ltb (decimal_value digits) cores) (Ok (decimal_value digits)) (Err (fault NoSuchCore left)) (Ok n) e) [
+      | inl hit ↦ (ok_is (decimal_value digits) n hit.1, ltb-true _ _ hit.0)
       | inr miss ↦ absurd cc
     ]
 
-core_is : (cores left : ℕ) (digits : List ℕ) → decimal digits < cores → core_of cores left digits ≡ Ok (decimal digits)
-core_is cores left digits below = rw (lt-ltb (decimal digits) cores below) refl
+core_is : (cores left : ℕ) (digits : List ℕ) → decimal_value digits < cores → core_of cores left digits ≡ Ok (decimal_value digits)
+core_is cores left digits below = rw (lt-ltb (decimal_value digits) cores below) refl
 
 -- a setting is judged as it fits
-claim_found : (cores left : ℕ) (names : List (List ℕ)) (s : Setting) → SettingFits cores s → length (numbered names (named_by s)) ≤ 16
-    → claim_in cores left names s ≡ Ok (setting_claim (numbered names (named_by s)) s, numbered names (named_by s))
+claim_found : (cores left : ℕ) (names : List (List ℕ)) (s : Setting) → SettingFits cores s → length (numbered names (names_in (s ∷ []))) ≤ 16
+    → claim_in cores left names s ≡ Ok (claim_of (numbered names (names_in (s ∷ []))) (atom s), numbered names (names_in (s ∷ [])))
 unfolding claim_in numbered located
 claim_found cores left names (of_register digits reg v) fits room = rw (core_is cores left digits fits.0, word_is left v fits.1) refl
 claim_found cores left names (of_location x v) fits room =
@@ -75,9 +93,9 @@ claim_found cores left names (of_location x v) fits room =
 
 pub record ClaimTaken (cores : ℕ) (names : List (List ℕ)) (s : Setting) (c : Claim × List (List ℕ)) : Type 0 where
   pub fits : SettingFits cores s
-  pub names_are : c.1 ≡ numbered names (named_by s)
-  pub claim_is : c.0 ≡ setting_claim (numbered names (named_by s)) s
-  pub room : length names ≤ 16 → length (numbered names (named_by s)) ≤ 16
+  pub names_are : c.1 ≡ numbered names (names_in (s ∷ []))
+  pub claim_is : c.0 ≡ claim_of (numbered names (names_in (s ∷ []))) (atom s)
+  pub room : length names ≤ 16 → length (numbered names (names_in (s ∷ []))) ≤ 16
 
 pub located_ok : (left : ℕ) (names : List (List ℕ)) (x : List ℕ) (r : Loc × List (List ℕ)) → located left names x ≡ Ok r
     → (r.0 ≡ location (number_of names x)) × (r.1 ≡ with_name names x) × (number_of names x < 16)
@@ -105,7 +123,7 @@ claim_taken cores left names (of_register digits reg v) c e =
     record {
       fits = (core.1, word.1);
       names_are = sym same.1;
-      claim_is = sym same.0 ∙ ap (λ (n : ℕ). RegClaim n reg b.0) (sym core.0) ∙ ap (λ (n : ℕ). RegClaim (decimal digits) reg n) (sym word.0);
+      claim_is = sym same.0 ∙ ap (λ (n : ℕ). RegClaim n reg b.0) (sym core.0) ∙ ap (λ (n : ℕ). RegClaim (decimal_value digits) reg n) (sym word.0);
       room = λ le. le;
     }
 claim_taken cores left names (of_location x v) c e =
@@ -123,7 +141,7 @@ claim_taken cores left names (of_location x v) c e =
 
 -- ---- the first token of a setting
 
-no_keyword : (x word : List ℕ) → is_location_name x ≡ true → is_keyword word ≡ true → bytes_eq x word ≡ false
+pub no_keyword : (x word : List ℕ) → is_location_name x ≡ true → is_keyword word ≡ true → bytes_eq x word ≡ false
 no_keyword x word good bad = by_test (bytes_eq x word) refl
   where
     by_test : (b : Bool) → bytes_eq x word ≡ b → b ≡ false
@@ -165,7 +183,7 @@ unfolding atom_at setting_atom
 setting_atom_found stop cores ts s is atoms names allowed back ps e =
     let plain = setting_plain ts back s is ps e in
     let f = setting_found (in_condition stop) ts back s is ps e in
-    let claim = claim_found cores (left_of ps) names s allowed.fits allowed.room in
+    let claim = claim_found cores (left_of ps) names s (fits_atom cores s allowed.fits) allowed.room in
     let done : atom_at stop cores atoms names ps ≡ Ok (given_by atoms names (atom s) f.rest) = rw (plain.no_truth, f.is, claim, one_more_is (left_of ps) atoms allowed.few) refl in
     record { rest = f.rest; is = done; behind = f.behind }
 
@@ -218,7 +236,7 @@ setting_atom_taken stop cores atoms names ps c e =
       phrase = atom a.0.0;
       is = says_setting t.ts a.0.0 t.is;
       parts = t.parts;
-      fits = claim.fits;
+      fits = atom_fits cores a.0.0 claim.fits;
       names_are = claim.names_are;
       claim_is = claim.claim_is;
       atoms_are = count.0;
@@ -237,7 +255,7 @@ truth_atom_taken left cores atoms names ps t c at e =
       phrase = truth t.0;
       is = b.is;
       parts = b.parts;
-      fits = tt;
+      fits = refl;
       names_are = refl;
       claim_is = refl;
       atoms_are = count.0;

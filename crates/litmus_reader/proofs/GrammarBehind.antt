@@ -17,14 +17,13 @@ use Rattle.litmus_reader.specs.declared.fault.Part.{Part}
 use Rattle.litmus_reader.specs.declared.cell.CoreInstr.{CoreInstr}
 use Rattle.litmus_reader.specs.Faults.{◌>>=◌, or_unfit}
 use Rattle.litmus_reader.specs.Items.{if_location, location_at, if_register, register_at, value_at, register_setting, square_setting, plain_setting, setting_at}
-use Rattle.litmus_reader.specs.Initial.{before_initial, Initial, initial, judged, item_in, step_in, items_within, items_at, initial_at}
-use Rattle.litmus_reader.specs.Columns.{if_core, core_at, parting_at, columns, columns_at}
+use Rattle.litmus_reader.specs.Initial.{before_initial, Initial, initial, judged, item_in, step_in, items_within, items_at, initial_at, ends_item}
+use Rattle.litmus_reader.specs.Columns.{if_core, core_at, parting_at, columns, columns_at, in_columns}
 use Rattle.litmus_reader.specs.Rows.{Rows, row_at, row_in, rows_within, rows_at}
 use Rattle.litmus_reader.proofs.Keeps.{Any, ok_any, some_any, ok_is, bind_keeps, there_keeps, cond_keeps, or_unfit_keeps}
 use Rattle.litmus_reader.proofs.Readings.{AreLast}
-use Rattle.litmus_reader.specs.Places.{left_of, in_initial, in_columns}
+use Rattle.litmus_reader.specs.Places.{left_of, in_initial}
 use Rattle.litmus_reader.specs.Written.{Setting, of_location}
-use Rattle.litmus_reader.specs.RefusedInitial.{ends_item}
 use Rattle.litmus_reader.specs.GrammarTable.{ends_rows}
 
 pub all_last : (ps : List Piece) → AreLast ps ps

@@ -8,7 +8,8 @@ use Rattle.tso_model.specs.Names.{is_location_name}
 use Rattle.tso_model.specs.Registers.{register_named, same_letters}
 use Rattle.tso_model.specs.declared.register.Reg.{Reg}
 use Rattle.litmus_tokens.specs.declared.token.Symbol.TheVariants.{OpenSquare, CloseSquare, Comma, Dollar}
-use Rattle.litmus_tokens.specs.Terms.{Term, number, name, symbol, decimal}
+use Rattle.decimals.specs.Decimals.{decimal_value}
+use Rattle.litmus_tokens.specs.Terms.{Term, number, name, symbol}
 use Rattle.litmus_tokens.specs.Pieces.{Piece}
 use Rattle.litmus_tokens.specs.Front.{is_symbol, symbol_at, name_at, number_at}
 use Rattle.litmus_reader.specs.Faults.{there}
@@ -16,7 +17,7 @@ use Rattle.litmus_reader.specs.Items.{if_location, location_at, if_register, reg
 use Rattle.litmus_reader.specs.Operands.{Place, in_memory, in_register, constant, as_constant, dollar_at, closed_memory, memory_at, as_register, operand_at, if_last, second_of, behind_first, two_operands}
 use Rattle.litmus_reader.specs.Forms.{mov_of, xchg_of, xadd_of, no_more, locked_by, locked_at, by_mnemonic, spelled_in}
 use Rattle.litmus_reader.specs.Grammar.{terms}
-use Rattle.litmus_reader.specs.GrammarCells.{IsConstant, plain, with_dollar, IsMemory, in_squares, IsRegister, named, IsMnemonic, spelled, parted, IsExchange, memory_first, register_first, IsCell, stores_constant, stores_register, loads, sets_constant, sets_register, fences, exchanges, locks_exchange, locks_add}
+use Rattle.litmus_reader.specs.GrammarCells.{IsConstant, plain, with_dollar, IsMemory, in_squares, IsRegister, named, IsMnemonic, spelled, parted, IsExchange, memory_first, register_first, IsCell, stores_constant, stores_register, loads, sets_constant, sets_register, fences, exchanges, locks_exchange, locks_add, moves}
 use Rattle.litmus_reader.proofs.GrammarTokens.{chosen, there_is, there_some, some_is, pair_is, front, opened, no_terms, number_takes, name_takes, symbol_takes}
 use Rattle.litmus_reader.specs.Written.{Shape, store_imm, store_reg, load, set_imm, set_reg, fence, xchg, xadd}
 
@@ -57,10 +58,10 @@ pub record Found (ps : List Piece) (o : Place) (back : List Term) : Type 0 where
 constant_found : (ts back : List Term) (v : ℕ) → IsConstant ts v → (ps : List Piece) → terms ps ≡ ts ++ back → Found ps (constant v) back
 unfolding operand_at number_at symbol_at is_symbol
 constant_found _ back _ (plain v) ps e =
-    opened (λ ps. Found ps (constant (decimal v)) back) ps (number v) back e (λ p rest is behind. record { rest = rest; is = rw is refl; behind = behind })
+    opened (λ ps. Found ps (constant (decimal_value v)) back) ps (number v) back e (λ p rest is behind. record { rest = rest; is = rw is refl; behind = behind })
 constant_found _ back _ (with_dollar v) ps e =
-    opened (λ ps. Found ps (constant (decimal v)) back) ps (symbol Dollar) (number v ∷ back) e (λ p after is then.
-    opened (λ after. Found (p ∷ after) (constant (decimal v)) back) after (number v) back then (λ q rest is_number behind.
+    opened (λ ps. Found ps (constant (decimal_value v)) back) ps (symbol Dollar) (number v ∷ back) e (λ p after is then.
+    opened (λ after. Found (p ∷ after) (constant (decimal_value v)) back) after (number v) back then (λ q rest is_number behind.
     record { rest = rest; is = rw (is, is_number) refl; behind = behind }))
 
 memory_found : (ts back : List Term) (x : List ℕ) → IsMemory ts x → (ps : List Piece) → terms ps ≡ ts ++ back → Found ps (in_memory x) back
@@ -100,12 +101,12 @@ unfolding operand_at
 operand_taken ps rest o e =
     elim (there_is (number_at ps) as_constant (there (symbol_at Dollar ps) dollar_at (there (symbol_at OpenSquare ps) memory_at (there (register_at ps) as_register None))) (Some (o, rest)) e) [
       | inl n ↦
-          let same = pair_is (constant (decimal n.0.0)) o n.0.1 rest n.2 in
+          let same = pair_is (constant (decimal_value n.0.0)) o n.0.1 rest n.2 in
           record { ts = number n.0.0 ∷ []; parts = number_takes ps n.0.1 n.0.0 n.1 ∙ rw same.1 refl; is = subst (λ (q : Place). IsOperand (number n.0.0 ∷ []) q) same.0 (plain n.0.0) }
       | inr no_number ↦ elim (there_is (symbol_at Dollar ps) dollar_at (there (symbol_at OpenSquare ps) memory_at (there (register_at ps) as_register None)) (Some (o, rest)) no_number.1) [
         | inl dollar ↦
             let n = there_some (number_at dollar.0) as_constant (o, rest) dollar.2 in
-            let same = pair_is (constant (decimal n.0.0)) o n.0.1 rest n.2 in
+            let same = pair_is (constant (decimal_value n.0.0)) o n.0.1 rest n.2 in
             record {
               ts = symbol Dollar ∷ number n.0.0 ∷ [];
               parts = symbol_takes Dollar ps dollar.0 dollar.1 ∙ ap (λ (ts : List Term). symbol Dollar ∷ ts) (number_takes dollar.0 n.0.1 n.0.0 n.1) ∙ rw same.1 refl;
@@ -211,11 +212,11 @@ locked_found _ ts shape (spelled letters is) locked ps e =
     rw (f.parts, f.is, other_word letters (codes "LOCK") (codes "MOV") is refl, other_word letters (codes "LOCK") (codes "MFENCE") is refl, other_word letters (codes "LOCK") (codes "XCHG") is refl, is) (locked f.rest f.behind)
 
 cell_found : (ts : List Term) (shape : Shape) → IsCell ts shape → (ps : List Piece) → terms ps ≡ ts → spelled_in ps ≡ Some shape
-cell_found _ _ (stores_constant m a b x v is first second) ps e = mov_found m a b (in_memory x) (constant v) (store_imm x v) is first second refl ps e
-cell_found _ _ (stores_register m a b x reg is first second) ps e = mov_found m a b (in_memory x) (in_register reg) (store_reg x reg) is first second refl ps e
-cell_found _ _ (loads m a b reg x is first second) ps e = mov_found m a b (in_register reg) (in_memory x) (load reg x) is first second refl ps e
-cell_found _ _ (sets_constant m a b reg v is first second) ps e = mov_found m a b (in_register reg) (constant v) (set_imm reg v) is first second refl ps e
-cell_found _ _ (sets_register m a b reg other is first second) ps e = mov_found m a b (in_register reg) (in_register other) (set_reg reg other) is first second refl ps e
+cell_found _ _ (moves m a b _ is (stores_constant x v first second)) ps e = mov_found m a b (in_memory x) (constant v) (store_imm x v) is first second refl ps e
+cell_found _ _ (moves m a b _ is (stores_register x reg first second)) ps e = mov_found m a b (in_memory x) (in_register reg) (store_reg x reg) is first second refl ps e
+cell_found _ _ (moves m a b _ is (loads reg x first second)) ps e = mov_found m a b (in_register reg) (in_memory x) (load reg x) is first second refl ps e
+cell_found _ _ (moves m a b _ is (sets_constant reg v first second)) ps e = mov_found m a b (in_register reg) (constant v) (set_imm reg v) is first second refl ps e
+cell_found _ _ (moves m a b _ is (sets_register reg other first second)) ps e = mov_found m a b (in_register reg) (in_register other) (set_reg reg other) is first second refl ps e
 cell_found _ _ (fences m is) ps e = fence_found m is ps e
 cell_found _ _ (exchanges ts shape is) ps e = (exchanges_found ts shape is ps e).0
 cell_found _ _ (locks_exchange l ts shape lock is) ps e = locked_found l ts shape lock (λ ps e. (exchanges_found ts shape is ps e).1) ps e
@@ -227,12 +228,12 @@ cell_again cell shape is = cell_found (terms cell) shape is cell refl
 -- ---- taken
 
 mov_made : (m : Term) (a b : List Term) (both : Place × Place) (shape : Shape) → IsMnemonic (codes "MOV") m → IsOperand a both.0 → IsOperand b both.1 → mov_of both ≡ Some shape → IsCell (m ∷ parted a b) shape
-mov_made m a b (in_memory x, constant v) shape is first second e = subst (IsCell _) (some_is (store_imm x v) shape e) (stores_constant m a b x v is first second)
-mov_made m a b (in_memory x, in_register r) shape is first second e = subst (IsCell _) (some_is (store_reg x r) shape e) (stores_register m a b x r is first second)
+mov_made m a b (in_memory x, constant v) shape is first second e = subst (IsCell _) (some_is (store_imm x v) shape e) (moves m a b _ is (stores_constant x v first second))
+mov_made m a b (in_memory x, in_register r) shape is first second e = subst (IsCell _) (some_is (store_reg x r) shape e) (moves m a b _ is (stores_register x r first second))
 mov_made m a b (in_memory x, in_memory y) shape is first second e = absurd cc
-mov_made m a b (in_register r, in_memory x) shape is first second e = subst (IsCell _) (some_is (load r x) shape e) (loads m a b r x is first second)
-mov_made m a b (in_register r, constant v) shape is first second e = subst (IsCell _) (some_is (set_imm r v) shape e) (sets_constant m a b r v is first second)
-mov_made m a b (in_register r, in_register s) shape is first second e = subst (IsCell _) (some_is (set_reg r s) shape e) (sets_register m a b r s is first second)
+mov_made m a b (in_register r, in_memory x) shape is first second e = subst (IsCell _) (some_is (load r x) shape e) (moves m a b _ is (loads r x first second))
+mov_made m a b (in_register r, constant v) shape is first second e = subst (IsCell _) (some_is (set_imm r v) shape e) (moves m a b _ is (sets_constant r v first second))
+mov_made m a b (in_register r, in_register s) shape is first second e = subst (IsCell _) (some_is (set_reg r s) shape e) (moves m a b _ is (sets_register r s first second))
 mov_made m a b (constant v, other) shape is first second e = absurd cc
 
 exchange_made : (m : Term) (a b : List Term) (both : Place × Place) (shape : Shape) → IsMnemonic (codes "XCHG") m → IsOperand a both.0 → IsOperand b both.1 → xchg_of both ≡ Some shape → IsExchange (m ∷ parted a b) shape

@@ -1,30 +1,33 @@
 -- Units and propositions are read as they are spelled.
-use Rattle.std.proofs.Common.{◌≡◌, ℕ, zero, suc, ◌+◌, ◌≤◌, false, List, [], ◌∷◌, ◌++◌, length, Some, None, Ok, Err, refl, sym, ap, subst, ◌∙◌, ◌⊎◌, inl, inr, append_assoc, arith}
+use Rattle.std.proofs.Common.{◌≡◌, ℕ, zero, suc, ◌+◌, ◌≤◌, Bool, true, false, ◌||◌, List, [], ◌∷◌, ◌++◌, length, Some, None, Ok, Err, refl, sym, ap, subst, ◌∙◌, ◌⊎◌, inl, inr, append_assoc, arith}
 use Rattle.std.specs.Prelude.{codes}
 use Rattle.tso_model.specs.Condition.{Claim, NotClaim}
 use Rattle.litmus_tokens.specs.declared.token.Stop.{Stop}
 use Rattle.litmus_tokens.specs.declared.token.Symbol.TheVariants.{OpenRound, CloseRound, And, Or, Tilde}
-use Rattle.litmus_tokens.specs.Terms.{Term, name, symbol}
+use Rattle.litmus_tokens.specs.Terms.{Term, name, symbol, number}
 use Rattle.litmus_tokens.specs.Pieces.{Piece}
-use Rattle.litmus_tokens.specs.Front.{is_symbol, symbol_at, name_at}
+use Rattle.litmus_tokens.specs.Front.{is_symbol, symbol_at, name_at, is_symbol_term}
 use Rattle.litmus_reader.specs.declared.fault.Why.TheVariants.{TooLarge}
 use Rattle.litmus_reader.specs.Faults.{there, or_unfit}
 use Rattle.litmus_reader.specs.Keywords.{word_behind}
-use Rattle.litmus_reader.specs.Conditions.{Claimed, claimed, atom_at, Proposition, disjunction, negation_at, opens_unit, negated, bracketed, unit_by, unit_at, proposition_at}
+use Rattle.litmus_reader.specs.Conditions.{Claimed, claimed, atom_at, Proposition, disjunction, negation_at, opens_unit, negated, bracketed, unit_by, unit_at, proposition_at, in_condition}
 use Rattle.litmus_reader.specs.Grammar.{terms}
 use Rattle.litmus_reader.specs.GrammarNames.{numbered}
-use Rattle.litmus_reader.specs.GrammarConditions.{IsAtom, says_true, says_false, says_setting, IsProposition, plain, tilde, word_not, in_brackets, IsUnit, locations_in, atoms_of, claim_of, begins_with, IsWithin}
+use Rattle.litmus_reader.specs.GrammarConditions.{IsAtom, says_true, says_false, says_setting, IsProposition, plain, negated as negated_by, in_brackets, is_negation, IsUnit, locations_in, atoms_of, claim_of, IsWithin}
 use Rattle.litmus_reader.proofs.GrammarTokens.{chosen, there_is, some_is, ok_is, bind_ok, or_unfit_ok, front, opened, symbol_takes}
 use Rattle.litmus_reader.proofs.GrammarPhrases.{Finds, Taken, Takes, Anything, proposition_takes, proposition_finds}
 use Rattle.litmus_reader.proofs.GrammarLast.{unit_leaves}
 use Rattle.litmus_reader.proofs.GrammarAtoms.{word_taken, setting_plain, atom_found, atom_taken}
 use Rattle.litmus_reader.proofs.Readings.{given_by, ReadsPhrase, SpellsPhrase}
-use Rattle.litmus_reader.specs.Places.{fault, left_of, in_condition}
+use Rattle.litmus_reader.specs.Places.{fault, left_of}
 use Rattle.litmus_reader.specs.Written.{Phrase, negation}
+use Rattle.litmus_reader.specs.Misfits.{begins_with}
+use Rattle.litmus_tokens.specs.declared.token.Symbol.{Symbol}
+use Rattle.std.specs.Str.{bytes_eq}
 
 -- ---- units found
 
-atom_plain : (ts back : List Term) (p : Phrase) → IsAtom ts p → (ps : List Piece) → terms ps ≡ ts ++ back → (negation_at ps ≡ None) × (symbol_at OpenRound ps ≡ None)
+pub atom_plain : (ts back : List Term) (p : Phrase) → IsAtom ts p → (ps : List Piece) → terms ps ≡ ts ++ back → (negation_at ps ≡ None) × (symbol_at OpenRound ps ≡ None)
 unfolding negation_at word_behind name_at symbol_at is_symbol
 atom_plain _ back _ says_true ps e =
     opened (λ ps. (negation_at ps ≡ None) × (symbol_at OpenRound ps ≡ None)) ps (name (codes "true")) back e (λ p rest is _. (rw is refl, rw is refl))
@@ -60,17 +63,31 @@ bracketed_found : (stop : Stop) (inner : Proposition) (atoms : ℕ) (names : Lis
 unfolding symbol_at is_symbol
 bracketed_found stop inner atoms names p ps close rest r is parts is_close = rw (is, parts, is_close) refl
 
+negation_there : (p : Piece) (rest : List Piece) → is_negation p.term ≡ true → negation_at (p ∷ rest) ≡ Some rest
+unfolding negation_at word_behind name_at symbol_at is_symbol
+negation_there p rest e = by_term p.term refl e
+  where
+    by_word : (x : List ℕ) → p.term ≡ name x → (b : Bool) → bytes_eq x (codes "not") ≡ b → b ≡ true → negation_at (p ∷ rest) ≡ Some rest
+    by_word x is true word h = rw (is, word) refl
+    by_word x is false word h = absurd cc
+
+    by_symbol : (s : Symbol) → p.term ≡ symbol s → (b : Bool) → is_symbol_term Tilde (symbol s) ≡ b → (b || false) ≡ true → negation_at (p ∷ rest) ≡ Some rest
+    by_symbol s is true tilde h = rw (is, tilde) refl
+    by_symbol s is false tilde h = absurd cc
+
+    by_term : (t : Term) → p.term ≡ t → is_negation t ≡ true → negation_at (p ∷ rest) ≡ Some rest
+    by_term (number d) is h = absurd cc
+    by_term (name x) is h = by_word x is (bytes_eq x (codes "not")) refl h
+    by_term (symbol s) is h = by_symbol s is (is_symbol_term Tilde (symbol s)) refl h
+
 next_found : (stop : Stop) (cores n : ℕ) → Finds cores (unit_at stop cores n) (IsUnit n) Anything → Finds cores (unit_at stop cores (suc n)) (IsUnit (suc n)) Anything
 unfolding unit_at unit_by negation_at word_behind name_at symbol_at is_symbol
 next_found stop cores n finds _ _ (plain ts p is) atoms names allowed back ok ps e = plain_found stop cores n ts p is atoms names allowed back ps e
-next_found stop cores n finds _ _ (tilde ts p is) atoms names allowed back ok ps e =
-    opened (ReadsPhrase (unit_at stop cores (suc n)) atoms names (negation p) back) ps (symbol Tilde) (ts ++ back) e (λ a rest is_tilde behind.
+next_found stop cores n finds _ _ (negated_by t ts p is_not is) atoms names allowed back ok ps e =
+    opened (ReadsPhrase (unit_at stop cores (suc n)) atoms names (negation p) back) ps t (ts ++ back) e (λ a rest here behind.
     let f = finds ts p is atoms names (record { fits = allowed.fits; few = allowed.few; room = allowed.room }) back tt rest behind in
-    record { rest = f.rest; is = rw is_tilde (negated_found (unit_at stop cores n) atoms names p back rest f); behind = f.behind })
-next_found stop cores n finds _ _ (word_not ts p is) atoms names allowed back ok ps e =
-    opened (ReadsPhrase (unit_at stop cores (suc n)) atoms names (negation p) back) ps (name (codes "not")) (ts ++ back) e (λ a rest is_not behind.
-    let f = finds ts p is atoms names (record { fits = allowed.fits; few = allowed.few; room = allowed.room }) back tt rest behind in
-    record { rest = f.rest; is = rw is_not (negated_found (unit_at stop cores n) atoms names p back rest f); behind = f.behind })
+    let there = negation_there a rest (ap is_negation here ∙ is_not) in
+    record { rest = f.rest; is = rw there (negated_found (unit_at stop cores n) atoms names p back rest f); behind = f.behind })
 next_found stop cores n finds _ _ (in_brackets ts p is) atoms names allowed back ok ps e =
     opened (ReadsPhrase (unit_at stop cores (suc n)) atoms names p back) ps (symbol OpenRound) ((ts ++ symbol CloseRound ∷ []) ++ back) e (λ a rest is_open behind.
     let f = proposition_finds (IsUnit n) cores (unit_at stop cores n) finds (unit_leaves stop cores n) ts p is atoms names allowed (symbol CloseRound ∷ back) ((tt, refl), refl) rest (behind ∙ append_assoc ts (symbol CloseRound ∷ []) back) in
@@ -99,7 +116,7 @@ negated_taken cores n atoms names ps rest c at t =
       | inl is_tilde ↦ record {
         ts = symbol Tilde ∷ t.ts;
         phrase = negation t.phrase;
-        is = tilde t.ts t.phrase t.is;
+        is = negated_by (symbol Tilde) t.ts t.phrase refl t.is;
         parts = is_tilde ∙ ap (λ (l : List Term). symbol Tilde ∷ l) t.parts;
         fits = t.fits;
         names_are = t.names_are;
@@ -111,7 +128,7 @@ negated_taken cores n atoms names ps rest c at t =
       | inr is_not ↦ record {
         ts = name (codes "not") ∷ t.ts;
         phrase = negation t.phrase;
-        is = word_not t.ts t.phrase t.is;
+        is = negated_by (name (codes "not")) t.ts t.phrase refl t.is;
         parts = is_not ∙ ap (λ (l : List Term). name (codes "not") ∷ l) t.parts;
         fits = t.fits;
         names_are = t.names_are;
@@ -208,7 +225,7 @@ pub unit_spelled : (stop : Stop) (cores opens atoms : ℕ) (names : List (List �
 unit_spelled stop cores opens atoms names ps c le e = spelled_by cores (IsUnit opens) atoms names ps c le (unit_takes stop cores opens atoms names ps c e)
 
 pub proposition_again : (stop : Stop) (cores opens atoms : ℕ) (names : List (List ℕ)) (ps : List Piece) (ts back : List Term) (p : Phrase)
-    → IsProposition (IsUnit opens) ts p → IsWithin cores atoms names p → terms ps ≡ ts ++ back → begins_with And back ≡ false → begins_with Or back ≡ false
+    → IsProposition (IsUnit opens) ts p → IsWithin cores atoms names p → terms ps ≡ ts ++ back → begins_with (is_symbol_term And) back ≡ false → begins_with (is_symbol_term Or) back ≡ false
     → ReadsPhrase (proposition_at stop cores opens) atoms names p back ps
 proposition_again stop cores opens atoms names ps ts back p is within e no_and no_or =
     proposition_finds (IsUnit opens) cores (unit_at stop cores opens) (unit_finds stop cores opens) (unit_leaves stop cores opens) ts p is atoms names within back ((tt, no_and), no_or) ps e

@@ -1,4 +1,4 @@
--- What stands behind the rows is read as it is spelled.
+-- What stands after the rows is read as it is spelled.
 use Rattle.std.proofs.Common.{◌≡◌, ℕ, ◌≤◌, List, [], ◌∷◌, length, Option, Some, None, Ok, refl, sym, ap, subst, ◌∙◌, inl, inr, append-nil}
 use Rattle.std.specs.Prelude.{codes}
 use Rattle.std.specs.Str.{bytes_eq}
@@ -13,20 +13,29 @@ use Rattle.litmus_tokens.specs.Pieces.{Piece, pieces_of}
 use Rattle.litmus_tokens.specs.Front.{is_symbol, symbol_at, name_then, name_at}
 use Rattle.litmus_reader.specs.Faults.{◌>>=◌, there, or_unfit}
 use Rattle.litmus_reader.specs.Keywords.{word_behind, if_word}
-use Rattle.litmus_reader.specs.Observed.{square_end, brackets_end, observed_end}
+use Rattle.litmus_reader.specs.Observed.{square_end, brackets_end, observed_end, behind_word}
 use Rattle.litmus_reader.specs.Conditions.{Conditioned, condition_at}
 use Rattle.litmus_reader.specs.Reading.{end_at, ending_at, ending_from, tail_at}
 use Rattle.litmus_reader.specs.Grammar.{terms}
 use Rattle.litmus_reader.specs.GrammarNames.{numbered}
 use Rattle.litmus_reader.specs.GrammarText.{ClosesBrackets}
 use Rattle.litmus_reader.specs.GrammarConditions.{condition, says_exists, says_forall, says_not_exists}
-use Rattle.litmus_reader.specs.GrammarEnding.{MayAsk, nothing, a_condition, EndsText, IsEnding, at_once, behind_locations, names_asked, condition_of, IsAskedWithin}
+use Rattle.litmus_reader.specs.GrammarEnding.{MayAsk, nothing, a_condition, IsEnding, at_once, behind_locations, names_asked, condition_of, IsAskedWithin}
 use Rattle.litmus_reader.proofs.GrammarTokens.{there_is, ok_is, some_is, chosen, bind_ok, or_unfit_ok, opened, no_terms, symbol_is}
 use Rattle.litmus_reader.proofs.GrammarQuantified.{condition_again, condition_takes}
-use Rattle.litmus_reader.specs.Places.{left_of, behind_word, from_place}
-use Rattle.litmus_reader.specs.Written.{Asked, asked}
+use Rattle.litmus_reader.specs.Places.{left_of, from_place}
+use Rattle.litmus_reader.specs.Written.{Asked, Phrase}
+use Rattle.tso_model.specs.declared.condition.Quantifier.{Quantifier}
 
--- what an ending gives behind these names
+abbrev pub asked : Quantifier → Phrase → Option Asked
+asked quantifier phrase = Some (record { quantifier = quantifier; phrase = phrase })
+
+-- the tokens up to the end of the text are nothing, or a condition
+pub record EndsText (stop : Stop) (ps : List Piece) (c : Option Asked) : Type 0 where
+  pub ended : stop ≡ End
+  pub is : MayAsk (terms ps) c
+
+-- what an ending gives after these names
 abbrev pub Given : Type 0
 Given = Option Condition × List (List ℕ)
 
@@ -72,10 +81,10 @@ observed_found text stop word opener ps bytes closes is_word is_opener found = r
 pub tail_again : (text : List ℕ) (stop : Stop) (cores : ℕ) (names : List (List ℕ)) (ps : List Piece) (c : Option Asked) → Closes → IsEnding text stop ps c → IsAskedWithin cores names c
     → tail_at text stop cores names ps ≡ Ok (given names c)
 unfolding tail_at observed_end
-tail_again text stop cores names _ _ closes (at_once ps c ends) within =
-    rw (no_locations ps c (terms ps) refl ends.is) (ending_found stop cores names ps c (terms ps) ends.ended refl ends.is within)
-tail_again text stop cores names _ _ closes (behind_locations word opener ps bytes c is_word is_opener found ends) within =
-    rw (observed_found text stop word opener ps bytes closes is_word is_opener found) (ending_found (pieces_of bytes).1 cores names (pieces_of bytes).0 c (terms (pieces_of bytes).0) ends.ended refl ends.is within)
+tail_again text stop cores names _ _ closes (at_once ps c ended is) within =
+    rw (no_locations ps c (terms ps) refl is) (ending_found stop cores names ps c (terms ps) ended refl is within)
+tail_again text stop cores names _ _ closes (behind_locations word opener ps bytes c is_word is_opener found ended is) within =
+    rw (observed_found text stop word opener ps bytes closes is_word is_opener found) (ending_found (pieces_of bytes).1 cores names (pieces_of bytes).0 c (terms (pieces_of bytes).0) ended refl is within)
 
 -- ---- taken
 
@@ -86,7 +95,7 @@ end_taken End [] u e = (refl, refl)
 end_taken (BadToken left) [] u e = absurd cc
 end_taken (Unclosed left) [] u e = absurd cc
 
--- what was read behind these names is what the tokens up to the end spell
+-- what was read after these names is what the tokens up to the end spell
 pub record Ends (stop : Stop) (cores : ℕ) (names : List (List ℕ)) (ps : List Piece) (g : Given) : Type 0 where
   pub c : Option Asked
   pub ends : EndsText stop ps c
@@ -144,7 +153,7 @@ symbol_found s (p ∷ ps) rest e =
       | inr miss ↦ absurd cc
     ]
 
--- what was read behind these names is what the rest of the text spells
+-- what was read after these names is what the rest of the text spells
 pub record Tail (text : List ℕ) (stop : Stop) (cores : ℕ) (names : List (List ℕ)) (ps : List Piece) (g : Given) : Type 0 where
   pub c : Option Asked
   pub ending : IsEnding text stop ps c
@@ -167,12 +176,12 @@ tail_takes text stop cores names ps g closed le e =
           let place : ClosesBrackets (from_place text o.0.left) b.0 = closed o.0.left (from_place text o.0.left) b.0 (subst (λ (l : List Piece). square_end (left_of l) (from_place text (left_of l)) ≡ Ok b.0) o.1 d.2) in
           record {
             c = ends.c;
-            ending = subst (λ l. IsEnding text stop l ends.c) (sym (w.1 ∙ ap (λ (l : List Piece). w.0 ∷ l) o.1)) (behind_locations w.0 o.0 d.0 b.0 ends.c w.2 o.2 place ends.ends);
+            ending = subst (λ l. IsEnding text stop l ends.c) (sym (w.1 ∙ ap (λ (l : List Piece). w.0 ∷ l) o.1)) (behind_locations w.0 o.0 d.0 b.0 ends.c w.2 o.2 place ends.ends.ended ends.ends.is);
             within = ends.within;
             gives = ends.gives;
           }
       | inr none ↦
           let nothing_found : None ≡ a.0 = ok_is None a.0 none.1 in
           let ends = ending_taken stop cores names ps g le (subst (λ behind. ending_from stop cores names ps behind ≡ Ok g) (sym nothing_found) a.2) in
-          record { c = ends.c; ending = at_once ps ends.c ends.ends; within = ends.within; gives = ends.gives }
+          record { c = ends.c; ending = at_once ps ends.c ends.ends.ended ends.ends.is; within = ends.within; gives = ends.gives }
     ]

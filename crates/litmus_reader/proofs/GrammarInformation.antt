@@ -1,19 +1,18 @@
 -- Information lines are read where they are spelled.
-use Rattle.std.proofs.Common.{◌≡◌, ℕ, zero, suc, ◌<◌, Bool, true, false, cond, ◌||◌, eqb, eqb-true, List, [], ◌∷◌, ◌++◌, length, drop, Option, Some, None, Result, Ok, refl, sym, ap, subst, ◌∙◌, inl, inr, arith}
+use Rattle.std.proofs.Common.{◌≡◌, ℕ, zero, suc, ◌<◌, Bool, true, false, cond, ◌||◌, eqb, eqb-true, List, [], ◌∷◌, ◌++◌, length, drop, Option, Some, None, Ok, refl, sym, ap, subst, ◌∙◌, inl, inr, arith}
 use Rattle.std.specs.Char.{is_ascii_alphabetic}
 use Rattle.std.specs.Int.{is_in_range}
 use Rattle.std.specs.List.{list_all, prefix_len}
 use Rattle.std.proofs.lemmas.Bool.{not-true}
 use Rattle.std.proofs.lemmas.List.{length-append}
 use Rattle.litmus_tokens.specs.Gap.{gap_end}
-use Rattle.litmus_reader.specs.declared.fault.Fault.{Fault}
-use Rattle.litmus_reader.specs.Header.{from_gap, first_line}
+use Rattle.litmus_reader.specs.Header.{from_gap}
 use Rattle.litmus_reader.specs.Faults.{◌>>=◌}
 use Rattle.litmus_reader.specs.Information.{quotation_end, closed_quotation, key_value, key_line_end, information_end, begins_initial, braces_within, braces_at}
-use Rattle.litmus_reader.specs.GrammarText.{is_quoted, EndsLine, IsInformation, quotation, key_line, AreInformationLines, none, more, continues_key}
+use Rattle.litmus_reader.specs.GrammarText.{first_line, is_quoted, IsInformation, quotation, key_line, AreInformationLines, none, more, continues_key}
 use Rattle.litmus_reader.proofs.GrammarTokens.{chosen, some_is, ok_is, bind_ok}
 use Rattle.litmus_reader.proofs.GrammarGaps.{gap_within, from_gap_ok}
-use Rattle.litmus_reader.proofs.GrammarRuns.{both, differs, Stops, run, run_behind, line_again, line_takes, line_within}
+use Rattle.litmus_reader.proofs.GrammarRuns.{both, differs, Stops, run, run_behind, line_within}
 
 -- ---- quotations
 
@@ -68,8 +67,7 @@ value_taken left b key (c ∷ cs) behind letter all e =
       | inl hit ↦
           let equals : c ≡ 61 = eqb-true _ _ hit.0 in
           let same : (first_line cs).1 ≡ behind = ok_is _ behind hit.1 in
-          let ends : EndsLine cs (first_line cs).0 behind = subst (EndsLine cs (first_line cs).0) same (line_takes cs) in
-          rw equals (key_line b key cs (first_line cs).0 behind letter all ends)
+          rw equals (subst (IsInformation (b ∷ key ++ 61 ∷ cs)) same (key_line b key cs letter all))
       | inr miss ↦ absurd cc
     ]
 
@@ -104,14 +102,14 @@ information_takes (b ∷ bs) behind e =
 pub information_again : (at behind : List ℕ) → IsInformation at behind → information_end at ≡ Ok behind
 unfolding information_end
 information_again _ _ (quotation inside behind all) = rw (quotation_again inside behind all) refl
-information_again _ _ (key_line letter key rest value behind is all ends) =
+information_again _ _ (key_line letter key rest is all) =
     let found : key_line_end (letter ∷ key ++ 61 ∷ rest) ≡ Ok (first_line rest).1 =
     ap (key_value (length (letter ∷ key ++ 61 ∷ rest))) (key_behind letter key (61 ∷ rest) is all equals_ends) in
-    rw (differs is_ascii_alphabetic letter 34 refl is, is) (found ∙ ap (λ (q : List ℕ × List ℕ). (let r : Result (List ℕ) Fault = Ok q.1 in r)) (line_again rest value behind ends))
+    rw (differs is_ascii_alphabetic letter 34 refl is, is) found
 
 pub information_shorter : (at behind : List ℕ) → IsInformation at behind → length behind < length at
 information_shorter _ _ (quotation inside behind all) = omega (arith, length-append inside (34 ∷ behind))
-information_shorter _ _ (key_line letter key rest value behind is all ends) = omega (arith, length-append key (61 ∷ rest), line_within rest value behind ends)
+information_shorter _ _ (key_line letter key rest is all) = omega (arith, length-append key (61 ∷ rest), line_within rest)
 
 -- ---- all
 
@@ -147,7 +145,7 @@ lines_take bytes braces e = within_takes (suc (length bytes)) bytes braces e
 pub no_braces : (at behind : List ℕ) → IsInformation at behind → begins_initial at ≡ false
 unfolding begins_initial
 no_braces _ _ (quotation inside behind all) = refl
-no_braces _ _ (key_line letter key rest value behind is all ends) = differs is_ascii_alphabetic letter 123 refl is
+no_braces _ _ (key_line letter key rest is all) = differs is_ascii_alphabetic letter 123 refl is
 
 within_again : (bytes braces : List ℕ) → AreInformationLines bytes braces → (n : ℕ) → length bytes < n → braces_within n bytes ≡ Ok braces
 unfolding braces_within begins_initial

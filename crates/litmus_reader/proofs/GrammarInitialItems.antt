@@ -9,7 +9,7 @@ use Rattle.litmus_tokens.specs.Front.{is_symbol, symbol_at}
 use Rattle.litmus_reader.specs.declared.fault.Part.{Part}
 use Rattle.litmus_reader.specs.Faults.{◌>>=◌}
 use Rattle.litmus_reader.specs.Items.{setting_at}
-use Rattle.litmus_reader.specs.Initial.{Initial, initial, judged, item_in, step_in, items_within, items_at, before_initial, opened_at, initial_at}
+use Rattle.litmus_reader.specs.Initial.{Initial, initial, judged, item_in, step_in, items_within, items_at, before_initial, opened_at, initial_at, ends_item}
 use Rattle.litmus_reader.specs.Grammar.{terms}
 use Rattle.litmus_reader.specs.GrammarItems.{IsSetting, sets_register, sets_location, sets_in_squares}
 use Rattle.litmus_reader.specs.GrammarInitial.{IsItem, empty, given, AreItems, last, more, IsInitialState, in_braces, Fits}
@@ -20,7 +20,6 @@ use Rattle.litmus_reader.proofs.GrammarInitialJudged.{Holds, judged_found, judge
 use Rattle.litmus_reader.proofs.Readings.{Reads, Begins}
 use Rattle.litmus_reader.specs.Places.{unfit, left_of, in_initial}
 use Rattle.litmus_reader.specs.Written.{Setting}
-use Rattle.litmus_reader.specs.RefusedInitial.{ends_item}
 
 -- ---- found
 
@@ -156,7 +155,7 @@ item_at_hand : (ps : List Piece) (ts : List Term) (item : List Setting) → AtHa
 item_at_hand ps _ _ before_any = empty
 item_at_hand ps _ _ (behind_one ts s is end) = given ts s is
 
--- what stands before the `}`, behind what is at hand
+-- what stands before the `}`, after what is at hand
 record ItemsTaken (ts : List Term) (item done : List Setting) (ps rest : List Piece) (i : Initial) : Type 0 where
   pub further : List Term
   pub settings : List Setting

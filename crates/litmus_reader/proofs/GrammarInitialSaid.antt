@@ -11,13 +11,13 @@ use Rattle.tso_model.specs.Registers.{index_of}
 use Rattle.tso_model.specs.Thread.{with_value}
 use Rattle.tso_model.specs.declared.register.Reg.{Reg}
 use Rattle.tso_model.specs.declared.register.Reg.TheVariants.{Eax, Ebx, Ecx, Edx, Esi, Edi}
-use Rattle.litmus_tokens.specs.Terms.{decimal}
+use Rattle.decimals.specs.Decimals.{decimal_value}
 use Rattle.litmus_reader.specs.declared.fault.Fault.{Fault}
 use Rattle.litmus_reader.specs.declared.fault.Why.TheVariants.{NoSuchCore}
 use Rattle.litmus_reader.specs.Faults.{◌>>=◌}
 use Rattle.litmus_reader.specs.Items.{core_of}
 use Rattle.litmus_reader.specs.Initial.{Given, Initial, no_registers, with_register, registers_with, words_of}
-use Rattle.litmus_reader.specs.GrammarInitial.{same_place, each_once, names_in, Fits, has_core, first_word, first_register, first_words, first_registers_of, first_registers}
+use Rattle.litmus_reader.specs.GrammarInitial.{same_place, each_once, names_in, Fits, has_core, value_in, names_register, first_words, first_registers_of, first_registers}
 use Rattle.litmus_reader.proofs.GrammarTokens.{bind_ok}
 use Rattle.litmus_reader.specs.GrammarNames.{numbered, with_name}
 use Rattle.litmus_reader.proofs.GrammarNames.{same_bytes}
@@ -25,6 +25,15 @@ use Rattle.litmus_reader.proofs.GrammarInitialJudged.{words_in, registers_in, un
 use Rattle.litmus_reader.proofs.Readings.{Says}
 use Rattle.litmus_reader.specs.Places.{fault}
 use Rattle.litmus_reader.specs.Written.{Setting, of_register, of_location}
+
+-- ---- first words and registers
+
+-- the word that a location begins as, and what a register of a core begins as
+abbrev pub first_word : List ℕ → ℕ → List Setting → ℕ
+first_word x otherwise settings = value_in (same_place (of_location x 0)) otherwise settings
+
+abbrev pub first_register : ℕ → Reg → ℕ → List Setting → ℕ
+first_register core reg otherwise settings = value_in (names_register core reg) otherwise settings
 
 -- ---- names
 
@@ -46,7 +55,7 @@ names_said done (of_location x v ∷ rest) once =
 abbrev NewTo : List (List ℕ) → List (List ℕ) → Type 0
 NewTo names xs = list_all (λ x. not (list_any (bytes_eq x) names)) xs ≡ true
 
--- names with new ones behind them
+-- names with new ones after them
 record Extended (names all : List (List ℕ)) : Type 0 where
   pub extra : List (List ℕ)
   pub parts : all ≡ names ++ extra
@@ -143,22 +152,22 @@ same_number n = by_test (eqb n n) refl
     by_test false e = absurd (eqb-false n n e refl)
 
 register_more : (core : ℕ) (reg : Reg) (otherwise : ℕ) (done : List Setting) (c : List ℕ) (r : Reg) (v : ℕ)
-    → first_register core reg otherwise (done ++ of_register c r v ∷ []) ≡ cond (eqb (decimal c) core && eqb (index_of r) (index_of reg)) v (first_register core reg otherwise done)
+    → first_register core reg otherwise (done ++ of_register c r v ∷ []) ≡ cond (eqb (decimal_value c) core && eqb (index_of r) (index_of reg)) v (first_register core reg otherwise done)
 register_more core reg otherwise [] c r v = refl
-register_more core reg otherwise (of_register d s w ∷ done) c r v = register_more core reg (cond (eqb (decimal d) core && eqb (index_of s) (index_of reg)) w otherwise) done c r v
+register_more core reg otherwise (of_register d s w ∷ done) c r v = register_more core reg (cond (eqb (decimal_value d) core && eqb (index_of s) (index_of reg)) w otherwise) done c r v
 register_more core reg otherwise (of_location y w ∷ done) c r v = register_more core reg otherwise done c r v
 
-other_row : (done : List Setting) (core : ℕ) (c : List ℕ) (r : Reg) (v : ℕ) → eqb (decimal c) core ≡ false → first_registers_of (done ++ of_register c r v ∷ []) core ≡ first_registers_of done core
+other_row : (done : List Setting) (core : ℕ) (c : List ℕ) (r : Reg) (v : ℕ) → eqb (decimal_value c) core ≡ false → first_registers_of (done ++ of_register c r v ∷ []) core ≡ first_registers_of done core
 other_row done core c r v other = rw (kept Eax, kept Ebx, kept Ecx, kept Edx, kept Esi, kept Edi) refl
   where
     kept : (reg : Reg) → first_register core reg 0 (done ++ of_register c r v ∷ []) ≡ first_register core reg 0 done
     kept reg = register_more core reg 0 done c r v ∙ ap (λ (b : Bool). cond (b && eqb (index_of r) (index_of reg)) v (first_register core reg 0 done)) other
 
-this_entry : (done : List Setting) (c : List ℕ) (r : Reg) (v : ℕ) (reg : Reg) → first_register (decimal c) reg 0 (done ++ of_register c r v ∷ []) ≡ cond (eqb (index_of r) (index_of reg)) v (first_register (decimal c) reg 0 done)
+this_entry : (done : List Setting) (c : List ℕ) (r : Reg) (v : ℕ) (reg : Reg) → first_register (decimal_value c) reg 0 (done ++ of_register c r v ∷ []) ≡ cond (eqb (index_of r) (index_of reg)) v (first_register (decimal_value c) reg 0 done)
 this_entry done c r v reg =
-    register_more (decimal c) reg 0 done c r v ∙ ap (λ (b : Bool). cond (b && eqb (index_of r) (index_of reg)) v (first_register (decimal c) reg 0 done)) (same_number (decimal c))
+    register_more (decimal_value c) reg 0 done c r v ∙ ap (λ (b : Bool). cond (b && eqb (index_of r) (index_of reg)) v (first_register (decimal_value c) reg 0 done)) (same_number (decimal_value c))
 
-this_row : (done : List Setting) (c : List ℕ) (r : Reg) (v : ℕ) → with_value (first_registers_of done (decimal c)) r v ≡ first_registers_of (done ++ of_register c r v ∷ []) (decimal c)
+this_row : (done : List Setting) (c : List ℕ) (r : Reg) (v : ℕ) → with_value (first_registers_of done (decimal_value c)) r v ≡ first_registers_of (done ++ of_register c r v ∷ []) (decimal_value c)
 this_row done c Eax v = let e : (reg : Reg) → _ = this_entry done c Eax v in rw (e Eax, e Ebx, e Ecx, e Edx, e Esi, e Edi) refl
 this_row done c Ebx v = let e : (reg : Reg) → _ = this_entry done c Ebx v in rw (e Eax, e Ebx, e Ecx, e Edx, e Esi, e Edi) refl
 this_row done c Ecx v = let e : (reg : Reg) → _ = this_entry done c Ecx v in rw (e Eax, e Ebx, e Ecx, e Edx, e Esi, e Edi) refl
@@ -169,31 +178,31 @@ this_row done c Edi v = let e : (reg : Reg) → _ = this_entry done c Edi v in r
 row_at : (done : List Setting) (cores k : ℕ) → k < cores → get_or (first_registers done cores) k [] ≡ first_registers_of done k
 row_at done cores k lt = get_or-map-range_with_len (first_registers_of done) 0 cores k k [] lt (omega arith)
 
-register_noted : (done : List Setting) (cores : ℕ) (c : List ℕ) (r : Reg) (v : ℕ) → decimal c < cores
-    → with_register (first_registers done cores) (decimal c) r v ≡ first_registers (done ++ of_register c r v ∷ []) cores
+register_noted : (done : List Setting) (cores : ℕ) (c : List ℕ) (r : Reg) (v : ℕ) → decimal_value c < cores
+    → with_register (first_registers done cores) (decimal_value c) r v ≡ first_registers (done ++ of_register c r v ∷ []) cores
 register_noted done cores c r v lt =
     let table = first_registers done cores in
-    let row = with_value (get_or table (decimal c) []) r v in
+    let row = with_value (get_or table (decimal_value c) []) r v in
     let many : length table ≡ cores = length-map-range_with_len (first_registers_of done) 0 cores in
     let more : length (first_registers (done ++ of_register c r v ∷ []) cores) ≡ cores = length-map-range_with_len (first_registers_of (done ++ of_register c r v ∷ [])) 0 cores in
-    let set_many : length (with_register table (decimal c) r v) ≡ cores = length-set table (decimal c) row ∙ many in
-    ext_get_or [] (with_register table (decimal c) r v) (first_registers (done ++ of_register c r v ∷ []) cores) (set_many ∙ sym more) (λ k below. by_row k (omega (arith, below, set_many)) (eqb (decimal c) k) refl)
+    let set_many : length (with_register table (decimal_value c) r v) ≡ cores = length-set table (decimal_value c) row ∙ many in
+    ext_get_or [] (with_register table (decimal_value c) r v) (first_registers (done ++ of_register c r v ∷ []) cores) (set_many ∙ sym more) (λ k below. by_row k (omega (arith, below, set_many)) (eqb (decimal_value c) k) refl)
   where
-    by_row : (k : ℕ) → k < cores → (b : Bool) → eqb (decimal c) k ≡ b
-        → get_or (with_register (first_registers done cores) (decimal c) r v) k [] ≡ get_or (first_registers (done ++ of_register c r v ∷ []) cores) k []
+    by_row : (k : ℕ) → k < cores → (b : Bool) → eqb (decimal_value c) k ≡ b
+        → get_or (with_register (first_registers done cores) (decimal_value c) r v) k [] ≡ get_or (first_registers (done ++ of_register c r v ∷ []) cores) k []
     by_row k below true e =
-        let is : decimal c ≡ k = eqb-true _ _ e in
+        let is : decimal_value c ≡ k = eqb-true _ _ e in
         let table = first_registers done cores in
-        let room : decimal c < length table = omega (arith, lt, length-map-range_with_len (first_registers_of done) 0 cores) in
-        subst (λ (n : ℕ). get_or (with_register table (decimal c) r v) n [] ≡ get_or (first_registers (done ++ of_register c r v ∷ []) cores) n []) is
-        (get_or-set_same table (decimal c) (with_value (get_or table (decimal c) []) r v) [] room
-        ∙ ap (λ (l : List ℕ). with_value l r v) (row_at done cores (decimal c) lt) ∙ this_row done c r v ∙ sym (row_at (done ++ of_register c r v ∷ []) cores (decimal c) lt))
+        let room : decimal_value c < length table = omega (arith, lt, length-map-range_with_len (first_registers_of done) 0 cores) in
+        subst (λ (n : ℕ). get_or (with_register table (decimal_value c) r v) n [] ≡ get_or (first_registers (done ++ of_register c r v ∷ []) cores) n []) is
+        (get_or-set_same table (decimal_value c) (with_value (get_or table (decimal_value c) []) r v) [] room
+        ∙ ap (λ (l : List ℕ). with_value l r v) (row_at done cores (decimal_value c) lt) ∙ this_row done c r v ∙ sym (row_at (done ++ of_register c r v ∷ []) cores (decimal_value c) lt))
     by_row k below false e =
         let table = first_registers done cores in
-        get_or-set_other table (decimal c) k (with_value (get_or table (decimal c) []) r v) [] (λ is. let hit : eqb (decimal c) k ≡ true = ap (eqb (decimal c)) is ∙ same_number (decimal c) in cc)
+        get_or-set_other table (decimal_value c) k (with_value (get_or table (decimal_value c) []) r v) [] (λ is. let hit : eqb (decimal_value c) k ≡ true = ap (eqb (decimal_value c)) is ∙ same_number (decimal_value c) in cc)
         ∙ row_at done cores k below ∙ sym (other_row done k c r v e) ∙ sym (row_at (done ++ of_register c r v ∷ []) cores k below)
 
-core_there : (cores left : ℕ) (digits : List ℕ) → ltb (decimal digits) cores ≡ true → core_of cores left digits ≡ Ok (decimal digits)
+core_there : (cores left : ℕ) (digits : List ℕ) → ltb (decimal_value digits) cores ≡ true → core_of cores left digits ≡ Ok (decimal_value digits)
 core_there cores left digits lt = rw lt refl
 
 registers_found : (cores : ℕ) (gs : List Given) (done : List Setting) → list_all (has_core cores) (map unplaced gs) ≡ true
@@ -201,7 +210,7 @@ registers_found : (cores : ℕ) (gs : List Given) (done : List Setting) → list
 unfolding registers_with
 registers_found cores [] done has = ap (λ (l : List Setting). Ok (first_registers l cores)) (sym (append-nil done))
 registers_found cores (g ∷ gs) done has =
-    let both = and_parts (ltb (decimal g.core) cores) (list_all (has_core cores) (map unplaced gs)) has in
+    let both = and_parts (ltb (decimal_value g.core) cores) (list_all (has_core cores) (map unplaced gs)) has in
     let noted = register_noted done cores g.core g.reg g.value (ltb-true _ _ both.0) in
     ap (λ (r : Result ℕ Fault). r >>= λ core. registers_with cores (with_register (first_registers done cores) core g.reg g.value) gs) (core_there cores g.left g.core both.0)
     ∙ ap (λ (l : List (List ℕ)). registers_with cores l gs) noted
@@ -214,10 +223,10 @@ registers_taken cores registers table [] e = refl
 registers_taken cores registers table (g ∷ gs) e =
     let core = bind_ok (core_of cores g.left g.core) _ table e in
     let further = registers_taken cores (with_register registers core.0 g.reg g.value) table gs core.2 in
-    let there : ltb (decimal g.core) cores ≡ true = by_test (ltb (decimal g.core) cores) core.0 core.1 in
+    let there : ltb (decimal_value g.core) cores ≡ true = by_test (ltb (decimal_value g.core) cores) core.0 core.1 in
     rw (there, further) refl
   where
-    by_test : (b : Bool) (n : ℕ) → (let r : Result ℕ Fault = cond b (Ok (decimal g.core)) (Err (fault NoSuchCore g.left)) in r) ≡ Ok n → b ≡ true
+    by_test : (b : Bool) (n : ℕ) → (let r : Result ℕ Fault = cond b (Ok (decimal_value g.core)) (Err (fault NoSuchCore g.left)) in r) ≡ Ok n → b ≡ true
     by_test true n h = refl
     by_test false n h = absurd cc
 
@@ -227,7 +236,7 @@ nothing_first a (suc n) = ap (λ (l : List (List ℕ)). no_registers ∷ l) (not
 
 of_registers_alone : (core : ℕ) (reg : Reg) (otherwise : ℕ) (settings : List Setting) → first_register core reg otherwise (registers_in settings) ≡ first_register core reg otherwise settings
 of_registers_alone core reg otherwise [] = refl
-of_registers_alone core reg otherwise (of_register c r v ∷ rest) = of_registers_alone core reg (cond (eqb (decimal c) core && eqb (index_of r) (index_of reg)) v otherwise) rest
+of_registers_alone core reg otherwise (of_register c r v ∷ rest) = of_registers_alone core reg (cond (eqb (decimal_value c) core && eqb (index_of r) (index_of reg)) v otherwise) rest
 of_registers_alone core reg otherwise (of_location y v ∷ rest) = of_registers_alone core reg otherwise rest
 
 rows_alone : (settings : List Setting) (cores : List ℕ) → map (first_registers_of (registers_in settings)) cores ≡ map (first_registers_of settings) cores

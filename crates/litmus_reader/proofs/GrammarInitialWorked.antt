@@ -3,7 +3,8 @@ use Rattle.std.proofs.Common.{◌≡◌, List, [], ◌∷◌, refl, arith}
 use Rattle.std.specs.Prelude.{codes}
 use Rattle.tso_model.specs.declared.register.Reg.TheVariants.{Eax}
 use Rattle.litmus_tokens.specs.declared.token.Symbol.TheVariants.{Equals, Colon, OpenSquare, CloseSquare, OpenCurly, CloseCurly, Semicolon}
-use Rattle.litmus_tokens.specs.Terms.{Term, number, name, symbol, decimal_from}
+use Rattle.decimals.specs.Decimals.{decimal_from}
+use Rattle.litmus_tokens.specs.Terms.{Term, number, name, symbol}
 use Rattle.litmus_reader.specs.GrammarItems.{sets_register, sets_location, sets_in_squares}
 use Rattle.litmus_reader.specs.GrammarInitial.{empty, given, last, more, IsInitialState, in_braces, Fits, first_words, first_registers}
 use Rattle.litmus_reader.specs.Written.{Setting, of_register, of_location}

@@ -1,7 +1,8 @@
--- Items are read later they are spelled.
+-- Items are read where they are spelled.
 use Rattle.std.proofs.Common.{◌≡◌, ℕ, List, [], ◌∷◌, ◌++◌, Ok, refl, ap, subst, ◌∙◌, inl, inr}
 use Rattle.litmus_tokens.specs.declared.token.Symbol.TheVariants.{Equals, Colon, OpenSquare, CloseSquare}
-use Rattle.litmus_tokens.specs.Terms.{Term, number, name, symbol, decimal}
+use Rattle.decimals.specs.Decimals.{decimal_value}
+use Rattle.litmus_tokens.specs.Terms.{Term, number, name, symbol}
 use Rattle.litmus_tokens.specs.Pieces.{Piece}
 use Rattle.litmus_tokens.specs.Front.{is_symbol, symbol_at, name_at, number_at}
 use Rattle.litmus_reader.specs.declared.fault.Part.{Part}
@@ -20,7 +21,7 @@ Found part s back ps = Reads (setting_at part ps) s back
 pub setting_found : (part : Part) (ts back : List Term) (s : Setting) → IsSetting ts s → (ps : List Piece) → terms ps ≡ ts ++ back → Found part s back ps
 unfolding setting_at register_setting square_setting plain_setting value_at register_at location_at number_at name_at symbol_at is_symbol
 setting_found part _ back _ (sets_register core word v reg good) ps e =
-    let Is : List Piece → Type 0 = Found part (of_register core reg (decimal v)) back in
+    let Is : List Piece → Type 0 = Found part (of_register core reg (decimal_value v)) back in
     opened Is ps (number core) (symbol Colon ∷ name word ∷ symbol Equals ∷ number v ∷ back) e (λ a later is_core e.
     opened (λ l. Is (a ∷ l)) later (symbol Colon) (name word ∷ symbol Equals ∷ number v ∷ back) e (λ b bs is_colon e.
     opened (λ l. Is (a ∷ b ∷ l)) bs (name word) (symbol Equals ∷ number v ∷ back) e (λ c cs is_name e.
@@ -28,13 +29,13 @@ setting_found part _ back _ (sets_register core word v reg good) ps e =
     opened (λ l. Is (a ∷ b ∷ c ∷ d ∷ l)) ds (number v) back e (λ f rest is_value behind.
     record { rest = rest; is = rw (is_core, is_colon, is_name, good, is_equals, is_value) refl; behind = behind })))))
 setting_found part _ back _ (sets_location x v good) ps e =
-    let Is : List Piece → Type 0 = Found part (of_location x (decimal v)) back in
+    let Is : List Piece → Type 0 = Found part (of_location x (decimal_value v)) back in
     opened Is ps (name x) (symbol Equals ∷ number v ∷ back) e (λ a later is_name e.
     opened (λ l. Is (a ∷ l)) later (symbol Equals) (number v ∷ back) e (λ b bs is_equals e.
     opened (λ l. Is (a ∷ b ∷ l)) bs (number v) back e (λ c rest is_value behind.
     record { rest = rest; is = rw (is_name, good, is_equals, is_value) refl; behind = behind })))
 setting_found part _ back _ (sets_in_squares x v good) ps e =
-    let Is : List Piece → Type 0 = Found part (of_location x (decimal v)) back in
+    let Is : List Piece → Type 0 = Found part (of_location x (decimal_value v)) back in
     opened Is ps (symbol OpenSquare) (name x ∷ symbol CloseSquare ∷ symbol Equals ∷ number v ∷ back) e (λ a later is_open e.
     opened (λ l. Is (a ∷ l)) later (name x) (symbol CloseSquare ∷ symbol Equals ∷ number v ∷ back) e (λ b bs is_name e.
     opened (λ l. Is (a ∷ b ∷ l)) bs (symbol CloseSquare) (symbol Equals ∷ number v ∷ back) e (λ c cs is_close e.
@@ -44,12 +45,12 @@ setting_found part _ back _ (sets_in_squares x v good) ps e =
 
 -- ---- taken
 
-value_taken : (part : Part) (ps rest : List Piece) (v : ℕ) → value_at part ps ≡ Ok (v, rest) → (digits : List ℕ) × (terms ps ≡ symbol Equals ∷ number digits ∷ terms rest) × (decimal digits ≡ v)
+value_taken : (part : Part) (ps rest : List Piece) (v : ℕ) → value_at part ps ≡ Ok (v, rest) → (digits : List ℕ) × (terms ps ≡ symbol Equals ∷ number digits ∷ terms rest) × (decimal_value digits ≡ v)
 unfolding value_at
 value_taken part ps rest v e =
     let a = bind_ok (or_unfit part ps (symbol_at Equals ps)) _ (v, rest) e in
     let b = bind_ok (or_unfit part a.0 (number_at a.0)) _ (v, rest) a.2 in
-    let same = ok_pair (decimal b.0.0) v b.0.1 rest b.2 in
+    let same = ok_pair (decimal_value b.0.0) v b.0.1 rest b.2 in
     let equals = symbol_takes Equals ps a.0 (or_unfit_ok part ps (symbol_at Equals ps) a.0 a.1) in
     let digits = number_takes a.0 b.0.1 b.0.0 (or_unfit_ok part a.0 (number_at a.0) b.0 b.1) in
     (b.0.0, equals ∙ ap (λ (ts : List Term). symbol Equals ∷ ts) (digits ∙ ap (λ (l : List Piece). number b.0.0 ∷ terms l) same.1), same.0)
@@ -67,7 +68,7 @@ register_taken part core all ps rest s front e =
     let colon = symbol_takes Colon ps a.0 (or_unfit_ok part ps (symbol_at Colon ps) a.0 a.1) in
     let reg = register_takes a.0 b.0.1 b.0.0 (or_unfit_ok part a.0 (register_at a.0) b.0 b.1) in
     let v = value_taken part b.0.1 c.0.1 c.0.0 c.1 in
-    let is : of_register core b.0.0 (decimal v.0) ≡ s = ap (λ (n : ℕ). of_register core b.0.0 n) v.2 ∙ same.0 in
+    let is : of_register core b.0.0 (decimal_value v.0) ≡ s = ap (λ (n : ℕ). of_register core b.0.0 n) v.2 ∙ same.0 in
     record {
       ts = number core ∷ symbol Colon ∷ name reg.0 ∷ symbol Equals ∷ number v.0 ∷ [];
       is = subst (λ (t : Setting). IsSetting (number core ∷ symbol Colon ∷ name reg.0 ∷ symbol Equals ∷ number v.0 ∷ []) t) is (sets_register core reg.0 v.0 b.0.0 reg.2);
@@ -86,7 +87,7 @@ square_taken part all ps rest s front e =
     let loc = location_takes ps a.0.1 x (or_unfit_ok part ps (location_at ps) a.0 a.1) in
     let close = symbol_takes CloseSquare a.0.1 b.0 (or_unfit_ok part a.0.1 (symbol_at CloseSquare a.0.1) b.0 b.1) in
     let v = value_taken part b.0 c.0.1 c.0.0 c.1 in
-    let is : of_location x (decimal v.0) ≡ s = ap (λ (n : ℕ). of_location x n) v.2 ∙ same.0 in
+    let is : of_location x (decimal_value v.0) ≡ s = ap (λ (n : ℕ). of_location x n) v.2 ∙ same.0 in
     record {
       ts = symbol OpenSquare ∷ name x ∷ symbol CloseSquare ∷ symbol Equals ∷ number v.0 ∷ [];
       is = subst (λ (t : Setting). IsSetting (symbol OpenSquare ∷ name x ∷ symbol CloseSquare ∷ symbol Equals ∷ number v.0 ∷ []) t) is (sets_in_squares x v.0 loc.1);
@@ -103,7 +104,7 @@ plain_taken part ps rest s e =
     let same = ok_pair (of_location x c.0.0) s c.0.1 rest c.2 in
     let loc = location_takes ps a.0.1 x (or_unfit_ok part ps (location_at ps) a.0 a.1) in
     let v = value_taken part a.0.1 c.0.1 c.0.0 c.1 in
-    let is : of_location x (decimal v.0) ≡ s = ap (λ (n : ℕ). of_location x n) v.2 ∙ same.0 in
+    let is : of_location x (decimal_value v.0) ≡ s = ap (λ (n : ℕ). of_location x n) v.2 ∙ same.0 in
     record {
       ts = name x ∷ symbol Equals ∷ number v.0 ∷ [];
       is = subst (λ (t : Setting). IsSetting (name x ∷ symbol Equals ∷ number v.0 ∷ []) t) is (sets_location x v.0 loc.1);

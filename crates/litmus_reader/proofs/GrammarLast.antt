@@ -16,11 +16,11 @@ use Rattle.litmus_reader.specs.Faults.{◌>>=◌, or_unfit}
 use Rattle.litmus_reader.specs.Keywords.{if_word, word_behind}
 use Rattle.litmus_reader.specs.Items.{setting_at}
 use Rattle.litmus_reader.specs.Conditions as reading
-use Rattle.litmus_reader.specs.Conditions.{claim_in, Claimed, one_more, truth_at, truth_atom, setting_atom, atom_at, Proposition, joined_to, chain, chain_of, conjunction, disjunction, negation_at, opens_unit, negated, bracketed, unit_by, unit_at, proposition_at, Conditioned, quantified, not_exists, condition_at}
+use Rattle.litmus_reader.specs.Conditions.{claim_in, Claimed, one_more, truth_at, truth_atom, setting_atom, atom_at, Proposition, joined_to, chain, chain_of, conjunction, disjunction, negation_at, opens_unit, negated, bracketed, unit_by, unit_at, proposition_at, Conditioned, quantified, not_exists, condition_at, in_condition}
 use Rattle.litmus_reader.proofs.Keeps.{Any, ok_any, bind_keeps, there_keeps, cond_keeps, or_unfit_keeps}
 use Rattle.litmus_reader.proofs.GrammarBehind.{all_last, last_further, Leaves, symbol_leaves, name_leaves, setting_leaves}
 use Rattle.litmus_reader.proofs.Readings.{AreLast}
-use Rattle.litmus_reader.specs.Places.{left_of, in_condition}
+use Rattle.litmus_reader.specs.Places.{left_of}
 
 abbrev pub LeavesLast : Proposition → Type 0
 LeavesLast unit = (atoms : ℕ) (names : List (List ℕ)) (ps : List Piece) → IfOk (unit atoms names ps) (λ c. AreLast ps c.rest)

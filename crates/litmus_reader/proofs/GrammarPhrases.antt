@@ -1,27 +1,41 @@
 -- Propositions by their phrases: claims as names appear, and parts with a symbol between them.
-use Rattle.std.proofs.Common.{◌≡◌, ℕ, zero, suc, ◌+◌, ◌≤◌, false, List, [], ◌∷◌, ◌++◌, length, Some, None, Ok, refl, sym, ap, subst, ◌∙◌, inl, inr, append_assoc, arith}
+use Rattle.std.proofs.Common.{◌≡◌, ℕ, zero, suc, ◌+◌, ◌≤◌, true, false, List, [], ◌∷◌, ◌++◌, length, Some, None, Ok, refl, sym, ap, subst, ◌∙◌, inl, inr, append_assoc, arith}
+use Rattle.std.specs.List.{list_all}
+use Rattle.std.proofs.lemmas.Bool.{and_from, and_parts}
 use Rattle.std.proofs.lemmas.List.{length-append, length-map}
+use Rattle.std.proofs.lemmas.List.Folds.{list_all-append}
 use Rattle.tso_model.specs.Condition.{Claim, LocClaim, NotClaim}
 use Rattle.litmus_tokens.specs.declared.token.Symbol.{Symbol}
 use Rattle.litmus_tokens.specs.declared.token.Symbol.TheVariants.{And, Or}
 use Rattle.litmus_tokens.specs.Terms.{Term, symbol}
 use Rattle.litmus_tokens.specs.Pieces.{Piece}
-use Rattle.litmus_tokens.specs.Front.{is_symbol, symbol_at}
+use Rattle.litmus_tokens.specs.Front.{is_symbol, symbol_at, is_symbol_term}
 use Rattle.litmus_reader.specs.Faults.{◌>>=◌}
 use Rattle.litmus_reader.specs.Conditions as reading
 use Rattle.litmus_reader.specs.Conditions.{claim_in, Claimed, claimed, one_more, truth_at, truth_atom, setting_atom, atom_at, Proposition, joined_to, chain, chain_of, conjunction, disjunction, negation_at, opens_unit, negated, bracketed, unit_by, unit_at, proposition_at}
 use Rattle.litmus_reader.specs.Grammar.{terms}
 use Rattle.litmus_reader.specs.GrammarNames.{numbered}
-use Rattle.litmus_reader.specs.GrammarConditions.{AreJoined, one, more, IsConjunction, IsProposition, locations_in, atoms_of, Fits, claim_of, begins_with, IsWithin}
+use Rattle.litmus_reader.specs.GrammarInitial.{names_in, is_allowed}
+use Rattle.litmus_reader.specs.GrammarConditions.{AreJoined, one, more, IsConjunction, IsProposition, settings_in, locations_in, atoms_of, Fits, claim_of, IsWithin}
 use Rattle.litmus_reader.proofs.Keeps.{ok_is as keeps_ok, some_is as keeps_some}
 use Rattle.litmus_reader.proofs.GrammarBehind.{last_further, symbol_leaves}
 use Rattle.litmus_reader.proofs.GrammarLast.{LeavesLast, chain_leaves}
 use Rattle.litmus_reader.proofs.GrammarTokens.{there_is, ok_is, bind_ok, front, symbol_takes, spelled_so}
 use Rattle.litmus_reader.proofs.GrammarNames.{Known, known_with, known_more, number_more, numbered_append, grows}
 use Rattle.litmus_reader.proofs.Readings.{given_by, ReadsPhrase, AreLast}
-use Rattle.litmus_reader.specs.Written.{of_register, of_location, Phrase, truth, atom, negation, both, either}
+use Rattle.litmus_reader.specs.Written.{Setting, of_register, of_location, Phrase, truth, atom, negation, both, either}
+use Rattle.litmus_reader.specs.Misfits.{begins_with}
 
 -- ---- claims stay as more names appear
+
+names_in-append : (before after : List Setting) → names_in (before ++ after) ≡ names_in before ++ names_in after
+names_in-append [] after = refl
+names_in-append (of_register core reg v ∷ before) after = names_in-append before after
+names_in-append (of_location x v ∷ before) after = ap (λ (l : List (List ℕ)). x ∷ l) (names_in-append before after)
+
+-- the names of two phrases are those of the first, and then those of the second
+pub numbered_both : (p q : Phrase) (names : List (List ℕ)) → numbered names (names_in (settings_in p ++ settings_in q)) ≡ numbered (numbered names (locations_in p)) (locations_in q)
+numbered_both p q names = ap (λ (l : List (List ℕ)). numbered names l) (names_in-append (settings_in p) (settings_in q)) ∙ numbered_append (locations_in p) (locations_in q) names
 
 abbrev AllKnown : List (List ℕ) → Phrase → Type 0
 AllKnown names (truth b) = Unit {0}
@@ -47,10 +61,10 @@ all_known (atom (of_location x v)) names = known_with names x
 all_known (negation p) names = all_known p names
 all_known (both p q) names =
     let one = all_known_more p (locations_in q) (numbered names (locations_in p)) (all_known p names) in
-    subst (λ (l : List (List ℕ)). AllKnown l p × AllKnown l q) (sym (numbered_append (locations_in p) (locations_in q) names)) (one, all_known q (numbered names (locations_in p)))
+    subst (λ (l : List (List ℕ)). AllKnown l p × AllKnown l q) (sym (numbered_both p q names)) (one, all_known q (numbered names (locations_in p)))
 all_known (either p q) names =
     let one = all_known_more p (locations_in q) (numbered names (locations_in p)) (all_known p names) in
-    subst (λ (l : List (List ℕ)). AllKnown l p × AllKnown l q) (sym (numbered_append (locations_in p) (locations_in q) names)) (one, all_known q (numbered names (locations_in p)))
+    subst (λ (l : List (List ℕ)). AllKnown l p × AllKnown l q) (sym (numbered_both p q names)) (one, all_known q (numbered names (locations_in p)))
 
 pub stays : (p : Phrase) (xs names : List (List ℕ)) → AllKnown names p → claim_of (numbered names xs) p ≡ claim_of names p
 stays (truth b) xs names k = refl
@@ -95,11 +109,17 @@ pub record Joining (join : Claim → Claim → Claim) (phrases : Phrase → Phra
   pub fit : (cores : ℕ) (p q : Phrase) → Fits cores p → Fits cores q → Fits cores (phrases p q)
   pub parts_fit : (cores : ℕ) (p q : Phrase) → Fits cores (phrases p q) → Fits cores p × Fits cores q
 
+both_fit : (cores : ℕ) (p q : Phrase) → Fits cores p → Fits cores q → list_all (is_allowed cores) (settings_in p ++ settings_in q) ≡ true
+both_fit cores p q f g = list_all-append (is_allowed cores) (settings_in p) (settings_in q) ∙ and_from _ _ f g
+
+each_fits : (cores : ℕ) (p q : Phrase) → list_all (is_allowed cores) (settings_in p ++ settings_in q) ≡ true → Fits cores p × Fits cores q
+each_fits cores p q f = and_parts (list_all (is_allowed cores) (settings_in p)) (list_all (is_allowed cores) (settings_in q)) (sym (list_all-append (is_allowed cores) (settings_in p) (settings_in q)) ∙ f)
+
 pub joining_both : Joining reading.both both
-joining_both = record { claims = λ names p q. refl; locations = λ p q. refl; counts = λ p q. refl; fit = λ cores p q f g. (f, g); parts_fit = λ cores p q f. f }
+joining_both = record { claims = λ names p q. refl; locations = λ p q. names_in-append (settings_in p) (settings_in q); counts = λ p q. refl; fit = both_fit; parts_fit = each_fits }
 
 pub joining_either : Joining reading.either either
-joining_either = record { claims = λ names p q. refl; locations = λ p q. refl; counts = λ p q. refl; fit = λ cores p q f g. (f, g); parts_fit = λ cores p q f. f }
+joining_either = record { claims = λ names p q. refl; locations = λ p q. names_in-append (settings_in p) (settings_in q); counts = λ p q. refl; fit = both_fit; parts_fit = each_fits }
 
 names_joined : (join : Claim → Claim → Claim) (phrases : Phrase → Phrase → Phrase) → Joining join phrases → (names : List (List ℕ)) (p q : Phrase)
     → numbered names (locations_in (phrases p q)) ≡ numbered (numbered names (locations_in p)) (locations_in q)
@@ -222,7 +242,7 @@ pub symbol_there : (s : Symbol) (ps rest : List Piece) (p : Piece) → ps ≡ p 
 unfolding symbol_at is_symbol
 symbol_there s ps rest p parts is = rw (parts, is, spelled_so s) refl
 
-pub no_symbol : (s : Symbol) (ps : List Piece) → begins_with s (terms ps) ≡ false → symbol_at s ps ≡ None
+pub no_symbol : (s : Symbol) (ps : List Piece) → begins_with (is_symbol_term s) (terms ps) ≡ false → symbol_at s ps ≡ None
 unfolding symbol_at is_symbol
 no_symbol s [] none = refl
 no_symbol s (p ∷ ps) none = rw none refl
@@ -245,7 +265,7 @@ first_allowed join phrases j cores atoms names p q a =
     let whole = ap (λ (l : List (List ℕ)). length l) (names_joined join phrases j names p q) in
     record { fits = (j.parts_fit cores p q a.fits).0; few = omega (arith, a.few, j.counts p q); room = omega (arith, a.room, more, whole) }
 
-second_allowed : (join : Claim → Claim → Claim) (phrases : Phrase → Phrase → Phrase) → Joining join phrases → (cores atoms : ℕ) (names : List (List ℕ)) (p q : Phrase)
+pub second_allowed : (join : Claim → Claim → Claim) (phrases : Phrase → Phrase → Phrase) → Joining join phrases → (cores atoms : ℕ) (names : List (List ℕ)) (p q : Phrase)
     → IsWithin cores atoms names (phrases p q) → IsWithin cores (atoms + atoms_of p) (numbered names (locations_in p)) q
 second_allowed join phrases j cores atoms names p q a =
     record {
@@ -291,25 +311,25 @@ chain_found s join phrases IsPart j cores unit Behind finds leaves parted _ _ (m
 
 joined_finds : (s : Symbol) (join : Claim → Claim → Claim) (phrases : Phrase → Phrase → Phrase) (IsPart : List Term → Phrase → Type 0) → Joining join phrases
     → (cores : ℕ) (unit : Proposition) (Behind : List Term → Type 0) → Finds cores unit IsPart Behind → LeavesLast unit → ((l : List Term) → Behind (symbol s ∷ l))
-    → Finds cores (chain_of s join unit) (AreJoined s phrases IsPart) (λ back. Behind back × (begins_with s back ≡ false))
+    → Finds cores (chain_of s join unit) (AreJoined s phrases IsPart) (λ back. Behind back × (begins_with (is_symbol_term s) back ≡ false))
 joined_finds s join phrases IsPart j cores unit Behind finds leaves parted ts p are atoms names allowed back ok ps e =
     let c = chain_found s join phrases IsPart j cores unit Behind finds leaves parted ts p are atoms names allowed back ok.0 ps e in
-    let none : begins_with s (terms c.rest) ≡ false = ap (λ (l : List Term). begins_with s l) c.behind ∙ ok.1 in
+    let none : begins_with (is_symbol_term s) (terms c.rest) ≡ false = ap (λ (l : List Term). begins_with (is_symbol_term s) l) c.behind ∙ ok.1 in
     record { rest = c.rest; is = c.same ∙ chain_ends s join unit c.count (given_by atoms names p c.rest) (no_symbol s c.rest none); behind = c.behind }
 
--- where anything may stand behind
+-- where anything may stand after
 abbrev pub Anything : List Term → Type 0
 Anything back = Unit {0}
 
--- neither `/\` nor `\/` stands behind
+-- neither `/\` nor `\/` stands after
 abbrev pub EndsThere : List Term → Type 0
-EndsThere back = (Anything back × (begins_with And back ≡ false)) × (begins_with Or back ≡ false)
+EndsThere back = (Anything back × (begins_with (is_symbol_term And) back ≡ false)) × (begins_with (is_symbol_term Or) back ≡ false)
 
 pub conjunction_finds : (IsPart : List Term → Phrase → Type 0) (cores : ℕ) (unit : Proposition) → Finds cores unit IsPart Anything → LeavesLast unit
-    → Finds cores (conjunction unit) (IsConjunction IsPart) (λ back. Anything back × (begins_with And back ≡ false))
+    → Finds cores (conjunction unit) (IsConjunction IsPart) (λ back. Anything back × (begins_with (is_symbol_term And) back ≡ false))
 conjunction_finds IsPart cores unit finds leaves = joined_finds And reading.both both IsPart joining_both cores unit Anything finds leaves (λ l. tt)
 
 pub proposition_finds : (IsPart : List Term → Phrase → Type 0) (cores : ℕ) (unit : Proposition) → Finds cores unit IsPart Anything → LeavesLast unit → Finds cores (disjunction unit) (IsProposition IsPart) EndsThere
 proposition_finds IsPart cores unit finds leaves =
-    joined_finds Or reading.either either (IsConjunction IsPart) joining_either cores (conjunction unit) (λ back. Anything back × (begins_with And back ≡ false))
+    joined_finds Or reading.either either (IsConjunction IsPart) joining_either cores (conjunction unit) (λ back. Anything back × (begins_with (is_symbol_term And) back ≡ false))
     (conjunction_finds IsPart cores unit finds leaves) (chain_leaves And reading.both unit leaves) (λ l. (tt, refl))

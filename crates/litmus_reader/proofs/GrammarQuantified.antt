@@ -7,24 +7,24 @@ use Rattle.litmus_tokens.specs.declared.token.Stop.{Stop}
 use Rattle.litmus_tokens.specs.declared.token.Symbol.TheVariants.{And, Or, Tilde}
 use Rattle.litmus_tokens.specs.Terms.{Term, name, symbol}
 use Rattle.litmus_tokens.specs.Pieces.{Piece}
-use Rattle.litmus_tokens.specs.Front.{is_symbol, symbol_at, name_at}
+use Rattle.litmus_tokens.specs.Front.{is_symbol, symbol_at, name_at, is_symbol_term}
 use Rattle.tso_model.specs.Limits.{most_open}
 use Rattle.litmus_reader.specs.Faults.{there, or_unfit}
 use Rattle.litmus_reader.specs.Keywords.{word_behind}
-use Rattle.litmus_reader.specs.Conditions.{Conditioned, conditioned, with_claim, quantified, not_exists, condition_at, proposition_at}
+use Rattle.litmus_reader.specs.Conditions.{Conditioned, conditioned, with_claim, quantified, not_exists, condition_at, proposition_at, in_condition}
 use Rattle.litmus_reader.specs.Grammar.{terms}
-use Rattle.litmus_reader.specs.GrammarConditions.{IsUnit, IsProposition, IsWithin, begins_with, IsQuantifier, says_exists, says_forall, says_not_exists, IsCondition, condition}
+use Rattle.litmus_reader.specs.GrammarConditions.{IsUnit, IsProposition, IsWithin, IsQuantifier, says_exists, says_forall, says_not_exists, IsCondition, condition}
 use Rattle.litmus_reader.proofs.GrammarTokens.{there_is, ok_is, bind_ok, or_unfit_ok, opened, symbol_takes}
 use Rattle.litmus_reader.proofs.GrammarAtoms.{word_taken}
 use Rattle.litmus_reader.proofs.GrammarConditions.{proposition_again, proposition_spelled}
 use Rattle.litmus_reader.proofs.Readings.{condition_by, ReadsCondition, SpellsCondition, ReadsNone}
-use Rattle.litmus_reader.specs.Places.{in_condition}
 use Rattle.litmus_reader.specs.Written.{Phrase}
+use Rattle.litmus_reader.specs.Misfits.{begins_with}
 
 -- ---- found
 
 quantified_found : (stop : Stop) (cores : ℕ) (quantifier : Quantifier) (names : List (List ℕ)) (ps : List Piece) (us back : List Term) (p : Phrase)
-    → IsProposition (IsUnit most_open) us p → IsWithin cores 0 names p → terms ps ≡ us ++ back → begins_with And back ≡ false → begins_with Or back ≡ false
+    → IsProposition (IsUnit most_open) us p → IsWithin cores 0 names p → terms ps ≡ us ++ back → begins_with (is_symbol_term And) back ≡ false → begins_with (is_symbol_term Or) back ≡ false
     → ReadsCondition (quantified stop cores quantifier names ps) names quantifier p back
 unfolding quantified
 quantified_found stop cores quantifier names ps us back p is within e no_and no_or =
@@ -47,7 +47,7 @@ behind_quantifier stop cores names ps _ us _ says_not_exists e =
     (λ q rest is_exists behind. (rest, rw (is, is_exists) refl, behind)))
 
 pub condition_again : (stop : Stop) (cores : ℕ) (names : List (List ℕ)) (ps : List Piece) (ts back : List Term) (quantifier : Quantifier) (p : Phrase)
-    → IsCondition ts quantifier p → IsWithin cores 0 names p → terms ps ≡ ts ++ back → begins_with And back ≡ false → begins_with Or back ≡ false
+    → IsCondition ts quantifier p → IsWithin cores 0 names p → terms ps ≡ ts ++ back → begins_with (is_symbol_term And) back ≡ false → begins_with (is_symbol_term Or) back ≡ false
     → ReadsCondition (condition_at stop cores names ps) names quantifier p back
 condition_again stop cores names ps _ back _ _ (condition ts us quantifier p is_quantifier is) within e no_and no_or =
     let q = behind_quantifier stop cores names ps ts (us ++ back) quantifier is_quantifier (e ∙ append_assoc ts us back) in

@@ -1,4 +1,4 @@
--- Rows are parted into cells as they are spelled.
+-- Rows are separated into cells as they are spelled.
 use Rattle.std.proofs.Common.{◌≡◌, ℕ, suc, ◌+◌, ◌<◌, Bool, true, false, ltb, List, [], ◌∷◌, ◌++◌, length, Option, Some, None, Ok, Err, refl, sym, ap, subst, ◌∙◌, inl, inr, append_assoc, arith}
 use Rattle.std.specs.List.{slice_split, onto_first, position_or_len, before_first, after_first}
 use Rattle.std.proofs.lemmas.Bool.{ltb-true, lt-ltb}
@@ -15,7 +15,7 @@ use Rattle.litmus_reader.specs.declared.fault.Why.TheVariants.{Unclosed}
 use Rattle.litmus_reader.specs.Forms.{spelled_in}
 use Rattle.litmus_reader.specs.Rows.{row_at}
 use Rattle.litmus_reader.specs.Grammar.{terms}
-use Rattle.litmus_reader.specs.GrammarCells.{IsConstant, plain, with_dollar, IsMemory, in_squares, IsRegister, named, IsMnemonic, spelled, parted, IsExchange, memory_first, register_first, IsCell, stores_constant, stores_register, loads, sets_constant, sets_register, fences, exchanges, locks_exchange, locks_add}
+use Rattle.litmus_reader.specs.GrammarCells.{IsConstant, plain, with_dollar, IsMemory, in_squares, IsRegister, named, IsMnemonic, spelled, parted, IsExchange, memory_first, register_first, IsCell, stores_constant, stores_register, loads, sets_constant, sets_register, fences, exchanges, locks_exchange, locks_add, moves}
 use Rattle.litmus_reader.specs.GrammarRows.{IsField, empty, full, AreFields, last, more, IsRow, row}
 use Rattle.litmus_reader.proofs.GrammarTokens.{chosen, ok_pair, symbol_is, spelled_so}
 use Rattle.litmus_reader.proofs.GrammarCells.{cell_again, cell_takes}
@@ -69,11 +69,11 @@ exchange_lacks s p _ _ (memory_first m a b x reg is f g) = two_lack s p _ m a b 
 exchange_lacks s p _ _ (register_first m a b reg x is f g) = two_lack s p _ m a b is (register_lacks s p a reg f) (memory_lacks s p b x g)
 
 cell_lacks : (s : Symbol) → Parts s → (ts : List Term) (shape : Shape) → IsCell ts shape → Lacks s ts
-cell_lacks s p _ _ (stores_constant m a b x v is f g) = two_lack s p _ m a b is (memory_lacks s p a x f) (constant_lacks s p b v g)
-cell_lacks s p _ _ (stores_register m a b x reg is f g) = two_lack s p _ m a b is (memory_lacks s p a x f) (register_lacks s p b reg g)
-cell_lacks s p _ _ (loads m a b reg x is f g) = two_lack s p _ m a b is (register_lacks s p a reg f) (memory_lacks s p b x g)
-cell_lacks s p _ _ (sets_constant m a b reg v is f g) = two_lack s p _ m a b is (register_lacks s p a reg f) (constant_lacks s p b v g)
-cell_lacks s p _ _ (sets_register m a b reg other is f g) = two_lack s p _ m a b is (register_lacks s p a reg f) (register_lacks s p b other g)
+cell_lacks s p _ _ (moves m a b _ is (stores_constant x v f g)) = two_lack s p _ m a b is (memory_lacks s p a x f) (constant_lacks s p b v g)
+cell_lacks s p _ _ (moves m a b _ is (stores_register x reg f g)) = two_lack s p _ m a b is (memory_lacks s p a x f) (register_lacks s p b reg g)
+cell_lacks s p _ _ (moves m a b _ is (loads reg x f g)) = two_lack s p _ m a b is (register_lacks s p a reg f) (memory_lacks s p b x g)
+cell_lacks s p _ _ (moves m a b _ is (sets_constant reg v f g)) = two_lack s p _ m a b is (register_lacks s p a reg f) (constant_lacks s p b v g)
+cell_lacks s p _ _ (moves m a b _ is (sets_register reg other f g)) = two_lack s p _ m a b is (register_lacks s p a reg f) (register_lacks s p b other g)
 cell_lacks s p _ _ (fences m is) = (mnemonic_lacks s _ m is, tt)
 cell_lacks s p _ _ (exchanges ts shape is) = exchange_lacks s p ts shape is
 cell_lacks s p _ _ (locks_exchange l ts shape lock is) = (mnemonic_lacks s _ l lock, exchange_lacks s p ts shape is)
@@ -92,7 +92,7 @@ fields_lack _ _ (more ts us c cs is are) = lacks-append Semicolon ts (symbol Bar
 own : (s : Symbol) → is_symbol_term s (symbol s) ≡ true
 own s = spelled_so s
 
--- what stands before a symbol, and what stands behind it
+-- what stands before a symbol, and what stands after it
 record Cut (s : Symbol) (us back : List Term) (ps : List Piece) : Type 0 where
   pub front : List Piece
   pub rest : List Piece

@@ -16,16 +16,16 @@ use Rattle.litmus_reader.specs.Faults.{◌>>=◌}
 use Rattle.litmus_reader.specs.Cells.{cells_in}
 use Rattle.litmus_reader.specs.Rows.{row_at, counted, row_in, Rows, rows, rows_within, rows_at}
 use Rattle.litmus_reader.specs.Grammar.{terms}
-use Rattle.litmus_reader.specs.GrammarCells.{IsMnemonic, spelled, parted, IsExchange, memory_first, register_first, IsCell, stores_constant, stores_register, loads, sets_constant, sets_register, fences, exchanges, locks_exchange, locks_add}
+use Rattle.litmus_reader.specs.GrammarCells.{IsMnemonic, spelled, parted, IsExchange, memory_first, register_first, IsCell, stores_constant, stores_register, loads, sets_constant, sets_register, fences, exchanges, locks_exchange, locks_add, moves}
 use Rattle.litmus_reader.specs.GrammarNames.{numbered}
 use Rattle.litmus_reader.specs.GrammarRows as grammar
 use Rattle.litmus_reader.specs.GrammarRows.{IsField, empty, full, AreFields, IsRow, row}
-use Rattle.litmus_reader.specs.GrammarTable.{AreRows, none, more, ends_table, ends_rows}
+use Rattle.litmus_reader.specs.GrammarTable.{AreRows, none, more, ends_rows}
 use Rattle.litmus_reader.proofs.Placed.{Placed, placed_from, placed_in, EntriesWithin}
 use Rattle.litmus_reader.proofs.GrammarTokens.{chosen, ok_is, bind_ok}
 use Rattle.litmus_reader.proofs.GrammarRows.{row_again, row_takes}
 use Rattle.litmus_reader.proofs.GrammarTableEntries.{names_of, instrs_of, Read, read_of, within_first, within_none, cells_found, CellsTaken, cells_taken}
-use Rattle.litmus_reader.proofs.Readings.{AreReadAs, rows_by, ReadsPlaced, SpellsRows}
+use Rattle.litmus_reader.proofs.Readings.{AreReadAs, rows_by, ReadsPlaced, SpellsRows, ends_table}
 use Rattle.litmus_reader.specs.Places.{fault, left_of}
 use Rattle.litmus_reader.specs.Written.{Shape}
 use Rattle.litmus_reader.specs.RefusedTable.{cells_of}
@@ -69,11 +69,11 @@ exchange_begins _ _ (memory_first m a b x reg is _ _) back = mnemonic_begins (co
 exchange_begins _ _ (register_first m a b reg x is _ _) back = mnemonic_begins (codes "XCHG") xchg_other m is (parted a b ++ back)
 
 cell_begins : (ts : List Term) (shape : Shape) → IsCell ts shape → (back : List Term) → ends_table (ts ++ back) ≡ false
-cell_begins _ _ (stores_constant m a b x v is _ _) back = mnemonic_begins (codes "MOV") mov_other m is (parted a b ++ back)
-cell_begins _ _ (stores_register m a b x reg is _ _) back = mnemonic_begins (codes "MOV") mov_other m is (parted a b ++ back)
-cell_begins _ _ (loads m a b reg x is _ _) back = mnemonic_begins (codes "MOV") mov_other m is (parted a b ++ back)
-cell_begins _ _ (sets_constant m a b reg v is _ _) back = mnemonic_begins (codes "MOV") mov_other m is (parted a b ++ back)
-cell_begins _ _ (sets_register m a b reg other is _ _) back = mnemonic_begins (codes "MOV") mov_other m is (parted a b ++ back)
+cell_begins _ _ (moves m a b _ is (stores_constant x v _ _)) back = mnemonic_begins (codes "MOV") mov_other m is (parted a b ++ back)
+cell_begins _ _ (moves m a b _ is (stores_register x reg _ _)) back = mnemonic_begins (codes "MOV") mov_other m is (parted a b ++ back)
+cell_begins _ _ (moves m a b _ is (loads reg x _ _)) back = mnemonic_begins (codes "MOV") mov_other m is (parted a b ++ back)
+cell_begins _ _ (moves m a b _ is (sets_constant reg v _ _)) back = mnemonic_begins (codes "MOV") mov_other m is (parted a b ++ back)
+cell_begins _ _ (moves m a b _ is (sets_register reg other _ _)) back = mnemonic_begins (codes "MOV") mov_other m is (parted a b ++ back)
 cell_begins _ _ (fences m is) back = mnemonic_begins (codes "MFENCE") fence_other m is back
 cell_begins _ _ (exchanges ts shape is) back = exchange_begins ts shape is back
 cell_begins _ _ (locks_exchange l ts shape is _) back = mnemonic_begins (codes "LOCK") lock_other l is (ts ++ back)

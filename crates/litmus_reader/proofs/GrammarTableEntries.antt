@@ -31,7 +31,7 @@ use Rattle.litmus_reader.specs.Written.{Shape, store_imm, store_reg, load, set_i
 
 -- ---- entries so far
 
--- the names behind those before, and the instructions
+-- the names after those before, and the instructions
 abbrev pub names_of : List (List ℕ) → List Placed → List (List ℕ)
 names_of names entries = numbered names (locations_of entries)
 

@@ -15,23 +15,23 @@ use Rattle.litmus_reader.specs.Initial.{Initial, words_of, registers_of, initial
 use Rattle.litmus_reader.specs.Columns.{columns_at}
 use Rattle.litmus_reader.specs.Rows.{Rows, Table, table, table_at, rows_at}
 use Rattle.litmus_reader.specs.Reading.{programs_from, test_of, tail_at, body_of, reading_of}
-use Rattle.litmus_reader.specs.Grammar.{terms}
+use Rattle.litmus_reader.specs.Grammar.{terms, Passes}
 use Rattle.litmus_reader.specs.GrammarNames.{numbered, with_name}
 use Rattle.litmus_reader.specs.GrammarText.{IsHeaderLine, AreInformationLines}
 use Rattle.litmus_reader.specs.GrammarInitial.{IsInitialState, Fits, has_cores, names_in, first_words, first_registers}
 use Rattle.litmus_reader.specs.GrammarColumns.{IsHeaderRow}
-use Rattle.litmus_reader.specs.GrammarTable.{AreRows, ends_table}
+use Rattle.litmus_reader.specs.GrammarTable.{AreRows}
 use Rattle.litmus_reader.proofs.Placed.{placed_in, instrs_with, locations_of, EntriesWithin}
 use Rattle.litmus_reader.specs.GrammarConditions.{condition, says_exists, says_forall, says_not_exists}
 use Rattle.litmus_reader.specs.GrammarEnding.{MayAsk, nothing, a_condition, IsEnding, at_once, behind_locations, names_asked, condition_of, IsAskedWithin}
-use Rattle.litmus_reader.specs.GrammarTest.{IsBody, program, test_written, KeepsLimits}
+use Rattle.litmus_reader.specs.GrammarTest.{IsBody, first_names, test_written, KeepsLimits}
 use Rattle.litmus_reader.specs.Spelling.{SpellsTest}
-use Rattle.litmus_reader.proofs.Columnwise.{named-same, programs-columns, entries_within, columns_within}
+use Rattle.litmus_reader.proofs.Columnwise.{named-same, programs-columns, entries_within, columns_within, program}
 use Rattle.litmus_reader.proofs.GrammarTokens.{chosen, bind_ok, ok_is}
 use Rattle.litmus_reader.proofs.GrammarNames.{numbered_append, with_name_by}
 use Rattle.litmus_reader.proofs.GrammarShapes.{entries_known, instrs_stay}
 use Rattle.litmus_reader.proofs.GrammarEnding.{Closes, Closed, Given, given, tail_again, tail_takes}
-use Rattle.litmus_reader.proofs.Readings.{Reads, Begins, Says, rows_by, ReadsPlaced, SpellsRows, AreLast}
+use Rattle.litmus_reader.proofs.Readings.{Reads, Begins, Says, rows_by, ReadsPlaced, SpellsRows, AreLast, ends_table}
 use Rattle.litmus_reader.specs.Written.{Shape, Setting, Asked, Written}
 
 -- ---- lists
@@ -92,6 +92,16 @@ last_of_last a b c first second = record {
   parts = first.parts ∙ ap (λ (l : List Piece). first.taken ++ l) second.parts ∙ sym (append_assoc first.taken second.taken c);
 }
 
+-- what stands after a part is the last of the tokens
+left_by : {Is : List Term → Type 0} {ps rest : List Piece} → Passes Is ps rest → AreLast ps rest
+left_by p = record { taken = p.front; parts = p.parts }
+
+pub taken_terms : (ps taken rest : List Piece) (ts : List Term) → ps ≡ taken ++ rest → terms ps ≡ ts ++ terms rest → terms taken ≡ ts
+taken_terms ps taken rest ts e h = cancel_back (terms taken) ts (terms rest) (sym (terms_append taken rest) ∙ sym (ap terms e) ∙ h)
+
+pub passed : (Is : List Term → Type 0) (ps rest : List Piece) (ts : List Term) → AreLast ps rest → Is ts → terms ps ≡ ts ++ terms rest → Passes Is ps rest
+passed Is ps rest ts last is parts = record { front = last.taken; parts = last.parts; is = subst Is (sym (taken_terms ps last.taken rest ts last.parts parts)) is }
+
 -- ---- the table ends where the ending begins
 
 ends_asked : (ts : List Term) (c : Option Asked) → MayAsk ts c → ends_table ts ≡ true
@@ -101,8 +111,8 @@ ends_asked _ _ (a_condition _ _ _ (condition _ us _ phrase says_forall is)) = re
 ends_asked _ _ (a_condition _ _ _ (condition _ us _ phrase says_not_exists is)) = refl
 
 ends_here : (text : List ℕ) (stop : Stop) (ps : List Piece) (c : Option Asked) → IsEnding text stop ps c → ends_table (terms ps) ≡ true
-ends_here text stop _ _ (at_once ps c ends) = ends_asked (terms ps) c ends.is
-ends_here text stop _ _ (behind_locations word opener ps bytes c is_word is_opener found ends) = rw is_word refl
+ends_here text stop _ _ (at_once ps c ended is) = ends_asked (terms ps) c is
+ends_here text stop _ _ (behind_locations word opener ps bytes c is_word is_opener found ended is) = rw is_word refl
 
 -- ---- what has been read is the test that is written
 
@@ -158,20 +168,22 @@ body_found braces w laws b limits =
     let stop = (pieces_of braces).1 in
     let ps = (pieces_of braces).0 in
     let es = placed_in w.table in
-    let whole : terms ps ≡ b.initial ++ (b.columns ++ (b.rows ++ terms b.ending)) =
-    ap terms b.parts ∙ terms_append b.front b.ending ∙ ap (λ (l : List Term). l ++ terms b.ending) b.tokens
-    ∙ append_assoc b.initial (b.columns ++ b.rows) (terms b.ending) ∙ ap (λ (l : List Term). b.initial ++ l) (append_assoc b.columns b.rows (terms b.ending)) in
-    let i = laws.initial_again stop ps b.initial (b.columns ++ (b.rows ++ terms b.ending)) w.settings b.is_initial limits.settings whole in
-    let c = laws.columns_again stop i.1.rest b.columns (b.rows ++ terms b.ending) w.cores b.is_header_row i.1.behind in
+    let one = b.head.initial in
+    let two = b.head.header_row in
+    let three = b.are_rows in
+    let i = laws.initial_again stop ps (terms one.front) (terms b.head.columns) w.settings one.is limits.settings (ap terms one.parts ∙ terms_append one.front b.head.columns) in
+    let c = laws.columns_again stop i.1.rest (terms two.front) (terms b.rows) w.cores two.is (i.1.behind ∙ ap terms two.parts ∙ terms_append two.front b.rows) in
     let registers : registers_of w.cores i.0.registers ≡ Ok (first_registers w.settings w.cores) = i.2.registers w.cores limits.cores in
-    let within : EntriesWithin i.0.names es = subst (λ names. EntriesWithin names es) (sym i.2.names) (entries_within (numbered [] (names_in w.settings)) w.table limits.rows) in
-    let r = laws.rows_again stop w.cores i.0.names c.rest b.rows (terms b.ending) w.table b.are_rows within c.behind (ends_here braces stop b.ending w.asked b.is_ending) in
+    let within : EntriesWithin i.0.names es = subst (λ names. EntriesWithin names es) (sym i.2.names) (entries_within (first_names w) w.table limits.rows) in
+    let r = laws.rows_again stop w.cores i.0.names c.rest (terms three.front) (terms b.ending) w.table three.is within (c.behind ∙ ap terms three.parts ∙ terms_append three.front b.ending)
+    (ends_here braces stop b.ending w.asked b.is_ending) in
     let known = numbered i.0.names (locations_of es) in
     let last : AreLast ps r.rest =
     last_of_last ps c.rest r.rest (last_of_last ps i.1.rest c.rest (laws.last_initial stop [] ps i.1.rest i.0 i.1.is) (laws.last_columns stop i.1.rest c.rest w.cores c.is))
     (laws.last_rows stop w.cores i.0.names c.rest (rows_by i.0.names es r.rest) r.is) in
-    let same : r.rest ≡ b.ending = same_end last.taken b.front r.rest b.ending (sym last.parts ∙ b.parts) (same_length r.rest b.ending r.behind) in
-    let asked : IsAskedWithin w.cores known w.asked = subst (λ names. IsAskedWithin w.cores (numbered names (locations_of es)) w.asked) (sym i.2.names) (subst (λ named. IsAskedWithin w.cores (numbered (numbered [] (names_in w.settings)) named) w.asked) (sym (named-same w.table)) limits.condition) in
+    let whole : AreLast ps b.ending = last_of_last ps b.rows b.ending (last_of_last ps b.head.columns b.rows (left_by one) (left_by two)) (left_by three) in
+    let same : r.rest ≡ b.ending = same_end last.taken whole.taken r.rest b.ending (sym last.parts ∙ whole.parts) (same_length r.rest b.ending r.behind) in
+    let asked : IsAskedWithin w.cores known w.asked = subst (λ names. IsAskedWithin w.cores (numbered names (locations_of es)) w.asked) (sym i.2.names) (subst (λ named. IsAskedWithin w.cores (numbered (first_names w) named) w.asked) (sym (named-same w.table)) limits.condition) in
     let tail : tail_at braces stop w.cores known r.rest ≡ Ok (given known w.asked) =
     subst (λ (l : List Piece). tail_at braces stop w.cores known l ≡ Ok (given known w.asked)) (sym same) (tail_again braces stop w.cores known b.ending w.asked laws.closes b.is_ending asked) in
     rw (i.1.is, c.is, registers, r.is, tail) (ap (λ (t : Litmus). Ok t) (parts_are w i.0 i.2))
@@ -191,7 +203,7 @@ text_again text t laws s =
 abbrev pub written : List ℕ → List Setting → ℕ → List (List (Option Shape)) → Option Asked → Written
 written called settings cores table asked = record { name = called; settings = settings; cores = cores; table = table; asked = asked }
 
--- what was read is written in these bytes, behind a header line with this name
+-- what was read is written in these bytes, after a header line with this name
 record Taken (braces called : List ℕ) (t : Litmus) : Type 0 where
   w : Written
   named : w.name ≡ called
@@ -230,14 +242,6 @@ body_taken called braces t laws e =
     let names_are : r.0.names ≡ known = ap (λ (r : Rows). r.names) rows.given in
     let instrs_are : r.0.instrs ≡ instrs_with known es = ap (λ (r : Rows). r.instrs) rows.given in
     let ends = tail_takes braces stop c.0.0 known r.0.rest tail.0 laws.closed rows.within.room (subst (λ names. tail_at braces stop c.0.0 names r.0.rest ≡ Ok tail.0) names_are tail_here) in
-    let last : AreLast ps r.0.rest =
-    last_of_last ps c.0.1 r.0.rest (last_of_last ps i.0.1 c.0.1 (laws.last_initial stop [] ps i.0.1 i.0.0 i.1) (laws.last_columns stop i.0.1 c.0.1 c.0.0 c.1))
-    (laws.last_rows stop c.0.0 i.0.0.names c.0.1 r.0 r.1) in
-    let front : terms last.taken ≡ initial.1.ts ++ (columns.ts ++ rows.ts) =
-    cancel_back (terms last.taken) (initial.1.ts ++ (columns.ts ++ rows.ts)) (terms r.0.rest)
-    (sym (terms_append last.taken r.0.rest) ∙ sym (ap terms last.parts) ∙ initial.1.parts
-    ∙ ap (λ (l : List Term). initial.1.ts ++ l) (columns.parts ∙ ap (λ (l : List Term). columns.ts ++ l) rows.parts ∙ sym (append_assoc columns.ts rows.ts (terms r.0.rest)))
-    ∙ sym (append_assoc initial.1.ts (columns.ts ++ rows.ts) (terms r.0.rest))) in
     let w : Written = written called settings c.0.0 rows.table ends.c in
     let has : IsTrue (has_cores c.0.0 settings) = says.cores c.0.0 g.0 g.1 in
     let registers : first_registers settings c.0.0 ≡ g.0 = ok_is (first_registers settings c.0.0) g.0 (sym (says.registers c.0.0 has) ∙ g.1) in
@@ -251,16 +255,14 @@ body_taken called braces t laws e =
       w = w;
       named = refl;
       body = record {
-        initial = initial.1.ts;
-        columns = columns.ts;
-        rows = rows.ts;
-        front = last.taken;
+        rows = c.0.1;
         ending = r.0.rest;
-        parts = last.parts;
-        tokens = front;
-        is_initial = initial.1.is;
-        is_header_row = columns.is;
-        are_rows = rows.are;
+        head = record {
+          columns = i.0.1;
+          initial = passed (λ ts. IsInitialState ts settings) ps i.0.1 initial.1.ts (laws.last_initial stop [] ps i.0.1 i.0.0 i.1) initial.1.is initial.1.parts;
+          header_row = passed (λ ts. IsHeaderRow ts c.0.0) i.0.1 c.0.1 columns.ts (laws.last_columns stop i.0.1 c.0.1 c.0.0 c.1) columns.is columns.parts;
+        };
+        are_rows = passed (λ ts. AreRows c.0.0 ts rows.table) c.0.1 r.0.rest rows.ts (laws.last_rows stop c.0.0 i.0.0.names c.0.1 r.0 r.1) rows.are rows.parts;
         is_ending = ends.ending;
       };
       limits = record {

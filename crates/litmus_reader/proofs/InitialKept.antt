@@ -13,13 +13,12 @@ use Rattle.litmus_reader.specs.declared.fault.Part.{Part}
 use Rattle.litmus_reader.specs.Faults.{or_unfit}
 use Rattle.litmus_reader.specs.Locations.{located}
 use Rattle.litmus_reader.specs.Items.{setting_at, word_at, core_of}
-use Rattle.litmus_reader.specs.Initial.{before_initial, Given, Initial, initial, gives, judged, item_in, step_in, items_within, items_at, initial_at, with_register, registers_with, registers_of, words_of}
+use Rattle.litmus_reader.specs.Initial.{before_initial, Given, Initial, initial, gives, judged, item_in, step_in, items_within, items_at, initial_at, with_register, registers_with, registers_of, words_of, ends_item}
 use Rattle.litmus_reader.proofs.Keeps.{Any, ok_any, some_any, bind_keeps, there_keeps, cond_keeps, core_keeps}
 use Rattle.litmus_reader.proofs.Named.{NamedSetting, setting_named}
 use Rattle.litmus_reader.proofs.Known.{AreNames, LocatesIn, located_keeps}
 use Rattle.litmus_reader.specs.Places.{left_of, in_initial}
 use Rattle.litmus_reader.specs.Written.{Setting, of_register, of_location}
-use Rattle.litmus_reader.specs.RefusedInitial.{ends_item}
 
 -- the names of locations, of which each word so far has one
 pub record KeptInitial (i : Initial) : Type 0 where

@@ -1,7 +1,7 @@
 -- What holds of whatever a reading answers.
 use Rattle.std.proofs.Common.{◌≡◌, ◌<◌, ℕ, ltb, Bool, true, false, cond, List, Option, Some, None, Result, Ok, Err, IfOk, IfSome, refl}
 use Rattle.std.proofs.lemmas.Bool.{ltb-true}
-use Rattle.litmus_tokens.specs.Terms.{decimal}
+use Rattle.decimals.specs.Decimals.{decimal_value}
 use Rattle.litmus_tokens.specs.Pieces.{Piece}
 use Rattle.litmus_reader.specs.declared.fault.Fault.{Fault}
 use Rattle.litmus_reader.specs.declared.fault.Part.{Part}
@@ -47,7 +47,7 @@ ok_is Q (Ok y) x h e = let same : y ≡ x = cc in subst_by same h
 ok_is Q (Err f) x h e = absurd cc
 
 pub core_keeps : (cores left : ℕ) (digits : List ℕ) → IfOk (core_of cores left digits) (λ core. core < cores)
-core_keeps cores left digits = cond_keeps (λ (r : Result ℕ Fault). IfOk r (λ core. core < cores)) (ltb (decimal digits) cores) _ _ (λ lt. ltb-true _ _ lt) (λ _. tt)
+core_keeps cores left digits = cond_keeps (λ (r : Result ℕ Fault). IfOk r (λ core. core < cores)) (ltb (decimal_value digits) cores) _ _ (λ lt. ltb-true _ _ lt) (λ _. tt)
 
 pub some_is : {A : Type 0} (Q : A → Type 0) (o : Option A) (x : A) → IfSome o Q → o ≡ Some x → Q x
 some_is Q (Some y) x h e = let same : y ≡ x = cc in rw (← same) h

@@ -20,7 +20,7 @@ pub record AreNames (names : List (List ℕ)) : Type 0 where
   pub spelled : All (λ name. IsLocation name) names
   pub differ : IsTrue (are_distinct names)
 
--- names with others behind them
+-- names with others after them
 pub record Grown (old new : List (List ℕ)) : Type 0 where
   pub names : AreNames new
   pub grown : length old ≤ length new
@@ -67,7 +67,7 @@ distinct-push x (n ∷ ns) h new =
     let away : is_among n (ns ++ x ∷ []) ≡ false = among-push n x ns (not-true _ both.0) fresh.0 in
     rw away (distinct-push x ns both.1 fresh.1)
 
--- a location, and the names behind it
+-- a location, and the names after it
 pub record Locates (old new : List (List ℕ)) (loc : Loc) : Type 0 where
   pub grown : Grown old new
   pub below : loc.0 < length new

@@ -51,6 +51,11 @@ pub mod GrammarTest
 pub mod SpelledWords
 pub mod GrammarLaws
 pub mod GrammarLast
+pub mod Levels
+pub mod FaultLevels
+pub mod Slots
+pub mod RefusedSlots
+pub mod RefusedKinds
 pub mod RefusedMisfits
 pub mod RefusedPasses
 pub mod RefusedInitial

@@ -4,7 +4,7 @@ use Rattle.std.specs.Prelude.{position}
 use Rattle.std.specs.List.{position_or_len, before_first, after_first}
 use Rattle.std.proofs.lemmas.Bool.{ltb-false}
 use Rattle.std.proofs.lemmas.List.{take_all, length-drop, nil_from_length}
-use Rattle.litmus_reader.specs.Header.{first_line}
+use Rattle.litmus_reader.specs.GrammarText.{first_line}
 use Rattle.litmus_reader.proofs.Maps.{chosen}
 
 pub line_cut : (bytes : List ℕ) (n : ℕ) → Some n ≡ position (λ b. eqb b 10) bytes → first_line bytes ≡ (take n bytes, take (length bytes - (n + 1)) (drop (n + 1) bytes))

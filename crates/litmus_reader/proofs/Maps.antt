@@ -22,7 +22,7 @@ pub list_any_map : {X Y : Type 0} (p : Y → Bool) (f : X → Y) (xs : List X) �
 list_any_map p f [] = refl
 list_any_map p f (x ∷ xs) = ap (λ b. p (f x) || b) (list_any_map p f xs)
 
--- putting an item behind the others where it is new
+-- putting an item after the others where it is new
 pub with-map : {X Y : Type 0} (p : Y → Bool) (f : X → Y) (xs : List X) (x : X) →
     map f (cond (list_any (λ x. p (f x)) xs) xs (xs ++ x ∷ [])) ≡ cond (list_any p (map f xs)) (map f xs) (map f xs ++ f x ∷ [])
 with-map p f xs x = ap (map f) (ap (λ b. cond b xs (xs ++ x ∷ [])) (sym (list_any_map p f xs))) ∙ by_test (list_any p (map f xs))

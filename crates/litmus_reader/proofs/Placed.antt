@@ -39,7 +39,7 @@ abbrev pub ValuesFit : List Placed → Type 0
 ValuesFit [] = Unit {0}
 ValuesFit (e ∷ others) = ValueFits e.shape × ValuesFit others
 
--- behind what named these locations, entries are within the limits of a test
+-- after what named these locations, entries are within the limits of a test
 pub record EntriesWithin (names : List (List ℕ)) (entries : List Placed) : Type 0 where
   pub values : ValuesFit entries
   pub few : (core : ℕ) → count_by (λ e. e.core == core) entries ≤ most_instructions

@@ -1,5 +1,5 @@
 -- What readings give, as proofs speak of it.
-use Rattle.std.specs.Prelude.{◌≡◌, List, ◌++◌, Result, Ok, ℕ, true, [], ◌∷◌, length, IsTrue, Option, Some, None, ◌+◌}
+use Rattle.std.specs.Prelude.{◌≡◌, List, ◌++◌, Result, Ok, ℕ, true, [], ◌∷◌, length, IsTrue, Option, Some, None, ◌+◌, Bool, ◌||◌}
 use Rattle.litmus_tokens.specs.Terms.{Term}
 use Rattle.litmus_tokens.specs.Pieces.{Piece}
 use Rattle.litmus_reader.specs.declared.fault.Fault.{Fault}
@@ -11,12 +11,19 @@ use Rattle.litmus_reader.specs.Grammar.{terms}
 use Rattle.litmus_reader.specs.Forms.{spelled_in}
 use Rattle.litmus_reader.specs.Conditions.{Claimed, claimed, Proposition, Conditioned, conditioned, with_claim}
 use Rattle.tso_model.specs.declared.condition.Quantifier.{Quantifier}
-use Rattle.litmus_reader.specs.GrammarTable.{AreRows, ends_rows}
+use Rattle.litmus_reader.specs.GrammarTable.{AreRows, ends_rows, ends_rows_term}
 use Rattle.litmus_reader.proofs.Placed.{Placed, placed_in, instrs_with, locations_of, EntriesWithin}
 use Rattle.litmus_reader.specs.GrammarConditions.{IsCondition, IsWithin, locations_in, atoms_of, claim_of}
 use Rattle.litmus_reader.specs.GrammarInitial.{has_cores, names_in, first_words, first_registers}
 use Rattle.litmus_reader.specs.Written.{Setting, Shape, Phrase}
 use Rattle.litmus_reader.specs.RefusedTable.{cells_of}
+use Rattle.litmus_tokens.specs.Front.{is_symbol_term}
+use Rattle.litmus_tokens.specs.declared.token.Symbol.TheVariants.{Tilde}
+
+-- nothing stands there, or a token with which no row begins
+abbrev pub ends_table : List Term → Bool
+ends_table [] = true
+ends_table (t ∷ ts) = ends_rows_term t || is_symbol_term Tilde t
 
 -- a reading gives this, and leaves these tokens
 pub record Reads {X : Type 0} (reading : Result (X × List Piece) Fault) (x : X) (back : List Term) : Type 0 where
@@ -24,7 +31,7 @@ pub record Reads {X : Type 0} (reading : Result (X × List Piece) Fault) (x : X)
   pub is : reading ≡ Ok (x, rest)
   pub behind : terms rest ≡ back
 
--- tokens of a form stand at the front, and behind them the rest
+-- tokens of a form stand at the front, and after them the rest
 pub record Begins (Is : List Term → Type 0) (ps rest : List Piece) : Type 0 where
   pub ts : List Term
   pub is : Is ts
@@ -35,7 +42,7 @@ pub record AreLast (ps rest : List Piece) : Type 0 where
   pub taken : List Piece
   pub parts : ps ≡ taken ++ rest
 
--- What has been read is what the settings say: the names; the first words, whatever names come behind these; and the first
+-- What has been read is what the settings say: the names; the first words, whatever names come after these; and the first
 -- registers of a test that has all their cores, where no other test has any.
 pub record Says (settings : List Setting) (i : Initial) : Type 0 where
   pub names : i.names ≡ numbered [] (names_in settings)
@@ -65,7 +72,7 @@ pub record ReadsRow (stop : Stop) (ps : List Piece) (cells : List (Option Shape)
   pub cells_are : AreReadAs (cells_of row) cells
   pub behind : terms rest ≡ back
 
--- what is read of entries behind these names, where this stands behind them
+-- what is read of entries after these names, where this stands after them
 abbrev pub rows_by : List (List ℕ) → List Placed → List Piece → Rows
 rows_by names entries rest = rows (instrs_with (numbered names (locations_of entries)) entries) (numbered names (locations_of entries)) rest
 
@@ -75,7 +82,7 @@ pub record ReadsPlaced (reading : Result Rows Fault) (names : List (List ℕ)) (
   pub is : reading ≡ Ok (rows_by names entries rest)
   pub behind : terms rest ≡ back
 
--- what was read are rows within the limits that the tokens at the front spell, and no row stands behind them
+-- what was read are rows within the limits that the tokens at the front spell, and no row stands after them
 pub record SpellsRows (cores : ℕ) (names : List (List ℕ)) (ps : List Piece) (r : Rows) : Type 0 where
   pub ts : List Term
   pub table : List (List (Option Shape))
@@ -85,7 +92,7 @@ pub record SpellsRows (cores : ℕ) (names : List (List ℕ)) (ps : List Piece) 
   pub given : r ≡ rows_by names (placed_in table) r.rest
   pub ended : ends_rows r.rest ≡ true
 
--- what is read of a phrase, where this stands behind it
+-- what is read of a phrase, where this stands after it
 abbrev pub given_by : ℕ → List (List ℕ) → Phrase → List Piece → Claimed
 given_by atoms names p rest = claimed (claim_of (numbered names (locations_in p)) p) (atoms + atoms_of p) (numbered names (locations_in p)) rest
 
@@ -104,7 +111,7 @@ pub record SpellsPhrase (Is : List Term → Phrase → Type 0) (cores atoms : �
   pub within : IsWithin cores atoms names phrase
   pub given : c ≡ given_by atoms names phrase c.rest
 
--- what is read of a condition, where this stands behind it
+-- what is read of a condition, where this stands after it
 abbrev pub condition_by : List (List ℕ) → Quantifier → Phrase → List Piece → Conditioned
 condition_by names quantifier p rest = with_claim quantifier (given_by 0 names p rest)
 

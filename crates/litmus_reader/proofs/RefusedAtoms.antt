@@ -4,7 +4,8 @@ use Rattle.std.specs.Prelude.{codes}
 use Rattle.std.proofs.lemmas.Bool.{ltb-true, ltb-false, lt-ltb, le-ltb}
 use Rattle.tso_model.specs.Condition.{Claim}
 use Rattle.litmus_tokens.specs.declared.token.Stop.{Stop}
-use Rattle.litmus_tokens.specs.Terms.{Term, name, decimal}
+use Rattle.decimals.specs.Decimals.{decimal_value}
+use Rattle.litmus_tokens.specs.Terms.{Term, name}
 use Rattle.litmus_tokens.specs.Pieces.{Piece}
 use Rattle.litmus_tokens.specs.Front.{name_at}
 use Rattle.litmus_reader.specs.declared.fault.Why.TheVariants.{BadNumber, NoSuchCore, TooLarge}
@@ -13,30 +14,32 @@ use Rattle.litmus_reader.specs.Faults.{there}
 use Rattle.litmus_reader.specs.Keywords.{word_behind}
 use Rattle.litmus_reader.specs.Locations.{located}
 use Rattle.litmus_reader.specs.Items.{setting_at}
-use Rattle.litmus_reader.specs.Conditions.{claim_in, one_more, truth_at, truth_atom, setting_atom, atom_at}
+use Rattle.litmus_reader.specs.Conditions.{claim_in, one_more, truth_at, truth_atom, setting_atom, atom_at, in_condition}
 use Rattle.litmus_reader.specs.Grammar.{terms}
 use Rattle.litmus_reader.specs.GrammarNames.{numbered, number_of, with_name, location}
 use Rattle.litmus_reader.specs.GrammarInitial.{value_of, has_core}
-use Rattle.litmus_reader.specs.GrammarConditions.{IsAtom, says_true, says_false, says_setting, SettingFits, Fits, IsWithin}
-use Rattle.litmus_reader.specs.Misfits.{misfit, setting_slots}
-use Rattle.litmus_reader.specs.RefusedConditions.{begins_with_word, IsAtomFault, unfit_token, no_such_core, bad_number, one_too_many}
+use Rattle.litmus_reader.specs.GrammarConditions.{IsAtom, says_true, says_false, says_setting, Fits, IsWithin}
+use Rattle.litmus_reader.specs.Misfits.{begins_with, is_word}
+use Rattle.litmus_reader.proofs.Levels.{IsAtomFault, unfit_token, no_such_core, bad_number, one_too_many}
 use Rattle.litmus_reader.proofs.GrammarTokens.{chosen, there_is, some_is, opened}
 use Rattle.litmus_reader.proofs.GrammarItems.{setting_found, setting_taken}
-use Rattle.litmus_reader.proofs.GrammarAtoms.{word_is, setting_plain, claim_taken, truth_taken, atom_found}
+use Rattle.litmus_reader.proofs.GrammarAtoms.{SettingFits, atom_fits, fits_atom, word_is, setting_plain, claim_taken, truth_taken, atom_found}
 use Rattle.litmus_reader.proofs.RefusedMisfits.{err_is, bind_err, fails, Follows, setting_follows}
 use Rattle.litmus_reader.proofs.RefusedEnding.{word_missing, word_differs}
-use Rattle.litmus_reader.specs.Places.{fault, left_of, unfit, in_condition}
+use Rattle.litmus_reader.specs.Places.{fault, left_of, unfit}
 use Rattle.litmus_reader.specs.Written.{Setting, of_register, of_location, Phrase, truth, atom}
+use Rattle.litmus_reader.proofs.Slots.{misfit, setting_slots}
+use Rattle.litmus_reader.proofs.RefusedKinds.{AtomMisses, atom_misses, atom_misfits}
 
 -- ---- which way an atom is read
 
-truth_missing : (ps : List Piece) → begins_with_word (codes "true") ps ≡ false → begins_with_word (codes "false") ps ≡ false → truth_at ps ≡ None
+truth_missing : (ps : List Piece) → begins_with (is_word (codes "true")) (terms ps) ≡ false → begins_with (is_word (codes "false")) (terms ps) ≡ false → truth_at ps ≡ None
 unfolding truth_at
 truth_missing ps no_true no_false = rw (word_missing (codes "true") ps no_true, word_missing (codes "false") ps no_false) refl
 
 record NoTruth (ps : List Piece) : Type 0 where
-  pub no_true : begins_with_word (codes "true") ps ≡ false
-  pub no_false : begins_with_word (codes "false") ps ≡ false
+  pub no_true : begins_with (is_word (codes "true")) (terms ps) ≡ false
+  pub no_false : begins_with (is_word (codes "false")) (terms ps) ≡ false
 
 truth_differs : (ps : List Piece) → truth_at ps ≡ None → NoTruth ps
 unfolding truth_at
@@ -93,7 +96,7 @@ located_large left names x g e =
 
 claim_large : (cores left : ℕ) (names : List (List ℕ)) (s : Setting) (g : Fault) → SettingFits cores s → claim_in cores left names s ≡ Err g → g ≡ fault TooLarge left
 unfolding claim_in
-claim_large cores left names (of_register digits reg v) g fits e = let never = rw (lt-ltb (decimal digits) cores fits.0, word_is left v fits.1) at e in absurd cc
+claim_large cores left names (of_register digits reg v) g fits e = let never = rw (lt-ltb (decimal_value digits) cores fits.0, word_is left v fits.1) at e in absurd cc
 claim_large cores left names (of_location x v) g fits e =
     elim (bind_err (located left names x) _ g (rw (word_is left v fits) at e)) [
       | inl bad ↦ located_large left names x g bad
@@ -114,7 +117,7 @@ truth_refuses : (stop : Stop) (cores atoms : ℕ) (names : List (List ℕ)) (ps 
 unfolding numbered
 truth_refuses stop cores atoms names ps t few at past =
     elim (count_cases (left_of ps) atoms) [
-      | inl room ↦ absurd (past (record { fits = tt; few = omega arith; room = few }))
+      | inl room ↦ absurd (past (record { fits = refl; few = omega arith; room = few }))
       | inr full ↦ by_truth stop cores atoms names ps t at ∙ fails (one_more (left_of ps) atoms) _ (fault TooLarge (left_of ps)) full
     ]
 
@@ -127,7 +130,7 @@ setting_refuses stop cores atoms names ps rest s few read fits past = by_claim (
     by_claim (Ok c) e =
         let t = claim_taken cores (left_of ps) names s c e in
         elim (count_cases (left_of ps) atoms) [
-          | inl room ↦ absurd (past (record { fits = fits; few = omega arith; room = t.room few }))
+          | inl room ↦ absurd (past (record { fits = atom_fits cores s fits; few = omega arith; room = t.room few }))
           | inr full ↦ count_fails stop cores atoms names ps rest s c (fault TooLarge (left_of ps)) read e full
         ]
 
@@ -147,17 +150,20 @@ many_refused stop cores atoms names ps _ back _ few says_false e fits past =
 many_refused stop cores atoms names ps _ back _ few (says_setting ts s is) e fits past =
     let plain = setting_plain ts back s is ps e in
     let found = setting_found (in_condition stop) ts back s is ps e in
-    by_setting stop cores atoms names ps plain.no_truth ∙ setting_refuses stop cores atoms names ps found.rest s few found.is fits past
+    by_setting stop cores atoms names ps plain.no_truth ∙ setting_refuses stop cores atoms names ps found.rest s few found.is (fits_atom cores s fits) past
 
 pub atom_refuses : (stop : Stop) (cores atoms : ℕ) (names : List (List ℕ)) (ps : List Piece) (f : Fault) → length names ≤ 16 → IsAtomFault stop cores atoms names ps f → atom_at stop cores atoms names ps ≡ Err f
 unfolding misfit
-atom_refuses stop cores atoms names ps _ few (unfit_token at no_true no_false mis) =
-    by_setting stop cores atoms names ps (truth_missing ps no_true no_false) ∙ by_read (setting_at (in_condition stop) ps) refl (setting_follows (in_condition stop) [] ps)
+atom_refuses stop cores atoms names ps _ few (unfit_token at misfits) =
+    by_setting stop cores atoms names ps (truth_missing ps found.no_true found.no_false) ∙ by_read (setting_at (in_condition stop) ps) refl (setting_follows (in_condition stop) [] ps)
   where
+    found : AtomMisses ps at
+    found = atom_misses ps at misfits
+
     by_read : (r : Result (Setting × List Piece) Fault) → setting_at (in_condition stop) ps ≡ r → Follows (in_condition stop) [] (misfit (setting_slots ps []) ps) r
         → setting_atom stop cores atoms names ps ≡ Err (unfit (in_condition stop) at)
-    by_read (Err e) is m = setting_fails stop cores atoms names ps e is ∙ ap (λ (y : Fault). Err y) (m.2 ∙ ap (unfit (in_condition stop)) (some_is m.0 at (sym m.1 ∙ mis)))
-    by_read (Ok x) is m = let never = sym m ∙ mis in absurd cc
+    by_read (Err e) is m = setting_fails stop cores atoms names ps e is ∙ ap (λ (y : Fault). Err y) (m.2 ∙ ap (unfit (in_condition stop)) (some_is m.0 at (sym m.1 ∙ found.mis)))
+    by_read (Ok x) is m = let never = sym m ∙ found.mis in absurd cc
 atom_refuses stop cores atoms names ps _ few (no_such_core ts back s is e lacks) =
     let plain = setting_plain ts back s is ps e in
     let found = setting_found (in_condition stop) ts back s is ps e in
@@ -189,7 +195,7 @@ atom_refused stop cores atoms names ps f few e = by_way (truth_at ps) refl
     by_value s rest read has true small =
         let t = setting_taken (in_condition stop) ps rest s read in
         let is : IsAtom t.ts (atom s) = says_setting t.ts s t.is in
-        here (fault TooLarge (left_of ps)) (one_too_many t.ts (terms rest) (atom s) is t.parts (setting_fits cores s has small) (past t.ts (terms rest) (atom s) is t.parts))
+        here (fault TooLarge (left_of ps)) (one_too_many t.ts (terms rest) (atom s) is t.parts (atom_fits cores s (setting_fits cores s has small)) (past t.ts (terms rest) (atom s) is t.parts))
 
     by_core : (s : Setting) (rest : List Piece) → setting_at (in_condition stop) ps ≡ Ok (s, rest) → (b : Bool) → has_core cores s ≡ b → IsAtomFault stop cores atoms names ps f
     by_core s rest read true has = by_value s rest read has (ltb (value_of s) (2 ^ 32)) refl
@@ -198,11 +204,11 @@ atom_refused stop cores atoms names ps f few e = by_way (truth_at ps) refl
     by_read : truth_at ps ≡ None → (r : Result (Setting × List Piece) Fault) → setting_at (in_condition stop) ps ≡ r → Follows (in_condition stop) [] (misfit (setting_slots ps []) ps) r → IsAtomFault stop cores atoms names ps f
     by_read no_truth (Err g) is m =
         let n = truth_differs ps no_truth in
-        here (unfit (in_condition stop) m.0) (unfit_token m.0 n.no_true n.no_false m.1)
+        here (unfit (in_condition stop) m.0) (unfit_token m.0 (atom_misfits ps m.0 n.no_true n.no_false m.1))
     by_read no_truth (Ok x) is m = by_core x.0 x.1 is (has_core cores x.0) refl
 
     by_way : (o : Option (Bool × List Piece)) → truth_at ps ≡ o → IsAtomFault stop cores atoms names ps f
     by_way (Some t) at =
         let b = truth_taken ps t at in
-        here (fault TooLarge (left_of ps)) (one_too_many b.ts (terms t.1) (truth t.0) b.is b.parts tt (past b.ts (terms t.1) (truth t.0) b.is b.parts))
+        here (fault TooLarge (left_of ps)) (one_too_many b.ts (terms t.1) (truth t.0) b.is b.parts refl (past b.ts (terms t.1) (truth t.0) b.is b.parts))
     by_way None no_truth = by_read no_truth (setting_at (in_condition stop) ps) refl (setting_follows (in_condition stop) [] ps)

@@ -1,24 +1,23 @@
 -- Header lines, information lines and brackets are refused as what is at fault in them says.
-use Rattle.std.proofs.Common.{◌≡◌, ℕ, zero, suc, ◌<◌, Bool, true, false, ◌&&◌, eqb, eqb-true, List, [], ◌∷◌, length, drop, nat_le, nat_lt, not, Option, Some, None, Result, Ok, Err, refl, sym, ap, subst, ◌∙◌, inl, inr, arith}
+use Rattle.std.proofs.Common.{◌≡◌, ℕ, zero, suc, ◌<◌, Bool, true, false, ◌&&◌, ◌||◌, eqb, eqb-true, List, [], ◌∷◌, length, drop, nat_le, nat_lt, not, Option, Some, None, Result, Ok, Err, refl, sym, ap, subst, ◌∙◌, inl, inr, arith}
 use Rattle.std.specs.List.{list_all, prefix_len}
 use Rattle.std.specs.Char.{is_ascii_alphabetic}
-use Rattle.std.proofs.lemmas.Bool.{not-true, leb-true, ltb-true, lt-ltb, and_from}
+use Rattle.std.proofs.lemmas.Bool.{not-true, leb-true, ltb-true}
 use Rattle.tso_model.specs.Names.{is_test_name, is_printable, last_byte}
 use Rattle.litmus_tokens.specs.declared.token.Stop.{Stop}
 use Rattle.litmus_tokens.specs.declared.token.Stop.TheVariants as stops
 use Rattle.litmus_tokens.specs.Gap.{is_space, opens_comment, closes_comment, gap_end}
 use Rattle.litmus_reader.specs.declared.fault.Why.TheVariants.{NoHeader, Unclosed, BadToken, TooLarge}
 use Rattle.litmus_reader.specs.declared.fault.Fault.{Fault}
-use Rattle.litmus_reader.specs.Header.{first_line, judged, header_at}
+use Rattle.litmus_reader.specs.Header.{judged, header_at}
 use Rattle.litmus_reader.specs.Information.{quotation_end, closed_quotation, key_value, key_line_end, information_end, begins_initial, braces_within, braces_at}
 use Rattle.litmus_reader.specs.Observed.{square_by, square_within, square_end}
-use Rattle.litmus_reader.specs.GrammarText.{IsBehindGap, EndsLine, NamesTest, is_quoted, IsInformation, name_in, continues_key}
+use Rattle.litmus_reader.specs.GrammarText.{first_line, IsBehindGap, is_quoted, IsInformation, name_in, continues_key}
 use Rattle.litmus_reader.specs.RefusedBytes as refused
-use Rattle.litmus_reader.specs.RefusedBytes.{IsUnclosed, NamesTestAtLength, IsHeaderFault, PassesInformation, none, more, IsLineFault, IsInformationFault, behind_lines, IsBracketsFault}
+use Rattle.litmus_reader.specs.RefusedBytes.{IsUnclosed, is_long, IsHeaderFault, PassesInformation, none, more, IsLineFault, IsBracketsFault}
 use Rattle.litmus_reader.proofs.GrammarTokens.{chosen, some_is}
 use Rattle.litmus_reader.proofs.GrammarGaps.{gap_within}
-use Rattle.litmus_reader.proofs.GrammarRuns.{both, line_again, line_takes}
-use Rattle.litmus_reader.proofs.GrammarHeader.{name_again, name_takes}
+use Rattle.litmus_reader.proofs.GrammarRuns.{both}
 use Rattle.litmus_reader.proofs.GrammarInformation.{no_braces, information_takes, information_again, information_shorter}
 use Rattle.litmus_reader.proofs.RefusedMisfits.{err_is}
 use Rattle.litmus_reader.specs.Places.{fault}
@@ -71,42 +70,46 @@ header_unclosed : (text : List ℕ) (left : ℕ) → IsUnclosed text left → he
 unfolding header_at
 header_unclosed text left e = rw e refl
 
-header_judges : (text at line behind : List ℕ) (f : Fault) → IsBehindGap text at → EndsLine at line behind → judged (length at) (name_in line) ≡ Err f → header_at text ≡ Err f
+header_judges : (text at : List ℕ) (f : Fault) → IsBehindGap text at → judged (length at) (name_in (first_line at).0) ≡ Err f → header_at text ≡ Err f
 unfolding header_at
-header_judges text at line behind f gap ends e = rw (gap, line_again at line behind ends, e) refl
+header_judges text at f gap e = rw (gap, e) refl
 
 -- the judgement of a line's name
 data NameCases (line : List ℕ) (left : ℕ) : Type 0 where
-  name_good : (name : List ℕ) → NamesTest line name → NameCases line left
-  name_long : NamesTestAtLength line → judged left (name_in line) ≡ Err (fault TooLarge left) → NameCases line left
-  name_bad : ((name : List ℕ) → ¬ (NamesTest line name)) → ¬ (NamesTestAtLength line) → judged left (name_in line) ≡ Err (fault NoHeader left) → NameCases line left
+  name_good : (name : List ℕ) → name_in line ≡ Some name → is_test_name name ≡ true → NameCases line left
+  name_long : (name : List ℕ) → name_in line ≡ Some name → is_long name ≡ true → judged left (name_in line) ≡ Err (fault TooLarge left) → NameCases line left
+  name_bad : ((name : List ℕ) → name_in line ≡ Some name → (is_test_name name || is_long name) ≡ false) → judged left (name_in line) ≡ Err (fault NoHeader left) → NameCases line left
 
-too_long_is : (name : List ℕ) → list_all is_printable name ≡ true → 64 < length name → (nat_lt 64 (length name) && list_all is_printable name) ≡ true
-too_long_is name printable past = and_from (nat_lt 64 (length name)) (list_all is_printable name) (lt-ltb 64 (length name) past) printable
+neither : (a b : Bool) → a ≡ false → b ≡ false → (a || b) ≡ false
+neither true b e h = absurd cc
+neither false b e h = h
+
+not_first : (a b : Bool) → (a || b) ≡ false → a ≡ true → ⊥
+not_first true b e h = cc
+not_first false b e h = cc
+
+not_second : (a b : Bool) → (a || b) ≡ false → b ≡ true → ⊥
+not_second true b e h = cc
+not_second false b e h = let never = sym e ∙ h in cc
 
 name_cases : (line : List ℕ) (left : ℕ) → NameCases line left
 unfolding judged
 name_cases line left = by_name (name_in line) refl
   where
-    by_length : (name : List ℕ) → name_in line ≡ Some name → is_test_name name ≡ false → (b : Bool) → (nat_lt 64 (length name) && list_all is_printable name) ≡ b → NameCases line left
-    by_length name is not_good true past =
-        let parts = both (nat_lt 64 (length name)) (list_all is_printable name) past in
-        name_long (record { name = name; is = is; printable = parts.1; long = ltb-true _ _ parts.0 }) (rw (is, not_good, past) refl)
-    by_length name is not_good false past = name_bad
+    by_length : (name : List ℕ) → name_in line ≡ Some name → is_test_name name ≡ false → (b : Bool) → is_long name ≡ b → NameCases line left
+    by_length name is not_good true long = name_long name is long (rw (is, not_good, long) refl)
+    by_length name is not_good false short = name_bad
         (λ other n.
-        let same : name ≡ other = some_is name other (sym is ∙ name_again line other n) in
-        let fine : is_test_name name ≡ true = ap is_test_name same ∙ n.good in cc)
-        (λ l.
-        let same : l.name ≡ name = some_is l.name name (sym l.is ∙ is) in
-        let past_it = too_long_is name (sym (ap (list_all is_printable) same) ∙ l.printable) (subst (λ (x : List ℕ). 64 < length x) same l.long) in cc)
-        (rw (is, not_good, past) refl)
+        let same : name ≡ other = some_is name other (sym is ∙ n) in
+        subst (λ (x : List ℕ). (is_test_name x || is_long x) ≡ false) same (neither (is_test_name name) (is_long name) not_good short))
+        (rw (is, not_good, short) refl)
 
     by_good : (name : List ℕ) → name_in line ≡ Some name → (b : Bool) → is_test_name name ≡ b → NameCases line left
-    by_good name is true fine = name_good name (name_takes line name is fine)
-    by_good name is false not_good = by_length name is not_good (nat_lt 64 (length name) && list_all is_printable name) refl
+    by_good name is true fine = name_good name is fine
+    by_good name is false not_good = by_length name is not_good (is_long name) refl
 
     by_name : (o : Option (List ℕ)) → name_in line ≡ o → NameCases line left
-    by_name None is = name_bad (λ name n. let never = sym is ∙ name_again line name n in cc) (λ l. let never = sym is ∙ l.is in cc) (rw is refl)
+    by_name None is = name_bad (λ name n. let never = sym is ∙ n in absurd cc) (rw is refl)
     by_name (Some name) is = by_good name is (is_test_name name) refl
 
 not_both : (name : List ℕ) → is_test_name name ≡ true → 64 < length name → ⊥
@@ -114,48 +117,46 @@ not_both [] fine past = cc
 not_both (c ∷ cs) fine past =
     let few = leb-true (length (c ∷ cs)) 64 (both (not (eqb c 32) && not (eqb (last_byte c cs) 32) && list_all is_printable (c ∷ cs)) (nat_le (length (c ∷ cs)) 64) fine).1 in omega (arith, few, past)
 
-header_good : (text at line behind name : List ℕ) → IsBehindGap text at → EndsLine at line behind → NamesTest line name → header_at text ≡ Ok (name, behind)
+past_length : (name : List ℕ) → is_long name ≡ true → 64 < length name
+past_length name long = ltb-true _ _ (both (nat_lt 64 (length name)) (list_all is_printable name) long).0
+
+header_good : (text at name : List ℕ) → IsBehindGap text at → name_in (first_line at).0 ≡ Some name → is_test_name name ≡ true → header_at text ≡ Ok (name, (first_line at).1)
 unfolding header_at judged
-header_good text at line behind name gap ends n = rw (gap, line_again at line behind ends, name_again line name n, n.good) refl
+header_good text at name gap is fine = rw (gap, is, fine) refl
 
 pub header_refuses : (text : List ℕ) (f : Fault) → IsHeaderFault text f → header_at text ≡ Err f
 header_refuses text _ (refused.unclosed_comment left e) = header_unclosed text left e
-header_refuses text _ (refused.long_name at line behind gap ends l) =
-    elim (name_cases line (length at)) [
-      | name_good name n ↦ absurd (
-          let same : l.name ≡ name = some_is l.name name (sym l.is ∙ name_again line name n) in
-          not_both name n.good (subst (λ (x : List ℕ). 64 < length x) same l.long))
-      | name_long other e ↦ header_judges text at line behind (fault TooLarge (length at)) gap ends e
-      | name_bad first second e ↦ absurd (second l)
+header_refuses text _ (refused.long_name at name gap is long) =
+    elim (name_cases (first_line at).0 (length at)) [
+      | name_good other n fine ↦ absurd (
+          let same : name ≡ other = some_is name other (sym is ∙ n) in
+          not_both other fine (subst (λ (x : List ℕ). 64 < length x) same (past_length name long)))
+      | name_long other n l e ↦ header_judges text at (fault TooLarge (length at)) gap e
+      | name_bad bad e ↦ absurd (not_second (is_test_name name) (is_long name) (bad name is) long)
     ]
-header_refuses text _ (refused.no_name at line behind gap ends first second) =
-    elim (name_cases line (length at)) [
-      | name_good name n ↦ absurd (first name n)
-      | name_long l e ↦ absurd (second l)
-      | name_bad other another e ↦ header_judges text at line behind (fault NoHeader (length at)) gap ends e
+header_refuses text _ (refused.no_name at gap bad) =
+    elim (name_cases (first_line at).0 (length at)) [
+      | name_good name n fine ↦ absurd (not_first (is_test_name name) (is_long name) (bad name n) fine)
+      | name_long name n long e ↦ absurd (not_second (is_test_name name) (is_long name) (bad name n) long)
+      | name_bad other e ↦ header_judges text at (fault NoHeader (length at)) gap e
     ]
 
 pub header_refused : (text : List ℕ) (f : Fault) → header_at text ≡ Err f → IsHeaderFault text f
 header_refused text f e =
     elim (gap_cases text) [
       | gap_open left is ↦ subst (IsHeaderFault text) (err_is (fault Unclosed left) f (sym (header_unclosed text left is) ∙ e)) (refused.unclosed_comment left is)
-      | gap_ends at gap ↦
-          let line = (first_line at).0 in
-          let behind = (first_line at).1 in
-          elim (name_cases line (length at)) [
-            | name_good name n ↦ let never = sym (header_good text at line behind name gap (line_takes at) n) ∙ e in absurd cc
-            | name_long l is ↦
-                subst (IsHeaderFault text) (err_is (fault TooLarge (length at)) f (sym (header_judges text at line behind (fault TooLarge (length at)) gap (line_takes at) is) ∙ e))
-                (refused.long_name at line behind gap (line_takes at) l)
-            | name_bad first second is ↦
-                subst (IsHeaderFault text) (err_is (fault NoHeader (length at)) f (sym (header_judges text at line behind (fault NoHeader (length at)) gap (line_takes at) is) ∙ e))
-                (refused.no_name at line behind gap (line_takes at) first second)
-          ]
+      | gap_ends at gap ↦ elim (name_cases (first_line at).0 (length at)) [
+        | name_good name n fine ↦ let never = sym (header_good text at name gap n fine) ∙ e in absurd cc
+        | name_long name n long is ↦
+            subst (IsHeaderFault text) (err_is (fault TooLarge (length at)) f (sym (header_judges text at (fault TooLarge (length at)) gap is) ∙ e)) (refused.long_name at name gap n long)
+        | name_bad bad is ↦
+            subst (IsHeaderFault text) (err_is (fault NoHeader (length at)) f (sym (header_judges text at (fault NoHeader (length at)) gap is) ∙ e)) (refused.no_name at gap bad)
+      ]
     ]
 
 -- ---- information lines
 
--- what stands behind a gap where an information line has to stand
+-- what stands after a gap where an information line has to stand
 data LineCases (at : List ℕ) : Type 0 where
   nothing : at ≡ [] → LineCases at
   braces : (bs : List ℕ) → at ≡ 123 ∷ bs → LineCases at
@@ -229,6 +230,10 @@ line_cases (b ∷ bs) = by_curly (eqb b 123) refl
     by_curly : (t : Bool) → eqb b 123 ≡ t → LineCases (b ∷ bs)
     by_curly true curly = braces bs (ap (λ (n : ℕ). n ∷ bs) (eqb-true _ _ curly))
     by_curly false curly = by_mark curly (eqb b 34) refl
+
+-- at fault is what stands after some information lines
+pub data IsInformationFault (bytes : List ℕ) : Fault → Type 0 where
+  behind_lines : (rest : List ℕ) (f : Fault) → PassesInformation bytes rest → IsLineFault rest f → IsInformationFault bytes f
 
 lines_stop : (bytes rest : List ℕ) → PassesInformation bytes rest → (n : ℕ) → length bytes < n → (m : ℕ) × (length rest < m) × (braces_within n bytes ≡ braces_within m rest)
 unfolding braces_within

@@ -7,7 +7,8 @@ use Rattle.std.proofs.lemmas.List.Folds.{list_all-append}
 use Rattle.tso_model.specs.declared.register.Reg.{Reg}
 use Rattle.litmus_tokens.specs.declared.token.Stop.{Stop}
 use Rattle.litmus_tokens.specs.declared.token.Symbol.TheVariants.{OpenCurly, CloseCurly, Semicolon}
-use Rattle.litmus_tokens.specs.Terms.{Term, symbol, decimal}
+use Rattle.decimals.specs.Decimals.{decimal_value}
+use Rattle.litmus_tokens.specs.Terms.{Term, symbol}
 use Rattle.litmus_tokens.specs.Pieces.{Piece}
 use Rattle.litmus_tokens.specs.Front.{is_symbol, symbol_at}
 use Rattle.litmus_reader.specs.declared.fault.Why.TheVariants.{NoSuchCore, TwiceInit}
@@ -17,11 +18,11 @@ use Rattle.litmus_reader.specs.declared.fault.ReadError.TheVariants as errors
 use Rattle.litmus_reader.specs.Faults.{◌>>=◌}
 use Rattle.litmus_reader.specs.Items.{setting_at, word_at, core_of}
 use Rattle.litmus_reader.specs.Locations.{located}
-use Rattle.litmus_reader.specs.Initial.{Given, given, Initial, initial, gives, judged, item_in, step_in, items_within, items_at, initial_at, no_registers, with_register, registers_with, registers_of}
+use Rattle.litmus_reader.specs.Initial.{Given, given, Initial, initial, gives, judged, item_in, step_in, items_within, items_at, initial_at, no_registers, with_register, registers_with, registers_of, ends_item}
 use Rattle.litmus_reader.specs.Grammar.{terms}
 use Rattle.litmus_reader.specs.GrammarItems.{IsSetting}
 use Rattle.litmus_reader.specs.GrammarInitial.{Fits, has_core, has_cores}
-use Rattle.litmus_reader.specs.RefusedInitial.{IsCoreFault, no_such_core, ends_item}
+use Rattle.litmus_reader.specs.RefusedInitial.{IsCoreFault, no_such_core}
 use Rattle.litmus_reader.proofs.Keeps.{ok_is as keeps_ok}
 use Rattle.litmus_reader.proofs.ItemSteps.{ReadItems, ItemsBehind, items_start, items_end, items_go_on, item_fails}
 use Rattle.litmus_reader.proofs.GrammarTokens.{chosen, there_is, ok_is, ok_pair, bind_ok}
@@ -32,9 +33,9 @@ use Rattle.litmus_reader.proofs.GrammarBehind.{Leaves, item_leaves}
 use Rattle.litmus_reader.proofs.GrammarInitialJudged.{Holds, unplaced, judged_taken}
 use Rattle.litmus_reader.proofs.GrammarInitialItems.{NoEnd, no_end, nothing, setting_some, length-terms, not_ended}
 use Rattle.litmus_reader.proofs.GrammarInitialSaid.{cores_alone}
-use Rattle.litmus_reader.proofs.GrammarTest.{terms_append}
+use Rattle.litmus_reader.proofs.GrammarTest.{terms_append, taken_terms}
 use Rattle.litmus_reader.proofs.RefusedMisfits.{err_is}
-use Rattle.litmus_reader.proofs.RefusedPasses.{same_place, taken_terms}
+use Rattle.litmus_reader.proofs.RefusedPasses.{same_place}
 use Rattle.litmus_reader.proofs.RefusedInitial.{ItemsThen, at_once, behind_empty, behind_item, ended_found, curly_step, item_step, shorter_by}
 use Rattle.litmus_reader.proofs.Readings.{AreLast}
 use Rattle.litmus_reader.specs.Places.{fault, left_of, unfit, in_initial}
@@ -73,7 +74,7 @@ item_read part i ps x e =
       | inr miss ↦ let never = miss.1 in absurd cc
     ]
 
--- ---- registers only come behind
+-- ---- registers only come later
 
 register_noted : (left : ℕ) (i after : Initial) (core : List ℕ) (reg : Reg) (v : ℕ) → judged left i (of_register core reg v) ≡ Ok after → after.registers ≡ i.registers ++ given left core reg v ∷ []
 unfolding judged
@@ -130,27 +131,27 @@ behind_grow part i j ps rest total b e = items_grow b.count part i j ps rest (b.
 
 -- ---- cores
 
-core_missing : (cores left : ℕ) (digits : List ℕ) → ltb (decimal digits) cores ≡ false → core_of cores left digits ≡ Err (fault NoSuchCore left)
+core_missing : (cores left : ℕ) (digits : List ℕ) → ltb (decimal_value digits) cores ≡ false → core_of cores left digits ≡ Err (fault NoSuchCore left)
 core_missing cores left digits e = rw e refl
 
-core_there : (cores left : ℕ) (digits : List ℕ) → ltb (decimal digits) cores ≡ true → core_of cores left digits ≡ Ok (decimal digits)
+core_there : (cores left : ℕ) (digits : List ℕ) → ltb (decimal_value digits) cores ≡ true → core_of cores left digits ≡ Ok (decimal_value digits)
 core_there cores left digits e = rw e refl
 
-registers_stop : (cores : ℕ) (registers : List (List ℕ)) (done others : List Given) (g : Given) → list_all (has_core cores) (map unplaced done) ≡ true → ltb (decimal g.core) cores ≡ false
+registers_stop : (cores : ℕ) (registers : List (List ℕ)) (done others : List Given) (g : Given) → list_all (has_core cores) (map unplaced done) ≡ true → ltb (decimal_value g.core) cores ≡ false
     → registers_with cores registers (done ++ g ∷ others) ≡ Err (fault NoSuchCore g.left)
 unfolding registers_with
 registers_stop cores registers [] others g all lacks = rw (core_missing cores g.left g.core lacks) refl
 registers_stop cores registers (d ∷ done) others g all lacks =
-    let both = and_parts (ltb (decimal d.core) cores) (list_all (has_core cores) (map unplaced done)) all in
+    let both = and_parts (ltb (decimal_value d.core) cores) (list_all (has_core cores) (map unplaced done)) all in
     ap (λ (r : Result ℕ Fault). r >>= λ core. registers_with cores (with_register registers core d.reg d.value) (done ++ g ∷ others)) (core_there cores d.left d.core both.0)
-    ∙ registers_stop cores (with_register registers (decimal d.core) d.reg d.value) done others g both.1 lacks
+    ∙ registers_stop cores (with_register registers (decimal_value d.core) d.reg d.value) done others g both.1 lacks
 
 registers_there : (cores : ℕ) (registers : List (List ℕ)) (gs : List Given) (f : Fault) → list_all (has_core cores) (map unplaced gs) ≡ true → registers_with cores registers gs ≡ Err f → ⊥
 unfolding registers_with
 registers_there cores registers [] f all e = cc
 registers_there cores registers (g ∷ gs) f all e =
-    let both = and_parts (ltb (decimal g.core) cores) (list_all (has_core cores) (map unplaced gs)) all in
-    registers_there cores (with_register registers (decimal g.core) g.reg g.value) gs f both.1
+    let both = and_parts (ltb (decimal_value g.core) cores) (list_all (has_core cores) (map unplaced gs)) all in
+    registers_there cores (with_register registers (decimal_value g.core) g.reg g.value) gs f both.1
     (sym (ap (λ (r : Result ℕ Fault). r >>= λ core. registers_with cores (with_register registers core g.reg g.value) gs) (core_there cores g.left g.core both.0)) ∙ e)
 
 cores_held : (cores : ℕ) (done : List Setting) (i : Initial) → Holds done i → has_cores cores done ≡ true → list_all (has_core cores) (map unplaced i.registers) ≡ true

@@ -1,4 +1,4 @@
--- What stands behind the rows is refused as what is at fault in it says.
+-- What stands after the rows is refused as what is at fault in it says.
 use Rattle.std.proofs.Common.{◌≡◌, ℕ, Bool, true, false, cond, List, [], ◌∷◌, Option, Some, None, Result, Ok, Err, refl, sym, ap, subst, ◌∙◌}
 use Rattle.std.specs.Prelude.{codes}
 use Rattle.std.specs.Str.{bytes_eq}
@@ -12,36 +12,37 @@ use Rattle.litmus_reader.specs.declared.fault.Fault.{Fault}
 use Rattle.litmus_reader.specs.declared.fault.Part.{Part}
 use Rattle.litmus_reader.specs.Faults.{◌>>=◌, or_unfit, there}
 use Rattle.litmus_reader.specs.Keywords.{if_word, word_behind}
-use Rattle.litmus_reader.specs.Observed.{square_end, brackets_end, observed_end}
+use Rattle.litmus_reader.specs.Observed.{square_end, brackets_end, observed_end, behind_word}
 use Rattle.litmus_reader.specs.Reading.{ending_from, tail_at}
-use Rattle.litmus_reader.specs.Misfits.{misfit}
-use Rattle.litmus_reader.specs.RefusedConditions.{begins_with_word}
-use Rattle.litmus_reader.specs.RefusedEnding.{IsLastFault, IsObservedFault, no_bracket, in_brackets, IsEndingFault, in_locations, behind_locations, at_once}
-use Rattle.litmus_reader.proofs.GrammarTokens.{some_is, symbol_is}
+use Rattle.litmus_reader.specs.Misfits.{begins_with, is_word}
+use Rattle.litmus_reader.specs.RefusedBytes.{IsBracketsFault}
+use Rattle.litmus_reader.specs.RefusedEnding.{IsLastFault, no_bracket, in_brackets, IsEndingFault, last as last_part, after_brackets}
+use Rattle.litmus_reader.proofs.GrammarTokens.{symbol_is}
 use Rattle.litmus_reader.proofs.GrammarBrackets.{brackets_take, brackets_again}
 use Rattle.litmus_reader.proofs.GrammarEnding.{word_found, observed_found}
 use Rattle.litmus_reader.proofs.RefusedMisfits.{err_is}
 use Rattle.litmus_reader.proofs.RefusedBytes.{brackets_refuse, brackets_refused}
-use Rattle.litmus_reader.specs.Places.{left_of, unfit, behind_word, from_place}
+use Rattle.litmus_reader.specs.Places.{left_of, unfit, from_place}
+use Rattle.litmus_reader.specs.Grammar.{terms}
 
 -- ---- one symbol
 
 pub data SymbolCases (part : Part) (s : Symbol) (ps : List Piece) : Type 0 where
-  misses : (at : List Piece) → misfit (is_symbol_term s ∷ []) ps ≡ Some at → or_unfit part ps (symbol_at s ps) ≡ Err (unfit part at) → SymbolCases part s ps
-  stands : (p : Piece) (rest : List Piece) → ps ≡ p ∷ rest → p.term ≡ symbol s → or_unfit part ps (symbol_at s ps) ≡ Ok rest → misfit (is_symbol_term s ∷ []) ps ≡ None → SymbolCases part s ps
+  misses : begins_with (is_symbol_term s) (terms ps) ≡ false → or_unfit part ps (symbol_at s ps) ≡ Err (unfit part ps) → SymbolCases part s ps
+  stands : (p : Piece) (rest : List Piece) → ps ≡ p ∷ rest → p.term ≡ symbol s → or_unfit part ps (symbol_at s ps) ≡ Ok rest → begins_with (is_symbol_term s) (terms ps) ≡ true → SymbolCases part s ps
 
 pub symbol_cases : (part : Part) (s : Symbol) (ps : List Piece) → SymbolCases part s ps
-unfolding misfit symbol_at is_symbol
-symbol_cases part s [] = misses [] refl refl
+unfolding symbol_at is_symbol
+symbol_cases part s [] = misses refl refl
 symbol_cases part s (p ∷ ps) = by_test (is_symbol_term s p.term) refl
   where
     by_test : (b : Bool) → is_symbol_term s p.term ≡ b → SymbolCases part s (p ∷ ps)
     by_test true is = stands p ps refl (symbol_is s p is) (rw is refl) (rw is refl)
-    by_test false is = misses (p ∷ ps) (rw is refl) (rw is refl)
+    by_test false is = misses (rw is refl) (rw is refl)
 
 -- ---- one word
 
-pub word_missing : (word : List ℕ) (ps : List Piece) → begins_with_word word ps ≡ false → word_behind word ps ≡ None
+pub word_missing : (word : List ℕ) (ps : List Piece) → begins_with (is_word word) (terms ps) ≡ false → word_behind word ps ≡ None
 unfolding word_behind name_at
 word_missing word [] e = refl
 word_missing word (p ∷ ps) e = by_term p.term refl
@@ -51,16 +52,16 @@ word_missing word (p ∷ ps) e = by_term p.term refl
     by_term (symbol s) is = refl
     by_term (name x) is = let differs : bytes_eq x word ≡ false = rw is at e in rw differs refl
 
-pub word_differs : (word : List ℕ) (ps : List Piece) → word_behind word ps ≡ None → begins_with_word word ps ≡ false
+pub word_differs : (word : List ℕ) (ps : List Piece) → word_behind word ps ≡ None → begins_with (is_word word) (terms ps) ≡ false
 unfolding word_behind name_at
 word_differs word [] e = refl
 word_differs word (p ∷ ps) e = by_term p.term refl e
   where
-    by_test : (x : List ℕ) → p.term ≡ name x → (b : Bool) → bytes_eq x word ≡ b → cond b (Some ps) None ≡ None → begins_with_word word (p ∷ ps) ≡ false
+    by_test : (x : List ℕ) → p.term ≡ name x → (b : Bool) → bytes_eq x word ≡ b → cond b (Some ps) None ≡ None → begins_with (is_word word) (terms (p ∷ ps)) ≡ false
     by_test x is true same h = absurd cc
     by_test x is false differs h = rw (is, differs) refl
 
-    by_term : (t : Term) → p.term ≡ t → there (name_then t ps) (if_word word) None ≡ None → begins_with_word word (p ∷ ps) ≡ false
+    by_term : (t : Term) → p.term ≡ t → there (name_then t ps) (if_word word) None ≡ None → begins_with (is_word word) (terms (p ∷ ps)) ≡ false
     by_term (number d) is h = rw is refl
     by_term (symbol s) is h = rw is refl
     by_term (name x) is h = by_test x is (bytes_eq x word) refl h
@@ -71,41 +72,44 @@ locations_there word ps is = rw is refl
 
 -- ---- brackets
 
-square_there : (opener : Piece) (ps : List Piece) → opener.term ≡ symbol OpenSquare → misfit (is_symbol_term OpenSquare ∷ []) (opener ∷ ps) ≡ None
-unfolding misfit
+square_there : (opener : Piece) (ps : List Piece) → opener.term ≡ symbol OpenSquare → begins_with (is_symbol_term OpenSquare) (terms (opener ∷ ps)) ≡ true
 square_there opener ps is = rw is refl
 
-brackets_miss : (text : List ℕ) (stop : Stop) (ps at : List Piece) → or_unfit (behind_word stop) ps (symbol_at OpenSquare ps) ≡ Err (unfit (behind_word stop) at) → brackets_end text stop ps ≡ Err (unfit (behind_word stop) at)
+brackets_miss : (text : List ℕ) (stop : Stop) (ps : List Piece) → or_unfit (behind_word stop) ps (symbol_at OpenSquare ps) ≡ Err (unfit (behind_word stop) ps) → brackets_end text stop ps ≡ Err (unfit (behind_word stop) ps)
 unfolding brackets_end
-brackets_miss text stop ps at e = rw e refl
+brackets_miss text stop ps e = rw e refl
 
 brackets_read : (text : List ℕ) (stop : Stop) (ps rest : List Piece) → or_unfit (behind_word stop) ps (symbol_at OpenSquare ps) ≡ Ok rest → brackets_end text stop ps ≡ square_end (left_of ps) (from_place text (left_of ps))
 unfolding brackets_end
 brackets_read text stop ps rest e = rw e refl
 
-observed_refuses : (text : List ℕ) (stop : Stop) (ps : List Piece) (f : Fault) → IsObservedFault text stop ps f → brackets_end text stop ps ≡ Err f
-observed_refuses text stop _ _ (no_bracket ps at mis) =
+no_bracket_refuses : (text : List ℕ) (stop : Stop) (ps : List Piece) → begins_with (is_symbol_term OpenSquare) (terms ps) ≡ false → brackets_end text stop ps ≡ Err (unfit (behind_word stop) ps)
+no_bracket_refuses text stop ps none =
     elim (symbol_cases (behind_word stop) OpenSquare ps) [
-      | misses other m read ↦ brackets_miss text stop ps other read ∙ ap (λ (l : List Piece). Err (unfit (behind_word stop) l)) (some_is other at (sym m ∙ mis))
-      | stands p rest parts is read m ↦ let never = sym m ∙ mis in absurd cc
+      | misses m read ↦ brackets_miss text stop ps read
+      | stands p rest parts is read m ↦ let never = sym m ∙ none in absurd cc
     ]
-observed_refuses text stop _ _ (in_brackets opener ps f is bad) =
+
+in_brackets_refuse : (text : List ℕ) (stop : Stop) (opener : Piece) (ps : List Piece) (f : Fault) → opener.term ≡ symbol OpenSquare → IsBracketsFault opener.left (from_place text opener.left) f
+    → brackets_end text stop (opener ∷ ps) ≡ Err f
+in_brackets_refuse text stop opener ps f is bad =
     elim (symbol_cases (behind_word stop) OpenSquare (opener ∷ ps)) [
-      | misses other m read ↦ let never = sym (square_there opener ps is) ∙ m in absurd cc
+      | misses m read ↦ let never = sym (square_there opener ps is) ∙ m in absurd cc
       | stands p rest parts here read m ↦ brackets_read text stop (opener ∷ ps) rest read ∙ brackets_refuse opener.left (from_place text opener.left) f bad
     ]
 
-observed_refused : (text : List ℕ) (stop : Stop) (ps : List Piece) (f : Fault) → brackets_end text stop ps ≡ Err f → IsObservedFault text stop ps f
-observed_refused text stop ps f e =
+observed_refused : (text : List ℕ) (stop : Stop) (cores : ℕ) (names : List (List ℕ)) (word : Piece) (ps : List Piece) (f : Fault) → word.term ≡ name (codes "locations") → brackets_end text stop ps ≡ Err f
+    → IsEndingFault text stop cores names (word ∷ ps) f
+observed_refused text stop cores names word ps f is_word e =
     elim (symbol_cases (behind_word stop) OpenSquare ps) [
-      | misses at m read ↦ subst (IsObservedFault text stop ps) (err_is (unfit (behind_word stop) at) f (sym (brackets_miss text stop ps at read) ∙ e)) (no_bracket ps at m)
+      | misses m read ↦ subst (IsEndingFault text stop cores names (word ∷ ps)) (err_is (unfit (behind_word stop) ps) f (sym (brackets_miss text stop ps read) ∙ e)) (no_bracket word ps is_word m)
       | stands p rest parts is read m ↦
           let found : square_end (left_of ps) (from_place text (left_of ps)) ≡ Err f = sym (brackets_read text stop ps rest read) ∙ e in
-          subst (λ (l : List Piece). IsObservedFault text stop l f) (sym parts)
-          (in_brackets p rest f is (brackets_refused p.left (from_place text p.left) f (subst (λ (l : List Piece). square_end (left_of l) (from_place text (left_of l)) ≡ Err f) parts found)))
+          subst (λ (l : List Piece). IsEndingFault text stop cores names (word ∷ l) f) (sym parts)
+          (in_brackets word p rest f is_word is (brackets_refused p.left (from_place text p.left) f (subst (λ (l : List Piece). square_end (left_of l) (from_place text (left_of l)) ≡ Err f) parts found)))
     ]
 
--- ---- behind the rows
+-- ---- after the rows
 
 observed_fails : (text : List ℕ) (stop : Stop) (word : Piece) (ps : List Piece) (f : Fault) → word.term ≡ name (codes "locations") → brackets_end text stop ps ≡ Err f → observed_end text stop (word ∷ ps) ≡ Err f
 unfolding observed_end
@@ -118,10 +122,11 @@ not_observed text stop ps e = rw e refl
 pub ending_refuses : (text : List ℕ) (stop : Stop) (cores : ℕ) (names : List (List ℕ)) (ps : List Piece) (f : Fault) → IsEndingFault text stop cores names ps f
     → ((stop : Stop) (ps : List Piece) → IsLastFault stop cores names ps f → ending_from stop cores names ps None ≡ Err f) → tail_at text stop cores names ps ≡ Err f
 unfolding tail_at
-ending_refuses text stop cores names _ _ (in_locations word ps f is bad) last = rw (observed_fails text stop word ps f is (observed_refuses text stop ps f bad)) refl
-ending_refuses text stop cores names _ _ (behind_locations word opener ps bytes f is_word is_opener found bad) last =
+ending_refuses text stop cores names _ _ (no_bracket word ps is none) last = rw (observed_fails text stop word ps (unfit (behind_word stop) ps) is (no_bracket_refuses text stop ps none)) refl
+ending_refuses text stop cores names _ _ (in_brackets word opener ps f is is_opener bad) last = rw (observed_fails text stop word (opener ∷ ps) f is (in_brackets_refuse text stop opener ps f is_opener bad)) refl
+ending_refuses text stop cores names _ _ (after_brackets word opener ps bytes f is_word is_opener found bad) last =
     rw (observed_found text stop word opener ps bytes brackets_again is_word is_opener found) (last (pieces_of bytes).1 (pieces_of bytes).0 bad)
-ending_refuses text stop cores names _ _ (at_once ps f other bad) last = rw (not_observed text stop ps (word_missing (codes "locations") ps other)) (last stop ps bad)
+ending_refuses text stop cores names _ _ (last_part ps f other bad) last = rw (not_observed text stop ps (word_missing (codes "locations") ps other)) (last stop ps bad)
 
 pub ending_refused : (text : List ℕ) (stop : Stop) (cores : ℕ) (names : List (List ℕ)) (ps : List Piece) (f : Fault) → tail_at text stop cores names ps ≡ Err f
     → ((stop : Stop) (ps : List Piece) → ending_from stop cores names ps None ≡ Err f → IsLastFault stop cores names ps f) → IsEndingFault text stop cores names ps f
@@ -133,19 +138,19 @@ ending_refused text stop cores names ps f e last = by_word (word_behind (codes "
         let w = word_found (codes "locations") ps rest some in
         let read : (let r : Result (Option (List ℕ)) Fault = Err g in r >>= λ behind. ending_from stop cores names ps behind) ≡ Err f = rw (some, is) at e in
         let same : g ≡ f = err_is g f read in
-        subst (λ (l : List Piece). IsEndingFault text stop cores names l f) (sym w.1) (in_locations w.0 rest f w.2 (observed_refused text stop rest f (is ∙ ap (λ (y : Fault). Err y) same)))
+        subst (λ (l : List Piece). IsEndingFault text stop cores names l f) (sym w.1) (observed_refused text stop cores names w.0 rest f w.2 (is ∙ ap (λ (y : Fault). Err y) same))
     by_brackets rest some (Ok bytes) is =
         let w = word_found (codes "locations") ps rest some in
         let read : ending_from stop cores names ps (Some bytes) ≡ Err f = rw (some, is) at e in
         elim (symbol_cases (behind_word stop) OpenSquare rest) [
-          | misses at m missing ↦ let never = sym (brackets_miss text stop rest at missing) ∙ is in absurd cc
+          | misses m missing ↦ let never = sym (brackets_miss text stop rest missing) ∙ is in absurd cc
           | stands p back parts is_opener there m ↦
               let closes : square_end p.left (from_place text p.left) ≡ Ok bytes =
               subst (λ (l : List Piece). square_end (left_of l) (from_place text (left_of l)) ≡ Ok bytes) parts (sym (brackets_read text stop rest back there) ∙ is) in
               subst (λ (l : List Piece). IsEndingFault text stop cores names l f) (sym (w.1 ∙ ap (λ (l : List Piece). w.0 ∷ l) parts))
-              (behind_locations w.0 p back bytes f w.2 is_opener (brackets_take p.left (from_place text p.left) bytes closes) (last (pieces_of bytes).1 (pieces_of bytes).0 read))
+              (after_brackets w.0 p back bytes f w.2 is_opener (brackets_take p.left (from_place text p.left) bytes closes) (last (pieces_of bytes).1 (pieces_of bytes).0 read))
         ]
 
     by_word : (o : Option (List Piece)) → word_behind (codes "locations") ps ≡ o → IsEndingFault text stop cores names ps f
-    by_word None missing = let read : ending_from stop cores names ps None ≡ Err f = rw missing at e in at_once ps f (word_differs (codes "locations") ps missing) (last stop ps read)
+    by_word None missing = let read : ending_from stop cores names ps None ≡ Err f = rw missing at e in last_part ps f (word_differs (codes "locations") ps missing) (last stop ps read)
     by_word (Some rest) some = by_brackets rest some (brackets_end text stop rest) refl

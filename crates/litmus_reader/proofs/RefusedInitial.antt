@@ -17,12 +17,12 @@ use Rattle.litmus_reader.specs.declared.fault.ReadError.TheVariants as errors
 use Rattle.litmus_reader.specs.Faults.{◌>>=◌}
 use Rattle.litmus_reader.specs.Locations.{located}
 use Rattle.litmus_reader.specs.Items.{setting_at}
-use Rattle.litmus_reader.specs.Initial.{Initial, initial, gives, judged, item_in, step_in, items_at, initial_at}
+use Rattle.litmus_reader.specs.Initial.{Initial, initial, gives, judged, item_in, step_in, items_at, initial_at, ends_item}
 use Rattle.litmus_reader.specs.Grammar.{terms}
 use Rattle.litmus_reader.specs.GrammarItems.{IsSetting}
 use Rattle.litmus_reader.specs.GrammarInitial.{empty, given, Fits, value_of, same_place, names_in}
-use Rattle.litmus_reader.specs.Misfits.{misfit, setting_slots, ends_setting}
-use Rattle.litmus_reader.specs.RefusedInitial.{AreEnded, none as no_items, more, IsSettingFault, bad_number, one_too_many, twice, IsItemFault, unfit_token, judged as at_fault, IsInitialFault, in_item, ends_item}
+use Rattle.litmus_reader.specs.Misfits.{ends_setting}
+use Rattle.litmus_reader.specs.RefusedInitial.{AreEnded, none as no_items, more, IsSettingFault, bad_number, one_too_many, twice, IsItemFault, unfit_token, judged as at_fault, IsInitialFault, in_item}
 use Rattle.litmus_reader.proofs.Keeps.{ok_is as keeps_ok}
 use Rattle.litmus_reader.proofs.ItemSteps.{ReadItems, ItemsBehind, items_start, items_end, items_go_on, item_fails}
 use Rattle.litmus_reader.proofs.GrammarTokens.{some_is}
@@ -33,13 +33,15 @@ use Rattle.litmus_reader.proofs.GrammarItems.{setting_found, setting_taken}
 use Rattle.litmus_reader.proofs.GrammarBehind.{all_last, last_further, Leaves, step_leaves, item_leaves}
 use Rattle.litmus_reader.proofs.GrammarInitialJudged.{Holds, register_given, location_given, a_word_each, names_in-append, once_more, values_more, judged_found}
 use Rattle.litmus_reader.proofs.GrammarInitialItems.{NoEnd, no_end, nothing, Stepped, item_stepped, semicolon_stepped, at_semicolon, setting_some, length-terms, ItemTaken, item_taken, go_on, not_ended}
-use Rattle.litmus_reader.proofs.GrammarTest.{terms_append}
+use Rattle.litmus_reader.proofs.GrammarTest.{terms_append, taken_terms}
 use Rattle.litmus_reader.proofs.RefusedMisfits.{err_is, bind_err, fails, Follows, setting_follows}
-use Rattle.litmus_reader.proofs.RefusedPasses.{same_place as same_tokens, taken_terms}
+use Rattle.litmus_reader.proofs.RefusedPasses.{same_place as same_tokens}
 use Rattle.litmus_reader.proofs.Readings.{AreLast}
 use Rattle.litmus_reader.specs.Places.{fault, left_of, unfit, in_initial}
 use Rattle.litmus_reader.specs.GrammarNames.{number_of}
 use Rattle.litmus_reader.specs.Written.{Setting, of_register, of_location}
+use Rattle.litmus_reader.proofs.Slots.{misfit, setting_slots}
+use Rattle.litmus_reader.proofs.RefusedKinds.{item_misses, item_misfits}
 
 -- ---- one setting
 
@@ -68,7 +70,7 @@ judged_refuses left i done _ _ (twice (of_location x v) small here) h fits =
     let seen : ltb (number_of i.names x) (length i.words) ≡ true = lt-ltb _ _ (omega (arith, below, count, words)) in
     rw (word_is left v small, room, seen) refl
 
--- a setting behind others that fit is at fault, or fits too
+-- a setting after others that fit is at fault, or fits too
 setting_decided : (done : List Setting) (s : Setting) → Fits done → ((why : Why) × IsSettingFault done s why) ⊎ Fits (done ++ s ∷ [])
 setting_decided done s fits = by_size (ltb (value_of s) (2 ^ 32)) refl
   where
@@ -103,12 +105,15 @@ judged_refused left i done s f e h fits =
 
 -- ---- ends
 
-ends_same : (rest at : List Piece) → terms rest ≡ terms at → ends_item rest ≡ ends_item at
+ends_with : (rest : List Piece) (t : Term) (back : List Term) → terms rest ≡ t ∷ back → ends_setting t ≡ true → ends_item rest ≡ true
 unfolding ends_item is_symbol
-ends_same [] [] e = refl
-ends_same [] (q ∷ qs) e = absurd cc
-ends_same (p ∷ ps) [] e = absurd cc
-ends_same (p ∷ ps) (q ∷ qs) e = let same : p.term ≡ q.term = cc in rw same refl
+ends_with [] t back e ends = absurd cc
+ends_with (p ∷ ps) t back e ends = let same : p.term ≡ t = cc in rw same ends
+
+end_token : (rest : List Piece) → ends_item rest ≡ true → (t : Term) × (back : List Term) × (terms rest ≡ t ∷ back) × (ends_setting t ≡ true)
+unfolding ends_item is_symbol
+end_token [] e = absurd cc
+end_token (p ∷ ps) e = (p.term, terms ps, refl, e)
 
 no_ends : (ps : List Piece) → ends_item ps ≡ false → NoEnd ps
 unfolding ends_item symbol_at
@@ -134,20 +139,23 @@ end_there (p ∷ ps) e = rw e refl
 
 pub item_refuses : (part : Part) (i : Initial) (done : List Setting) (ps : List Piece) (f : Fault) → IsItemFault part done ps f → Holds done i → Fits done → NoEnd ps × (item_in part i ps ≡ Err f)
 unfolding item_in
-item_refuses part i done ps _ (unfit_token at no_ending mis) h fits = (no_ends ps no_ending, by_setting (setting_at part ps) refl (setting_follows part (ends_setting ∷ []) ps))
+item_refuses part i done ps _ (unfit_token at misfits) h fits = (no_ends ps found.0, by_setting (setting_at part ps) refl (setting_follows part (ends_setting ∷ []) ps))
   where
+    found : (ends_item ps ≡ false) × (misfit (setting_slots ps (ends_setting ∷ [])) ps ≡ Some at)
+    found = item_misses ps at misfits
+
     by_setting : (r : Result (Setting × List Piece) Fault) → setting_at part ps ≡ r → Follows part (ends_setting ∷ []) (misfit (setting_slots ps (ends_setting ∷ [])) ps) r
         → item_in part i ps ≡ Err (unfit part at)
-    by_setting (Err e) is m = rw is (ap (λ (y : Fault). Err y) (m.2 ∙ ap (unfit part) (some_is m.0 at (sym m.1 ∙ mis))))
+    by_setting (Err e) is m = rw is (ap (λ (y : Fault). Err y) (m.2 ∙ ap (unfit part) (some_is m.0 at (sym m.1 ∙ found.1))))
     by_setting (Ok x) is m = by_end (ends_item x.1) refl
       where
         by_end : (b : Bool) → ends_item x.1 ≡ b → item_in part i ps ≡ Err (unfit part at)
-        by_end true end = let never = sym (end_there x.1 end) ∙ sym m ∙ mis in absurd cc
-        by_end false end = rw (is, end) (ap (λ (l : List Piece). Err (unfit part l)) (some_is x.1 at (sym (end_missing x.1 end) ∙ sym m ∙ mis)))
-item_refuses part i done ps _ (at_fault ts s at why is e ends bad) h fits =
-    let found = setting_found part ts (terms at) s is ps e in
-    let end : ends_item found.rest ≡ true = ends_same found.rest at found.behind ∙ ends in
-    (no_end ts (terms at) s is ps e, rw (found.is, end, judged_refuses (left_of ps) i done s why bad h fits) refl)
+        by_end true end = let never = sym (end_there x.1 end) ∙ sym m ∙ found.1 in absurd cc
+        by_end false end = rw (is, end) (ap (λ (l : List Piece). Err (unfit part l)) (some_is x.1 at (sym (end_missing x.1 end) ∙ sym m ∙ found.1)))
+item_refuses part i done ps _ (at_fault ts back t s why is e ends bad) h fits =
+    let found = setting_found part ts (t ∷ back) s is ps e in
+    let end : ends_item found.rest ≡ true = ends_with found.rest t back found.behind ends in
+    (no_end ts (t ∷ back) s is ps e, rw (found.is, end, judged_refuses (left_of ps) i done s why bad h fits) refl)
 
 pub item_refused : (part : Part) (i : Initial) (done : List Setting) (ps : List Piece) (f : Fault) → ends_item ps ≡ false → item_in part i ps ≡ Err f → Holds done i → Fits done → IsItemFault part done ps f
 unfolding item_in
@@ -156,26 +164,27 @@ item_refused part i done ps f no_ending e h fits = by_setting (setting_at part p
     by_setting : (r : Result (Setting × List Piece) Fault) → setting_at part ps ≡ r → Follows part (ends_setting ∷ []) (misfit (setting_slots ps (ends_setting ∷ [])) ps) r → IsItemFault part done ps f
     by_setting (Err g) is m =
         let same : g ≡ f = err_is g f (sym (fails (setting_at part ps) _ g is) ∙ e) in
-        subst (IsItemFault part done ps) (sym m.2 ∙ same) (unfit_token m.0 no_ending m.1)
+        subst (IsItemFault part done ps) (sym m.2 ∙ same) (unfit_token m.0 (item_misfits ps m.0 no_ending m.1))
     by_setting (Ok x) is m = by_end (ends_item x.1) refl
       where
         by_end : (b : Bool) → ends_item x.1 ≡ b → IsItemFault part done ps f
         by_end false end =
             let read : item_in part i ps ≡ Err (unfit part x.1) = rw (is, end) refl in
-            subst (IsItemFault part done ps) (err_is (unfit part x.1) f (sym read ∙ e)) (unfit_token x.1 no_ending (m ∙ end_missing x.1 end))
+            subst (IsItemFault part done ps) (err_is (unfit part x.1) f (sym read ∙ e)) (unfit_token x.1 (item_misfits ps x.1 no_ending (m ∙ end_missing x.1 end)))
         by_end true end =
             let taken = setting_taken part ps x.1 x.0 is in
             let read : item_in part i ps ≡ (judged (left_of ps) i x.0 >>= λ after. Ok (after, x.1)) = rw (is, end) refl in
             elim (bind_err (judged (left_of ps) i x.0) (λ after. Ok (after, x.1)) f (sym read ∙ e)) [
               | inl bad ↦
                   let why = judged_refused (left_of ps) i done x.0 f bad h fits in
-                  subst (IsItemFault part done ps) (sym why.2) (at_fault taken.ts x.0 x.1 why.0 taken.is taken.parts end why.1)
+                  let t = end_token x.1 end in
+                  subst (IsItemFault part done ps) (sym why.2) (at_fault taken.ts t.1 t.0 x.0 why.0 taken.is (taken.parts ∙ ap (λ (l : List Term). taken.ts ++ l) t.2) t.3 why.1)
               | inr good ↦ let never = good.2 in absurd cc
             ]
 
--- ---- items behind one another
+-- ---- items one after the other
 
--- behind items, each ended, the same reading goes on
+-- after items, each ended, the same reading goes on
 pub record EndedFound (part : Part) (total : ReadItems) (settings : List Setting) (back : List Term) (ps : List Piece) : Type 0 where
   pub after : Initial
   pub rest : List Piece
@@ -231,7 +240,7 @@ initial_refuses stop _ _ (in_item opener front ps settings f is_open are fits ba
 
 -- ---- the other way
 
--- behind some settings: items, each ended, and behind these what is so
+-- after some settings: items, each ended, and after these what is so
 pub record ItemsThen (Is : List Setting → List Piece → Type 0) (done : List Setting) (ps : List Piece) : Type 0 where
   pub front : List Piece
   pub rest : List Piece
@@ -295,7 +304,7 @@ no_end_here ps curly semicolon = by_test (ends_item ps) refl
     by_test true e = absurd (not_ended ps curly semicolon e)
     by_test false e = e
 
--- from further on, behind fewer tokens
+-- from further on, after fewer tokens
 abbrev Further : Part → ReadItems → Fault → List Piece → Type 0
 Further part total f ps =
     (i : Initial) (qs : List Piece) (done : List Setting) → length qs < length ps → Holds done i → Fits done → ItemsBehind part i qs total → ItemsRefused part done qs f

@@ -1,5 +1,5 @@
 -- The condition and the end of a text are refused as what is at fault in them says.
-use Rattle.std.proofs.Common.{◌≡◌, ℕ, ◌≤◌, Bool, true, false, ◌||◌, List, [], ◌∷◌, ◌++◌, length, Option, Some, None, Result, Ok, Err, refl, sym, ap, subst, ◌∙◌, inl, inr, append-nil, append_assoc}
+use Rattle.std.proofs.Common.{◌≡◌, ℕ, ◌≤◌, Bool, true, false, ◌||◌, List, [], ◌∷◌, ◌++◌, length, Option, Some, None, Result, Ok, Err, refl, sym, ap, subst, ◌∙◌, inl, inr, append_assoc}
 use Rattle.std.specs.Prelude.{codes}
 use Rattle.tso_model.specs.declared.condition.Quantifier.{Quantifier}
 use Rattle.tso_model.specs.declared.condition.Quantifier.TheVariants.{Exists, NotExists, Forall}
@@ -14,37 +14,41 @@ use Rattle.litmus_reader.specs.declared.fault.Why.TheVariants.{BadToken, Unclose
 use Rattle.litmus_reader.specs.declared.fault.Fault.{Fault}
 use Rattle.litmus_reader.specs.Faults.{◌>>=◌}
 use Rattle.litmus_reader.specs.Keywords.{word_behind}
-use Rattle.litmus_reader.specs.Conditions.{Claimed, Conditioned, conditioned, with_claim, quantified, not_exists, condition_at, unit_at, proposition_at}
+use Rattle.litmus_reader.specs.Conditions.{Claimed, Conditioned, conditioned, with_claim, quantified, not_exists, condition_at, unit_at, proposition_at, in_condition}
 use Rattle.litmus_reader.specs.Reading.{end_at, ending_at, ending_from}
 use Rattle.litmus_reader.specs.Grammar.{terms}
-use Rattle.litmus_reader.specs.GrammarConditions.{IsUnit, IsProposition, IsQuantifier, says_exists, says_forall, says_not_exists, condition, IsCondition, begins_with}
+use Rattle.litmus_reader.specs.GrammarConditions.{IsUnit, IsProposition, IsQuantifier, says_exists, says_forall, says_not_exists, condition, IsCondition}
 use Rattle.litmus_reader.specs.GrammarEnding.{MayAsk, nothing, a_condition, IsAskedWithin}
-use Rattle.litmus_reader.specs.RefusedConditions.{is_word, begins_with_word, IsUnitFault, IsConditionFault, in_proposition, no_exists}
+use Rattle.litmus_reader.specs.RefusedConditions as asked_first
+use Rattle.litmus_reader.specs.RefusedConditions.{IsConditionFault, no_exists}
+use Rattle.litmus_reader.proofs.Levels.{IsUnitFault}
+use Rattle.litmus_reader.proofs.FaultLevels.{QuantifiedFault, first_as_read, later_as_read, condition_fault}
 use Rattle.litmus_reader.specs.RefusedEnding as refused
-use Rattle.litmus_reader.specs.RefusedEnding.{IsStopFault, begins_condition, goes_on, IsLastFault}
+use Rattle.litmus_reader.specs.RefusedEnding.{begins_asking, goes_on, IsLastFault}
 use Rattle.litmus_reader.proofs.Keeps.{ok_is as keeps_ok}
 use Rattle.litmus_reader.proofs.GrammarLast.{unit_leaves, disjunction_leaves, condition_leaves}
 use Rattle.litmus_reader.proofs.GrammarPhrases.{last_of, proposition_takes}
 use Rattle.litmus_reader.proofs.GrammarConditions.{unit_finds, unit_takes}
 use Rattle.litmus_reader.proofs.GrammarQuantified.{condition_again}
-use Rattle.litmus_reader.proofs.GrammarEnding.{word_found, symbol_found}
-use Rattle.litmus_reader.proofs.GrammarTest.{terms_append}
+use Rattle.litmus_reader.proofs.GrammarEnding.{word_found, symbol_found, asked}
+use Rattle.litmus_reader.proofs.GrammarTest.{terms_append, taken_terms}
 use Rattle.litmus_reader.proofs.RefusedMisfits.{err_is, bind_err}
-use Rattle.litmus_reader.proofs.RefusedPasses.{same_place, taken_terms}
+use Rattle.litmus_reader.proofs.RefusedPasses.{same_place}
 use Rattle.litmus_reader.proofs.RefusedEnding.{word_missing, word_differs}
 use Rattle.litmus_reader.proofs.RefusedUnits.{within_taken, proposition_refuses, proposition_refused, proposition_ends, symbol_missing}
 use Rattle.litmus_reader.proofs.RefusedOpens.{unit_refuses, unit_refused}
 use Rattle.litmus_reader.proofs.Readings.{AreLast, condition_by}
-use Rattle.litmus_reader.specs.Places.{fault, unfit, in_condition}
-use Rattle.litmus_reader.specs.Written.{Phrase, Asked, asked}
+use Rattle.litmus_reader.specs.Places.{fault, unfit, part_of}
+use Rattle.litmus_reader.specs.Written.{Phrase, Asked}
+use Rattle.litmus_reader.specs.Misfits.{begins_with, is_word}
 
 -- ---- which way a condition is read
 
 data ConditionCases (stop : Stop) (cores : ℕ) (names : List (List ℕ)) (ps : List Piece) : Type 0 where
   asks : (front rest : List Piece) (q : Quantifier) → ps ≡ front ++ rest → IsQuantifier (terms front) q → condition_at stop cores names ps ≡ quantified stop cores q names rest → ConditionCases stop cores names ps
-  cut : (p : Piece) (rest : List Piece) → ps ≡ p ∷ rest → p.term ≡ symbol Tilde → begins_with_word (codes "exists") rest ≡ false → condition_at stop cores names ps ≡ Err (unfit (in_condition stop) rest)
+  cut : (p : Piece) (rest : List Piece) → ps ≡ p ∷ rest → p.term ≡ symbol Tilde → begins_with (is_word (codes "exists")) (terms rest) ≡ false → condition_at stop cores names ps ≡ Err (unfit (in_condition stop) rest)
       → ConditionCases stop cores names ps
-  none : begins_with_word (codes "exists") ps ≡ false → begins_with_word (codes "forall") ps ≡ false → begins_with Tilde (terms ps) ≡ false
+  none : begins_with (is_word (codes "exists")) (terms ps) ≡ false → begins_with (is_word (codes "forall")) (terms ps) ≡ false → begins_with (is_symbol_term Tilde) (terms ps) ≡ false
       → condition_at stop cores names ps ≡ Ok (conditioned None names ps) → ConditionCases stop cores names ps
 
 says : (p : Piece) (word : List ℕ) (q : Quantifier) → IsQuantifier (name word ∷ []) q → p.term ≡ name word → IsQuantifier (terms (p ∷ [])) q
@@ -94,7 +98,7 @@ quantified_reads : (stop : Stop) (cores : ℕ) (q : Quantifier) (names : List (L
 unfolding quantified
 quantified_reads stop cores q names ps c e = rw e refl
 
--- what stands behind a quantifier
+-- what stands after a quantifier
 quantifier_reads : (stop : Stop) (cores : ℕ) (names : List (List ℕ)) (front rest : List Piece) (ts : List Term) (q : Quantifier) → IsQuantifier ts q → terms front ≡ ts
     → condition_at stop cores names (front ++ rest) ≡ quantified stop cores q names rest
 unfolding condition_at not_exists word_behind name_at symbol_at is_symbol
@@ -112,34 +116,45 @@ quantifier_reads stop cores names (p ∷ r ∷ []) rest _ _ says_not_exists e =
     rw (tilde, word) refl
 quantifier_reads stop cores names (p ∷ r ∷ t ∷ l) rest _ _ says_not_exists e = absurd cc
 
-tilde_cut : (stop : Stop) (cores : ℕ) (names : List (List ℕ)) (p : Piece) (ps : List Piece) → p.term ≡ symbol Tilde → begins_with_word (codes "exists") ps ≡ false
+tilde_cut : (stop : Stop) (cores : ℕ) (names : List (List ℕ)) (p : Piece) (ps : List Piece) → p.term ≡ symbol Tilde → begins_with (is_word (codes "exists")) (terms ps) ≡ false
     → condition_at stop cores names (p ∷ ps) ≡ Err (unfit (in_condition stop) ps)
 unfolding condition_at not_exists word_behind name_at symbol_at is_symbol
 tilde_cut stop cores names p ps is other = let missing = word_missing (codes "exists") ps other in rw (is, missing) refl
 
+quantified_refuses : (stop : Stop) (cores : ℕ) (names : List (List ℕ)) (ps : List Piece) (f : Fault) → length names ≤ 16 → QuantifiedFault stop cores names ps f → condition_at stop cores names ps ≡ Err f
+quantified_refuses stop cores names ps f few b =
+    ap (condition_at stop cores names) b.parts ∙ quantifier_reads stop cores names b.front b.rest (terms b.front) b.quantifier b.is refl
+    ∙ quantified_fails stop cores b.quantifier names b.rest f
+    (proposition_refuses cores (unit_at stop cores most_open) (IsUnit most_open) (IsUnitFault stop cores most_open) (unit_finds stop cores most_open) (unit_leaves stop cores most_open) (unit_refuses stop cores most_open) 0 names b.rest f few b.bad)
+
 condition_refuses : (stop : Stop) (cores : ℕ) (names : List (List ℕ)) (ps : List Piece) (f : Fault) → length names ≤ 16 → IsConditionFault stop cores names ps f → condition_at stop cores names ps ≡ Err f
-condition_refuses stop cores names _ _ few (in_proposition front ps q f is bad) =
-    quantifier_reads stop cores names front ps (terms front) q is refl
-    ∙ quantified_fails stop cores q names ps f
-    (proposition_refuses cores (unit_at stop cores most_open) (IsUnit most_open) (IsUnitFault stop cores most_open) (unit_finds stop cores most_open) (unit_leaves stop cores most_open) (unit_refuses stop cores most_open) 0 names ps f few bad)
+condition_refuses stop cores names _ _ few (asked_first.first front ps q f is bad) = quantified_refuses stop cores names (front ++ ps) f few (first_as_read stop cores names front ps q f is bad)
+condition_refuses stop cores names _ _ few (asked_first.later front ps between q phrase f is within joined bad) =
+    quantified_refuses stop cores names (front ++ between ∷ ps) f few (later_as_read stop cores names front ps between q phrase f (terms front) is refl within joined bad)
 condition_refuses stop cores names _ _ few (no_exists p ps is other) = tilde_cut stop cores names p ps is other
 
 -- ---- the end
-
-end_stops : (stop : Stop) (f : Fault) → IsStopFault stop f → end_at stop [] ≡ Err f
-unfolding end_at
-end_stops _ _ (refused.bad_token left) = refl
-end_stops _ _ (refused.unclosed_comment left) = refl
 
 trailing_at : (stop : Stop) (p : Piece) (ps : List Piece) → end_at stop (p ∷ ps) ≡ Err (fault Trailing p.left)
 unfolding end_at
 trailing_at stop p ps = refl
 
-stop_refused : (stop : Stop) (f : Fault) → end_at stop [] ≡ Err f → IsStopFault stop f
+-- where the tokens run out, but not the text
+record Stopped (stop : Stop) (f : Fault) : Type 0 where
+  pub is : unfit (part_of Trailing stop) [] ≡ f
+  pub other : ¬ (stop ≡ stops.End)
+
+stop_refused : (stop : Stop) (f : Fault) → end_at stop [] ≡ Err f → Stopped stop f
 unfolding end_at
 stop_refused stops.End f e = absurd cc
-stop_refused (stops.BadToken left) f e = subst (IsStopFault (stops.BadToken left)) (err_is (fault BadToken left) f e) (refused.bad_token left)
-stop_refused (stops.Unclosed left) f e = subst (IsStopFault (stops.Unclosed left)) (err_is (fault Unclosed left) f e) (refused.unclosed_comment left)
+stop_refused (stops.BadToken left) f e = record { is = err_is (fault BadToken left) f e; other = λ h. cc }
+stop_refused (stops.Unclosed left) f e = record { is = err_is (fault Unclosed left) f e; other = λ h. cc }
+
+end_stops : (stop : Stop) → ¬ (stop ≡ stops.End) → end_at stop [] ≡ Err (unfit (part_of Trailing stop) [])
+unfolding end_at
+end_stops stops.End other = absurd (other refl)
+end_stops (stops.BadToken left) other = refl
+end_stops (stops.Unclosed left) other = refl
 
 ending_fails : (stop : Stop) (cores : ℕ) (names : List (List ℕ)) (ps : List Piece) (f : Fault) → condition_at stop cores names ps ≡ Err f → ending_at stop cores names ps ≡ Err f
 unfolding ending_at
@@ -162,7 +177,7 @@ or_parts : (a b : Bool) → (a || b) ≡ false → (a ≡ false) × (b ≡ false
 or_parts true b e = absurd cc
 or_parts false b e = (refl, e)
 
-not_begun : (stop : Stop) (cores : ℕ) (names : List (List ℕ)) (p : Piece) (ps : List Piece) → begins_condition p.term ≡ false → condition_at stop cores names (p ∷ ps) ≡ Ok (conditioned None names (p ∷ ps))
+not_begun : (stop : Stop) (cores : ℕ) (names : List (List ℕ)) (p : Piece) (ps : List Piece) → begins_asking p.term ≡ false → condition_at stop cores names (p ∷ ps) ≡ Ok (conditioned None names (p ∷ ps))
 unfolding condition_at symbol_at is_symbol
 not_begun stop cores names p ps e =
     let a = or_parts (is_word (codes "exists") p.term || is_word (codes "forall") p.term) (is_symbol_term Tilde p.term) e in
@@ -173,9 +188,9 @@ nothing_asked : (stop : Stop) (cores : ℕ) (names : List (List ℕ)) → condit
 unfolding condition_at word_behind name_at symbol_at
 nothing_asked stop cores names = refl
 
--- a condition is read up to what stands behind it
+-- a condition is read up to what stands after it
 asked_reads : (stop : Stop) (cores : ℕ) (names : List (List ℕ)) (front back : List Piece) (ts : List Term) (q : Quantifier) (phrase : Phrase) → IsCondition ts q phrase → terms front ≡ ts
-    → IsAskedWithin cores names (asked q phrase) → begins_with And (terms back) ≡ false → begins_with Or (terms back) ≡ false → condition_at stop cores names (front ++ back) ≡ Ok (condition_by names q phrase back)
+    → IsAskedWithin cores names (asked q phrase) → begins_with (is_symbol_term And) (terms back) ≡ false → begins_with (is_symbol_term Or) (terms back) ≡ false → condition_at stop cores names (front ++ back) ≡ Ok (condition_by names q phrase back)
 asked_reads stop cores names front back ts q phrase is e within no_and no_or =
     let all = front ++ back in
     let f = condition_again stop cores names all ts (terms back) q phrase is within (terms_append front back ∙ ap (λ (l : List Term). l ++ terms back) e) no_and no_or in
@@ -193,36 +208,38 @@ trailing_refuses stop cores names front p ps _ _ (a_condition ts q phrase is) e 
     ending_stops stop cores names (front ++ p ∷ ps) (condition_by names q phrase (p ∷ ps)) (fault Trailing p.left)
     (asked_reads stop cores names front (p ∷ ps) ts q phrase is e within o.0 o.1) (trailing_at stop p ps)
 
-stopped_refuses : (stop : Stop) (cores : ℕ) (names : List (List ℕ)) (ps : List Piece) (c : Option Asked) (ts : List Term) (f : Fault) → MayAsk ts c → terms ps ≡ ts → IsAskedWithin cores names c → IsStopFault stop f
-    → ending_at stop cores names ps ≡ Err f
-stopped_refuses stop cores names [] _ _ f nothing e within bad = ending_stops stop cores names [] (conditioned None names []) f (nothing_asked stop cores names) (end_stops stop f bad)
+stopped_refuses : (stop : Stop) (cores : ℕ) (names : List (List ℕ)) (ps : List Piece) (c : Option Asked) (ts : List Term) (f : Fault) → MayAsk ts c → terms ps ≡ ts → IsAskedWithin cores names c → end_at stop [] ≡ Err f
+    → ending_at stop cores names (ps ++ []) ≡ Err f
+stopped_refuses stop cores names [] _ _ f nothing e within bad = ending_stops stop cores names [] (conditioned None names []) f (nothing_asked stop cores names) bad
 stopped_refuses stop cores names (p ∷ ps) _ _ f nothing e within bad = absurd cc
 stopped_refuses stop cores names ps _ _ f (a_condition ts q phrase is) e within bad =
-    let whole : condition_at stop cores names (ps ++ []) ≡ Ok (condition_by names q phrase []) = asked_reads stop cores names ps [] ts q phrase is e within refl refl in
-    ending_stops stop cores names ps (condition_by names q phrase []) f (subst (λ (l : List Piece). condition_at stop cores names l ≡ Ok (condition_by names q phrase [])) (append-nil ps) whole) (end_stops stop f bad)
+    ending_stops stop cores names (ps ++ []) (condition_by names q phrase []) f (asked_reads stop cores names ps [] ts q phrase is e within refl refl) bad
 
 pub last_refuses : (stop : Stop) (cores : ℕ) (names : List (List ℕ)) (ps : List Piece) (f : Fault) → length names ≤ 16 → IsLastFault stop cores names ps f → ending_from stop cores names ps None ≡ Err f
 last_refuses stop cores names _ _ few (refused.in_condition ps f bad) = ending_fails stop cores names ps f (condition_refuses stop cores names ps f few bad)
-last_refuses stop cores names _ _ few (refused.trailing front p ps c may within other) = trailing_refuses stop cores names front p ps c (terms front) may refl within other
-last_refuses stop cores names _ _ few (refused.stopped ps c f may within bad) = stopped_refuses stop cores names ps c (terms ps) f may refl within bad
+last_refuses stop cores names _ _ few (refused.trailing front [] c may within other more) =
+    stopped_refuses stop cores names front c (terms front) (unfit (part_of Trailing stop) []) may refl within (end_stops stop (λ h. more (refl, h)))
+last_refuses stop cores names _ _ few (refused.trailing front (p ∷ ps) c may within other more) = trailing_refuses stop cores names front p ps c (terms front) may refl within other
 
 -- ---- the other way
 
--- what stands behind what was read
-behind_nothing : (stop : Stop) (cores : ℕ) (names : List (List ℕ)) (ps : List Piece) (f : Fault) → length names ≤ 16 → begins_with_word (codes "exists") ps ≡ false → begins_with_word (codes "forall") ps ≡ false
-    → begins_with Tilde (terms ps) ≡ false → end_at stop ps ≡ Err f → IsLastFault stop cores names ps f
-behind_nothing stop cores names [] f few no_word no_forall no_tilde e = refused.stopped [] None f nothing few (stop_refused stop f e)
+-- what stands after what was read
+behind_nothing : (stop : Stop) (cores : ℕ) (names : List (List ℕ)) (ps : List Piece) (f : Fault) → length names ≤ 16 → begins_with (is_word (codes "exists")) (terms ps) ≡ false → begins_with (is_word (codes "forall")) (terms ps) ≡ false
+    → begins_with (is_symbol_term Tilde) (terms ps) ≡ false → end_at stop ps ≡ Err f → IsLastFault stop cores names ps f
+behind_nothing stop cores names [] f few no_word no_forall no_tilde e =
+    let s = stop_refused stop f e in subst (IsLastFault stop cores names []) s.is (refused.trailing [] [] None nothing few refl (λ h. s.other h.1))
 behind_nothing stop cores names (p ∷ ps) f few no_word no_forall no_tilde e =
     subst (IsLastFault stop cores names (p ∷ ps)) (err_is (fault Trailing p.left) f (sym (trailing_at stop p ps) ∙ e))
-    (refused.trailing [] p ps None nothing few (rw (no_word, no_forall, no_tilde) refl))
+    (refused.trailing [] (p ∷ ps) None nothing few (rw (no_word, no_forall, no_tilde) refl) (λ h. let never = h.0 in cc))
 
 behind_asked : (stop : Stop) (cores : ℕ) (names : List (List ℕ)) (front back : List Piece) (q : Quantifier) (phrase : Phrase) (f : Fault) → IsCondition (terms front) q phrase → IsAskedWithin cores names (asked q phrase)
-    → begins_with And (terms back) ≡ false → begins_with Or (terms back) ≡ false → end_at stop back ≡ Err f → IsLastFault stop cores names (front ++ back) f
+    → begins_with (is_symbol_term And) (terms back) ≡ false → begins_with (is_symbol_term Or) (terms back) ≡ false → end_at stop back ≡ Err f → IsLastFault stop cores names (front ++ back) f
 behind_asked stop cores names front [] q phrase f is within no_and no_or e =
-    subst (λ (l : List Piece). IsLastFault stop cores names l f) (sym (append-nil front)) (refused.stopped front (asked q phrase) f (a_condition (terms front) q phrase is) within (stop_refused stop f e))
+    let s = stop_refused stop f e in
+    subst (IsLastFault stop cores names (front ++ [])) s.is (refused.trailing front [] (asked q phrase) (a_condition (terms front) q phrase is) within refl (λ h. s.other h.1))
 behind_asked stop cores names front (p ∷ ps) q phrase f is within no_and no_or e =
     subst (IsLastFault stop cores names (front ++ p ∷ ps)) (err_is (fault Trailing p.left) f (sym (trailing_at stop p ps) ∙ e))
-    (refused.trailing front p ps (asked q phrase) (a_condition (terms front) q phrase is) within (rw (no_and, no_or) refl))
+    (refused.trailing front (p ∷ ps) (asked q phrase) (a_condition (terms front) q phrase is) within (rw (no_and, no_or) refl) (λ h. let never = h.0 in cc))
 
 pub last_refused : (stop : Stop) (cores : ℕ) (names : List (List ℕ)) (ps : List Piece) (f : Fault) → length names ≤ 16 → ending_from stop cores names ps None ≡ Err f → IsLastFault stop cores names ps f
 last_refused stop cores names ps f few e = by_case (condition_cases stop cores names ps)
@@ -233,7 +250,7 @@ last_refused stop cores names ps f few e = by_case (condition_cases stop cores n
         let same : g ≡ f = err_is g f (sym (ending_fails stop cores names ps g (read ∙ quantified_fails stop cores q names rest g at)) ∙ e) in
         let bad = proposition_refused cores (unit_at stop cores most_open) (IsUnit most_open) (IsUnitFault stop cores most_open) (unit_takes stop cores most_open) (unit_leaves stop cores most_open) (unit_refused stop cores most_open)
         0 names rest f few (at ∙ ap (λ (y : Fault). Err y) same) in
-        refused.in_condition ps f (subst (λ (l : List Piece). IsConditionFault stop cores names l f) (sym parts) (in_proposition front rest q f is bad))
+        refused.in_condition ps f (subst (λ (l : List Piece). IsConditionFault stop cores names l f) (sym parts) (condition_fault stop cores names front rest q f is bad))
     by_read front rest q parts is read (Ok c) at =
         let end = ending_reads stop cores names ps (with_claim q c) f (read ∙ quantified_reads stop cores q names rest c at) e in
         let t = proposition_takes (IsUnit most_open) cores (unit_at stop cores most_open) (unit_takes stop cores most_open) 0 names rest c at in

@@ -6,16 +6,17 @@ use Rattle.tso_model.specs.Registers.{register_named}
 use Rattle.tso_model.specs.declared.register.Reg.{Reg}
 use Rattle.litmus_tokens.specs.declared.token.Symbol.{Symbol}
 use Rattle.litmus_tokens.specs.declared.token.Symbol.TheVariants.{Equals, Colon, OpenSquare, CloseSquare}
-use Rattle.litmus_tokens.specs.Terms.{Term, number, name, symbol, decimal}
+use Rattle.decimals.specs.Decimals.{decimal_value}
+use Rattle.litmus_tokens.specs.Terms.{Term, number, name, symbol}
 use Rattle.litmus_tokens.specs.Pieces.{Piece}
 use Rattle.litmus_tokens.specs.Front.{is_symbol_term, is_symbol, symbol_at, name_then, name_at, number_then, number_at}
 use Rattle.litmus_reader.specs.declared.fault.Fault.{Fault}
 use Rattle.litmus_reader.specs.declared.fault.Part.{Part}
 use Rattle.litmus_reader.specs.Faults.{◌>>=◌, or_unfit, there}
 use Rattle.litmus_reader.specs.Items.{if_location, location_at, if_register, register_at, value_at, register_setting, square_setting, plain_setting, setting_at}
-use Rattle.litmus_reader.specs.Misfits.{Slot, is_number, is_location, is_register, misfit, value_slots, setting_slots_of, setting_slots}
 use Rattle.litmus_reader.specs.Places.{unfit}
 use Rattle.litmus_reader.specs.Written.{Setting, of_register, of_location}
+use Rattle.litmus_reader.proofs.Slots.{Slot, is_number, is_location, is_register, misfit, value_slots, setting_slots_of, setting_slots}
 
 -- ---- failures
 
@@ -93,8 +94,8 @@ register_step part behind slots (p ∷ ps) next f = by_term p.term
 value_follows : (part : Part) (behind : List Slot) (ps : List Piece) → Follows part behind (misfit (value_slots behind) ps) (value_at part ps)
 unfolding value_at
 value_follows part behind ps =
-    symbol_step part behind (is_number ∷ behind) Equals ps (λ rest. or_unfit part rest (number_at rest) >>= λ digits. Ok (decimal digits.0, digits.1))
-    (λ rest. number_step part behind behind rest (λ digits. Ok (decimal digits.0, digits.1)) (λ d back. refl))
+    symbol_step part behind (is_number ∷ behind) Equals ps (λ rest. or_unfit part rest (number_at rest) >>= λ digits. Ok (decimal_value digits.0, digits.1))
+    (λ rest. number_step part behind behind rest (λ digits. Ok (decimal_value digits.0, digits.1)) (λ d back. refl))
 
 with_value : (part : Part) (behind : List Slot) (m : Option (List Piece)) (r : Result (ℕ × List Piece) Fault) (make : ℕ → Setting) → Follows part behind m r
     → Follows part behind m (r >>= λ value. Ok (make value.0, value.1))

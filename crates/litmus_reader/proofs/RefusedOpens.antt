@@ -11,29 +11,32 @@ use Rattle.litmus_tokens.specs.Front.{is_symbol_term, is_symbol, symbol_at, name
 use Rattle.litmus_reader.specs.declared.fault.Why.TheVariants.{TooLarge}
 use Rattle.litmus_reader.specs.declared.fault.Fault.{Fault}
 use Rattle.litmus_reader.specs.Keywords.{word_behind}
-use Rattle.litmus_reader.specs.Conditions.{Claimed, claimed, atom_at, Proposition, disjunction, negation_at, opens_unit, negated, bracketed, unit_by, unit_at}
+use Rattle.litmus_reader.specs.Conditions.{Claimed, claimed, atom_at, Proposition, disjunction, negation_at, opens_unit, negated, bracketed, unit_by, unit_at, in_condition}
 use Rattle.litmus_reader.specs.Grammar.{terms}
-use Rattle.litmus_reader.specs.GrammarConditions.{IsProposition, IsUnit}
-use Rattle.litmus_reader.specs.RefusedConditions as refused
-use Rattle.litmus_reader.specs.RefusedConditions.{is_word, is_negation, begins_unit, IsUnitFaultOf, IsLastUnitFault, IsUnitFault, IsPropositionFault}
+use Rattle.litmus_reader.specs.GrammarConditions.{IsProposition, IsUnit, IsAtom, is_negation}
+use Rattle.litmus_reader.proofs.Levels as refused
+use Rattle.litmus_reader.specs.RefusedConditions.{begins_unit}
+use Rattle.litmus_reader.proofs.Levels.{IsUnitFaultOf, IsLastUnitFault, IsUnitFault, IsPropositionFault}
 use Rattle.litmus_reader.proofs.GrammarTokens.{symbol_is}
 use Rattle.litmus_reader.proofs.GrammarLast.{disjunction_leaves, unit_leaves}
 use Rattle.litmus_reader.proofs.GrammarPhrases.{no_symbol, last_of, proposition_takes, proposition_finds}
-use Rattle.litmus_reader.proofs.GrammarConditions.{unit_finds, unit_takes}
-use Rattle.litmus_reader.proofs.GrammarTest.{terms_append}
+use Rattle.litmus_reader.proofs.GrammarConditions.{unit_finds, unit_takes, atom_plain}
+use Rattle.litmus_reader.proofs.GrammarTest.{terms_append, taken_terms}
 use Rattle.litmus_reader.proofs.RefusedMisfits.{err_is, fails, goes_on}
-use Rattle.litmus_reader.proofs.RefusedPasses.{same_place, taken_terms}
+use Rattle.litmus_reader.proofs.RefusedPasses.{same_place}
 use Rattle.litmus_reader.proofs.RefusedAtoms.{atom_refuses, atom_refused}
 use Rattle.litmus_reader.proofs.RefusedUnits.{Refuses, Refused, within_taken, proposition_refuses, proposition_refused, proposition_ends, symbol_missing}
 use Rattle.litmus_reader.proofs.Readings.{given_by}
-use Rattle.litmus_reader.specs.Places.{fault, left_of, unfit, in_condition}
+use Rattle.litmus_reader.specs.Places.{fault, left_of, unfit}
+use Rattle.litmus_reader.specs.Misfits.{begins_with}
+use Rattle.litmus_reader.specs.Written.{Phrase}
 
 -- ---- the first token of a unit
 
 data UnitCases (ps : List Piece) : Type 0 where
-  is_negated : (p : Piece) (rest : List Piece) → ps ≡ p ∷ rest → is_negation p.term ≡ true → negation_at ps ≡ Some rest → begins_unit ps ≡ true → UnitCases ps
-  is_opened : (p : Piece) (rest : List Piece) → ps ≡ p ∷ rest → p.term ≡ symbol OpenRound → negation_at ps ≡ None → symbol_at OpenRound ps ≡ Some rest → begins_unit ps ≡ true → UnitCases ps
-  is_plain : negation_at ps ≡ None → symbol_at OpenRound ps ≡ None → begins_unit ps ≡ false → UnitCases ps
+  is_negated : (p : Piece) (rest : List Piece) → ps ≡ p ∷ rest → is_negation p.term ≡ true → negation_at ps ≡ Some rest → begins_with begins_unit (terms ps) ≡ true → UnitCases ps
+  is_opened : (p : Piece) (rest : List Piece) → ps ≡ p ∷ rest → p.term ≡ symbol OpenRound → negation_at ps ≡ None → symbol_at OpenRound ps ≡ Some rest → begins_with begins_unit (terms ps) ≡ true → UnitCases ps
+  is_plain : negation_at ps ≡ None → symbol_at OpenRound ps ≡ None → begins_with begins_unit (terms ps) ≡ false → UnitCases ps
 
 unit_cases : (ps : List Piece) → UnitCases ps
 unfolding negation_at symbol_at is_symbol word_behind name_at
@@ -53,13 +56,23 @@ unit_cases (p ∷ ps) = by_term p.term refl
         no_negation : is_symbol_term Tilde p.term ≡ false → (s : Symbol) → p.term ≡ symbol s → negation_at (p ∷ ps) ≡ None
         no_negation tilde s is = let other = rw is at tilde in rw (is, other) refl
 
-        no_unit : is_symbol_term Tilde p.term ≡ false → is_symbol_term OpenRound p.term ≡ false → (s : Symbol) → p.term ≡ symbol s → begins_unit (p ∷ ps) ≡ false
+        no_unit : is_symbol_term Tilde p.term ≡ false → is_symbol_term OpenRound p.term ≡ false → (s : Symbol) → p.term ≡ symbol s → begins_with begins_unit (terms (p ∷ ps)) ≡ false
         no_unit tilde round s is = let a = rw is at tilde in let b = rw is at round in rw (is, a, b) refl
 
     by_term : (t : Term) → p.term ≡ t → UnitCases (p ∷ ps)
     by_term (number d) is = is_plain (rw is refl) (rw is refl) (rw is refl)
     by_term (name x) is = by_word x is (bytes_eq x (codes "not")) refl
     by_term (symbol s) is = by_symbol (is_symbol_term Tilde p.term) (is_symbol_term OpenRound p.term) refl refl s is
+
+-- where an atom stands no negation and no bracket does
+pub no_unit_there : (ts back : List Term) (p : Phrase) → IsAtom ts p → (ps : List Piece) → terms ps ≡ ts ++ back → begins_with begins_unit (terms ps) ≡ false
+no_unit_there ts back p is ps e =
+    let plain = atom_plain ts back p is ps e in
+    elim (unit_cases ps) [
+      | is_negated q rest parts other at begins ↦ let never = sym plain.0 ∙ at in absurd cc
+      | is_opened q rest parts other no_negation at begins ↦ let never = sym plain.1 ∙ at in absurd cc
+      | is_plain no_negation no_round begins ↦ begins
+    ]
 
 -- ---- the steps of a unit
 
@@ -92,7 +105,7 @@ round_opens : (p : Piece) (ps : List Piece) → p.term ≡ symbol OpenRound → 
 unfolding negation_at symbol_at is_symbol word_behind name_at
 round_opens p ps is = (rw is refl, rw is refl)
 
-begun : (p : Piece) (ps : List Piece) → is_negation p.term ≡ true → true ≡ begins_unit (p ∷ ps)
+begun : (p : Piece) (ps : List Piece) → is_negation p.term ≡ true → true ≡ begins_with begins_unit (terms (p ∷ ps))
 begun p ps is = rw is refl
 
 round_is_none : (p q : Piece) (rest ps : List Piece) → p ∷ ps ≡ q ∷ rest → q.term ≡ symbol OpenRound → is_negation p.term ≡ true → false ≡ true
@@ -134,7 +147,7 @@ deep_refuses stop cores n IsInnerFault refuses atoms names _ _ few (refused.no_b
     ∙ bracket_missing stop unit atoms names (front ++ at) (given_by atoms names phrase found.rest) found.is missing
     ∙ ap (λ (l : List Piece). Err (unfit (in_condition stop) l)) same
 
-last_unit : (stop : Stop) (cores atoms : ℕ) (names : List (List ℕ)) (ps : List Piece) → begins_unit ps ≡ true → unit_at stop cores zero atoms names ps ≡ Err (fault TooLarge (left_of ps))
+last_unit : (stop : Stop) (cores atoms : ℕ) (names : List (List ℕ)) (ps : List Piece) → begins_with begins_unit (terms ps) ≡ true → unit_at stop cores zero atoms names ps ≡ Err (fault TooLarge (left_of ps))
 unfolding unit_at opens_unit
 last_unit stop cores atoms names ps b =
     elim (unit_cases ps) [
@@ -143,7 +156,7 @@ last_unit stop cores atoms names ps b =
       | is_plain no_negation no_round begins ↦ let never = sym b ∙ begins in absurd cc
     ]
 
-last_atom : (stop : Stop) (cores atoms : ℕ) (names : List (List ℕ)) (ps : List Piece) → begins_unit ps ≡ false → unit_at stop cores zero atoms names ps ≡ atom_at stop cores atoms names ps
+last_atom : (stop : Stop) (cores atoms : ℕ) (names : List (List ℕ)) (ps : List Piece) → begins_with begins_unit (terms ps) ≡ false → unit_at stop cores zero atoms names ps ≡ atom_at stop cores atoms names ps
 unfolding unit_at opens_unit
 last_atom stop cores atoms names ps b =
     elim (unit_cases ps) [
@@ -205,9 +218,9 @@ deep_refused stop cores n IsInnerFault inner_refused atoms names ps f few e = by
         refused.in_atom ps f begins (atom_refused stop cores atoms names ps f few (sym (plain_unit stop cores (unit_at stop cores n) atoms names ps no_negation no_round) ∙ e))
 
 last_refused : (stop : Stop) (cores : ℕ) → Refused (unit_at stop cores zero) (IsLastUnitFault stop cores)
-last_refused stop cores atoms names ps f few e = by_test (begins_unit ps) refl
+last_refused stop cores atoms names ps f few e = by_test (begins_with begins_unit (terms ps)) refl
   where
-    by_test : (b : Bool) → begins_unit ps ≡ b → IsLastUnitFault stop cores atoms names ps f
+    by_test : (b : Bool) → begins_with begins_unit (terms ps) ≡ b → IsLastUnitFault stop cores atoms names ps f
     by_test true begins = subst (IsLastUnitFault stop cores atoms names ps) (err_is (fault TooLarge (left_of ps)) f (sym (last_unit stop cores atoms names ps begins) ∙ e)) (refused.one_open_too_many begins)
     by_test false plain = refused.in_atom f plain (atom_refused stop cores atoms names ps f few (sym (last_atom stop cores atoms names ps plain) ∙ e))
 

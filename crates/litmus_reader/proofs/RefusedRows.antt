@@ -14,9 +14,9 @@ use Rattle.litmus_reader.specs.Cells.{cells_in}
 use Rattle.litmus_reader.specs.Rows.{row_at, row_in, Rows, rows_at}
 use Rattle.litmus_reader.specs.Grammar.{terms}
 use Rattle.litmus_reader.specs.GrammarNames.{numbered}
-use Rattle.litmus_reader.specs.GrammarTable.{AreRows, none as no_rows, more as more_rows, ends_table, ends_rows}
+use Rattle.litmus_reader.specs.GrammarTable.{AreRows, none as no_rows, more as more_rows, ends_rows}
 use Rattle.litmus_reader.proofs.Placed.{Placed, placed_from, placed_in, EntriesWithin}
-use Rattle.litmus_reader.specs.RefusedTable.{IsRowsFault, in_row, row_in_front, cells_of}
+use Rattle.litmus_reader.specs.RefusedTable.{IsRowsFault, in_row, row_of, cells_of}
 use Rattle.litmus_reader.proofs.PlacedFaults.{IsEntryFault, IsEntriesFault, unclosed, wrong_cells, in_cell}
 use Rattle.litmus_reader.proofs.Columnwise.{entries_within, columns_within, entries_fault, row_fault}
 use Rattle.litmus_reader.proofs.Keeps.{ok_is as keeps_ok}
@@ -27,17 +27,17 @@ use Rattle.litmus_reader.proofs.GrammarBehind.{all_last, last_further, Leaves, r
 use Rattle.litmus_reader.proofs.GrammarRows.{row_again, row_takes}
 use Rattle.litmus_reader.proofs.GrammarTableEntries.{names_of, instrs_of, Read, read_of, within_first, within_none}
 use Rattle.litmus_reader.proofs.GrammarTable.{row_found, row_taken, row_begins, row_shorter, row_count, as_many, ends_is}
-use Rattle.litmus_reader.proofs.GrammarTest.{terms_append}
+use Rattle.litmus_reader.proofs.GrammarTest.{terms_append, taken_terms}
 use Rattle.litmus_reader.proofs.RefusedMisfits.{err_is}
-use Rattle.litmus_reader.proofs.RefusedPasses.{same_place, taken_terms}
+use Rattle.litmus_reader.proofs.RefusedPasses.{same_place}
 use Rattle.litmus_reader.proofs.RefusedCells.{cells_refuse, cells_refused}
-use Rattle.litmus_reader.proofs.Readings.{AreLast}
+use Rattle.litmus_reader.proofs.Readings.{AreLast, ends_table}
 use Rattle.litmus_reader.specs.Places.{fault, at_stop, left_of}
 use Rattle.litmus_reader.specs.Written.{Shape}
 
 -- ---- one row
 
-row_there : (stop : Stop) (ps : List Piece) → list_any (is_symbol Semicolon) ps ≡ true → row_at stop ps ≡ Ok (row_in_front ps, after_first (is_symbol Semicolon) ps)
+row_there : (stop : Stop) (ps : List Piece) → list_any (is_symbol Semicolon) ps ≡ true → row_at stop ps ≡ Ok (row_of ps, after_first (is_symbol Semicolon) ps)
 unfolding row_at
 row_there stop ps some = rw (lt-ltb _ _ (place_below (is_symbol Semicolon) ps some)) refl
 
@@ -68,10 +68,10 @@ data RowRefuses (stop : Stop) (cores : ℕ) (names : List (List ℕ)) (done : Li
 row_refuses : (stop : Stop) (cores : ℕ) (names : List (List ℕ)) (done : List Placed) (ps : List Piece) (f : Fault) → IsEntriesFault stop cores names done ps f → RowRefuses stop cores names done ps f
 row_refuses stop cores names done ps _ (unclosed lacks) = at_end (row_missing stop ps lacks)
 row_refuses stop cores names done ps _ (wrong_cells some differs) =
-    in_cells (row_in_front ps) (after_first (is_symbol Semicolon) ps) (row_there stop ps some) (row_counts cores (left_of ps) names done (row_in_front ps) differs)
+    in_cells (row_of ps) (after_first (is_symbol Semicolon) ps) (row_there stop ps some) (row_counts cores (left_of ps) names done (row_of ps) differs)
 row_refuses stop cores names done ps _ (in_cell before after first cell spelled why some count cells are within bad) =
-    in_cells (row_in_front ps) (after_first (is_symbol Semicolon) ps) (row_there stop ps some)
-    (row_reads cores (left_of ps) names done (row_in_front ps) count ∙ ap (cells_in 0 (instrs_of names done) (names_of names done)) cells
+    in_cells (row_of ps) (after_first (is_symbol Semicolon) ps) (row_there stop ps some)
+    (row_reads cores (left_of ps) names done (row_of ps) count ∙ ap (cells_in 0 (instrs_of names done) (names_of names done)) cells
     ∙ cells_refuse names done before after first cell spelled why are within bad)
 
 number_decided : (m n : ℕ) → (m ≡ n) ⊎ (m ≢ n)
@@ -83,25 +83,25 @@ number_decided m n = by_test (eqb m n) refl
 
 row_refused : (stop : Stop) (cores : ℕ) (names : List (List ℕ)) (done : List Placed) (ps row rest : List Piece) (f : Fault) → EntriesWithin names done → list_any (is_symbol Semicolon) ps ≡ true
     → row_at stop ps ≡ Ok (row, rest) → row_in cores (left_of ps) (instrs_of names done) (names_of names done) row ≡ Err f → IsEntriesFault stop cores names done ps f
-row_refused stop cores names done ps row rest f h some at e = by_count (number_decided (length (cells_of (row_in_front ps))) cores)
+row_refused stop cores names done ps row rest f h some at e = by_count (number_decided (length (cells_of (row_of ps))) cores)
   where
-    here : row_in cores (left_of ps) (instrs_of names done) (names_of names done) (row_in_front ps) ≡ Err f
+    here : row_in cores (left_of ps) (instrs_of names done) (names_of names done) (row_of ps) ≡ Err f
     here =
-        let same : row_in_front ps ≡ row = ap (λ (r : List Piece × List Piece). r.0) (ok_is (row_in_front ps, after_first (is_symbol Semicolon) ps) (row, rest) (sym (row_there stop ps some) ∙ at)) in
+        let same : row_of ps ≡ row = ap (λ (r : List Piece × List Piece). r.0) (ok_is (row_of ps, after_first (is_symbol Semicolon) ps) (row, rest) (sym (row_there stop ps some) ∙ at)) in
         ap (row_in cores (left_of ps) (instrs_of names done) (names_of names done)) same ∙ e
 
-    by_count : (length (cells_of (row_in_front ps)) ≡ cores) ⊎ (length (cells_of (row_in_front ps)) ≢ cores) → IsEntriesFault stop cores names done ps f
+    by_count : (length (cells_of (row_of ps)) ≡ cores) ⊎ (length (cells_of (row_of ps)) ≢ cores) → IsEntriesFault stop cores names done ps f
     by_count (inr differs) =
-        subst (IsEntriesFault stop cores names done ps) (err_is (fault WrongCells (left_of ps)) f (sym (row_counts cores (left_of ps) names done (row_in_front ps) differs) ∙ here)) (wrong_cells some differs)
+        subst (IsEntriesFault stop cores names done ps) (err_is (fault WrongCells (left_of ps)) f (sym (row_counts cores (left_of ps) names done (row_of ps) differs) ∙ here)) (wrong_cells some differs)
     by_count (inl count) =
-        let r = cells_refused (cells_of (row_in_front ps)) 0 names done f h (sym (row_reads cores (left_of ps) names done (row_in_front ps) count) ∙ here) in
+        let r = cells_refused (cells_of (row_of ps)) 0 names done f h (sym (row_reads cores (left_of ps) names done (row_of ps) count) ∙ here) in
         let number : 0 + length r.before ≡ length r.before = omega arith in
         let is = subst (λ (k : ℕ). IsEntryFault names (done ++ placed_from 0 r.spelled) k (r.first ∷ r.cell) r.why) number r.is in
         subst (IsEntriesFault stop cores names done ps) (sym r.place) (in_cell r.before r.after r.first r.cell r.spelled r.why some count r.cells r.are r.within is)
 
 -- ---- rows one after the other
 
--- behind rows the same reading goes on
+-- after rows the same reading goes on
 record RowsReached (stop : Stop) (cores : ℕ) (names : List (List ℕ)) (entries : List Placed) (total : Result Rows Fault) (back : List Term) (ps : List Piece) : Type 0 where
   pub rest : List Piece
   pub behind : terms rest ≡ back
@@ -215,7 +215,7 @@ rows_step stop cores names done ps total f h b e further = by_end (ends_rows ps)
 
     by_semicolon : ends_rows ps ≡ false → (b : Bool) → list_any (is_symbol Semicolon) ps ≡ b → RowsRefused stop cores names done ps f
     by_semicolon go true some =
-        by_read go some (row_in_front ps) (after_first (is_symbol Semicolon) ps) (row_there stop ps some) (row_in cores (left_of ps) (instrs_of names done) (names_of names done) (row_in_front ps)) refl
+        by_read go some (row_of ps) (after_first (is_symbol Semicolon) ps) (row_there stop ps some) (row_in cores (left_of ps) (instrs_of names done) (names_of names done) (row_of ps)) refl
     by_semicolon go false lacks =
         let missing = row_missing stop ps lacks in
         let g = at_stop (fault Unclosed (left_of ps)) stop in

@@ -1,5 +1,5 @@
 -- Texts are refused as what is at fault in them says.
-use Rattle.std.proofs.Common.{◌≡◌, ℕ, ◌≤◌, ◌<◌, true, ltb, List, [], ◌∷◌, length, Result, Ok, Err, refl, sym, ap, subst, ◌∙◌, inl, inr, arith}
+use Rattle.std.proofs.Common.{◌≡◌, ℕ, ◌≤◌, ◌<◌, true, ltb, List, [], ◌∷◌, length, None, Result, Ok, Err, refl, sym, ap, subst, ◌∙◌, inl, inr, arith}
 use Rattle.std.proofs.lemmas.Bool.{ltb-true, lt-ltb}
 use Rattle.tso_model.specs.Limits.{most_cores}
 use Rattle.tso_model.specs.Litmus.{Litmus}
@@ -17,20 +17,21 @@ use Rattle.litmus_reader.specs.Initial.{initial_at, registers_of}
 use Rattle.litmus_reader.specs.Columns.{columns_at}
 use Rattle.litmus_reader.specs.Rows.{Rows, Table, table, table_at, rows_at}
 use Rattle.litmus_reader.specs.Reading.{test_of, tail_at, body_of, reading_of}
-use Rattle.litmus_reader.specs.GrammarText.{AreInformationLines, none, more}
+use Rattle.litmus_reader.specs.GrammarText.{AreInformationLines, none, more, IsHeaderLine}
 use Rattle.litmus_reader.specs.GrammarInitial.{Fits, names_in, first_registers}
 use Rattle.litmus_reader.specs.GrammarNames.{numbered}
 use Rattle.litmus_reader.proofs.Placed.{placed_in, locations_of}
 use Rattle.litmus_reader.proofs.Columnwise.{named-same}
 use Rattle.litmus_reader.specs.RefusedInitial.{IsInitialFault, IsCoreFault}
-use Rattle.litmus_reader.specs.Refusals.{first_names, names_with, IsBodyFault, in_initial, in_header_row, of_core, in_rows, in_ending, IsFault, too_large, in_header, in_information, in_body}
+use Rattle.litmus_reader.specs.GrammarTest.{HasColumns, first_names, located_in_rows}
+use Rattle.litmus_reader.specs.Refusals.{IsBodyFault, in_initial, in_header_row, of_core, in_rows, in_ending, IsFault, too_large, in_header, in_information, in_body}
 use Rattle.litmus_reader.proofs.GrammarTokens.{chosen, ok_is, bind_ok}
 use Rattle.litmus_reader.proofs.GrammarHeader.{header_again, header_takes}
 use Rattle.litmus_reader.proofs.GrammarInformation.{lines_again, lines_take}
-use Rattle.litmus_reader.proofs.GrammarTest.{sized_found, sized_taken, numbered_few}
+use Rattle.litmus_reader.proofs.GrammarTest.{sized_found, sized_taken, numbered_few, written}
 use Rattle.litmus_reader.proofs.RefusedMisfits.{err_is, bind_err}
 use Rattle.litmus_reader.proofs.RefusedPasses.{initial_passes, initial_passed, columns_pass, columns_passed, rows_pass, rows_passed}
-use Rattle.litmus_reader.proofs.RefusedBytes.{header_refuses, header_refused, information_refuses, information_refused}
+use Rattle.litmus_reader.proofs.RefusedBytes.{header_refuses, header_refused, information_refuses, information_refused, IsInformationFault, behind_lines}
 use Rattle.litmus_reader.proofs.RefusedInitial.{initial_refuses, initial_refused}
 use Rattle.litmus_reader.proofs.RefusedColumns.{columns_refuse, columns_refused}
 use Rattle.litmus_reader.proofs.RefusedCores.{cores_refuse, cores_refused}
@@ -39,36 +40,38 @@ use Rattle.litmus_reader.proofs.RefusedEnding.{ending_refuses, ending_refused}
 use Rattle.litmus_reader.proofs.RefusedLast.{last_refuses, last_refused}
 use Rattle.litmus_reader.proofs.Readings.{rows_by}
 use Rattle.litmus_reader.specs.Places.{fault}
-use Rattle.litmus_reader.specs.Written.{Setting}
+use Rattle.litmus_reader.specs.Written.{Written}
 
 -- ---- from the `{` on
 
-body_refuses : (called braces : List ℕ) (f : Fault) → IsBodyFault braces f → body_of called braces (pieces_of braces).1 (pieces_of braces).0 ≡ Err f
+body_refuses : (called braces : List ℕ) (f : Fault) → IsBodyFault braces (pieces_of braces).1 (pieces_of braces).0 f → body_of called braces (pieces_of braces).1 (pieces_of braces).0 ≡ Err f
 unfolding body_of table_at
-body_refuses called braces _ (in_initial f bad) = rw (initial_refuses (pieces_of braces).1 (pieces_of braces).0 f bad) refl
-body_refuses called braces _ (in_header_row settings ps f first bad) =
-    let i = initial_passes (pieces_of braces).1 (pieces_of braces).0 ps settings first in
-    rw (i.is, columns_refuse (pieces_of braces).1 0 ps f bad most_cores refl) refl
-body_refuses called braces _ (of_core settings cores ps behind f first second bad) =
+body_refuses called braces f (in_initial bad) = rw (initial_refuses (pieces_of braces).1 (pieces_of braces).0 f bad) refl
+body_refuses called braces f (in_header_row w rest first fits bad) =
+    let i = initial_passes (pieces_of braces).1 (pieces_of braces).0 rest w.settings first fits in
+    rw (i.is, columns_refuse (pieces_of braces).1 0 rest f bad most_cores refl) refl
+body_refuses called braces f (of_core w rest head fits bad) =
     let stop = (pieces_of braces).1 in
-    let i = initial_passes stop (pieces_of braces).0 ps settings first in
-    rw (i.is, columns_pass stop cores ps behind second, cores_refuse stop cores (pieces_of braces).0 ps i.i f i.is bad) refl
-body_refuses called braces _ (in_rows settings cores ps behind f first second has bad) =
+    let i = initial_passes stop (pieces_of braces).0 head.columns w.settings head.initial fits in
+    rw (i.is, columns_pass stop w.cores head.columns rest head.header_row, cores_refuse stop w.cores (pieces_of braces).0 head.columns i.i f i.is bad) refl
+body_refuses called braces f (in_rows w rest head fits has bad) =
     let stop = (pieces_of braces).1 in
-    let i = initial_passes stop (pieces_of braces).0 ps settings first in
-    let registers : registers_of cores i.i.registers ≡ Ok (first_registers settings cores) = i.says.registers cores has in
-    let rows : rows_at stop cores i.i.names behind ≡ Err f = ap (λ (l : List (List ℕ)). rows_at stop cores l behind) i.says.names ∙ rows_refuse stop cores (first_names settings) behind f bad in
-    rw (i.is, columns_pass stop cores ps behind second, registers, rows) refl
-body_refuses called braces _ (in_ending settings cores table ps behind last f first second has third bad) =
+    let i = initial_passes stop (pieces_of braces).0 head.columns w.settings head.initial fits in
+    let registers : registers_of w.cores i.i.registers ≡ Ok (first_registers w.settings w.cores) = i.says.registers w.cores has in
+    let rows : rows_at stop w.cores i.i.names rest ≡ Err f = ap (λ (l : List (List ℕ)). rows_at stop w.cores l rest) i.says.names ∙ rows_refuse stop w.cores (first_names w) rest f bad in
+    rw (i.is, columns_pass stop w.cores head.columns rest head.header_row, registers, rows) refl
+body_refuses called braces f (in_ending w behind last head fits has third within ended bad) =
     let stop = (pieces_of braces).1 in
-    let i = initial_passes stop (pieces_of braces).0 ps settings first in
-    let registers : registers_of cores i.i.registers ≡ Ok (first_registers settings cores) = i.says.registers cores has in
-    let names = first_names settings in
-    let rows : rows_at stop cores i.i.names behind ≡ Ok (rows_by names (placed_in table) last) = ap (λ (l : List (List ℕ)). rows_at stop cores l behind) i.says.names ∙ rows_pass stop cores names table behind last third in
-    let known = numbered names (locations_of (placed_in table)) in
-    let same : names_with settings table ≡ known = ap (λ (l : List (List ℕ)). numbered names l) (sym (named-same table)) in
-    let tail = subst (λ (l : List (List ℕ)). tail_at braces stop cores l last ≡ Err f) same (ending_refuses braces stop cores (names_with settings table) last f bad (λ s l e. last_refuses s cores (names_with settings table) l f third.within.room e)) in
-    rw (i.is, columns_pass stop cores ps behind second, registers, rows, tail) refl
+    let i = initial_passes stop (pieces_of braces).0 head.columns w.settings head.initial fits in
+    let registers : registers_of w.cores i.i.registers ≡ Ok (first_registers w.settings w.cores) = i.says.registers w.cores has in
+    let names = first_names w in
+    let rows : rows_at stop w.cores i.i.names behind ≡ Ok (rows_by names (placed_in w.table) last) =
+    ap (λ (l : List (List ℕ)). rows_at stop w.cores l behind) i.says.names ∙ rows_pass stop w.cores names w.table behind last third within ended in
+    let known = numbered names (locations_of (placed_in w.table)) in
+    let same : located_in_rows w ≡ known = ap (λ (l : List (List ℕ)). numbered names l) (sym (named-same w.table)) in
+    let tail = subst (λ (l : List (List ℕ)). tail_at braces stop w.cores l last ≡ Err f) same
+    (ending_refuses braces stop w.cores (located_in_rows w) last f bad (λ s l e. last_refuses s w.cores (located_in_rows w) l f within.room e)) in
+    rw (i.is, columns_pass stop w.cores head.columns behind head.header_row, registers, rows, tail) refl
 
 -- the tokens from the `{` on begin with it
 record Opened (braces : List ℕ) : Type 0 where
@@ -86,31 +89,31 @@ braces_open : (bytes braces : List ℕ) → AreInformationLines bytes braces →
 braces_open _ _ (none bytes rest gap) = curly_opens rest
 braces_open _ _ (more bytes at behind braces gap is lines) = braces_open behind braces lines
 
-few_names : (settings : List Setting) → Fits settings → length (first_names settings) ≤ 16
-few_names settings fits = let count = numbered_few (names_in settings) [] in let most = fits.few in omega (arith, count, most)
+few_names : (w : Written) → Fits w.settings → length (first_names w) ≤ 16
+few_names w fits = let count = numbered_few (names_in w.settings) [] in let most = fits.few in omega (arith, count, most)
 
-body_refused : (called braces : List ℕ) (f : Fault) → Opened braces → body_of called braces (pieces_of braces).1 (pieces_of braces).0 ≡ Err f → IsBodyFault braces f
+body_refused : (called braces : List ℕ) (f : Fault) → Opened braces → body_of called braces (pieces_of braces).1 (pieces_of braces).0 ≡ Err f → IsBodyFault braces (pieces_of braces).1 (pieces_of braces).0 f
 unfolding body_of table_at
 body_refused called braces f o e =
     let stop = (pieces_of braces).1 in
     let ps = (pieces_of braces).0 in
     elim (bind_err (initial_at stop [] ps) _ f e) [
-      | inl bad ↦ in_initial f (subst (λ (l : List Piece). IsInitialFault stop l f) (sym o.parts) (initial_refused stop o.opener o.rest f o.is (subst (λ (l : List Piece). initial_at stop [] l ≡ Err f) o.parts bad)))
+      | inl bad ↦ in_initial (subst (λ (l : List Piece). IsInitialFault stop l f) (sym o.parts) (initial_refused stop o.opener o.rest f o.is (subst (λ (l : List Piece). initial_at stop [] l ≡ Err f) o.parts bad)))
       | inr i ↦
           let p = initial_passed stop ps i.0.1 i.0.0 i.1 in
-          let names = first_names p.settings in
           elim (bind_err (table_at stop i.0.0.registers i.0.0.names i.0.1) _ f i.2) [
             | inl in_table ↦ elim (bind_err (columns_at stop i.0.1) _ f in_table) [
-              | inl bad ↦ in_header_row p.settings i.0.1 f p.passes (columns_refused most_cores stop 0 i.0.1 f refl bad)
+              | inl bad ↦ in_header_row (written [] p.settings 0 [] None) i.0.1 p.passes p.fits (columns_refused most_cores stop 0 i.0.1 f refl bad)
               | inr c ↦
-                  let q = columns_passed stop c.0.0 i.0.1 c.0.1 c.1 in
+                  let w = written [] p.settings c.0.0 [] None in
+                  let head : HasColumns w ps c.0.1 = record { columns = i.0.1; initial = p.passes; header_row = columns_passed stop c.0.0 i.0.1 c.0.1 c.1 } in
                   elim (bind_err (registers_of c.0.0 i.0.0.registers) _ f c.2) [
-                    | inl bad ↦ of_core p.settings c.0.0 i.0.1 c.0.1 f p.passes q
+                    | inl bad ↦ of_core w c.0.1 head p.fits
                         (subst (λ (l : List Piece). IsCoreFault c.0.0 l f) (sym o.parts)
                         (cores_refused stop c.0.0 o.opener o.rest i.0.1 i.0.0 f o.is (subst (λ (l : List Piece). initial_at stop [] l ≡ Ok (i.0.0, i.0.1)) o.parts i.1) bad))
                     | inr g ↦ elim (bind_err (rows_at stop c.0.0 i.0.0.names c.0.1) _ f g.2) [
-                      | inl bad ↦ in_rows p.settings c.0.0 i.0.1 c.0.1 f p.passes q (p.says.cores c.0.0 g.0 g.1)
-                          (rows_refused stop c.0.0 names c.0.1 f (few_names p.settings p.passes.fits) (ap (λ (l : List (List ℕ)). rows_at stop c.0.0 l c.0.1) (sym p.says.names) ∙ bad))
+                      | inl bad ↦ in_rows w c.0.1 head p.fits (p.says.cores c.0.0 g.0 g.1)
+                          (rows_refused stop c.0.0 (first_names w) c.0.1 f (few_names w p.fits) (ap (λ (l : List (List ℕ)). rows_at stop c.0.0 l c.0.1) (sym p.says.names) ∙ bad))
                       | inr r ↦ let never = r.2 in absurd cc
                     ]
                   ]
@@ -120,17 +123,18 @@ body_refused called braces f o e =
                 let g = bind_ok (registers_of c.0.0 i.0.0.registers) _ b.0 c.2 in
                 let r = bind_ok (rows_at stop c.0.0 i.0.0.names c.0.1) _ b.0 g.2 in
                 let is_table : table c.0.0 g.0 r.0 ≡ b.0 = ok_is (table c.0.0 g.0 r.0) b.0 r.2 in
-                let q = columns_passed stop c.0.0 i.0.1 c.0.1 c.1 in
-                let few = few_names p.settings p.passes.fits in
-                let t = rows_passed stop c.0.0 names c.0.1 r.0 few (ap (λ (l : List (List ℕ)). rows_at stop c.0.0 l c.0.1) (sym p.says.names) ∙ r.1) in
-                let known = names_with p.settings t.table in
-                let names_are : r.0.names ≡ known = ap (λ (r : Rows). r.names) t.given ∙ ap (λ (l : List (List ℕ)). numbered names l) (named-same t.table) in
+                let t = rows_passed stop c.0.0 (first_names (written [] p.settings c.0.0 [] None)) c.0.1 r.0 (few_names (written [] p.settings c.0.0 [] None) p.fits)
+                (ap (λ (l : List (List ℕ)). rows_at stop c.0.0 l c.0.1) (sym p.says.names) ∙ r.1) in
+                let w = written [] p.settings c.0.0 t.table None in
+                let head : HasColumns w ps c.0.1 = record { columns = i.0.1; initial = p.passes; header_row = columns_passed stop c.0.0 i.0.1 c.0.1 c.1 } in
+                let known = located_in_rows w in
+                let names_are : r.0.names ≡ known = ap (λ (r : Rows). r.names) t.given ∙ ap (λ (l : List (List ℕ)). numbered (first_names w) l) (named-same t.table) in
                 let tail : tail_at braces stop b.0.cores b.0.rows.names b.0.rows.rest ≡ Err f = tail_fails called i.0.0.words b.0 f b.2 in
                 let here : tail_at braces stop c.0.0 known r.0.rest ≡ Err f =
                 subst (λ (l : List (List ℕ)). tail_at braces stop c.0.0 l r.0.rest ≡ Err f) names_are
                 (subst (λ (b : Table). tail_at braces stop b.cores b.rows.names b.rows.rest ≡ Err f) (sym is_table) tail) in
-                in_ending p.settings c.0.0 t.table i.0.1 c.0.1 r.0.rest f p.passes q (p.says.cores c.0.0 g.0 g.1) t.passes
-                (ending_refused braces stop c.0.0 known r.0.rest f here (λ s l h. last_refused s c.0.0 known l f t.passes.within.room h))
+                in_ending w c.0.1 r.0.rest head p.fits (p.says.cores c.0.0 g.0 g.1) t.passes t.within t.ended
+                (ending_refused braces stop c.0.0 known r.0.rest f here (λ s l h. last_refused s c.0.0 known l f t.within.room h))
           ]
     ]
   where
@@ -152,11 +156,11 @@ pub text_refuses : (text : List ℕ) (f : Fault) → IsFault text f → reading_
 unfolding reading_of
 text_refuses text _ (too_large past) = rw (sized_large text past) refl
 text_refuses text _ (in_header f small bad) = rw (sized_found text small, header_refuses text f bad) refl
-text_refuses text _ (in_information called behind f small header bad) = rw (sized_found text small, header_again text called behind header, information_refuses behind f bad) refl
+text_refuses text _ (in_information called behind rest f small header passes bad) = rw (sized_found text small, header_again text called behind header, information_refuses behind f (behind_lines rest f passes bad)) refl
 text_refuses text _ (in_body called behind braces f small header lines bad) =
     rw (sized_found text small, header_again text called behind header, lines_again behind braces lines) (body_refuses called braces f bad)
 
--- the reading behind the test of a text's size
+-- the reading after the test of a text's size
 abbrev sized_reading : List ℕ → Result Litmus Fault
 sized_reading bytes = header_at bytes >>= λ header. braces_at header.1 >>= λ braces. body_of header.0 braces (pieces_of braces).1 (pieces_of braces).0
 
@@ -183,10 +187,13 @@ text_refused text f e =
             | inr h ↦
                 let header = header_takes text h.0.0 h.0.1 h.1 in
                 elim (bind_err (braces_at h.0.1) _ f h.2) [
-                  | inl bad ↦ in_information h.0.0 h.0.1 f small.0 header (information_refused h.0.1 f bad)
+                  | inl bad ↦ in_lines h.0.0 h.0.1 small.0 header (information_refused h.0.1 f bad)
                   | inr b ↦
                       let lines = lines_take h.0.1 b.0 b.1 in
                       in_body h.0.0 h.0.1 b.0 f small.0 header lines (body_refused h.0.0 b.0 f (braces_open h.0.1 b.0 lines) b.2)
                 ]
           ]
     ]
+  where
+    in_lines : (called behind : List ℕ) → length text ≤ longest_text → IsHeaderLine text called behind → IsInformationFault behind f → IsFault text f
+    in_lines called behind small header (behind_lines rest _ passes bad) = in_information called behind rest f small header passes bad

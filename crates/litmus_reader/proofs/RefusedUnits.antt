@@ -14,19 +14,20 @@ use Rattle.litmus_reader.specs.Conditions as reading
 use Rattle.litmus_reader.specs.Conditions.{Claimed, claimed, atom_at, Proposition, joined_to, chain, chain_of, conjunction, disjunction, negation_at, opens_unit, negated, bracketed, unit_by, unit_at, proposition_at}
 use Rattle.litmus_reader.specs.Grammar.{terms}
 use Rattle.litmus_reader.specs.GrammarNames.{numbered}
-use Rattle.litmus_reader.specs.GrammarConditions.{AreJoined, IsConjunction, IsUnit, locations_in, atoms_of, IsWithin, begins_with}
-use Rattle.litmus_reader.specs.RefusedConditions.{IsJoinedFault, first, later, IsPropositionFault}
+use Rattle.litmus_reader.specs.GrammarConditions.{AreJoined, IsConjunction, IsUnit, locations_in, atoms_of, IsWithin}
+use Rattle.litmus_reader.proofs.Levels.{IsJoinedFault, first, later, IsPropositionFault}
 use Rattle.litmus_reader.proofs.Chains.{ChainBehind, chain_start, chain_end, chain_go_on, chain_fails, chain_never_starts}
 use Rattle.litmus_reader.proofs.GrammarTokens.{there_is, ok_is, bind_ok}
 use Rattle.litmus_reader.proofs.GrammarBehind.{last_further}
 use Rattle.litmus_reader.proofs.GrammarLast.{LeavesLast, chain_leaves}
 use Rattle.litmus_reader.proofs.GrammarEnding.{symbol_found}
 use Rattle.litmus_reader.proofs.GrammarPhrases.{Finds, Taken, Takes, Joining, joining_both, joining_either, joined_taken, first_taken, conjunction_takes, ChainAt, chain_found, symbol_there, last_of, Anything, conjunction_finds}
-use Rattle.litmus_reader.proofs.GrammarTest.{terms_append}
+use Rattle.litmus_reader.proofs.GrammarTest.{terms_append, taken_terms}
 use Rattle.litmus_reader.proofs.RefusedMisfits.{err_is}
-use Rattle.litmus_reader.proofs.RefusedPasses.{same_place, taken_terms}
+use Rattle.litmus_reader.proofs.RefusedPasses.{same_place}
 use Rattle.litmus_reader.proofs.Readings.{AreLast, given_by}
 use Rattle.litmus_reader.specs.Written.{Phrase, both, either}
+use Rattle.litmus_reader.specs.Misfits.{begins_with}
 
 -- ---- chains
 
@@ -124,7 +125,7 @@ joined_refused s join phrases IsPart j cores unit takes leaves IsPartFault refus
 pub proposition_refuses : (cores : ℕ) (unit : Proposition) (IsUnit : List Term → Phrase → Type 0) (IsFault : ℕ → List (List ℕ) → List Piece → Fault → Type 0) → Finds cores unit IsUnit Anything → LeavesLast unit
     → Refuses unit IsFault → Refuses (disjunction unit) (IsPropositionFault IsUnit IsFault cores)
 proposition_refuses cores unit IsUnit IsFault finds leaves refuses =
-    joined_refuses Or reading.either either (IsConjunction IsUnit) joining_either cores (conjunction unit) (λ back. Anything back × (begins_with And back ≡ false))
+    joined_refuses Or reading.either either (IsConjunction IsUnit) joining_either cores (conjunction unit) (λ back. Anything back × (begins_with (is_symbol_term And) back ≡ false))
     (conjunction_finds IsUnit cores unit finds leaves) (chain_leaves And reading.both unit leaves) (λ l. (tt, refl)) (IsJoinedFault And both IsUnit IsFault cores)
     (joined_refuses And reading.both both IsUnit joining_both cores unit Anything finds leaves (λ l. tt) IsFault refuses)
 
@@ -179,7 +180,7 @@ chain_of_ends s join unit leaves atoms names ps d e =
     let one = bind_ok (unit atoms names ps) (λ first. chain s join unit (length first.rest) first) d e in
     chain_ends s join unit leaves (length one.0.rest) one.0 d (omega arith) one.2
 
-pub symbol_missing : (s : Symbol) (ps : List Piece) → symbol_at s ps ≡ None → begins_with s (terms ps) ≡ false
+pub symbol_missing : (s : Symbol) (ps : List Piece) → symbol_at s ps ≡ None → begins_with (is_symbol_term s) (terms ps) ≡ false
 unfolding symbol_at is_symbol
 symbol_missing s [] e = refl
 symbol_missing s (p ∷ ps) e = by_test (is_symbol_term s p.term) e
@@ -189,8 +190,8 @@ symbol_missing s (p ∷ ps) e = by_test (is_symbol_term s p.term) e
     by_test false h = refl
 
 pub record EndsHere (ps : List Piece) : Type 0 where
-  pub no_and : begins_with And (terms ps) ≡ false
-  pub no_or : begins_with Or (terms ps) ≡ false
+  pub no_and : begins_with (is_symbol_term And) (terms ps) ≡ false
+  pub no_or : begins_with (is_symbol_term Or) (terms ps) ≡ false
 
 pub proposition_ends : (unit : Proposition) → LeavesLast unit → (atoms : ℕ) (names : List (List ℕ)) (ps : List Piece) (c : Claimed) → disjunction unit atoms names ps ≡ Ok c → EndsHere c.rest
 proposition_ends unit leaves atoms names ps c e = record {

@@ -9,12 +9,14 @@ use Rattle.tso_model.specs.Registers.{IsWord, AreRegisters, index_of}
 use Rattle.tso_model.specs.declared.register.Reg.{Reg}
 use Rattle.tso_model.specs.declared.register.Reg.TheVariants.{Eax, Ebx, Ecx, Edx, Esi, Edi}
 use Rattle.tso_model.specs.declared.instruction.Instr.{Instr}
-use Rattle.litmus_tokens.specs.Terms.{decimal}
+use Rattle.decimals.specs.Decimals.{decimal_value}
 use Rattle.litmus_reader.specs.Written.{Written, Setting, of_register, of_location, Shape, store_imm, store_reg, load, set_imm, set_reg, fence, xchg, xadd}
-use Rattle.litmus_reader.specs.GrammarInitial.{value_of, first_word, first_register, first_registers_of}
-use Rattle.litmus_reader.specs.GrammarTable.{in_field, in_row, in_rows, field_of, column, instr_with, ValueFits}
-use Rattle.litmus_reader.specs.GrammarTest.{program, test_written, KeepsLimits, located}
+use Rattle.litmus_reader.specs.GrammarInitial.{value_of, first_registers_of}
+use Rattle.litmus_reader.proofs.GrammarInitialSaid.{first_word, first_register}
+use Rattle.litmus_reader.specs.GrammarTable.{in_field, in_rows, column, instr_with, ValueFits}
+use Rattle.litmus_reader.specs.GrammarTest.{test_written, KeepsLimits, located}
 use Rattle.litmus_reader.specs.Spelling.{SpellsTest}
+use Rattle.litmus_reader.proofs.Columnwise.{in_row, program, field_of, field-there}
 
 abbrev ValuesAreWords : List Setting → Type 0
 ValuesAreWords settings = IsTrue (list_all (λ s. ltb (value_of s) (2 ^ 32)) settings)
@@ -35,7 +37,7 @@ first_register-word : (core : ℕ) (reg : Reg) (otherwise : ℕ) (settings : Lis
 first_register-word core reg otherwise [] h all = h
 first_register-word core reg otherwise (of_register c r v ∷ rest) h all =
     let parts = and_parts (ltb v (2 ^ 32)) (list_all (λ s. ltb (value_of s) (2 ^ 32)) rest) all in
-    first_register-word core reg (cond ((decimal c == core) && (index_of r == index_of reg)) v otherwise) rest (either ((decimal c == core) && (index_of r == index_of reg)) v otherwise (ltb-true _ _ parts.0) h) parts.1
+    first_register-word core reg (cond ((decimal_value c == core) && (index_of r == index_of reg)) v otherwise) rest (either ((decimal_value c == core) && (index_of r == index_of reg)) v otherwise (ltb-true _ _ parts.0) h) parts.1
 first_register-word core reg otherwise (of_location y v ∷ rest) h all =
     first_register-word core reg otherwise rest h (and_parts (ltb v (2 ^ 32)) (list_all (λ s. ltb (value_of s) (2 ^ 32)) rest) all).1
 
@@ -75,7 +77,8 @@ column-each : (P : Shape → Type 0) (core : ℕ) (table : List (List (Option Sh
 column-each P core [] h = All-nil P
 column-each P core (row ∷ others) h =
     let parts = rows-parts P (in_row row) (in_rows others) h in
-    All-append P (field_of core row) (column core others) (field-each P core row parts.0) (column-each P core others parts.1)
+    subst (λ (l : List Shape). All P (l ++ column core others)) (field-there core row)
+    (All-append P (field_of core row) (column core others) (field-each P core row parts.0) (column-each P core others parts.1))
 
 written-words : (w : Written) → KeepsLimits w → HasWords (test_written w)
 written-words w limits =

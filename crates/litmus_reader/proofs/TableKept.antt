@@ -18,7 +18,7 @@ use Rattle.litmus_reader.specs.Faults.{◌>>=◌, or_unfit}
 use Rattle.litmus_reader.specs.Locations.{located}
 use Rattle.litmus_reader.specs.Items.{word_at}
 use Rattle.litmus_reader.specs.Forms.{spelled_in}
-use Rattle.litmus_reader.specs.Columns.{core_at, parting_at, columns}
+use Rattle.litmus_reader.specs.Columns.{core_at, parting_at, columns, in_columns}
 use Rattle.litmus_reader.specs.Cells.{instr_of, count_of, or_bad_instruction, cell_in, cells_in}
 use Rattle.litmus_reader.specs.Rows.{row_at, counted, row_in, Rows, rows_within, rows_at, Table, table_at}
 use Rattle.litmus_reader.proofs.Keeps.{Any, ok_any, bind_keeps, cond_keeps}
@@ -26,7 +26,7 @@ use Rattle.litmus_reader.proofs.Named.{NamedShape, IfNamed, spelled_named}
 use Rattle.litmus_reader.specs.Initial.{Given, registers_of}
 use Rattle.litmus_reader.proofs.InitialKept.{HasLength, all_registers_keep}
 use Rattle.litmus_reader.proofs.Known.{AreNames, Grown, same_names, LocatesIn, located_keeps, All-one}
-use Rattle.litmus_reader.specs.Places.{left_of, in_columns}
+use Rattle.litmus_reader.specs.Places.{left_of}
 use Rattle.litmus_reader.specs.Written.{Shape, store_imm, store_reg, load, set_imm, set_reg, fence, xchg, xadd}
 use Rattle.litmus_reader.specs.GrammarTable.{ends_rows}
 use Rattle.litmus_reader.specs.Cells.{of_core}
@@ -159,7 +159,7 @@ rows_keep least (suc n) stop cores instrs names ps h =
 none_yet : (names : List (List ℕ)) → AreNames names → Kept (length names) [] names
 none_yet names h = record { names = h; more = omega arith; known = All-nil _; room = λ core. omega arith }
 
--- what the header row and the rows give, behind so many names or more
+-- what the header row and the rows give, after so many names or more
 pub record KeptTable (least : ℕ) (t : Table) : Type 0 where
   pub some : 0 < t.cores
   pub few : t.cores ≤ most_cores

@@ -17,7 +17,7 @@ use Rattle.litmus_tokens.specs.Pieces.{Piece, pieces_of}
 use Rattle.litmus_tokens.specs.Gap.{gap_end}
 use Rattle.litmus_reader.specs.declared.fault.Fault.{Fault}
 use Rattle.litmus_reader.specs.declared.cell.CoreInstr.{CoreInstr}
-use Rattle.litmus_reader.specs.Header.{sized, from_gap, first_line, judged, header_at}
+use Rattle.litmus_reader.specs.Header.{sized, from_gap, judged, header_at}
 use Rattle.litmus_reader.specs.Information.{braces_at}
 use Rattle.litmus_reader.specs.Initial.{Initial, Given, initial_at}
 use Rattle.litmus_reader.specs.Rows.{Table, table_at}
@@ -30,7 +30,7 @@ use Rattle.litmus_reader.proofs.Known.{AreNames}
 use Rattle.litmus_reader.proofs.InitialKept.{KeptInitial, initial_keeps, length-words}
 use Rattle.litmus_reader.proofs.TableKept.{Kept, KeptTable, table_keeps, known_further, programs_fit, length-programs}
 use Rattle.litmus_reader.proofs.ClaimsKept.{KeptCondition, condition_keeps}
-use Rattle.litmus_reader.specs.GrammarText.{name_in}
+use Rattle.litmus_reader.specs.GrammarText.{first_line, name_in}
 use Rattle.litmus_reader.specs.Reading.{programs_from}
 
 -- ---- names are text

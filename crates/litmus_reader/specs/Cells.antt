@@ -17,7 +17,7 @@ use Rattle.litmus_reader.specs.Places.{fault}
 use Rattle.litmus_reader.specs.Written.{Shape, store_imm, store_reg, load, set_imm, set_reg, fence, xchg, xadd}
 use Rattle.litmus_reader.specs.RefusedTable.{cells_of}
 
--- the cells behind a bar, if there is one
+-- the cells after a bar, if there is one
 abbrev pub cells_behind : Option (Bor (List Token)) → List (List Piece)
 cells_behind None = []
 cells_behind (Some behind) = cells_of (pieces behind.now)

@@ -9,14 +9,19 @@ use Rattle.litmus_tokens.specs.declared.token.Symbol.{Symbol}
 use Rattle.litmus_tokens.specs.declared.token.Symbol.TheVariants.{OpenRound, CloseRound, And, Or, Tilde}
 use Rattle.litmus_tokens.specs.Pieces.{Piece}
 use Rattle.litmus_tokens.specs.Front.{symbol_at}
-use Rattle.litmus_reader.specs.declared.fault.Why.TheVariants.{TooLarge}
+use Rattle.litmus_reader.specs.declared.fault.Why.TheVariants.{TooLarge, BadCondition}
 use Rattle.litmus_reader.specs.declared.fault.Fault.{Fault}
 use Rattle.litmus_reader.specs.Faults.{◌>>=◌, or_unfit, there}
 use Rattle.litmus_reader.specs.Keywords.{word_behind}
 use Rattle.litmus_reader.specs.Locations.{located}
 use Rattle.litmus_reader.specs.Items.{setting_at, word_at, core_of}
-use Rattle.litmus_reader.specs.Places.{fault, left_of, in_condition}
+use Rattle.litmus_reader.specs.Places.{fault, left_of, part_of}
 use Rattle.litmus_reader.specs.Written.{Setting, of_register, of_location}
+use Rattle.litmus_reader.specs.declared.fault.Part.{Part}
+
+-- in the condition
+abbrev pub in_condition : Stop → Part
+in_condition stop = part_of BadCondition stop
 
 -- the claim of a setting, and the names with its location's
 unfoldable pub claim_in : ℕ → ℕ → List (List ℕ) → Setting → Result (Claim × List (List ℕ)) Fault
@@ -30,7 +35,7 @@ claim_in cores left names (of_location x v) = do
   Ok (LocClaim loc.0.0 value, loc.1)
 
 -- what has been read of a proposition: the claim, how many atoms there are so far, the names of locations, and what
--- stands behind the claim
+-- stands after the claim
 pub record Claimed : Type 0 where
   pub claim : Claim
   pub atoms : ℕ
@@ -50,13 +55,13 @@ truth_at ps =
     there (word_behind (codes "true") ps) (λ rest. Some (true, rest))
     (there (word_behind (codes "false") ps) (λ rest. Some (false, rest)) None)
 
--- an atom that is true or false, behind so many others
+-- an atom that is true or false, after so many others
 abbrev pub truth_atom : ℕ → ℕ → List (List ℕ) → Bool × List Piece → Result Claimed Fault
 truth_atom left atoms names t = do
   n ← one_more left atoms
   Ok (claimed (TruthClaim t.0) n names t.1)
 
--- an atom of a register or a location, behind so many others
+-- an atom of a register or a location, after so many others
 unfoldable pub setting_atom : Stop → ℕ → ℕ → List (List ℕ) → List Piece → Result Claimed Fault
 setting_atom stop cores atoms names ps = do
   setting ← setting_at (in_condition stop) ps
@@ -64,18 +69,18 @@ setting_atom stop cores atoms names ps = do
   n ← one_more (left_of ps) atoms
   Ok (claimed claim.0 n claim.1 setting.1)
 
--- an atom behind so many others
+-- an atom after so many others
 unfoldable pub atom_at : Stop → ℕ → ℕ → List (List ℕ) → List Piece → Result Claimed Fault
 atom_at stop cores atoms names ps = there (truth_at ps) (truth_atom (left_of ps) atoms names) (setting_atom stop cores atoms names ps)
 
--- a reading of a proposition, behind so many atoms and with these names
+-- a reading of a proposition, after so many atoms and with these names
 abbrev pub Proposition : Type 0
 Proposition = ℕ → List (List ℕ) → List Piece → Result Claimed Fault
 
 abbrev pub joined_to : (Claim → Claim → Claim) → Claim → Claimed → Claimed
 joined_to join left right = record right { claim = join left right.claim }
 
--- what `unit` reads behind each `symbol`, joined from the left to what has been read; at most n of them
+-- what `unit` reads after each `symbol`, joined from the left to what has been read; at most n of them
 unfoldable pub chain : Symbol → (Claim → Claim → Claim) → Proposition → ℕ → Claimed → Result Claimed Fault
 chain symbol join unit zero c = Ok c
 chain symbol join unit (suc n) c =
@@ -103,7 +108,7 @@ conjunction unit = chain_of And both unit
 abbrev pub disjunction : Proposition → Proposition
 disjunction unit = chain_of Or either (conjunction unit)
 
--- what stands behind a `~` or a `not`
+-- what stands after a `~` or a `not`
 unfoldable pub negation_at : List Piece → Option (List Piece)
 negation_at ps = there (symbol_at Tilde ps) (λ rest. Some rest) (word_behind (codes "not") ps)
 
@@ -111,13 +116,13 @@ negation_at ps = there (symbol_at Tilde ps) (λ rest. Some rest) (word_behind (c
 unfoldable pub opens_unit : List Piece → Bool
 opens_unit ps = is_some (negation_at ps) || is_some (symbol_at OpenRound ps)
 
--- the unit behind a negation
+-- the unit after a negation
 abbrev pub negated : Proposition → ℕ → List (List ℕ) → List Piece → Result Claimed Fault
 negated inner atoms names ps = do
   c ← inner atoms names ps
   Ok (claimed (NotClaim c.claim) c.atoms c.names c.rest)
 
--- the proposition behind a `(`, and its `)`
+-- the proposition after a `(`, and its `)`
 abbrev pub bracketed : Stop → Proposition → ℕ → List (List ℕ) → List Piece → Result Claimed Fault
 bracketed stop inner atoms names ps = do
   c ← disjunction inner atoms names ps
@@ -140,7 +145,7 @@ unit_at stop cores (suc n) atoms names ps = unit_by stop cores (unit_at stop cor
 abbrev pub proposition_at : Stop → ℕ → ℕ → Proposition
 proposition_at stop cores opens = disjunction (unit_at stop cores opens)
 
--- what the condition gives, and what stands behind it
+-- what the condition gives, and what stands after it
 pub record Conditioned : Type 0 where
   pub condition : Option Condition
   pub names : List (List ℕ)
@@ -152,13 +157,13 @@ conditioned condition names rest = record { condition = condition; names = names
 abbrev pub with_claim : Quantifier → Claimed → Conditioned
 with_claim quantifier c = conditioned (Some (record { quantifier = quantifier; claim = c.claim })) c.names c.rest
 
--- the proposition behind this quantifier
+-- the proposition after this quantifier
 unfoldable pub quantified : Stop → ℕ → Quantifier → List (List ℕ) → List Piece → Result Conditioned Fault
 quantified stop cores quantifier names ps = do
   c ← proposition_at stop cores most_open 0 names ps
   Ok (with_claim quantifier c)
 
--- `exists` behind a `~`
+-- `exists` after a `~`
 unfoldable pub not_exists : Stop → ℕ → List (List ℕ) → List Piece → Result Conditioned Fault
 not_exists stop cores names ps = do
   rest ← or_unfit (in_condition stop) ps (word_behind (codes "exists") ps)

@@ -1,7 +1,7 @@
 -- The instructions as they are spelled in cells. (This project's profile.)
 use Rattle.std.specs.Prelude.{ℕ, List, [], ◌∷◌, codes, Option, Some, None, if◌then◌else◌}
 use Rattle.tso_model.specs.Registers.{same_letters}
-use Rattle.litmus_tokens.specs.Terms.{decimal}
+use Rattle.decimals.specs.Decimals.{decimal_value}
 use Rattle.litmus_tokens.specs.Pieces.{Piece}
 use Rattle.litmus_tokens.specs.Front.{name_at}
 use Rattle.litmus_reader.specs.declared.form.Form.{Form}
@@ -11,10 +11,10 @@ use Rattle.litmus_reader.specs.Operands.{Place, in_memory, in_register, constant
 use Rattle.litmus_reader.specs.Written.{Shape, store_imm, store_reg, load, set_imm, set_reg, fence, xchg, xadd}
 
 abbrev pub shape_of : Form → Shape
-shape_of (code.StoreImm name digits) = store_imm name.now (decimal digits.now)
+shape_of (code.StoreImm name digits) = store_imm name.now (decimal_value digits.now)
 shape_of (code.StoreReg name reg) = store_reg name.now reg
 shape_of (code.Load reg name) = load reg name.now
-shape_of (code.SetImm reg digits) = set_imm reg (decimal digits.now)
+shape_of (code.SetImm reg digits) = set_imm reg (decimal_value digits.now)
 shape_of (code.SetReg reg other) = set_reg reg other
 shape_of code.Fence = fence
 shape_of (code.Xchg name reg) = xchg name.now reg
@@ -58,7 +58,7 @@ locked_by word =
     else if same_letters word.0 (codes "XADD") then there (two_operands word.1) xadd_of None
     else None
 
--- what may stand behind `LOCK`
+-- what may stand after `LOCK`
 unfoldable pub locked_at : List Piece → Option Shape
 locked_at ps = there (name_at ps) locked_by None
 

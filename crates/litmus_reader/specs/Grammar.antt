@@ -1,8 +1,14 @@
 -- Tokens of a text without their places.
-use Rattle.std.specs.Prelude.{List, map}
+use Rattle.std.specs.Prelude.{◌≡◌, List, ◌++◌, map}
 use Rattle.litmus_tokens.specs.Terms.{Term}
 use Rattle.litmus_tokens.specs.Pieces.{Piece}
 
 -- tokens, wherever they stand
 abbrev pub terms : List Piece → List Term
 terms ps = map (λ p. p.term) ps
+
+-- something of this kind stands in front of the rest
+pub record Passes (Is : List Term → Type 0) (ps rest : List Piece) : Type 0 where
+  pub front : List Piece
+  pub parts : ps ≡ front ++ rest
+  pub is : Is (terms front)

@@ -12,10 +12,11 @@ core_name core = 80 ∷ (48 + core) ∷ []
 pub data AreColumns : ℕ → List Term → ℕ → Type 0 where
   -- `P3 ;`
   last : (core : ℕ) → AreColumns core (name (core_name core) ∷ symbol Semicolon ∷ []) (core + 1)
-  -- `P2 |` and the columns of the cores behind this one
-  more : (core : ℕ) (ts : List Term) (cores : ℕ) → AreColumns (core + 1) ts cores → AreColumns core (name (core_name core) ∷ symbol Bar ∷ ts) cores
+  -- `P2 |` and the columns of the cores after this one
+  more : (core : ℕ) (ts : List Term) (cores : ℕ) → AreColumns (core + 1) ts cores
+      → AreColumns core (name (core_name core) ∷ symbol Bar ∷ ts) cores
 
--- `P0`, `P1`, .. parted by vertical bars and ended by `;`
+-- `P0`, `P1`, .. separated by vertical bars and ended by `;`
 pub record IsHeaderRow (ts : List Term) (cores : ℕ) : Type 0 where
   pub columns : AreColumns 0 ts cores
   pub few : cores ≤ most_cores

@@ -1,16 +1,20 @@
 -- Which tokens spell which proposition. (This project's profile.)
-use Rattle.std.specs.Prelude.{◌<◌, ◌≤◌, ℕ, zero, suc, ◌+◌, ◌^◌, Bool, true, false, List, [], ◌∷◌, ◌++◌, length, codes}
+use Rattle.std.specs.Prelude.{◌≤◌, ℕ, zero, suc, ◌+◌, true, false, List, [], ◌∷◌, ◌++◌, length, codes, IsTrue, Bool, ◌||◌}
+use Rattle.std.specs.List.{list_all}
 use Rattle.tso_model.specs.Condition.{Claim, TruthClaim, RegClaim, LocClaim, NotClaim, AndClaim, OrClaim}
 use Rattle.litmus_tokens.specs.declared.token.Symbol.{Symbol}
 use Rattle.litmus_tokens.specs.declared.token.Symbol.TheVariants.{OpenRound, CloseRound, And, Or, Tilde}
-use Rattle.litmus_tokens.specs.Terms.{Term, name, symbol, decimal}
-use Rattle.litmus_tokens.specs.Front.{is_symbol_term}
+use Rattle.decimals.specs.Decimals.{decimal_value}
+use Rattle.litmus_tokens.specs.Terms.{Term, name, symbol}
 use Rattle.tso_model.specs.Limits.{most_atoms, most_locations, most_open}
 use Rattle.tso_model.specs.declared.condition.Quantifier.{Quantifier}
 use Rattle.tso_model.specs.declared.condition.Quantifier.TheVariants.{Exists, NotExists, Forall}
 use Rattle.litmus_reader.specs.GrammarNames.{numbered, number_of}
 use Rattle.litmus_reader.specs.GrammarItems.{IsSetting}
+use Rattle.litmus_reader.specs.GrammarInitial.{names_in, is_allowed}
 use Rattle.litmus_reader.specs.Written.{Setting, of_register, of_location, Phrase, truth, atom, negation, both, either}
+use Rattle.litmus_reader.specs.Misfits.{is_word}
+use Rattle.litmus_tokens.specs.Front.{is_symbol_term}
 
 -- `true`, `false`, `c:REG=v`, `x=v` or `[x]=v`
 pub data IsAtom : List Term → Phrase → Type 0 where
@@ -19,9 +23,11 @@ pub data IsAtom : List Term → Phrase → Type 0 where
   says_setting : (ts : List Term) (s : Setting) → IsSetting ts s → IsAtom ts (atom s)
 
 -- parts with a symbol between them, joined from the left
-pub data AreJoined (s : Symbol) (join : Phrase → Phrase → Phrase) (IsPart : List Term → Phrase → Type 0) : List Term → Phrase → Type 0 where
+pub data AreJoined (s : Symbol) (join : Phrase → Phrase → Phrase)
+    (IsPart : List Term → Phrase → Type 0) : List Term → Phrase → Type 0 where
   one : (ts : List Term) (p : Phrase) → IsPart ts p → AreJoined s join IsPart ts p
-  more : (ts us : List Term) (p q : Phrase) → AreJoined s join IsPart ts p → IsPart us q → AreJoined s join IsPart (ts ++ symbol s ∷ us) (join p q)
+  more : (ts us : List Term) (p q : Phrase) → AreJoined s join IsPart ts p → IsPart us q
+      → AreJoined s join IsPart (ts ++ symbol s ∷ us) (join p q)
 
 -- units joined by `/\`
 abbrev pub IsConjunction : (List Term → Phrase → Type 0) → List Term → Phrase → Type 0
@@ -31,32 +37,37 @@ IsConjunction IsUnit = AreJoined And both IsUnit
 abbrev pub IsProposition : (List Term → Phrase → Type 0) → List Term → Phrase → Type 0
 IsProposition IsUnit = AreJoined Or either (IsConjunction IsUnit)
 
+-- `~` or `not`
+abbrev pub is_negation : Term → Bool
+is_negation t = is_symbol_term Tilde t || is_word (codes "not") t
+
 -- a unit, whose own units are so
 pub data IsUnitOf (IsInner : List Term → Phrase → Type 0) : List Term → Phrase → Type 0 where
   -- an atom
   plain : (ts : List Term) (p : Phrase) → IsAtom ts p → IsUnitOf IsInner ts p
   -- `~` or `not`, and a unit
-  tilde : (ts : List Term) (p : Phrase) → IsInner ts p → IsUnitOf IsInner (symbol Tilde ∷ ts) (negation p)
-  word_not : (ts : List Term) (p : Phrase) → IsInner ts p → IsUnitOf IsInner (name (codes "not") ∷ ts) (negation p)
+  negated : (t : Term) (ts : List Term) (p : Phrase) → IsTrue (is_negation t) → IsInner ts p
+      → IsUnitOf IsInner (t ∷ ts) (negation p)
   -- a proposition in brackets
-  in_brackets : (ts : List Term) (p : Phrase) → IsProposition IsInner ts p → IsUnitOf IsInner (symbol OpenRound ∷ ts ++ symbol CloseRound ∷ []) p
+  in_brackets : (ts : List Term) (p : Phrase) → IsProposition IsInner ts p
+      → IsUnitOf IsInner (symbol OpenRound ∷ ts ++ symbol CloseRound ∷ []) p
 
 -- a unit, in which n negations and brackets may be open at once
 abbrev pub IsUnit : ℕ → List Term → Phrase → Type 0
 IsUnit zero = IsAtom
 IsUnit (suc n) = IsUnitOf (IsUnit n)
 
--- the locations that a phrase names, in their order
-abbrev pub named_by : Setting → List (List ℕ)
-named_by (of_register core reg v) = []
-named_by (of_location x v) = x ∷ []
+-- the settings that a phrase is made of, in their order
+abbrev pub settings_in : Phrase → List Setting
+settings_in (truth b) = []
+settings_in (atom s) = s ∷ []
+settings_in (negation p) = settings_in p
+settings_in (both p q) = settings_in p ++ settings_in q
+settings_in (either p q) = settings_in p ++ settings_in q
 
+-- the locations that it names, in their order
 abbrev pub locations_in : Phrase → List (List ℕ)
-locations_in (truth b) = []
-locations_in (atom s) = named_by s
-locations_in (negation p) = locations_in p
-locations_in (both p q) = locations_in p ++ locations_in q
-locations_in (either p q) = locations_in p ++ locations_in q
+locations_in p = names_in (settings_in p)
 
 -- how many atoms it has
 abbrev pub atoms_of : Phrase → ℕ
@@ -66,36 +77,20 @@ atoms_of (negation p) = atoms_of p
 atoms_of (both p q) = atoms_of p + atoms_of q
 atoms_of (either p q) = atoms_of p + atoms_of q
 
--- each core is one of the test, and a word has room for each number
-abbrev pub SettingFits : ℕ → Setting → Type 0
-SettingFits cores (of_register core reg v) = (decimal core < cores) × (v < 2 ^ 32)
-SettingFits cores (of_location x v) = v < 2 ^ 32
-
+-- each core is one of so many, and a word has room for each number
 abbrev pub Fits : ℕ → Phrase → Type 0
-Fits cores (truth b) = Unit {0}
-Fits cores (atom s) = SettingFits cores s
-Fits cores (negation p) = Fits cores p
-Fits cores (both p q) = Fits cores p × Fits cores q
-Fits cores (either p q) = Fits cores p × Fits cores q
+Fits cores p = IsTrue (list_all (is_allowed cores) (settings_in p))
 
 -- what it claims, where these are the names of the locations by their numbers
-abbrev pub setting_claim : List (List ℕ) → Setting → Claim
-setting_claim names (of_register core reg v) = RegClaim (decimal core) reg v
-setting_claim names (of_location x v) = LocClaim (number_of names x) v
-
 abbrev pub claim_of : List (List ℕ) → Phrase → Claim
 claim_of names (truth b) = TruthClaim b
-claim_of names (atom s) = setting_claim names s
+claim_of names (atom (of_register core reg v)) = RegClaim (decimal_value core) reg v
+claim_of names (atom (of_location x v)) = LocClaim (number_of names x) v
 claim_of names (negation p) = NotClaim (claim_of names p)
 claim_of names (both p q) = AndClaim (claim_of names p) (claim_of names q)
 claim_of names (either p q) = OrClaim (claim_of names p) (claim_of names q)
 
--- whether this symbol is at the front
-abbrev pub begins_with : Symbol → List Term → Bool
-begins_with s [] = false
-begins_with s (t ∷ ts) = is_symbol_term s t
-
--- behind so many atoms, and behind what named these locations, a phrase is within the limits of a test with so many cores
+-- after so many atoms, and after what named these locations, a phrase is within the limits of a test with so many cores
 pub record IsWithin (cores atoms : ℕ) (names : List (List ℕ)) (p : Phrase) : Type 0 where
   pub fits : Fits cores p
   pub few : atoms + atoms_of p ≤ most_atoms
@@ -109,4 +104,5 @@ pub data IsQuantifier : List Term → Quantifier → Type 0 where
 
 -- a condition: a quantifier and a proposition
 pub data IsCondition : List Term → Quantifier → Phrase → Type 0 where
-  condition : (ts us : List Term) (quantifier : Quantifier) (p : Phrase) → IsQuantifier ts quantifier → IsProposition (IsUnit most_open) us p → IsCondition (ts ++ us) quantifier p
+  condition : (ts us : List Term) (q : Quantifier) (p : Phrase) → IsQuantifier ts q
+      → IsProposition (IsUnit most_open) us p → IsCondition (ts ++ us) q p

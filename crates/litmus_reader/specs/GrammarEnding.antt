@@ -1,4 +1,4 @@
--- Which tokens and bytes spell what stands behind the rows: perhaps `locations [..]`, which has no effect, and perhaps a
+-- Which tokens and bytes spell what stands after the rows: perhaps `locations [..]`, which has no effect, and perhaps a
 -- condition, up to the end of the text. (This project's profile.)
 use Rattle.std.specs.Prelude.{◌≡◌, ◌≤◌, ℕ, List, [], ◌∷◌, length, codes, Option, Some, None}
 use Rattle.tso_model.specs.Condition.{Condition}
@@ -13,25 +13,23 @@ use Rattle.litmus_reader.specs.Grammar.{terms}
 use Rattle.litmus_reader.specs.GrammarConditions.{IsCondition, IsWithin, locations_in, claim_of}
 use Rattle.litmus_reader.specs.GrammarText.{ClosesBrackets}
 use Rattle.litmus_reader.specs.Places.{from_place}
-use Rattle.litmus_reader.specs.Written.{Phrase, Asked, asked}
+use Rattle.litmus_reader.specs.Written.{Phrase, Asked}
 
 -- nothing, or a condition
 pub data MayAsk : List Term → Option Asked → Type 0 where
   nothing : MayAsk [] None
-  a_condition : (ts : List Term) (quantifier : Quantifier) (phrase : Phrase) → IsCondition ts quantifier phrase → MayAsk ts (asked quantifier phrase)
+  a_condition : (ts : List Term) (q : Quantifier) (p : Phrase) → IsCondition ts q p
+      → MayAsk ts (Some (record { quantifier = q; phrase = p }))
 
--- the tokens up to the end of the text are nothing, or a condition
-pub record EndsText (stop : Stop) (ps : List Piece) (c : Option Asked) : Type 0 where
-  pub ended : stop ≡ End
-  pub is : MayAsk (terms ps) c
-
--- what stands behind the rows of a text whose tokens are these
+-- what stands after the rows of a text whose tokens are these: up to the end of the text nothing, or a condition
 pub data IsEnding (text : List ℕ) (stop : Stop) : List Piece → Option Asked → Type 0 where
-  at_once : (ps : List Piece) (c : Option Asked) → EndsText stop ps c → IsEnding text stop ps c
-  -- behind `locations [..]`; any bytes may stand in the brackets, and behind them tokens begin anew
-  behind_locations : (word opener : Piece) (ps : List Piece) (bytes : List ℕ) (c : Option Asked)
-      → word.term ≡ name (codes "locations") → opener.term ≡ symbol OpenSquare → ClosesBrackets (from_place text opener.left) bytes
-      → EndsText (pieces_of bytes).1 (pieces_of bytes).0 c → IsEnding text stop (word ∷ opener ∷ ps) c
+  at_once : (ps : List Piece) (c : Option Asked) → stop ≡ End → MayAsk (terms ps) c
+      → IsEnding text stop ps c
+  -- after `locations [..]`; any bytes may stand in the brackets, and after them tokens begin anew
+  behind_locations : (w o : Piece) (ps : List Piece) (bytes : List ℕ) (c : Option Asked)
+      → w.term ≡ name (codes "locations") → o.term ≡ symbol OpenSquare
+      → ClosesBrackets (from_place text o.left) bytes → (pieces_of bytes).1 ≡ End
+      → MayAsk (terms (pieces_of bytes).0) c → IsEnding text stop (w ∷ o ∷ ps) c
 
 -- ---- what it says
 
@@ -42,10 +40,10 @@ names_asked (Some c) = locations_in c.phrase
 
 -- the condition, where these are the names of the locations by their numbers
 abbrev pub condition_of : List (List ℕ) → Option Asked → Option Condition
-condition_of names None = None
-condition_of names (Some c) = Some (record { quantifier = c.quantifier; claim = claim_of names c.phrase })
+condition_of xs None = None
+condition_of xs (Some c) = Some (record { quantifier = c.quantifier; claim = claim_of xs c.phrase })
 
--- behind what named these locations, it is within the limits of a test with so many cores
+-- after what named these locations, it is within the limits of a test with so many cores
 abbrev pub IsAskedWithin : ℕ → List (List ℕ) → Option Asked → Type 0
 IsAskedWithin cores names None = length names ≤ most_locations
 IsAskedWithin cores names (Some c) = IsWithin cores 0 names c.phrase

@@ -7,7 +7,8 @@ use Rattle.tso_model.specs.declared.register.Reg.{Reg}
 use Rattle.tso_model.specs.declared.register.Reg.TheVariants.{Eax, Ebx, Ecx, Edx, Esi, Edi}
 use Rattle.tso_model.specs.Limits.{most_locations}
 use Rattle.litmus_tokens.specs.declared.token.Symbol.TheVariants.{OpenCurly, CloseCurly, Semicolon}
-use Rattle.litmus_tokens.specs.Terms.{Term, symbol, decimal}
+use Rattle.decimals.specs.Decimals.{decimal_value}
+use Rattle.litmus_tokens.specs.Terms.{Term, symbol}
 use Rattle.litmus_reader.specs.GrammarItems.{IsSetting}
 use Rattle.litmus_reader.specs.Written.{Setting, of_register, of_location}
 
@@ -18,14 +19,16 @@ pub data IsItem : List Term → List Setting → Type 0 where
   empty : IsItem [] []
   given : (ts : List Term) (setting : Setting) → IsSetting ts setting → IsItem ts (setting ∷ [])
 
--- items parted by `;`
+-- items separated by `;`
 pub data AreItems : List Term → List Setting → Type 0 where
   last : (ts : List Term) (item : List Setting) → IsItem ts item → AreItems ts item
-  more : (ts others : List Term) (item settings : List Setting) → IsItem ts item → AreItems others settings → AreItems (ts ++ symbol Semicolon ∷ others) (item ++ settings)
+  more : (ts others : List Term) (item settings : List Setting) → IsItem ts item
+      → AreItems others settings → AreItems (ts ++ symbol Semicolon ∷ others) (item ++ settings)
 
 -- `{`, items, `}`
 pub data IsInitialState : List Term → List Setting → Type 0 where
-  in_braces : (ts : List Term) (settings : List Setting) → AreItems ts settings → IsInitialState (symbol OpenCurly ∷ ts ++ symbol CloseCurly ∷ []) settings
+  in_braces : (ts : List Term) (settings : List Setting) → AreItems ts settings
+      → IsInitialState (symbol OpenCurly ∷ ts ++ symbol CloseCurly ∷ []) settings
 
 -- ---- what fits
 
@@ -35,7 +38,7 @@ value_of (of_location x value) = value
 
 -- whether two settings are of the same location, or of the same register of the same core (equal numbers have equal digits)
 abbrev pub same_place : Setting → Setting → Bool
-same_place (of_register core reg v) (of_register other r w) = bytes_eq other core && (index_of r == index_of reg)
+same_place (of_register c r v) (of_register d s w) = bytes_eq d c && (index_of s == index_of r)
 same_place (of_location x v) (of_location y w) = bytes_eq x y
 same_place one other = false
 
@@ -57,8 +60,12 @@ pub record Fits (settings : List Setting) : Type 0 where
   pub few : length (names_in settings) ≤ most_locations
 
 abbrev pub has_core : ℕ → Setting → Bool
-has_core cores (of_register core reg v) = nat_lt (decimal core) cores
+has_core cores (of_register core reg v) = nat_lt (decimal_value core) cores
 has_core cores (of_location x v) = true
+
+-- its core is one of so many, and a word has room for its value
+abbrev pub is_allowed : ℕ → Setting → Bool
+is_allowed cores s = has_core cores s && nat_lt (value_of s) (2 ^ 32)
 
 -- each core that a register is given of is one of the test's
 abbrev pub has_cores : ℕ → List Setting → Bool
@@ -66,25 +73,24 @@ has_cores cores settings = list_all (has_core cores) settings
 
 -- ---- what it says
 
--- the word that a location begins as: the one that a setting gives it, and `otherwise` where none does
-abbrev pub first_word : List ℕ → ℕ → List Setting → ℕ
-first_word x otherwise [] = otherwise
-first_word x otherwise (of_register core reg v ∷ rest) = first_word x otherwise rest
-first_word x otherwise (of_location y v ∷ rest) = first_word x (if bytes_eq x y then v else otherwise) rest
+-- the value that is given by a setting for which this holds, and `otherwise` where there is none
+abbrev pub value_in : (Setting → Bool) → ℕ → List Setting → ℕ
+value_in is otherwise [] = otherwise
+value_in is otherwise (s ∷ rest) = value_in is (if is s then value_of s else otherwise) rest
 
--- the word that a core's register begins as: the one that a setting gives it, and `otherwise` where none does
-abbrev pub first_register : ℕ → Reg → ℕ → List Setting → ℕ
-first_register core reg otherwise [] = otherwise
-first_register core reg otherwise (of_register c r v ∷ rest) = first_register core reg (if (decimal c == core) && (index_of r == index_of reg) then v else otherwise) rest
-first_register core reg otherwise (of_location y v ∷ rest) = first_register core reg otherwise rest
+-- whether a setting is of this register of this core
+abbrev pub names_register : ℕ → Reg → Setting → Bool
+names_register core reg (of_register c r v) = (decimal_value c == core) && (index_of r == index_of reg)
+names_register core reg (of_location x v) = false
 
 -- each location's first word, 0 where none is given
 abbrev pub first_words : List Setting → List (List ℕ) → List ℕ
-first_words settings names = map (λ x. first_word x 0 settings) names
+first_words settings names = map (λ x. value_in (same_place (of_location x 0)) 0 settings) names
 
 -- the six registers of a core
 abbrev pub first_registers_of : List Setting → ℕ → List ℕ
-first_registers_of settings core = map (λ reg. first_register core reg 0 settings) (Eax ∷ Ebx ∷ Ecx ∷ Edx ∷ Esi ∷ Edi ∷ [])
+first_registers_of settings core =
+    map (λ r. value_in (names_register core r) 0 settings) (Eax ∷ Ebx ∷ Ecx ∷ Edx ∷ Esi ∷ Edi ∷ [])
 
 -- each core's first registers, 0 where none is given
 abbrev pub first_registers : List Setting → ℕ → List (List ℕ)

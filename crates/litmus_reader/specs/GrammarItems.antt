@@ -5,15 +5,17 @@ use Rattle.tso_model.specs.Names.{is_location_name}
 use Rattle.tso_model.specs.Registers.{register_named}
 use Rattle.tso_model.specs.declared.register.Reg.{Reg}
 use Rattle.litmus_tokens.specs.declared.token.Symbol.TheVariants.{Equals, Colon, OpenSquare, CloseSquare}
-use Rattle.litmus_tokens.specs.Terms.{Term, number, name, symbol, decimal}
+use Rattle.decimals.specs.Decimals.{decimal_value}
+use Rattle.litmus_tokens.specs.Terms.{Term, number, name, symbol}
 use Rattle.litmus_reader.specs.Written.{Setting, of_register, of_location}
 
 pub data IsSetting : List Term → Setting → Type 0 where
   -- `c:REG=v`
   sets_register : (core word v : List ℕ) (reg : Reg) → register_named word ≡ Some reg
-      → IsSetting (number core ∷ symbol Colon ∷ name word ∷ symbol Equals ∷ number v ∷ []) (of_register core reg (decimal v))
+      → IsSetting (number core ∷ symbol Colon ∷ name word ∷ symbol Equals ∷ number v ∷ []) (of_register core reg (decimal_value v))
   -- `x=v`
-  sets_location : (x v : List ℕ) → IsTrue (is_location_name x) → IsSetting (name x ∷ symbol Equals ∷ number v ∷ []) (of_location x (decimal v))
+  sets_location : (x v : List ℕ) → IsTrue (is_location_name x)
+      → IsSetting (name x ∷ symbol Equals ∷ number v ∷ []) (of_location x (decimal_value v))
   -- `[x]=v`
   sets_in_squares : (x v : List ℕ) → IsTrue (is_location_name x)
-      → IsSetting (symbol OpenSquare ∷ name x ∷ symbol CloseSquare ∷ symbol Equals ∷ number v ∷ []) (of_location x (decimal v))
+      → IsSetting (symbol OpenSquare ∷ name x ∷ symbol CloseSquare ∷ symbol Equals ∷ number v ∷ []) (of_location x (decimal_value v))

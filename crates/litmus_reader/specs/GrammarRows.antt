@@ -13,8 +13,10 @@ pub data IsField : List Term → Option Shape → Type 0 where
 -- cells with vertical bars between them
 pub data AreFields : List Term → List (Option Shape) → Type 0 where
   last : (ts : List Term) (c : Option Shape) → IsField ts c → AreFields ts (c ∷ [])
-  more : (ts us : List Term) (c : Option Shape) (cs : List (Option Shape)) → IsField ts c → AreFields us cs → AreFields (ts ++ symbol Bar ∷ us) (c ∷ cs)
+  more : (ts us : List Term) (c : Option Shape) (cs : List (Option Shape)) → IsField ts c
+      → AreFields us cs → AreFields (ts ++ symbol Bar ∷ us) (c ∷ cs)
 
 -- as many cells as cores, and `;`
 pub data IsRow (cores : ℕ) : List Term → List (Option Shape) → Type 0 where
-  row : (ts : List Term) (cells : List (Option Shape)) → AreFields ts cells → length cells ≡ cores → IsRow cores (ts ++ symbol Semicolon ∷ []) cells
+  row : (ts : List Term) (cells : List (Option Shape)) → AreFields ts cells → length cells ≡ cores
+      → IsRow cores (ts ++ symbol Semicolon ∷ []) cells

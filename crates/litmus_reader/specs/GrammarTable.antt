@@ -1,21 +1,23 @@
 -- Which tokens spell which rows, and the instructions that these say. (This project's profile.)
-use Rattle.std.specs.Prelude.{◌<◌, ◌≤◌, ℕ, zero, suc, ◌^◌, Bool, true, List, [], ◌∷◌, ◌++◌, length, All, IfSome, Option, Some, None, ◌||◌, false, codes}
+use Rattle.std.specs.Prelude.{◌<◌, ◌≤◌, ℕ, ◌^◌, Bool, true, List, [], ◌∷◌, ◌++◌, length, All, IfSome, Option, Some, None, ◌||◌, false, codes, slice_index_or}
 use Rattle.tso_model.specs.declared.instruction.Instr.{Instr}
 use Rattle.tso_model.specs.declared.instruction.Instr.TheVariants.{StoreImm, StoreReg, Load, SetImm, SetReg, Fence, Xchg, Xadd}
 use Rattle.tso_model.specs.Limits.{most_instructions, most_locations}
 use Rattle.litmus_tokens.specs.declared.token.Symbol.TheVariants.{Tilde}
 use Rattle.litmus_tokens.specs.Terms.{Term, name}
-use Rattle.litmus_tokens.specs.Front.{is_symbol_term, is_symbol}
+use Rattle.litmus_tokens.specs.Front.{is_symbol}
 use Rattle.litmus_reader.specs.GrammarNames.{numbered, location, number_of}
 use Rattle.litmus_reader.specs.GrammarRows.{IsRow}
 use Rattle.std.specs.Str.{bytes_eq}
 use Rattle.litmus_tokens.specs.Pieces.{Piece}
 use Rattle.litmus_reader.specs.Written.{Shape, store_imm, store_reg, load, set_imm, set_reg, fence, xchg, xadd}
+use Rattle.std.specs.List.{flat_map}
 
 -- rows one after the other
 pub data AreRows (cores : ℕ) : List Term → List (List (Option Shape)) → Type 0 where
   none : AreRows cores [] []
-  more : (ts us : List Term) (row : List (Option Shape)) (others : List (List (Option Shape))) → IsRow cores ts row → AreRows cores us others → AreRows cores (ts ++ us) (row ∷ others)
+  more : (ts us : List Term) (row : List (Option Shape)) (others : List (List (Option Shape)))
+      → IsRow cores ts row → AreRows cores us others → AreRows cores (ts ++ us) (row ∷ others)
 
 -- `locations`, `exists` and `forall`
 abbrev pub ends_rows_term : Term → Bool
@@ -27,35 +29,19 @@ unfoldable pub ends_rows : List Piece → Bool
 ends_rows [] = true
 ends_rows (p ∷ ps) = ends_rows_term p.term || is_symbol Tilde p
 
--- nothing stands there, or a token with which no row begins
-abbrev pub ends_table : List Term → Bool
-ends_table [] = true
-ends_table (t ∷ ts) = ends_rows_term t || is_symbol_term Tilde t
-
 -- ---- the instructions
 
 abbrev pub in_field : Option Shape → List Shape
 in_field None = []
 in_field (Some shape) = shape ∷ []
 
--- the instructions of a row, and those of all rows, from the first row down
-abbrev pub in_row : List (Option Shape) → List Shape
-in_row [] = []
-in_row (c ∷ cells) = in_field c ++ in_row cells
-
+-- the instructions of all rows, from the first row down
 abbrev pub in_rows : List (List (Option Shape)) → List Shape
-in_rows [] = []
-in_rows (row ∷ others) = in_row row ++ in_rows others
+in_rows table = flat_map (flat_map in_field) table
 
--- what a row has in a core's column, and the instructions of that column from top to bottom
-abbrev pub field_of : ℕ → List (Option Shape) → List Shape
-field_of core [] = []
-field_of zero (c ∷ cells) = in_field c
-field_of (suc core) (c ∷ cells) = field_of core cells
-
+-- the instructions of a core's column, from top to bottom
 abbrev pub column : ℕ → List (List (Option Shape)) → List Shape
-column core [] = []
-column core (row ∷ others) = field_of core row ++ column core others
+column core table = flat_map (λ row. in_field (slice_index_or row core None)) table
 
 -- the location that an instruction names, if it does
 abbrev pub location_in : Shape → List (List ℕ)
@@ -72,10 +58,9 @@ number_in (store_imm x v) = Some v
 number_in (set_imm reg v) = Some v
 number_in others = None
 
--- the locations that all name, in their order
-abbrev pub named_by_all : List Shape → List (List ℕ)
-named_by_all [] = []
-named_by_all (shape ∷ others) = location_in shape ++ named_by_all others
+-- the locations that the rows name, in their order
+abbrev pub named_in : List (List (Option Shape)) → List (List ℕ)
+named_in table = flat_map location_in (in_rows table)
 
 -- the instruction, where these are the names of the locations by their numbers
 abbrev pub instr_with : List (List ℕ) → Shape → Instr
@@ -94,8 +79,8 @@ instr_with names (xadd x reg) = Xadd (location (number_of names x)) reg
 abbrev pub ValueFits : Shape → Type 0
 ValueFits shape = IfSome (number_in shape) (λ v. v < 2 ^ 32)
 
--- behind what named these locations, rows are within the limits of a test
+-- after what named these locations, rows are within the limits of a test
 pub record AreWithin (names : List (List ℕ)) (table : List (List (Option Shape))) : Type 0 where
   pub values : All ValueFits (in_rows table)
   pub few : (core : ℕ) → length (column core table) ≤ most_instructions
-  pub room : length (numbered names (named_by_all (in_rows table))) ≤ most_locations
+  pub room : length (numbered names (named_in table)) ≤ most_locations

@@ -1,27 +1,20 @@
 -- Which bytes spell a header line, information lines, and the brackets of `locations [..]`. White space and comments,
 -- and that they end, are the lexical layer's. (This project's profile.)
 use Rattle.std.specs.Prelude.{◌≡◌, ℕ, Bool, List, [], ◌∷◌, ◌++◌, codes, None, Ok, IsTrue, IsFalse, ◌==◌, not, ◌-◌, false, length, take, drop, nat_eq, Option, Some, ◌&&◌, ◌||◌, if◌then◌else◌}
-use Rattle.std.specs.List.{list_all, prefix_len, suffix_len, starts_with}
+use Rattle.std.specs.List.{list_all, prefix_len, suffix_len, starts_with, before_first, after_first}
 use Rattle.std.specs.Char.{is_ascii_alphabetic, is_ascii_alphanumeric}
 use Rattle.tso_model.specs.Names.{is_test_name}
 use Rattle.litmus_tokens.specs.Gap.{gap_end}
 
--- behind white space and comments stand these bytes
+-- after white space and comments stand these bytes
 abbrev pub IsBehindGap : List ℕ → List ℕ → Type 0
 IsBehindGap bytes at = gap_end None bytes ≡ Ok at
 
--- ---- lines
-
--- not LF
-abbrev pub is_in_line : ℕ → Bool
-is_in_line b = not (b == 10)
-
--- bytes that begin with this line, and what stands behind it
-pub data EndsLine : List ℕ → List ℕ → List ℕ → Type 0 where
-  with_feed : (line behind : List ℕ) → IsTrue (list_all is_in_line line) → EndsLine (line ++ 10 ∷ behind) line behind
-  at_end : (line : List ℕ) → IsTrue (list_all is_in_line line) → EndsLine line line []
-
 -- ---- the header line
+
+-- the line at the front without its LF, and what stands after it
+unfoldable pub first_line : List ℕ → List ℕ × List ℕ
+first_line bytes = (before_first (λ b. b == 10) bytes, after_first (λ b. b == 10) bytes)
 
 -- space and tab
 abbrev pub is_blank : ℕ → Bool
@@ -41,28 +34,17 @@ abbrev pub begins_blank : List ℕ → Bool
 begins_blank [] = false
 begins_blank (b ∷ bs) = is_blank b
 
--- the name in a header line: behind `X86` and at least one space or tab
+-- the name in a header line: after `X86` and at least one space or tab
 unfoldable pub name_in : List ℕ → Option (List ℕ)
 name_in line = if starts_with nat_eq line (codes "X86") && begins_blank (drop 3 line) then Some (trimmed (drop 3 line)) else None
 
--- `X86`, a space or tab, and the name with spaces, tabs and CRs before and behind it
-pub record NamesTest (line name : List ℕ) : Type 0 where
-  pub blank : ℕ
-  pub before : List ℕ
-  pub after : List ℕ
-  pub parts : line ≡ codes "X86" ++ blank ∷ before ++ name ++ after
-  pub is_blank : IsTrue (is_blank blank)
-  pub margin_before : IsTrue (list_all is_margin before)
-  pub margin_after : IsTrue (list_all is_margin after)
-  pub good : IsTrue (is_test_name name)
-
--- a text that begins with a header line of this name, and what stands behind that line
+-- a text that begins with a header line of this name, and what stands after that line
 pub record IsHeaderLine (text name behind : List ℕ) : Type 0 where
   pub at : List ℕ
-  pub line : List ℕ
   pub gap : IsBehindGap text at
-  pub ends : EndsLine at line behind
-  pub names : NamesTest line name
+  pub names : name_in (first_line at).0 ≡ Some name
+  pub good : IsTrue (is_test_name name)
+  pub rest : behind ≡ (first_line at).1
 
 -- ---- information lines
 
@@ -74,22 +56,25 @@ continues_key b = is_ascii_alphanumeric b || (b == 95) || (b == 45) || (b == 32)
 abbrev pub is_quoted : ℕ → Bool
 is_quoted b = not (b == 34)
 
--- bytes that begin with a quotation or a key line, and what stands behind it
+-- bytes that begin with a quotation or a key line, and what stands after it
 pub data IsInformation : List ℕ → List ℕ → Type 0 where
   -- `"..."`
-  quotation : (inside behind : List ℕ) → IsTrue (list_all is_quoted inside) → IsInformation (34 ∷ inside ++ 34 ∷ behind) behind
+  quotation : (inside behind : List ℕ) → IsTrue (list_all is_quoted inside)
+      → IsInformation (34 ∷ inside ++ 34 ∷ behind) behind
   -- a letter, then letters, digits, `_`, `-`, spaces and tabs, then `=` and anything to the line's end
-  key_line : (letter : ℕ) (key rest value behind : List ℕ) → IsTrue (is_ascii_alphabetic letter) → IsTrue (list_all continues_key key) → EndsLine rest value behind
-      → IsInformation (letter ∷ key ++ 61 ∷ rest) behind
+  key_line : (b : ℕ) (key bs : List ℕ) → IsTrue (is_ascii_alphabetic b)
+      → IsTrue (list_all continues_key key) → IsInformation (b ∷ key ++ 61 ∷ bs) (first_line bs).1
 
--- bytes that begin with any number of these, and what stands from the `{` behind them on
+-- bytes that begin with any number of these, and what stands from the `{` after them on
 pub data AreInformationLines : List ℕ → List ℕ → Type 0 where
-  none : (bytes rest : List ℕ) → IsBehindGap bytes (123 ∷ rest) → AreInformationLines bytes (123 ∷ rest)
-  more : (bytes at behind braces : List ℕ) → IsBehindGap bytes at → IsInformation at behind → AreInformationLines behind braces → AreInformationLines bytes braces
+  none : (bytes bs : List ℕ) → IsBehindGap bytes (123 ∷ bs) → AreInformationLines bytes (123 ∷ bs)
+  more : (bytes at behind braces : List ℕ) → IsBehindGap bytes at → IsInformation at behind
+      → AreInformationLines behind braces → AreInformationLines bytes braces
 
 -- ---- `locations [..]`
 
--- bytes with a `]` outside comments, and what stands behind the first
+-- bytes with a `]` outside comments, and what stands after the first
 pub data ClosesBrackets : List ℕ → List ℕ → Type 0 where
   here : (bytes rest : List ℕ) → IsBehindGap bytes (93 ∷ rest) → ClosesBrackets bytes rest
-  further : (bytes : List ℕ) (b : ℕ) (bs rest : List ℕ) → IsBehindGap bytes (b ∷ bs) → IsFalse (b == 93) → ClosesBrackets bs rest → ClosesBrackets bytes rest
+  further : (bytes : List ℕ) (b : ℕ) (bs rest : List ℕ) → IsBehindGap bytes (b ∷ bs)
+      → IsFalse (b == 93) → ClosesBrackets bs rest → ClosesBrackets bytes rest

@@ -1,6 +1,6 @@
 -- The size of a text and its header line. (This project's profile.)
-use Rattle.std.specs.Prelude.{ℕ, List, length, Option, Some, None, Result, Ok, Err, nat_lt, ◌==◌, ◌&&◌, if◌then◌else◌}
-use Rattle.std.specs.List.{list_all, before_first, after_first}
+use Rattle.std.specs.Prelude.{ℕ, List, length, Option, Some, None, Result, Ok, Err, nat_lt, ◌&&◌, if◌then◌else◌}
+use Rattle.std.specs.List.{list_all}
 use Rattle.tso_model.specs.Limits.{longest_test_name}
 use Rattle.tso_model.specs.Names.{is_test_name, is_printable}
 use Rattle.litmus_tokens.specs.declared.token.Stop.{Stop}
@@ -10,7 +10,7 @@ use Rattle.litmus_reader.specs.declared.fault.Why.TheVariants.{NoHeader, Unclose
 use Rattle.litmus_reader.specs.declared.fault.Fault.{Fault}
 use Rattle.litmus_reader.specs.Faults.{◌>>=◌}
 use Rattle.litmus_reader.specs.Places.{fault, at_stop}
-use Rattle.litmus_reader.specs.GrammarText.{name_in}
+use Rattle.litmus_reader.specs.GrammarText.{first_line, name_in}
 
 -- the text, if it isn't too large; else the fault has line 1
 abbrev pub sized : List ℕ → Result (List ℕ) Fault
@@ -21,10 +21,6 @@ abbrev pub from_gap : Result (List ℕ) Stop → Result (List ℕ) Fault
 from_gap (Ok bytes) = Ok bytes
 from_gap (Err stop) = Err (at_stop (fault Unclosed 0) stop)
 
--- the line at the front without its LF, and what stands behind it
-unfoldable pub first_line : List ℕ → List ℕ × List ℕ
-first_line bytes = (before_first (λ b. b == 10) bytes, after_first (λ b. b == 10) bytes)
-
 -- the name of a header line at this place, judged: a name that is too long is too large if its bytes are good
 unfoldable pub judged : ℕ → Option (List ℕ) → Result (List ℕ) Fault
 judged left None = Err (fault NoHeader left)
@@ -33,7 +29,7 @@ judged left (Some name) =
     else if nat_lt longest_test_name (length name) && list_all is_printable name then Err (fault TooLarge left)
     else Err (fault NoHeader left)
 
--- the name of the test, and what stands behind the header line
+-- the name of the test, and what stands after the header line
 unfoldable pub header_at : List ℕ → Result (List ℕ × List ℕ) Fault
 header_at text = do
   at ← from_gap (gap_end None text)

@@ -6,11 +6,11 @@ use Rattle.litmus_tokens.specs.Gap.{gap_end}
 use Rattle.litmus_reader.specs.declared.fault.Why.TheVariants.{Unclosed, BadToken}
 use Rattle.litmus_reader.specs.declared.fault.Fault.{Fault}
 use Rattle.litmus_reader.specs.Faults.{◌>>=◌}
-use Rattle.litmus_reader.specs.Header.{from_gap, first_line}
+use Rattle.litmus_reader.specs.Header.{from_gap}
 use Rattle.litmus_reader.specs.Places.{fault}
-use Rattle.litmus_reader.specs.GrammarText.{continues_key}
+use Rattle.litmus_reader.specs.GrammarText.{first_line, continues_key}
 
--- what stands behind the next quotation mark; no comment is looked for before it
+-- what stands after the next quotation mark; no comment is looked for before it
 unfoldable pub quotation_end : List ℕ → Option (List ℕ)
 quotation_end [] = None
 quotation_end (b ∷ bs) = if b == 34 then Some bs else quotation_end bs
@@ -20,16 +20,16 @@ abbrev pub closed_quotation : ℕ → Option (List ℕ) → Result (List ℕ) Fa
 closed_quotation left (Some rest) = Ok rest
 closed_quotation left None = Err (fault Unclosed left)
 
--- what stands behind a key's `=` and the rest of its line
+-- what stands after a key's `=` and the rest of its line
 abbrev pub key_value : ℕ → List ℕ → Result (List ℕ) Fault
 key_value left [] = Err (fault BadToken left)
 key_value left (b ∷ bs) = if b == 61 then Ok (first_line bs).1 else Err (fault BadToken left)
 
--- what stands behind the key line that begins here
+-- what stands after the key line that begins here
 abbrev pub key_line_end : List ℕ → Result (List ℕ) Fault
 key_line_end bytes = key_value (length bytes) (drop (prefix_len continues_key bytes) bytes)
 
--- what stands behind the quotation or the key line at the front; the text must not end here
+-- what stands after the quotation or the key line at the front; the text must not end here
 unfoldable pub information_end : List ℕ → Result (List ℕ) Fault
 information_end [] = Err (fault Unclosed 0)
 information_end (b ∷ bs) =
@@ -42,7 +42,7 @@ unfoldable pub begins_initial : List ℕ → Bool
 begins_initial [] = false
 begins_initial (b ∷ bs) = b == 123
 
--- what stands from the `{` on, behind fewer than n information lines
+-- what stands from the `{` on, after fewer than n information lines
 unfoldable pub braces_within : ℕ → List ℕ → Result (List ℕ) Fault
 braces_within zero bytes = Err (fault Unclosed 0)
 braces_within (suc n) bytes =

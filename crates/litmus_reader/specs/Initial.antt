@@ -1,5 +1,5 @@
 -- The initial state. (This project's profile.)
-use Rattle.std.specs.Prelude.{ℕ, ◌≡◌, map, ◌-◌, zero, suc, Bool, List, [], ◌∷◌, ◌++◌, length, replicate, Result, Ok, Err, nat_lt, slice_index_or, slice_set, ◌==◌, ◌&&◌, if◌then◌else◌}
+use Rattle.std.specs.Prelude.{ℕ, ◌≡◌, map, ◌-◌, zero, suc, Bool, List, [], ◌∷◌, ◌++◌, length, replicate, Result, Ok, Err, nat_lt, slice_index_or, slice_set, ◌==◌, ◌&&◌, if◌then◌else◌, false, ◌||◌}
 use Rattle.std.specs.List.{list_any}
 use Rattle.std.specs.Str.{bytes_eq}
 use denote.Ref.{Bor}
@@ -9,7 +9,7 @@ use Rattle.tso_model.specs.declared.register.Reg.{Reg}
 use Rattle.litmus_tokens.specs.declared.token.Stop.{Stop}
 use Rattle.litmus_tokens.specs.declared.token.Symbol.TheVariants.{OpenCurly, CloseCurly, Semicolon}
 use Rattle.litmus_tokens.specs.Pieces.{Piece}
-use Rattle.litmus_tokens.specs.Front.{symbol_at}
+use Rattle.litmus_tokens.specs.Front.{symbol_at, is_symbol}
 use Rattle.litmus_reader.specs.declared.fault.Why.TheVariants.{BadToken, Unclosed, TwiceInit}
 use Rattle.litmus_reader.specs.declared.fault.Fault.{Fault}
 use Rattle.litmus_reader.specs.declared.fault.Part.{Part}
@@ -20,7 +20,6 @@ use Rattle.litmus_reader.specs.Locations.{located}
 use Rattle.litmus_reader.specs.Items.{setting_at, word_at, core_of}
 use Rattle.litmus_reader.specs.Places.{fault, at_stop, left_of, unfit, in_initial}
 use Rattle.litmus_reader.specs.Written.{Setting, of_register, of_location}
-use Rattle.litmus_reader.specs.RefusedInitial.{ends_item}
 
 -- before its `{`
 abbrev pub before_initial : Stop → Part
@@ -79,6 +78,11 @@ judged left i (of_location x v) =
     if nat_lt loc.0.0 (length i.words) then Err (fault TwiceInit left)
     else Ok (initial loc.1 (i.words ++ value ∷ []) i.registers)
 
+-- whether an item ends here, by `;` or `}`
+unfoldable pub ends_item : List Piece → Bool
+ends_item [] = false
+ends_item (p ∷ ps) = is_symbol Semicolon p || is_symbol CloseCurly p
+
 -- the item at the front, judged once its end is there, and what stands from that end on
 unfoldable pub item_in : Part → Initial → List Piece → Result (Initial × List Piece) Fault
 item_in part i ps =
@@ -90,22 +94,22 @@ item_in part i ps =
 unfoldable pub step_in : Part → Initial → List Piece → Result (Initial × List Piece) Fault
 step_in part i ps = there (symbol_at Semicolon ps) (λ rest. Ok (i, rest)) (item_in part i ps)
 
--- what stands before the `}`, in at most n steps, and what stands behind it
+-- what stands before the `}`, in at most n steps, and what stands after it
 unfoldable pub items_within : ℕ → Part → Initial → List Piece → Result (Initial × List Piece) Fault
 items_within zero part i ps = Err (unfit part ps)
 items_within (suc n) part i ps =
     there (symbol_at CloseCurly ps) (λ rest. Ok (i, rest))
     (step_in part i ps >>= λ read. items_within n part read.0 read.1)
 
--- all items, parted by `;`, and what stands behind the `}`; each step takes a token or more
+-- all items, separated by `;`, and what stands after the `}`; each step takes a token or more
 unfoldable pub items_at : Part → List (List ℕ) → List Piece → Result (Initial × List Piece) Fault
 items_at part names ps = items_within (length ps) part (initial names [] []) ps
 
--- what stands behind its `{`
+-- what stands after its `{`
 abbrev pub opened_at : Stop → List Piece → Result (List Piece) Fault
 opened_at stop ps = or_unfit (before_initial stop) ps (symbol_at OpenCurly ps)
 
--- the initial state, and what stands behind it; there are no names before it
+-- the initial state, and what stands after it; there are no names before it
 unfoldable pub initial_at : Stop → List (List ℕ) → List Piece → Result (Initial × List Piece) Fault
 initial_at stop names ps = do
   rest ← opened_at stop ps

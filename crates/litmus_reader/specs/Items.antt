@@ -4,7 +4,8 @@ use Rattle.tso_model.specs.Names.{is_location_name}
 use Rattle.tso_model.specs.Registers.{register_named}
 use Rattle.tso_model.specs.declared.register.Reg.{Reg}
 use Rattle.litmus_tokens.specs.declared.token.Symbol.TheVariants.{Equals, Colon, OpenSquare, CloseSquare}
-use Rattle.litmus_tokens.specs.Terms.{decimal, word_of}
+use Rattle.decimals.specs.Decimals.{decimal_value}
+use Rattle.litmus_tokens.specs.Terms.{word_of}
 use Rattle.litmus_tokens.specs.Pieces.{Piece}
 use Rattle.litmus_tokens.specs.Front.{symbol_at, name_at, number_at}
 use Rattle.litmus_reader.specs.declared.fault.Why.TheVariants.{BadNumber, NoSuchCore}
@@ -17,8 +18,8 @@ use Rattle.litmus_reader.specs.Places.{fault}
 use Rattle.litmus_reader.specs.Written.{Setting, of_register, of_location}
 
 abbrev pub setting_of : Item → Setting
-setting_of (code.Register core reg value) = of_register core.now reg (decimal value.now)
-setting_of (code.Location name value) = of_location name.now (decimal value.now)
+setting_of (code.Register core reg value) = of_register core.now reg (decimal_value value.now)
+setting_of (code.Location name value) = of_location name.now (decimal_value value.now)
 
 abbrev pub if_location : List ℕ × List Piece → Option (List ℕ × List Piece)
 if_location found = if is_location_name found.0 then Some found else None
@@ -39,9 +40,9 @@ unfoldable pub value_at : Part → List Piece → Result (ℕ × List Piece) Fau
 value_at part ps = do
   rest ← or_unfit part ps (symbol_at Equals ps)
   digits ← or_unfit part rest (number_at rest)
-  Ok (decimal digits.0, digits.1)
+  Ok (decimal_value digits.0, digits.1)
 
--- `:REG=v`, behind its core
+-- `:REG=v`, after its core
 unfoldable pub register_setting : Part → List ℕ → List Piece → Result (Setting × List Piece) Fault
 register_setting part core ps = do
   rest ← or_unfit part ps (symbol_at Colon ps)
@@ -49,7 +50,7 @@ register_setting part core ps = do
   value ← value_at part reg.1
   Ok (of_register core reg.0 value.0, value.1)
 
--- `x]=v`, behind its `[`
+-- `x]=v`, after its `[`
 unfoldable pub square_setting : Part → List Piece → Result (Setting × List Piece) Fault
 square_setting part ps = do
   x ← or_unfit part ps (location_at ps)
@@ -80,4 +81,4 @@ word_at left n = or_bad_number left (word_of n)
 
 -- a core of the test; any other, of whatever size, is refused
 abbrev pub core_of : ℕ → ℕ → List ℕ → Result ℕ Fault
-core_of cores left digits = if nat_lt (decimal digits) cores then Ok (decimal digits) else Err (fault NoSuchCore left)
+core_of cores left digits = if nat_lt (decimal_value digits) cores then Ok (decimal_value digits) else Err (fault NoSuchCore left)

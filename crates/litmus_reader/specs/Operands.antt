@@ -2,7 +2,7 @@
 use Rattle.std.specs.Prelude.{ℕ, List, [], ◌∷◌, Option, Some, None}
 use Rattle.tso_model.specs.declared.register.Reg.{Reg}
 use Rattle.litmus_tokens.specs.declared.token.Symbol.TheVariants.{OpenSquare, CloseSquare, Comma, Dollar}
-use Rattle.litmus_tokens.specs.Terms.{decimal}
+use Rattle.decimals.specs.Decimals.{decimal_value}
 use Rattle.litmus_tokens.specs.Pieces.{Piece}
 use Rattle.litmus_tokens.specs.Front.{symbol_at, number_at}
 use Rattle.litmus_reader.specs.declared.operand.Operand.{Operand}
@@ -19,26 +19,26 @@ pub data Place : Type 0 where
 abbrev pub place_of : Operand → Place
 place_of (code.Location name) = in_memory name.now
 place_of (code.Register reg) = in_register reg
-place_of (code.Number digits) = constant (decimal digits.now)
+place_of (code.Number digits) = constant (decimal_value digits.now)
 
 abbrev pub as_constant : List ℕ × List Piece → Option (Place × List Piece)
-as_constant found = Some (constant (decimal found.0), found.1)
+as_constant found = Some (constant (decimal_value found.0), found.1)
 
--- `v`, behind its `$`
+-- `v`, after its `$`
 abbrev pub dollar_at : List Piece → Option (Place × List Piece)
 dollar_at ps = there (number_at ps) as_constant None
 
 abbrev pub closed_memory : List ℕ × List Piece → Option (Place × List Piece)
 closed_memory found = there (symbol_at CloseSquare found.1) (λ rest. Some (in_memory found.0, rest)) None
 
--- `x]`, behind its `[`
+-- `x]`, after its `[`
 abbrev pub memory_at : List Piece → Option (Place × List Piece)
 memory_at ps = there (location_at ps) closed_memory None
 
 abbrev pub as_register : Reg × List Piece → Option (Place × List Piece)
 as_register found = Some (in_register found.0, found.1)
 
--- `v`, `$v`, `[x]` or `REG` at the front, and what stands behind it
+-- `v`, `$v`, `[x]` or `REG` at the front, and what stands after it
 unfoldable pub operand_at : List Piece → Option (Place × List Piece)
 operand_at ps =
     there (number_at ps) as_constant

@@ -5,7 +5,7 @@ use Rattle.litmus_tokens.specs.declared.token.Stop.{Stop}
 use Rattle.litmus_tokens.specs.declared.token.Stop.TheVariants as stops
 use Rattle.litmus_tokens.specs.Pieces.{Piece}
 use Rattle.litmus_reader.specs.declared.fault.Why.{Why}
-use Rattle.litmus_reader.specs.declared.fault.Why.TheVariants.{BadToken, Unclosed, BadInit, BadHeaderRow, BadCondition}
+use Rattle.litmus_reader.specs.declared.fault.Why.TheVariants.{BadToken, Unclosed, BadInit}
 use Rattle.litmus_reader.specs.declared.fault.Fault.{Fault}
 use Rattle.litmus_reader.specs.declared.fault.Part.{Part}
 
@@ -33,15 +33,9 @@ unfit part (p ∷ ps) = fault part.why p.left
 abbrev pub in_initial : ℕ → Stop → Part
 in_initial left stop = record { why = BadInit; missing = at_stop (fault Unclosed left) stop }
 
-abbrev pub in_columns : Stop → Part
-in_columns stop = record { why = BadHeaderRow; missing = at_stop (fault BadHeaderRow 0) stop }
-
-abbrev pub in_condition : Stop → Part
-in_condition stop = record { why = BadCondition; missing = at_stop (fault BadCondition 0) stop }
-
--- behind the word, where a `[` has to be
-abbrev pub behind_word : Stop → Part
-behind_word stop = record { why = BadToken; missing = at_stop (fault BadToken 0) stop }
+-- in any other part, for which the end of the text is at fault as a token is
+abbrev pub part_of : Why → Stop → Part
+part_of why stop = record { why = why; missing = at_stop (fault why 0) stop }
 
 -- the bytes from the place on from which so many stand
 abbrev pub from_place : List ℕ → ℕ → List ℕ

@@ -54,18 +54,18 @@ ending_at stop cores names ps = do
   end ← end_at stop c.rest
   Ok (c.condition, c.names)
 
--- the condition and the end, behind `locations [..]` if bytes behind it are given
+-- the condition and the end, after `locations [..]` if bytes after it are given
 abbrev pub ending_from : Stop → ℕ → List (List ℕ) → List Piece → Option (List ℕ) → Result (Option Condition × List (List ℕ)) Fault
 ending_from stop cores names ps None = ending_at stop cores names ps
 ending_from stop cores names ps (Some bytes) = ending_at (pieces_of bytes).1 cores names (pieces_of bytes).0
 
--- what stands behind the rows
+-- what stands after the rows
 unfoldable pub tail_at : List ℕ → Stop → ℕ → List (List ℕ) → List Piece → Result (Option Condition × List (List ℕ)) Fault
 tail_at text stop cores names ps = do
   behind ← observed_end text stop ps
   ending_from stop cores names ps behind
 
--- the initial state, the table and what stands behind it; the tokens are those of this end of the text
+-- the initial state, the table and what stands after it; the tokens are those of this end of the text
 unfoldable pub body_of : List ℕ → List ℕ → Stop → List Piece → Result Litmus Fault
 body_of name text stop ps = do
   initial ← initial_at stop [] ps

@@ -1,98 +1,80 @@
 -- What is at fault in a condition. (This project's profile.)
-use Rattle.std.specs.Prelude.{◌≡◌, ◌≤◌, ◌^◌, ℕ, zero, suc, ◌+◌, Bool, false, List, [], ◌∷◌, ◌++◌, codes, Some, IsTrue, IsFalse, ◌||◌}
-use Rattle.std.specs.Str.{bytes_eq}
+use Rattle.std.specs.Prelude.{◌≡◌, ◌≤◌, ◌^◌, ℕ, zero, suc, ◌+◌, List, ◌∷◌, ◌++◌, codes, IsTrue, IsFalse, ◌||◌, Bool}
 use Rattle.tso_model.specs.declared.condition.Quantifier.{Quantifier}
 use Rattle.litmus_tokens.specs.declared.token.Stop.{Stop}
-use Rattle.litmus_tokens.specs.declared.token.Symbol.{Symbol}
 use Rattle.litmus_tokens.specs.declared.token.Symbol.TheVariants.{OpenRound, CloseRound, And, Or, Tilde}
-use Rattle.litmus_tokens.specs.Terms.{Term, number, name, symbol}
+use Rattle.litmus_tokens.specs.Terms.{Term, symbol}
 use Rattle.litmus_tokens.specs.Front.{is_symbol_term}
 use Rattle.litmus_tokens.specs.Pieces.{Piece}
 use Rattle.tso_model.specs.Limits.{most_open}
-use Rattle.litmus_reader.specs.declared.fault.Why.TheVariants.{BadNumber, NoSuchCore, TooLarge}
+use Rattle.litmus_reader.specs.declared.fault.Why.TheVariants.{BadNumber, NoSuchCore, TooLarge, BadCondition}
 use Rattle.litmus_reader.specs.declared.fault.Fault.{Fault}
 use Rattle.litmus_reader.specs.Grammar.{terms}
-use Rattle.litmus_reader.specs.GrammarNames.{numbered}
-use Rattle.litmus_reader.specs.GrammarItems.{IsSetting}
+use Rattle.litmus_reader.specs.GrammarNames.{numbered, Names}
 use Rattle.litmus_reader.specs.GrammarInitial.{value_of, has_core}
-use Rattle.litmus_reader.specs.GrammarConditions.{IsAtom, AreJoined, IsConjunction, IsProposition, IsUnit, locations_in, atoms_of, Fits, IsWithin, begins_with, IsQuantifier}
-use Rattle.litmus_reader.specs.Misfits.{misfit, setting_slots}
-use Rattle.litmus_reader.specs.Places.{fault, left_of, unfit, in_condition}
-use Rattle.litmus_reader.specs.Written.{Setting, Phrase, both, either}
+use Rattle.litmus_reader.specs.GrammarConditions.{IsAtom, IsProposition, IsUnit, locations_in, atoms_of, Fits, IsWithin, IsQuantifier, IsCondition, is_negation}
+use Rattle.litmus_reader.specs.Misfits.{Misfits, begins_with, is_word}
+use Rattle.litmus_reader.specs.Places.{fault, left_of, unfit, part_of}
+use Rattle.litmus_reader.specs.Written.{Setting, Phrase, atom}
+use Rattle.litmus_reader.specs.declared.fault.Why.{Why}
 
--- whether the token is this word
-abbrev pub is_word : List ℕ → Term → Bool
-is_word word (number d) = false
-is_word word (name x) = bytes_eq x word
-is_word word (symbol s) = false
+-- `~`, `not` or `(`
+abbrev pub begins_unit : Term → Bool
+begins_unit t = is_negation t || is_symbol_term OpenRound t
 
--- whether this word is at the front
-abbrev pub begins_with_word : List ℕ → List Piece → Bool
-begins_with_word word [] = false
-begins_with_word word (p ∷ ps) = is_word word p.term
+-- `/\` or `\/`
+abbrev pub joins : Term → Bool
+joins t = is_symbol_term And t || is_symbol_term Or t
 
--- `~` or `not`
-abbrev pub is_negation : Term → Bool
-is_negation t = is_symbol_term Tilde t || is_word (codes "not") t
-
--- whether a negation or a bracket is at the front
-abbrev pub begins_unit : List Piece → Bool
-begins_unit [] = false
-begins_unit (p ∷ ps) = is_negation p.term || is_symbol_term OpenRound p.term
-
--- ---- atoms
-
--- where an atom has to stand, in a test with so many cores, behind so many atoms and what named these locations
-pub data IsAtomFault (stop : Stop) (cores atoms : ℕ) (names : List (List ℕ)) (ps : List Piece) : Fault → Type 0 where
-  -- a token doesn't fit, or the tokens run out
-  unfit_token : (at : List Piece) → IsFalse (begins_with_word (codes "true") ps) → IsFalse (begins_with_word (codes "false") ps) → misfit (setting_slots ps []) ps ≡ Some at
-      → IsAtomFault stop cores atoms names ps (unfit (in_condition stop) at)
-  -- as the last token is there, at the first
-  no_such_core : (ts back : List Term) (s : Setting) → IsSetting ts s → terms ps ≡ ts ++ back → IsFalse (has_core cores s) → IsAtomFault stop cores atoms names ps (fault NoSuchCore (left_of ps))
-  bad_number : (ts back : List Term) (s : Setting) → IsSetting ts s → terms ps ≡ ts ++ back → IsTrue (has_core cores s) → 2 ^ 32 ≤ value_of s
-      → IsAtomFault stop cores atoms names ps (fault BadNumber (left_of ps))
+-- what is at fault with an atom, in a test with so many cores, after so many atoms and what named these locations
+pub data IsAtomFault (cores atoms : ℕ) (names : Names) : Phrase → Why → Type 0 where
+  no_such_core : (s : Setting) → IsFalse (has_core cores s)
+      → IsAtomFault cores atoms names (atom s) NoSuchCore
+  bad_number : (s : Setting) → IsTrue (has_core cores s) → 2 ^ 32 ≤ value_of s
+      → IsAtomFault cores atoms names (atom s) BadNumber
   -- else one location or one atom too many
-  one_too_many : (ts back : List Term) (p : Phrase) → IsAtom ts p → terms ps ≡ ts ++ back → Fits cores p → ¬ (IsWithin cores atoms names p)
-      → IsAtomFault stop cores atoms names ps (fault TooLarge (left_of ps))
-
--- ---- propositions
-
--- among parts with a symbol between them: in the first, or in one behind others
-pub data IsJoinedFault (s : Symbol) (join : Phrase → Phrase → Phrase) (IsPart : List Term → Phrase → Type 0) (IsPartFault : ℕ → List (List ℕ) → List Piece → Fault → Type 0) (cores atoms : ℕ)
-    (names : List (List ℕ)) : List Piece → Fault → Type 0 where
-  first : (ps : List Piece) (f : Fault) → IsPartFault atoms names ps f → IsJoinedFault s join IsPart IsPartFault cores atoms names ps f
-  later : (front : List Piece) (between : Piece) (ps : List Piece) (p : Phrase) (f : Fault) → AreJoined s join IsPart (terms front) p → IsWithin cores atoms names p → between.term ≡ symbol s
-      → IsPartFault (atoms + atoms_of p) (numbered names (locations_in p)) ps f → IsJoinedFault s join IsPart IsPartFault cores atoms names (front ++ between ∷ ps) f
-
-abbrev pub IsPropositionFault : (List Term → Phrase → Type 0) → (ℕ → List (List ℕ) → List Piece → Fault → Type 0) → ℕ → ℕ → List (List ℕ) → List Piece → Fault → Type 0
-IsPropositionFault IsUnit IsUnitFault cores = IsJoinedFault Or either (IsConjunction IsUnit) (IsJoinedFault And both IsUnit IsUnitFault cores) cores
-
--- where a unit has to stand in which no more negations and brackets may be open
-pub data IsLastUnitFault (stop : Stop) (cores atoms : ℕ) (names : List (List ℕ)) (ps : List Piece) : Fault → Type 0 where
-  one_open_too_many : IsTrue (begins_unit ps) → IsLastUnitFault stop cores atoms names ps (fault TooLarge (left_of ps))
-  in_atom : (f : Fault) → IsFalse (begins_unit ps) → IsAtomFault stop cores atoms names ps f → IsLastUnitFault stop cores atoms names ps f
-
--- where a unit has to stand whose own units are so, and are refused so
-pub data IsUnitFaultOf (stop : Stop) (IsInner : List Term → Phrase → Type 0) (IsInnerFault : ℕ → List (List ℕ) → List Piece → Fault → Type 0) (cores atoms : ℕ) (names : List (List ℕ))
-    : List Piece → Fault → Type 0 where
-  in_atom : (ps : List Piece) (f : Fault) → IsFalse (begins_unit ps) → IsAtomFault stop cores atoms names ps f → IsUnitFaultOf stop IsInner IsInnerFault cores atoms names ps f
-  behind_negation : (p : Piece) (ps : List Piece) (f : Fault) → IsTrue (is_negation p.term) → IsInnerFault atoms names ps f → IsUnitFaultOf stop IsInner IsInnerFault cores atoms names (p ∷ ps) f
-  in_brackets : (p : Piece) (ps : List Piece) (f : Fault) → p.term ≡ symbol OpenRound → IsPropositionFault IsInner IsInnerFault cores atoms names ps f
-      → IsUnitFaultOf stop IsInner IsInnerFault cores atoms names (p ∷ ps) f
-  -- a whole proposition stands in the brackets, and neither goes on nor is followed by `)`
-  no_bracket : (p : Piece) (front at : List Piece) (phrase : Phrase) → p.term ≡ symbol OpenRound → IsProposition IsInner (terms front) phrase → IsWithin cores atoms names phrase
-      → IsFalse (begins_with And (terms at)) → IsFalse (begins_with Or (terms at)) → IsFalse (begins_with CloseRound (terms at))
-      → IsUnitFaultOf stop IsInner IsInnerFault cores atoms names (p ∷ front ++ at) (unfit (in_condition stop) at)
+  one_too_many : (p : Phrase) → Fits cores p → ¬ (IsWithin cores atoms names p)
+      → IsAtomFault cores atoms names p TooLarge
 
 -- where a unit has to stand, in which n negations and brackets may be open at once
-abbrev pub IsUnitFault : Stop → ℕ → ℕ → ℕ → List (List ℕ) → List Piece → Fault → Type 0
-IsUnitFault stop cores zero = IsLastUnitFault stop cores
-IsUnitFault stop cores (suc n) = IsUnitFaultOf stop (IsUnit n) (IsUnitFault stop cores n) cores
+pub data IsUnitFault (stop : Stop) (cores : ℕ) : ℕ → ℕ → Names → List Piece → Fault → Type 0 where
+  -- a token doesn't fit, or the tokens run out
+  unfit_token : (n atoms : ℕ) (names : Names) (ps at : List Piece)
+      → IsFalse (begins_with begins_unit (terms ps))
+      → Misfits (λ ts. (p : Phrase) × IsAtom ts p) ps at
+      → IsUnitFault stop cores n atoms names ps (unfit (part_of BadCondition stop) at)
+  -- as an atom's last token is there, at its first
+  in_atom : (n atoms : ℕ) (xs : Names) (ps : List Piece) (ts us : List Term) (p : Phrase) (y : Why)
+      → IsAtom ts p → terms ps ≡ ts ++ us → IsAtomFault cores atoms xs p y
+      → IsUnitFault stop cores n atoms xs ps (fault y (left_of ps))
+  one_open_too_many : (atoms : ℕ) (names : Names) (ps : List Piece)
+      → IsTrue (begins_with begins_unit (terms ps))
+      → IsUnitFault stop cores zero atoms names ps (fault TooLarge (left_of ps))
+  -- in the unit after `~`, `not` or `(`
+  inner : (n atoms : ℕ) (names : Names) (p : Piece) (ps : List Piece) (f : Fault)
+      → IsTrue (begins_unit p.term) → IsUnitFault stop cores n atoms names ps f
+      → IsUnitFault stop cores (suc n) atoms names (p ∷ ps) f
+  -- in brackets, in a unit after others
+  later : (n atoms : ℕ) (names : Names) (o by : Piece) (qs ps : List Piece) (p : Phrase) (f : Fault)
+      → o.term ≡ symbol OpenRound → IsProposition (IsUnit n) (terms qs) p
+      → IsWithin cores atoms names p → IsTrue (joins by.term)
+      → IsUnitFault stop cores n (atoms + atoms_of p) (numbered names (locations_in p)) ps f
+      → IsUnitFault stop cores (suc n) atoms names (o ∷ qs ++ by ∷ ps) f
+  -- a whole proposition stands in brackets, and neither goes on nor is followed by `)`
+  no_close : (n atoms : ℕ) (names : Names) (o : Piece) (front at : List Piece) (p : Phrase)
+      → o.term ≡ symbol OpenRound → IsProposition (IsUnit n) (terms front) p
+      → IsWithin cores atoms names p
+      → IsFalse (begins_with (λ t. joins t || is_symbol_term CloseRound t) (terms at))
+      → IsUnitFault stop cores (suc n) atoms names (o ∷ front ++ at) (unfit (part_of BadCondition stop) at)
 
--- ---- conditions
-
-pub data IsConditionFault (stop : Stop) (cores : ℕ) (names : List (List ℕ)) : List Piece → Fault → Type 0 where
-  in_proposition : (front ps : List Piece) (quantifier : Quantifier) (f : Fault) → IsQuantifier (terms front) quantifier
-      → IsPropositionFault (IsUnit most_open) (IsUnitFault stop cores most_open) cores 0 names ps f → IsConditionFault stop cores names (front ++ ps) f
-  -- `~` without `exists` behind it
-  no_exists : (p : Piece) (ps : List Piece) → p.term ≡ symbol Tilde → IsFalse (begins_with_word (codes "exists") ps) → IsConditionFault stop cores names (p ∷ ps) (unfit (in_condition stop) ps)
+pub data IsConditionFault (stop : Stop) (cores : ℕ) (xs : Names) : List Piece → Fault → Type 0 where
+  first : (qs ps : List Piece) (q : Quantifier) (f : Fault) → IsQuantifier (terms qs) q
+      → IsUnitFault stop cores most_open 0 xs ps f → IsConditionFault stop cores xs (qs ++ ps) f
+  later : (front ps : List Piece) (between : Piece) (q : Quantifier) (p : Phrase) (f : Fault)
+      → IsCondition (terms front) q p → IsWithin cores 0 xs p → IsTrue (joins between.term)
+      → IsUnitFault stop cores most_open (atoms_of p) (numbered xs (locations_in p)) ps f
+      → IsConditionFault stop cores xs (front ++ between ∷ ps) f
+  -- `~` without `exists` after it
+  no_exists : (p : Piece) (ps : List Piece) → p.term ≡ symbol Tilde
+      → IsFalse (begins_with (is_word (codes "exists")) (terms ps))
+      → IsConditionFault stop cores xs (p ∷ ps) (unfit (part_of BadCondition stop) ps)

@@ -16,7 +16,7 @@ use Rattle.litmus_reader.specs.Places.{fault, at_stop, left_of}
 use Rattle.litmus_reader.specs.RefusedTable.{cells_of}
 use Rattle.litmus_reader.specs.GrammarTable.{ends_rows}
 
--- a row, and what stands behind its `;`; one without a `;` is unclosed
+-- a row, and what stands after its `;`; one without a `;` is unclosed
 unfoldable pub row_at : Stop → List Piece → Result (List Piece × List Piece) Fault
 row_at stop ps =
     if nat_lt (position_or_len (is_symbol Semicolon) ps) (length ps)
@@ -33,7 +33,7 @@ row_in cores left instrs names row = do
   cells ← counted cores left (cells_of row)
   cells_in 0 instrs names cells
 
--- what all rows give: the instructions, the names of locations, and what stands behind the rows
+-- what all rows give: the instructions, the names of locations, and what stands after the rows
 pub record Rows : Type 0 where
   pub instrs : List CoreInstr
   pub names : List (List ℕ)

@@ -25,6 +25,8 @@ pub record IsRefused (text : List ℕ) (refusal : TextFault) : Type 0 where
 -- each text spells one test or gets one refusal, and never both
 pub record IsDecided (text : List ℕ) : Type 0 where
   pub one_test : (t other : Litmus) → SpellsTest text t → SpellsTest text other → t ≡ other
-  pub one_refusal : (refusal other : TextFault) → IsRefused text refusal → IsRefused text other → refusal ≡ other
-  pub never_both : (t : Litmus) (refusal : TextFault) → SpellsTest text t → IsRefused text refusal → ⊥
+  pub one_refusal : (refusal other : TextFault) → IsRefused text refusal → IsRefused text other
+      → refusal ≡ other
+  pub never_both : (t : Litmus) (refusal : TextFault) → SpellsTest text t → IsRefused text refusal
+      → ⊥
   pub always : ((t : Litmus) × SpellsTest text t) ⊎ ((refusal : TextFault) × IsRefused text refusal)

@@ -1,5 +1,5 @@
 -- A test as it is written: locations by their names, cores by their digits, numbers of any size. (This project's profile.)
-use Rattle.std.specs.Prelude.{ℕ, List, Option, Some, Bool}
+use Rattle.std.specs.Prelude.{ℕ, List, Option, Bool}
 use Rattle.tso_model.specs.declared.register.Reg.{Reg}
 use Rattle.tso_model.specs.declared.condition.Quantifier.{Quantifier}
 
@@ -11,29 +11,23 @@ pub data Setting : Type 0 where
 -- an instruction with the name of its location; a number of any size
 pub data Shape : Type 0 where
   store_imm : (name : List ℕ) → (value : ℕ) → Shape
-  store_reg : (name : List ℕ) → (reg : Reg) → Shape
+  store_reg xchg xadd : (name : List ℕ) → (reg : Reg) → Shape
   load : (reg : Reg) → (name : List ℕ) → Shape
   set_imm : (reg : Reg) → (value : ℕ) → Shape
   set_reg : (reg other : Reg) → Shape
   fence : Shape
-  xchg : (name : List ℕ) → (reg : Reg) → Shape
-  xadd : (name : List ℕ) → (reg : Reg) → Shape
 
 -- a proposition as it is spelled: a location is its name, a core its digits, and a number of any size
 pub data Phrase : Type 0 where
   truth : Bool → Phrase
   atom : Setting → Phrase
   negation : Phrase → Phrase
-  both : Phrase → Phrase → Phrase
-  either : Phrase → Phrase → Phrase
+  both either : Phrase → Phrase → Phrase
 
 -- a condition as it is written
 pub record Asked : Type 0 where
   pub quantifier : Quantifier
   pub phrase : Phrase
-
-abbrev pub asked : Quantifier → Phrase → Option Asked
-asked quantifier phrase = Some (record { quantifier = quantifier; phrase = phrase })
 
 -- a test as it is written: locations by their names, cores by their digits, numbers of any size
 pub record Written : Type 0 where

@@ -1,3 +1,5 @@
+//! Cells of a row, and the instructions that their forms say.
+
 ghost use Rattle.std.specs.Prelude.{◌≡◌, ◌<◌, ◌∷◌, length, position, IfSome};
 ghost use Rattle.litmus_tokens.specs.Pieces.{piece_of, pieces};
 ghost use Rattle.litmus_tokens.specs.Front as front;
@@ -72,7 +74,7 @@ fn count_of(core: usize, instrs: &[CoreInstr]) -> usize
     instrs.iter().filter(|i| i.core == core).count()
 }
 
-/// Reads a core's cell: its instruction goes behind the others.
+/// Reads a core's cell: its instruction goes after the others.
 ///
 /// `BadInstruction`, then `BadNumber`, then `TooLarge`, at the cell's first token.
 #[tactic(auto, unfolding(crate::specs::Cells::cell_in))]
@@ -112,7 +114,7 @@ pub fn place_of(symbol: Symbol, tokens: &[Token<'_>]) -> Option<usize>
     tokens.iter().position(|t| is_symbol(symbol, t))
 }
 
-/// The first cell of a row, and what stands behind its bar, if it has one.
+/// The first cell of a row, and what stands after its bar, if it has one.
 fn first_cell<'a, 'b>(row: &'b [Token<'a>]) -> (&'b [Token<'a>], Option<&'b [Token<'a>]>)
     ensures cells { cells_of (pieces row.now) ≡ pieces result.0.now ∷ cells_behind result.1 }
     ensures shorter { IfSome result.1 (λ behind. length behind.now < length row.now) }

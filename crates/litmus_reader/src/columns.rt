@@ -1,17 +1,18 @@
+//! The header row: the names of the cores, and how many there are.
+
 ghost use Rattle.std.specs.Prelude.{◌≡◌, ◌≤◌, ◌-◌, IfOk};
 ghost use Rattle.std.specs.Option.{option_map};
 ghost use Rattle.tso_model.specs.Limits.{most_cores};
 ghost use Rattle.litmus_tokens.specs.Pieces.{pieces};
 ghost use Rattle.litmus_reader.specs.Faults.{seen};
 ghost use Rattle.litmus_reader.specs.Columns as spec;
-ghost use Rattle.litmus_reader.specs.Places as places;
 
 use crate::fault::{Fault, Part, Why, at_stop, left_of};
 use litmus_tokens::{Stop, Symbol, Token, after_symbol, name_at};
 use tso_model::limits::MAX_CORES;
 
 fn in_columns(stop: Stop) -> Part
-    ensures { result ≡ places.in_columns stop }
+    ensures { result ≡ spec.in_columns stop }
 {
     let end = Fault {
         why: Why::BadHeaderRow,
@@ -23,7 +24,7 @@ fn in_columns(stop: Stop) -> Part
     }
 }
 
-/// What stands behind the name of this core.
+/// What stands after the name of this core.
 #[tactic(auto, unfolding(crate::specs::Columns::core_at))]
 fn after_core<'a, 'b>(core: usize, tokens: &'b [Token<'a>]) -> Option<&'b [Token<'a>]>
     requires { core ≤ most_cores }
@@ -37,7 +38,7 @@ fn after_core<'a, 'b>(core: usize, tokens: &'b [Token<'a>]) -> Option<&'b [Token
     }
 }
 
-/// Whether another core follows, and what stands behind the vertical bar or the `;`.
+/// Whether another core follows, and what stands after the vertical bar or the `;`.
 #[tactic(auto, unfolding(crate::specs::Columns::parting_at))]
 fn after_parting<'a, 'b>(tokens: &'b [Token<'a>]) -> Option<(bool, &'b [Token<'a>])>
     ensures { option_map (λ x. (x.0, pieces x.1.now)) result ≡ spec.parting_at (pieces tokens.now) }
@@ -51,7 +52,7 @@ fn after_parting<'a, 'b>(tokens: &'b [Token<'a>]) -> Option<(bool, &'b [Token<'a
     None
 }
 
-/// How many cores the columns from this core on make, and the tokens behind the row.
+/// How many cores the columns from this core on make, and the tokens after the row.
 #[tactic(auto, using(crate::proofs::ColumnSteps::columns_next, crate::proofs::ColumnSteps::columns_last))]
 fn columns_from<'a, 'b>(
     stop: Stop,
@@ -78,7 +79,7 @@ fn columns_from<'a, 'b>(
     }
 }
 
-/// How many cores the header row has, and the tokens behind it.
+/// How many cores the header row has, and the tokens after it.
 ///
 /// `TooLarge` at the name of a core too many, and `BadHeaderRow` at anything else that doesn't fit.
 pub fn columns_at<'a, 'b>(

@@ -1,3 +1,5 @@
+//! Conditions: atoms, units, propositions and quantifiers.
+
 ghost use Rattle.std.specs.Prelude.{◌≡◌, ◌≤◌, ◌<◌, ◌+◌, length, codes, Some, None, Ok, IfOk, IfSome};
 ghost use Rattle.std.specs.Option.{option_map};
 ghost use Rattle.tso_model.specs.Limits.{most_cores};
@@ -8,7 +10,6 @@ ghost use Rattle.litmus_reader.specs.Locations.{texts};
 ghost use Rattle.litmus_reader.specs.Items.{setting_of};
 ghost use Rattle.litmus_reader.specs.Conditions as spec;
 ghost use Rattle.litmus_reader.specs.Conditions.{claimed, conditioned};
-ghost use Rattle.litmus_reader.specs.Places as places;
 
 use crate::fault::{Fault, Part, ReadError, Why, at_stop, left_of};
 use crate::item::{Item, core_of, item_at, word_at};
@@ -22,7 +23,7 @@ use tso_model::limits::MAX_ATOMS;
 use tso_model::{Cond, Prop, Quantifier};
 
 fn in_condition(stop: Stop) -> Part
-    ensures { result ≡ places.in_condition stop }
+    ensures { result ≡ spec.in_condition stop }
 {
     let end = Fault {
         why: Why::BadCondition,
@@ -75,7 +76,7 @@ fn count_atom(left: usize, atoms: &mut usize) -> Result<(), Fault>
     Ok(())
 }
 
-/// Whether `true` or `false` is at the front, and the tokens behind it.
+/// Whether `true` or `false` is at the front, and the tokens after it.
 #[tactic(auto, unfolding(crate::specs::Conditions::truth_at))]
 fn truth_at<'a, 'b>(tokens: &'b [Token<'a>]) -> Option<(bool, &'b [Token<'a>])>
     ensures value { option_map (λ x. (x.0, pieces x.1.now)) result ≡ spec.truth_at (pieces tokens.now) }
@@ -88,7 +89,7 @@ fn truth_at<'a, 'b>(tokens: &'b [Token<'a>]) -> Option<(bool, &'b [Token<'a>])>
     Some((false, rest))
 }
 
-/// The atom of a register or a location at the front, and the tokens behind it.
+/// The atom of a register or a location at the front, and the tokens after it.
 #[tactic(auto, unfolding(crate::specs::Conditions::setting_atom))]
 fn setting_atom<'a, 'b>(
     stop: Stop,
@@ -108,7 +109,7 @@ fn setting_atom<'a, 'b>(
     Ok((prop, rest))
 }
 
-/// The atom at the front, behind so many others, and the tokens behind it.
+/// The atom at the front, after so many others, and the tokens after it.
 ///
 /// `BadCondition` at a token that doesn't fit; then, at the atom's first token, `NoSuchCore`,
 /// `BadNumber`, and `TooLarge` for a location or an atom too many.
@@ -152,7 +153,7 @@ fn or(alloc: Global, left: Prop, right: Prop) -> Result<Prop, ReadError>
     Ok(Prop::Or(Box::new(alloc, left)?, Box::new(alloc, right)?))
 }
 
-/// What stands behind a `~` or a `not`.
+/// What stands after a `~` or a `not`.
 #[tactic(auto, unfolding(crate::specs::Conditions::negation_at))]
 fn after_negation<'a, 'b>(tokens: &'b [Token<'a>]) -> Option<&'b [Token<'a>]>
     ensures value { option_map (λ x. pieces x.now) result ≡ spec.negation_at (pieces tokens.now) }
@@ -173,7 +174,7 @@ fn opens_unit(tokens: &[Token<'_>]) -> bool
 }
 
 /// The unit at the front, in which so many negations and brackets may be open at once, and the
-/// tokens behind it.
+/// tokens after it.
 ///
 /// `TooLarge` at a negation or a bracket too many.
 #[cycle(condition)]
@@ -212,7 +213,7 @@ fn unit_at<'a, 'b>(
     atom_at(stop, cores, atoms, names, tokens)
 }
 
-/// Units joined by `/\`, and the tokens behind them.
+/// Units joined by `/\`, and the tokens after them.
 #[cycle(condition)]
 fn conjunction_at<'a, 'b>(
     alloc: Global,
@@ -236,7 +237,7 @@ fn conjunction_at<'a, 'b>(
     Ok((prop, rest))
 }
 
-/// Conjunctions joined by `\/`, and the tokens behind them.
+/// Conjunctions joined by `\/`, and the tokens after them.
 #[cycle(condition)]
 fn proposition_at<'a, 'b>(
     alloc: Global,
@@ -260,7 +261,7 @@ fn proposition_at<'a, 'b>(
     Ok((prop, rest))
 }
 
-/// The condition of this quantifier, and the tokens behind it.
+/// The condition of this quantifier, and the tokens after it.
 #[tactic(auto, unfolding(crate::specs::Conditions::quantified))]
 fn quantified<'a, 'b>(
     alloc: Global,
@@ -278,7 +279,7 @@ fn quantified<'a, 'b>(
     Ok((Some(Cond { quantifier, prop }), rest))
 }
 
-/// The condition, if there is one, and the tokens behind it.
+/// The condition, if there is one, and the tokens after it.
 ///
 /// What stands in a condition and doesn't fit is `BadCondition`.
 #[tactic(auto, unfolding(crate::specs::Conditions::condition_at, crate::specs::Conditions::not_exists))]

@@ -1,3 +1,5 @@
+//! Why a text is refused, and at which line.
+
 ghost use Rattle.std.specs.Prelude.{◌≡◌, ◌++◌, Some, codes};
 ghost use Rattle.std.specs.Fmt.{decimal};
 ghost use Rattle.litmus_tokens.specs.Pieces.{pieces};
@@ -40,7 +42,7 @@ pub enum Why {
     TooLarge,
     /// A token that doesn't fit in the condition.
     BadCondition,
-    /// Something behind the end of the test.
+    /// Something after the end of the test.
     Trailing,
     /// The allocator refused a growth; nothing is said of the text.
     NoMemory,

@@ -1,3 +1,5 @@
+//! The forms of instructions, as cells spell them.
+
 ghost use Rattle.std.specs.Prelude.{◌≡◌};
 ghost use Rattle.std.specs.Option.{option_map};
 ghost use Rattle.tso_model.specs.Registers.{same_letters};
@@ -61,7 +63,7 @@ fn xadd_of<'a>(first: Operand<'a>, second: Operand<'a>) -> Option<Form<'a>>
     }
 }
 
-/// What may stand behind `LOCK`.
+/// What may stand after `LOCK`.
 #[tactic(auto, unfolding(crate::specs::Forms::locked_at))]
 fn locked_form<'a>(tokens: &[Token<'a>]) -> Option<Form<'a>>
     ensures { option_map shape_of result ≡ spec.locked_at (pieces tokens.now) }

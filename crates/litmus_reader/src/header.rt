@@ -1,3 +1,5 @@
+//! The header line: `X86` and the name of the test.
+
 ghost use Rattle.std.specs.Prelude.{◌≡◌, ◌≤◌, ◌==◌, ◌&&◌, nat_lt, length, position, None, IfOk};
 ghost use Rattle.std.specs.Option.{option_map};
 ghost use Rattle.std.specs.List.{prefix_len, suffix_len, list_all};
@@ -26,7 +28,7 @@ pub fn sized(text: &[u8]) -> Result<&[u8], Fault>
     Ok(text)
 }
 
-/// What stands behind white space and comments; `Unclosed` at a comment that doesn't end.
+/// What stands after white space and comments; `Unclosed` at a comment that doesn't end.
 pub fn behind_gap(bytes: &[u8]) -> Result<&[u8], Fault>
     ensures value { seen (λ x. x.now) result ≡ header.from_gap (gap_end None bytes.now) }
     ensures within { IfOk result (λ x. length x.now ≤ length bytes.now) }
@@ -85,10 +87,10 @@ fn line_feed_at(bytes: &[u8]) -> Option<usize>
     bytes.iter().position(|b| *b == b'\n')
 }
 
-/// The line at the front without its LF, and what stands behind it.
+/// The line at the front without its LF, and what stands after it.
 #[tactic(auto, using(crate::proofs::Lines::line_cut, crate::proofs::Lines::line_last))]
 pub fn first_line(bytes: &[u8]) -> (&[u8], &[u8])
-    ensures value { (result.0.now, result.1.now) ≡ header.first_line bytes.now }
+    ensures value { (result.0.now, result.1.now) ≡ grammar.first_line bytes.now }
     ensures within { length result.1.now ≤ length bytes.now }
 {
     match line_feed_at(bytes) {
@@ -164,7 +166,7 @@ fn judged<'a>(left: usize, name: Option<&'a [u8]>) -> Result<&'a [u8], Fault>
     }
 }
 
-/// The name of the test, and what stands behind the header line.
+/// The name of the test, and what stands after the header line.
 ///
 /// `NoHeader` and, for a name of more than 64 bytes, `TooLarge`, at the first byte that isn't white
 /// space; `Unclosed` at a comment before it that doesn't end.

@@ -1,3 +1,5 @@
+//! Information lines: quoted text and keys, which are passed over.
+
 ghost use Rattle.std.specs.Prelude.{◌≡◌, ◌≤◌, ◌<◌, length, IfOk, IfSome};
 ghost use Rattle.std.specs.Option.{option_map};
 ghost use Rattle.std.specs.List.{prefix_len};
@@ -8,7 +10,7 @@ ghost use Rattle.litmus_reader.specs.GrammarText as grammar;
 use crate::fault::{Fault, Why};
 use crate::header::{behind_gap, first_line};
 
-/// What stands behind the next quotation mark.
+/// What stands after the next quotation mark.
 #[tactic(auto, unfolding(crate::specs::Information::quotation_end))]
 fn after_quotation(bytes: &[u8]) -> Option<&[u8]>
     ensures value { option_map (λ x. x.now) result ≡ spec.quotation_end bytes.now }
@@ -38,7 +40,7 @@ fn key_len(bytes: &[u8]) -> usize
     bytes.iter().take_while(|b| continues_key(**b)).count()
 }
 
-/// What stands behind the key line that begins here; `BadToken` at a key without its `=`.
+/// What stands after the key line that begins here; `BadToken` at a key without its `=`.
 fn after_key_line(bytes: &[u8]) -> Result<&[u8], Fault>
     ensures value { seen (λ x. x.now) result ≡ spec.key_line_end bytes.now }
     ensures shorter { IfOk result (λ x. length x.now < length bytes.now) }
@@ -56,7 +58,7 @@ fn after_key_line(bytes: &[u8]) -> Result<&[u8], Fault>
     }
 }
 
-/// What stands behind the quotation or the key line at the front.
+/// What stands after the quotation or the key line at the front.
 ///
 /// `Unclosed` at a quotation that doesn't end and at the end of the text, `BadToken` at a key
 /// without its `=` and at anything else.
@@ -100,7 +102,7 @@ fn begins_initial(bytes: &[u8]) -> bool
     }
 }
 
-/// What stands from the `{` of the initial state on, behind all information lines.
+/// What stands from the `{` of the initial state on, after all information lines.
 ///
 /// `Unclosed` where the text ends before it, `BadToken` at what is no information line; a comment
 /// that doesn't end is `Unclosed` too.

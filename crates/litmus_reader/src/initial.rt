@@ -1,3 +1,5 @@
+//! The initial state: its items, and the first words that they give.
+
 ghost use Rattle.litmus_tokens.specs.Pieces.{pieces};
 ghost use Rattle.std.specs.Prelude.{◌≡◌, ◌≤◌, ◌<◌, ◌++◌, ◌∷◌, [], false, length, map, replicate, IfOk, OnOk};
 ghost use Rattle.std.specs.List.{list_any};
@@ -8,7 +10,6 @@ ghost use Rattle.litmus_reader.specs.Items.{setting_of};
 ghost use Rattle.litmus_reader.specs.Initial as spec;
 ghost use Rattle.litmus_reader.specs.Initial.{given_of, initial, KnowsGiven};
 ghost use Rattle.litmus_reader.specs.Places as places;
-ghost use Rattle.litmus_reader.specs.RefusedInitial as refused;
 
 use crate::fault::{Fault, Part, ReadError, Why, at_stop, left_of};
 use crate::item::{Item, core_of, item_at, word_at};
@@ -134,9 +135,9 @@ fn note_item<'a>(
     Ok(())
 }
 
-#[tactic(auto, unfolding(crate::specs::RefusedInitial::ends_item))]
+#[tactic(auto, unfolding(crate::specs::Initial::ends_item))]
 fn ends_item(tokens: &[Token<'_>]) -> bool
-    ensures { result ≡ refused.ends_item (pieces tokens.now) }
+    ensures { result ≡ spec.ends_item (pieces tokens.now) }
 {
     match tokens.first() {
         Some(first) => {
@@ -167,7 +168,7 @@ fn read_item<'a, 'b>(
     Ok(rest)
 }
 
-/// Reads the `;` or the item at the front, and answers the tokens behind it.
+/// Reads the `;` or the item at the front, and answers the tokens after it.
 #[tactic(auto, unfolding(crate::specs::Initial::step_in))]
 fn read_step<'a, 'b>(
     part: Part,
@@ -186,14 +187,14 @@ fn read_step<'a, 'b>(
     read_item(part, state, names, tokens)
 }
 
-/// What stands behind the `{` at the front.
+/// What stands after the `{` at the front.
 fn after_opening<'a, 'b>(stop: Stop, tokens: &'b [Token<'a>]) -> Result<&'b [Token<'a>], Fault>
     ensures { seen (λ x. pieces x.now) result ≡ spec.opened_at stop (pieces tokens.now) }
 {
     before_initial(stop).expect(tokens, after_symbol(Symbol::OpenCurly, tokens))
 }
 
-/// Reads the initial state, and answers what it gives and the tokens behind it. There are no names
+/// Reads the initial state, and answers what it gives and the tokens after it. There are no names
 /// of locations before it.
 ///
 /// `BadInit` at a token that doesn't fit, `Unclosed` at its `{` where the text ends; as an item's

@@ -1,7 +1,9 @@
+//! Values of registers and locations, as the initial state and conditions spell them.
+
 ghost use Rattle.std.specs.Prelude.{◌≡◌, ◌<◌, ◌≤◌, length, None, IfSome, IfOk};
 ghost use Rattle.std.specs.Option.{option_map};
 ghost use Rattle.tso_model.specs.Limits.{most_cores};
-ghost use Rattle.litmus_tokens.specs.Terms.{decimal};
+ghost use Rattle.decimals.specs.Decimals.{decimal_value};
 ghost use Rattle.litmus_tokens.specs.Pieces.{pieces};
 ghost use Rattle.litmus_reader.specs.Faults.{seen};
 ghost use Rattle.litmus_reader.specs.Items as spec;
@@ -20,7 +22,7 @@ pub enum Item<'a> {
     Location(&'a [u8], &'a [u8]),
 }
 
-/// The name of a location at the front, and the tokens behind it.
+/// The name of a location at the front, and the tokens after it.
 #[tactic(auto, unfolding(crate::specs::Items::location_at))]
 pub fn location_at<'a, 'b>(tokens: &'b [Token<'a>]) -> Option<(&'a [u8], &'b [Token<'a>])>
     ensures value { option_map (λ x. (x.0.now, pieces x.1.now)) result ≡ spec.location_at (pieces tokens.now) }
@@ -34,7 +36,7 @@ pub fn location_at<'a, 'b>(tokens: &'b [Token<'a>]) -> Option<(&'a [u8], &'b [To
     }
 }
 
-/// The register whose name is at the front, and the tokens behind it.
+/// The register whose name is at the front, and the tokens after it.
 #[tactic(auto, unfolding(crate::specs::Items::register_at))]
 pub fn register_at<'a, 'b>(tokens: &'b [Token<'a>]) -> Option<(Reg, &'b [Token<'a>])>
     ensures value { option_map (λ x. (x.0, pieces x.1.now)) result ≡ spec.register_at (pieces tokens.now) }
@@ -45,13 +47,13 @@ pub fn register_at<'a, 'b>(tokens: &'b [Token<'a>]) -> Option<(Reg, &'b [Token<'
     Some((reg, rest))
 }
 
-/// `=v`: the digits of the value, and the tokens behind them.
+/// `=v`: the digits of the value, and the tokens after them.
 #[tactic(auto, unfolding(crate::specs::Items::value_at))]
 fn value_at<'a, 'b>(
     part: Part,
     tokens: &'b [Token<'a>],
 ) -> Result<(&'a [u8], &'b [Token<'a>]), Fault>
-    ensures value { seen (λ x. (decimal x.0.now, pieces x.1.now)) result ≡ spec.value_at part (pieces tokens.now) }
+    ensures value { seen (λ x. (decimal_value x.0.now, pieces x.1.now)) result ≡ spec.value_at part (pieces tokens.now) }
     ensures shorter { IfOk result (λ x. length x.1.now < length tokens.now) }
 {
     let rest = part.expect(tokens, after_symbol(Symbol::Equals, tokens))?;
@@ -100,7 +102,7 @@ fn plain_item<'a, 'b>(
     Ok((Item::Location(name, value), rest))
 }
 
-/// `c:REG=v`, `[x]=v` or `x=v` at the front, and the tokens behind it.
+/// `c:REG=v`, `[x]=v` or `x=v` at the front, and the tokens after it.
 ///
 /// What doesn't fit is refused as `part` says.
 #[tactic(auto, unfolding(crate::specs::Items::setting_at))]
@@ -122,7 +124,7 @@ pub fn item_at<'a, 'b>(
 
 /// The number that digits say; `BadNumber` at `left` where a word has no room for it.
 pub fn word_at(left: usize, digits: &[u8]) -> Result<u32, Fault>
-    ensures { result ≡ spec.word_at left (decimal digits.now) }
+    ensures { result ≡ spec.word_at left (decimal_value digits.now) }
 {
     match word(digits) {
         Some(value) => Ok(value),

@@ -1,3 +1,5 @@
+//! Words that stand for themselves.
+
 ghost use Rattle.std.specs.Prelude.{◌≡◌, ◌<◌, length, IfSome};
 ghost use Rattle.std.specs.Option.{option_map};
 ghost use Rattle.litmus_tokens.specs.Pieces.{pieces};
@@ -5,7 +7,7 @@ ghost use Rattle.litmus_reader.specs.Keywords as spec;
 
 use litmus_tokens::{Token, name_at};
 
-/// What stands behind this word, if it is at the front.
+/// What stands after this word, if it is at the front.
 #[tactic(auto, unfolding(crate::specs::Keywords::word_behind))]
 pub fn after_word<'a, 'b>(word: &[u8], tokens: &'b [Token<'a>]) -> Option<&'b [Token<'a>]>
     ensures value { option_map (λ x. pieces x.now) result ≡ spec.word_behind word.now (pieces tokens.now) }

@@ -3,7 +3,7 @@
 //!
 //! The text is read part by part in its own order: header line, information lines, initial state,
 //! header row, rows, `locations [..]`, condition. Each part is a reading of tokens that answers what
-//! it found and the tokens behind it, or the first fault.
+//! it found and the tokens after it, or the first fault.
 #![tactic(auto)]
 
 mod cell;
@@ -11,7 +11,6 @@ mod columns;
 mod condition;
 mod fault;
 mod form;
-mod grammar_test;
 mod header;
 mod information;
 mod initial;
@@ -24,10 +23,9 @@ mod observed;
 mod operand;
 mod parts;
 mod reader;
-mod refusals;
 mod row;
 
 pub use fault::{Fault, TextFault, Why};
+pub use laws::texts_are_decided;
 pub use limits::{MAX_OPEN, MAX_TEST_NAME, MAX_TEXT, limits_are_as_defined};
 pub use reader::{fault_in, read_test};
-pub use refusals::texts_are_decided;

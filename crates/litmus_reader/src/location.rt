@@ -1,3 +1,5 @@
+//! Locations by their names, each with its number.
+
 ghost use Rattle.std.specs.Prelude.{◌≡◌, OnOk};
 ghost use Rattle.litmus_reader.specs.Faults.{Gives};
 ghost use Rattle.litmus_reader.specs.Locations as spec;
@@ -19,7 +21,7 @@ fn number_of(names: &IndexSet<&[u8]>, name: &[u8]) -> usize
     }
 }
 
-/// Puts a name behind the others where it is new.
+/// Puts a name after the others where it is new.
 fn note<'a>(names: &mut IndexSet<&'a [u8]>, name: &'a [u8]) -> Result<(), NoMemory>
     ensures { OnOk result (texts names.new.keys ≡ grammar.with_name (texts names.old.keys) name.now) }
 {
@@ -27,7 +29,7 @@ fn note<'a>(names: &mut IndexSet<&'a [u8]>, name: &'a [u8]) -> Result<(), NoMemo
     Ok(())
 }
 
-/// The location of a name, which is put behind the other names where it is new.
+/// The location of a name, which is put after the other names where it is new.
 ///
 /// `TooLarge` at `left` for one location too many.
 #[tactic(auto, unfolding(crate::specs::Locations::located))]

@@ -1,3 +1,5 @@
+//! The locations between square brackets, which are passed over.
+
 ghost use Rattle.std.specs.Prelude.{◌≡◌, codes};
 ghost use Rattle.std.specs.Option.{option_map};
 ghost use Rattle.litmus_tokens.specs.Pieces.{pieces};
@@ -11,7 +13,7 @@ use crate::keyword::after_word;
 use litmus_tokens::{Stop, Symbol, Token, after_symbol};
 
 fn behind_word(stop: Stop) -> Part
-    ensures { result ≡ places.behind_word stop }
+    ensures { result ≡ spec.behind_word stop }
 {
     let end = Fault {
         why: Why::BadToken,
@@ -23,7 +25,7 @@ fn behind_word(stop: Stop) -> Part
     }
 }
 
-/// What stands behind the next `]`, comments passed over; without it, `Unclosed` at `left`.
+/// What stands after the next `]`, comments passed over; without it, `Unclosed` at `left`.
 #[tactic(auto, using(crate::proofs::Squares::square_start, crate::proofs::Squares::square_further))]
 fn after_square(left: usize, bytes: &[u8]) -> Result<&[u8], Fault>
     ensures { seen (λ x. x.now) result ≡ spec.square_end left bytes.now }
@@ -60,9 +62,9 @@ fn after_brackets<'a>(text: &'a [u8], stop: Stop, tokens: &[Token<'_>]) -> Resul
     after_square(left, from_place(text, left))
 }
 
-/// The bytes behind `locations [..]`, if it stands here; the tokens are ones of this text's end.
+/// The bytes after `locations [..]`, if it stands here; the tokens are ones of this text's end.
 ///
-/// `BadToken` where no `[` stands behind the word, `Unclosed` at a `[` that doesn't end and at a
+/// `BadToken` where no `[` stands after the word, `Unclosed` at a `[` that doesn't end and at a
 /// comment that doesn't.
 #[tactic(auto, unfolding(crate::specs::Observed::observed_end))]
 pub fn after_observed<'a>(

@@ -1,3 +1,5 @@
+//! What an instruction works on, as a cell spells it.
+
 ghost use Rattle.std.specs.Prelude.{◌≡◌};
 ghost use Rattle.std.specs.Option.{option_map};
 ghost use Rattle.litmus_tokens.specs.Pieces.{pieces};
@@ -16,7 +18,7 @@ pub enum Operand<'a> {
     Number(&'a [u8]),
 }
 
-/// The operand at the front, and the tokens behind it.
+/// The operand at the front, and the tokens after it.
 #[tactic(auto, unfolding(crate::specs::Operands::operand_at))]
 pub fn operand_at<'a, 'b>(tokens: &'b [Token<'a>]) -> Option<(Operand<'a>, &'b [Token<'a>])>
     ensures { option_map (λ x. (place_of x.0, pieces x.1.now)) result ≡ spec.operand_at (pieces tokens.now) }

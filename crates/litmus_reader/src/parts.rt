@@ -1,3 +1,5 @@
+//! The parts of a test, made of what was read.
+
 ghost use Rattle.std.specs.Prelude.{◌≡◌, IfOk, All, map, replicate, string_bytes};
 ghost use Rattle.std.specs.Option.{option_map};
 ghost use Rattle.std.specs.Str.{IsUtf8};
@@ -37,7 +39,7 @@ fn zeros(alloc: Global, count: usize) -> Result<Vec<u32>, AllocError>
     vec![in alloc; 0; count]
 }
 
-/// The words with zeros behind them, so many in all.
+/// The words with zeros after them, so many in all.
 fn words_of(alloc: Global, mut words: Vec<u32>, count: usize) -> Result<Vec<u32>, AllocError>
     ensures { IfOk result (λ v. v.items ≡ initial.words_of count words.items) }
 {
@@ -74,7 +76,7 @@ fn programs_of(
 /// The parts of a test from what was read: the words of locations that the initial state doesn't
 /// name are 0.
 ///
-/// Fails only for want of memory.
+/// Fails only where it is out of memory.
 pub fn parts_of(
     alloc: Global,
     name: &[u8],

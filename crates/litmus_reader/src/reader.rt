@@ -1,3 +1,5 @@
+//! Whole texts: the parts of a test one after the other, and the first fault.
+
 ghost use Rattle.std.specs.Prelude.{◌≡◌, ◌≢◌, ◌≤◌, Some, Ok, IfOk, IfErr, IfSome, MatchResult, IsTrue};
 ghost use Rattle.std.specs.Option.{option_map};
 ghost use Rattle.std.specs.Str.{IsUtf8};
@@ -17,13 +19,12 @@ ghost use Rattle.litmus_reader.specs.Spelling.{SpellsTest, IsRefused};
 
 use crate::condition::condition_at;
 use crate::fault::{Fault, ReadError, TextFault, Why};
-use crate::grammar_test::texts_are_read_as_they_are_spelled;
 use crate::header::{header_at, sized};
 use crate::information::braces_at;
 use crate::initial::read_initial;
+use crate::laws::{texts_are_read_as_they_are_spelled, texts_are_refused_as_they_are_read};
 use crate::observed::after_observed;
 use crate::parts::parts_of;
-use crate::refusals::texts_are_refused_as_they_are_read;
 use crate::row::read_table;
 use indexmap::IndexSet;
 use litmus_tokens::{Stop, Token, line_of, tokens_of};
@@ -71,7 +72,7 @@ fn ending_at<'a>(
     Ok(cond)
 }
 
-/// What stands behind the rows: `locations [..]`, the condition and the end. The tokens are ones of
+/// What stands after the rows: `locations [..]`, the condition and the end. The tokens are ones of
 /// this text's end.
 #[tactic(auto, unfolding(crate::specs::Reading::tail_at))]
 fn tail_at<'a>(
@@ -94,7 +95,7 @@ fn tail_at<'a>(
     }
 }
 
-/// The initial state, the table and what stands behind it.
+/// The initial state, the table and what stands after it.
 #[tactic(auto, using(crate::proofs::Within::names_are_text), unfolding(crate::specs::Reading::body_of))]
 fn body_of<'a>(
     alloc: Global,
@@ -136,7 +137,7 @@ fn read_parts(alloc: Global, text: &[u8]) -> Result<TestParts, ReadError>
 
 /// The test that a text spells.
 ///
-/// Want of memory aside, a text that spells no test is refused for the first thing in it that is at
+/// Out of memory aside, a text that spells no test is refused for the first thing in it that is at
 /// fault, with that place's line, and no other text is refused.
 pub fn read_test(alloc: Global, text: &[u8]) -> Result<Test, TextFault>
     // What is answered is what the text spells, and a text that spells a test is answered with it.
@@ -146,7 +147,7 @@ pub fn read_test(alloc: Global, text: &[u8]) -> Result<Test, TextFault>
     // A refusal is the one that the text gets, and a text that gets one is answered with it.
     ensures refused { IfErr result (λ f. f.why ≢ Why.NoMemory → IsRefused text.now f) }
     ensures refuses { (fault : TextFault) → IsRefused text.now fault → MatchResult result (λ _. ⊥) (λ f. f.why ≢ Why.NoMemory → f ≡ fault) }
-    // Want of memory stands at no line.
+    // Out of memory stands at no line.
     ensures no_memory { IfErr result (λ f. f.why ≡ Why.NoMemory → f.line ≡ 0) }
 {
     texts_are_read_as_they_are_spelled();
@@ -157,7 +158,7 @@ pub fn read_test(alloc: Global, text: &[u8]) -> Result<Test, TextFault>
 /// What is at fault in a text, with its place: what [`read_test`] refuses the text for, on the line of
 /// that place. `None` where the text spells a test.
 ///
-/// Fails only for want of memory.
+/// Fails only where it is out of memory.
 pub fn fault_in(alloc: Global, text: &[u8]) -> Result<Option<Fault>, NoMemory>
     // What is answered is at fault, and what is at fault is answered.
     ensures found { IfOk result (λ found. IfSome found (λ fault. IsFault text.now fault)) }
@@ -193,7 +194,7 @@ fn read_whole(alloc: Global, text: &[u8]) -> Result<Test, TextFault>
     }
 }
 
-/// The refusal for a fault, with the line of its place; want of memory stands at no line.
+/// The refusal for a fault, with the line of its place; out of memory stands at no line.
 fn refusal_for(text: &[u8], fault: Fault) -> TextFault
     ensures refusal { fault.why ≢ Why.NoMemory → result ≡ refusal text.now fault }
     ensures why { result.why ≡ fault.why }

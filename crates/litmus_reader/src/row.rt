@@ -1,3 +1,5 @@
+//! The rows of the table, and the instructions of all cells.
+
 ghost use Rattle.std.specs.Prelude.{◌≡◌, ◌<◌, ◌≤◌, length, map, IfOk};
 ghost use Rattle.tso_model.specs.Limits.{most_cores};
 ghost use Rattle.litmus_tokens.specs.Pieces.{pieces};
@@ -19,7 +21,7 @@ use indexmap::IndexSet;
 use litmus_tokens::{Lexeme, Stop, Symbol, Token, is_symbol};
 use std::alloc::Global;
 
-/// A row without its `;`, and the tokens behind it.
+/// A row without its `;`, and the tokens after it.
 #[tactic(auto, using(crate::proofs::RowEnds::row_open, crate::proofs::RowEnds::row_closed))]
 fn row_at<'a, 'b>(
     stop: Stop,
@@ -104,7 +106,7 @@ pub struct Table {
     pub instrs: Vec<CoreInstr>,
 }
 
-/// Reads the header row and all rows, and answers the tokens behind them.
+/// Reads the header row and all rows, and answers the tokens after them.
 ///
 /// As the header row ends, `NoSuchCore` at the first item of the initial state whose core isn't
 /// there. A row is first taken to its `;` (`Unclosed` at its first token where the text ends), then

@@ -1,4 +1,4 @@
--- A comment's end, and the gap behind it.
+-- A comment's end, and the gap after it.
 use Rattle.std.proofs.Common.{◌≡◌, ℕ, Bool, true, false, cond, eqb, ◌&&◌, List, [], ◌∷◌, length, Some, None, Err, refl, sym, ap, inl, inr, ◌⊎◌}
 use Rattle.litmus_tokens.specs.declared.token.Stop.TheVariants.{Unclosed}
 use Rattle.litmus_tokens.specs.Gap.{is_space, comment_end, gap_end}
@@ -13,7 +13,7 @@ unfolding gap_end
 gap_after_space b [] e = rw e refl
 gap_after_space b (c ∷ bs) e = rw e refl
 
--- where a comment ends there, the gap goes on behind it
+-- where a comment ends there, the gap goes on after it
 pub gap_inside : (opener : ℕ) (bs rest : List ℕ) → comment_end bs ≡ Some rest → gap_end (Some opener) bs ≡ gap_end None rest
 unfolding comment_end gap_end
 gap_inside opener [] rest e = absurd cc

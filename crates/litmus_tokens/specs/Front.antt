@@ -13,7 +13,7 @@ is_symbol_term s other = false
 unfoldable pub is_symbol : Symbol → Piece → Bool
 is_symbol s p = is_symbol_term s p.term
 
--- what stands behind this symbol, if it is at the front
+-- what stands after this symbol, if it is at the front
 unfoldable pub symbol_at : Symbol → List Piece → Option (List Piece)
 symbol_at s [] = None
 symbol_at s (p ∷ ps) = if is_symbol s p then Some ps else None
@@ -23,7 +23,7 @@ name_then (number digits) ps = None
 name_then (name x) ps = Some (x, ps)
 name_then (symbol s) ps = None
 
--- the name at the front, and what stands behind it
+-- the name at the front, and what stands after it
 unfoldable pub name_at : List Piece → Option (List ℕ × List Piece)
 name_at [] = None
 name_at (p ∷ ps) = name_then p.term ps
@@ -33,7 +33,7 @@ number_then (number digits) ps = Some (digits, ps)
 number_then (name x) ps = None
 number_then (symbol s) ps = None
 
--- the digits of the number at the front, and what stands behind it
+-- the digits of the number at the front, and what stands after it
 unfoldable pub number_at : List Piece → Option (List ℕ × List Piece)
 number_at [] = None
 number_at (p ∷ ps) = number_then p.term ps

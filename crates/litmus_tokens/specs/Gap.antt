@@ -21,13 +21,13 @@ opens_comment b c = (b == 40) && (c == 42)
 abbrev pub closes_comment : ℕ → ℕ → Bool
 closes_comment b c = (b == 42) && (c == 41)
 
--- what stands behind the first `*)`
+-- what stands after the first `*)`
 unfoldable pub comment_end : List ℕ → Option (List ℕ)
 comment_end [] = None
 comment_end (b ∷ []) = None
 comment_end (b ∷ c ∷ bs) = if closes_comment b c then Some bs else comment_end (c ∷ bs)
 
--- What stands behind white space and comments. A comment begins with `(*`, ends with the first `*)` behind these two
+-- What stands after white space and comments. A comment begins with `(*`, ends with the first `*)` after these two
 -- bytes, and has no comments in it. Inside one the number says how many bytes of the text stand from its `(*` on.
 unfoldable pub gap_end : Option ℕ → List ℕ → Result (List ℕ) Stop
 gap_end None [] = Ok []

@@ -22,7 +22,7 @@ abbrev pub ◌>>=◌ : {A B : Type 0} → Result A Stop → (A → Result B Stop
 (Ok x) >>= f = f x
 (Err e) >>= f = Err e
 
--- the next token behind white space and comments, and what stands behind it
+-- the next token after white space and comments, and what stands after it
 unfoldable pub piece_at : List ℕ → Result (Piece × List ℕ) Stop
 piece_at bytes = do
   rest ← gap_end None bytes

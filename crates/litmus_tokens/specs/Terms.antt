@@ -1,5 +1,5 @@
 -- Single tokens: numbers, names and symbols. (This project's profile.)
-use Rattle.std.specs.Prelude.{ℕ, ◌+◌, ◌-◌, ◌*◌, ◌^◌, Bool, List, [], ◌∷◌, length, take, drop, Option, Some, None, Result, Ok, Err, nat_lt, nat_eq, codes, ◌==◌, if◌then◌else◌}
+use Rattle.std.specs.Prelude.{ℕ, ◌^◌, Bool, List, [], ◌∷◌, length, take, drop, Option, Some, None, Result, Ok, Err, nat_lt, nat_eq, codes, ◌==◌, if◌then◌else◌}
 use Rattle.std.specs.List.{prefix_len, starts_with}
 use Rattle.std.specs.Char.{is_ascii_digit}
 use Rattle.tso_model.specs.Limits.{longest_name}
@@ -17,15 +17,6 @@ pub data Term : Type 0 where
   number : List ℕ → Term
   name : List ℕ → Term
   symbol : Symbol → Term
-
--- the number that digits say, behind those that said n
-unfoldable pub decimal_from : ℕ → List ℕ → ℕ
-decimal_from n [] = n
-decimal_from n (d ∷ ds) = decimal_from (n * 10 + (d - 48)) ds
-
--- the number that digits say
-abbrev pub decimal : List ℕ → ℕ
-decimal digits = decimal_from 0 digits
 
 -- digits without the zeros in front
 abbrev pub without_zeros : List ℕ → List ℕ
@@ -63,13 +54,13 @@ unfoldable pub symbols : List Symbol
 symbols = Equals ∷ Semicolon ∷ Colon ∷ OpenSquare ∷ CloseSquare ∷ OpenCurly ∷ CloseCurly ∷ Bar ∷ Comma ∷ Dollar ∷ Tilde
     ∷ OpenRound ∷ CloseRound ∷ And ∷ Or ∷ []
 
--- the one of these symbols that is spelled at the front, and what stands behind it
+-- the one of these symbols that is spelled at the front, and what stands after it
 abbrev pub symbol_among : List Symbol → List ℕ → Option (Symbol × List ℕ)
 symbol_among [] bytes = None
 symbol_among (s ∷ others) bytes =
     if starts_with nat_eq bytes (spelling_of s) then Some (s, drop (length (spelling_of s)) bytes) else symbol_among others bytes
 
--- the symbol at the front, and what stands behind it
+-- the symbol at the front, and what stands after it
 unfoldable pub symbol_of : List ℕ → Option (Symbol × List ℕ)
 symbol_of bytes = symbol_among symbols bytes
 
@@ -88,7 +79,7 @@ abbrev pub symbol_or_bad : ℕ → Option (Symbol × List ℕ) → Result (Term 
 symbol_or_bad left (Some found) = Ok (symbol found.0, found.1)
 symbol_or_bad left None = Err (BadToken left)
 
--- the token at the very front of some bytes, and what stands behind it
+-- the token at the very front of some bytes, and what stands after it
 unfoldable pub term_at : List ℕ → Result (Term × List ℕ) Stop
 term_at [] = Err End
 term_at (b ∷ bs) =

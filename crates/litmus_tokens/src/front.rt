@@ -1,3 +1,5 @@
+//! What stands at the front of a list of tokens.
+
 ghost use Rattle.std.specs.Prelude.{◌≡◌, ◌<◌, length, IfSome};
 ghost use Rattle.std.specs.Option.{option_map};
 ghost use Rattle.litmus_tokens.specs.Pieces.{piece_of, pieces};
@@ -16,7 +18,7 @@ pub fn is_symbol(symbol: Symbol, token: &Token<'_>) -> bool
     }
 }
 
-/// The tokens behind this symbol, if it is at the front.
+/// The tokens after this symbol, if it is at the front.
 #[tactic(auto, unfolding(crate::specs::Front::symbol_at))]
 pub fn after_symbol<'a, 'b>(symbol: Symbol, tokens: &'b [Token<'a>]) -> Option<&'b [Token<'a>]>
     ensures value { option_map (λ x. pieces x.now) result ≡ front.symbol_at symbol (pieces tokens.now) }
@@ -30,7 +32,7 @@ pub fn after_symbol<'a, 'b>(symbol: Symbol, tokens: &'b [Token<'a>]) -> Option<&
     }
 }
 
-/// The name at the front, and the tokens behind it.
+/// The name at the front, and the tokens after it.
 #[tactic(auto, unfolding(crate::specs::Front::name_at))]
 pub fn name_at<'a, 'b>(tokens: &'b [Token<'a>]) -> Option<(&'a [u8], &'b [Token<'a>])>
     ensures value { option_map (λ x. (x.0.now, pieces x.1.now)) result ≡ front.name_at (pieces tokens.now) }
@@ -43,7 +45,7 @@ pub fn name_at<'a, 'b>(tokens: &'b [Token<'a>]) -> Option<(&'a [u8], &'b [Token<
     }
 }
 
-/// The digits of the number at the front, without leading zeros, and the tokens behind it.
+/// The digits of the number at the front, without leading zeros, and the tokens after it.
 #[tactic(auto, unfolding(crate::specs::Front::number_at))]
 pub fn number_at<'a, 'b>(tokens: &'b [Token<'a>]) -> Option<(&'a [u8], &'b [Token<'a>])>
     ensures value { option_map (λ x. (x.0.now, pieces x.1.now)) result ≡ front.number_at (pieces tokens.now) }

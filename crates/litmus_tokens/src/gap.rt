@@ -1,3 +1,5 @@
+//! White space and comments.
+
 ghost use Rattle.std.specs.Prelude.{◌≡◌, ◌≤◌, ◌<◌, length, None, IfOk, IfSome};
 ghost use Rattle.std.specs.Option.{option_map};
 ghost use Rattle.litmus_tokens.specs.Gap as gap;
@@ -12,7 +14,7 @@ fn is_space(byte: u8) -> bool
     matches!(byte, b' ' | b'\t' | b'\n' | b'\r')
 }
 
-/// What stands behind the first `*)`.
+/// What stands after the first `*)`.
 #[tactic(auto, unfolding(crate::specs::Gap::comment_end))]
 fn after_comment(bytes: &[u8]) -> Option<&[u8]>
     ensures value { option_map (λ x. x.now) result ≡ comment_end bytes.now }
@@ -28,7 +30,7 @@ fn after_comment(bytes: &[u8]) -> Option<&[u8]>
     None
 }
 
-/// What stands behind one byte of white space or one comment; `None` where neither is there.
+/// What stands after one byte of white space or one comment; `None` where neither is there.
 #[tactic(auto, using(crate::proofs::Gaps::gap_after_space, crate::proofs::Gaps::gap_inside, crate::proofs::Gaps::gap_unclosed), unfolding(crate::specs::Gap::gap_end))]
 fn after_one(bytes: &[u8]) -> Result<Option<&[u8]>, Stop>
     ensures { Steps result bytes.now (gap_end None bytes.now) }
@@ -51,7 +53,7 @@ fn after_one(bytes: &[u8]) -> Result<Option<&[u8]>, Stop>
     }
 }
 
-/// What stands behind white space and comments. The only stop is a comment that doesn't end.
+/// What stands after white space and comments. The only stop is a comment that doesn't end.
 pub fn after_gap(bytes: &[u8]) -> Result<&[u8], Stop>
     ensures value { seen (λ x. x.now) result ≡ gap_end None bytes.now }
     ensures within { IfOk result (λ x. length x.now ≤ length bytes.now) }

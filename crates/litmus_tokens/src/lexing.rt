@@ -1,3 +1,5 @@
+//! Bytes to tokens, one after the other.
+
 ghost use Rattle.std.specs.Prelude.{◌≡◌, ◌≤◌, ◌<◌, ◌==◌, length, IfOk, IfSome, true, slice_index};
 ghost use Rattle.std.specs.Option.{option_map};
 ghost use Rattle.std.specs.List.{prefix_len};
@@ -7,12 +9,14 @@ ghost use Rattle.tso_model.specs.Names as names;
 ghost use Rattle.litmus_tokens.specs.Gap.{seen};
 ghost use Rattle.litmus_tokens.specs.Terms as terms;
 ghost use Rattle.litmus_tokens.specs.SymbolSteps as steps;
-ghost use Rattle.litmus_tokens.specs.Terms.{decimal, word_of, term_of};
+ghost use Rattle.decimals.specs.Decimals.{decimal_value};
+ghost use Rattle.litmus_tokens.specs.Terms.{word_of, term_of};
 ghost use Rattle.litmus_tokens.specs.Pieces as spec;
 ghost use Rattle.litmus_tokens.specs.Pieces.{piece_of, pieces, pieces_of};
 
 use crate::gap::after_gap;
 use crate::token::{Lexeme, Stop, Symbol, Token, Tokens};
+use decimals::number_up_to;
 use std::alloc::Global;
 use tso_model::NoMemory;
 use tso_model::names::{begins_name, continues_name};
@@ -58,18 +62,12 @@ fn name_len(bytes: &[u8]) -> usize
 }
 
 /// The number that digits say, if a word of 32 bits has room for it.
-#[tactic(auto, using(crate::proofs::Words::decimal_more, crate::proofs::Words::word_over, crate::proofs::Words::word_fits))]
+#[tactic(auto, using(crate::proofs::Words::word_up_to))]
 pub fn word(digits: &[u8]) -> Option<u32>
-    ensures { result ≡ word_of (decimal digits.now) }
+    ensures { result ≡ word_of (decimal_value digits.now) }
 {
-    let mut value = 0u64;
-    for digit in digits {
-        value = value * 10 + u64::from(digit.saturating_sub(b'0'));
-        if value > 0xffff_ffff {
-            return None;
-        }
-    }
-    Some(value as u32)
+    let number = number_up_to(u64::from(u32::MAX), digits)?;
+    Some(number as u32)
 }
 
 #[tactic(auto, unfolding(crate::specs::SymbolSteps::single))]
@@ -94,7 +92,7 @@ fn single(byte: u8) -> Option<Symbol>
     }
 }
 
-/// The symbol at the very front, and what stands behind it.
+/// The symbol at the very front, and what stands after it.
 #[tactic(auto, using(crate::proofs::Symbols::symbol_by_bytes), unfolding(crate::specs::SymbolSteps::wedge_at))]
 fn symbol_of(bytes: &[u8]) -> Option<(Symbol, &[u8])>
     ensures value { option_map (λ x. (x.0, x.1.now)) result ≡ terms.symbol_of bytes.now }
@@ -114,7 +112,7 @@ fn symbol_of(bytes: &[u8]) -> Option<(Symbol, &[u8])>
     }
 }
 
-/// The token at the very front, and what stands behind it.
+/// The token at the very front, and what stands after it.
 #[tactic(auto, using(crate::proofs::Pieces::begins_in_name), unfolding(crate::specs::Terms::term_at))]
 fn lexeme_at(bytes: &[u8]) -> Result<(Lexeme<'_>, &[u8]), Stop>
     ensures value { seen (λ x. (term_of x.0, x.1.now)) result ≡ terms.term_at bytes.now }
@@ -140,7 +138,7 @@ fn lexeme_at(bytes: &[u8]) -> Result<(Lexeme<'_>, &[u8]), Stop>
     }
 }
 
-/// The next token behind white space and comments, and what stands behind it.
+/// The next token after white space and comments, and what stands after it.
 #[tactic(auto, unfolding(crate::specs::Pieces::piece_at))]
 fn token_at(bytes: &[u8]) -> Result<(Token<'_>, &[u8]), Stop>
     ensures value { seen (λ x. (piece_of x.0, x.1.now)) result ≡ spec.piece_at bytes.now }
@@ -154,7 +152,7 @@ fn token_at(bytes: &[u8]) -> Result<(Token<'_>, &[u8]), Stop>
 
 /// The tokens of a text, or of its end from some place on, and why there are no more.
 ///
-/// Fails only for want of memory: a lexical fault ends the list, and counts where a reader wants a
+/// Fails only where it is out of memory: a lexical fault ends the list, and counts where a reader wants a
 /// token more.
 pub fn tokens_of(alloc: Global, bytes: &[u8]) -> Result<Tokens<'_>, NoMemory>
     ensures { IfOk result (λ found. (pieces found.items.items, found.stop) ≡ pieces_of bytes.now) }

@@ -1,3 +1,5 @@
+//! The line of a place in a text.
+
 ghost use Rattle.std.specs.Prelude.{◌≡◌};
 ghost use Rattle.litmus_tokens.specs.Line as line;
 

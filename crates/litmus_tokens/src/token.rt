@@ -1,3 +1,5 @@
+//! Tokens, and where a list of them stops.
+
 /// A symbol of the test texts.
 #[derive(Clone, Copy, PartialEq, Eq)]
 pub enum Symbol {

@@ -1,12 +1,14 @@
 -- A choice that makes an access commits at once where it acts as on the flat machine.
 use Rattle.std.proofs.Common.{◌≡◌, ◌≢◌, ℕ, zero, suc, List, [], ◌∷◌, Option, None, Some, slice_get, refl}
 use Rattle.tso_model.specs.Litmus.{Litmus}
-use Rattle.tso_model.specs.FlatMachine.{CoreState, State, Effect, stored, locked, step_of, drain_of, effect_of, core_of, program_of}
-use Rattle.tso_model.specs.Access.{NoAccess, store_access, locked_access, step_access, drain_access, access_of}
+use Rattle.tso_model.specs.Actions.{action_of}
+use Rattle.tso_model.specs.FlatMachine.{CoreState, State, Effect, stored, effect_by, step_of, effect_of, core_of, program_of}
+use Rattle.tso_model.specs.Access.{NoAccess, store_access, locked_access, access_by, step_access, drain_access, access_of}
 use Rattle.tso_model.specs.declared.register.Reg.{Reg}
 use Rattle.tso_model.specs.declared.instruction.Loc.{Loc}
 use Rattle.tso_model.specs.declared.instruction.Instr.{Instr}
-use Rattle.tso_model.specs.declared.instruction.Instr.TheVariants.{StoreImm, StoreReg, Load, SetImm, SetReg, Fence, Xchg, Xadd}
+use Rattle.tso_model.specs.declared.action.Action.{Action}
+use Rattle.tso_model.specs.declared.action.Action.TheVariants.{Store, Load, Move, Fence, Lock}
 use Rattle.tso_model.specs.declared.execution.Entry.{Entry}
 use Rattle.tso_model.specs.declared.choice.Choice.{Choice}
 use Rattle.tso_model.specs.declared.choice.Choice.TheVariants.{Step, Drain}
@@ -26,16 +28,16 @@ locked-commits : (core : ℕ) (s : CoreState) (loc : Loc) (reg : Reg) (word valu
 locked-commits core s loc reg word value [] h = record { outcome = refl; some = λ z. (let w : ⊥ = cc in w) }
 locked-commits core s loc reg word value (p ∷ ps) h = absurd (h refl)
 
+action-commits : (depth : ℕ) (memory : List ℕ) (core : ℕ) (a : Action) (s : CoreState) → access_by depth a s.pending ≢ NoAccess → CommitsAtOnce (effect_by depth memory core a s)
+action-commits depth memory core (Store loc operand) s h = stored-commits depth s _ loc h
+action-commits depth memory core (Load reg loc) s h = record { outcome = refl; some = λ z. (let w : ⊥ = cc in w) }
+action-commits depth memory core (Move reg operand) s h = absurd (h refl)
+action-commits depth memory core Fence s h = absurd (h refl)
+action-commits depth memory core (Lock loc reg update) s h = locked-commits core s loc reg _ _ s.pending h
+
 step-commits : (depth : ℕ) (memory : List ℕ) (core : ℕ) (o : Option Instr) (s : CoreState) → step_access depth o s.pending ≢ NoAccess → CommitsAtOnce (step_of depth memory core o s)
 step-commits depth memory core None s h = absurd (h refl)
-step-commits depth memory core (Some (StoreImm loc value)) s h = stored-commits depth s _ loc h
-step-commits depth memory core (Some (StoreReg loc reg)) s h = stored-commits depth s _ loc h
-step-commits depth memory core (Some (Load reg loc)) s h = record { outcome = refl; some = λ z. (let w : ⊥ = cc in w) }
-step-commits depth memory core (Some (SetImm reg value)) s h = absurd (h refl)
-step-commits depth memory core (Some (SetReg reg other)) s h = absurd (h refl)
-step-commits depth memory core (Some Fence) s h = absurd (h refl)
-step-commits depth memory core (Some (Xchg loc reg)) s h = locked-commits core s loc reg _ _ s.pending h
-step-commits depth memory core (Some (Xadd loc reg)) s h = locked-commits core s loc reg _ _ s.pending h
+step-commits depth memory core (Some instr) s h = action-commits depth memory core (action_of instr) s h
 
 drain-commits : (s : CoreState) (pending : List Entry) → drain_access pending ≢ NoAccess → CommitsAtOnce (drain_with s pending)
 drain-commits s [] h = absurd (h refl)

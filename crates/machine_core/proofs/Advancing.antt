@@ -2,8 +2,9 @@
 use Rattle.std.proofs.Common.{◌≡◌, ◌≢◌, ◌<◌, ℕ, Bool, true, false, if◌then◌else◌, List, [], ◌∷◌, drop, length, Option, None, Some, slice_get, refl, sym, ap, ◌∙◌, subst, arith}
 use Rattle.std.proofs.lemmas.Bool.Decides.{nat_tests}
 use Rattle.tso_model.specs.Litmus.{Litmus, IsTest}
-use Rattle.tso_model.specs.FlatMachine.{CoreState, State, locked, step_of, effect_of, core_of, chosen, program_of}
-use Rattle.tso_model.specs.Access.{Access, NoAccess, Reads, Writes, Locks, step_access, access_of}
+use Rattle.tso_model.specs.Actions.{action_of}
+use Rattle.tso_model.specs.FlatMachine.{CoreState, State, effect_by, step_of, effect_of, core_of, chosen, program_of}
+use Rattle.tso_model.specs.Access.{Access, NoAccess, Reads, Writes, Locks, access_by, step_access, access_of}
 use Rattle.tso_model.specs.SplitMachine.{Holder, Free, HeldBy, HeldBetween, Attempt, BusEffect, acts, asks, begins, needs_bus, same_choice, completes, writes_last, as_read}
 use Rattle.tso_model.specs.EitherBus.{effect_on}
 use Rattle.tso_model.specs.declared.bus.Bus.{Bus}
@@ -11,7 +12,8 @@ use Rattle.tso_model.specs.declared.bus.Bus.TheVariants.{Atomic, Split}
 use Rattle.tso_model.specs.declared.register.Reg.{Reg}
 use Rattle.tso_model.specs.declared.instruction.Loc.{Loc}
 use Rattle.tso_model.specs.declared.instruction.Instr.{Instr}
-use Rattle.tso_model.specs.declared.instruction.Instr.TheVariants.{StoreImm, StoreReg, Load, SetImm, SetReg, Fence, Xchg, Xadd}
+use Rattle.tso_model.specs.declared.action.Action.{Action}
+use Rattle.tso_model.specs.declared.action.Action.TheVariants.{Store, Load, Move, Fence, Lock}
 use Rattle.tso_model.specs.declared.execution.Entry.{Entry}
 use Rattle.tso_model.specs.declared.choice.Choice.{Choice}
 use Rattle.tso_model.specs.declared.choice.Choice.TheVariants.{Step, Drain}
@@ -31,17 +33,18 @@ last-unused : (c : Caches) (before : List Entry) (core : ℕ) (s : CoreState) (l
 last-unused c before core s loc reg word value [] = refl
 last-unused c before core s loc reg word value (p ∷ ps) = refl
 
+action-last : (c : Caches) (before : List Entry) (depth : ℕ) (memory : List ℕ) (core : ℕ) (a : Action) (s : CoreState) (at : Loc) → access_by depth a s.pending ≡ Locks at
+    → (use_of c before (drop 1 (effect_by depth memory core a s).commits)).how ≡ Unused
+action-last c before depth memory core (Store loc operand) s at h = absurd (no-store depth loc at h)
+action-last c before depth memory core (Load reg loc) s at h = absurd (no-load loc at _ h)
+action-last c before depth memory core (Move reg operand) s at h = absurd (let z : ⊥ = cc in z)
+action-last c before depth memory core Fence s at h = absurd (let z : ⊥ = cc in z)
+action-last c before depth memory core (Lock loc reg update) s at h = last-unused c before core s loc reg _ _ s.pending
+
 step-last : (c : Caches) (before : List Entry) (depth : ℕ) (memory : List ℕ) (core : ℕ) (o : Option Instr) (s : CoreState) (at : Loc) → step_access depth o s.pending ≡ Locks at
     → (use_of c before (drop 1 (step_of depth memory core o s).commits)).how ≡ Unused
 step-last c before depth memory core None s at h = absurd (let z : ⊥ = cc in z)
-step-last c before depth memory core (Some (StoreImm loc value)) s at h = absurd (no-store depth loc at h)
-step-last c before depth memory core (Some (StoreReg loc reg)) s at h = absurd (no-store depth loc at h)
-step-last c before depth memory core (Some (Load reg loc)) s at h = absurd (no-load loc at _ h)
-step-last c before depth memory core (Some (SetImm reg value)) s at h = absurd (let z : ⊥ = cc in z)
-step-last c before depth memory core (Some (SetReg reg other)) s at h = absurd (let z : ⊥ = cc in z)
-step-last c before depth memory core (Some Fence) s at h = absurd (let z : ⊥ = cc in z)
-step-last c before depth memory core (Some (Xchg loc reg)) s at h = last-unused c before core s loc reg _ _ s.pending
-step-last c before depth memory core (Some (Xadd loc reg)) s at h = last-unused c before core s loc reg _ _ s.pending
+step-last c before depth memory core (Some instr) s at h = action-last c before depth memory core (action_of instr) s at h
 
 asks-nothing : (c : Caches) (core : ℕ) (what : Access) → (at_access (not_through Unused c) (λ loc write. ask_by c core loc.0 write) what).how ≡ Unused
 asks-nothing c core NoAccess = refl

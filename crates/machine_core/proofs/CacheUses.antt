@@ -6,7 +6,8 @@ use Rattle.tso_model.specs.ProgramOrder.{writes_to}
 use Rattle.tso_model.specs.FlatMachine.{CoreState, fenced, locked, drain_of}
 use Rattle.tso_model.specs.declared.register.Reg.{Reg}
 use Rattle.tso_model.specs.declared.instruction.Loc.{Loc}
-use Rattle.tso_model.specs.declared.instruction.Instr.TheVariants.{Xchg, Xadd}
+use Rattle.tso_model.specs.declared.action.Update.{Update}
+use Rattle.tso_model.specs.declared.action.Action.TheVariants.{Lock}
 use Rattle.tso_model.specs.declared.execution.Entry.{Entry}
 use Rattle.store_buffer.specs.declared.Pending.{Pending}
 use Rattle.store_buffer.specs.Newest.{newest_for}
@@ -16,7 +17,7 @@ use Rattle.snoop_bus.specs.Accesses.{LoadsAt, WritesAt}
 use Rattle.machine_core.specs.declared.processor.Processor.{Processor}
 use Rattle.machine_core.specs.declared.cache_use.CacheUse.{CacheUse}
 use Rattle.machine_core.specs.declared.cache_use.CacheUse.TheVariants.{Unused, Forwarded, Through}
-use Rattle.machine_core.specs.Cores.{store_of, core_state, pending_in, step_by, drain_by}
+use Rattle.machine_core.specs.Cores.{store_of, core_state, pending_in, action_by, drain_by}
 use Rattle.machine_core.specs.Caches.{Caches, caches_of, not_through, load_behind, write_by, use_of}
 use Rattle.machine_core.specs.Performed.{HasUsed}
 use Rattle.machine_core.proofs.Draining.{drain_with, fenced_with, locked_with}
@@ -72,17 +73,10 @@ locked-uses : (c : Caches) (pending : List Entry) (core : ℕ) (s : CoreState) (
 locked-uses c pending core s loc reg word value [] h = refl
 locked-uses c pending core s loc reg word value (p ∷ ps) h = absurd (let z : ⊥ = cc in z)
 
-pub exchanges : (core : ℕ) (p : Processor) (old new : Bus) (loc : Loc) (reg : Reg) (word : ℕ) (access : Access) → p.stores.items ≡ []
+pub locks : (core : ℕ) (p : Processor) (old new : Bus) (loc : Loc) (reg : Reg) (update : Update) (word : ℕ) (access : Access) → p.stores.items ≡ []
     → WritesAt old new core loc.0 word access → IsSameMachine old new
-    → HasUsed (use_of (caches_of old) (pending_in core p) (step_by p core (words_of old) (Xchg loc reg)).commits) new (Through access)
-exchanges core p old new loc reg word access h done machine =
-    subst (λ u. HasUsed u new (Through access)) (sym (locked-uses (caches_of old) (pending_in core p) core (core_state core p) loc reg _ _ p.stores.items h))
-    (writes old new core loc.0 word access done machine)
-
-pub adds : (core : ℕ) (p : Processor) (old new : Bus) (loc : Loc) (reg : Reg) (word : ℕ) (access : Access) → p.stores.items ≡ []
-    → WritesAt old new core loc.0 word access → IsSameMachine old new
-    → HasUsed (use_of (caches_of old) (pending_in core p) (step_by p core (words_of old) (Xadd loc reg)).commits) new (Through access)
-adds core p old new loc reg word access h done machine =
+    → HasUsed (use_of (caches_of old) (pending_in core p) (action_by p core (words_of old) (Lock loc reg update)).commits) new (Through access)
+locks core p old new loc reg update word access h done machine =
     subst (λ u. HasUsed u new (Through access)) (sym (locked-uses (caches_of old) (pending_in core p) core (core_state core p) loc reg _ _ p.stores.items h))
     (writes old new core loc.0 word access done machine)
 

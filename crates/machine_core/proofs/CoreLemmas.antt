@@ -9,15 +9,15 @@ use Rattle.tso_model.specs.FlatMachine.{is_none_pending, CoreState, stalled, fen
 use Rattle.tso_model.specs.Runs.{is_done, all_done}
 use Rattle.tso_model.specs.declared.register.Reg.{Reg}
 use Rattle.tso_model.specs.declared.instruction.Loc.{Loc}
-use Rattle.tso_model.specs.Thread.{value_in, sum_of}
 use Rattle.tso_model.specs.declared.instruction.Instr.{Instr}
-use Rattle.tso_model.specs.declared.instruction.Instr.TheVariants.{Xchg, Xadd}
+use Rattle.tso_model.specs.declared.action.Update.{Update}
+use Rattle.tso_model.specs.declared.action.Action.TheVariants.{Lock}
 use Rattle.tso_model.specs.declared.choice.Stall.TheVariants as stall
 use Rattle.store_buffer.specs.declared.Pending.{Pending}
 use Rattle.store_buffer.specs.Newest.{newest_for}
 use Rattle.machine_core.specs.declared.processor.Processor.{Processor}
 use Rattle.store_buffer.specs.Stores.{stores}
-use Rattle.machine_core.specs.Cores.{store_of, core_state, core_states, step_by}
+use Rattle.machine_core.specs.Cores.{store_of, core_state, core_states, action_by}
 use Rattle.machine_core.specs.Kept.{IsCore}
 use Rattle.machine_core.proofs.Draining.{drain_with, fenced_with, locked_with}
 
@@ -66,15 +66,9 @@ locked-waits : (core : ℕ) (s : CoreState) (loc : Loc) (reg : Reg) (word value 
 locked-waits core s loc reg word value [] h = absurd (h refl)
 locked-waits core s loc reg word value (p ∷ ps) h = refl
 
-pub exchange-waits : (core : ℕ) (p : Processor) (words : List ℕ) (loc : Loc) (reg : Reg) (b : Bool) → (p.stores.items ≡ [] → IsTrue b) → b ≡ false
-    → stalled stall.Lock (core_state core p) ≡ step_by p core words (Xchg loc reg)
-exchange-waits core p words loc reg b f h =
-    sym (locked-waits core (core_state core p) loc reg (slice_index words loc.0) (value_in p.registers reg) p.stores.items (holds_some b p.stores.items f h))
-
-pub addition-waits : (core : ℕ) (p : Processor) (words : List ℕ) (loc : Loc) (reg : Reg) (b : Bool) → (p.stores.items ≡ [] → IsTrue b) → b ≡ false
-    → stalled stall.Lock (core_state core p) ≡ step_by p core words (Xadd loc reg)
-addition-waits core p words loc reg b f h =
-    sym (locked-waits core (core_state core p) loc reg (slice_index words loc.0) (sum_of (slice_index words loc.0) (value_in p.registers reg)) p.stores.items (holds_some b p.stores.items f h))
+pub lock-waits : (core : ℕ) (p : Processor) (words : List ℕ) (loc : Loc) (reg : Reg) (update : Update) (b : Bool) → (p.stores.items ≡ [] → IsTrue b) → b ≡ false
+    → stalled stall.Lock (core_state core p) ≡ action_by p core words (Lock loc reg update)
+lock-waits core p words loc reg update b f h = sym (locked-waits core (core_state core p) loc reg _ _ p.stores.items (holds_some b p.stores.items f h))
 
 pub drain_of-nothing : (core : ℕ) (s : CoreState) (items : List Pending) → slice_get items 0 ≡ None → drain_with s (map (store_of core) items) ≡ stalled stall.Empty s
 drain_of-nothing core s [] h = refl

@@ -4,14 +4,16 @@ use Rattle.std.specs.List.{list_any}
 use Rattle.std.proofs.lemmas.List.Elements.{All-set}
 use Rattle.tso_model.specs.Limits.{most_instructions}
 use Rattle.tso_model.specs.Litmus.{Litmus, IsTest}
-use Rattle.tso_model.specs.Thread.{entry, value_in, sum_of, with_value}
+use Rattle.tso_model.specs.Actions.{action_of}
+use Rattle.tso_model.specs.Thread.{entry, value_in, with_value, value_of, updated}
 use Rattle.tso_model.specs.ProgramOrder.{writes_to}
-use Rattle.tso_model.specs.FlatMachine.{CoreState, State, Effect, stalled, stored, fenced, locked, step_of, drain_of, effect_of, chosen, core_of, program_of}
+use Rattle.tso_model.specs.FlatMachine.{CoreState, State, Effect, stalled, stored, effect_by, step_of, effect_of, chosen, core_of, program_of}
 use Rattle.tso_model.specs.declared.register.Reg.{Reg}
 use Rattle.tso_model.specs.declared.instruction.Core.{Core}
 use Rattle.tso_model.specs.declared.instruction.Loc.{Loc}
 use Rattle.tso_model.specs.declared.instruction.Instr.{Instr}
-use Rattle.tso_model.specs.declared.instruction.Instr.TheVariants.{StoreImm, StoreReg, Load, SetImm, SetReg, Fence, Xchg, Xadd}
+use Rattle.tso_model.specs.declared.action.Action.{Action}
+use Rattle.tso_model.specs.declared.action.Action.TheVariants.{Store, Load, Move, Fence, Lock}
 use Rattle.tso_model.specs.declared.execution.Entry.{Entry}
 use Rattle.tso_model.specs.declared.execution.Kind.{Kind}
 use Rattle.tso_model.specs.declared.execution.Kind.TheVariants.{R, W, F, LR, LW}
@@ -287,24 +289,21 @@ got-below [] i x h = absurd (let z : ⊥ = cc in z)
 got-below (y ∷ ys) zero x h = omega arith
 got-below (y ∷ ys) (suc i) x h = let l = got-below ys i x h in omega arith
 
-instr-advances : (depth : ℕ) (memory : List ℕ) (core : ℕ) (instr : Instr) (s : CoreState) → IsIssued s → s.place < most_instructions
-    → Advances s (step_of depth memory core (Some instr) s)
-instr-advances depth memory core (StoreImm loc value) s i h = stored-advances depth s (entry core s.place W loc value) i h
-instr-advances depth memory core (StoreReg loc reg) s i h = stored-advances depth s (entry core s.place W loc (value_in s.registers reg)) i h
-instr-advances depth memory core (Load reg loc) s i h = goes_on s _ _ _ i h
-instr-advances depth memory core (SetImm reg value) s i h = goes_on s _ _ _ i h
-instr-advances depth memory core (SetReg reg other) s i h = goes_on s _ _ _ i h
-instr-advances depth memory core Fence s i h = fenced-advances core s s.pending i h
-instr-advances depth memory core (Xchg loc reg) s i h = locked-advances core s loc reg (slice_index memory loc.0) (value_in s.registers reg) s.pending i h
-instr-advances depth memory core (Xadd loc reg) s i h =
-    locked-advances core s loc reg (slice_index memory loc.0) (sum_of (slice_index memory loc.0) (value_in s.registers reg)) s.pending i h
+action-advances : (depth : ℕ) (memory : List ℕ) (core : ℕ) (a : Action) (s : CoreState) → IsIssued s → s.place < most_instructions
+    → Advances s (effect_by depth memory core a s)
+action-advances depth memory core (Store loc operand) s i h = stored-advances depth s (entry core s.place W loc (value_of s.registers operand)) i h
+action-advances depth memory core (Load reg loc) s i h = goes_on s _ _ _ i h
+action-advances depth memory core (Move reg operand) s i h = goes_on s _ _ _ i h
+action-advances depth memory core Fence s i h = fenced-advances core s s.pending i h
+action-advances depth memory core (Lock loc reg update) s i h =
+    locked-advances core s loc reg (slice_index memory loc.0) (updated update (slice_index memory loc.0) (value_in s.registers reg)) s.pending i h
 
 step-advances : (depth : ℕ) (memory : List ℕ) (core : ℕ) (program : List Instr) (o : Option Instr) (s : CoreState) → slice_get program s.place ≡ o
     → length program ≤ most_instructions → IsIssued s → Advances s (step_of depth memory core o s)
 step-advances depth memory core program None s got size i = rests s (Stalled stall.Done) i
 step-advances depth memory core program (Some instr) s got size i =
     let below = got-below program s.place instr got in
-    instr-advances depth memory core instr s i (let z : s.place < most_instructions = omega arith in z)
+    action-advances depth memory core (action_of instr) s i (let z : s.place < most_instructions = omega arith in z)
 
 drain-advances : (place : ℕ) (registers : List ℕ) (pending waiting : List Entry) → pending ≡ waiting → IsIssued (record { place = place; registers = registers; pending = pending })
     → Advances (record { place = place; registers = registers; pending = pending }) (drain_with (record { place = place; registers = registers; pending = pending }) waiting)

@@ -1,16 +1,16 @@
 -- The store part of a locked instruction on a split bus.
-use Rattle.std.proofs.Common.{◌≡◌, ◌≢◌, ◌<◌, ℕ, zero, suc, false, List, [], ◌∷◌, None, Some, length, slice_get, slice_index, slice_index_or, slice_set, refl, sym, ap, ◌∙◌, subst}
+use Rattle.std.proofs.Common.{◌≡◌, ◌≢◌, ℕ, zero, suc, false, List, [], ◌∷◌, None, slice_index, slice_set, refl, sym, ap, ◌∙◌, subst}
 use Rattle.std.proofs.lemmas.List.{set-get_or}
 use Rattle.tso_model.specs.Litmus.{Litmus}
-use Rattle.tso_model.specs.Thread.{entry, value_in, sum_of}
-use Rattle.tso_model.specs.FlatMachine.{CoreState, State, Effect, advanced_with, locked, step_of, effect_of, program_of, core_of}
-use Rattle.tso_model.specs.Access.{Access, NoAccess, Locks, store_access, load_access, locked_access, step_access, access_of}
+use Rattle.tso_model.specs.Thread.{entry, value_in, updated}
+use Rattle.tso_model.specs.FlatMachine.{CoreState, State, Effect, advanced_with, effect_by, effect_of, core_of}
+use Rattle.tso_model.specs.Access.{Access, NoAccess, Locks, store_access, load_access, locked_access, access_by, access_of}
 use Rattle.tso_model.specs.SplitMachine.{Free, HeldBetween, BusEffect, acts, as_read, after_first}
 use Rattle.tso_model.specs.declared.bus.Bus.TheVariants.{Split}
 use Rattle.tso_model.specs.declared.register.Reg.{Reg}
 use Rattle.tso_model.specs.declared.instruction.Loc.{Loc}
-use Rattle.tso_model.specs.declared.instruction.Instr.{Instr}
-use Rattle.tso_model.specs.declared.instruction.Instr.TheVariants.{StoreImm, StoreReg, Load, SetImm, SetReg, Fence, Xchg, Xadd}
+use Rattle.tso_model.specs.declared.action.Action.{Action}
+use Rattle.tso_model.specs.declared.action.Action.TheVariants.{Store, Load, Move, Fence, Lock}
 use Rattle.tso_model.specs.declared.execution.Entry.{Entry}
 use Rattle.tso_model.specs.declared.execution.Kind.TheVariants.{LW}
 use Rattle.tso_model.specs.declared.choice.Choice.TheVariants.{Step}
@@ -25,9 +25,10 @@ use Rattle.machine_core.specs.Cores.{core_state}
 use Rattle.machine_core.specs.Caches.{caches_of, not_through, is_awaited, used_between}
 use Rattle.machine_core.specs.Kept.{state_in}
 use Rattle.machine_core.specs.Performed.{HasUsed}
-use Rattle.machine_core.specs.Split.{writes_last_in, use_by, IsLocked, WritesAs}
+use Rattle.machine_core.specs.Split.{writes_last_in, use_by, IsLock, WritesAs}
 use Rattle.machine_core.proofs.Finishing.{free-awaits}
-use Rattle.machine_core.proofs.Performing.{core_of-state_in, effect_in-step, access_of-step}
+use Rattle.machine_core.proofs.Performing.{core_of-state_in}
+use Rattle.machine_core.proofs.StepCompletions.{IsNext, access-next, effect-next}
 use Rattle.machine_core.proofs.Draining.{locked_with}
 
 pub has-read : {P : Type 0} (t : Litmus) (m : Parts P) (e : Entry) → HolderFits Split t m.config.depth (state_in m).flat (state_in m).holder → (state_in m).holder ≡ HeldBetween e
@@ -46,15 +47,12 @@ pub no-load : (loc at : Loc) (pending : List Entry) → load_access loc pending 
 no-load loc at [] h = (let z : ⊥ = cc in z)
 no-load loc at (p ∷ ps) h = (let z : ⊥ = cc in z)
 
-pub is-locked : (depth : ℕ) (instr : Instr) (pending : List Entry) (at : Loc) → step_access depth (Some instr) pending ≡ Locks at → IsLocked instr
-is-locked depth (StoreImm loc value) pending at h = no-store depth loc at h
-is-locked depth (StoreReg loc reg) pending at h = no-store depth loc at h
-is-locked depth (Load reg loc) pending at h = no-load loc at _ h
-is-locked depth (SetImm reg value) pending at h = (let z : ⊥ = cc in z)
-is-locked depth (SetReg reg other) pending at h = (let z : ⊥ = cc in z)
-is-locked depth Fence pending at h = (let z : ⊥ = cc in z)
-is-locked depth (Xchg loc reg) pending at h = tt
-is-locked depth (Xadd loc reg) pending at h = tt
+pub is-lock : (depth : ℕ) (a : Action) (pending : List Entry) (at : Loc) → access_by depth a pending ≡ Locks at → IsLock a
+is-lock depth (Store loc operand) pending at h = no-store depth loc at h
+is-lock depth (Load reg loc) pending at h = no-load loc at _ h
+is-lock depth (Move reg operand) pending at h = (let z : ⊥ = cc in z)
+is-lock depth Fence pending at h = (let z : ⊥ = cc in z)
+is-lock depth (Lock loc reg update) pending at h = tt
 
 -- the core has read this word, and writes this value
 abbrev pub last_part : ℕ → ℕ → CoreState → Loc → Reg → ℕ → ℕ → Effect
@@ -70,34 +68,29 @@ locked-last core words s loc at reg into word value due [] locks read register w
     ∙ ap (λ r. last_part core s.place s at r word value) (sym register) ∙ ap (last_part core s.place s at into word) (sym (writes is))
 locked-last core words s loc at reg into word value due (p ∷ ps) locks read register writes = absurd (let z : ⊥ = cc in z)
 
-step-writes : (depth core : ℕ) (words : List ℕ) (instr : Instr) (s : CoreState) (at : Loc) (into : Reg) (word due : ℕ) → step_access depth (Some instr) s.pending ≡ Locks at
-    → slice_index words at.0 ≡ word → WritesAs instr s.registers word into due → after_first (step_of depth words core (Some instr) s) ≡ last_part core s.place s at into word due
-step-writes depth core words (StoreImm loc value) s at into word due locks read writes = absurd writes
-step-writes depth core words (StoreReg loc reg) s at into word due locks read writes = absurd writes
-step-writes depth core words (Load reg loc) s at into word due locks read writes = absurd writes
-step-writes depth core words (SetImm reg value) s at into word due locks read writes = absurd writes
-step-writes depth core words (SetReg reg other) s at into word due locks read writes = absurd writes
-step-writes depth core words Fence s at into word due locks read writes = absurd writes
-step-writes depth core words (Xchg loc reg) s at into word due locks read writes =
-    locked-last core words s loc at reg into word (value_in s.registers reg) due s.pending locks read writes.0 (λ is. writes.1)
-step-writes depth core words (Xadd loc reg) s at into word due locks read writes =
-    locked-last core words s loc at reg into word (sum_of (slice_index words loc.0) (value_in s.registers reg)) due s.pending locks read writes.0
-    (λ is. writes.1 ∙ ap (λ w. sum_of w (value_in s.registers reg)) (sym is))
+action-writes : (depth core : ℕ) (words : List ℕ) (a : Action) (s : CoreState) (at : Loc) (into : Reg) (word due : ℕ) → access_by depth a s.pending ≡ Locks at
+    → slice_index words at.0 ≡ word → WritesAs a s.registers word into due → after_first (effect_by depth words core a s) ≡ last_part core s.place s at into word due
+action-writes depth core words (Store loc operand) s at into word due locks read writes = absurd writes
+action-writes depth core words (Load reg loc) s at into word due locks read writes = absurd writes
+action-writes depth core words (Move reg operand) s at into word due locks read writes = absurd writes
+action-writes depth core words Fence s at into word due locks read writes = absurd writes
+action-writes depth core words (Lock loc reg update) s at into word due locks read writes =
+    locked-last core words s loc at reg into word (updated update (slice_index words loc.0) (value_in s.registers reg)) due s.pending locks read writes.0
+    (λ is. writes.1 ∙ ap (λ w. updated update w (value_in s.registers reg)) (sym is))
 
 -- memory still has the word that was read
 read-same : (state : State) (e : Entry) → slice_index state.memory e.loc.0 ≡ e.value → as_read state e ≡ state
 read-same state e word =
     ap (λ words. record { memory = words; cores = state.cores }) (ap (slice_set state.memory e.loc.0) (sym word) ∙ set-get_or state.memory e.loc.0 0)
 
-pub writes-last : {P : Type 0} (t : Litmus) (m : Parts P) (e : Entry) (p : Processor) (instr : Instr) (into : Reg) (due : ℕ) → e.core.0 < length m.processors.items
-    → p ≡ slice_index_or m.processors.items e.core.0 p → p.stores.depth ≡ m.config.depth → slice_get (program_of t e.core.0) p.place ≡ Some instr
-    → HasRead t m.config.depth (state_in m).flat e → WritesAs instr p.registers e.value into due
+pub writes-last : {P : Type 0} (t : Litmus) (m : Parts P) (e : Entry) (p : Processor) (a : Action) (into : Reg) (due : ℕ) → IsNext t m e.core p a
+    → HasRead t m.config.depth (state_in m).flat e → WritesAs a p.registers e.value into due
     → writes_last_in t m e ≡ acts (last_part e.core.0 e.place (core_state e.core.0 p) e.loc into e.value due) Free
-writes-last t m e p instr into due h q d g read writes =
-    let place : p.place ≡ e.place = ap (λ (s : CoreState). s.place) (sym (core_of-state_in m e.core.0 p h q)) ∙ read.place in
+writes-last t m e p a into due next read writes =
+    let place : p.place ≡ e.place = ap (λ (s : CoreState). s.place) (sym (core_of-state_in m e.core.0 p next.within next.core_is)) ∙ read.place in
     ap (λ state. acts (after_first (effect_of t m.config.depth state (Step e.core))) Free) (read-same (state_in m).flat e read.word)
-    ∙ ap (λ f. acts (after_first f) Free) (effect_in-step t m e.core p instr h q d g)
-    ∙ ap (λ f. acts f Free) (step-writes p.stores.depth e.core.0 (words_of m.bus) instr (core_state e.core.0 p) e.loc into e.value due (sym (access_of-step t m e.core p instr h q d g) ∙ read.access) read.word writes)
+    ∙ ap (λ f. acts (after_first f) Free) (effect-next t m e.core p a next)
+    ∙ ap (λ f. acts f Free) (action-writes p.stores.depth e.core.0 (words_of m.bus) a (core_state e.core.0 p) e.loc into e.value due (sym (access-next t m e.core p a next) ∙ read.access) read.word writes)
     ∙ ap (λ n. acts (last_part e.core.0 n (core_state e.core.0 p) e.loc into e.value due) Free) place
 
 -- it is no access

@@ -1,3 +1,4 @@
+pub mod Overwriting
 pub mod Draining
 pub mod CacheUses
 pub mod Storing
@@ -14,6 +15,7 @@ pub mod StepCompletions
 pub mod LastWrites
 pub mod TallyLemmas
 pub mod CoreLemmas
+pub mod Beginning
 pub mod Performing
 pub mod Paired
 pub mod RunningLemmas

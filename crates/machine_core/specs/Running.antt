@@ -10,6 +10,7 @@ use Rattle.tso_model.specs.declared.bus.Bus.{Bus}
 use Rattle.tso_model.specs.declared.execution.Entry.{Entry}
 use Rattle.tso_model.specs.declared.choice.Choice.{Choice}
 use Rattle.protocol_tables.specs.Tables.{Table}
+use Rattle.snoop_bus.specs.Rows.{table_of}
 use Rattle.machine_core.specs.Configuration.{Configuration}
 use Rattle.machine_core.specs.Caches.{attempt_of}
 use Rattle.machine_core.specs.Statistics.{Statistics, no_statistics, statistics_after}
@@ -37,6 +38,17 @@ new_machine table config t = record {
   failed = false;
 }
 
+-- its protocol's table, and its configuration
+abbrev pub table_in : Running → Table
+table_in m = table_of m.statistics.caches.rows
+
+abbrev pub configuration_of : Running → Configuration
+configuration_of m = record { depth = m.depth; shape = m.statistics.caches.shape; bus = m.bus }
+
+-- the machine at the beginning of its test: a new one of the same protocol and configuration
+abbrev pub restarted : Running → Running
+restarted m = new_machine (table_in m) (configuration_of m) m.test
+
 -- a choice on a machine, with its caches' answer whether the choice's access hits
 abbrev pub attempt_on : Running → Choice → Attempt
 attempt_on m choice = attempt_of m.test m.depth m.state.flat m.statistics.caches choice
@@ -49,7 +61,7 @@ AnswerFits m choice = HitFits m.test m.depth m.state.flat (attempt_on m choice) 
 abbrev pub effect_by : Running → Choice → BusEffect
 effect_by m choice = effect_on m.bus m.test m.depth m.state (attempt_on m choice)
 
--- the machine after a choice: the next state on its bus, what the choice commits behind the earlier commits, and what it had
+-- the machine after a choice: the next state on its bus, what the choice commits after the earlier commits, and what it had
 -- to do with the caches counted
 abbrev pub machine_after : Running → Choice → Running
 machine_after m choice = record {

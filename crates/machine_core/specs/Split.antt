@@ -4,10 +4,10 @@ use Rattle.std.specs.Prelude.{◌≡◌, ◌<◌, ℕ, false, List}
 use Rattle.tso_model.specs.Litmus.{Litmus}
 use Rattle.tso_model.specs.Access.{Access, NoAccess, Reads, Writes, Locks, access_of}
 use Rattle.tso_model.specs.SplitMachine.{Holder, Free, HeldBy, HeldBetween, BusEffect, same_choice, begins, completes, writes_last, split_effect}
-use Rattle.tso_model.specs.Thread.{value_in, sum_of}
+use Rattle.tso_model.specs.Thread.{value_in, updated}
 use Rattle.tso_model.specs.declared.register.Reg.{Reg}
-use Rattle.tso_model.specs.declared.instruction.Instr.{Instr}
-use Rattle.tso_model.specs.declared.instruction.Instr.TheVariants.{StoreImm, StoreReg, Load, SetImm, SetReg, Fence, Xchg, Xadd}
+use Rattle.tso_model.specs.declared.action.Action.{Action}
+use Rattle.tso_model.specs.declared.action.Action.TheVariants.{Lock}
 use Rattle.tso_model.specs.declared.execution.Entry.{Entry}
 use Rattle.tso_model.specs.declared.choice.Choice.{Choice}
 use Rattle.tso_model.specs.declared.choice.Choice.TheVariants.{Step}
@@ -49,24 +49,12 @@ IsOther Free choice = Unit {0}
 IsOther (HeldBy asked) choice = same_choice asked choice ≡ false
 IsOther (HeldBetween e) choice = same_choice (Step e.core) choice ≡ false
 
--- the instruction reads and writes memory at once
-abbrev pub IsLocked : Instr → Type 0
-IsLocked (StoreImm loc value) = ⊥
-IsLocked (StoreReg loc reg) = ⊥
-IsLocked (Load reg loc) = ⊥
-IsLocked (SetImm reg value) = ⊥
-IsLocked (SetReg reg other) = ⊥
-IsLocked Fence = ⊥
-IsLocked (Xchg loc reg) = Unit {0}
-IsLocked (Xadd loc reg) = Unit {0}
+-- the action is a locked read and write
+abbrev pub IsLock : Action → Type 0
+IsLock (Lock loc reg update) = Unit {0}
+IsLock _ = ⊥
 
 -- with these registers a locked instruction that read this word writes this value, and the word goes to this register
-abbrev pub WritesAs : Instr → List ℕ → ℕ → Reg → ℕ → Type 0
-WritesAs (StoreImm loc value) registers word into due = ⊥
-WritesAs (StoreReg loc reg) registers word into due = ⊥
-WritesAs (Load reg loc) registers word into due = ⊥
-WritesAs (SetImm reg value) registers word into due = ⊥
-WritesAs (SetReg reg other) registers word into due = ⊥
-WritesAs Fence registers word into due = ⊥
-WritesAs (Xchg loc reg) registers word into due = (into ≡ reg) × (due ≡ value_in registers reg)
-WritesAs (Xadd loc reg) registers word into due = (into ≡ reg) × (due ≡ sum_of word (value_in registers reg))
+abbrev pub WritesAs : Action → List ℕ → ℕ → Reg → ℕ → Type 0
+WritesAs (Lock loc reg update) registers word into due = (into ≡ reg) × (due ≡ updated update word (value_in registers reg))
+WritesAs _ registers word into due = ⊥

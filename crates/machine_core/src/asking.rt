@@ -29,7 +29,7 @@ use crate::processor::Processor;
 use protocol_tables::Protocol;
 use snoop_bus::SnoopBus;
 use split_laws::accesses_wait;
-use tso_model::{Choice, Core, Instr, Loc, NoMemory, Outcome, Stall, Test};
+use tso_model::{Action, Choice, Core, Instr, Loc, NoMemory, Outcome, Stall, Test};
 
 /// Makes a choice on a split bus, and answers its outcome and what it had to do with the caches.
 pub fn act_on_split<P: Protocol>(
@@ -178,11 +178,11 @@ fn step_access(processor: &Processor, instr: Instr) -> MemoryAccess
     ensures value { (core : ℕ) → access_in result ≡ step_access processor.now.stores.depth (Some instr) (pending_in core processor.now) }
     ensures known { (locations : ℕ) → KnownLocation locations instr → IsAccessAmong locations (access_in result) }
 {
-    match instr {
-        Instr::StoreImm(loc, _) | Instr::StoreReg(loc, _) => store_access(processor, loc),
-        Instr::Load(_, loc) => load_access(processor, loc),
-        Instr::Xchg(loc, _) | Instr::Xadd(loc, _) => locked_access(processor, loc),
-        Instr::SetImm(_, _) | Instr::SetReg(_, _) | Instr::Fence => MemoryAccess::Nothing,
+    match instr.action() {
+        Action::Store(loc, _) => store_access(processor, loc),
+        Action::Load(_, loc) => load_access(processor, loc),
+        Action::Lock(loc, _, _) => locked_access(processor, loc),
+        Action::Move(..) | Action::Fence => MemoryAccess::Nothing,
     }
 }
 

@@ -1,3 +1,5 @@
+//! What a choice had to do with the caches.
+
 use snoop_bus::Access;
 
 /// What a choice had to do with the caches.

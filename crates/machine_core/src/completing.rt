@@ -18,7 +18,7 @@ ghost use Rattle.machine_core.specs.Cores.{core_state, pending_in, advanced, dra
 ghost use Rattle.machine_core.specs.Caches.{caches_of, at_access, not_through, completion_by};
 ghost use Rattle.machine_core.specs.Kept.{FitsTest, IsHeldAs, held_for, state_in};
 ghost use Rattle.machine_core.specs.Performed.{HasUsed, Performs};
-ghost use Rattle.machine_core.specs.Split.{completes_in, writes_last_in, use_by, IsLocked, WritesAs};
+ghost use Rattle.machine_core.specs.Split.{completes_in, writes_last_in, use_by, IsLock, WritesAs};
 
 use crate::cache_use::CacheUse;
 use crate::holding::Holding;
@@ -27,11 +27,11 @@ use crate::processor::{Processor, advance};
 use order_builder::Commits;
 use protocol_tables::Protocol;
 use snoop_bus::{Access, SnoopBus};
-use tso_model::{Choice, Core, Entry, Instr, Kind, Loc, NoMemory, Outcome, Reg, Test};
+use tso_model::{Action, Choice, Core, Entry, Kind, Loc, NoMemory, Outcome, Reg, Test};
 
 /// Completes the action that has asked, which is this choice.
 ///
-/// Fails only for want of memory, and then changes nothing.
+/// Errors: out of memory only; nothing is changed then.
 pub fn complete<P: Protocol>(
     parts: &mut Parts<P>,
     test: &Test,
@@ -84,8 +84,10 @@ fn complete_step<P: Protocol>(
     ensures held { IsHeldAs test.now parts.new }
 {
     let processor = &mut parts.processors[core.0 as usize];
-    match instruction_at(test.program(core), processor.place).unwrap() {
-        Instr::StoreImm(loc, value) => {
+    let instr = instruction_at(test.program(core), processor.place).unwrap();
+    match instr.action() {
+        Action::Store(loc, operand) => {
+            let value = operand.value(&processor.registers);
             let access = store(
                 processor,
                 core,
@@ -97,20 +99,7 @@ fn complete_step<P: Protocol>(
             parts.holding = Holding::Free;
             Ok((Outcome::Committed, CacheUse::Through(access)))
         }
-        Instr::StoreReg(loc, reg) => {
-            let value = processor.register(reg);
-            let access = store(
-                processor,
-                core,
-                loc,
-                value,
-                &mut parts.bus,
-                &mut parts.commits,
-            )?;
-            parts.holding = Holding::Free;
-            Ok((Outcome::Committed, CacheUse::Through(access)))
-        }
-        Instr::Load(reg, loc) => {
+        Action::Load(reg, loc) => {
             let access = load(
                 processor,
                 core,
@@ -122,13 +111,13 @@ fn complete_step<P: Protocol>(
             parts.holding = Holding::Free;
             Ok((Outcome::Committed, CacheUse::Through(access)))
         }
-        Instr::Xchg(loc, _) | Instr::Xadd(loc, _) => {
+        Action::Lock(loc, _, _) => {
             let place = processor.place;
             let (entry, access) = read_first(core, place, loc, &mut parts.bus, &mut parts.commits)?;
             parts.holding = Holding::Between(entry);
             Ok((Outcome::Committed, CacheUse::Through(access)))
         }
-        _ => unreachable!(),
+        Action::Move(..) | Action::Fence => unreachable!(),
     }
 }
 
@@ -259,7 +248,7 @@ fn store_oldest<P: Protocol>(
 
 /// A plain store that has asked goes to memory, and is noted.
 ///
-/// Fails only for want of memory, and then changes nothing.
+/// Errors: out of memory only; nothing is changed then.
 fn write<P: Protocol>(
     core: Core,
     place: u8,
@@ -327,7 +316,7 @@ fn read_first<P: Protocol>(
 
 /// A locked instruction with this load part commits its store part, and frees the bus.
 ///
-/// Fails only for want of memory, and then changes nothing.
+/// Errors: out of memory only; nothing is changed then.
 pub fn write_last<P: Protocol>(
     parts: &mut Parts<P>,
     test: &Test,
@@ -353,7 +342,7 @@ pub fn write_last<P: Protocol>(
     let core = read.core;
     let processor = &mut parts.processors[core.0 as usize];
     let instr = instruction_at(test.program(core), processor.place).unwrap();
-    let (reg, value) = written(processor, instr, read.value);
+    let (reg, value) = written(processor, instr.action(), read.value);
     parts.commits.note(Entry {
         core,
         place: read.place,
@@ -368,13 +357,12 @@ pub fn write_last<P: Protocol>(
 }
 
 /// The register of a locked instruction, and what it writes where it read this word.
-fn written(processor: &Processor, instr: Instr, word: u32) -> (Reg, u32)
-    requires { IsLocked instr }
-    ensures { WritesAs instr processor.now.registers word result.0 result.1 }
+fn written(processor: &Processor, action: Action, word: u32) -> (Reg, u32)
+    requires { IsLock action }
+    ensures { WritesAs action processor.now.registers word result.0 result.1 }
 {
-    match instr {
-        Instr::Xchg(_, reg) => (reg, processor.register(reg)),
-        Instr::Xadd(_, reg) => (reg, word.wrapping_add(processor.register(reg))),
+    match action {
+        Action::Lock(_, reg, update) => (reg, update.apply(word, processor.register(reg))),
         _ => unreachable!(),
     }
 }

@@ -1,3 +1,5 @@
+//! How a machine is built.
+
 ghost use Rattle.std.specs.Prelude.{◌≡◌, ◌≤◌, ◌↔◌, IsSome, IfSome};
 ghost use Rattle.snoop_bus.specs.Geometry.{IsLineSize};
 ghost use Rattle.tso_model.specs.Limits.{most_depth};

@@ -1,3 +1,5 @@
+//! What is counted of the accesses of a cache.
+
 /// What the accesses of one core's cache were, counted over a run. A load that the core's own pending
 /// stores answer is no access; a locked instruction is one write access.
 #[derive(Clone, Copy, PartialEq, Eq)]

@@ -1,3 +1,5 @@
+//! Who holds the bus.
+
 use tso_model::{Choice, Entry};
 
 /// Who holds the bus.

@@ -1,12 +1,13 @@
 //! A locked instruction made whole: its word is read and written at one choice, with nothing between.
-ghost use Rattle.std.specs.Prelude.{◌≡◌, ◌≢◌, ◌<◌, ◌≤◌, ◌++◌, ◌∷◌, [], IsOk, IfOk, OnOk, OnErr, length};
+ghost use Rattle.std.specs.Prelude.{◌≡◌, ◌≢◌, ◌<◌, ◌≤◌, ◌++◌, ◌∷◌, ◌⊎◌, true, [], Some, IsTrue, IsOk, IfOk, OnOk, OnErr, length, slice_get};
 ghost use Rattle.tso_model.specs.Limits.{most_instructions};
-ghost use Rattle.tso_model.specs.Thread.{entry};
+ghost use Rattle.tso_model.specs.Thread.{entry, updated};
 ghost use Rattle.tso_model.specs.FlatMachine.{memory_after};
 ghost use Rattle.tso_model.specs.declared.execution.Kind.TheVariants.{LR, LW};
 ghost use Rattle.tso_model.specs.Access.{locked_access};
-ghost use Rattle.snoop_bus.specs.Bus.{words_of, cores_of, holder_of};
-ghost use Rattle.machine_core.specs.Cores.{core_state, pending_in, step_by};
+ghost use Rattle.snoop_bus.specs.Bus.{words_of, cores_of, holder_of, IsFree, IsSameMachine};
+ghost use Rattle.snoop_bus.specs.Accesses.{WritesAt, would_hit};
+ghost use Rattle.machine_core.specs.Cores.{core_state, pending_in, action_by};
 ghost use Rattle.machine_core.specs.Performed.{HasUsed, MayAct};
 ghost use Rattle.machine_core.specs.Caches.{caches_of, use_of};
 
@@ -14,16 +15,17 @@ use crate::cache_use::CacheUse;
 use crate::processor::{Processor, advance};
 use order_builder::Commits;
 use protocol_tables::Protocol;
-use snoop_bus::SnoopBus;
-use tso_model::{Core, Entry, Instr, Kind, Loc, NoMemory, Outcome, Reg, Stall};
+use snoop_bus::{Access, SnoopBus};
+use tso_model::{Action, Core, Entry, Kind, Loc, NoMemory, Outcome, Reg, Stall, Update};
 
-/// An exchange waits until nothing is buffered. Then it reads the word into the register and writes
-/// the register's value in its place, both at once.
-pub fn exchange<P: Protocol>(
+/// A locked instruction waits until nothing is buffered. Then it reads the word into the register and
+/// writes what the update makes of the word and the register's value, both at once.
+pub fn read_and_write<P: Protocol>(
     processor: &mut Processor,
     core: Core,
     reg: Reg,
     loc: Loc,
+    update: Update,
     bus: &mut SnoopBus<P>,
     commits: &mut Commits,
 ) -> Result<(Outcome, CacheUse), NoMemory>
@@ -32,12 +34,12 @@ pub fn exchange<P: Protocol>(
     requires free { MayAct bus.old core.0 (locked_access loc (pending_in core.0 processor.old)) }
     requires known { loc.0 < length (words_of bus.old) }
 
-    ensures outcome { IfOk result (λ r. r.0 ≡ (step_by processor.old core.0 (words_of bus.old) (Instr.Xchg loc reg)).outcome) }
-    ensures after { OnOk result (core_state core.0 processor.new ≡ (step_by processor.old core.0 (words_of bus.old) (Instr.Xchg loc reg)).after) }
-    ensures words { OnOk result (words_of bus.new ≡ memory_after (step_by processor.old core.0 (words_of bus.old) (Instr.Xchg loc reg)).commits (words_of bus.old)) }
-    ensures commits { OnOk result (commits.new.entries ≡ commits.old.entries ++ (step_by processor.old core.0 (words_of bus.old) (Instr.Xchg loc reg)).commits) }
-    ensures caches { IfOk result (λ r. HasUsed (use_of (caches_of bus.old) (pending_in core.0 processor.old) (step_by processor.old core.0 (words_of bus.old) (Instr.Xchg loc reg)).commits) bus.new r.1) }
-    ensures succeeds { (step_by processor.old core.0 (words_of bus.old) (Instr.Xchg loc reg)).outcome ≢ Outcome.Committed → IsOk result }
+    ensures outcome { IfOk result (λ r. r.0 ≡ (action_by processor.old core.0 (words_of bus.old) (Action.Lock loc reg update)).outcome) }
+    ensures after { OnOk result (core_state core.0 processor.new ≡ (action_by processor.old core.0 (words_of bus.old) (Action.Lock loc reg update)).after) }
+    ensures words { OnOk result (words_of bus.new ≡ memory_after (action_by processor.old core.0 (words_of bus.old) (Action.Lock loc reg update)).commits (words_of bus.old)) }
+    ensures commits { OnOk result (commits.new.entries ≡ commits.old.entries ++ (action_by processor.old core.0 (words_of bus.old) (Action.Lock loc reg update)).commits) }
+    ensures caches { IfOk result (λ r. HasUsed (use_of (caches_of bus.old) (pending_in core.0 processor.old) (action_by processor.old core.0 (words_of bus.old) (Action.Lock loc reg update)).commits) bus.new r.1) }
+    ensures succeeds { (action_by processor.old core.0 (words_of bus.old) (Action.Lock loc reg update)).outcome ≢ Outcome.Committed → IsOk result }
 
     ensures err_core { OnErr result (processor.new ≡ processor.old) }
     ensures err_bus { OnErr result (bus.new ≡ bus.old) }
@@ -52,63 +54,48 @@ pub fn exchange<P: Protocol>(
     }
     let value = processor.register(reg);
     commits.make_room(2)?;
-    let (word, access) = bus.swap(core, loc, value)?;
-    note_locked(commits, core, processor.place, loc, word, value)?;
-    advance(processor, reg, word);
-    Ok((Outcome::Committed, CacheUse::Through(access)))
-}
-
-/// An addition waits until nothing is buffered. Then it reads the word into the register and writes
-/// the sum of the word and the register's value in its place, both at once.
-pub fn add<P: Protocol>(
-    processor: &mut Processor,
-    core: Core,
-    reg: Reg,
-    loc: Loc,
-    bus: &mut SnoopBus<P>,
-    commits: &mut Commits,
-) -> Result<(Outcome, CacheUse), NoMemory>
-    requires place { processor.old.place < most_instructions }
-    requires core { core.0 < cores_of bus.old }
-    requires free { MayAct bus.old core.0 (locked_access loc (pending_in core.0 processor.old)) }
-    requires known { loc.0 < length (words_of bus.old) }
-
-    ensures outcome { IfOk result (λ r. r.0 ≡ (step_by processor.old core.0 (words_of bus.old) (Instr.Xadd loc reg)).outcome) }
-    ensures after { OnOk result (core_state core.0 processor.new ≡ (step_by processor.old core.0 (words_of bus.old) (Instr.Xadd loc reg)).after) }
-    ensures words { OnOk result (words_of bus.new ≡ memory_after (step_by processor.old core.0 (words_of bus.old) (Instr.Xadd loc reg)).commits (words_of bus.old)) }
-    ensures commits { OnOk result (commits.new.entries ≡ commits.old.entries ++ (step_by processor.old core.0 (words_of bus.old) (Instr.Xadd loc reg)).commits) }
-    ensures caches { IfOk result (λ r. HasUsed (use_of (caches_of bus.old) (pending_in core.0 processor.old) (step_by processor.old core.0 (words_of bus.old) (Instr.Xadd loc reg)).commits) bus.new r.1) }
-    ensures succeeds { (step_by processor.old core.0 (words_of bus.old) (Instr.Xadd loc reg)).outcome ≢ Outcome.Committed → IsOk result }
-
-    ensures err_core { OnErr result (processor.new ≡ processor.old) }
-    ensures err_bus { OnErr result (bus.new ≡ bus.old) }
-    ensures err_commits { OnErr result (commits.new.entries ≡ commits.old.entries) }
-    ensures cores { cores_of bus.new ≡ cores_of bus.old }
-    ensures holder { holder_of bus.new ≡ holder_of bus.old }
-    ensures count { length (words_of bus.new) ≡ length (words_of bus.old) }
-    ensures stores { processor.new.stores ≡ processor.old.stores }
-{
-    if !processor.stores.is_empty() {
-        return Ok((Outcome::Stalled(Stall::Lock), CacheUse::Unused));
-    }
-    let value = processor.register(reg);
-    commits.make_room(2)?;
-    let (word, access) = bus.add(core, loc, value)?;
+    let (word, access) = put_updated(bus, core, loc, update, value)?;
     note_locked(
         commits,
         core,
         processor.place,
         loc,
         word,
-        word.wrapping_add(value),
+        update.apply(word, value),
     )?;
     advance(processor, reg, word);
     Ok((Outcome::Committed, CacheUse::Through(access)))
 }
 
+/// Writes what the update makes of the word at a location and of this value. Answers the word that was
+/// there, and what the one write access was.
+///
+/// Errors: out of memory only; then nothing has changed.
+fn put_updated<P: Protocol>(
+    bus: &mut SnoopBus<P>,
+    core: Core,
+    loc: Loc,
+    update: Update,
+    value: u32,
+) -> Result<(u32, Access), NoMemory>
+    requires core { core.0 < cores_of bus.old }
+    requires known { loc.0 < length (words_of bus.old) }
+    requires free { IsFree bus.old ⊎ IsTrue (would_hit bus.old core.0 loc.0 true) }
+
+    ensures word { IfOk result (λ r. slice_get (words_of bus.old) loc.0 ≡ Some r.0) }
+    ensures done { IfOk result (λ r. WritesAt bus.old bus.new core.0 loc.0 (updated update r.0 value) r.1) }
+    ensures machine { IsSameMachine bus.old bus.new }
+    ensures err { OnErr result (bus.new ≡ bus.old) }
+{
+    match update {
+        Update::Exchange => bus.swap(core, loc, value),
+        Update::Add => bus.add(core, loc, value),
+    }
+}
+
 /// Notes both parts of a locked instruction that read this word and wrote this value.
 ///
-/// Fails only for want of memory, and not where there is room for both.
+/// Errors: out of memory only, and not where there is room for both.
 fn note_locked(
     commits: &mut Commits,
     core: Core,

@@ -1,11 +1,15 @@
+//! The machine: a test, choices one at a time, and what is left.
+
 ghost use Rattle.std.specs.Prelude.{◌≡◌, ◌≢◌, ◌<◌, true, false, IsTrue, IsOk, IsErr, IfOk, OnOk, OnErr, length, map};
 ghost use Rattle.tso_model.specs.FlatMachine.{chosen};
 ghost use Rattle.tso_model.specs.Together.{put_together};
-ghost use Rattle.machine_core.specs.Running.{new_machine, effect_by, machine_after, AnswerFits, IsRefused, is_ended};
+ghost use Rattle.machine_core.specs.Running.{new_machine, effect_by, machine_after, AnswerFits, IsRefused, is_ended, restarted};
 
 use crate::config::Config;
 use crate::counts::Counts;
+use crate::ending::{FinalState, final_state};
 use crate::parts::{Parts, are_done, begin, memory_of, perform, registers_of};
+use crate::restarting::restart;
 use order_builder::build;
 use protocol_tables::Protocol;
 use split_laws::{
@@ -62,7 +66,7 @@ impl<'a, P: Protocol> Machine<'a, P> {
     /// registers and nothing buffered, memory with the test's first words, the caches empty, the bus held
     /// by nobody, and nothing committed or counted.
     ///
-    /// Fails only for want of memory.
+    /// Errors: out of memory only.
     pub fn new(alloc: Global, protocol: P, test: &'a Test, config: Config) -> Result<Self, NoMemory>
         ensures { IfOk result (λ m. m ≡ new_machine (P.table protocol) config test.now) }
     {
@@ -79,7 +83,7 @@ impl<'a, P: Protocol> Machine<'a, P> {
     /// changes nothing. On a split bus a choice that needs the bus asks for it first, and the same choice
     /// completes it later; an access is counted when it is completed.
     ///
-    /// Fails only for want of memory, which a choice takes only where it commits; then the machine
+    /// Errors: out of memory only, which a choice takes only where it commits; then the machine
     /// has failed, and each later call fails as well.
     pub fn choose(&mut self, choice: Choice) -> Result<Outcome, NoMemory>
         requires { chosen choice < length self.old.test.programs }
@@ -115,9 +119,41 @@ impl<'a, P: Protocol> Machine<'a, P> {
         !self.failed && are_done(&self.parts, self.test)
     }
 
+    /// Goes back to the beginning of the test: the machine is as `new` made it. It keeps its room, and no memory
+    /// is taken.
+    pub fn restart(&mut self)
+        ensures { self.new ≡ restarted self.old }
+    {
+        attempts_lead_from_state_to_state();
+        restart(&mut self.parts, self.test);
+        self.failed = false;
+    }
+
+    /// Answers the final state, and goes back to the beginning of the test as `restart` does.
+    ///
+    /// Errors: out of memory only; the machine has gone back then too.
+    pub fn end_run(&mut self, alloc: Global) -> Result<FinalState, NoMemory>
+        requires { IsTrue (is_ended self.old) }
+
+        ensures registers { IfOk result (λ f. f.registers.items ≡ map (λ c. c.registers) self.old.state.flat.cores) }
+        ensures memory { IfOk result (λ f. f.memory.items ≡ self.old.state.flat.memory) }
+        ensures restarted { self.new ≡ restarted self.old }
+
+        // As many registers as the test has cores, and as many words as it has locations.
+        ensures cores { IfOk result (λ f. length f.registers.items ≡ length self.old.test.programs) }
+        ensures locations { IfOk result (λ f. length f.memory.items ≡ length self.old.test.locations) }
+    {
+        what_holds_so_far_on_either_bus();
+        attempts_lead_from_state_to_state();
+        let state = final_state(alloc, &mut self.parts, self.test);
+        restart(&mut self.parts, self.test);
+        self.failed = false;
+        state
+    }
+
     /// Gives up the machine for what it leaves.
     ///
-    /// Fails only for want of memory.
+    /// Errors: out of memory only.
     pub fn finish(self, alloc: Global) -> Result<Final, NoMemory>
         requires { IsTrue (is_ended self) }
 

@@ -1,3 +1,5 @@
+//! What a choice is to read or write in memory.
+
 use tso_model::Loc;
 
 /// What a choice is to read or write beyond its core's own buffer.

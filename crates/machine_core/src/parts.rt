@@ -1,3 +1,5 @@
+//! What a machine consists of, and what a choice does to it.
+
 ghost use Rattle.std.specs.Prelude.{◌≡◌, ◌≢◌, ℕ, ◌<◌, ◌≤◌, [], true, false, IsOk, IfOk, OnOk, OnErr, All, length, map, replicate, slice_get, take};
 ghost use Rattle.tso_model.specs.Limits.{most_depth};
 ghost use Rattle.tso_model.specs.FlatMachine.{chosen, started, start};
@@ -27,7 +29,7 @@ use snoop_bus::SnoopBus;
 use std::alloc::Global;
 use tso_model::{Bus, Choice, Core, Instr, Loc, NoMemory, Outcome, Stall, Test};
 
-/// What a machine consists of: its cores, memory behind their caches, who holds the bus, what was
+/// What a machine consists of: its cores, memory after their caches, who holds the bus, what was
 /// committed and what was counted.
 #[derive(Drop)]
 pub struct Parts<P: Protocol> {
@@ -107,7 +109,7 @@ fn processors_of(alloc: Global, test: &Test, depth: u8) -> Result<Vec<Processor>
 
 /// Makes a choice, and counts what it had to do with the caches.
 ///
-/// Fails only for want of memory, and then changes nothing.
+/// Errors: out of memory only; nothing is changed then.
 pub fn perform<P: Protocol>(
     parts: &mut Parts<P>,
     test: &Test,
@@ -231,7 +233,7 @@ fn step<P: Protocol>(
     }
 }
 
-/// The instruction at this place of the program, if it isn't behind its end.
+/// The instruction at this place of the program, if it isn't after its end.
 pub fn instruction_at(program: &[Instr], place: u8) -> Option<Instr>
     ensures { result ≡ slice_get program.now place }
 {

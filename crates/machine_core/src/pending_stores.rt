@@ -1,3 +1,5 @@
+//! The pending stores of a core, with a buffer or without.
+
 ghost use Rattle.std.specs.Prelude.{◌≡◌, ◌<◌, ◌≤◌, ◌↔◌, [], ◌∷◌, ◌++◌, IsTrue, IfOk, OnOk, IfErr, length, drop, slice_get};
 ghost use Rattle.tso_model.specs.Limits.{most_depth};
 
@@ -31,7 +33,7 @@ impl PendingStores {
     /// Nothing pending, with a buffer of this depth, up to `MAX_DEPTH` of `tso_model`; at depth 0 with
     /// none. No other call takes memory.
     ///
-    /// Fails only for want of memory.
+    /// Errors: out of memory only.
     pub fn new(alloc: Global, depth: u8) -> Result<Self, NoMemory>
         requires { depth ≤ most_depth }
         ensures { IfOk result (λ s. s ≡ stores [] depth) }
@@ -84,6 +86,15 @@ impl PendingStores {
         match &mut self.buffer {
             None => None,
             Some(buffer) => buffer.take_oldest(),
+        }
+    }
+
+    /// Lets every pending store go, so that nothing is pending, as `new` left it.
+    pub fn clear(&mut self)
+        ensures { self.new ≡ stores [] self.old.depth }
+    {
+        if let Some(buffer) = &mut self.buffer {
+            buffer.clear();
         }
     }
 

@@ -1,3 +1,5 @@
+//! A core, its steps and its drains.
+
 ghost use Rattle.std.specs.Prelude.{◌≡◌, ◌≢◌, ℕ, ◌<◌, Some, ◌≤◌, ◌++◌, ◌∷◌, List, [], IsOk, IfOk, OnOk, OnErr, All, length, map, filter, slice_index, slice_set};
 ghost use Rattle.tso_model.specs.Limits.{most_instructions};
 ghost use Rattle.tso_model.specs.Litmus.{KnownLocation};
@@ -8,18 +10,18 @@ ghost use Rattle.tso_model.specs.FlatMachine.{memory_after};
 ghost use Rattle.tso_model.specs.Access.{Writes, step_access, store_access, load_access, drain_access};
 ghost use Rattle.tso_model.specs.declared.execution.Kind.TheVariants.{W};
 ghost use Rattle.snoop_bus.specs.Bus.{Bus, words_of, cores_of, holder_of};
-ghost use Rattle.machine_core.specs.Cores.{store_of, core_state, pending_in, advanced, step_by, drain_by};
+ghost use Rattle.machine_core.specs.Cores.{store_of, core_state, pending_in, advanced, action_by, store_by, fence_by, step_by, drain_by};
 ghost use Rattle.machine_core.specs.Performed.{HasUsed, MayAct};
 ghost use Rattle.machine_core.specs.Caches.{caches_of, load_behind, write_by, use_of};
 
 use crate::cache_use::CacheUse;
-use crate::locked::{add, exchange};
+use crate::locked::read_and_write;
 use crate::pending_stores::PendingStores;
 use order_builder::Commits;
 use protocol_tables::Protocol;
 use snoop_bus::{Access, SnoopBus};
 use store_buffer::Pending;
-use tso_model::{Core, Entry, Instr, Kind, Loc, NoMemory, Outcome, Reg, Stall};
+use tso_model::{Action, Core, Entry, Instr, Kind, Loc, NoMemory, Outcome, Reg, Stall};
 
 /// A core: the place in its program, its registers, and the stores that it has issued and memory has
 /// not seen yet.
@@ -32,13 +34,22 @@ pub struct Processor {
 
 impl Processor {
     ghost use Rattle.tso_model.specs.Runs.{is_done};
-    ghost use Rattle.machine_core.specs.Cores.{core_state};
+    ghost use Rattle.machine_core.specs.Cores.{core_state, restarted};
 
     /// The value of a register.
     pub fn register(&self, reg: Reg) -> u32
         ensures { result ≡ value_in self.now.registers reg }
     {
         self.registers[reg.index()]
+    }
+
+    /// The core goes back before its first instruction, with these registers and nothing pending.
+    pub fn restart(&mut self, registers: [u32; 6])
+        ensures { self.new ≡ restarted registers self.old }
+    {
+        self.place = 0;
+        self.registers = registers;
+        self.stores.clear();
     }
 
     /// Whether the core is at the end of this program with nothing buffered.
@@ -51,7 +62,7 @@ impl Processor {
 
 /// A step of the core at this instruction, which is its next.
 ///
-/// Fails only for want of memory, and then changes nothing.
+/// Errors: out of memory only; nothing is changed then.
 pub fn step<P: Protocol>(
     processor: &mut Processor,
     core: Core,
@@ -81,21 +92,20 @@ pub fn step<P: Protocol>(
     ensures depth { processor.new.stores.depth ≡ processor.old.stores.depth }
     ensures stores { All (λ s. s.loc.0 < length (words_of bus.old)) processor.new.stores.items }
 {
-    match instr {
-        Instr::StoreImm(loc, value) => store(processor, core, loc, value, bus, commits),
-        Instr::StoreReg(loc, reg) => {
-            let value = processor.register(reg);
+    match instr.action() {
+        Action::Store(loc, operand) => {
+            let value = operand.value(&processor.registers);
             store(processor, core, loc, value, bus, commits)
         }
-        Instr::Load(reg, loc) => load(processor, core, reg, loc, bus, commits),
-        Instr::SetImm(reg, value) => Ok((set(processor, reg, value), CacheUse::Unused)),
-        Instr::SetReg(reg, other) => {
-            let value = processor.register(other);
+        Action::Load(reg, loc) => load(processor, core, reg, loc, bus, commits),
+        Action::Move(reg, operand) => {
+            let value = operand.value(&processor.registers);
             Ok((set(processor, reg, value), CacheUse::Unused))
         }
-        Instr::Fence => fence(processor, core, commits),
-        Instr::Xchg(loc, reg) => exchange(processor, core, reg, loc, bus, commits),
-        Instr::Xadd(loc, reg) => add(processor, core, reg, loc, bus, commits),
+        Action::Fence => fence(processor, core, commits),
+        Action::Lock(loc, reg, update) => {
+            read_and_write(processor, core, reg, loc, update, bus, commits)
+        }
     }
 }
 
@@ -113,12 +123,12 @@ fn store<P: Protocol>(
     requires free { MayAct bus.old core.0 (store_access processor.old.stores.depth loc) }
     requires known { loc.0 < length (words_of bus.old) }
 
-    ensures outcome { IfOk result (λ r. r.0 ≡ (step_by processor.old core.0 (words_of bus.old) (Instr.StoreImm loc value)).outcome) }
-    ensures after { OnOk result (core_state core.0 processor.new ≡ (step_by processor.old core.0 (words_of bus.old) (Instr.StoreImm loc value)).after) }
-    ensures words { OnOk result (words_of bus.new ≡ memory_after (step_by processor.old core.0 (words_of bus.old) (Instr.StoreImm loc value)).commits (words_of bus.old)) }
-    ensures commits { OnOk result (commits.new.entries ≡ commits.old.entries ++ (step_by processor.old core.0 (words_of bus.old) (Instr.StoreImm loc value)).commits) }
-    ensures caches { IfOk result (λ r. HasUsed (use_of (caches_of bus.old) (pending_in core.0 processor.old) (step_by processor.old core.0 (words_of bus.old) (Instr.StoreImm loc value)).commits) bus.new r.1) }
-    ensures succeeds { (step_by processor.old core.0 (words_of bus.old) (Instr.StoreImm loc value)).outcome ≢ Outcome.Committed → IsOk result }
+    ensures outcome { IfOk result (λ r. r.0 ≡ (store_by processor.old core.0 loc value).outcome) }
+    ensures after { OnOk result (core_state core.0 processor.new ≡ (store_by processor.old core.0 loc value).after) }
+    ensures words { OnOk result (words_of bus.new ≡ memory_after (store_by processor.old core.0 loc value).commits (words_of bus.old)) }
+    ensures commits { OnOk result (commits.new.entries ≡ commits.old.entries ++ (store_by processor.old core.0 loc value).commits) }
+    ensures caches { IfOk result (λ r. HasUsed (use_of (caches_of bus.old) (pending_in core.0 processor.old) (store_by processor.old core.0 loc value).commits) bus.new r.1) }
+    ensures succeeds { (store_by processor.old core.0 loc value).outcome ≢ Outcome.Committed → IsOk result }
 
     ensures err_core { OnErr result (processor.new ≡ processor.old) }
     ensures err_bus { OnErr result (bus.new ≡ bus.old) }
@@ -141,9 +151,9 @@ fn store<P: Protocol>(
 fn buffer(processor: &mut Processor, loc: Loc, value: u32) -> Outcome
     requires place { processor.old.place < most_instructions }
     requires depth { 0 < processor.old.stores.depth }
-    ensures outcome { (core : ℕ) (memory : List ℕ) → result ≡ (step_by processor.old core memory (Instr.StoreImm loc value)).outcome }
-    ensures after { (core : ℕ) (memory : List ℕ) → core_state core processor.new ≡ (step_by processor.old core memory (Instr.StoreImm loc value)).after }
-    ensures commits { (core : ℕ) (memory : List ℕ) → (step_by processor.old core memory (Instr.StoreImm loc value)).commits ≡ [] }
+    ensures outcome { (core : ℕ) → result ≡ (store_by processor.old core loc value).outcome }
+    ensures after { (core : ℕ) → core_state core processor.new ≡ (store_by processor.old core loc value).after }
+    ensures commits { (core : ℕ) → (store_by processor.old core loc value).commits ≡ [] }
     ensures depth { processor.new.stores.depth ≡ processor.old.stores.depth }
     ensures stores { (n : ℕ) → loc.0 < n → All (λ s. s.loc.0 < n) processor.old.stores.items → All (λ s. s.loc.0 < n) processor.new.stores.items }
 {
@@ -175,10 +185,10 @@ fn load<P: Protocol>(
     requires known { loc.0 < length (words_of bus.old) }
 
     ensures outcome { IfOk result (λ r. r.0 ≡ Outcome.Committed) }
-    ensures after { OnOk result (core_state core.0 processor.new ≡ (step_by processor.old core.0 (words_of bus.old) (Instr.Load reg loc)).after) }
+    ensures after { OnOk result (core_state core.0 processor.new ≡ (action_by processor.old core.0 (words_of bus.old) (Action.Load reg loc)).after) }
     ensures words { words_of bus.new ≡ words_of bus.old }
-    ensures commits { OnOk result (commits.new.entries ≡ commits.old.entries ++ (step_by processor.old core.0 (words_of bus.old) (Instr.Load reg loc)).commits) }
-    ensures caches { IfOk result (λ r. HasUsed (use_of (caches_of bus.old) (pending_in core.0 processor.old) (step_by processor.old core.0 (words_of bus.old) (Instr.Load reg loc)).commits) bus.new r.1) }
+    ensures commits { OnOk result (commits.new.entries ≡ commits.old.entries ++ (action_by processor.old core.0 (words_of bus.old) (Action.Load reg loc)).commits) }
+    ensures caches { IfOk result (λ r. HasUsed (use_of (caches_of bus.old) (pending_in core.0 processor.old) (action_by processor.old core.0 (words_of bus.old) (Action.Load reg loc)).commits) bus.new r.1) }
 
     ensures err_core { OnErr result (processor.new ≡ processor.old) }
     ensures err_bus { OnErr result (bus.new ≡ bus.old) }
@@ -244,12 +254,12 @@ fn fence(
     commits: &mut Commits,
 ) -> Result<(Outcome, CacheUse), NoMemory>
     requires { processor.old.place < most_instructions }
-    ensures outcome { (memory : List ℕ) → IfOk result (λ r. r.0 ≡ (step_by processor.old core.0 memory Instr.Fence).outcome) }
-    ensures after { (memory : List ℕ) → OnOk result (core_state core.0 processor.new ≡ (step_by processor.old core.0 memory Instr.Fence).after) }
-    ensures commits { (memory : List ℕ) → OnOk result (commits.new.entries ≡ commits.old.entries ++ (step_by processor.old core.0 memory Instr.Fence).commits) }
-    ensures caches { (bus : Bus) → IfOk result (λ r. HasUsed (use_of (caches_of bus) (pending_in core.0 processor.old) (step_by processor.old core.0 (words_of bus) Instr.Fence).commits) bus r.1) }
-    ensures memory { (memory : List ℕ) → OnOk result (memory ≡ memory_after (step_by processor.old core.0 memory Instr.Fence).commits memory) }
-    ensures succeeds { (memory : List ℕ) → (step_by processor.old core.0 memory Instr.Fence).outcome ≢ Outcome.Committed → IsOk result }
+    ensures outcome { IfOk result (λ r. r.0 ≡ (fence_by processor.old core.0).outcome) }
+    ensures after { OnOk result (core_state core.0 processor.new ≡ (fence_by processor.old core.0).after) }
+    ensures commits { OnOk result (commits.new.entries ≡ commits.old.entries ++ (fence_by processor.old core.0).commits) }
+    ensures caches { (bus : Bus) → IfOk result (λ r. HasUsed (use_of (caches_of bus) (pending_in core.0 processor.old) (fence_by processor.old core.0).commits) bus r.1) }
+    ensures memory { (memory : List ℕ) → OnOk result (memory ≡ memory_after (fence_by processor.old core.0).commits memory) }
+    ensures succeeds { (fence_by processor.old core.0).outcome ≢ Outcome.Committed → IsOk result }
     ensures err_core { OnErr result (processor.new ≡ processor.old) }
     ensures err_commits { OnErr result (commits.new.entries ≡ commits.old.entries) }
     ensures stores { processor.new.stores ≡ processor.old.stores }
@@ -279,7 +289,7 @@ pub fn advance(processor: &mut Processor, reg: Reg, value: u32)
 
 /// The oldest buffered store goes to memory, if there is one.
 ///
-/// Fails only for want of memory, and then changes nothing.
+/// Errors: out of memory only; nothing is changed then.
 pub fn drain<P: Protocol>(
     processor: &mut Processor,
     core: Core,
@@ -319,7 +329,7 @@ pub fn drain<P: Protocol>(
 
 /// A plain store goes to memory, and is noted.
 ///
-/// Fails only for want of memory, and then changes nothing.
+/// Errors: out of memory only; nothing is changed then.
 fn write<P: Protocol>(
     core: Core,
     place: u8,

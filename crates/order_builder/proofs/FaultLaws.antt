@@ -7,7 +7,7 @@ use Rattle.std.proofs.lemmas.List.Elements.{All-cons, All-nil}
 use Rattle.tso_model.specs.Litmus.{Litmus, IsTest}
 use Rattle.tso_model.specs.declared.execution.Entry.{Entry}
 use Rattle.order_builder.specs.Lines.{lines_of}
-use Rattle.order_builder.specs.Decimals.{number_of}
+use Rattle.decimals.specs.Decimals.{decimal_value}
 use Rattle.order_builder.specs.PrintedOrder.{printed_entry}
 use Rattle.order_builder.specs.Spelling.{IsEntryFor, IsOrderFor, BeginsOrder, IsNoEntry, IsNoEnd, HasNoCount, HasFault}
 use Rattle.order_builder.specs.Reading.{entries_in, entry_in, end_in, order_start, order_of}
@@ -86,12 +86,12 @@ fault_found t start count [] fault test e =
 fault_found t start count (line ∷ lines) fault test e =
     elim (two_ways (end_in line)) [
       | inl end ↦
-          elim (chosen (eqb (number_of end.0) count) (Ok []) (Err BadCount) (Err fault) (rw end.1 at e)) [
+          elim (chosen (eqb (decimal_value end.0) count) (Ok []) (Err BadCount) (Err fault) (rw end.1 at e)) [
             | inl hit ↦ absurd cc
             | inr miss ↦
                 let is = end_found line end.0 end.1 in
-                let apart : number_of end.0 ≢ count = eqb-false _ _ miss.0 in
-                let other : number_of end.0 ≢ count + 0 = omega (arith, apart) in
+                let apart : decimal_value end.0 ≢ count = eqb-false _ _ miss.0 in
+                let other : decimal_value end.0 ≢ count + 0 = omega (arith, apart) in
                 subst (FaultAfter t start count (line ∷ lines)) (same_fault BadCount fault miss.1)
                 (record { order = []; rest = line ∷ lines; whole = refl; entries = All-nil (IsEntryFor t); no_count = (end.0, is.1, is.0, other) })
           ]
@@ -190,8 +190,8 @@ unfolding entries_in
 bad_count_read t start count [] bad = refl
 bad_count_read t start count (line ∷ lines) bad =
     let end : end_in line ≡ Some bad.0 = rw bad.2 (end_again bad.0 bad.1) in
-    let apart : number_of bad.0 ≢ count = bad.3 in
-    let other : eqb (number_of bad.0) count ≡ false = grind (arith, nat_tests) in
+    let apart : decimal_value bad.0 ≢ count = bad.3 in
+    let other : eqb (decimal_value bad.0) count ≡ false = grind (arith, nat_tests) in
     rw (end, other) refl
 
 pub order_fault_again : (t : Litmus) (text : List ℕ) (fault : OrderFault) → IsTest t → HasFault t text fault → order_of t text ≡ Err fault

@@ -1,11 +1,10 @@
 pub mod Pairing
 pub mod Together
 pub mod Choosing
-pub mod DecimalLemmas
 pub mod LineLemmas
 pub mod PrintLemmas
 pub mod LoopLemmas
-pub mod DecimalLaws
+pub mod NumberLaws
 pub mod NameLaws
 pub mod EntryLaws
 pub mod SpellingLaws

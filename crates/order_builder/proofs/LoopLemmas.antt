@@ -4,7 +4,7 @@ use Rattle.std.proofs.lemmas.List.{append-nil, length-append}
 use Rattle.tso_model.specs.Litmus.{Litmus}
 use Rattle.tso_model.specs.declared.execution.Entry.{Entry}
 use Rattle.order_builder.specs.Lines.{lines_of}
-use Rattle.order_builder.specs.Decimals.{number_of}
+use Rattle.decimals.specs.Decimals.{decimal_value}
 use Rattle.order_builder.specs.Reading.{onto, entries_in, entry_in, end_in}
 use Rattle.order_builder.specs.declared.fault.OrderFault.{OrderFault}
 use Rattle.order_builder.specs.declared.fault.OrderFault.TheVariants.{BadLine, BadCount}
@@ -43,7 +43,7 @@ ends_bad t start n front rest line behind total lines no_end no_entry so_far n-i
     rw n-is (sym so_far ∙ one)
 
 pub ends_good : (t : Litmus) (start n : ℕ) (front : List Entry) (rest line behind digits : List ℕ) (total : Result (List Entry) OrderFault)
-    → lines_of rest ≡ line ∷ lines_of behind → Some digits ≡ end_in line → true ≡ eqb (number_of digits) n
+    → lines_of rest ≡ line ∷ lines_of behind → Some digits ≡ end_in line → true ≡ eqb (decimal_value digits) n
     → with_front front (entries_in t start (length front) (lines_of rest)) ≡ total → n ≡ length front → total ≡ Ok front
 unfolding entries_in
 ends_good t start n front rest line behind digits total lines end count so_far n-is =
@@ -51,7 +51,7 @@ ends_good t start n front rest line behind digits total lines end count so_far n
     sym so_far ∙ one
 
 pub ends_miscounted : (t : Litmus) (start n : ℕ) (front : List Entry) (rest line behind digits : List ℕ) (total : Result (List Entry) OrderFault)
-    → lines_of rest ≡ line ∷ lines_of behind → Some digits ≡ end_in line → false ≡ eqb (number_of digits) n
+    → lines_of rest ≡ line ∷ lines_of behind → Some digits ≡ end_in line → false ≡ eqb (decimal_value digits) n
     → with_front front (entries_in t start (length front) (lines_of rest)) ≡ total → n ≡ length front → total ≡ Err BadCount
 unfolding entries_in
 ends_miscounted t start n front rest line behind digits total lines end count so_far n-is =

@@ -13,7 +13,7 @@ use Rattle.tso_model.specs.Names.{is_name, is_location_name, begins_name, contin
 use Rattle.order_builder.specs.Reading.{location_named}
 use Rattle.order_builder.proofs.Choosing.{same_bytes, bytes_eq-same, bytes_eq-other}
 use Rattle.order_builder.proofs.LineLemmas.{Lacks, named_at}
-use Rattle.order_builder.proofs.DecimalLaws.{is_digits-decimal}
+use Rattle.order_builder.proofs.NumberLaws.{is_digits-decimal}
 
 -- ---- bytes that stand in no number and in no name
 

@@ -10,14 +10,14 @@ use Rattle.std.proofs.lemmas.List.Elements.{All-cons, All-nil, All-head, All-tai
 use Rattle.tso_model.specs.Litmus.{Litmus, IsTest}
 use Rattle.tso_model.specs.declared.execution.Entry.{Entry}
 use Rattle.order_builder.specs.Lines.{lines_of}
-use Rattle.order_builder.specs.Decimals.{number_of}
+use Rattle.decimals.specs.Decimals.{decimal_value}
 use Rattle.order_builder.specs.PrintedOrder.{printed_entry, printed_end, order_lines}
 use Rattle.order_builder.specs.Spelling.{IsEntryFor, IsOrderFor, IsOther, SpellsOrder}
 use Rattle.order_builder.specs.Reading.{onto, entries_in, entry_in, end_in, order_start, order_of}
 use Rattle.order_builder.specs.declared.fault.OrderFault.{OrderFault}
 use Rattle.order_builder.specs.declared.fault.OrderFault.TheVariants.{NoOrder, BadLine, BadCount}
 use Rattle.order_builder.proofs.Choosing.{chosen, same_bytes, bytes_eq-same, bytes_eq-other}
-use Rattle.order_builder.proofs.DecimalLaws.{is_number-decimal, number_of-decimal, decimal-number_of}
+use Rattle.order_builder.proofs.NumberLaws.{is_number-decimal, value-decimal, decimal-value}
 use Rattle.order_builder.proofs.LineLemmas.{lines_of-length}
 use Rattle.order_builder.proofs.EntryLaws.{entry_again, entry_found, no_end_in_entry, end_again, end_found}
 
@@ -109,7 +109,7 @@ end_again' : (t : Litmus) (start count : ℕ) (behind : List (List ℕ)) → cou
 unfolding entries_in
 end_again' t start count behind small =
     let end : end_in (printed_end count) ≡ Some (decimal count) = end_again (decimal count) (is_number-decimal count small) in
-    let equal : eqb (number_of (decimal count)) count ≡ true = rw (number_of-decimal count small) (grind (arith, nat_tests)) in
+    let equal : eqb (decimal_value (decimal count)) count ≡ true = rw (value-decimal count small) (grind (arith, nat_tests)) in
     rw (end, equal) refl
 
 pub order_again : (t : Litmus) (text : List ℕ) (order : List Entry) → IsTest t → length order < 2 ^ 64 → SpellsOrder t text order → order_of t text ≡ Ok order
@@ -154,11 +154,11 @@ one_more t count line lines e es is line-is more =
       entries = All-cons (IsEntryFor t) e es is more.entries;
     }
 
-end_here : (t : Litmus) (count : ℕ) (line digits : List ℕ) (lines : List (List ℕ)) → count < 2 ^ 64 → end_in line ≡ Some digits → number_of digits ≡ count → EndsAfter t count (line ∷ lines) []
+end_here : (t : Litmus) (count : ℕ) (line digits : List ℕ) (lines : List (List ℕ)) → count < 2 ^ 64 → end_in line ≡ Some digits → decimal_value digits ≡ count → EndsAfter t count (line ∷ lines) []
 end_here t count line digits lines small e equal =
     let end = end_found line digits e in
-    let digits-is : decimal (number_of digits) ≡ digits = decimal-number_of digits end.1 (omega (arith, equal)) in
-    let place : number_of digits ≡ count + 0 = omega (arith, equal) in
+    let digits-is : decimal (decimal_value digits) ≡ digits = decimal-value digits end.1 (omega (arith, equal)) in
+    let place : decimal_value digits ≡ count + 0 = omega (arith, equal) in
     record {
       behind = lines;
       whole = ap (λ (l : List ℕ). l ∷ lines) (end.0 ∙ ap (λ (l : List ℕ). codes "Endorder " ++ l) (sym digits-is) ∙ ap printed_end place);
@@ -171,7 +171,7 @@ entries_found t start count [] order small e = absurd cc
 entries_found t start count (line ∷ lines) order small e =
     elim (two_ways (end_in line)) [
       | inl end ↦
-          elim (chosen (eqb (number_of end.0) count) (Ok []) (Err BadCount) (Ok order) (rw end.1 at e)) [
+          elim (chosen (eqb (decimal_value end.0) count) (Ok []) (Err BadCount) (Ok order) (rw end.1 at e)) [
             | inl hit ↦
                 let none : [] ≡ order = cc in
                 subst (EndsAfter t count (line ∷ lines)) none (end_here t count line end.0 lines (omega (arith, small)) end.1 (eqb-true _ _ hit.0))
@@ -219,7 +219,7 @@ entries_length t start count [] order e = absurd cc
 entries_length t start count (line ∷ lines) order e =
     elim (two_ways (end_in line)) [
       | inl end ↦
-          elim (chosen (eqb (number_of end.0) count) (Ok []) (Err BadCount) (Ok order) (rw end.1 at e)) [
+          elim (chosen (eqb (decimal_value end.0) count) (Ok []) (Err BadCount) (Ok order) (rw end.1 at e)) [
             | inl hit ↦ let none : [] ≡ order = cc in subst (λ (l : List Entry). length l < length (line ∷ lines)) none (omega arith)
             | inr miss ↦ absurd cc
           ]

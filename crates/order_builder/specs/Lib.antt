@@ -3,7 +3,7 @@ pub mod Waiting
 pub mod Noted
 pub mod PrintedOrder
 pub mod Lines
-pub mod Decimals
+pub mod Numbers
 pub mod Spelling
 pub mod Reading
 pub use Rattle.tso_model.specs.Litmus

@@ -8,7 +8,8 @@ use Rattle.tso_model.specs.declared.execution.Entry.{Entry}
 use Rattle.tso_model.specs.declared.execution.Kind.{Kind}
 use Rattle.tso_model.specs.declared.execution.Kind.TheVariants.{R, W, F, LR, LW}
 use Rattle.order_builder.specs.Lines.{lines_of}
-use Rattle.order_builder.specs.Decimals.{is_number, number_of, number_up_to}
+use Rattle.decimals.specs.Decimals.{decimal_value}
+use Rattle.order_builder.specs.Numbers.{is_number, number_in}
 use Rattle.order_builder.specs.declared.fault.OrderFault.{OrderFault}
 use Rattle.order_builder.specs.declared.fault.OrderFault.TheVariants.{NoOrder, BadLine, BadCount, NoMemory}
 
@@ -52,8 +53,8 @@ unfoldable pub place_in : List ℕ → Option (ℕ × ℕ)
 place_in text = do
   numbers ← without_prefix (codes "P") text
   halves ← split_once 58 numbers
-  core ← number_up_to 255 halves.0
-  place ← number_up_to 255 halves.1
+  core ← number_in 255 halves.0
+  place ← number_in 255 halves.1
   Some (core, place)
 
 -- `x=v`, the location and the value
@@ -61,7 +62,7 @@ unfoldable pub access_in : Litmus → List ℕ → Option (ℕ × ℕ)
 access_in t text = do
   halves ← split_once 61 text
   loc ← location_named t halves.0
-  value ← number_up_to (2 ^ 32 - 1) halves.1
+  value ← number_in (2 ^ 32 - 1) halves.1
   Some (loc, value)
 
 -- `K x=v`, or `F`
@@ -96,7 +97,7 @@ onto e (Err fault) = Err fault
 
 -- what a line gives: the end, an entry before what the lines after it give, or a fault
 abbrev pub line_gives : ℕ → ℕ → Option (List ℕ) → Option Entry → Result (List Entry) OrderFault → Result (List Entry) OrderFault
-line_gives number count (Some digits) entry behind = if number_of digits == count then Ok [] else Err BadCount
+line_gives number count (Some digits) entry behind = if decimal_value digits == count then Ok [] else Err BadCount
 line_gives number count None (Some e) behind = onto e behind
 line_gives number count None None behind = Err (BadLine number)
 

@@ -5,7 +5,8 @@ use Rattle.tso_model.specs.declared.execution.Entry.{Entry}
 use Rattle.tso_model.specs.declared.execution.Kind.{Kind}
 use Rattle.tso_model.specs.declared.execution.Kind.TheVariants.{F}
 use Rattle.order_builder.specs.Lines.{lines_of, is_line}
-use Rattle.order_builder.specs.Decimals.{is_number, number_of}
+use Rattle.decimals.specs.Decimals.{decimal_value}
+use Rattle.order_builder.specs.Numbers.{is_number}
 use Rattle.order_builder.specs.PrintedOrder.{printed_entry, order_lines}
 use Rattle.order_builder.specs.declared.fault.OrderFault.{OrderFault}
 use Rattle.order_builder.specs.declared.fault.OrderFault.TheVariants.{NoOrder, BadLine, BadCount, NoMemory}
@@ -73,7 +74,7 @@ pub record HasBadLine (t : Litmus) (text : List ℕ) (number : ℕ) : Type 0 whe
 abbrev pub HasNoCount : ℕ → List (List ℕ) → Type 0
 HasNoCount count [] = Unit {0}
 HasNoCount count (line ∷ lines) =
-    (digits : List ℕ) × (is_number digits ≡ true) × (line ≡ codes "Endorder " ++ digits) × (number_of digits ≢ count)
+    (digits : List ℕ) × (is_number digits ≡ true) × (line ≡ codes "Endorder " ++ digits) × (decimal_value digits ≢ count)
 
 -- the entries are not followed by their count
 pub record HasBadCount (t : Litmus) (text : List ℕ) : Type 0 where

@@ -53,6 +53,14 @@ impl Commits {
         Ok(())
     }
 
+    /// Lets all entries go, so that nothing is noted. The room for them stays.
+    pub fn clear(&mut self)
+        ensures nothing { self.new.entries ≡ [] }
+        ensures room { self.old.room ≤ self.new.room }
+    {
+        self.entries.clear();
+    }
+
     /// The entries as they were noted, the first first. Takes no memory.
     pub fn entries(&self) -> &[Entry]
         ensures { result.now ≡ self.now.entries }

@@ -3,16 +3,16 @@
 
 mod building;
 pub mod commits;
-mod decimals;
 mod entries;
 pub mod fault;
 pub mod laws;
 mod lines;
+mod numbers;
 pub mod printing;
 pub mod reading;
 
 pub use building::build;
 pub use commits::Commits;
 pub use fault::OrderFault;
-pub use printing::{entry_text, letters_of, order_text};
+pub use printing::{entry_text, letters_of, order_text, write_order};
 pub use reading::read_order;

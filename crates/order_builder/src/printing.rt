@@ -38,12 +38,24 @@ pub fn order_text(alloc: Global, test: &Test, execution: &Execution) -> Result<S
     ensures text { IfOk result (λ text. string_bytes text ≡ printed_order test.now execution.now.order.items) }
     ensures words { OnOk result (All HasWord execution.now.order.items) }
 {
-    let order = execution.order.as_slice();
     let mut text = String::new(alloc);
-    text.push_str("Order\n")?;
-    write_entries(&mut text, test, order)?;
-    write_end(&mut text, order.len())?;
+    write_order(&mut text, test, execution)?;
     Ok(text)
+}
+
+/// Writes the text of an order after what a text has already, as [`order_text`] has it.
+///
+/// Errors: out of memory only; the text may have grown then.
+pub fn write_order(text: &mut String, test: &Test, execution: &Execution) -> Result<(), NoMemory>
+    requires { All (HasLocation test.now) execution.now.order.items }
+    ensures text { OnOk result (string_bytes text.new ≡ string_bytes text.old ++ printed_order test.now execution.now.order.items) }
+    ensures words { OnOk result (All HasWord execution.now.order.items) }
+{
+    let order = execution.order.as_slice();
+    text.push_str("Order\n")?;
+    write_entries(text, test, order)?;
+    write_end(text, order.len())?;
+    Ok(())
 }
 
 fn write_entries(text: &mut String, test: &Test, order: &[Entry]) -> Result<(), NoMemory>

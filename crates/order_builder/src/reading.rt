@@ -12,10 +12,10 @@ ghost use Rattle.order_builder.specs.declared.fault.OrderFault.{OrderFault};
 ghost use Rattle.order_builder.specs.declared.fault.OrderFault.TheVariants.{NoMemory};
 ghost use Rattle.order_builder.specs.Reading.{entries_in, order_start, Gives};
 
-use crate::decimals::number_is;
 use crate::entries::{end_in, entry_in};
 use crate::fault::OrderFault;
 use crate::lines::next_line;
+use crate::numbers::number_is;
 use std::alloc::Global;
 use tso_model::{Execution, Test};
 

@@ -1,3 +1,5 @@
+//! Requests on the bus, and the states of a line while its words are under way.
+
 /// A core's request for a line, which every other cache sees on the bus.
 #[derive(Clone, Copy)]
 pub enum Request {

@@ -1,3 +1,5 @@
+//! From which state to which a line goes while its words are under way.
+
 ghost use Rattle.std.specs.Prelude.{◌≡◌};
 ghost use Rattle.protocol_tables.specs.Asking.{transient_of};
 

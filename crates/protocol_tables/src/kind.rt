@@ -1,3 +1,5 @@
+//! The protocols by their names.
+
 ghost use Rattle.std.specs.Prelude.{◌≡◌};
 ghost use Rattle.protocol_tables.specs.Names.{protocol_name};
 

@@ -1,3 +1,5 @@
+//! The text of a protocol's table.
+
 ghost use Rattle.std.specs.Prelude.{◌≡◌, ◌++◌, Some, IfOk, OnOk, codes, string_bytes};
 ghost use Rattle.protocol_tables.specs.Names.{protocol_name};
 ghost use Rattle.protocol_tables.specs.Tables.{table_of, by_kind};
@@ -14,7 +16,7 @@ use tso_model::NoMemory;
 /// The protocol's table as text: its name, the states that loads fill in, and a row for each state
 /// that it reaches, M first, then O, E and S.
 ///
-/// Fails only for want of memory.
+/// Errors: out of memory only.
 pub fn table_text(alloc: Global, kind: ProtocolKind) -> Result<String, NoMemory>
     ensures table { IfOk result (λ text. string_bytes text ≡ printed_table (protocol_name kind) (table_of kind)) }
     ensures shown { IfOk result (λ text. string_bytes text ≡ by_kind kind

@@ -1,3 +1,5 @@
+//! What a protocol is: its table, and the laws that it keeps.
+
 ghost use Rattle.std.specs.Prelude.{◌≡◌, List, ℕ};
 ghost use Rattle.protocol_tables.specs.Tables.{Table};
 ghost use Rattle.protocol_tables.specs.Laws.{FillsExclusiveOnlyAlone, GivesUp, Shares, CleansByMemory, Supplies, WritesInPlace, WritesBackDirty};

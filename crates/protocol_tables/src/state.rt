@@ -1,3 +1,5 @@
+//! The states of a line in a cache.
+
 /// The state of a line in a cache. M and O are the dirty states: memory may be stale.
 ///
 /// (Primer on Memory Consistency and Cache Coherence, chapter 6.)

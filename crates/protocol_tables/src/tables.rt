@@ -1,3 +1,5 @@
+//! The tables of the protocols.
+
 ghost use Rattle.std.specs.Prelude.{◌≡◌, true, false};
 ghost use Rattle.std.proofs.Common.{rules};
 ghost use Rattle.protocol_tables.specs.declared.kind.ProtocolKind.TheVariants.{Msi as KindMsi, Mesi as KindMesi, Moesi as KindMoesi, Mosi as KindMosi};

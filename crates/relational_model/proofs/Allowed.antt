@@ -21,10 +21,12 @@ pub record Whole (t : Litmus) (order : List Entry) : Type 0 where
   pub made : (e : Entry) → IsIn order e → IsIn (made t order) e
   pub once : StandOnce order
 
-known-of : (t : Litmus) (order : List Entry) (c : Candidate) → Whole t order → IsTsoExecution t order → IsCandidateOf t order c → Known t order c
+known-of : (t : Litmus) (order : List Entry) (c : Candidate) → Whole t order → IsTsoExecution t order → IsCandidateOf t order c
+    → Known t order c
 known-of t order c whole tso h = record { tso = tso; of = h; once = whole.once }
 
-in-event : (t : Litmus) (order : List Entry) (c : Candidate) → Whole t order → IsCandidateOf t order c → (x : Entry) → IsIn order x → IsIn (events t c) x
+in-event : (t : Litmus) (order : List Entry) (c : Candidate) → Whole t order → IsCandidateOf t order c → (x : Entry) → IsIn order x
+    → IsIn (events t c) x
 in-event t order c whole h x i = subst (λ xs. IsIn xs x) (sym h.events) (whole.made x i)
 
 -- ---- a candidate of the test
@@ -49,7 +51,8 @@ value-some (x ∷ []) w word h = let same : x ≡ w = cc in ap (λ (e : Entry). 
 value-some (x ∷ (y ∷ ys)) w word h = value-some (y ∷ ys) w x.value h
 
 -- a read's value is its source's
-read-returns : (t : Litmus) (order : List Entry) (c : Candidate) → Whole t order → Known t order c → (r : Entry) → IsIn order r → is_read r ≡ true → Returns t c r (c.source r)
+read-returns : (t : Litmus) (order : List Entry) (c : Candidate) → Whole t order → Known t order c → (r : Entry) → IsIn order r
+    → is_read r ≡ true → Returns t c r (c.source r)
 read-returns t order c whole known r i read = go (cut order r i) (c.source r) refl
   where
     go : (k : Cut order r) (s : Option Entry) → c.source r ≡ s → Returns t c r s
@@ -61,13 +64,16 @@ read-returns t order c whole known r i read = go (cut order r i) (c.source r) re
           in-event t order c whole known.of w counts.0,
           counts.1.0,
           known.tso.read_values k.front r k.back k.is read
-              ∙ value-some (counting r k.front k.back) w (slice_index t.words r.loc.0) (sym (known.of.sources k.front r k.back k.is read) ∙ e),
+              ∙ value-some (counting r k.front k.back) w (slice_index t.words r.loc.0)
+              (sym (known.of.sources k.front r k.back k.is read) ∙ e),
         )
 
 is-candidate : (t : Litmus) (order : List Entry) (c : Candidate) → Whole t order → Known t order c → IsCandidate t c
 is-candidate t order c whole known = record {
   reads = λ r i read. read-returns t order c whole known r (event-in t order c known r i) read;
-  writes = λ loc w i h. subst (λ xs. IsIn xs w) (sym (known.of.coherence loc)) (filter-in (writes_to loc) order w (event-in t order c known w i) h);
+  writes =
+      λ loc w i h. subst (λ xs. IsIn xs w) (sym (known.of.coherence loc))
+      (filter-in (writes_to loc) order w (event-in t order c known w i) h);
   count = λ loc.
       ap length (known.of.coherence loc)
       ∙ (as-many (writes_to loc) order (made t order) (once-of order known.once) whole.made known.tso.whole.count
@@ -76,8 +82,9 @@ is-candidate t order c whole known = record {
 
 -- ---- atomicity
 
--- no write comes between a read and a write that stands directly behind it
-between-none : (order : List Entry) (r v w : Entry) (i : ℕ) → StandOnce order → slice_get order i ≡ Some r → slice_get order (suc i) ≡ Some w
+-- no write comes between a read and a write that stands directly after it
+between-none : (order : List Entry) (r v w : Entry) (i : ℕ) → StandOnce order → slice_get order i ≡ Some r
+    → slice_get order (suc i) ≡ Some w
     → IsEarlier order r v → IsEarlier order v w → ⊥
 between-none order r v w i once p q a b =
     let first : a.first ≡ i = once a.first i r a.is_first p in
@@ -96,7 +103,8 @@ atomic t order c whole known r v w i j k pair f apart before others =
     between-none order r v w a known.once p (subst (λ y. slice_get order (suc a) ≡ Some y) same next.1)
     (overwritten-later t order c known r v (a, p) f) (coherence-earlier t order c known v.loc.0 v w before)
 
-pub is-allowed : (t : Litmus) (order : List Entry) (c : Candidate) → Whole t order → IsTsoExecution t order → IsCandidateOf t order c → IsAllowed t c
+pub is-allowed : (t : Litmus) (order : List Entry) (c : Candidate) → Whole t order → IsTsoExecution t order → IsCandidateOf t order c
+    → IsAllowed t c
 is-allowed t order c whole tso h =
     let known = known-of t order c whole tso h in
     record {

@@ -6,7 +6,7 @@ use Rattle.tso_model.specs.declared.execution.Entry.{Entry}
 use Rattle.tso_model.specs.declared.execution.Kind.{Kind}
 use Rattle.relational_model.specs.Events.{IsIn, IsEarlier}
 use Rattle.relational_model.specs.Candidates.{Candidate}
-use Rattle.relational_model.specs.Relations.{ReadsFrom, IsBefore, StandsBehind, FromReads}
+use Rattle.relational_model.specs.Relations.{ReadsFrom, IsBefore, StandsAfter, FromReads}
 use Rattle.relational_model.proofs.Lists.{in-case, in-none, in-first, in-later, Precedes, to-precedes, from-precedes}
 use Rattle.relational_model.proofs.KindFacts.{same-number, number-same}
 use Rattle.relational_model.proofs.Found.{equal-kinds, kind-itself}
@@ -49,7 +49,9 @@ pub number : (a b : ℕ) → Decision (a ≡ b)
 number a b = carried ((a == b) ≡ true) (a ≡ b) (same-number a b) (number-same a b) (is-true (a == b))
 
 pub kinds : (j k : Kind) → Decision (j ≡ k)
-kinds j k = carried (same_kind j k ≡ true) (j ≡ k) (equal-kinds j k) (λ e. subst (λ x. same_kind j x ≡ true) e (kind-itself j)) (is-true (same_kind j k))
+kinds j k =
+    carried (same_kind j k ≡ true) (j ≡ k) (equal-kinds j k) (λ e. subst (λ x. same_kind j x ≡ true) e (kind-itself j))
+    (is-true (same_kind j k))
 
 abbrev pub Alike : Entry → Entry → Type 0
 Alike x y = (x.core.0 ≡ y.core.0) × ((x.place ≡ y.place) × ((x.kind ≡ y.kind) × ((x.loc.0 ≡ y.loc.0) × (x.value ≡ y.value))))
@@ -72,7 +74,9 @@ entries x y = carried (Alike x y) (x ≡ y) (alike x y)
 
 pub member : (xs : List Entry) (y : Entry) → Decision (IsIn xs y)
 member [] y = inr (λ i. in-none y i)
-member (x ∷ xs) y = carried ((y ≡ x) ⊎ IsIn xs y) (IsIn (x ∷ xs) y) (λ h. into h) (λ i. in-case x xs y i) (either (y ≡ x) (IsIn xs y) (entries y x) (member xs y))
+member (x ∷ xs) y =
+    carried ((y ≡ x) ⊎ IsIn xs y) (IsIn (x ∷ xs) y) (λ h. into h) (λ i. in-case x xs y i)
+    (either (y ≡ x) (IsIn xs y) (entries y x) (member xs y))
   where
     into : (y ≡ x) ⊎ IsIn xs y → IsIn (x ∷ xs) y
     into (inl e) = in-first x xs y e
@@ -80,7 +84,8 @@ member (x ∷ xs) y = carried ((y ≡ x) ⊎ IsIn xs y) (IsIn (x ∷ xs) y) (λ 
 
 precedes : (xs : List Entry) (a b : Entry) → Decision (Precedes a b xs)
 precedes [] a b = inr (λ h. h)
-precedes (x ∷ xs) a b = either ((a ≡ x) × IsIn xs b) (Precedes a b xs) (both (a ≡ x) (IsIn xs b) (entries a x) (member xs b)) (precedes xs a b)
+precedes (x ∷ xs) a b =
+    either ((a ≡ x) × IsIn xs b) (Precedes a b xs) (both (a ≡ x) (IsIn xs b) (entries a x) (member xs b)) (precedes xs a b)
 
 pub earlier : (xs : List Entry) (a b : Entry) → Decision (IsEarlier xs a b)
 earlier xs a b = carried (Precedes a b xs) (IsEarlier xs a b) (from-precedes xs a b) (to-precedes xs a b) (precedes xs a b)
@@ -89,9 +94,9 @@ source : (s : Option Entry) (w : Entry) → Decision (s ≡ Some w)
 source None w = inr (λ h. let z : ⊥ = cc in z)
 source (Some v) w = carried (v ≡ w) (Some v ≡ Some w) (λ e. ap Some e) (λ e. let z : v ≡ w = cc in z) (entries v w)
 
-behind : (ws : List Entry) (s : Option Entry) (v : Entry) → Decision (StandsBehind ws s v)
-behind ws None v = member ws v
-behind ws (Some w) v = earlier ws w v
+after : (ws : List Entry) (s : Option Entry) (v : Entry) → Decision (StandsAfter ws s v)
+after ws None v = member ws v
+after ws (Some w) v = earlier ws w v
 
 -- ---- the edges
 
@@ -108,16 +113,21 @@ Goes c x y = Kept x y ⊎ (External c x y ⊎ (IsBefore c x y ⊎ FromReads c x 
 
 reads-from : (c : Candidate) (w r : Entry) → Decision (ReadsFrom c w r)
 reads-from c w r =
-    carried ((is_read r ≡ true) × (c.source r ≡ Some w)) (ReadsFrom c w r) (λ h. record { read = h.0; source = h.1 }) (λ f. (f.read, f.source))
+    carried ((is_read r ≡ true) × (c.source r ≡ Some w)) (ReadsFrom c w r) (λ h. record { read = h.0; source = h.1 })
+    (λ f. (f.read, f.source))
     (both (is_read r ≡ true) (c.source r ≡ Some w) (is-true (is_read r)) (source (c.source r) w))
 
 from-reads : (c : Candidate) (r v : Entry) → Decision (FromReads c r v)
 from-reads c r v =
-    carried ((is_read r ≡ true) × StandsBehind (c.coherence r.loc.0) (c.source r) v) (FromReads c r v) (λ h. record { read = h.0; overwritten = h.1 }) (λ f. (f.read, f.overwritten))
-    (both (is_read r ≡ true) (StandsBehind (c.coherence r.loc.0) (c.source r) v) (is-true (is_read r)) (behind (c.coherence r.loc.0) (c.source r) v))
+    carried ((is_read r ≡ true) × StandsAfter (c.coherence r.loc.0) (c.source r) v) (FromReads c r v)
+    (λ h. record { read = h.0; overwritten = h.1 }) (λ f. (f.read, f.overwritten))
+    (both (is_read r ≡ true) (StandsAfter (c.coherence r.loc.0) (c.source r) v) (is-true (is_read r))
+    (after (c.coherence r.loc.0) (c.source r) v))
 
 pub goes : (c : Candidate) → Decided (Goes c)
 goes c x y =
-    either (Kept x y) _ (both (is_before x y ≡ true) (may_be_passed x y ≡ false) (is-true (is_before x y)) (is-false-too (may_be_passed x y)))
-    (either (External c x y) _ (both (ReadsFrom c x y) (x.core.0 ≢ y.core.0) (reads-from c x y) (denied (x.core.0 ≡ y.core.0) (number x.core.0 y.core.0)))
+    either (Kept x y) _
+    (both (is_before x y ≡ true) (may_be_passed x y ≡ false) (is-true (is_before x y)) (is-false-too (may_be_passed x y)))
+    (either (External c x y) _
+    (both (ReadsFrom c x y) (x.core.0 ≢ y.core.0) (reads-from c x y) (denied (x.core.0 ≡ y.core.0) (number x.core.0 y.core.0)))
     (either (IsBefore c x y) (FromReads c x y) (earlier (c.coherence x.loc.0) x y) (from-reads c x y)))

@@ -17,7 +17,7 @@ use Rattle.relational_model.proofs.Lists.{Cut, cut, in-case, in-none, in-first, 
 use Rattle.relational_model.proofs.Same.{here-by, from-place, same-of}
 use Rattle.relational_model.proofs.Sizes.{Once, once-filter, length-middle}
 
-once-append : (xs ys : List Entry) → Once xs → Once ys → ((x : Entry) → IsIn xs x → IsIn ys x → ⊥) → Once (xs ++ ys)
+pub once-append : (xs ys : List Entry) → Once xs → Once ys → ((x : Entry) → IsIn xs x → IsIn ys x → ⊥) → Once (xs ++ ys)
 once-append [] ys a b f = b
 once-append (x ∷ xs) ys a b f = ((λ i. go (in-append xs ys x i)), once-append xs ys a.1 b (λ y i j. f y (in-later x xs y i) j))
   where
@@ -53,31 +53,40 @@ once-of-program core place (s ∷ p) registers values =
     (once-of-program core (place + 1) p (registers_by (action_of s) registers (slice_index values 0)) (values_after (action_of s) values))
     (λ x i j.
     let h : x.place ≡ place = (here-by core place (action_of s) registers (slice_index values 0) x i).1 in
-    let l : place + 1 ≤ x.place = (from-place core (place + 1) p (registers_by (action_of s) registers (slice_index values 0)) (values_after (action_of s) values) x j).1 in
+    let l : place + 1 ≤ x.place =
+    (from-place core (place + 1) p (registers_by (action_of s) registers (slice_index values 0))
+    (values_after (action_of s) values) x j).1 in
     omega arith)
 
-core-of-events : (core : ℕ) (ps : List (List Instr)) (registers reads : List (List ℕ)) (x : Entry) → IsIn (events_from core ps registers reads) x → core ≤ x.core.0
+core-of-events : (core : ℕ) (ps : List (List Instr)) (registers reads : List (List ℕ)) (x : Entry)
+    → IsIn (events_from core ps registers reads) x → core ≤ x.core.0
 core-of-events core [] registers reads x i = absurd (in-none x i)
 core-of-events core (p ∷ ps) registers reads x i =
-    go (in-append (entries_of core 0 p (slice_index_or registers core []) (slice_index_or reads core [])) (events_from (core + 1) ps registers reads) x i)
+    go (in-append (entries_of core 0 p (slice_index_or registers core []) (slice_index_or reads core []))
+    (events_from (core + 1) ps registers reads) x i)
     (λ b. core-of-events (core + 1) ps registers reads x b)
   where
-    go : IsIn (entries_of core 0 p (slice_index_or registers core []) (slice_index_or reads core [])) x ⊎ IsIn (events_from (core + 1) ps registers reads) x
+    go : IsIn (entries_of core 0 p (slice_index_or registers core []) (slice_index_or reads core [])) x
+        ⊎ IsIn (events_from (core + 1) ps registers reads) x
         → (IsIn (events_from (core + 1) ps registers reads) x → core + 1 ≤ x.core.0) → core ≤ x.core.0
-    go (inl a) later = let q : x.core.0 ≡ core = (from-place core 0 p (slice_index_or registers core []) (slice_index_or reads core []) x a).0 in omega arith
+    go (inl a) later =
+        let q : x.core.0 ≡ core = (from-place core 0 p (slice_index_or registers core []) (slice_index_or reads core []) x a).0 in
+        omega arith
     go (inr b) later = let l : core + 1 ≤ x.core.0 = later b in omega arith
 
 once-events : (core : ℕ) (ps : List (List Instr)) (registers reads : List (List ℕ)) → Once (events_from core ps registers reads)
 once-events core [] registers reads = tt
 once-events core (p ∷ ps) registers reads =
-    once-append (entries_of core 0 p (slice_index_or registers core []) (slice_index_or reads core [])) (events_from (core + 1) ps registers reads)
+    once-append (entries_of core 0 p (slice_index_or registers core []) (slice_index_or reads core []))
+    (events_from (core + 1) ps registers reads)
     (once-of-program core 0 p (slice_index_or registers core []) (slice_index_or reads core [])) (once-events (core + 1) ps registers reads)
     (λ x i j.
     let h : x.core.0 ≡ core = (from-place core 0 p (slice_index_or registers core []) (slice_index_or reads core []) x i).0 in
     let l : core + 1 ≤ x.core.0 = core-of-events (core + 1) ps registers reads x j in
     omega arith)
 
-same-events-from : (core : ℕ) (ps : List (List Instr)) (registers reads : List (List ℕ)) (x y : Entry) → IsIn (events_from core ps registers reads) x
+same-events-from : (core : ℕ) (ps : List (List Instr)) (registers reads : List (List ℕ)) (x y : Entry)
+    → IsIn (events_from core ps registers reads) x
     → IsIn (events_from core ps registers reads) y → x.core.0 ≡ y.core.0 → x.place ≡ y.place → part_of x.kind ≡ part_of y.kind → x ≡ y
 same-events-from core [] registers reads x y i j c e k = absurd (in-none x i)
 same-events-from core (p ∷ ps) registers reads x y i j c e k =
@@ -124,7 +133,10 @@ pigeons [] (y ∷ ys) o f n = absurd (omega arith)
 pigeons (x ∷ xs) ys o f n = on (cut ys x (f x (in-first x xs x refl))) (λ zs g m. pigeons xs zs o.1 g m)
   where
     on : Cut ys x → ((zs : List Entry) → ((y : Entry) → IsIn xs y → IsIn zs y) → length zs ≡ length xs → Alike xs zs) → Alike (x ∷ xs) ys
-    on k rest = finish (rest (k.front ++ k.back) inside (let a : length ys ≡ suc (length (k.front ++ k.back)) = ap length k.is ∙ length-middle k.front k.back x in let b : length ys ≡ suc (length xs) = n in omega arith))
+    on k rest =
+        finish (rest (k.front ++ k.back) inside
+        (let a : length ys ≡ suc (length (k.front ++ k.back)) = ap length k.is ∙ length-middle k.front k.back x in
+        let b : length ys ≡ suc (length xs) = n in omega arith))
       where
         inside : (y : Entry) → IsIn xs y → IsIn (k.front ++ k.back) y
         inside y i = go (in-append k.front (x ∷ k.back) y (subst (λ zs. IsIn zs y) k.is (f y (in-later x xs y i))))
@@ -156,7 +168,8 @@ pigeons (x ∷ xs) ys o f n = on (cut ys x (f x (in-first x xs x refl))) (λ zs 
 pub record Sound (t : Litmus) (c : Candidate) : Type 0 where
   pub candidate : IsCandidate t c
   pub once : Once (events t c)
-  pub same : (x y : Entry) → IsIn (events t c) x → IsIn (events t c) y → x.core.0 ≡ y.core.0 → x.place ≡ y.place → part_of x.kind ≡ part_of y.kind → x ≡ y
+  pub same : (x y : Entry) → IsIn (events t c) x → IsIn (events t c) y → x.core.0 ≡ y.core.0 → x.place ≡ y.place
+      → part_of x.kind ≡ part_of y.kind → x ≡ y
   pub coherent : (loc : ℕ) (w : Entry) → IsIn (c.coherence loc) w → IsIn (events t c) w × (writes_to loc w ≡ true)
   pub single : (loc : ℕ) → Once (c.coherence loc)
 
@@ -171,5 +184,6 @@ sound t c h = record {
   where
     picked : (loc : ℕ) → Alike (filter (writes_to loc) (events t c)) (c.coherence loc)
     picked loc =
-        pigeons (filter (writes_to loc) (events t c)) (c.coherence loc) (once-filter (writes_to loc) (events t c) (once-events 0 t.programs t.registers c.reads))
+        pigeons (filter (writes_to loc) (events t c)) (c.coherence loc)
+        (once-filter (writes_to loc) (events t c) (once-events 0 t.programs t.registers c.reads))
         (λ x i. let k = in-filter (writes_to loc) (events t c) x i in h.writes loc x k.0 k.1) (h.count loc)

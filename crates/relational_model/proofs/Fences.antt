@@ -7,7 +7,7 @@ use Rattle.tso_model.specs.declared.execution.Kind.{Kind}
 use Rattle.tso_model.specs.declared.execution.Kind.TheVariants.{R, W, F, LR, LW}
 use Rattle.relational_model.specs.Events.{IsIn, LeadsTo, at_once, onward, IsAcyclic}
 use Rattle.relational_model.specs.Candidates.{Candidate, Returns, events}
-use Rattle.relational_model.specs.Relations.{ReadsFrom, StandsBehind, FromReads}
+use Rattle.relational_model.specs.Relations.{ReadsFrom, StandsAfter, FromReads}
 use Rattle.relational_model.specs.Model.{is_locked_kind, HappensBefore, write_before_write, read_before_access, mfence, implied, rfe, co, fr}
 use Rattle.relational_model.proofs.Ranks.{before-trans, before-irreflexive}
 use Rattle.relational_model.proofs.KindFacts.{and-both}
@@ -39,7 +39,8 @@ write-no-fence F h e = let z : ⊥ = cc in z
 write-no-fence LR h e = let z : ⊥ = cc in z
 write-no-fence LW h e = let z : ⊥ = cc in z
 
-unpassed : (j k : Kind) → (same_kind j W || same_kind j LW) ≡ true → (same_kind k R || same_kind k LR) ≡ true → (same_kind j W && same_kind k R) ≡ false → (is_locked_kind j || is_locked_kind k) ≡ true
+unpassed : (j k : Kind) → (same_kind j W || same_kind j LW) ≡ true → (same_kind k R || same_kind k LR) ≡ true
+    → (same_kind j W && same_kind k R) ≡ false → (is_locked_kind j || is_locked_kind k) ≡ true
 unpassed W R a b h = let z : ⊥ = cc in absurd z
 unpassed W W a b h = let z : ⊥ = cc in absurd z
 unpassed W F a b h = let z : ⊥ = cc in absurd z
@@ -82,14 +83,16 @@ pub writes : (loc : ℕ) (w : Entry) → writes_to loc w ≡ true → is_write w
 writes loc w h = (and-both (is_write w) (w.loc.0 == loc) h).0
 
 -- the source of a read is a write of the test to its location
-pub source-writes : (t : Litmus) (c : Candidate) → Sound t c → (w r : Entry) → IsIn (events t c) r → ReadsFrom c w r → IsIn (events t c) w × (writes_to r.loc.0 w ≡ true)
+pub source-writes : (t : Litmus) (c : Candidate) → Sound t c → (w r : Entry) → IsIn (events t c) r → ReadsFrom c w r
+    → IsIn (events t c) w × (writes_to r.loc.0 w ≡ true)
 source-writes t c s w r i f =
     let h : Returns t c r (Some w) = subst (Returns t c r) f.source (s.candidate.reads r i f.read) in (h.0, h.1)
 
-pub behind-writes : (t : Litmus) (c : Candidate) → Sound t c → (r v : Entry) → FromReads c r v → IsIn (events t c) v × (writes_to r.loc.0 v ≡ true)
-behind-writes t c s r v f = go (c.source r) f.overwritten
+pub after-writes : (t : Litmus) (c : Candidate) → Sound t c → (r v : Entry) → FromReads c r v
+    → IsIn (events t c) v × (writes_to r.loc.0 v ≡ true)
+after-writes t c s r v f = go (c.source r) f.overwritten
   where
-    go : (o : Option Entry) → StandsBehind (c.coherence r.loc.0) o v → IsIn (events t c) v × (writes_to r.loc.0 v ≡ true)
+    go : (o : Option Entry) → StandsAfter (c.coherence r.loc.0) o v → IsIn (events t c) v × (writes_to r.loc.0 v ≡ true)
     go None h = s.coherent r.loc.0 v h
     go (Some w) h = s.coherent r.loc.0 v (h.second, h.is_second)
 
@@ -106,7 +109,8 @@ step t c s x y i j (inl k) = go (fence-or x) (fence-or y)
     on (inr wx) (inl ry) = implied x y k.0 wx ry (unpassed x.kind y.kind wx ry k.1)
     on (inr wx) (inr wy) = write_before_write x y k.0 wx wy
 
-    go : (x.kind ≡ F) ⊎ NoFence x → (y.kind ≡ F) ⊎ NoFence y → HappensBefore (events t c) c x y ⊎ ((is_before x y ≡ true) × ((x.kind ≡ F) ⊎ (y.kind ≡ F)))
+    go : (x.kind ≡ F) ⊎ NoFence x → (y.kind ≡ F) ⊎ NoFence y
+        → HappensBefore (events t c) c x y ⊎ ((is_before x y ≡ true) × ((x.kind ≡ F) ⊎ (y.kind ≡ F)))
     go (inl f) b = inr (k.0, inl f)
     go (inr a) (inl f) = inr (k.0, inr f)
     go (inr a) (inr b) = inl (on (access x a) (access y b))
@@ -115,10 +119,16 @@ step t c s x y i j (inl k) = go (fence-or x) (fence-or y)
 ends : (t : Litmus) (c : Candidate) → Sound t c → (x y : Entry) → IsIn (events t c) x → IsIn (events t c) y → Goes c x y
     → (Kept x y) ⊎ (NoFence x × NoFence y)
 ends t c s x y i j (inl k) = inl k
-ends t c s x y i j (inr (inl e)) = inr (is-no-fence x (inr (writes y.loc.0 x (source-writes t c s x y j e.0).1)), is-no-fence y (inl e.0.read))
+ends t c s x y i j (inr (inl e)) =
+    inr (is-no-fence x (inr (writes y.loc.0 x (source-writes t c s x y j e.0).1)), is-no-fence y (inl e.0.read))
 ends t c s x y i j (inr (inr (inl e))) =
-    inr (is-no-fence x (inr (writes x.loc.0 x (s.coherent x.loc.0 x (e.first, e.is_first)).1)), is-no-fence y (inr (writes x.loc.0 y (s.coherent x.loc.0 y (e.second, e.is_second)).1)))
-ends t c s x y i j (inr (inr (inr e))) = inr (is-no-fence x (inl e.read), is-no-fence y (inr (writes x.loc.0 y (behind-writes t c s x y e).1)))
+    inr (
+      is-no-fence x (inr (writes x.loc.0 x (s.coherent x.loc.0 x (e.first, e.is_first)).1)),
+      is-no-fence y
+          (inr (writes x.loc.0 y (s.coherent x.loc.0 y (e.second, e.is_second)).1)),
+    )
+ends t c s x y i j (inr (inr (inr e))) =
+    inr (is-no-fence x (inl e.read), is-no-fence y (inr (writes x.loc.0 y (after-writes t c s x y e).1)))
 
 -- ---- ways
 
@@ -146,11 +156,13 @@ ends-in : (es : List Entry) (B : Entry → Entry → Type 0) (x y : Entry) → L
 ends-in es B _ _ (at_once x y i j b) = j
 ends-in es B _ _ (onward x u y i b rest) = ends-in es B u y rest
 
-over-fence : (t : Litmus) (c : Candidate) (x f y : Entry) → IsIn (events t c) x → IsIn (events t c) f → IsIn (events t c) y → f.kind ≡ F → is_before x f ≡ true → is_before f y ≡ true
+over-fence : (t : Litmus) (c : Candidate) (x f y : Entry) → IsIn (events t c) x → IsIn (events t c) f → IsIn (events t c) y → f.kind ≡ F
+    → is_before x f ≡ true → is_before f y ≡ true
     → LeadsTo (events t c) (HappensBefore (events t c) c) x y
 over-fence t c x f y i k j e a b = at_once x y i j (mfence x f y k e a b)
 
-ways : (t : Litmus) (c : Candidate) (x y z : Entry) → IsIn (events t c) x → IsIn (events t c) y → IsIn (events t c) z → Way t c x y → Way t c y z → Way t c x z
+ways : (t : Litmus) (c : Candidate) (x y z : Entry) → IsIn (events t c) x → IsIn (events t c) y → IsIn (events t c) z → Way t c x y
+    → Way t c y z → Way t c x z
 ways t c x y z i j k (inl a) (inl b) = go (fence-or x) (fence-or z)
   where
     middle : NoFence x → (x.kind ≡ F) ⊎ (y.kind ≡ F) → y.kind ≡ F
@@ -160,7 +172,15 @@ ways t c x y z i j k (inl a) (inl b) = go (fence-or x) (fence-or z)
     go : (x.kind ≡ F) ⊎ NoFence x → (z.kind ≡ F) ⊎ NoFence z → Way t c x z
     go (inl f) d = inl (before-trans x y z a.0 b.0, inl f)
     go (inr n) (inl f) = inl (before-trans x y z a.0 b.0, inr f)
-    go (inr n) (inr m) = inr (record { from = x; to = z; comes = inl (refl, n); way = over-fence t c x y z i j k (middle n a.1) a.0 b.0; leaves = inl (refl, m) })
+    go (inr n) (inr m) =
+        inr (record {
+          from = x;
+          to = z;
+          comes = inl (refl, n);
+          way = over-fence t c x y z i j k (middle n a.1) a.0 b.0;
+          leaves = inl
+              (refl, m);
+        })
 ways t c x y z i j k (inl a) (inr q) = go q.comes (fence-or x)
   where
     middle : NoFence x → (x.kind ≡ F) ⊎ (y.kind ≡ F) → y.kind ≡ F
@@ -168,9 +188,17 @@ ways t c x y z i j k (inl a) (inr q) = go q.comes (fence-or x)
     middle n (inr f) = f
 
     go : Comes y q.from → (x.kind ≡ F) ⊎ NoFence x → Way t c x z
-    go (inl h) (inl f) = inr (record { from = q.from; to = q.to; comes = inr (f, subst (λ u. is_before x u ≡ true) h.0 a.0); way = q.way; leaves = q.leaves })
+    go (inl h) (inl f) =
+        inr (record {
+          from = q.from;
+          to = q.to;
+          comes = inr (f, subst (λ u. is_before x u ≡ true) h.0 a.0);
+          way = q.way;
+          leaves = q.leaves;
+        })
     go (inl h) (inr n) = absurd (h.1 (middle n a.1))
-    go (inr h) (inl f) = inr (record { from = q.from; to = q.to; comes = inr (f, before-trans x y q.from a.0 h.1); way = q.way; leaves = q.leaves })
+    go (inr h) (inl f) =
+        inr (record { from = q.from; to = q.to; comes = inr (f, before-trans x y q.from a.0 h.1); way = q.way; leaves = q.leaves })
     go (inr h) (inr n) = inr (record {
       from = x;
       to = q.to;
@@ -186,9 +214,18 @@ ways t c x y z i j k (inr p) (inl b) = go p.leaves (fence-or z)
     middle n (inr f) = absurd (n f)
 
     go : Leaves p.to y → (z.kind ≡ F) ⊎ NoFence z → Way t c x z
-    go (inl h) (inl f) = inr (record { from = p.from; to = p.to; comes = p.comes; way = p.way; leaves = inr (f, subst (λ u. is_before u z ≡ true) (sym h.0) b.0) })
+    go (inl h) (inl f) =
+        inr (record {
+          from = p.from;
+          to = p.to;
+          comes = p.comes;
+          way = p.way;
+          leaves = inr
+              (f, subst (λ u. is_before u z ≡ true) (sym h.0) b.0);
+        })
     go (inl h) (inr n) = absurd (h.1 (middle n b.1))
-    go (inr h) (inl f) = inr (record { from = p.from; to = p.to; comes = p.comes; way = p.way; leaves = inr (f, before-trans p.to y z h.1 b.0) })
+    go (inr h) (inl f) =
+        inr (record { from = p.from; to = p.to; comes = p.comes; way = p.way; leaves = inr (f, before-trans p.to y z h.1 b.0) })
     go (inr h) (inr n) = inr (record {
       from = p.from;
       to = z;
@@ -223,7 +260,8 @@ step-way t c s x y i j g = go (step t c s x y i j g) (ends t c s x y i j g)
     split h k (inr a) (inl f) = inl (k.0, inr f)
     split h k (inr a) (inr b) = whole h a b
 
-    go : HappensBefore (events t c) c x y ⊎ ((is_before x y ≡ true) × ((x.kind ≡ F) ⊎ (y.kind ≡ F))) → (Kept x y) ⊎ (NoFence x × NoFence y) → Way t c x y
+    go : HappensBefore (events t c) c x y ⊎ ((is_before x y ≡ true) × ((x.kind ≡ F) ⊎ (y.kind ≡ F)))
+        → (Kept x y) ⊎ (NoFence x × NoFence y) → Way t c x y
     go (inr b) e = inl b
     go (inl h) (inr n) = whole h n.0 n.1
     go (inl h) (inl k) = split h k (fence-or x) (fence-or y)
@@ -234,7 +272,8 @@ all-ways t c s _ _ (onward x y z i b rest) =
     let j = starts-in (events t c) (Goes c) y z rest in
     ways t c x y z i j (ends-in (events t c) (Goes c) y z rest) (step-way t c s x y i j b) (all-ways t c s y z rest)
 
-pub goes-acyclic : (t : Litmus) (c : Candidate) → Sound t c → IsAcyclic (events t c) (HappensBefore (events t c) c) → IsAcyclic (events t c) (Goes c)
+pub goes-acyclic : (t : Litmus) (c : Candidate) → Sound t c → IsAcyclic (events t c) (HappensBefore (events t c) c)
+    → IsAcyclic (events t c) (Goes c)
 goes-acyclic t c s a x p = go (all-ways t c s x x p)
   where
     cycle : (q : Through t c x x) → Leaves q.to x → Comes x q.from → ⊥
@@ -242,7 +281,8 @@ goes-acyclic t c s a x p = go (all-ways t c s x x p)
     cycle q (inl h) (inr g) = h.1 g.0
     cycle q (inr h) (inl g) = g.1 h.0
     cycle q (inr h) (inr g) = a q.from (joined (events t c) (HappensBefore (events t c) c) q.from q.to q.from q.way
-        (over-fence t c q.to x q.from (ends-in (events t c) (HappensBefore (events t c) c) q.from q.to q.way) (starts-in (events t c) (Goes c) x x p)
+        (over-fence t c q.to x q.from (ends-in (events t c) (HappensBefore (events t c) c) q.from q.to q.way)
+        (starts-in (events t c) (Goes c) x x p)
         (starts-in (events t c) (HappensBefore (events t c) c) q.from q.to q.way) h.0 h.1 g.1))
 
     go : Way t c x x → ⊥

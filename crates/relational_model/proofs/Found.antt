@@ -40,16 +40,18 @@ events-made : (core : ℕ) (ps : List (List Instr)) (registers reads : List (Lis
     → events_from core ps registers reads ≡ made_from core ps registers order
 events-made core [] registers reads order h = refl
 events-made core (p ∷ ps) registers reads order h =
-    let here : slice_index_or reads core [] ≡ read_values core 0 p order = subst (λ k. slice_index_or reads k [] ≡ read_values k 0 p order) (let z : core + 0 ≡ core = omega arith in z) (h 0 p refl) in
+    let here : slice_index_or reads core [] ≡ read_values core 0 p order = subst
+    (λ k. slice_index_or reads k [] ≡ read_values k 0 p order) (let z : core + 0 ≡ core = omega arith in z) (h 0 p refl) in
     let rest : events_from (core + 1) ps registers reads ≡ made_from (core + 1) ps registers order =
     events-made (core + 1) ps registers reads order
-    (λ j q e. subst (λ k. slice_index_or reads k [] ≡ read_values k 0 q order) (let z : core + suc j ≡ (core + 1) + j = omega arith in z) (h (suc j) q e)) in
+    (λ j q e. subst (λ k. slice_index_or reads k [] ≡ read_values k 0 q order) (let z : core + suc j ≡ (core + 1) + j = omega arith in z)
+    (h (suc j) q e)) in
     ap (λ values. entries_of core 0 p (slice_index_or registers core []) values ++ events_from (core + 1) ps registers reads) here
     ∙ ap (λ es. made_by core p (slice_index_or registers core []) order ++ es) rest
 
 -- ---- where they read from
 
--- the last write that counts for r, where the list is the rest of the order behind `front`
+-- the last write that counts for r, where the list is the rest of the order after `front`
 abbrev pub find : List Entry → List Entry → Entry → Option Entry
 find front [] r = None
 find front (x ∷ xs) r = if is_at r.core.0 r.place r.kind x then last_in (counting r front xs) else find (front ++ (x ∷ [])) xs r
@@ -104,34 +106,44 @@ apart-three true false d h = let z : ⊥ = cc in absurd z
 apart-three false b d h = let z : ⊥ = cc in absurd z
 
 pub at-itself : (r : Entry) → is_at r.core.0 r.place r.kind r ≡ true
-at-itself r = join (r.core.0 == r.core.0) (r.place == r.place) (same_kind r.kind r.kind) (number-same r.core.0 r.core.0 refl) (number-same r.place r.place refl) (kind-itself r.kind)
+at-itself r =
+    join (r.core.0 == r.core.0) (r.place == r.place) (same_kind r.kind r.kind) (number-same r.core.0 r.core.0 refl)
+    (number-same r.place r.place refl) (kind-itself r.kind)
 
 append-nothing : (xs : List Entry) → xs ++ [] ≡ xs
 append-nothing [] = refl
 append-nothing (x ∷ xs) = ap (λ r. x ∷ r) (append-nothing xs)
 
-found : (front middle : List Entry) (r : Entry) (back : List Entry) → ((y : Entry) → IsIn middle y → is_at r.core.0 r.place r.kind y ≡ false)
+found : (front middle : List Entry) (r : Entry) (back : List Entry)
+    → ((y : Entry) → IsIn middle y → is_at r.core.0 r.place r.kind y ≡ false)
     → find front (middle ++ (r ∷ back)) r ≡ last_in (counting r (front ++ middle) back)
 found front [] r back none = rw (at-itself r) (ap (λ f. last_in (counting r f back)) (sym (append-nothing front)))
 found front (m ∷ ms) r back none =
     let first : is_at r.core.0 r.place r.kind m ≡ false = none m (in-first m ms m refl) in
-    rw first (found (front ++ (m ∷ [])) ms r back (λ y i. none y (in-later m ms y i)) ∙ ap (λ f. last_in (counting r f back)) (append_assoc front (m ∷ []) ms))
+    rw first (found (front ++ (m ∷ [])) ms r back (λ y i. none y (in-later m ms y i)) ∙ ap (λ f. last_in (counting r f back))
+    (append_assoc front (m ∷ []) ms))
 
 is-false : (b : Bool) → (b ≡ true → ⊥) → b ≡ false
 is-false true f = absurd (f refl)
 is-false false f = refl
 
 -- no entry in front of r is of its core, place and kind
-none-in-front : (t : Litmus) (order : List Entry) → Whole t order → (front : List Entry) (r : Entry) (back : List Entry) → order ≡ front ++ (r ∷ back)
+none-in-front : (t : Litmus) (order : List Entry) → Whole t order → (front : List Entry) (r : Entry) (back : List Entry)
+    → order ≡ front ++ (r ∷ back)
     → (y : Entry) → IsIn front y → is_at r.core.0 r.place r.kind y ≡ false
-none-in-front t order whole front r back is y i = is-false (is_at r.core.0 r.place r.kind y) (λ h. clash (apart-three (y.core.0 == r.core.0) (y.place == r.place) (same_kind y.kind r.kind) h))
+none-in-front t order whole front r back is y i =
+    is-false (is_at r.core.0 r.place r.kind y)
+    (λ h. clash (apart-three (y.core.0 == r.core.0) (y.place == r.place) (same_kind y.kind r.kind) h))
   where
     clash : AllThree (y.core.0 == r.core.0) (y.place == r.place) (same_kind y.kind r.kind) → ⊥
     clash h =
         let in-y : IsIn order y = subst (λ xs. IsIn xs y) (sym is) (in-left front (r ∷ back) y i) in
         let in-r : IsIn order r = subst (λ xs. IsIn xs r) (sym is) (in-right front (r ∷ back) r (in-first r back r refl)) in
-        let same : y ≡ r = same-made t order y r (whole.made y in-y) (whole.made r in-r) (same-number y.core.0 r.core.0 h.0) (same-number y.place r.place h.1) (equal-kinds y.kind r.kind h.2) in
-        never-itself order r whole.once (from-precedes order r r (subst (Precedes r r) (sym is) (precedes-across front (r ∷ back) r r (subst (IsIn front) same i) (in-first r back r refl))))
+        let same : y ≡ r = same-made t order y r (whole.made y in-y) (whole.made r in-r) (same-number y.core.0 r.core.0 h.0)
+        (same-number y.place r.place h.1) (equal-kinds y.kind r.kind h.2) in
+        never-itself order r whole.once
+        (from-precedes order r r
+        (subst (Precedes r r) (sym is) (precedes-across front (r ∷ back) r r (subst (IsIn front) same i) (in-first r back r refl))))
 
 -- ---- the candidate
 
@@ -147,7 +159,8 @@ has-candidate t order whole = (
   candidate_of t order,
   record {
     events = events-made 0 t.programs t.registers (reads_from 0 t.programs order) order
-        (λ j p e. subst (λ k. slice_index_or (reads_from 0 t.programs order) k [] ≡ read_values (0 + j) 0 p order) (let z : j ≡ 0 + j = omega arith in z) (reads-at 0 t.programs order j p e));
+        (λ j p e. subst (λ k. slice_index_or (reads_from 0 t.programs order) k [] ≡ read_values (0 + j) 0 p order)
+        (let z : j ≡ 0 + j = omega arith in z) (reads-at 0 t.programs order j p e));
     sources = λ front r back is read. ap (λ xs. find [] xs r) is ∙ found [] front r back (none-in-front t order whole front r back is);
     coherence = λ loc. refl;
   },

@@ -58,15 +58,15 @@ fence-kept LW k e = refl
 pub kept-before-fence : (x f : Entry) → f.kind ≡ F → may_be_passed x f ≡ false
 kept-before-fence x f e = fence-kept x.kind f.kind e
 
-kept-behind : (j k : Kind) → j ≡ F → (same_kind j W && same_kind k R) ≡ false
-kept-behind W k e = let z : ⊥ = cc in absurd z
-kept-behind R k e = refl
-kept-behind F k e = refl
-kept-behind LR k e = refl
-kept-behind LW k e = refl
+kept-after : (j k : Kind) → j ≡ F → (same_kind j W && same_kind k R) ≡ false
+kept-after W k e = let z : ⊥ = cc in absurd z
+kept-after R k e = refl
+kept-after F k e = refl
+kept-after LR k e = refl
+kept-after LW k e = refl
 
-pub kept-behind-fence : (f y : Entry) → f.kind ≡ F → may_be_passed f y ≡ false
-kept-behind-fence f y e = kept-behind f.kind y.kind e
+pub kept-after-fence : (f y : Entry) → f.kind ≡ F → may_be_passed f y ≡ false
+kept-after-fence f y e = kept-after f.kind y.kind e
 
 locked-kept : (j k : Kind) → (is_locked_kind j || is_locked_kind k) ≡ true → (same_kind j W && same_kind k R) ≡ false
 locked-kept W R l = let z : ⊥ = cc in absurd z

@@ -16,3 +16,9 @@ pub mod Events
 pub mod Fences
 pub mod Order
 pub mod Values
+pub mod Pairs
+pub mod AfterStore
+pub mod Together
+pub mod Converse
+pub mod Independent
+pub mod Forbidden

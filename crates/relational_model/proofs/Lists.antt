@@ -52,7 +52,8 @@ pub filter-in : (p : Entry → Bool) (xs : List Entry) (y : Entry) → IsIn xs y
 filter-in p [] y h t = absurd (in-none y h)
 filter-in p (x ∷ xs) y h t = go (p x) refl (λ i. filter-in p xs y i t) (in-case x xs y h)
   where
-    go : (b : Bool) → p x ≡ b → (IsIn xs y → IsIn (filter p xs) y) → (y ≡ x) ⊎ IsIn xs y → IsIn (if b then x ∷ filter p xs else filter p xs) y
+    go : (b : Bool) → p x ≡ b → (IsIn xs y → IsIn (filter p xs) y) → (y ≡ x) ⊎ IsIn xs y
+        → IsIn (if b then x ∷ filter p xs else filter p xs) y
     go true q rest (inl e) = in-first x (filter p xs) y e
     go true q rest (inr i) = in-later x (filter p xs) y (rest i)
     go false q rest (inl e) = absurd (let same : p y ≡ p x = ap p e in let z : ⊥ = cc in z)
@@ -90,10 +91,17 @@ to-precedes xs a b e = precedes-at xs a b e.first e.second e.is_first e.is_secon
 
 pub from-precedes : (xs : List Entry) (a b : Entry) → Precedes a b xs → IsEarlier xs a b
 from-precedes [] a b h = absurd h
-from-precedes (x ∷ xs) a b (inl h) = record { first = 0; second = suc h.1.0; is_first = ap Some (sym h.0); is_second = h.1.1; before = omega arith }
+from-precedes (x ∷ xs) a b (inl h) =
+    record { first = 0; second = suc h.1.0; is_first = ap Some (sym h.0); is_second = h.1.1; before = omega arith }
 from-precedes (x ∷ xs) a b (inr h) =
     let r = from-precedes xs a b h in
-    record { first = suc r.first; second = suc r.second; is_first = r.is_first; is_second = r.is_second; before = let l : r.first < r.second = r.before in omega arith }
+    record {
+      first = suc r.first;
+      second = suc r.second;
+      is_first = r.is_first;
+      is_second = r.is_second;
+      before = let l : r.first < r.second = r.before in omega arith;
+    }
 
 pub precedes-first : (xs : List Entry) (a b : Entry) → Precedes a b xs → IsIn xs a
 precedes-first [] a b h = absurd h
@@ -109,7 +117,8 @@ pub precedes-filter : (p : Entry → Bool) (xs : List Entry) (a b : Entry) → P
 precedes-filter p [] a b h = h
 precedes-filter p (x ∷ xs) a b h = go (p x) (precedes-filter p xs a b) h
   where
-    go : (t : Bool) → (Precedes a b (filter p xs) → Precedes a b xs) → Precedes a b (if t then x ∷ filter p xs else filter p xs) → Precedes a b (x ∷ xs)
+    go : (t : Bool) → (Precedes a b (filter p xs) → Precedes a b xs) → Precedes a b (if t then x ∷ filter p xs else filter p xs)
+        → Precedes a b (x ∷ xs)
     go true rest (inl k) = inl (k.0, (in-filter p xs b k.1).0)
     go true rest (inr k) = inr (rest k)
     go false rest k = inr (rest k)
@@ -131,7 +140,8 @@ precedes-across (x ∷ xs) ys a b h k = go (λ i. precedes-across xs ys a b i k)
     go rest (inl e) = inl (e, in-right xs ys b k)
     go rest (inr i) = inr (rest i)
 
-pub precedes-parts : (xs ys : List Entry) (a b : Entry) → Precedes a b (xs ++ ys) → Precedes a b xs ⊎ ((IsIn xs a × IsIn ys b) ⊎ Precedes a b ys)
+pub precedes-parts : (xs ys : List Entry) (a b : Entry) → Precedes a b (xs ++ ys)
+    → Precedes a b xs ⊎ ((IsIn xs a × IsIn ys b) ⊎ Precedes a b ys)
 precedes-parts [] ys a b h = inr (inr h)
 precedes-parts (x ∷ xs) ys a b (inl h) = go (in-append xs ys b h.1)
   where
@@ -140,7 +150,8 @@ precedes-parts (x ∷ xs) ys a b (inl h) = go (in-append xs ys b h.1)
     go (inr i) = inr (inl (in-first x xs a h.0, i))
 precedes-parts (x ∷ xs) ys a b (inr h) = go (precedes-parts xs ys a b h)
   where
-    go : Precedes a b xs ⊎ ((IsIn xs a × IsIn ys b) ⊎ Precedes a b ys) → Precedes a b (x ∷ xs) ⊎ ((IsIn (x ∷ xs) a × IsIn ys b) ⊎ Precedes a b ys)
+    go : Precedes a b xs ⊎ ((IsIn xs a × IsIn ys b) ⊎ Precedes a b ys)
+        → Precedes a b (x ∷ xs) ⊎ ((IsIn (x ∷ xs) a × IsIn ys b) ⊎ Precedes a b ys)
     go (inl p) = inl (inr p)
     go (inr (inl p)) = inr (inl (in-later x xs a p.0, p.1))
     go (inr (inr p)) = inr (inr p)

@@ -10,7 +10,7 @@ use Rattle.tso_model.specs.declared.execution.Kind.TheVariants.{R, W, F, LR, LW}
 use Rattle.relational_model.specs.Events.{IsIn, IsEarlier, at_once, onward}
 use Rattle.relational_model.specs.Candidates.{Candidate, events}
 use Rattle.relational_model.specs.CandidatesOfOrders.{last_in}
-use Rattle.relational_model.specs.Relations.{is_access, share_location, ReadsFrom, IsBefore, StandsBehind, FromReads}
+use Rattle.relational_model.specs.Relations.{is_access, share_location, ReadsFrom, IsBefore, StandsAfter, FromReads}
 use Rattle.relational_model.specs.Model.{IsAllowed, po_loc, rf, fr}
 use Rattle.relational_model.proofs.Lists.{in-case, in-none, in-first, in-later, in-filter, filter-in, in-right, Precedes, to-precedes, from-precedes, precedes-second, last-is-in, last-none, last-last}
 use Rattle.relational_model.proofs.Ranks.{rank, part_of, rank-before}
@@ -29,18 +29,20 @@ forward-never B [] x y h p b = p
 forward-never B (z ∷ zs) x y h (inl p) b = h.0 x p.1 (subst (B x) p.0 b)
 forward-never B (z ∷ zs) x y h (inr p) b = forward-never B zs x y h.1 p b
 
-stand-once : (xs : List Entry) → Once xs → StandOnce xs
+pub stand-once : (xs : List Entry) → Once xs → StandOnce xs
 stand-once [] o i j e p q = let z : ⊥ = cc in absurd z
 stand-once (x ∷ xs) o zero zero e p q = refl
 stand-once (x ∷ xs) o zero (suc j) e p q = let same : x ≡ e = cc in absurd (o.0 (j, q ∙ ap Some (sym same)))
 stand-once (x ∷ xs) o (suc i) zero e p q = let same : x ≡ e = cc in absurd (o.0 (i, p ∙ ap Some (sym same)))
 stand-once (x ∷ xs) o (suc i) (suc j) e p q = ap suc (stand-once xs o.1 i j e p q)
 
-pub precedes-picked : (p : Entry → Bool) (xs : List Entry) (a b : Entry) → p a ≡ true → p b ≡ true → Precedes a b xs → Precedes a b (filter p xs)
+pub precedes-picked : (p : Entry → Bool) (xs : List Entry) (a b : Entry) → p a ≡ true → p b ≡ true → Precedes a b xs
+    → Precedes a b (filter p xs)
 precedes-picked p [] a b pa pb h = h
 precedes-picked p (x ∷ xs) a b pa pb h = go (p x) refl (λ k. precedes-picked p xs a b pa pb k) h
   where
-    go : (t : Bool) → p x ≡ t → (Precedes a b xs → Precedes a b (filter p xs)) → ((a ≡ x) × IsIn xs b) ⊎ Precedes a b xs → Precedes a b (if t then x ∷ filter p xs else filter p xs)
+    go : (t : Bool) → p x ≡ t → (Precedes a b xs → Precedes a b (filter p xs)) → ((a ≡ x) × IsIn xs b) ⊎ Precedes a b xs
+        → Precedes a b (if t then x ∷ filter p xs else filter p xs)
     go true e rest (inl k) = inl (k.0, filter-in p xs b k.1 pb)
     go true e rest (inr k) = inr (rest k)
     go false e rest (inl k) = absurd (let q : p a ≡ p x = ap p k.0 in let z : ⊥ = cc in z)
@@ -109,13 +111,24 @@ pub record Placed (t : Litmus) (c : Candidate) (order : List Entry) : Type 0 whe
 pub placed-row : (t : Litmus) (c : Candidate) → Sound t c → IsAllowed t c → (r : Row (Goes c) (events t c)) → Placed t c r.row
 placed-row t c s a r =
     let k = pigeons (events t c) r.row s.once r.inside r.count in
-    record { sound = s; allowed = a; inside = r.inside; outside = r.outside; single = k.once; once = stand-once r.row k.once; forward = r.forward; count = r.count }
+    record {
+      sound = s;
+      allowed = a;
+      inside = r.inside;
+      outside = r.outside;
+      single = k.once;
+      once = stand-once r.row k.once;
+      forward = r.forward;
+      count = r.count;
+    }
 
-pub goes-earlier : (t : Litmus) (c : Candidate) (order : List Entry) → Placed t c order → (x y : Entry) → IsIn order x → IsIn order y → Goes c x y → IsEarlier order x y
+pub goes-earlier : (t : Litmus) (c : Candidate) (order : List Entry) → Placed t c order → (x y : Entry) → IsIn order x → IsIn order y
+    → Goes c x y → IsEarlier order x y
 goes-earlier t c order k x y i j g = go (one-way order x y i j)
   where
     go : (x ≡ y) ⊎ (IsEarlier order x y ⊎ IsEarlier order y x) → IsEarlier order x y
-    go (inl e) = absurd (goes-acyclic t c k.sound k.allowed.global x (at_once x x (k.outside x i) (k.outside x i) (subst (Goes c x) (sym e) g)))
+    go (inl e) =
+        absurd (goes-acyclic t c k.sound k.allowed.global x (at_once x x (k.outside x i) (k.outside x i) (subst (Goes c x) (sym e) g)))
     go (inr (inl e)) = e
     go (inr (inr e)) = absurd (forward-never (Goes c) order x y k.forward (to-precedes order y x e) g)
 
@@ -126,7 +139,7 @@ keeps-order t c order k i j x y p q b m =
     let s : e.second ≡ j = k.once e.second j y e.is_second q in
     let l : e.first < e.second = e.before in omega arith
 
-location : (loc : ℕ) (w : Entry) → writes_to loc w ≡ true → w.loc.0 ≡ loc
+pub location : (loc : ℕ) (w : Entry) → writes_to loc w ≡ true → w.loc.0 ≡ loc
 location loc w h = same-number w.loc.0 loc (second (is_write w) (w.loc.0 == loc) h)
   where
     second : (a b : Bool) → (a && b) ≡ true → b ≡ true
@@ -134,7 +147,8 @@ location loc w h = same-number w.loc.0 loc (second (is_write w) (w.loc.0 == loc)
     second false b h = let z : ⊥ = cc in absurd z
 
 -- the coherence orders are the writes as they stand in the order
-pub coherence-is : (t : Litmus) (c : Candidate) (order : List Entry) → Placed t c order → (loc : ℕ) → c.coherence loc ≡ filter (writes_to loc) order
+pub coherence-is : (t : Litmus) (c : Candidate) (order : List Entry) → Placed t c order → (loc : ℕ)
+    → c.coherence loc ≡ filter (writes_to loc) order
 coherence-is t c order k loc =
     same-rows (c.coherence loc) (filter (writes_to loc) order) (k.sound.single loc) (once-picked (writes_to loc) order k.single)
     (λ a i. let h = k.sound.coherent loc a i in filter-in (writes_to loc) order a (k.inside a h.0) h.1)
@@ -146,7 +160,8 @@ coherence-is t c order k loc =
         let x = k.sound.coherent loc a (e.first, e.is_first) in
         let y = k.sound.coherent loc b (e.second, e.is_second) in
         let d : IsBefore c a b = subst (λ l. IsEarlier (c.coherence l) a b) (sym (location loc a x.1)) e in
-        precedes-picked (writes_to loc) order a b x.1 y.1 (to-precedes order a b (goes-earlier t c order k a b (k.inside a x.0) (k.inside b y.0) (inr (inr (inl d)))))
+        precedes-picked (writes_to loc) order a b x.1 y.1
+        (to-precedes order a b (goes-earlier t c order k a b (k.inside a x.0) (k.inside b y.0) (inr (inr (inl d)))))
 
 -- ---- sources
 
@@ -157,7 +172,7 @@ small-part F = omega arith
 small-part LR = omega arith
 small-part LW = omega arith
 
-share : (x y : Entry) → is_access x ≡ true → is_access y ≡ true → x.loc.0 ≡ y.loc.0 → share_location x y ≡ true
+pub share : (x y : Entry) → is_access x ≡ true → is_access y ≡ true → x.loc.0 ≡ y.loc.0 → share_location x y ≡ true
 share x y a b e = go (is_access x) (is_access y) (x.loc.0 == y.loc.0) a b (number-same x.loc.0 y.loc.0 e)
   where
     go : (p q r : Bool) → p ≡ true → q ≡ true → r ≡ true → (p && q && r) ≡ true
@@ -167,15 +182,20 @@ share x y a b e = go (is_access x) (is_access y) (x.loc.0 == y.loc.0) a b (numbe
     go false q r a b d = let z : ⊥ = cc in absurd z
 
 -- a write that overwrites what r read doesn't count for r
-uncounted : (t : Litmus) (c : Candidate) (order : List Entry) → Placed t c order → (r v : Entry) → IsIn order r → FromReads c r v → Counts order r v → ⊥
+uncounted : (t : Litmus) (c : Candidate) (order : List Entry) → Placed t c order → (r v : Entry) → IsIn order r → FromReads c r v
+    → Counts order r v → ⊥
 uncounted t c order k r v i f (j, (w, inl e)) = never-back order v r k.once e (goes-earlier t c order k r v i j (inr (inr (inr f))))
 uncounted t c order k r v i f (j, (w, inr b)) =
     k.allowed.uniproc v
-    (onward v r v (k.outside v j) (po_loc v r b (share v r (true-or (is_read v) (is_write v) (inr (writes r.loc.0 v w))) (true-or (is_read r) (is_write r) (inl f.read)) (location r.loc.0 v w)))
+    (onward v r v (k.outside v j)
+    (po_loc v r b
+    (share v r (true-or (is_read v) (is_write v) (inr (writes r.loc.0 v w))) (true-or (is_read r) (is_write r) (inl f.read))
+    (location r.loc.0 v w)))
     (at_once r v (k.outside r i) (k.outside v j) (fr r v f)))
 
 -- the source of a read counts for it
-source-counts : (t : Litmus) (c : Candidate) (order : List Entry) → Placed t c order → (r w : Entry) → IsIn order r → ReadsFrom c w r → Counts order r w
+source-counts : (t : Litmus) (c : Candidate) (order : List Entry) → Placed t c order → (r w : Entry) → IsIn order r → ReadsFrom c w r
+    → Counts order r w
 source-counts t c order k r w i f = (k.inside w h.0, (h.1, how (number w.core.0 r.core.0)))
   where
     h : IsIn (events t c) w × (writes_to r.loc.0 w ≡ true)
@@ -183,7 +203,10 @@ source-counts t c order k r w i f = (k.inside w h.0, (h.1, how (number w.core.0 
 
     back : is_before r w ≡ true → ⊥
     back b = k.allowed.uniproc r
-        (onward r w r (k.outside r i) (po_loc r w b (share r w (true-or (is_read r) (is_write r) (inl f.read)) (true-or (is_read w) (is_write w) (inr (writes r.loc.0 w h.1))) (sym (location r.loc.0 w h.1))))
+        (onward r w r (k.outside r i)
+        (po_loc r w b
+        (share r w (true-or (is_read r) (is_write r) (inl f.read)) (true-or (is_read w) (is_write w) (inr (writes r.loc.0 w h.1)))
+        (sym (location r.loc.0 w h.1))))
         (at_once w r h.0 (k.outside r i) (rf w r f)))
 
     order-of : (m n : ℕ) → (m < n) ⊎ ((m ≡ n) ⊎ (n < m))
@@ -210,7 +233,8 @@ source-counts t c order k r w i f = (k.inside w h.0, (h.1, how (number w.core.0 
     how (inl e) = inr (on e (order-of (rank w) (rank r)))
     how (inr n) = inl (goes-earlier t c order k w r (k.inside w h.0) i (inr (inl (f, n))))
 
-pub sources-are : (t : Litmus) (c : Candidate) (order : List Entry) → Placed t c order → (front : List Entry) (r : Entry) (back : List Entry) → order ≡ front ++ (r ∷ back) → is_read r ≡ true
+pub sources-are : (t : Litmus) (c : Candidate) (order : List Entry) → Placed t c order
+    → (front : List Entry) (r : Entry) (back : List Entry) → order ≡ front ++ (r ∷ back) → is_read r ≡ true
     → c.source r ≡ last_in (counting r front back)
 sources-are t c order k front r back is read = go (c.source r) refl (last_in (counting r front back)) refl
   where
@@ -220,16 +244,18 @@ sources-are t c order k front r back is read = go (c.source r) refl (last_in (co
     counts : (v : Entry) → last_in (counting r front back) ≡ Some v → Counts order r v
     counts v e = in-counts order front back r v is (last-is-in (counting r front back) v e)
 
-    overwrites : (o : Option Entry) → c.source r ≡ o → (v : Entry) → StandsBehind (c.coherence r.loc.0) o v → FromReads c r v
-    overwrites o e v h = record { read = read; overwritten = subst (λ s. StandsBehind (c.coherence r.loc.0) s v) (sym e) h }
+    overwrites : (o : Option Entry) → c.source r ≡ o → (v : Entry) → StandsAfter (c.coherence r.loc.0) o v → FromReads c r v
+    overwrites o e v h = record { read = read; overwritten = subst (λ s. StandsAfter (c.coherence r.loc.0) s v) (sym e) h }
 
-    go : (o : Option Entry) → c.source r ≡ o → (l : Option Entry) → last_in (counting r front back) ≡ l → c.source r ≡ last_in (counting r front back)
+    go : (o : Option Entry) → c.source r ≡ o → (l : Option Entry) → last_in (counting r front back) ≡ l
+        → c.source r ≡ last_in (counting r front back)
     go None e None f = e ∙ sym f
     go None e (Some v) f =
         let n = counts v f in
         absurd (uncounted t c order k r v here (overwrites None e v (k.sound.candidate.writes r.loc.0 v (k.outside v n.0) n.1.0)) n)
     go (Some w) e None f =
-        absurd (last-none (counting r front back) w f (counts-in order front back r w k.once is (source-counts t c order k r w here (record { read = read; source = e }))))
+        absurd (last-none (counting r front back) w f
+        (counts-in order front back r w k.once is (source-counts t c order k r w here (record { read = read; source = e }))))
     go (Some w) e (Some v) f = on (last-last (counting r front back) v w f (counts-in order front back r w k.once is m))
       where
         m : Counts order r w
@@ -241,6 +267,8 @@ sources-are t c order k front r back is read = go (c.source r) refl (last_in (co
         on : (w ≡ v) ⊎ Precedes w v (counting r front back) → c.source r ≡ last_in (counting r front back)
         on (inl q) = e ∙ (ap Some q ∙ sym f)
         on (inr p) =
-            let b : Precedes w v (filter (writes_to r.loc.0) order) = precedes-picked (writes_to r.loc.0) order w v m.1.0 n.1.0 (to-precedes order w v (counting-earlier order front back r w v is p)) in
-            let d : IsEarlier (c.coherence r.loc.0) w v = from-precedes (c.coherence r.loc.0) w v (subst (Precedes w v) (sym (coherence-is t c order k r.loc.0)) b) in
+            let b : Precedes w v (filter (writes_to r.loc.0) order) = precedes-picked (writes_to r.loc.0) order w v m.1.0 n.1.0
+            (to-precedes order w v (counting-earlier order front back r w v is p)) in
+            let d : IsEarlier (c.coherence r.loc.0) w v = from-precedes (c.coherence r.loc.0) w v
+            (subst (Precedes w v) (sym (coherence-is t c order k r.loc.0)) b) in
             absurd (uncounted t c order k r v here (overwrites (Some w) e v d) n)

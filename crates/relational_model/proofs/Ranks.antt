@@ -27,7 +27,8 @@ first-later p q = grind (arith, nat_tests)
 second-later : (p q : ℕ) → (nat_lt p q || ((p == q) && true)) ≡ nat_lt (p + p + 0) (q + q + 1)
 second-later p q = grind (arith, nat_tests)
 
-kinds-rank : (j k : Kind) (p q : ℕ) → (nat_lt p q || ((p == q) && (same_kind k LW && not (same_kind j LW)))) ≡ nat_lt (p + p + part_of j) (q + q + part_of k)
+kinds-rank : (j k : Kind) (p q : ℕ)
+    → (nat_lt p q || ((p == q) && (same_kind k LW && not (same_kind j LW)))) ≡ nat_lt (p + p + part_of j) (q + q + part_of k)
 kinds-rank LW LW p q = both-later p q
 kinds-rank LW _ p q = first-later p q
 kinds-rank _ LW p q = second-later p q

@@ -14,7 +14,7 @@ use Rattle.relational_model.proofs.Ranks.{part_of}
 use Rattle.relational_model.proofs.Lists.{in-case, in-none, in-append}
 
 -- the one entry of a list
-only : (e x : Entry) → IsIn (e ∷ []) x → x ≡ e
+pub only : (e x : Entry) → IsIn (e ∷ []) x → x ≡ e
 only e x h = go (in-case e [] x h)
   where
     go : (x ≡ e) ⊎ IsIn [] x → x ≡ e
@@ -28,22 +28,26 @@ Here core place x = (x.core.0 ≡ core) × (x.place ≡ place)
 here-only : (core place : ℕ) (e x : Entry) → Here core place e → IsIn (e ∷ []) x → Here core place x
 here-only core place e x h i = subst (Here core place) (sym (only e x i)) h
 
-pub here-by : (core place : ℕ) (a : Action) (registers : List ℕ) (word : ℕ) (x : Entry) → IsIn (entries_by core place a registers word) x → Here core place x
-here-by core place (Store loc operand) registers word x i = here-only core place (entry core place W loc (value_of registers operand)) x (refl, refl) i
+pub here-by : (core place : ℕ) (a : Action) (registers : List ℕ) (word : ℕ) (x : Entry) → IsIn (entries_by core place a registers word) x
+    → Here core place x
+here-by core place (Store loc operand) registers word x i =
+    here-only core place (entry core place W loc (value_of registers operand)) x (refl, refl) i
 here-by core place (Load reg loc) registers word x i = here-only core place (entry core place R loc word) x (refl, refl) i
 here-by core place (Move reg operand) registers word x i = absurd (in-none x i)
 here-by core place Fence registers word x i = here-only core place (fence core place) x (refl, refl) i
 here-by core place (Lock loc reg update) registers word x i =
     go (in-case (entry core place LR loc word) (entry core place LW loc (updated update word (value_in registers reg)) ∷ []) x i)
   where
-    go : (x ≡ entry core place LR loc word) ⊎ IsIn (entry core place LW loc (updated update word (value_in registers reg)) ∷ []) x → Here core place x
+    go : (x ≡ entry core place LR loc word) ⊎ IsIn (entry core place LW loc (updated update word (value_in registers reg)) ∷ []) x
+        → Here core place x
     go (inl q) = subst (Here core place) (sym q) (refl, refl)
     go (inr k) = here-only core place (entry core place LW loc (updated update word (value_in registers reg))) x (refl, refl) k
 
 both-only : (e x y : Entry) → IsIn (e ∷ []) x → IsIn (e ∷ []) y → x ≡ y
 both-only e x y i j = only e x i ∙ sym (only e y j)
 
-two : (e f x y : Entry) → e.kind ≡ LR → f.kind ≡ LW → IsIn (e ∷ (f ∷ [])) x → IsIn (e ∷ (f ∷ [])) y → part_of x.kind ≡ part_of y.kind → x ≡ y
+two : (e f x y : Entry) → e.kind ≡ LR → f.kind ≡ LW → IsIn (e ∷ (f ∷ [])) x → IsIn (e ∷ (f ∷ [])) y → part_of x.kind ≡ part_of y.kind
+    → x ≡ y
 two e f x y le lf i j k = go (in-case e (f ∷ []) x i) (in-case e (f ∷ []) y j)
   where
     clash : part_of e.kind ≡ part_of f.kind → ⊥
@@ -67,30 +71,38 @@ same-by core place Fence registers word x y i j k = both-only (fence core place)
 same-by core place (Lock loc reg update) registers word x y i j k =
     two (entry core place LR loc word) (entry core place LW loc (updated update word (value_in registers reg))) x y refl refl i j k
 
--- what a program makes from a place on stands at that place or behind it
-pub from-place : (core place : ℕ) (p : List Instr) (registers values : List ℕ) (x : Entry) → IsIn (entries_of core place p registers values) x
+-- what a program makes from a place on stands at that place or after it
+pub from-place : (core place : ℕ) (p : List Instr) (registers values : List ℕ) (x : Entry)
+    → IsIn (entries_of core place p registers values) x
     → (x.core.0 ≡ core) × (place ≤ x.place)
 from-place core place [] registers values x i = absurd (in-none x i)
 from-place core place (s ∷ p) registers values x i =
     go (in-append (entries_by core place (action_of s) registers (slice_index values 0))
     (entries_of core (place + 1) p (registers_by (action_of s) registers (slice_index values 0)) (values_after (action_of s) values)) x i)
-    (λ b. from-place core (place + 1) p (registers_by (action_of s) registers (slice_index values 0)) (values_after (action_of s) values) x b)
+    (λ b. from-place core (place + 1) p (registers_by (action_of s) registers (slice_index values 0))
+    (values_after (action_of s) values) x b)
   where
     go : IsIn (entries_by core place (action_of s) registers (slice_index values 0)) x
-        ⊎ IsIn (entries_of core (place + 1) p (registers_by (action_of s) registers (slice_index values 0)) (values_after (action_of s) values)) x
-        → (IsIn (entries_of core (place + 1) p (registers_by (action_of s) registers (slice_index values 0)) (values_after (action_of s) values)) x → (x.core.0 ≡ core) × (place + 1 ≤ x.place))
+        ⊎ IsIn (entries_of core (place + 1) p (registers_by (action_of s) registers (slice_index values 0))
+        (values_after (action_of s) values)) x
+        → (IsIn (entries_of core (place + 1) p (registers_by (action_of s) registers (slice_index values 0))
+        (values_after (action_of s) values)) x → (x.core.0 ≡ core) × (place + 1 ≤ x.place))
         → (x.core.0 ≡ core) × (place ≤ x.place)
-    go (inl a) later = let h = here-by core place (action_of s) registers (slice_index values 0) x a in (h.0, let q : x.place ≡ place = h.1 in omega arith)
+    go (inl a) later =
+        let h = here-by core place (action_of s) registers (slice_index values 0) x a in
+        (h.0, let q : x.place ≡ place = h.1 in omega arith)
     go (inr b) later =
         let h = later b in
         (h.0, let q : place + 1 ≤ x.place = h.1 in omega arith)
 
-pub same-of : (core place : ℕ) (p : List Instr) (registers values : List ℕ) (x y : Entry) → IsIn (entries_of core place p registers values) x
+pub same-of : (core place : ℕ) (p : List Instr) (registers values : List ℕ) (x y : Entry)
+    → IsIn (entries_of core place p registers values) x
     → IsIn (entries_of core place p registers values) y → x.place ≡ y.place → part_of x.kind ≡ part_of y.kind → x ≡ y
 same-of core place [] registers values x y i j e k = absurd (in-none x i)
 same-of core place (s ∷ p) registers values x y i j e k =
     go (in-append first rest x i) (in-append first rest y j)
-    (λ a b. same-of core (place + 1) p (registers_by (action_of s) registers (slice_index values 0)) (values_after (action_of s) values) x y a b e k)
+    (λ a b. same-of core (place + 1) p (registers_by (action_of s) registers (slice_index values 0))
+    (values_after (action_of s) values) x y a b e k)
   where
     first : List Entry
     first = entries_by core place (action_of s) registers (slice_index values 0)
@@ -101,7 +113,9 @@ same-of core place (s ∷ p) registers values x y i j e k =
     apart : (u v : Entry) → IsIn first u → IsIn rest v → u.place ≡ v.place → ⊥
     apart u v a b q =
         let h : u.place ≡ place = (here-by core place (action_of s) registers (slice_index values 0) u a).1 in
-        let l : place + 1 ≤ v.place = (from-place core (place + 1) p (registers_by (action_of s) registers (slice_index values 0)) (values_after (action_of s) values) v b).1 in
+        let l : place + 1 ≤ v.place =
+        (from-place core (place + 1) p (registers_by (action_of s) registers (slice_index values 0))
+        (values_after (action_of s) values) v b).1 in
         omega (arith, q)
 
     go : IsIn first x ⊎ IsIn rest x → IsIn first y ⊎ IsIn rest y → (IsIn rest x → IsIn rest y → x ≡ y) → x ≡ y
@@ -111,17 +125,23 @@ same-of core place (s ∷ p) registers values x y i j e k =
     go (inr a) (inr b) later = later a b
 
 -- what the programs make from a core on is of that core or of a later one
-from-core : (core : ℕ) (ps : List (List Instr)) (registers : List (List ℕ)) (order : List Entry) (x : Entry) → IsIn (made_from core ps registers order) x
+from-core : (core : ℕ) (ps : List (List Instr)) (registers : List (List ℕ)) (order : List Entry) (x : Entry)
+    → IsIn (made_from core ps registers order) x
     → core ≤ x.core.0
 from-core core [] registers order x i = absurd (in-none x i)
 from-core core (p ∷ ps) registers order x i =
-    go (in-append (made_by core p (slice_index_or registers core []) order) (made_from (core + 1) ps registers order) x i) (λ b. from-core (core + 1) ps registers order x b)
+    go (in-append (made_by core p (slice_index_or registers core []) order) (made_from (core + 1) ps registers order) x i)
+    (λ b. from-core (core + 1) ps registers order x b)
   where
-    go : IsIn (made_by core p (slice_index_or registers core []) order) x ⊎ IsIn (made_from (core + 1) ps registers order) x → (IsIn (made_from (core + 1) ps registers order) x → core + 1 ≤ x.core.0) → core ≤ x.core.0
-    go (inl a) later = let q : x.core.0 ≡ core = (from-place core 0 p (slice_index_or registers core []) (read_values core 0 p order) x a).0 in omega arith
+    go : IsIn (made_by core p (slice_index_or registers core []) order) x ⊎ IsIn (made_from (core + 1) ps registers order) x
+        → (IsIn (made_from (core + 1) ps registers order) x → core + 1 ≤ x.core.0) → core ≤ x.core.0
+    go (inl a) later =
+        let q : x.core.0 ≡ core = (from-place core 0 p (slice_index_or registers core []) (read_values core 0 p order) x a).0 in
+        omega arith
     go (inr b) later = let l : core + 1 ≤ x.core.0 = later b in omega arith
 
-same-from : (core : ℕ) (ps : List (List Instr)) (registers : List (List ℕ)) (order : List Entry) (x y : Entry) → IsIn (made_from core ps registers order) x
+same-from : (core : ℕ) (ps : List (List Instr)) (registers : List (List ℕ)) (order : List Entry) (x y : Entry)
+    → IsIn (made_from core ps registers order) x
     → IsIn (made_from core ps registers order) y → x.core.0 ≡ y.core.0 → x.place ≡ y.place → part_of x.kind ≡ part_of y.kind → x ≡ y
 same-from core [] registers order x y i j c e k = absurd (in-none x i)
 same-from core (p ∷ ps) registers order x y i j c e k =
@@ -145,5 +165,6 @@ same-from core (p ∷ ps) registers order x y i j c e k =
     go (inr a) (inl b) later = absurd (apart y x b a (sym c))
     go (inr a) (inr b) later = later a b
 
-pub same-made : (t : Litmus) (order : List Entry) (x y : Entry) → IsIn (made t order) x → IsIn (made t order) y → x.core.0 ≡ y.core.0 → x.place ≡ y.place → x.kind ≡ y.kind → x ≡ y
+pub same-made : (t : Litmus) (order : List Entry) (x y : Entry) → IsIn (made t order) x → IsIn (made t order) y → x.core.0 ≡ y.core.0
+    → x.place ≡ y.place → x.kind ≡ y.kind → x ≡ y
 same-made t order x y i j c e k = same-from 0 t.programs t.registers order x y i j c e (ap part_of k)

@@ -56,12 +56,15 @@ parts p [] = refl
 parts p (x ∷ xs) = go (p x) (parts p xs)
   where
     go : (b : Bool) → length (filter p xs) + length (filter (λ e. not (p e)) xs) ≡ length xs
-        → length (if b then x ∷ filter p xs else filter p xs) + length (if not b then x ∷ filter (λ e. not (p e)) xs else filter (λ e. not (p e)) xs) ≡ suc (length xs)
+        → length (if b then x ∷ filter p xs else filter p xs) + length
+        (if not b then x ∷ filter (λ e. not (p e)) xs else filter (λ e. not (p e)) xs) ≡ suc (length xs)
     go true h = omega (arith, h)
     go false h = omega (arith, h)
 
-filtered : (p : Entry → Bool) (xs ys : List Entry) → Once xs → ((x : Entry) → IsIn xs x → IsIn ys x) → length (filter p xs) ≤ length (filter p ys)
-filtered p xs ys o f = no-more (filter p xs) (filter p ys) (once-filter p xs o) (λ x i. let k = in-filter p xs x i in filter-in p ys x (f x k.0) k.1)
+filtered : (p : Entry → Bool) (xs ys : List Entry) → Once xs → ((x : Entry) → IsIn xs x → IsIn ys x)
+    → length (filter p xs) ≤ length (filter p ys)
+filtered p xs ys o f =
+    no-more (filter p xs) (filter p ys) (once-filter p xs o) (λ x i. let k = in-filter p xs x i in filter-in p ys x (f x k.0) k.1)
 
 pub as-many : (p : Entry → Bool) (xs ys : List Entry) → Once xs → ((x : Entry) → IsIn xs x → IsIn ys x) → length xs ≡ length ys
     → length (filter p xs) ≡ length (filter p ys)

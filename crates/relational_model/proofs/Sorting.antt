@@ -24,7 +24,8 @@ Past x Before a b = Before a b ⊎ (Before a x × Before x b)
 past-decided : (x : Entry) (Before : Entry → Entry → Type 0) → Decided Before → Decided (Past x Before)
 past-decided x Before d a b = go (d a b) (d a x) (d x b)
   where
-    go : Before a b ⊎ (Before a b → ⊥) → Before a x ⊎ (Before a x → ⊥) → Before x b ⊎ (Before x b → ⊥) → Past x Before a b ⊎ (Past x Before a b → ⊥)
+    go : Before a b ⊎ (Before a b → ⊥) → Before a x ⊎ (Before a x → ⊥) → Before x b ⊎ (Before x b → ⊥)
+        → Past x Before a b ⊎ (Past x Before a b → ⊥)
     go (inl p) q r = inl (inl p)
     go (inr p) (inl q) (inl r) = inl (inr (q, r))
     go (inr p) (inl q) (inr r) = inr (λ h. no h)
@@ -39,7 +40,8 @@ past-decided x Before d a b = go (d a b) (d a x) (d x b)
         no (inr k) = q k.0
 
 -- a way past x is a way
-unpast : (x : Entry) (xs : List Entry) (Before : Entry → Entry → Type 0) (a b : Entry) → LeadsTo xs (Past x Before) a b → LeadsTo (x ∷ xs) Before a b
+unpast : (x : Entry) (xs : List Entry) (Before : Entry → Entry → Type 0) (a b : Entry) → LeadsTo xs (Past x Before) a b
+    → LeadsTo (x ∷ xs) Before a b
 unpast x xs Before _ _ (at_once a b i j (inl p)) = at_once a b (in-later x xs a i) (in-later x xs b j) p
 unpast x xs Before _ _ (at_once a b i j (inr p)) =
     onward a x b (in-later x xs a i) p.0 (at_once x b (in-first x xs x refl) (in-later x xs b j) p.1)
@@ -48,7 +50,8 @@ unpast x xs Before _ _ (onward a b d i (inr p) rest) =
     onward a x d (in-later x xs a i) p.0 (onward x b d (in-first x xs x refl) p.1 (unpast x xs Before b d rest))
 
 -- whether one of these is before x
-any-before : (Before : Entry → Entry → Type 0) → Decided Before → (x : Entry) (ys : List Entry) → ((z : Entry) × (IsIn ys z × Before z x)) ⊎ NoneBefore Before x ys
+any-before : (Before : Entry → Entry → Type 0) → Decided Before → (x : Entry) (ys : List Entry)
+    → ((z : Entry) × (IsIn ys z × Before z x)) ⊎ NoneBefore Before x ys
 any-before Before d x [] = inr (λ z i b. in-none z i)
 any-before Before d x (y ∷ ys) = go (d y x) (any-before Before d x ys)
   where
@@ -62,7 +65,7 @@ any-before Before d x (y ∷ ys) = go (d y x) (any-before Before d x ys)
         on z (inl e) b = p (subst (λ w. Before w x) e b)
         on z (inr i) b = none z i b
 
--- x put in behind the last of these that is before it
+-- x put in after the last of these that is before it
 pub record Row (Before : Entry → Entry → Type 0) (xs : List Entry) : Type 0 where
   pub row : List Entry
   pub forward : GoesForward Before row
@@ -74,7 +77,8 @@ weaker : (x : Entry) (Before : Entry → Entry → Type 0) (ys : List Entry) →
 weaker x Before [] h = tt
 weaker x Before (y ∷ ys) h = ((λ z i b. h.0 z i (inl b)), weaker x Before ys h.1)
 
-placed : (Before : Entry → Entry → Type 0) → Decided Before → (x : Entry) → (Before x x → ⊥) → (ys : List Entry) → ((y : Entry) → IsIn ys y → Before x y → Before y x → ⊥)
+placed : (Before : Entry → Entry → Type 0) → Decided Before → (x : Entry) → (Before x x → ⊥) → (ys : List Entry)
+    → ((y : Entry) → IsIn ys y → Before x y → Before y x → ⊥)
     → GoesForward (Past x Before) ys → Row Before (x ∷ ys)
 placed Before d x once [] twice h = record {
   row = x ∷ [];
@@ -83,7 +87,8 @@ placed Before d x once [] twice h = record {
   outside = λ y i. i;
   count = refl;
 }
-placed Before d x once (y ∷ ys) twice h = go (any-before Before d x (y ∷ ys)) (placed Before d x once ys (λ z i. twice z (in-later y ys z i)) h.1)
+placed Before d x once (y ∷ ys) twice h =
+    go (any-before Before d x (y ∷ ys)) (placed Before d x once ys (λ z i. twice z (in-later y ys z i)) h.1)
   where
     go : ((z : Entry) × (IsIn (y ∷ ys) z × Before z x)) ⊎ NoneBefore Before x (y ∷ ys) → Row Before (x ∷ ys) → Row Before (x ∷ (y ∷ ys))
     go (inr none) rest = record {
@@ -95,7 +100,7 @@ placed Before d x once (y ∷ ys) twice h = go (any-before Before d x (y ∷ ys)
     }
     go (inl (z, (i, b))) rest = record {
       row = y ∷ rest.row;
-      forward = ((λ v j k. behind v (in-case x ys v (rest.outside v j)) k), rest.forward);
+      forward = ((λ v j k. after v (in-case x ys v (rest.outside v j)) k), rest.forward);
       inside = λ v j. into v (in-case x (y ∷ ys) v j);
       outside = λ v j. out v (in-case y rest.row v j);
       count = ap suc rest.count;
@@ -105,9 +110,9 @@ placed Before d x once (y ∷ ys) twice h = go (any-before Before d x (y ∷ ys)
         clash (inl e) k = twice y (in-first y ys y refl) k (subst (λ w. Before w x) e b)
         clash (inr j) k = h.0 z j (inr (b, k))
 
-        behind : (v : Entry) → (v ≡ x) ⊎ IsIn ys v → Before v y → ⊥
-        behind v (inl e) k = clash (in-case y ys z i) (subst (λ w. Before w y) e k)
-        behind v (inr j) k = h.0 v j (inl k)
+        after : (v : Entry) → (v ≡ x) ⊎ IsIn ys v → Before v y → ⊥
+        after v (inl e) k = clash (in-case y ys z i) (subst (λ w. Before w y) e k)
+        after v (inr j) k = h.0 v j (inl k)
 
         later : (v : Entry) → (v ≡ y) ⊎ IsIn ys v → IsIn (y ∷ rest.row) v
         later v (inl e) = in-first y rest.row v e
@@ -117,13 +122,13 @@ placed Before d x once (y ∷ ys) twice h = go (any-before Before d x (y ∷ ys)
         into v (inl e) = in-later y rest.row v (rest.inside v (in-first x ys v e))
         into v (inr j) = later v (in-case y ys v j)
 
-        behind-out : (v : Entry) → (v ≡ x) ⊎ IsIn ys v → IsIn (x ∷ (y ∷ ys)) v
-        behind-out v (inl e) = in-first x (y ∷ ys) v e
-        behind-out v (inr j) = in-later x (y ∷ ys) v (in-later y ys v j)
+        after-out : (v : Entry) → (v ≡ x) ⊎ IsIn ys v → IsIn (x ∷ (y ∷ ys)) v
+        after-out v (inl e) = in-first x (y ∷ ys) v e
+        after-out v (inr j) = in-later x (y ∷ ys) v (in-later y ys v j)
 
         out : (v : Entry) → (v ≡ y) ⊎ IsIn rest.row v → IsIn (x ∷ (y ∷ ys)) v
         out v (inl e) = in-later x (y ∷ ys) v (in-first y ys v e)
-        out v (inr j) = behind-out v (in-case x ys v (rest.outside v j))
+        out v (inr j) = after-out v (in-case x ys v (rest.outside v j))
 
 -- the lemma
 pub in-a-row : (xs : List Entry) (Before : Entry → Entry → Type 0) → Decided Before → IsAcyclic xs Before → Row Before xs
@@ -134,7 +139,9 @@ in-a-row (x ∷ xs) Before d a = go (in-a-row xs (Past x Before) (past-decided x
     here = in-first x xs x refl
 
     go : Row (Past x Before) xs → Row Before (x ∷ xs)
-    go r = on (placed Before d x (λ b. a x (at_once x x here here b)) r.row (λ y i b k. a x (onward x y x here b (at_once y x (in-later x xs y (r.outside y i)) here k))) r.forward)
+    go r =
+        on (placed Before d x (λ b. a x (at_once x x here here b)) r.row
+        (λ y i b k. a x (onward x y x here b (at_once y x (in-later x xs y (r.outside y i)) here k))) r.forward)
       where
         over : (ys zs : List Entry) → ((y : Entry) → IsIn ys y → IsIn zs y) → (y : Entry) → IsIn (x ∷ ys) y → IsIn (x ∷ zs) y
         over ys zs f y i = pick (in-case x ys y i)

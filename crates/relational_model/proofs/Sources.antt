@@ -60,10 +60,11 @@ one-way order a b (i, p) (j, q) = go (i == j) refl
     go true e = inl (at-one (same-number i j e))
     go false e = inr (way (on (λ same. let z : ⊥ = cc (e, number-same i j same) in z)))
 
--- ---- in front of a read, and behind it
+-- ---- before a read, and after it
 
 -- what is before r in the order stands in front of the cut
-pub in-front : (order front back : List Entry) (r v : Entry) → StandOnce order → order ≡ front ++ (r ∷ back) → IsEarlier order v r → IsIn front v
+pub in-front : (order front back : List Entry) (r v : Entry) → StandOnce order → order ≡ front ++ (r ∷ back) → IsEarlier order v r
+    → IsIn front v
 in-front order front back r v once is e = go (precedes-parts front (r ∷ back) v r (subst (Precedes v r) is (to-precedes order v r e)))
   where
     twice : Precedes r r (front ++ (r ∷ back)) → ⊥
@@ -86,8 +87,10 @@ front-earlier order front back r v is h =
 abbrev pub Counts : List Entry → Entry → Entry → Type 0
 Counts order r v = IsIn order v × ((writes_to r.loc.0 v ≡ true) × (IsEarlier order v r ⊎ (is_before v r ≡ true)))
 
-pub counts-in : (order front back : List Entry) (r v : Entry) → StandOnce order → order ≡ front ++ (r ∷ back) → Counts order r v → IsIn (counting r front back) v
-counts-in order front back r v once is (i, (w, how)) = filter-in (writes_to r.loc.0) (front ++ filter (λ e. is_before e r) back) v (go how) w
+pub counts-in : (order front back : List Entry) (r v : Entry) → StandOnce order → order ≡ front ++ (r ∷ back) → Counts order r v
+    → IsIn (counting r front back) v
+counts-in order front back r v once is (i, (w, how)) =
+    filter-in (writes_to r.loc.0) (front ++ filter (λ e. is_before e r) back) v (go how) w
   where
     among : IsIn front v ⊎ IsIn (r ∷ back) v → is_before v r ≡ true → IsIn (front ++ filter (λ e. is_before e r) back) v
     among (inl f) b = in-left front (filter (λ e. is_before e r) back) v f
@@ -101,9 +104,11 @@ counts-in order front back r v once is (i, (w, how)) = filter-in (writes_to r.lo
     go (inl e) = in-left front (filter (λ e. is_before e r) back) v (in-front order front back r v once is e)
     go (inr b) = among (in-append front (r ∷ back) v (subst (λ xs. IsIn xs v) is i)) b
 
-pub in-counts : (order front back : List Entry) (r v : Entry) → order ≡ front ++ (r ∷ back) → IsIn (counting r front back) v → Counts order r v
+pub in-counts : (order front back : List Entry) (r v : Entry) → order ≡ front ++ (r ∷ back) → IsIn (counting r front back) v
+    → Counts order r v
 in-counts order front back r v is h =
-    let k = in-filter (writes_to r.loc.0) (front ++ filter (λ e. is_before e r) back) v h in go k.1 (in-append front (filter (λ e. is_before e r) back) v k.0)
+    let k = in-filter (writes_to r.loc.0) (front ++ filter (λ e. is_before e r) back) v h in
+    go k.1 (in-append front (filter (λ e. is_before e r) back) v k.0)
   where
     go : writes_to r.loc.0 v ≡ true → IsIn front v ⊎ IsIn (filter (λ e. is_before e r) back) v → Counts order r v
     go w (inl f) = (subst (λ xs. IsIn xs v) (sym is) (in-left front (r ∷ back) v f), (w, inl (front-earlier order front back r v is f)))
@@ -111,12 +116,14 @@ in-counts order front back r v is h =
         let q = in-filter (λ e. is_before e r) back v b in
         (subst (λ xs. IsIn xs v) (sym is) (in-right front (r ∷ back) v (in-later r back v q.0)), (w, inr q.1))
 
-pub counting-earlier : (order front back : List Entry) (r a b : Entry) → order ≡ front ++ (r ∷ back) → Precedes a b (counting r front back) → IsEarlier order a b
+pub counting-earlier : (order front back : List Entry) (r a b : Entry) → order ≡ front ++ (r ∷ back)
+    → Precedes a b (counting r front back) → IsEarlier order a b
 counting-earlier order front back r a b is h =
     from-precedes order a b (subst (Precedes a b) (sym is) (go (precedes-parts front (filter (λ e. is_before e r) back) a b
     (precedes-filter (writes_to r.loc.0) (front ++ filter (λ e. is_before e r) back) a b h))))
   where
-    go : Precedes a b front ⊎ ((IsIn front a × IsIn (filter (λ e. is_before e r) back) b) ⊎ Precedes a b (filter (λ e. is_before e r) back)) → Precedes a b (front ++ (r ∷ back))
+    go : Precedes a b front ⊎ ((IsIn front a × IsIn (filter (λ e. is_before e r) back) b) ⊎ Precedes a b (filter (λ e. is_before e r) back))
+        → Precedes a b (front ++ (r ∷ back))
     go (inl p) = precedes-left front (r ∷ back) a b p
     go (inr (inl p)) = precedes-across front (r ∷ back) a b p.0 (in-later r back b (in-filter (λ e. is_before e r) back b p.1).0)
     go (inr (inr p)) = precedes-right front (r ∷ back) a b (inr (precedes-filter (λ e. is_before e r) back a b p))
@@ -128,38 +135,46 @@ source-is : (t : Litmus) (order : List Entry) (c : Candidate) → Known t order 
 source-is t order c known r k read = known.of.sources k.front r k.back k.is read
 
 -- the write that a read reads from counts for it
-pub source-counts : (t : Litmus) (order : List Entry) (c : Candidate) → Known t order c → (r w : Entry) → IsIn order r → is_read r ≡ true → c.source r ≡ Some w
+pub source-counts : (t : Litmus) (order : List Entry) (c : Candidate) → Known t order c → (r w : Entry) → IsIn order r → is_read r ≡ true
+    → c.source r ≡ Some w
     → Counts order r w
 source-counts t order c known r w i read s =
     let k = cut order r i in
     in-counts order k.front k.back r w k.is (last-is-in (counting r k.front k.back) w (sym (source-is t order c known r k read) ∙ s))
 
 -- and it is the last one
-pub source-last : (t : Litmus) (order : List Entry) (c : Candidate) → Known t order c → (r w v : Entry) → IsIn order r → is_read r ≡ true → c.source r ≡ Some w
+pub source-last : (t : Litmus) (order : List Entry) (c : Candidate) → Known t order c → (r w v : Entry) → IsIn order r → is_read r ≡ true
+    → c.source r ≡ Some w
     → Counts order r v → (v ≡ w) ⊎ IsEarlier order v w
 source-last t order c known r w v i read s counts =
     let k = cut order r i in
-    go k (last-last (counting r k.front k.back) w v (sym (source-is t order c known r k read) ∙ s) (counts-in order k.front k.back r v known.once k.is counts))
+    go k (last-last (counting r k.front k.back) w v (sym (source-is t order c known r k read) ∙ s)
+    (counts-in order k.front k.back r v known.once k.is counts))
   where
     go : (k : Cut order r) → (v ≡ w) ⊎ Precedes v w (counting r k.front k.back) → (v ≡ w) ⊎ IsEarlier order v w
     go k (inl e) = inl e
     go k (inr p) = inr (counting-earlier order k.front k.back r v w k.is p)
 
 -- where a read reads the initial word, no write counts for it
-pub source-none : (t : Litmus) (order : List Entry) (c : Candidate) → Known t order c → (r v : Entry) → IsIn order r → is_read r ≡ true → c.source r ≡ None
+pub source-none : (t : Litmus) (order : List Entry) (c : Candidate) → Known t order c → (r v : Entry) → IsIn order r → is_read r ≡ true
+    → c.source r ≡ None
     → Counts order r v → ⊥
 source-none t order c known r v i read s counts =
     let k = cut order r i in
-    last-none (counting r k.front k.back) v (sym (source-is t order c known r k read) ∙ s) (counts-in order k.front k.back r v known.once k.is counts)
+    last-none (counting r k.front k.back) v (sym (source-is t order c known r k read) ∙ s)
+    (counts-in order k.front k.back r v known.once k.is counts)
 
 -- ---- coherence
 
-pub coherence-in : (t : Litmus) (order : List Entry) (c : Candidate) → Known t order c → (loc : ℕ) (v : Entry) → IsIn (c.coherence loc) v → IsIn order v × (writes_to loc v ≡ true)
+pub coherence-in : (t : Litmus) (order : List Entry) (c : Candidate) → Known t order c → (loc : ℕ) (v : Entry) → IsIn (c.coherence loc) v
+    → IsIn order v × (writes_to loc v ≡ true)
 coherence-in t order c known loc v h = in-filter (writes_to loc) order v (subst (λ xs. IsIn xs v) (known.of.coherence loc) h)
 
-pub coherence-earlier : (t : Litmus) (order : List Entry) (c : Candidate) → Known t order c → (loc : ℕ) (w v : Entry) → IsEarlier (c.coherence loc) w v → IsEarlier order w v
+pub coherence-earlier : (t : Litmus) (order : List Entry) (c : Candidate) → Known t order c → (loc : ℕ) (w v : Entry)
+    → IsEarlier (c.coherence loc) w v → IsEarlier order w v
 coherence-earlier t order c known loc w v h =
-    from-precedes order w v (precedes-filter (writes_to loc) order w v (subst (Precedes w v) (known.of.coherence loc) (to-precedes (c.coherence loc) w v h)))
+    from-precedes order w v
+    (precedes-filter (writes_to loc) order w v (subst (Precedes w v) (known.of.coherence loc) (to-precedes (c.coherence loc) w v h)))
 
 pub event-in : (t : Litmus) (order : List Entry) (c : Candidate) → Known t order c → (x : Entry) → IsIn (events t c) x → IsIn order x
 event-in t order c known x h = let m : IsIn (made t order) x = subst (λ xs. IsIn xs x) known.of.events h in known.tso.whole.each m.0 x m.1

@@ -9,23 +9,16 @@ use Rattle.tso_model.specs.declared.instruction.Instr.{Instr}
 use Rattle.tso_model.specs.declared.action.Action.{Action}
 use Rattle.tso_model.specs.declared.action.Action.TheVariants.{Store, Load, Move, Fence, Lock}
 use Rattle.tso_model.specs.declared.execution.Entry.{Entry}
-use Rattle.tso_model.specs.declared.execution.Kind.{Kind}
-use Rattle.tso_model.specs.declared.execution.Kind.TheVariants.{R, W, F, LR, LW}
+use Rattle.tso_model.specs.declared.execution.Kind.TheVariants.{R, LR}
 use Rattle.relational_model.specs.Events.{IsIn}
 use Rattle.relational_model.specs.Candidates.{Candidate, Returns, events_from, events}
-use Rattle.relational_model.specs.CandidatesOfOrders.{last_in, IsCandidateOf, LeaveTheSame}
-use Rattle.relational_model.specs.Model.{is_locked, is_locked_kind, IsAllowed}
+use Rattle.relational_model.specs.CandidatesOfOrders.{last_in, IsCandidateOf}
 use Rattle.relational_model.proofs.Lists.{in-case, in-none, in-first, in-left, in-right}
 use Rattle.relational_model.proofs.Ranks.{part_of}
 use Rattle.relational_model.proofs.KindFacts.{same-number}
 use Rattle.relational_model.proofs.Allowed.{value-none, value-some}
 use Rattle.relational_model.proofs.Found.{at-itself, apart-three, equal-kinds}
-use Rattle.relational_model.proofs.Left.{leave-the-same}
-use Rattle.relational_model.proofs.Decisions.{Goes, goes}
-use Rattle.relational_model.proofs.Sorting.{Row, in-a-row}
-use Rattle.relational_model.proofs.Events.{sound}
-use Rattle.relational_model.proofs.Fences.{goes-acyclic}
-use Rattle.relational_model.proofs.Order.{Placed, placed-row, keeps-order, coherence-is, sources-are}
+use Rattle.relational_model.proofs.Order.{Placed, keeps-order, coherence-is, sources-are}
 
 -- one entry of each core, place and kind
 abbrev pub Unique : List Entry → Type 0
@@ -34,9 +27,11 @@ Unique order = (x y : Entry) → IsIn order x → IsIn order y → x.core.0 ≡ 
 read-found : (order : List Entry) (e : Entry) → IsIn order e → ((y : Entry) → IsIn order y → is_at e.core.0 e.place e.kind y ≡ true → y ≡ e)
     → read_value e.core.0 e.place e.kind order ≡ e.value
 read-found [] e i u = absurd (in-none e i)
-read-found (x ∷ xs) e i u = go (is_at e.core.0 e.place e.kind x) refl (in-case x xs e i) (λ j. read-found xs e j (λ y k h. u y (suc k.0, k.1) h))
+read-found (x ∷ xs) e i u =
+    go (is_at e.core.0 e.place e.kind x) refl (in-case x xs e i) (λ j. read-found xs e j (λ y k h. u y (suc k.0, k.1) h))
   where
-    go : (b : Bool) → is_at e.core.0 e.place e.kind x ≡ b → (e ≡ x) ⊎ IsIn xs e → (IsIn xs e → read_value e.core.0 e.place e.kind xs ≡ e.value)
+    go : (b : Bool) → is_at e.core.0 e.place e.kind x ≡ b → (e ≡ x) ⊎ IsIn xs e
+        → (IsIn xs e → read_value e.core.0 e.place e.kind xs ≡ e.value)
         → (if b then x.value else read_value e.core.0 e.place e.kind xs) ≡ e.value
     go true h i rest = ap (λ (z : Entry). z.value) (u x (in-first x xs x refl) h)
     go false h (inl q) rest =
@@ -53,15 +48,19 @@ act : (a : Action) (core place : ℕ) (p : List Instr) (registers more : List �
     → ((x : Entry) → IsIn (entries_by core place a registers v) x → IsIn order x)
     → entries_by core place a registers v ++ entries_of core (place + 1) p (registers_by a registers v) more
     ≡ entries_by core place a registers (slice_index (values_by core place a order ++ more) 0)
-    ++ entries_of core (place + 1) p (registers_by a registers (slice_index (values_by core place a order ++ more) 0)) (values_after a (values_by core place a order ++ more))
+    ++ entries_of core (place + 1) p (registers_by a registers (slice_index (values_by core place a order ++ more) 0))
+    (values_after a (values_by core place a order ++ more))
 act (Store loc operand) core place p registers more v order u h = refl
 act (Load reg loc) core place p registers more v order u h =
-    ap (λ w. entries_by core place (Load reg loc) registers w ++ entries_of core (place + 1) p (registers_by (Load reg loc) registers w) more)
-    (found-value order u (entry core place R loc v) (h (entry core place R loc v) (in-first (entry core place R loc v) [] (entry core place R loc v) refl)))
+    ap (λ w. entries_by core place (Load reg loc) registers w ++ entries_of core (place + 1) p
+    (registers_by (Load reg loc) registers w) more)
+    (found-value order u (entry core place R loc v)
+    (h (entry core place R loc v) (in-first (entry core place R loc v) [] (entry core place R loc v) refl)))
 act (Move reg operand) core place p registers more v order u h = refl
 act Fence core place p registers more v order u h = refl
 act (Lock loc reg update) core place p registers more v order u h =
-    ap (λ w. entries_by core place (Lock loc reg update) registers w ++ entries_of core (place + 1) p (registers_by (Lock loc reg update) registers w) more)
+    ap (λ w. entries_by core place (Lock loc reg update) registers w ++ entries_of core (place + 1) p
+    (registers_by (Lock loc reg update) registers w) more)
     (found-value order u (entry core place LR loc v) (h (entry core place LR loc v) (0, refl)))
 
 program-made : (core place : ℕ) (p : List Instr) (registers values : List ℕ) (order : List Entry) → Unique order
@@ -73,20 +72,25 @@ program-made core place (i ∷ p) registers values order u h =
     let next : List ℕ = registers_by (action_of i) registers v in
     ap (λ es. entries_by core place (action_of i) registers v ++ es)
     (program-made core (place + 1) p next (values_after (action_of i) values) order u
-    (λ x j. h x (in-right (entries_by core place (action_of i) registers v) (entries_of core (place + 1) p next (values_after (action_of i) values)) x j)))
+    (λ x j. h x (in-right (entries_by core place (action_of i) registers v)
+    (entries_of core (place + 1) p next (values_after (action_of i) values)) x j)))
     ∙ act (action_of i) core place p registers (read_values core (place + 1) p order) v order u
-    (λ x j. h x (in-left (entries_by core place (action_of i) registers v) (entries_of core (place + 1) p next (values_after (action_of i) values)) x j))
+    (λ x j. h x (in-left (entries_by core place (action_of i) registers v)
+    (entries_of core (place + 1) p next (values_after (action_of i) values)) x j))
 
 events-made : (core : ℕ) (ps : List (List Instr)) (registers reads : List (List ℕ)) (order : List Entry) → Unique order
-    → ((x : Entry) → IsIn (events_from core ps registers reads) x → IsIn order x) → events_from core ps registers reads ≡ made_from core ps registers order
+    → ((x : Entry) → IsIn (events_from core ps registers reads) x → IsIn order x)
+    → events_from core ps registers reads ≡ made_from core ps registers order
 events-made core [] registers reads order u h = refl
 events-made core (p ∷ ps) registers reads order u h =
     let r : List ℕ = slice_index_or registers core [] in
     let values : List ℕ = slice_index_or reads core [] in
     ap (λ es. es ++ events_from (core + 1) ps registers reads)
-    (program-made core 0 p r values order u (λ x j. h x (in-left (entries_of core 0 p r values) (events_from (core + 1) ps registers reads) x j)))
+    (program-made core 0 p r values order u
+    (λ x j. h x (in-left (entries_of core 0 p r values) (events_from (core + 1) ps registers reads) x j)))
     ∙ ap (λ es. made_by core p r order ++ es)
-    (events-made (core + 1) ps registers reads order u (λ x j. h x (in-right (entries_of core 0 p r values) (events_from (core + 1) ps registers reads) x j)))
+    (events-made (core + 1) ps registers reads order u
+    (λ x j. h x (in-right (entries_of core 0 p r values) (events_from (core + 1) ps registers reads) x j)))
 
 all-made : (t : Litmus) (c : Candidate) (order : List Entry) → Placed t c order → events t c ≡ made t order
 all-made t c order k =
@@ -126,25 +130,3 @@ is-execution t c order k pairs = record {
 
 pub is-of : (t : Litmus) (c : Candidate) (order : List Entry) → Placed t c order → IsCandidateOf t order c
 is-of t c order k = record { events = all-made t c order k; sources = sources-are t c order k; coherence = coherence-is t c order k }
-
--- ---- without locked instructions
-
-unlocked : (k : Kind) → is_locked_kind k ≡ false → k ≡ LR → ⊥
-unlocked R h e = let z : ⊥ = cc in z
-unlocked W h e = let z : ⊥ = cc in z
-unlocked F h e = let z : ⊥ = cc in z
-unlocked LR h e = let z : ⊥ = cc in z
-unlocked LW h e = let z : ⊥ = cc in z
-
-pub has-order : (t : Litmus) (c : Candidate) → ((e : Entry) → IsIn (events t c) e → is_locked e ≡ false) → IsAllowed t c
-    → (order : List Entry) × IsTsoExecution t order × IsCandidateOf t order c × LeaveTheSame t order c
-has-order t c none a = go (in-a-row (events t c) (Goes c) (goes c) (goes-acyclic t c (sound t c a.candidate) a.global))
-  where
-    go : Row (Goes c) (events t c) → (order : List Entry) × IsTsoExecution t order × IsCandidateOf t order c × LeaveTheSame t order c
-    go r =
-        let k = placed-row t c (sound t c a.candidate) a r in (
-          r.row,
-          is-execution t c r.row k (λ i x p l. absurd (unlocked x.kind (none x (k.outside x (i, p))) l)),
-          is-of t c r.row k,
-          leave-the-same t r.row c (is-of t c r.row k),
-        )

@@ -8,16 +8,17 @@ use Rattle.tso_model.specs.declared.execution.Entry.{Entry}
 use Rattle.relational_model.specs.Candidates.{Candidate}
 use Rattle.relational_model.specs.CandidatesOfOrders.{last_in}
 
--- each read of the list, which stands behind `front`, has its source
+-- each read of the list, which stands after `front`, has its source
 abbrev pub SourcesFrom : Candidate → List Entry → List Entry → Type 0
 SourcesFrom c front [] = Unit {0}
 SourcesFrom c front (x ∷ xs) = (is_read x ≡ true → c.source x ≡ last_in (counting x front xs)) × SourcesFrom c (front ++ (x ∷ [])) xs
 
-nothing-behind : (xs : List Entry) → xs ++ [] ≡ xs
-nothing-behind [] = refl
-nothing-behind (x ∷ xs) = ap (λ r. x ∷ r) (nothing-behind xs)
+nothing-after : (xs : List Entry) → xs ++ [] ≡ xs
+nothing-after [] = refl
+nothing-after (x ∷ xs) = ap (λ r. x ∷ r) (nothing-after xs)
 
-pub sources-from : (c : Candidate) (front xs middle : List Entry) (r : Entry) (back : List Entry) → SourcesFrom c front xs → xs ≡ middle ++ (r ∷ back) → is_read r ≡ true
+pub sources-from : (c : Candidate) (front xs middle : List Entry) (r : Entry) (back : List Entry) → SourcesFrom c front xs
+    → xs ≡ middle ++ (r ∷ back) → is_read r ≡ true
     → c.source r ≡ last_in (counting r (front ++ middle) back)
 sources-from c front [] [] r back h e read = let z : ⊥ = cc in absurd z
 sources-from c front [] (m ∷ ms) r back h e read = let z : ⊥ = cc in absurd z
@@ -26,7 +27,8 @@ sources-from c front (x ∷ xs) [] r back h e read =
     let tail : xs ≡ back = cc in
     subst (λ y. c.source y ≡ last_in (counting y (front ++ []) back)) head
     (subst (λ b. c.source x ≡ last_in (counting x (front ++ []) b)) tail
-    (subst (λ f. c.source x ≡ last_in (counting x f xs)) (sym (nothing-behind front)) (h.0 (subst (λ y. is_read y ≡ true) (sym head) read))))
+    (subst (λ f. c.source x ≡ last_in (counting x f xs)) (sym (nothing-after front))
+    (h.0 (subst (λ y. is_read y ≡ true) (sym head) read))))
 sources-from c front (x ∷ xs) (m ∷ ms) r back h e read =
     let head : x ≡ m = cc in
     let tail : xs ≡ ms ++ (r ∷ back) = cc in

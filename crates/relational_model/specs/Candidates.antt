@@ -10,13 +10,13 @@ use Rattle.tso_model.specs.declared.execution.Entry.{Entry}
 use Rattle.relational_model.specs.Events.{IsIn}
 
 -- The initial writes are no events of a thread. They stand first in each coherence order, so they are left unsaid: a read
--- that reads from none of its location's writes reads the initial word.
+-- that reads from none of the threads' writes reads the initial word.
 pub record Candidate : Type 0 where
   -- the values that the reads of each core return, in program order; they make the threads' events
   pub reads : List (List ℕ)
   -- the write that a read reads from, or none: the initial one
   pub source : Entry → Option Entry
-  -- the writes to each location, behind the initial one
+  -- the writes to each location, after the initial one
   pub coherence : ℕ → List Entry
 
 abbrev pub events_from : ℕ → List (List Instr) → List (List ℕ) → List (List ℕ) → List Entry
@@ -36,7 +36,7 @@ Returns t c r (Some w) = IsIn (events t c) w × (writes_to r.loc.0 w ≡ true) �
 
 pub record IsCandidate (t : Litmus) (c : Candidate) : Type 0 where
   pub reads : (r : Entry) → IsIn (events t c) r → is_read r ≡ true → Returns t c r (c.source r)
-  -- each write to a location stands in its coherence order once, and nothing else does
+  -- each write to a location stands in its coherence order, and as many stand there as there are: each once, and nothing else
   pub writes : (loc : ℕ) (w : Entry) → IsIn (events t c) w → writes_to loc w ≡ true → IsIn (c.coherence loc) w
   pub count : (loc : ℕ) → length (c.coherence loc) ≡ length (filter (writes_to loc) (events t c))
 

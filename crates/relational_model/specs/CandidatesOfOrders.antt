@@ -3,7 +3,7 @@
 use Rattle.std.specs.Prelude.{ℕ, ◌≡◌, true, List, [], ◌∷◌, ◌++◌, filter, Option, Some, None}
 use Rattle.tso_model.specs.Litmus.{Litmus}
 use Rattle.tso_model.specs.ProgramOrder.{is_read, writes_to}
-use Rattle.tso_model.specs.Execution.{made, counting}
+use Rattle.tso_model.specs.Execution.{made, counting, IsTsoExecution}
 use Rattle.tso_model.specs.FinalState.{final_words, final_registers}
 use Rattle.tso_model.specs.declared.execution.Entry.{Entry}
 use Rattle.relational_model.specs.Candidates.{Candidate, events, words_left, registers_left}
@@ -23,3 +23,10 @@ pub record IsCandidateOf (t : Litmus) (order : List Entry) (c : Candidate) : Typ
 pub record LeaveTheSame (t : Litmus) (order : List Entry) (c : Candidate) : Type 0 where
   pub memory : words_left t c ≡ final_words t order
   pub registers : registers_left t c ≡ final_registers t order
+
+-- the candidate of a TSO execution, which leaves the same memory and the same registers
+pub record IsOfAnExecution (t : Litmus) (c : Candidate) : Type 0 where
+  pub order : List Entry
+  pub execution : IsTsoExecution t order
+  pub candidate : IsCandidateOf t order c
+  pub state : LeaveTheSame t order c

@@ -3,8 +3,12 @@ pub mod Candidates
 pub mod Relations
 pub mod Model
 pub mod CandidatesOfOrders
+pub mod CandidatesOfRuns
 pub mod WorkedCandidates
 pub use Rattle.tso_model.specs.Litmus
 pub use Rattle.tso_model.specs.Execution
 pub use Rattle.tso_model.specs.FinalState
 pub use Rattle.tso_model.specs.Examples
+pub use Rattle.tso_model.specs.FlatMachine
+pub use Rattle.tso_model.specs.Runs
+pub use Rattle.tso_laws.specs.EndedRuns

@@ -23,12 +23,12 @@ pub record ReadsFrom (c : Candidate) (w r : Entry) : Type 0 where
 abbrev pub IsBefore : Candidate → Entry → Entry → Type 0
 IsBefore c w v = IsEarlier (c.coherence w.loc.0) w v
 
--- a write that stands behind this one; behind the initial write each write stands
-abbrev pub StandsBehind : List Entry → Option Entry → Entry → Type 0
-StandsBehind writes None v = IsIn writes v
-StandsBehind writes (Some w) v = IsEarlier writes w v
+-- a write that stands after this one; after the initial write each write stands
+abbrev pub StandsAfter : List Entry → Option Entry → Entry → Type 0
+StandsAfter writes None v = IsIn writes v
+StandsAfter writes (Some w) v = IsEarlier writes w v
 
--- fr: the read r reads from a write that is before v in the coherence order
+-- fr = rf^-1; co: the read r reads from a write that is before v in the coherence order of their location
 pub record FromReads (c : Candidate) (r v : Entry) : Type 0 where
   pub read : is_read r ≡ true
-  pub overwritten : StandsBehind (c.coherence r.loc.0) (c.source r) v
+  pub overwritten : StandsAfter (c.coherence r.loc.0) (c.source r) v

@@ -5,7 +5,7 @@ use Rattle.tso_model.specs.Thread.{entry}
 use Rattle.tso_model.specs.Examples.{loc_x, loc_y, zeros}
 use Rattle.tso_model.specs.declared.register.Reg.TheVariants.{Eax, Ebx}
 use Rattle.tso_model.specs.declared.instruction.Instr.{Instr}
-use Rattle.tso_model.specs.declared.instruction.Instr.TheVariants.{StoreImm, Load, Fence, Xadd}
+use Rattle.tso_model.specs.declared.instruction.Instr.TheVariants.{StoreImm, Load, Fence, Xchg, Xadd}
 use Rattle.tso_model.specs.declared.execution.Entry.{Entry}
 use Rattle.tso_model.specs.declared.execution.Kind.TheVariants.{W, LW}
 use Rattle.relational_model.specs.Candidates.{Candidate}
@@ -38,6 +38,10 @@ on_x_and_y name programs registers = record {
 abbrev pub two_cores : List (List ℕ)
 two_cores = zeros ∷ (zeros ∷ [])
 
+-- 1 in EAX
+abbrev pub one_in_eax : List ℕ
+one_in_eax = 1 ∷ (0 ∷ (0 ∷ (0 ∷ (0 ∷ (0 ∷ [])))))
+
 -- store buffering: both loads read 0
 abbrev pub sb_candidate : Candidate
 sb_candidate = record {
@@ -54,7 +58,7 @@ n6_candidate = record {
   coherence = of_x_and_y (entry 1 1 W loc_x 2 ∷ (entry 0 0 W loc_x 1 ∷ [])) (entry 1 0 W loc_y 2 ∷ []);
 }
 
--- store buffering with a fence behind each store: both loads read 0
+-- store buffering with a fence after each store: both loads read 0
 abbrev pub fenced : Litmus
 fenced = on_x_and_y (codes "SB+mfences")
     ((StoreImm loc_x 1 ∷ (Fence ∷ (Load Eax loc_y ∷ []))) ∷ ((StoreImm loc_y 1 ∷ (Fence ∷ (Load Eax loc_x ∷ []))) ∷ []))
@@ -62,6 +66,19 @@ fenced = on_x_and_y (codes "SB+mfences")
 
 abbrev pub fenced_candidate : Candidate
 fenced_candidate = sb_candidate
+
+-- store buffering with XCHG in place of each store: both loads read 0
+abbrev pub exchanged : Litmus
+exchanged = on_x_and_y (codes "SB+xchgs")
+    ((Xchg loc_x Eax ∷ (Load Ebx loc_y ∷ [])) ∷ ((Xchg loc_y Eax ∷ (Load Ebx loc_x ∷ [])) ∷ []))
+    (one_in_eax ∷ (one_in_eax ∷ []))
+
+abbrev pub exchanged_candidate : Candidate
+exchanged_candidate = record {
+  reads = (0 ∷ (0 ∷ [])) ∷ ((0 ∷ (0 ∷ [])) ∷ []);
+  source = initial;
+  coherence = of_x_and_y (entry 0 0 LW loc_x 1 ∷ []) (entry 1 0 LW loc_y 1 ∷ []);
+}
 
 -- message passing: the flag y is read as set, and x as not yet stored
 abbrev pub passing : Litmus
@@ -102,6 +119,10 @@ independent_candidate = record {
   source = reading 2 0 (entry 0 0 W loc_x 1) (reading 3 0 (entry 1 0 W loc_y 1) initial);
   coherence = of_x_and_y (entry 0 0 W loc_x 1 ∷ []) (entry 1 0 W loc_y 1 ∷ []);
 }
+
+-- the registers that tell of it: each reader has read its first location as stored, and its second one as not yet stored
+abbrev pub opposite_registers : List (List ℕ)
+opposite_registers = zeros ∷ (zeros ∷ (one_in_eax ∷ (one_in_eax ∷ [])))
 
 -- a locked addition of 0, and a store of another core that comes between its two parts
 abbrev pub between : Litmus

@@ -1,9 +1,4 @@
-//! The relational model of x86-TSO, and that it allows every TSO execution.
-//!
-//! One direction is proved of all tests: each TSO execution has a candidate, and the model allows
-//! that candidate, which leaves the same memory and registers. The other one, that each candidate
-//! which the model allows is that of a TSO execution, is proved of tests without locked instructions
-//! alone.
+//! The relational model of x86-TSO, and that it allows exactly the TSO executions.
 //!
 //! Nothing here computes. Each public function has no code of its own, and its contract is a law on
 //! the definitions. The model stands in `specs/`: candidates, their relations, and the three
@@ -15,18 +10,26 @@
 //! herd's `x86tso.cat` for the conditions.
 #![tactic(auto)]
 
-ghost use Rattle.std.specs.Prelude.{◌≡◌, false, List};
-ghost use Rattle.tso_model.specs.Litmus.{Litmus};
+ghost use Rattle.std.specs.Prelude.{ℕ, ◌≢◌, List};
+ghost use Rattle.tso_model.specs.Limits.{most_depth};
+ghost use Rattle.tso_model.specs.Litmus.{Litmus, IsTest};
 ghost use Rattle.tso_model.specs.Execution.{IsTsoExecution};
+ghost use Rattle.tso_model.specs.FinalState.{final_registers};
+ghost use Rattle.tso_model.specs.Runs.{run};
 ghost use Rattle.tso_model.specs.Examples.{sb, sb_order, n6, n6_order};
 ghost use Rattle.tso_model.specs.declared.execution.Entry.{Entry};
-ghost use Rattle.relational_model.specs.Events.{IsIn};
-ghost use Rattle.relational_model.specs.Candidates.{Candidate, events};
-ghost use Rattle.relational_model.specs.Model.{is_locked, IsAllowed};
-ghost use Rattle.relational_model.specs.CandidatesOfOrders.{IsCandidateOf, LeaveTheSame};
-ghost use Rattle.relational_model.specs.WorkedCandidates.{sb_candidate, n6_candidate, fenced, fenced_candidate, passing, passing_candidate, buffering, buffering_candidate, independent, independent_candidate, between, between_candidate};
+ghost use Rattle.tso_model.specs.declared.choice.Choice.{Choice};
+ghost use Rattle.tso_laws.specs.EndedRuns.{End};
+ghost use Rattle.relational_model.specs.Candidates.{Candidate};
+ghost use Rattle.relational_model.specs.Model.{IsAllowed, IsForbidden};
+ghost use Rattle.relational_model.specs.CandidatesOfOrders.{IsCandidateOf, LeaveTheSame, IsOfAnExecution};
+ghost use Rattle.relational_model.specs.CandidatesOfRuns.{IsCandidateOfRun};
+ghost use Rattle.relational_model.specs.WorkedCandidates.{sb_candidate, n6_candidate, fenced, fenced_candidate, exchanged, exchanged_candidate, passing, passing_candidate, buffering, buffering_candidate, independent, independent_candidate, opposite_registers, between, between_candidate};
 
-use tso_laws::{whole_orders_have_each_entry_once, worked_orders};
+use tso_laws::{
+    ended_runs_are_executions, runs_reach_exactly_the_executions,
+    whole_orders_have_each_entry_once, worked_orders,
+};
 
 /// Each TSO execution has a candidate.
 pub fn executions_have_candidates()
@@ -38,32 +41,51 @@ pub fn executions_have_candidates()
 /// The candidate of a TSO execution is allowed by the relational model, and leaves the same memory
 /// and registers.
 pub fn candidates_of_executions_are_allowed()
-    ensures allowed { (t : Litmus) (order : List Entry) (c : Candidate) → IsTsoExecution t order → IsCandidateOf t order c → IsAllowed t c }
-    ensures same_state { (t : Litmus) (order : List Entry) (c : Candidate) → IsTsoExecution t order → IsCandidateOf t order c → LeaveTheSame t order c }
+    ensures allowed { (t : Litmus) (order : List Entry) (c : Candidate)
+        → IsTsoExecution t order → IsCandidateOf t order c → IsAllowed t c }
+    ensures same_state { (t : Litmus) (order : List Entry) (c : Candidate)
+        → IsTsoExecution t order → IsCandidateOf t order c → LeaveTheSame t order c }
 {
     whole_orders_have_each_entry_once();
 }
 
-/// Each candidate that the relational model allows, of a test without locked instructions, is the
-/// candidate of a TSO execution, which leaves the same memory and registers.
-pub fn unlocked_allowed_candidates_are_executions()
-    ensures { (t : Litmus) (c : Candidate) → ((e : Entry) → IsIn (events t c) e → is_locked e ≡ false) → IsAllowed t c → (order : List Entry) × IsTsoExecution t order × IsCandidateOf t order c × LeaveTheSame t order c }
+/// Each candidate that the relational model allows is the candidate of a TSO execution, which
+/// leaves the same memory and registers.
+pub fn allowed_candidates_are_executions()
+    ensures { (t : Litmus) (c : Candidate) → IsAllowed t c → IsOfAnExecution t c }
 {}
 
+/// Each run that ends a test has a candidate that the relational model allows, and leaves its memory
+/// and registers; and each candidate that it allows is that of such a run at the greatest depth.
+pub fn runs_have_exactly_the_allowed_candidates()
+    ensures allowed { (t : Litmus) (depth : ℕ) (choices : List Choice) → IsTest t → End t depth choices
+        → (c : Candidate) × IsAllowed t c × IsCandidateOfRun t (run t depth choices) c }
+    ensures reached { (t : Litmus) (c : Candidate) → IsTest t → IsAllowed t c
+        → (choices : List Choice) × End t most_depth choices × IsCandidateOfRun t (run t most_depth choices) c }
+{
+    whole_orders_have_each_entry_once();
+    ended_runs_are_executions();
+    runs_reach_exactly_the_executions();
+}
+
 /// Worked candidates: store buffering with both loads reading 0 is allowed, and so is a core that
-/// reads its own store before memory has it; with fences, and in message passing, load buffering
-/// and the independent reads of independent writes, the outcome that is asked for isn't; nor is a
-/// write between the two parts of a locked instruction.
+/// reads its own store before memory has it; with fences, with XCHG in place of the stores, and in
+/// message passing, load buffering and the independent reads of independent writes, the outcome that
+/// is asked for isn't; nor is a write between the two parts of a locked instruction. No TSO execution
+/// leaves the registers that tell of independent reads that see the two writes in opposite orders.
 pub fn worked_candidates()
     ensures sb_is_of_its_order { IsCandidateOf sb sb_order sb_candidate }
     ensures sb_is_allowed { IsAllowed sb sb_candidate }
     ensures n6_is_of_its_order { IsCandidateOf n6 n6_order n6_candidate }
     ensures n6_is_allowed { IsAllowed n6 n6_candidate }
-    ensures fenced_is_forbidden { IsAllowed fenced fenced_candidate → ⊥ }
-    ensures passing_is_forbidden { IsAllowed passing passing_candidate → ⊥ }
-    ensures buffering_is_forbidden { IsAllowed buffering buffering_candidate → ⊥ }
-    ensures independent_is_forbidden { IsAllowed independent independent_candidate → ⊥ }
-    ensures between_is_forbidden { IsAllowed between between_candidate → ⊥ }
+    ensures fenced_is_forbidden { IsForbidden fenced fenced_candidate }
+    ensures exchanged_is_forbidden { IsForbidden exchanged exchanged_candidate }
+    ensures passing_is_forbidden { IsForbidden passing passing_candidate }
+    ensures buffering_is_forbidden { IsForbidden buffering buffering_candidate }
+    ensures independent_is_forbidden { IsForbidden independent independent_candidate }
+    ensures between_is_forbidden { IsForbidden between between_candidate }
+    ensures independent_is_no_execution { (order : List Entry)
+        → IsTsoExecution independent order → final_registers independent order ≢ opposite_registers }
 {
     whole_orders_have_each_entry_once();
     worked_orders();

@@ -1,12 +1,11 @@
 -- The choices along an order, made one entry after the other.
-use Rattle.std.proofs.Common.{◌≡◌, ℕ, ◌+◌, ◌-◌, ◌<◌, ◌≤◌, zero, suc, List, [], ◌∷◌, ◌++◌, length, get_or, take, drop, refl, ap, sym, ◌∙◌, add-one, append_assoc, arith, drop-cons}
-use Rattle.std.proofs.lemmas.List.{append-nil}
+use Rattle.std.proofs.Common.{◌≡◌, ℕ, ◌+◌, ◌<◌, zero, suc, List, [], ◌∷◌, ◌++◌, length, take, refl, ap, ◌∙◌, add-one, append_assoc, arith}
 use Rattle.tso_model.specs.FlatMachine.{step}
 use Rattle.tso_model.specs.Litmus.{Litmus}
 use Rattle.tso_model.specs.declared.execution.Entry.{Entry}
 use Rattle.tso_model.specs.declared.instruction.Instr.{Instr}
 use Rattle.tso_model.specs.declared.choice.Choice.{Choice}
-use Rattle.tso_laws.specs.Along.{steps, beginnings, last_steps, choices_from, choices_along}
+use Rattle.tso_laws.specs.Along.{steps, beginnings, choices_from, choices_along}
 
 -- one step more goes last
 pub steps-more : (core n : ℕ) → steps core n ++ step core ∷ [] ≡ steps core (n + 1)

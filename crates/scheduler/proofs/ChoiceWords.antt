@@ -4,70 +4,72 @@ use Rattle.std.specs.Str.{bytes_eq}
 use Rattle.std.specs.Prelude.{codes}
 use Rattle.std.proofs.lemmas.Bool.{le-leb, lt-leb, leb-true, and_parts, eqb-true, cases_lt}
 use Rattle.std.proofs.lemmas.List.{take_more}
+use Rattle.tso_model.specs.FlatMachine.{chosen}
 use Rattle.tso_model.specs.declared.choice.Choice.{Choice}
 use Rattle.scheduler.specs.declared.fault.ChoiceFault.TheVariants.{BadWord, NoSuchCore, TooMany}
 use Rattle.scheduler.specs.declared.item.Action.{Action}
 use Rattle.scheduler.specs.declared.item.Action.TheVariants.{Step, Drain}
 use Rattle.scheduler.specs.declared.item.Item.TheVariants.{One}
-use Rattle.scheduler.specs.Words.{is_digit, is_numeral, decimal}
-use Rattle.scheduler.specs.Grammar.{IsChoiceWord, step, drain, core_of}
-use Rattle.scheduler.specs.Reading.{number_up_to, action_of, choice_by, one_at, one_of}
+use Rattle.decimals.specs.Decimals.{decimal_value, number_up_to}
+use Rattle.scheduler.specs.Words.{is_numeral}
+use Rattle.scheduler.specs.Grammar.{IsChoiceWord, step, drain}
+use Rattle.scheduler.specs.Reading.{action_of, choice_by, one_at, one_of}
 use Rattle.scheduler.proofs.Items.{one_is, one_none}
 
 -- which way a test went
-pub chosen : {A : Type 0} (b : Bool) (x y z : A) → cond b x y ≡ z → ((b ≡ true) × (x ≡ z)) ⊎ ((b ≡ false) × (y ≡ z))
-chosen true x y z e = inl (refl, e)
-chosen false x y z e = inr (refl, e)
+pub which-way : {A : Type 0} (b : Bool) (x y z : A) → cond b x y ≡ z → ((b ≡ true) × (x ≡ z)) ⊎ ((b ≡ false) × (y ≡ z))
+which-way true x y z e = inl (refl, e)
+which-way false x y z e = inr (refl, e)
 
 pub either : (b : Bool) → (b ≡ true) ⊎ (b ≡ false)
 either true = inl refl
 either false = inr refl
 
-pub number_in : (most : ℕ) (digits : List ℕ) → decimal digits ≤ most → number_up_to most digits ≡ Some (decimal digits)
+pub number_in : (most : ℕ) (digits : List ℕ) → decimal_value digits ≤ most → number_up_to most digits ≡ Some (decimal_value digits)
 unfolding number_up_to
-number_in most digits le = let is_in : leb (decimal digits) most ≡ true = le-leb _ _ le in rw is_in refl
+number_in most digits le = let is_in : leb (decimal_value digits) most ≡ true = le-leb _ _ le in rw is_in refl
 
-pub number_out : (most : ℕ) (digits : List ℕ) → most < decimal digits → number_up_to most digits ≡ None
+pub number_out : (most : ℕ) (digits : List ℕ) → most < decimal_value digits → number_up_to most digits ≡ None
 unfolding number_up_to
-number_out most digits lt = let is_out : leb (decimal digits) most ≡ false = lt-leb _ _ lt in rw is_out refl
+number_out most digits lt = let is_out : leb (decimal_value digits) most ≡ false = lt-leb _ _ lt in rw is_out refl
 
 -- a choice word is read by its core and the room
 choice_read : (cores room number : ℕ) (word : List ℕ) (c : Choice) → IsChoiceWord word c
-    → (action : Action) × (digits : List ℕ) × (c ≡ choice_by action (decimal digits)) × (one_of cores room number word ≡ one_at room number action (number_up_to (cores - 1) digits))
+    → (action : Action) × (digits : List ℕ) × (c ≡ choice_by action (decimal_value digits)) × (one_of cores room number word ≡ one_at room number action (number_up_to (cores - 1) digits))
 unfolding action_of
 choice_read cores room number _ _ (step digits good) = (Step, digits, refl, one_is cores room number (digits ++ codes "s") digits 115 refl ∙ rw good refl)
 choice_read cores room number _ _ (drain digits good) = (Drain, digits, refl, one_is cores room number (digits ++ codes "d") digits 100 refl ∙ rw good refl)
 
-core_by : (action : Action) (n : ℕ) → core_of (choice_by action n) ≡ n
+core_by : (action : Action) (n : ℕ) → chosen (choice_by action n) ≡ n
 core_by Step n = refl
 core_by Drain n = refl
 
-pub reads_absent : (cores room number : ℕ) (word : List ℕ) (c : Choice) → 0 < cores → IsChoiceWord word c → cores ≤ core_of c → one_of cores room number word ≡ Err (NoSuchCore number)
+pub reads_absent : (cores room number : ℕ) (word : List ℕ) (c : Choice) → 0 < cores → IsChoiceWord word c → cores ≤ chosen c → one_of cores room number word ≡ Err (NoSuchCore number)
 reads_absent cores room number word c some is over =
     let read = choice_read cores room number word c is in
-    let core : core_of c ≡ decimal read.1 = ap core_of read.2 ∙ core_by read.0 (decimal read.1) in
+    let core : chosen c ≡ decimal_value read.1 = ap chosen read.2 ∙ core_by read.0 (decimal_value read.1) in
     let none : number_up_to (cores - 1) read.1 ≡ None = number_out _ _ (omega (arith, core)) in
     read.3 ∙ rw none refl
 
-pub reads_full : (cores room number : ℕ) (word : List ℕ) (c : Choice) → IsChoiceWord word c → core_of c < cores → room ≡ 0 → one_of cores room number word ≡ Err (TooMany number)
+pub reads_full : (cores room number : ℕ) (word : List ℕ) (c : Choice) → IsChoiceWord word c → chosen c < cores → room ≡ 0 → one_of cores room number word ≡ Err (TooMany number)
 reads_full cores room number word c is below full =
     let read = choice_read cores room number word c is in
-    let core : core_of c ≡ decimal read.1 = ap core_of read.2 ∙ core_by read.0 (decimal read.1) in
-    let there : number_up_to (cores - 1) read.1 ≡ Some (decimal read.1) = number_in _ _ (omega (arith, core)) in
+    let core : chosen c ≡ decimal_value read.1 = ap chosen read.2 ∙ core_by read.0 (decimal_value read.1) in
+    let there : number_up_to (cores - 1) read.1 ≡ Some (decimal_value read.1) = number_in _ _ (omega (arith, core)) in
     read.3 ∙ rw (there, full) refl
 
-pub reads_there : (cores room number : ℕ) (word : List ℕ) (c : Choice) → IsChoiceWord word c → core_of c < cores → 0 < room → one_of cores room number word ≡ Ok (One c)
+pub reads_there : (cores room number : ℕ) (word : List ℕ) (c : Choice) → IsChoiceWord word c → chosen c < cores → 0 < room → one_of cores room number word ≡ Ok (One c)
 reads_there cores room number word c is below some =
     let read = choice_read cores room number word c is in
-    let core : core_of c ≡ decimal read.1 = ap core_of read.2 ∙ core_by read.0 (decimal read.1) in
-    let there : number_up_to (cores - 1) read.1 ≡ Some (decimal read.1) = number_in _ _ (omega (arith, core)) in
+    let core : chosen c ≡ decimal_value read.1 = ap chosen read.2 ∙ core_by read.0 (decimal_value read.1) in
+    let there : number_up_to (cores - 1) read.1 ≡ Some (decimal_value read.1) = number_in _ _ (omega (arith, core)) in
     let space : eqb room 0 ≡ false = elim (either (eqb room 0)) [ inl same ↦ absurd (omega (arith, eqb-true room 0 same)) | inr other ↦ other ] in
     read.3 ∙ rw (there, space) (ap (λ (x : Choice). Ok (One x)) (sym read.2))
 
 -- no word that is read as of no form is a choice word
 pub not_a_choice : (cores room number : ℕ) (word : List ℕ) → 0 < cores → one_of cores room number word ≡ Err (BadWord number) → (c : Choice) → IsChoiceWord word c → ⊥
 not_a_choice cores room number word some bad c is =
-    elim (cases_lt (core_of c) cores) [
+    elim (cases_lt (chosen c) cores) [
       | inl below ↦ elim (cases_lt 0 room) [
         | inl space ↦ let other : one_of cores room number word ≡ Ok (One c) = reads_there cores room number word c is below space in cc
         | inr full ↦ let other : one_of cores room number word ≡ Err (TooMany number) = reads_full cores room number word c is below (omega arith) in cc
@@ -78,27 +80,27 @@ not_a_choice cores room number word some bad c is =
 letter_step : (letter : ℕ) → action_of letter ≡ Some Step → letter ≡ 115
 unfolding action_of
 letter_step letter e =
-    elim (chosen (eqb letter 115) (Some Step) (cond (eqb letter 100) (Some Drain) None) (Some Step) e) [
+    elim (which-way (eqb letter 115) (Some Step) (cond (eqb letter 100) (Some Drain) None) (Some Step) e) [
       | inl hit ↦ eqb-true _ _ hit.0
-      | inr miss ↦ elim (chosen (eqb letter 100) (Some Drain) None (Some Step) miss.1) [ inl hit ↦ absurd cc | inr bad ↦ absurd cc ]
+      | inr miss ↦ elim (which-way (eqb letter 100) (Some Drain) None (Some Step) miss.1) [ inl hit ↦ absurd cc | inr bad ↦ absurd cc ]
     ]
 
 letter_drain : (letter : ℕ) → action_of letter ≡ Some Drain → letter ≡ 100
 unfolding action_of
 letter_drain letter e =
-    elim (chosen (eqb letter 115) (Some Step) (cond (eqb letter 100) (Some Drain) None) (Some Drain) e) [
+    elim (which-way (eqb letter 115) (Some Step) (cond (eqb letter 100) (Some Drain) None) (Some Drain) e) [
       | inl hit ↦ absurd cc
-      | inr miss ↦ elim (chosen (eqb letter 100) (Some Drain) None (Some Drain) miss.1) [ inl hit ↦ eqb-true _ _ hit.0 | inr bad ↦ absurd cc ]
+      | inr miss ↦ elim (which-way (eqb letter 100) (Some Drain) None (Some Drain) miss.1) [ inl hit ↦ eqb-true _ _ hit.0 | inr bad ↦ absurd cc ]
     ]
 
 -- digits and the letter of an action are a choice word
-word_is : (word digits : List ℕ) (letter : ℕ) (action : Action) → word ≡ digits ++ letter ∷ [] → action_of letter ≡ Some action → is_numeral digits ≡ true → IsChoiceWord word (choice_by action (decimal digits))
+word_is : (word digits : List ℕ) (letter : ℕ) (action : Action) → word ≡ digits ++ letter ∷ [] → action_of letter ≡ Some action → is_numeral digits ≡ true → IsChoiceWord word (choice_by action (decimal_value digits))
 word_is word digits letter Step is has good =
     let same : digits ++ 115 ∷ [] ≡ word = sym (is ∙ ap (λ (b : ℕ). digits ++ b ∷ []) (letter_step letter has)) in
-    subst (λ (w : List ℕ). IsChoiceWord w (choice_by Step (decimal digits))) same (step digits good)
+    subst (λ (w : List ℕ). IsChoiceWord w (choice_by Step (decimal_value digits))) same (step digits good)
 word_is word digits letter Drain is has good =
     let same : digits ++ 100 ∷ [] ≡ word = sym (is ∙ ap (λ (b : ℕ). digits ++ b ∷ []) (letter_drain letter has)) in
-    subst (λ (w : List ℕ). IsChoiceWord w (choice_by Drain (decimal digits))) same (drain digits good)
+    subst (λ (w : List ℕ). IsChoiceWord w (choice_by Drain (decimal_value digits))) same (drain digits good)
 
 -- a word is a choice word, or is read as of no form
 word_by : (cores room number : ℕ) (word digits : List ℕ) (letter : ℕ) (action : Option Action) → word ≡ digits ++ letter ∷ [] → action_of letter ≡ action
@@ -106,7 +108,7 @@ word_by : (cores room number : ℕ) (word digits : List ℕ) (letter : ℕ) (act
 word_by cores room number word digits letter None is has = inr (one_is cores room number word digits letter is ∙ rw has refl)
 word_by cores room number word digits letter (Some action) is has =
     elim (either (is_numeral digits)) [
-      | inl good ↦ inl (choice_by action (decimal digits), word_is word digits letter action is has good)
+      | inl good ↦ inl (choice_by action (decimal_value digits), word_is word digits letter action is has good)
       | inr bad ↦ inr (one_is cores room number word digits letter is ∙ rw (has, bad) refl)
     ]
 
@@ -122,7 +124,7 @@ word_cases cores room number word =
 
 -- no choice word is the word `seed`: it begins with a digit
 begins : (digits : List ℕ) (letter : ℕ) → is_numeral digits ≡ true → bytes_eq (digits ++ letter ∷ []) (codes "seed") ≡ false
-unfolding is_numeral is_digit
+unfolding is_numeral
 begins [] letter good = absurd cc
 begins (b ∷ bs) letter good =
     let all = and_parts _ _ (and_parts _ _ good).1 in

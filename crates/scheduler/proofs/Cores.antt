@@ -6,15 +6,11 @@ use Rattle.tso_model.specs.Runs.{CoresExist}
 use Rattle.tso_model.specs.declared.choice.Choice.{Choice}
 use Rattle.tso_model.specs.declared.choice.Choice.TheVariants.{Step, Drain}
 use Rattle.scheduler.specs.Seeds.{choice_of_word}
-use Rattle.scheduler.specs.Grammar.{IsItem, one, seeded, AreItems, none, more, core_of, SpellsChoices}
+use Rattle.scheduler.specs.Grammar.{IsItem, one, seeded, AreItems, none, more, SpellsChoices}
 
 CoresExist-append : (cores : ℕ) (xs ys : List Choice) → CoresExist cores xs → CoresExist cores ys → CoresExist cores (xs ++ ys)
 CoresExist-append cores [] ys h k = k
 CoresExist-append cores (x ∷ xs) ys h k = (h.0, CoresExist-append cores xs ys h.1 k)
-
-pub same-core : (choice : Choice) → core_of choice ≡ chosen choice
-same-core (Step core) = refl
-same-core (Drain core) = refl
 
 half-below : (cores word : ℕ) → 0 < cores → (word % (2 * cores)) / 2 < cores
 half-below cores word h =
@@ -32,7 +28,7 @@ words-exist cores (w ∷ ws) h =
     (subst (λ n. n < cores) (sym (picked ((w % (2 * cores)) % 2 == 0) ((w % (2 * cores)) / 2))) (half-below cores w h), words-exist cores ws h)
 
 item-exists : (cores : ℕ) (words : List (List ℕ)) (choices : List Choice) → 0 < cores → IsItem cores words choices → CoresExist cores choices
-item-exists cores _ _ h (one word choice is known) = (subst (λ n. n < cores) (same-core choice) known, tt)
+item-exists cores _ _ h (one word choice is known) = (known, tt)
 item-exists cores _ _ h (seeded seed count is fits all) = words-exist cores _ h
 
 items-exist : (cores : ℕ) (words : List (List ℕ)) (choices : List Choice) → 0 < cores → AreItems cores words choices → CoresExist cores choices

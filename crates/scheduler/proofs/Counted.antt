@@ -1,15 +1,14 @@
 -- One entry more at the front of those that are passed, in the counts of plain stores.
-use Rattle.std.proofs.Common.{◌≡◌, ◌≢◌, ℕ, ◌+◌, ◌-◌, ◌<◌, ◌≤◌, ◌^◌, ◌==◌, ◌&&◌, nat_lt, zero, suc, Bool, true, false, if◌then◌else◌, List, [], ◌∷◌, length, get_or, take, drop, filter, sum, refl, ap, sym, ◌∙◌, ◌||◌, not, add-one, arith, rules, drop-cons, subst, max, length-drop, All, ◌⊎◌, inl, inr}
+use Rattle.std.proofs.Common.{◌≡◌, ◌≢◌, ℕ, ◌+◌, ◌-◌, ◌<◌, ◌≤◌, ◌==◌, ◌&&◌, nat_lt, zero, suc, Bool, true, false, if◌then◌else◌, List, [], ◌∷◌, length, get_or, take, drop, filter, sum, refl, ap, sym, ◌∙◌, ◌||◌, not, arith, drop-cons, subst, max, length-drop, All, ◌⊎◌, inl, inr}
 use Rattle.std.proofs.Math.ListN.{set, length-set}
 use Rattle.std.proofs.lemmas.List.{take-set-le, get_or-take, get_or-set_same, get_or-set_other, length-take, get_or_default, take_all}
 use Rattle.std.proofs.Math.Seq.{take-set-lt}
 use Rattle.std.proofs.lemmas.List.Elements.{All-get_or}
-use Rattle.std.proofs.lemmas.Bool.{ltb_from_iff, lt-ltb}
 use Rattle.std.proofs.lemmas.List.Sums.{sum_by-set, get_or-le-sum_by}
 use Rattle.std.specs.Ordering.{ord_max, nat_cmp}
 use borrow.Author.Tests.{tests}
 use Rattle.tso_model.specs.ProgramOrder.{same_kind, is_store, is_load, is_before}
-use Rattle.tso_laws.specs.Depth.{asked, needed, stores_before}
+use Rattle.tso_laws.specs.Depth.{asked, needed}
 use Rattle.scheduler.specs.Passed.{HaveCounted, stores_below}
 use Rattle.tso_model.specs.declared.execution.Entry.{Entry}
 use Rattle.tso_model.specs.declared.execution.Kind.{Kind}

@@ -1,4 +1,4 @@
--- The first word of a text, and the words behind it.
+-- The first word of a text, and the words after it.
 use Rattle.std.proofs.Common.{◌≡◌, ℕ, ◌+◌, ◌<◌, suc, Bool, true, false, not, List, [], ◌∷◌, length, take, drop, filter, refl, sym, ap, subst, ◌∙◌, inl, inr, eqb, arith}
 use Rattle.std.specs.List.{prefix_len, slice_split, onto_first}
 use Rattle.std.proofs.lemmas.Bool.Decides.{nat_tests}
@@ -43,7 +43,7 @@ word-more b bs is = rw (is, one-more) refl
 no-word-more : (b : ℕ) (bs : List ℕ) → is_space b ≡ true → word_in (b ∷ bs) ≡ []
 no-word-more b bs is = rw is refl
 
--- what is cut behind the first part
+-- what is cut after the first part
 abbrev parts_behind : List ℕ → List (List ℕ)
 parts_behind [] = []
 parts_behind (b ∷ bs) = slice_split is_space bs
@@ -84,7 +84,7 @@ no_words (b ∷ bs) none =
       | inr is ↦ absurd (let some = ap length (no-space-past b bs is) in omega arith)
     ]
 
--- what is said of the text behind the white space is said of the text
+-- what is said of the text after the white space is said of the text
 abbrev Begins : List ℕ → List ℕ → Type 0
 Begins text left = (words_of text ≡ word_in left ∷ words_of (past_word left)) × (length (past_word left) < length text)
 

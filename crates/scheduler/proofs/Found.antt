@@ -12,22 +12,24 @@ use Rattle.scheduler.specs.declared.fault.ChoiceFault.{ChoiceFault}
 use Rattle.scheduler.specs.declared.fault.ChoiceFault.TheVariants.{BadWord, TooMany}
 use Rattle.scheduler.specs.declared.item.Item.{Item}
 use Rattle.scheduler.specs.declared.item.Item.TheVariants.{Seeded}
-use Rattle.scheduler.specs.Words.{is_numeral, decimal}
-use Rattle.scheduler.specs.Seeds.{seeded_choices, first_words, generator, choice_of_word}
+use Rattle.decimals.specs.Decimals.{decimal_value}
+use Rattle.scheduler.specs.Words.{is_numeral}
+use Rattle.tso_model.specs.FlatMachine.{chosen}
+use Rattle.scheduler.specs.Seeds.{seeded_choices, drawn_words, generator, choice_of_word}
 use Rattle.scheduler.specs.Limits.{most_choices}
-use Rattle.scheduler.specs.Grammar.{IsChoiceWord, core_of, IsItem, one, seeded}
+use Rattle.scheduler.specs.Grammar.{IsChoiceWord, IsItem, one, seeded}
 use Rattle.scheduler.specs.Refusals.{IsFault, bad_form, cut_seed, bad_seed, bad_count, no_core, too_many}
 use Rattle.scheduler.specs.Reading.{made_of, words_in, one_of, seed_of, seeded_from, seeded_of, item_of}
 use Rattle.scheduler.proofs.ChoiceWords.{either, number_in, number_out, reads_absent, reads_full, reads_there, not_a_choice, word_cases}
 
 -- as many words as one asks for, and as many choices
-length_words : (n : ℕ) (g : Lcg) → length (first_words n g) ≡ n
-unfolding first_words
+length_words : (n : ℕ) (g : Lcg) → length (drawn_words n g) ≡ n
+unfolding drawn_words
 length_words zero g = refl
 length_words (suc n) g = ap suc (length_words n (pcg32 g).1)
 
 pub length_seeded : (cores seed count : ℕ) → length (seeded_choices cores seed count) ≡ count
-length_seeded cores seed count = length-map (first_words count (generator seed)) (choice_of_word cores) ∙ length_words count (generator seed)
+length_seeded cores seed count = length-map (drawn_words count (generator seed)) (choice_of_word cores) ∙ length_words count (generator seed)
 
 -- what was read of an item is an item within the room, or its fault
 pub record Fits (cores room : ℕ) (words : List (List ℕ)) (item : Item) : Type 0 where
@@ -43,7 +45,7 @@ read_choice : (cores before room number : ℕ) (word : List ℕ) (rest : List (L
     → IsRead cores before room number (word ∷ rest) (one_of cores room number word)
 read_choice cores before room number word rest c some sum is =
     let Read = IsRead cores before room number (word ∷ rest) in
-    elim (cases_lt (core_of c) cores) [
+    elim (cases_lt (chosen c) cores) [
       | inl below ↦ elim (cases_lt 0 room) [
         | inl space ↦ subst Read (sym (reads_there cores room number word c is below space)) (record { is_item = one word c is below; room_left = space; words_there = omega arith })
         | inr full ↦ subst Read (sym (reads_full cores room number word c is below (omega arith))) (too_many (word ∷ []) (c ∷ []) rest (one word c is below) (omega arith))
@@ -60,39 +62,39 @@ read_one cores before room number word rest some sum other =
     ]
 
 -- the seed that a word says
-pub seed_in : (word : List ℕ) → is_numeral word ≡ true → decimal word < 2 ^ 64 → seed_of word ≡ Some (decimal word)
+pub seed_in : (word : List ℕ) → is_numeral word ≡ true → decimal_value word < 2 ^ 64 → seed_of word ≡ Some (decimal_value word)
 unfolding seed_of
 seed_in word good small = rw good (number_in _ word (omega arith))
 
-pub seed_out : (word : List ℕ) → ¬ ((is_numeral word ≡ true) × (decimal word < 2 ^ 64)) → seed_of word ≡ None
+pub seed_out : (word : List ℕ) → ¬ ((is_numeral word ≡ true) × (decimal_value word < 2 ^ 64)) → seed_of word ≡ None
 unfolding seed_of
 seed_out word bad =
     elim (either (is_numeral word)) [
-      | inl good ↦ elim (cases_lt (decimal word) (2 ^ 64)) [
+      | inl good ↦ elim (cases_lt (decimal_value word) (2 ^ 64)) [
         | inl small ↦ absurd (bad (good, small))
         | inr large ↦ rw good (number_out _ word (omega arith))
       ]
       | inr other ↦ rw other refl
     ]
 
-read_count : (cores before room number : ℕ) (seed count : List ℕ) (rest : List (List ℕ)) → before + room ≡ most_choices → is_numeral seed ≡ true → decimal seed < 2 ^ 64
-    → IsRead cores before room number (codes "seed" ∷ seed ∷ count ∷ rest) (seeded_from room number (Some (decimal seed)) count)
+read_count : (cores before room number : ℕ) (seed count : List ℕ) (rest : List (List ℕ)) → before + room ≡ most_choices → is_numeral seed ≡ true → decimal_value seed < 2 ^ 64
+    → IsRead cores before room number (codes "seed" ∷ seed ∷ count ∷ rest) (seeded_from room number (Some (decimal_value seed)) count)
 read_count cores before room number seed count rest sum good small =
     let Read = IsRead cores before room number (codes "seed" ∷ seed ∷ count ∷ rest) in
     elim (either (is_numeral count)) [
       | inl well ↦
-          let item : IsItem cores (codes "seed" ∷ seed ∷ count ∷ []) (seeded_choices cores (decimal seed) (decimal count)) = seeded seed count good small well in
-          let long = length_seeded cores (decimal seed) (decimal count) in
-          elim (cases_lt room (decimal count)) [
+          let item : IsItem cores (codes "seed" ∷ seed ∷ count ∷ []) (seeded_choices cores (decimal_value seed) (decimal_value count)) = seeded seed count good small well in
+          let long = length_seeded cores (decimal_value seed) (decimal_value count) in
+          elim (cases_lt room (decimal_value count)) [
             | inl over ↦
-                let none : seeded_from room number (Some (decimal seed)) count ≡ Err (TooMany number) = rw (well, number_out room count over) refl in
-                subst Read (sym none) (too_many (codes "seed" ∷ seed ∷ count ∷ []) (seeded_choices cores (decimal seed) (decimal count)) rest item (omega (arith, long)))
+                let none : seeded_from room number (Some (decimal_value seed)) count ≡ Err (TooMany number) = rw (well, number_out room count over) refl in
+                subst Read (sym none) (too_many (codes "seed" ∷ seed ∷ count ∷ []) (seeded_choices cores (decimal_value seed) (decimal_value count)) rest item (omega (arith, long)))
             | inr within ↦
-                let there : seeded_from room number (Some (decimal seed)) count ≡ Ok (Seeded (decimal seed) (decimal count)) = rw (well, number_in room count within) refl in
+                let there : seeded_from room number (Some (decimal_value seed)) count ≡ Ok (Seeded (decimal_value seed) (decimal_value count)) = rw (well, number_in room count within) refl in
                 subst Read (sym there) (record { is_item = item; room_left = omega (arith, long); words_there = omega arith })
           ]
       | inr bad ↦
-          let none : seeded_from room number (Some (decimal seed)) count ≡ Err (BadWord (number + 2)) = rw bad refl in
+          let none : seeded_from room number (Some (decimal_value seed)) count ≡ Err (BadWord (number + 2)) = rw bad refl in
           subst Read (sym none) (bad_count seed count rest good small (λ well. absurd cc))
     ]
 
@@ -102,9 +104,9 @@ read_seeded cores before room number [] sum = cut_seed [] (omega arith)
 read_seeded cores before room number (seed ∷ []) sum = cut_seed (seed ∷ []) (omega arith)
 read_seeded cores before room number (seed ∷ count ∷ rest) sum =
     let Read = λ (o : Option ℕ). IsRead cores before room number (codes "seed" ∷ seed ∷ count ∷ rest) (seeded_from room number o count) in
-    let bad = λ (wrong : ¬ ((is_numeral seed ≡ true) × (decimal seed < 2 ^ 64))). subst Read (sym (seed_out seed wrong)) (bad_seed seed count rest wrong) in
+    let bad = λ (wrong : ¬ ((is_numeral seed ≡ true) × (decimal_value seed < 2 ^ 64))). subst Read (sym (seed_out seed wrong)) (bad_seed seed count rest wrong) in
     elim (either (is_numeral seed)) [
-      | inl good ↦ elim (cases_lt (decimal seed) (2 ^ 64)) [
+      | inl good ↦ elim (cases_lt (decimal_value seed) (2 ^ 64)) [
         | inl small ↦ subst Read (sym (seed_in seed good small)) (read_count cores before room number seed count rest sum good small)
         | inr large ↦ bad (λ p. omega (arith, p.1))
       ]

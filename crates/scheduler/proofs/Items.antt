@@ -4,8 +4,9 @@ use Rattle.std.proofs.lemmas.List.{take_at, get_or_at, length-append}
 use Rattle.scheduler.specs.declared.fault.ChoiceFault.TheVariants.{BadWord, NoSuchCore, TooMany}
 use Rattle.scheduler.specs.declared.item.Action.{Action}
 use Rattle.scheduler.specs.declared.item.Item.TheVariants.{One, Seeded}
+use Rattle.decimals.specs.Decimals.{number_up_to}
 use Rattle.scheduler.specs.Words.{is_numeral}
-use Rattle.scheduler.specs.Reading.{number_up_to, action_of, choice_by, one_from, one_of, seed_of, seeded_from, seeded_of}
+use Rattle.scheduler.specs.Reading.{action_of, choice_by, one_from, one_of, seed_of, seeded_from, seeded_of}
 
 pub one_is : (cores room number : ℕ) (word digits : List ℕ) (letter : ℕ) → word ≡ digits ++ letter ∷ [] → one_of cores room number word ≡ one_from cores room number digits (action_of letter)
 unfolding one_of
@@ -71,7 +72,7 @@ seeded_there room number ws us vs seed count n m first second some good is = see
 pub behind_two : (ws us vs : List (List ℕ)) (seed count : List ℕ) → ws ≡ seed ∷ us → us ≡ count ∷ vs → vs ≡ drop 2 ws
 behind_two ws us vs seed count first second = rw (first, second) refl
 
--- each way that a word is read, and the words behind `seed`
+-- each way that a word is read, and the words after `seed`
 pub ruleset one_word = (one_none, one_bad_letter, one_bad_digits, one_no_core, one_full, one_there)
 
 pub ruleset seed_words = (seeded_none, seeded_short, behind_two, seeded_bad_seed, seeded_bad_count, seeded_too_many, seeded_there)

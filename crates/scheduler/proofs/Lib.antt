@@ -1,4 +1,3 @@
-pub mod Decimal
 pub mod Generated
 pub mod Items
 pub mod ChoiceWords

@@ -1,4 +1,4 @@
--- One item more, behind items that were read.
+-- One item more, after items that were read.
 use Rattle.std.proofs.Common.{◌≡◌, ℕ, ◌+◌, ◌-◌, ◌<◌, ◌≤◌, List, [], ◌∷◌, ◌++◌, length, take, drop, Ok, Err, refl, sym, ap, subst, ◌∙◌, append_assoc, take_all, arith}
 use Rattle.std.proofs.Math.Seq.{take-add}
 use Rattle.std.proofs.lemmas.List.{append-nil, length-append, length-drop, length-take, take-append-drop, drop-drop}
@@ -12,14 +12,14 @@ use Rattle.scheduler.specs.Refusals.{IsFault, AreRefused}
 use Rattle.scheduler.specs.Reading.{made_of, words_in, item_of}
 use Rattle.scheduler.proofs.Found.{Fits, IsRead, item_read}
 
--- an item behind items
+-- an item after items
 pub one_more : (cores : ℕ) (front : List (List ℕ)) (choices : List Choice) → AreItems cores front choices → (words : List (List ℕ)) (made : List Choice) → IsItem cores words made → AreItems cores (front ++ words) (choices ++ made)
 one_more cores _ _ none words made item = subst (λ (w : List (List ℕ)). AreItems cores w made) (append-nil words) (subst (λ (m : List Choice). AreItems cores (words ++ []) m) (append-nil made) (more words [] made [] item none))
 one_more cores _ _ (more first rest cs others it items) words made item =
     subst (λ (w : List (List ℕ)). AreItems cores w ((cs ++ others) ++ made)) (sym (append_assoc first rest words))
     (subst (λ (m : List Choice). AreItems cores (first ++ (rest ++ words)) m) (sym (append_assoc cs others made)) (more first (rest ++ words) cs (others ++ made) it (one_more cores rest others items words made item)))
 
--- where an item was read, the choices behind it are those of the words up to there, and the rest is still to be read
+-- where an item was read, the choices after it are those of the words up to there, and the rest is still to be read
 pub record WentOn (cores : ℕ) (words : List (List ℕ)) (to : ℕ) (left : List (List ℕ)) (choices : List Choice) : Type 0 where
   pub items : AreItems cores (take to words) choices
   pub few : length choices ≤ most_choices

@@ -14,34 +14,27 @@ use Rattle.tso_model.specs.Runs.{CoresExist}
 use Rattle.tso_model.specs.declared.choice.Choice.{Choice}
 use Rattle.tso_model.specs.declared.choice.Choice.TheVariants.{Step, Drain}
 use Rattle.scheduler.specs.Limits.{most_choices}
-use Rattle.scheduler.specs.Words.{is_space, is_digit, is_numeral, decimal_after, decimal, words_of}
+use Rattle.decimals.specs.Decimals.{decimal_from, decimal_value}
+use Rattle.scheduler.specs.Words.{is_space, is_numeral, words_of}
 use Rattle.scheduler.specs.Grammar.{IsChoiceWord, step, drain, one, AreItems, none, more, SpellsChoices}
-use Rattle.scheduler.proofs.Cores.{same-core}
 use Rattle.scheduler.specs.Printed.{printed_choice, printed_behind, printed_choices}
 
 -- ---- numbers
 
-own : IsNumeralModel (λ ds. list_all is_ascii_digit ds ≡ true) (decimal_after 0)
-unfolding decimal_after
-own = numerals_by_fold _ (search rules) decimal_after (search rules)
+own : IsNumeralModel (λ ds. list_all is_ascii_digit ds ≡ true) (decimal_from 0)
+unfolding decimal_from
+own = numerals_by_fold _ (search rules) decimal_from (search rules)
 
-number-is : (n : ℕ) → n < 2 ^ 64 → decimal (fmt.decimal n) ≡ n
+number-is : (n : ℕ) → n < 2 ^ 64 → decimal_value (fmt.decimal n) ≡ n
 number-is n small = digits_value-decimal own n small
 
 digits-are : (n : ℕ) → n < 2 ^ 64 → list_all is_ascii_digit (fmt.decimal n) ≡ true
 digits-are n small = digits_decimal own n small
 
-numeral-from : (ds : List ℕ) → list_all is_ascii_digit ds ≡ true → list_all is_digit ds ≡ true
-unfolding is_digit
-numeral-from [] h = refl
-numeral-from (d ∷ ds) h =
-    let parts : (is_ascii_digit d ≡ true) × (list_all is_ascii_digit ds ≡ true) = and_parts _ _ h in
-    rw (numeral-from ds parts.1) (grind (arith, nat_tests))
-
 is-numeral : (n : ℕ) → n < 2 ^ 64 → is_numeral (fmt.decimal n) ≡ true
 unfolding is_numeral
 is-numeral n small =
-    let digits = numeral-from (fmt.decimal n) (digits-are n small) in
+    let digits = digits-are n small in
     let some = decimal_nonempty n small in
     rw digits (grind (arith, nat_tests))
 
@@ -128,7 +121,7 @@ items-are : (cores : ℕ) (cs : List Choice) → AreSmall cs → CoresExist core
 items-are cores [] small there = none
 items-are cores (c ∷ cs) small there =
     more (printed_choice c ∷ []) (map printed_choice cs) (c ∷ []) cs
-    (one (printed_choice c) c (word-is c small.0) (subst (λ n. n < cores) (sym (same-core c)) there.0)) (items-are cores cs small.1 there.1)
+    (one (printed_choice c) c (word-is c small.0) there.0) (items-are cores cs small.1 there.1)
 
 are-small : (cores : ℕ) (cs : List Choice) → cores < 2 ^ 64 → CoresExist cores cs → AreSmall cs
 are-small cores [] few there = tt

@@ -10,7 +10,8 @@ use Rattle.scheduler.specs.declared.fault.ChoiceFault.{ChoiceFault}
 use Rattle.scheduler.specs.declared.fault.ChoiceFault.TheVariants.{BadWord, NoMemory}
 use Rattle.scheduler.specs.declared.item.Item.{Item}
 use Rattle.scheduler.specs.declared.item.Item.TheVariants.{One, Seeded}
-use Rattle.scheduler.specs.Words.{words_of, decimal}
+use Rattle.decimals.specs.Decimals.{decimal_value}
+use Rattle.scheduler.specs.Words.{words_of}
 use Rattle.scheduler.specs.Limits.{most_choices}
 use Rattle.scheduler.specs.Grammar.{IsChoiceWord, IsItem, one, seeded, AreItems, none, more, WordsSpell}
 use Rattle.scheduler.specs.Refusals.{IsFault, bad_form, cut_seed, bad_seed, bad_count, no_core, too_many, AreRefused, IsDecided}
@@ -19,7 +20,7 @@ use Rattle.scheduler.proofs.ChoiceWords.{number_in, number_out, reads_absent, re
 use Rattle.scheduler.proofs.Found.{IsRead, item_read, length_seeded, seed_in, seed_out}
 use Rattle.scheduler.proofs.Loop.{one_more}
 
--- choices behind those of an item
+-- choices after those of an item
 unfoldable with_front : List Choice → Result (List Choice) ChoiceFault → Result (List Choice) ChoiceFault
 with_front front (Ok choices) = Ok (front ++ choices)
 with_front front (Err fault) = Err fault
@@ -62,7 +63,7 @@ unfolding whole seeded_of item_of with_front
 item_whole cores before number _ _ (one word choice is below) fits back =
     rw (choice_item cores (most_choices - before) number word back choice is, reads_there cores (most_choices - before) number word choice is below (omega arith)) refl
 item_whole cores before number _ _ (seeded seed count good small well) fits back =
-    let long = length_seeded cores (decimal seed) (decimal count) in
+    let long = length_seeded cores (decimal_value seed) (decimal_value count) in
     let numbers : number + 1 + 1 + 1 ≡ number + 3 = omega arith in
     rw (seed_in seed good small, well, number_in (most_choices - before) count (omega (arith, long)), numbers) refl
 
@@ -111,7 +112,7 @@ fault_whole cores before number _ _ some room (no_core word choice rest is over)
 fault_whole cores before number _ _ some room (too_many _ _ rest (one word choice is below) over) =
     rw (choice_item cores (most_choices - before) number word rest choice is, reads_full cores (most_choices - before) number word choice is below (omega arith)) refl
 fault_whole cores before number _ _ some room (too_many _ _ rest (seeded seed count good small well) over) =
-    let long = length_seeded cores (decimal seed) (decimal count) in
+    let long = length_seeded cores (decimal_value seed) (decimal_value count) in
     rw (seed_item cores (most_choices - before) number (seed ∷ count ∷ rest), seed_in seed good small, well, number_out (most_choices - before) count (omega (arith, long))) refl
 
 spells_whole : (cores : ℕ) (words : List (List ℕ)) (choices : List Choice) → WordsSpell cores words choices → whole cores 0 0 1 words ≡ Ok choices
@@ -187,7 +188,7 @@ is_decided cores text some = record {
   always = item_by_item (length (words_of text)) cores [] (words_of text) [] some (omega arith) none (omega arith);
 }
 
--- an answer that says what words spell, or which refusal they get, is the only one but for want of memory
+-- an answer that says what words spell, or which refusal they get, is the only one but where memory runs out
 pub only_these : (cores : ℕ) (words : List (List ℕ)) (r : Result (Vec Choice) ChoiceFault) → 0 < cores → IfOk r (λ v. WordsSpell cores words v.items) → IfErr r (λ f. f ≢ NoMemory → AreRefused cores words f)
     → (choices : List Choice) → WordsSpell cores words choices → MatchResult r (λ v. v.items ≡ choices) (λ f. f ≡ NoMemory)
 only_these cores words (Ok v) some found refused choices spell = one_list cores words v.items choices found spell

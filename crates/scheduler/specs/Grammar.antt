@@ -1,28 +1,25 @@
 -- Which text spells which choices. (This project's profile.)
 use Rattle.std.specs.Prelude.{◌<◌, ◌≤◌, ◌^◌, ◌++◌, ℕ, List, [], ◌∷◌, length, codes, IsTrue}
+use Rattle.tso_model.specs.FlatMachine.{chosen}
 use Rattle.tso_model.specs.declared.choice.Choice.{Choice}
 use Rattle.tso_model.specs.declared.choice.Choice.TheVariants.{Step, Drain}
 use Rattle.scheduler.specs.Limits.{most_choices}
-use Rattle.scheduler.specs.Words.{words_of, is_numeral, decimal}
+use Rattle.decimals.specs.Decimals.{decimal_value}
+use Rattle.scheduler.specs.Words.{words_of, is_numeral}
 use Rattle.scheduler.specs.Seeds.{seeded_choices}
 
 -- a word of digits and `s`, or digits and `d`: a choice of the core that the digits say, be it there or not
 pub data IsChoiceWord : List ℕ → Choice → Type 0 where
-  step : (digits : List ℕ) → IsTrue (is_numeral digits) → IsChoiceWord (digits ++ codes "s") (Step (record { 0 = decimal digits }))
-  drain : (digits : List ℕ) → IsTrue (is_numeral digits) → IsChoiceWord (digits ++ codes "d") (Drain (record { 0 = decimal digits }))
-
--- the number of the core that a choice names
-abbrev pub core_of : Choice → ℕ
-core_of (Step core) = core.0
-core_of (Drain core) = core.0
+  step : (digits : List ℕ) → IsTrue (is_numeral digits) → IsChoiceWord (digits ++ codes "s") (Step (record { 0 = decimal_value digits }))
+  drain : (digits : List ℕ) → IsTrue (is_numeral digits) → IsChoiceWord (digits ++ codes "d") (Drain (record { 0 = decimal_value digits }))
 
 -- the words of one item, and its choices
 pub data IsItem (cores : ℕ) : List (List ℕ) → List Choice → Type 0 where
   -- one word for a choice of a core that is there
-  one : (word : List ℕ) (choice : Choice) → IsChoiceWord word choice → core_of choice < cores → IsItem cores (word ∷ []) (choice ∷ [])
+  one : (word : List ℕ) (choice : Choice) → IsChoiceWord word choice → chosen choice < cores → IsItem cores (word ∷ []) (choice ∷ [])
   -- the three words `seed N M` for the first M choices of the seed N
-  seeded : (seed count : List ℕ) → IsTrue (is_numeral seed) → decimal seed < 2 ^ 64 → IsTrue (is_numeral count)
-      → IsItem cores (codes "seed" ∷ seed ∷ count ∷ []) (seeded_choices cores (decimal seed) (decimal count))
+  seeded : (seed count : List ℕ) → IsTrue (is_numeral seed) → decimal_value seed < 2 ^ 64 → IsTrue (is_numeral count)
+      → IsItem cores (codes "seed" ∷ seed ∷ count ∷ []) (seeded_choices cores (decimal_value seed) (decimal_value count))
 
 -- words that are items one after the other, and the choices of these items
 pub data AreItems (cores : ℕ) : List (List ℕ) → List Choice → Type 0 where

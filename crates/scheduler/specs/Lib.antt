@@ -5,5 +5,7 @@ pub mod Coming
 pub mod Grammar
 pub mod Refusals
 pub mod Reading
+pub mod ItemsRead
+pub mod Reach
 pub mod Passed
 pub mod Printed

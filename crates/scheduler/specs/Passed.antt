@@ -1,5 +1,5 @@
 -- Counting the plain stores of a list, by their core and their place in its program.
-use Rattle.std.specs.Prelude.{ℕ, ◌≡◌, ◌<◌, ◌≤◌, ◌==◌, ◌&&◌, nat_lt, List, take, filter, length, sum, slice_index_or, All, []}
+use Rattle.std.specs.Prelude.{ℕ, ◌≡◌, ◌<◌, ◌≤◌, ◌==◌, ◌&&◌, nat_lt, List, take, filter, length, sum, slice_index_or, []}
 use Rattle.tso_model.specs.Limits.{most_instructions}
 use Rattle.tso_model.specs.ProgramOrder.{is_store}
 use Rattle.tso_model.specs.declared.execution.Entry.{Entry}
@@ -13,4 +13,5 @@ stores_below core place ys = length (filter (λ y. is_store y && ((y.core.0 == c
 pub record HaveCounted (cores : ℕ) (rows : List (List ℕ)) (ys : List Entry) : Type 0 where
   pub cores_are : length rows ≡ cores
   pub places_are : (core : ℕ) → core < cores → length (slice_index_or rows core []) ≡ most_instructions
-  pub below : (core place : ℕ) → core < cores → place ≤ most_instructions → sum (take place (slice_index_or rows core [])) ≡ stores_below core place ys
+  pub below : (core place : ℕ) → core < cores → place ≤ most_instructions
+      → sum (take place (slice_index_or rows core [])) ≡ stores_below core place ys

@@ -9,7 +9,7 @@ abbrev pub printed_choice : Choice → List ℕ
 printed_choice (Step core) = decimal core.0 ++ codes "s"
 printed_choice (Drain core) = decimal core.0 ++ codes "d"
 
--- choices behind others, each behind a space
+-- choices after others, each after a space
 abbrev pub printed_behind : List Choice → List ℕ
 printed_behind [] = []
 printed_behind (c ∷ cs) = 32 ∷ (printed_choice c ++ printed_behind cs)

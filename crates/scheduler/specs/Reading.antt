@@ -1,5 +1,6 @@
 -- How the reader goes about one item: `Grammar` and `Refusals` as functions of its words, with the room that is left.
-use Rattle.std.specs.Prelude.{◌-◌, ◌+◌, ℕ, List, [], ◌∷◌, length, take, codes, slice_index, Option, Some, None, Result, Ok, Err, nat_le, ◌==◌, if◌then◌else◌}
+use Rattle.std.specs.Prelude.{◌-◌, ◌+◌, ℕ, List, [], ◌∷◌, length, take, codes, slice_index}
+use Rattle.std.specs.Prelude.{Option, Some, None, Result, Ok, Err, nat_le, ◌==◌, if◌then◌else◌}
 use Rattle.std.specs.Str.{bytes_eq}
 use Rattle.tso_model.specs.declared.choice.Choice.{Choice}
 use Rattle.tso_model.specs.declared.choice.Choice.TheVariants as choice
@@ -9,7 +10,8 @@ use Rattle.scheduler.specs.declared.item.Action.{Action}
 use Rattle.scheduler.specs.declared.item.Action.TheVariants.{Step, Drain}
 use Rattle.scheduler.specs.declared.item.Item.{Item}
 use Rattle.scheduler.specs.declared.item.Item.TheVariants.{One, Seeded}
-use Rattle.scheduler.specs.Words.{is_numeral, decimal}
+use Rattle.decimals.specs.Decimals.{number_up_to}
+use Rattle.scheduler.specs.Words.{is_numeral}
 use Rattle.scheduler.specs.Seeds.{seeded_choices}
 
 -- the choices of an item
@@ -21,10 +23,6 @@ made_of cores (Seeded seed count) = seeded_choices cores seed count
 abbrev pub words_in : Item → ℕ
 words_in (One choice) = 1
 words_in (Seeded seed count) = 3
-
--- the number that digits say, if it is at most `most`
-unfoldable pub number_up_to : ℕ → List ℕ → Option ℕ
-number_up_to most digits = if nat_le (decimal digits) most then Some (decimal digits) else None
 
 -- ---- a step or a drain
 
@@ -62,12 +60,12 @@ seeded_from room number None count = Err (BadWord (number + 1))
 seeded_from room number (Some seed) count =
     if is_numeral count then seeded_at room number seed (number_up_to room count) else Err (BadWord (number + 2))
 
--- the item of `seed` and the words behind it
+-- the item of `seed` and the words after it
 unfoldable pub seeded_of : ℕ → ℕ → List (List ℕ) → Result Item ChoiceFault
 seeded_of room number [] = Err (BadWord number)
 seeded_of room number (seed ∷ []) = Err (BadWord number)
 seeded_of room number (seed ∷ count ∷ rest) = seeded_from room number (seed_of seed) count
 
--- the item of a word and the words behind it, where there is room for so many choices and the word has this number
+-- the item of a word and the words after it, where there is room for so many choices and the word has this number
 unfoldable pub item_of : ℕ → ℕ → ℕ → List ℕ → List (List ℕ) → Result Item ChoiceFault
 item_of cores room number word rest = if bytes_eq word (codes "seed") then seeded_of room number rest else one_of cores room number word

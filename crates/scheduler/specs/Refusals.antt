@@ -1,11 +1,13 @@
 -- Which refusal a text gets that spells no choices: that of its first item at fault. (This project's profile.)
 use Rattle.std.specs.Prelude.{◌≡◌, ◌≢◌, ◌⊎◌, ◌<◌, ◌≤◌, ◌^◌, ◌+◌, ◌++◌, ℕ, List, ◌∷◌, length, codes, IsTrue}
+use Rattle.tso_model.specs.FlatMachine.{chosen}
 use Rattle.tso_model.specs.declared.choice.Choice.{Choice}
 use Rattle.scheduler.specs.declared.fault.ChoiceFault.{ChoiceFault}
 use Rattle.scheduler.specs.declared.fault.ChoiceFault.TheVariants.{BadWord, NoSuchCore, TooMany}
-use Rattle.scheduler.specs.Words.{words_of, is_numeral, decimal}
+use Rattle.decimals.specs.Decimals.{decimal_value}
+use Rattle.scheduler.specs.Words.{words_of, is_numeral}
 use Rattle.scheduler.specs.Limits.{most_choices}
-use Rattle.scheduler.specs.Grammar.{IsChoiceWord, core_of, IsItem, AreItems, SpellsChoices}
+use Rattle.scheduler.specs.Grammar.{IsChoiceWord, IsItem, AreItems, SpellsChoices}
 
 -- the fault of the item at which words begin, where `before` choices stand before it and its first word has this number
 pub data IsFault (cores before number : ℕ) : List (List ℕ) → ChoiceFault → Type 0 where
@@ -15,19 +17,20 @@ pub data IsFault (cores before number : ℕ) : List (List ℕ) → ChoiceFault �
   -- the text ends before the two words of `seed`
   cut_seed : (rest : List (List ℕ)) → length rest < 2 → IsFault cores before number (codes "seed" ∷ rest) (BadWord number)
   -- else the seed isn't all digits, or is 2^64 or more
-  bad_seed : (seed count : List ℕ) (rest : List (List ℕ)) → ¬ (IsTrue (is_numeral seed) × (decimal seed < 2 ^ 64))
+  bad_seed : (seed count : List ℕ) (rest : List (List ℕ)) → ¬ (IsTrue (is_numeral seed) × (decimal_value seed < 2 ^ 64))
       → IsFault cores before number (codes "seed" ∷ seed ∷ count ∷ rest) (BadWord (number + 1))
   -- else the count isn't all digits
-  bad_count : (seed count : List ℕ) (rest : List (List ℕ)) → IsTrue (is_numeral seed) → decimal seed < 2 ^ 64 → ¬ (IsTrue (is_numeral count))
+  bad_count : (seed count : List ℕ) (rest : List (List ℕ))
+      → IsTrue (is_numeral seed) → decimal_value seed < 2 ^ 64 → ¬ (IsTrue (is_numeral count))
       → IsFault cores before number (codes "seed" ∷ seed ∷ count ∷ rest) (BadWord (number + 2))
   -- the word is a choice of a core that isn't there
-  no_core : (word : List ℕ) (choice : Choice) (rest : List (List ℕ)) → IsChoiceWord word choice → cores ≤ core_of choice
+  no_core : (word : List ℕ) (choice : Choice) (rest : List (List ℕ)) → IsChoiceWord word choice → cores ≤ chosen choice
       → IsFault cores before number (word ∷ rest) (NoSuchCore number)
   -- the item has none of these faults, and with its choices there are too many
   too_many : (words : List (List ℕ)) (choices : List Choice) (rest : List (List ℕ)) → IsItem cores words choices
       → most_choices < before + length choices → IsFault cores before number (words ++ rest) (TooMany number)
 
--- words get a refusal: they are items within the limit, and behind these one at fault; words are numbered from 1
+-- words get a refusal: they are items within the limit, and after these one at fault; words are numbered from 1
 pub record AreRefused (cores : ℕ) (words : List (List ℕ)) (fault : ChoiceFault) : Type 0 where
   pub front : List (List ℕ)
   pub back : List (List ℕ)

@@ -10,10 +10,10 @@ use Rattle.tso_model.specs.declared.choice.Choice.TheVariants.{Step, Drain}
 abbrev pub generator : ℕ → Lcg
 generator seed = pcg32_of_seed (pcg32_seed 16 seed)
 
--- the first words of a generator, which moves on by one step after each
-unfoldable pub first_words : ℕ → Lcg → List ℕ
-first_words zero g = []
-first_words (suc n) g = (pcg32 g).0 ∷ first_words n (pcg32 g).1
+-- the first words that are drawn from a generator, which moves on by one step after each
+unfoldable pub drawn_words : ℕ → Lcg → List ℕ
+drawn_words zero g = []
+drawn_words (suc n) g = (pcg32 g).0 ∷ drawn_words n (pcg32 g).1
 
 -- the choice of a word in a test with so many cores: modulo twice the cores it is twice the core, and 1 more for a drain
 abbrev pub choice_of_word : ℕ → ℕ → Choice
@@ -23,4 +23,4 @@ choice_of_word cores word =
 
 -- the first `count` choices of a seed in a test with so many cores
 abbrev pub seeded_choices : ℕ → ℕ → ℕ → List Choice
-seeded_choices cores seed count = map (choice_of_word cores) (first_words count (generator seed))
+seeded_choices cores seed count = map (choice_of_word cores) (drawn_words count (generator seed))

@@ -9,7 +9,7 @@ use tso_model::{Choice, Core, Entry, Kind, NoMemory, Test};
 /// The choices along an order: for each entry the steps of its core up to and over its instruction, as far as they aren't
 /// done yet, and for a plain store its drain; at the end the steps that are left, core by core.
 ///
-/// Fails only for want of memory.
+/// Errors: out of memory only.
 pub fn choices_along(alloc: Global, test: &Test, order: &[Entry]) -> Result<Vec<Choice>, NoMemory>
     requires { All (λ x. x.core.0 < length test.now.programs) order.now }
     ensures { IfOk result (λ v. v.items ≡ choices_along test.now order.now) }
@@ -36,7 +36,7 @@ fn beginnings(alloc: Global, test: &Test) -> Result<Vec<usize>, NoMemory>
 
 /// Appends what an entry needs where the cores stand at these places, and moves its core on.
 ///
-/// Fails only for want of memory; the choices may have grown then.
+/// Errors: out of memory only; the choices may have grown then.
 fn push_choices_for(
     choices: &mut Vec<Choice>,
     places: &mut Vec<usize>,
@@ -47,9 +47,9 @@ fn push_choices_for(
     ensures places { OnOk result (places.new.items ≡ places_after places.old.items entry.now) }
 {
     let place = &mut places[usize::from(entry.core.0)];
-    let behind = usize::from(entry.place) + 1;
-    push_steps(choices, entry.core, behind.saturating_sub(*place))?;
-    *place = behind.max(*place);
+    let after = usize::from(entry.place) + 1;
+    push_steps(choices, entry.core, after.saturating_sub(*place))?;
+    *place = after.max(*place);
     if entry.kind == Kind::W {
         choices.push(Choice::Drain(entry.core))?;
     }

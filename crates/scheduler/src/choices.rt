@@ -1,10 +1,9 @@
 //! The choices that a text spells.
 
-ghost use Rattle.std.specs.Prelude.{◌≡◌, ◌≢◌, ◌<◌, ℕ, List, IfOk, IfErr, MatchResult};
-ghost use Rattle.tso_model.specs.Runs.{CoresExist};
+ghost use Rattle.std.specs.Prelude.{◌≡◌, ◌≢◌, ◌<◌, List, IfOk, IfErr, MatchResult};
 ghost use Rattle.scheduler.specs.Limits.{most_choices};
 ghost use Rattle.scheduler.specs.Grammar.{WordsSpell, SpellsChoices};
-ghost use Rattle.scheduler.specs.Refusals.{AreRefused, IsRefused, IsDecided};
+ghost use Rattle.scheduler.specs.Refusals.{AreRefused, IsRefused};
 ghost use Rattle.scheduler.specs.Words.{words_of};
 ghost use Rattle.scheduler.specs.declared.fault.ChoiceFault.{ChoiceFault};
 ghost use Rattle.tso_model.specs.declared.choice.Choice.{Choice};
@@ -15,7 +14,7 @@ use crate::words::first_word;
 use std::alloc::Global;
 use tso_model::Choice;
 
-/// Choices of a text, at most.
+/// Maximum number of choices of a text.
 pub const MAX_CHOICES: usize = 100_000;
 
 /// The limit of choices is the number that the definitions have: a law, with nothing to run.
@@ -31,23 +30,23 @@ fn choices_of(alloc: Global, cores: u8, text: &[u8]) -> Result<Vec<Choice>, Choi
     let mut choices = Vec::new(alloc);
     let mut text = text;
     let mut words = 0;
-    while let Some((word, behind)) = first_word(text) {
+    while let Some((word, after)) = first_word(text) {
         let room = MAX_CHOICES - choices.len();
-        let read = read_item(cores, room, words + 1, word, behind)?;
+        let read = read_item(cores, room, words + 1, word, after)?;
         read.item.push_to(&mut choices, cores)?;
         words += read.item.words();
-        text = read.behind;
+        text = read.after;
     }
     Ok(choices)
 }
 
 /// The choices that a text spells in a test with so many cores (1 or more).
 ///
-/// Words are parted by spaces, tabs, carriage returns and line feeds, and numbered from 1. An item is digits and `s` (that
+/// Words are separated by spaces, tabs, carriage returns and line feeds, and numbered from 1. An item is digits and `s` (that
 /// core steps), digits and `d` (it drains), or the three words `seed N M` for the first M choices of the seed N. The
 /// first item at fault decides:
 ///
-/// - [`ChoiceFault::BadWord`]: the word has none of these forms; or it is `seed` with fewer than two words behind it, else
+/// - [`ChoiceFault::BadWord`]: the word has none of these forms; or it is `seed` with fewer than two words after it, else
 ///   an N that isn't all digits or is 2^64 or more, else an M that isn't all digits.
 /// - [`ChoiceFault::NoSuchCore`]: the word names a core that the test hasn't.
 /// - [`ChoiceFault::TooMany`]: with the choices of this item, which has none of these faults, there are more than
@@ -68,13 +67,3 @@ pub fn read_choices(alloc: Global, cores: u8, text: &[u8]) -> Result<Vec<Choice>
 {
     choices_of(alloc, cores, text)
 }
-
-/// Each text spells one list of choices or gets one refusal, and never both: a law of the definitions, with nothing to run.
-pub fn texts_are_decided()
-    ensures { (cores : ℕ) (text : List ℕ) → 0 < cores → IsDecided cores text }
-{}
-
-/// The choices that a text spells are of cores that are there: a law of the definitions, with nothing to run.
-pub fn spelled_cores_exist()
-    ensures { (cores : ℕ) (text : List ℕ) (choices : List Choice) → 0 < cores → SpellsChoices cores text choices → CoresExist cores choices }
-{}

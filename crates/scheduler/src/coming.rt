@@ -4,7 +4,7 @@ ghost use Rattle.std.specs.Prelude.{◌≡◌, ◌<◌, List, length, map};
 ghost use Rattle.tso_model.specs.Runs.{CoresExist};
 ghost use Rattle.tso_model.specs.declared.choice.Choice.{Choice};
 ghost use Rattle.scheduler.specs.Coming.{IsNext};
-ghost use Rattle.scheduler.specs.Seeds.{choice_of_word, first_words, seeded_choices};
+ghost use Rattle.scheduler.specs.Seeds.{choice_of_word, drawn_words, seeded_choices};
 
 use crate::seeds::choice_of_word;
 use rand_core::SeedableRng;
@@ -67,7 +67,7 @@ impl Seeded {
     /// The first `count` choices of a seed in a test with so many cores: `seed N M` in a choice text.
     pub fn new(cores: u8, seed: u64, count: usize) -> Self
         requires { 0 < cores }
-        ensures exact { map (choice_of_word result.cores) (first_words result.left result.generator) ≡ seeded_choices cores seed count }
+        ensures exact { map (choice_of_word result.cores) (drawn_words result.left result.generator) ≡ seeded_choices cores seed count }
         ensures cores { CoresExist cores (seeded_choices cores seed count) }
     {
         Seeded {
@@ -79,9 +79,9 @@ impl Seeded {
 }
 
 impl Choices for Seeded {
-    ghost coming = { λ s. map (choice_of_word s.cores) (first_words s.left s.generator) };
+    ghost coming = { λ s. map (choice_of_word s.cores) (drawn_words s.left s.generator) };
 
-    #[tactic(auto, unfolding(crate::specs::Seeds::first_words))]
+    #[tactic(auto, unfolding(crate::specs::Seeds::drawn_words))]
     fn next(&mut self) -> Option<Choice> {
         if self.left == 0 {
             return None;

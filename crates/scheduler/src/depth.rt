@@ -9,13 +9,13 @@ use std::alloc::Global;
 use tso_laws::needed_is_the_most_that_is_asked;
 use tso_model::{Entry, Kind, NoMemory};
 
-/// Places of a program, at most.
+/// Maximum number of places of a program.
 const PLACES: usize = tso_model::limits::MAX_INSTRUCTIONS;
 
 /// The depth that an order needs: the greatest number of plain stores that stand before one load in its program and
 /// after it in the order, and 1 where there is a plain store at all. The order is gone through once, from its end on.
 ///
-/// Fails only for want of memory.
+/// Errors: out of memory only.
 pub fn needed(alloc: Global, cores: u8, order: &[Entry]) -> Result<usize, NoMemory>
     requires cores { All (λ x. x.core.0 < cores) order.now }
     requires places { All (λ x. x.place < most_instructions) order.now }

@@ -1,13 +1,15 @@
 //! One item of a choice text.
 
-ghost use Rattle.std.specs.Prelude.{◌≡◌, ◌<◌, ◌≤◌, ◌+◌, ◌-◌, ◌^◌, ◌++◌, length, drop, Ok, Err, MatchResult, IfOk, OnOk};
+ghost use Rattle.std.specs.Prelude.{◌≡◌, ◌<◌, ◌≤◌, ◌+◌, ◌-◌, ◌^◌, ◌++◌, length, drop, IfOk, OnOk};
 ghost use Rattle.scheduler.specs.Words.{words_of};
 ghost use Rattle.scheduler.specs.Reading.{made_of, words_in, action_of, choice_by, one_of, seed_of, seeded_of, item_of};
+ghost use Rattle.scheduler.specs.ItemsRead.{IsItemRead};
 
 use crate::fault::ChoiceFault;
-use crate::numbers::{is_numeral, number_up_to};
+use crate::numbers::is_numeral;
 use crate::seeds::push_seeded;
 use crate::words::first_word;
+use decimals::number_up_to;
 use tso_model::{Choice, Core, NoMemory};
 
 /// What a core is to do.
@@ -57,7 +59,7 @@ impl Item {
         }
     }
 
-    /// Appends its choices. After a refusal the list may have some of them.
+    /// Appends its choices. Errors: out of memory only; the list may have some of them then.
     pub fn push_to(self, choices: &mut Vec<Choice>, cores: u8) -> Result<(), NoMemory>
         requires { 0 < cores }
         ensures { OnOk result (choices.new.items ≡ choices.old.items ++ made_of cores self) }
@@ -70,11 +72,11 @@ impl Item {
     }
 }
 
-/// An item that was read, and what stands behind its words.
+/// An item that was read, and what stands after its words.
 #[derive(Clone, Copy)]
 pub struct ItemRead<'a> {
     pub item: Item,
-    pub behind: &'a [u8],
+    pub after: &'a [u8],
 }
 
 /// Reads a word that is to be digits and the letter of a step or a drain, where `room` choices more are allowed.
@@ -114,18 +116,18 @@ fn seed_of(word: &[u8]) -> Option<u64>
     }
 }
 
-/// Reads the two words behind `seed`, whose own number is `number`, where `room` choices more are allowed.
+/// Reads the two words after `seed`, whose own number is `number`, where `room` choices more are allowed.
 #[tactic(auto, using(crate::proofs::Items::seed_words))]
 fn read_seeded(room: usize, number: usize, text: &[u8]) -> Result<ItemRead<'_>, ChoiceFault>
     requires { number + length text.now < 2 ^ 64 }
-    ensures item { MatchResult result (λ r. seeded_of room number (words_of text.now) ≡ Ok r.item) (λ fault. seeded_of room number (words_of text.now) ≡ Err fault) }
-    ensures behind { IfOk result (λ r. words_of r.behind.now ≡ drop (words_in r.item - 1) (words_of text.now)) }
-    ensures shorter { IfOk result (λ r. words_in r.item + length r.behind.now ≤ 1 + length text.now) }
+    ensures item { IsItemRead (seeded_of room number (words_of text.now)) result }
+    ensures after { IfOk result (λ r. words_of r.after.now ≡ drop (words_in r.item - 1) (words_of text.now)) }
+    ensures shorter { IfOk result (λ r. words_in r.item + length r.after.now ≤ 1 + length text.now) }
 {
     let Some((seed, text)) = first_word(text) else {
         return Err(ChoiceFault::BadWord(number));
     };
-    let Some((count, behind)) = first_word(text) else {
+    let Some((count, after)) = first_word(text) else {
         return Err(ChoiceFault::BadWord(number));
     };
     let Some(seed) = seed_of(seed) else {
@@ -138,10 +140,10 @@ fn read_seeded(room: usize, number: usize, text: &[u8]) -> Result<ItemRead<'_>, 
         return Err(ChoiceFault::TooMany(number));
     };
     let item = Item::Seeded(seed, count as usize);
-    Ok(ItemRead { item, behind })
+    Ok(ItemRead { item, after })
 }
 
-/// Reads the item that begins with a word, whose number is `number`, where `room` choices more are allowed. Behind the
+/// Reads the item that begins with a word, whose number is `number`, where `room` choices more are allowed. After the
 /// word stands this text.
 #[tactic(auto, unfolding(crate::specs::Reading::item_of))]
 pub fn read_item<'a>(
@@ -153,14 +155,14 @@ pub fn read_item<'a>(
 ) -> Result<ItemRead<'a>, ChoiceFault>
     requires there { 0 < cores }
     requires numbered { number + length text.now < 2 ^ 64 }
-    ensures item { MatchResult result (λ r. item_of cores room number word.now (words_of text.now) ≡ Ok r.item) (λ fault. item_of cores room number word.now (words_of text.now) ≡ Err fault) }
-    ensures behind { IfOk result (λ r. words_of r.behind.now ≡ drop (words_in r.item - 1) (words_of text.now)) }
-    ensures shorter { IfOk result (λ r. words_in r.item + length r.behind.now ≤ 1 + length text.now) }
+    ensures item { IsItemRead (item_of cores room number word.now (words_of text.now)) result }
+    ensures after { IfOk result (λ r. words_of r.after.now ≡ drop (words_in r.item - 1) (words_of text.now)) }
+    ensures shorter { IfOk result (λ r. words_in r.item + length r.after.now ≤ 1 + length text.now) }
 {
     if word == b"seed".as_slice() {
         read_seeded(room, number, text)
     } else {
         let item = read_one(cores, room, number, word)?;
-        Ok(ItemRead { item, behind: text })
+        Ok(ItemRead { item, after: text })
     }
 }

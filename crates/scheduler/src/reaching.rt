@@ -1,13 +1,12 @@
 //! The choices that reach an order.
 
-ghost use Rattle.std.specs.Prelude.{◌≡◌, ◌≢◌, ◌≤◌, ◌<◌, ℕ, List, IfOk, IfErr, MatchResult};
+ghost use Rattle.std.specs.Prelude.{◌≡◌, ◌≢◌, ◌≤◌, IfOk, IfErr, MatchResult};
 ghost use Rattle.tso_model.specs.Limits.{least_depth, most_depth};
 ghost use Rattle.tso_model.specs.Execution.{IsTsoExecution};
-ghost use Rattle.tso_model.specs.Runs.{run};
 ghost use Rattle.tso_laws.specs.Along.{choices_along, LeadTo};
 ghost use Rattle.tso_laws.specs.Depth.{needed};
 ghost use Rattle.tso_laws.specs.Counting.{most_stores};
-ghost use Rattle.tso_model.specs.declared.choice.Choice.{Choice};
+ghost use Rattle.scheduler.specs.Reach.{NamesDepth, IsOutOfReach};
 
 use crate::along::choices_along;
 use crate::depth::needed;
@@ -37,8 +36,10 @@ pub fn witness(
 
     ensures exact { IfOk result (λ v. v.items ≡ choices_along test.now execution.now.order.items) }
     ensures reaches { IfOk result (λ v. LeadTo test.now depth v.items execution.now.order.items) }
-    ensures depth { MatchResult result (λ _. needed execution.now.order.items ≤ depth) (λ fault. fault ≢ WitnessFault.NoMemory → (fault ≡ WitnessFault.Depth (needed execution.now.order.items)) × (depth < needed execution.now.order.items)) }
-    ensures no_smaller { IfErr result (λ fault. fault ≢ WitnessFault.NoMemory → (choices : List Choice) → (run test.now depth choices).commits ≢ execution.now.order.items) }
+    ensures depth { MatchResult result (λ _. needed execution.now.order.items ≤ depth)
+        (λ fault. fault ≢ WitnessFault.NoMemory → NamesDepth depth execution.now.order.items fault) }
+    ensures no_smaller { IfErr result (λ fault. fault ≢ WitnessFault.NoMemory
+        → IsOutOfReach test.now depth execution.now.order.items) }
     ensures enough { most_stores test.now.programs ≤ depth → IfErr result (λ fault. fault ≡ WitnessFault.NoMemory) }
 {
     every_execution_is_reached();

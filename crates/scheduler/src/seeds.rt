@@ -22,7 +22,7 @@ pub fn choice_of_word(cores: u8, word: u32) -> Choice
     }
 }
 
-/// Appends the first `count` choices of a seed. After a refusal the list has some of them.
+/// Appends the first `count` choices of a seed. Errors: out of memory only; the list has some of them then.
 pub fn push_seeded(
     choices: &mut Vec<Choice>,
     cores: u8,
@@ -42,6 +42,8 @@ pub fn push_seeded(
 /// The first `count` choices of a seed in a test with so many cores: `seed N M` in a choice text.
 ///
 /// They are made of the words of PCG XSH RR 64/32 (O'Neill), seeded by `rand_core`'s `seed_from_u64`.
+///
+/// Errors: out of memory only.
 pub fn seeded_choices(
     alloc: Global,
     cores: u8,

@@ -29,7 +29,7 @@ fn word_length(text: &[u8]) -> usize
     text.iter().take_while(|byte| !is_space(**byte)).count()
 }
 
-/// The first word of a text, and what stands behind it.
+/// The first word of a text, and what stands after it.
 #[tactic(auto, using(crate::proofs::FirstWord::no_words, crate::proofs::FirstWord::word_first, crate::proofs::FirstWord::word_shorter))]
 pub fn first_word(text: &[u8]) -> Option<(&[u8], &[u8])>
     ensures none { IfNone result (words_of text.now ≡ []) }

@@ -1,3 +1,4 @@
+pub mod Overwriting
 pub mod Numbers
 pub mod RowLemmas
 pub mod Coherence
@@ -31,5 +32,6 @@ pub mod AcquireAsked
 pub mod HolderLemmas
 pub mod BesideLemmas
 pub mod WholeAccess
+pub mod Emptied
 pub mod CallLemmas
 pub mod AskCalls

@@ -1,5 +1,6 @@
 -- A new bus, and what holds of a bus from one access to the next.
 use Rattle.std.proofs.Common.{arith, ◌≡◌, ◌⊎◌, inl, inr, ℕ, zero, suc, ◌+◌, ◌*◌, ◌/◌, ◌<◌, ◌≤◌, ◌%◌, nat_lt, true, Option, None, IfSome, Result, Ok, Err, IfOk, OnErr, List, [], ◌∷◌, length, map, replicate, slice_index, slice_index_or, refl, sym, ap, ◌∙◌}
+use Rattle.std.specs.Int.{div_ceil}
 use Rattle.std.proofs.lemmas.List.{length-map}
 use Rattle.std.proofs.lemmas.List.FromFn.{length-map-range_with_len, get_or-map-range_with_len, fill_by_all}
 use Rattle.std.proofs.lemmas.Nat.{div-add-mod', mod_below, mul-le}
@@ -32,7 +33,7 @@ length-replicate : {A : Type 0} (n : ℕ) (x : A) → length (replicate n x) ≡
 length-replicate zero x = refl
 length-replicate (suc n) x = ap suc (length-replicate n x)
 
-map-replicate : {A B : Type 0} (f : A → B) (n : ℕ) (x : A) → map f (replicate n x) ≡ replicate n (f x)
+pub map-replicate : {A B : Type 0} (f : A → B) (n : ℕ) (x : A) → map f (replicate n x) ≡ replicate n (f x)
 map-replicate f zero x = refl
 map-replicate f (suc n) x = ap (λ l. f x ∷ l) (map-replicate f n x)
 
@@ -91,8 +92,8 @@ lines_few lines words n some close few = elim (cases_lt 16 lines) [
 ]
 
 pub new-bus : (cores lines : ℕ) (shape : Geometry) (init : List ℕ) → 1 ≤ cores → cores ≤ most_bus_cores → 1 ≤ shape.words → shape.words ≤ most_words → length init ≤ 16 → length init ≤ lines * shape.words → lines * shape.words < length init + shape.words →
-    IsBus shape (length init) (empty_caches cores shape) (lines_of_words shape.words init lines) None
-new-bus cores lines shape init some few words small locations enough close = record {
+    lines ≡ div_ceil (length init) shape.words → IsBus shape (length init) (empty_caches cores shape) (lines_of_words shape.words init lines) None
+new-bus cores lines shape init some few words small locations enough close exact = record {
   coherent = all_coherent (empty_caches cores shape) memory (λ k. line_in memory k) (λ k b. new-line cores shape (line_in memory k) k) (λ k i b. empty_copy cores shape i k);
   lines = λ k b. seen_is (empty_caches cores shape) memory k (line_in memory k) (new-line cores shape (line_in memory k) k)
       ∙ get_or-map-range_with_len (line_of_words shape.words init) 0 lines k k [] (rw lines_are at b) (omega arith)
@@ -107,6 +108,7 @@ new-bus cores lines shape init some few words small locations enough close = rec
   some_word = words;
   few_lines = rw lines_are (lines_few lines shape.words (length init) words close locations);
   enough_lines = rw lines_are enough;
+  as_many_lines = lines_are ∙ exact;
 }
   where
     memory : List Words
@@ -136,6 +138,7 @@ bus-after shape locations c0 c2 m0 m2 h0 h2 h size coherent ways lines awaited p
   some_word = h.some_word;
   few_lines = rw size h.few_lines;
   enough_lines = rw size h.enough_lines;
+  as_many_lines = size ∙ h.as_many_lines;
 }
 
 -- a bus whose words stay

@@ -37,7 +37,7 @@ contents_of b = tags_of b.caches
 abbrev pub copies_of : Bus → ℕ → ℕ → Contents
 copies_of b core set = slice_index_or (cache_of b.caches core) set (contents [] 1)
 
--- the lines in memory, behind the caches, and memory's own word at each location
+-- the lines in memory, after the caches, and memory's own word at each location
 abbrev pub memory_of : Bus → List Words
 memory_of b = b.memory
 

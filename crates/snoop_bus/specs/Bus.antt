@@ -1,5 +1,6 @@
 -- What a contract sees of a bus: the caches of all cores and memory, and the words that a program sees.
 use Rattle.std.specs.Prelude.{◌≡◌, ◌*◌, ◌≤◌, ◌<◌, ℕ, List, [], ◌∷◌, length, replicate, Option, None, IfSome, unwrap_or, option_map}
+use Rattle.std.specs.Int.{div_ceil}
 use Rattle.std.specs.Option.{option_or}
 use Rattle.cache_set.specs.Contents.{contents}
 use Rattle.tso_model.specs.Limits.{most_locations}
@@ -71,6 +72,7 @@ pub record IsBus (shape : Geometry) (locations : ℕ) (caches : List Sets) (memo
   pub some_word : 1 ≤ shape.words
   pub few_lines : length memory ≤ most_locations
   pub enough_lines : locations ≤ length memory * shape.words
+  pub as_many_lines : length memory ≡ div_ceil locations shape.words
 
 -- how many cores there are
 abbrev pub cores_of : Bus → ℕ

@@ -1,3 +1,5 @@
+//! The caches of all cores on one bus, and the calls of it.
+
 ghost use Rattle.std.specs.Prelude.{◌≡◌, ◌≢◌, ◌⊎◌, ◌+◌, ◌%◌, ◌^◌, ◌<◌, ◌≤◌, true, false, IsTrue, Some, IfSome, IfOk, OnOk, OnErr, length, slice_get, slice_set};
 ghost use Rattle.tso_model.specs.Limits.{most_locations};
 ghost use Rattle.snoop_bus.specs.Limits.{most_bus_cores};
@@ -27,7 +29,7 @@ pub const MAX_CORES: u8 = 8;
 /// How many locations memory has, at most.
 pub const MAX_LOCATIONS: usize = tso_model::limits::MAX_LOCATIONS;
 
-/// The caches of all cores on one bus, and memory behind them. Where a line has so many words, location `l`
+/// The caches of all cores on one bus, and memory after them. Where a line has so many words, location `l`
 /// lies in line `l / words` at place `l % words`.
 ///
 /// Each access is whole when its call returns: first the copy of the core itself, if it has one; then,
@@ -40,11 +42,11 @@ pub const MAX_LOCATIONS: usize = tso_model::limits::MAX_LOCATIONS;
 #[derive(Drop)]
 pub struct SnoopBus<P: Protocol> {
     protocol: P,
-    shape: Shape,
+    pub(crate) shape: Shape,
     locations: usize,
-    caches: Vec<Cache>,
-    memory: Vec<[u32; MAX_WORDS]>,
-    held: Option<Held>,
+    pub(crate) caches: Vec<Cache>,
+    pub(crate) memory: Vec<[u32; MAX_WORDS]>,
+    pub(crate) held: Option<Held>,
 }
 
 impl<P: Protocol> Model for SnoopBus<P> {
@@ -62,7 +64,7 @@ impl<P: Protocol> SnoopBus<P> {
     /// A bus for so many cores, from 1 to `MAX_CORES`, with empty caches and these words in memory, at
     /// most `MAX_LOCATIONS`. Nobody holds it.
     ///
-    /// Fails only for want of memory.
+    /// Errors: out of memory only.
     pub fn new(
         alloc: Global,
         protocol: P,
@@ -96,7 +98,7 @@ impl<P: Protocol> SnoopBus<P> {
     /// The word at a location, and what the access was. No word that is seen changes, and
     /// who holds the bus stays: beside one who does, only a hit may be made.
     ///
-    /// Fails only for want of memory, which a hit doesn't take; nothing is changed then.
+    /// Errors: out of memory only, which a hit doesn't take; nothing is changed then.
     pub fn load(&mut self, core: Core, loc: Loc) -> Result<(u32, Access), NoMemory>
         requires core { core.0 < cores_of self.old }
         requires loc { loc.0 < length (words_of self.old) }
@@ -122,7 +124,7 @@ impl<P: Protocol> SnoopBus<P> {
 
     /// Writes the word at a location. Answers what the access was. No other word that is seen changes.
     ///
-    /// Fails only for want of memory, which a hit and an upgrade don't take; nothing is changed then.
+    /// Errors: out of memory only, which a hit and an upgrade don't take; nothing is changed then.
     pub fn store(&mut self, core: Core, loc: Loc, value: u32) -> Result<Access, NoMemory>
         requires core { core.0 < cores_of self.old }
         requires loc { loc.0 < length (words_of self.old) }
@@ -139,7 +141,7 @@ impl<P: Protocol> SnoopBus<P> {
 
     /// Writes the word at a location. Answers the word that was there, and what the one write access was.
     ///
-    /// Fails only for want of memory, which a hit and an upgrade don't take; nothing is changed then.
+    /// Errors: out of memory only, which a hit and an upgrade don't take; nothing is changed then.
     pub fn swap(&mut self, core: Core, loc: Loc, value: u32) -> Result<(u32, Access), NoMemory>
         requires core { core.0 < cores_of self.old }
         requires loc { loc.0 < length (words_of self.old) }
@@ -168,7 +170,7 @@ impl<P: Protocol> SnoopBus<P> {
     /// Adds to the word at a location, modulo 2^32. Answers the word that was there, and what the one
     /// write access was.
     ///
-    /// Fails only for want of memory, which a hit and an upgrade don't take; nothing is changed then.
+    /// Errors: out of memory only, which a hit and an upgrade don't take; nothing is changed then.
     pub fn add(&mut self, core: Core, loc: Loc, value: u32) -> Result<(u32, Access), NoMemory>
         requires core { core.0 < cores_of self.old }
         requires loc { loc.0 < length (words_of self.old) }
@@ -238,7 +240,7 @@ impl<P: Protocol> SnoopBus<P> {
     /// The second half of a load that asked: the line comes in, and nobody holds the bus. Answers the word,
     /// and what the access was. No word that is seen changes.
     ///
-    /// Fails only for want of memory; nothing is changed then, and the bus is still held.
+    /// Errors: out of memory only; nothing is changed then, and the bus is still held.
     pub fn complete_load(&mut self, core: Core, loc: Loc) -> Result<(u32, Access), NoMemory>
         requires holds { holder_of self.old ≡ Some (holder core loc Stage.Load) }
 
@@ -267,7 +269,7 @@ impl<P: Protocol> SnoopBus<P> {
     /// The second half of a store that asked: the word is written, and nobody holds the bus. Answers what
     /// the access was. No other word that is seen changes.
     ///
-    /// Fails only for want of memory, which only a miss takes; nothing is changed then, and the bus is still
+    /// Errors: out of memory only, which only a miss takes; nothing is changed then, and the bus is still
     /// held.
     pub fn complete_store(&mut self, core: Core, loc: Loc, value: u32) -> Result<Access, NoMemory>
         requires holds { holder_of self.old ≡ Some (holder core loc Stage.Write) }
@@ -298,7 +300,7 @@ impl<P: Protocol> SnoopBus<P> {
     /// bus, with nothing left to await. Answers the word, and what the one write access was. No word that is
     /// seen changes.
     ///
-    /// Fails only for want of memory, which only a miss takes; nothing is changed then.
+    /// Errors: out of memory only, which only a miss takes; nothing is changed then.
     pub fn complete_read(&mut self, core: Core, loc: Loc) -> Result<(u32, Access), NoMemory>
         requires holds { holder_of self.old ≡ Some (holder core loc Stage.Write) }
 

@@ -4,7 +4,7 @@ ghost use Rattle.std.specs.Prelude.{◌≡◌, ◌≢◌, ◌<◌, ℕ, [], Some
 ghost use Rattle.cache_set.specs.Limits.{most_words};
 ghost use Rattle.cache_set.specs.Contents.{contents, IsCacheSet, to_front, with_new, victim_of, with_changed, without, after_fill};
 ghost use Rattle.cache_set.specs.Copy.{copy_with, with_state, with_word};
-ghost use Rattle.snoop_bus.specs.Copies.{set_at, in_set, copy_in, AtHome};
+ghost use Rattle.snoop_bus.specs.Copies.{set_at, in_set, copy_in, emptied, AtHome};
 
 use crate::shape::Shape;
 use cache_set::{CacheSet, Line, MAX_WORDS, Victim};
@@ -87,7 +87,7 @@ impl Cache {
 
     /// A line that is not here comes in, and another may leave.
     ///
-    /// Fails only for want of memory; nothing is changed then.
+    /// Errors: out of memory only; nothing is changed then.
     pub fn fill(
         &mut self,
         line: u8,
@@ -144,5 +144,22 @@ impl Cache {
         let at = usize::from(line) % self.sets.len();
         let set = &mut self.sets[at];
         set.drop_line(line);
+    }
+
+    /// Every line leaves, so that the cache is as `new` left it.
+    pub fn clear(&mut self)
+        ensures { self.new ≡ map emptied self.old }
+    {
+        clear_sets(&mut self.sets);
+    }
+}
+
+/// Every line leaves these sets.
+fn clear_sets(sets: &mut [CacheSet])
+    ensures { sets.new ≡ map emptied sets.old }
+{
+    for at in 0..sets.len() {
+        let set = &mut sets[at];
+        set.clear();
     }
 }

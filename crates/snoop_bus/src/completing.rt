@@ -26,7 +26,7 @@ use tso_model::NoMemory;
 /// Fills a core's line with the copy that the bus keeps; another may leave. Answers whether that one was
 /// written to memory.
 ///
-/// Fails only for want of memory; nothing is changed then.
+/// Errors: out of memory only; nothing is changed then.
 pub fn fill_asked<P: Protocol>(
     caches: &mut [Cache],
     memory: &mut [[u32; MAX_WORDS]],
@@ -59,7 +59,7 @@ pub fn fill_asked<P: Protocol>(
 /// Completes a write access, but for the word that it writes: the core's copy is then in M, and no other
 /// core has one. Answers the words that the line has, and what the access was.
 ///
-/// Fails only for want of memory, which only a miss takes; nothing is changed then.
+/// Errors: out of memory only, which only a miss takes; nothing is changed then.
 pub fn acquire_asked<P: Protocol>(
     caches: &mut [Cache],
     memory: &mut [[u32; MAX_WORDS]],
@@ -122,7 +122,7 @@ pub fn acquire_asked<P: Protocol>(
 
 /// Completes a load that missed, of the word at a place of a line. Answers the word, and what the access was.
 ///
-/// Fails only for want of memory; nothing is changed then.
+/// Errors: out of memory only; nothing is changed then.
 pub fn complete_load<P: Protocol>(
     caches: &mut [Cache],
     memory: &mut [[u32; MAX_WORDS]],
@@ -161,7 +161,7 @@ pub fn complete_load<P: Protocol>(
 
 /// Completes a store at a place of a line. Answers what the access was.
 ///
-/// Fails only for want of memory, which only a miss takes; nothing is changed then.
+/// Errors: out of memory only, which only a miss takes; nothing is changed then.
 pub fn complete_store<P: Protocol>(
     caches: &mut [Cache],
     memory: &mut [[u32; MAX_WORDS]],
@@ -197,7 +197,7 @@ pub fn complete_store<P: Protocol>(
 /// Completes the read of a locked instruction at a place of a line. Answers the word, and what the access was; the core's copy
 /// is then in M.
 ///
-/// Fails only for want of memory, which only a miss takes; nothing is changed then.
+/// Errors: out of memory only, which only a miss takes; nothing is changed then.
 pub fn complete_read<P: Protocol>(
     caches: &mut [Cache],
     memory: &mut [[u32; MAX_WORDS]],

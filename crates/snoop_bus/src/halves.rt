@@ -1,3 +1,5 @@
+//! That a whole access is its two halves: a law.
+
 ghost use Rattle.std.specs.Prelude.{◌≡◌, ◌≢◌, ℕ, false, Some, List};
 ghost use Rattle.protocol_tables.specs.Laws.{WritesInPlace};
 ghost use Rattle.protocol_tables.specs.Tables.{Table};

@@ -1,3 +1,5 @@
+//! Who holds the bus, and how far the access is.
+
 use cache_set::Line;
 use protocol_tables::Transient;
 use tso_model::{Core, Loc};

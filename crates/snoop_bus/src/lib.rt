@@ -1,4 +1,4 @@
-//! The caches of all cores on one snooping bus, and memory behind them. An access is a hit, an upgrade or a
+//! The caches of all cores on one snooping bus, and memory after them. An access is a hit, an upgrade or a
 //! miss. It is whole when its call returns, or is made in two halves: an ask, and a completion; in between the
 //! core's action holds the bus, and the accesses of others go on where they hit.
 //!
@@ -17,6 +17,7 @@ pub mod halves;
 pub mod holding;
 mod lines;
 mod loading;
+mod restarting;
 mod settling;
 pub mod shape;
 mod snoop;

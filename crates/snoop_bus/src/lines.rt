@@ -1,3 +1,5 @@
+//! Memory as lines of words.
+
 ghost use Rattle.std.specs.Prelude.{◌≡◌, ◌≤◌, IfOk, length};
 ghost use Rattle.tso_model.specs.Limits.{most_locations};
 ghost use Rattle.std.specs.Int.{div_ceil};
@@ -25,6 +27,18 @@ pub fn lines_of(
         lines.push(line_at(words, size, line))?;
     }
     Ok(lines)
+}
+
+/// The lines of these words come in the place of so many lines.
+pub fn put_lines(lines: &mut [[u32; MAX_WORDS]], shape: Shape, words: &[u32])
+    requires { length lines.old ≤ most_locations }
+    ensures value { lines.new ≡ lines_of_words shape.words words.now (length lines.old) }
+    ensures size { (1 ≤ shape.words) × (shape.words ≤ most_words) }
+{
+    let size = usize::from(shape.words());
+    for line in 0..lines.len() {
+        lines[line] = line_at(words, size, line);
+    }
 }
 
 /// The line with this number of these words, where a line has so many; 0 stands past its words.

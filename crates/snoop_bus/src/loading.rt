@@ -1,3 +1,5 @@
+//! Loads.
+
 ghost use Rattle.std.specs.Prelude.{◌≡◌, ◌<◌, ◌≤◌, ◌⊎◌, None, IsSome, IfSome, IsOk, IfOk, OnErr, length};
 ghost use Rattle.cache_set.specs.Limits.{most_words};
 ghost use Rattle.snoop_bus.specs.Limits.{most_bus_cores};
@@ -17,7 +19,7 @@ use tso_model::NoMemory;
 
 /// A core's load of a word of a line: the word, and what the access was.
 ///
-/// Fails only for want of memory, which only a miss takes; nothing is changed then.
+/// Errors: out of memory only, which only a miss takes; nothing is changed then.
 pub fn load<P: Protocol>(
     caches: &mut [Cache],
     memory: &mut [[u32; MAX_WORDS]],

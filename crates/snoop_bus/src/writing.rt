@@ -1,3 +1,5 @@
+//! Stores and locked accesses: what writes a word of a line.
+
 ghost use Rattle.std.specs.Prelude.{◌≡◌, ◌≢◌, ◌⊎◌, ◌+◌, ◌%◌, ◌^◌, ◌<◌, ◌≤◌, true, IsTrue, None, IsSome, IfSome, IsOk, IfOk, OnErr, length, option_map};
 ghost use Rattle.cache_set.specs.Limits.{most_words};
 ghost use Rattle.snoop_bus.specs.Limits.{most_bus_cores};
@@ -20,7 +22,7 @@ use tso_model::NoMemory;
 
 /// A core's write of a word of a line. Answers the word that was there, and what the access was.
 ///
-/// Fails only for want of memory, which only a miss takes; nothing is changed then.
+/// Errors: out of memory only, which only a miss takes; nothing is changed then.
 pub fn swap<P: Protocol>(
     caches: &mut [Cache],
     memory: &mut [[u32; MAX_WORDS]],
@@ -55,7 +57,7 @@ pub fn swap<P: Protocol>(
 
 /// A core's addition to a word of a line, modulo 2^32. Answers the word that was there, and what the access was.
 ///
-/// Fails only for want of memory, which only a miss takes; nothing is changed then.
+/// Errors: out of memory only, which only a miss takes; nothing is changed then.
 pub fn add<P: Protocol>(
     caches: &mut [Cache],
     memory: &mut [[u32; MAX_WORDS]],
@@ -92,7 +94,7 @@ pub fn add<P: Protocol>(
 /// A core's write access to a line, but for the word that it writes: the core's copy is then in M, and
 /// no other core has one. Answers the words that the line has, and what the access was.
 ///
-/// Fails only for want of memory, which only a miss takes; nothing is changed then.
+/// Errors: out of memory only, which only a miss takes; nothing is changed then.
 fn acquire<P: Protocol>(
     caches: &mut [Cache],
     memory: &mut [[u32; MAX_WORDS]],

@@ -57,7 +57,7 @@ together-pair x y ys p = let k : same_kind x.kind LR ≡ true = rw p.load refl i
 
 -- ---- between the two parts
 
--- what is to come behind a holder
+-- what is to come after a holder
 pub record Behind (holder next : Holder) (ys : List Entry) : Type 0 where
   pub answered : (e : Entry) → holder ≡ HeldBetween e → IsAnswered e ys next
   pub paired : ArePaired ys next

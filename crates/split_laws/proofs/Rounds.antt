@@ -121,7 +121,7 @@ pub state-append : (bus : Bus) (t : Litmus) (d : ℕ) (state : BusState) (xs ys 
 state-append bus t d state [] ys = refl
 state-append bus t d state (x ∷ xs) ys = state-append bus t d (after_on bus t d state x) xs ys
 
--- choices with their answers, where the choices are two lists one behind the other
+-- choices with their answers, where the choices are two lists one after the other
 record Cut (xs : List Attempt) (us vs : List Choice) : Type 0 where
   front : List Attempt
   back : List Attempt

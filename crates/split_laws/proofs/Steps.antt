@@ -37,7 +37,7 @@ pub record IsPlain (core : ℕ) (what : Access) (e : Entry) : Type 0 where
   pub no_store_part : same_kind e.kind LW ≡ false
   pub place : is_write e ≡ true → what ≡ Writes e.loc
 
--- the step stalls, at the program's end or behind pending stores
+-- the step stalls, at the program's end or while stores are pending
 pub record Stalls (i : Option Instr) (what : Access) (s : CoreState) (f : Effect) : Type 0 where
   pub none : what ≡ NoAccess
   pub why : Stall

@@ -1,4 +1,4 @@
--- A run stops where it ends; behind the end nothing happens, and nobody holds the bus.
+-- A run stops where it ends; after the end nothing happens, and nobody holds the bus.
 use Rattle.std.proofs.Common.{◌≡◌, ◌<◌, ℕ, ◌+◌, zero, suc, List, [], ◌∷◌, ◌++◌, Bool, true, false, length, take, arith, ap, sym, ◌∙◌, refl, inl, inr, subst, if◌then◌else◌, append_assoc}
 use Rattle.std.proofs.lemmas.List.{append-nil}
 use Rattle.tso_model.specs.Litmus.{Litmus}

@@ -3,6 +3,7 @@ pub mod Holders
 pub mod Between
 pub mod BusSoFar
 pub mod BusRuns
+pub mod BusLaws
 pub mod WorkedSplitRuns
 pub use Rattle.tso_model.specs.Litmus
 pub use Rattle.tso_model.specs.Execution

@@ -3,14 +3,17 @@ use Rattle.std.specs.Prelude.{ℕ, true, false, List, [], ◌∷◌, ◌++◌, N
 use Rattle.tso_model.specs.FlatMachine.{step, drain}
 use Rattle.tso_model.specs.Litmus.{Litmus}
 use Rattle.tso_model.specs.Thread.{entry}
-use Rattle.tso_model.specs.Examples.{loc_x, loc_y, zeros}
+use Rattle.tso_model.specs.Examples.{loc_x, loc_y, zeros, n6}
 use Rattle.tso_model.specs.SplitMachine.{Attempt}
+use Rattle.tso_model.specs.EitherBus.{BusState, BusRun, run_on}
+use Rattle.tso_model.specs.declared.bus.Bus.TheVariants.{Split}
 use Rattle.tso_model.specs.declared.register.Reg.TheVariants.{Eax, Ebx}
 use Rattle.tso_model.specs.declared.instruction.Instr.{Instr}
 use Rattle.tso_model.specs.declared.instruction.Instr.TheVariants.{StoreImm, Load, Xchg, Xadd}
 use Rattle.tso_model.specs.declared.execution.Entry.{Entry}
 use Rattle.tso_model.specs.declared.execution.Kind.TheVariants.{R, W, LR, LW}
 use Rattle.tso_model.specs.declared.choice.Choice.{Choice}
+use Rattle.split_laws.specs.BusRuns.{left_by}
 
 -- a choice whose access misses, and one whose access hits
 abbrev pub missing : Choice → Attempt
@@ -64,6 +67,9 @@ abbrev pub load_between : List Attempt
 load_between =
     missing (step 1) ∷ (missing (step 1) ∷ (missing (step 0) ∷ (missing (step 0) ∷ (hitting (step 1) ∷ (missing (step 0) ∷ [])))))
 
+abbrev pub load_between_run : BusRun
+load_between_run = run_on Split added_and_loaded_elsewhere 4 load_between
+
 abbrev pub load_between_commits : List Entry
 load_between_commits =
     entry 1 0 R loc_y 0 ∷ (entry 0 0 LR loc_x 0 ∷ (entry 1 1 R loc_y 0 ∷ (entry 0 0 LW loc_x 1 ∷ [])))
@@ -89,6 +95,9 @@ load_forwards = missing (step 1) ∷ (missing (drain 1) ∷ (missing (step 0) �
 -- in n6, 1s 1d: the second core's drain holds the bus
 abbrev pub drain_holds : List Attempt
 drain_holds = missing (step 1) ∷ (missing (drain 1) ∷ [])
+
+abbrev pub drain_holding : BusState
+drain_holding = left_by (run_on Split n6 4 drain_holds)
 
 -- one core with these registers and this program
 abbrev pub alone : List ℕ → List Instr → Litmus

@@ -79,6 +79,13 @@ impl StoreBuffer {
         self.ring.pop_front()
     }
 
+    /// Lets every pending store go, so that the buffer is as `new` left it, with its room.
+    pub fn clear(&mut self)
+        ensures { self.new ≡ stores [] self.old.depth }
+    {
+        self.ring.clear();
+    }
+
     /// The value of the newest store to the location, if any is pending: what a load of the buffer's
     /// own core sees.
     pub fn newest_for(&self, loc: Loc) -> Option<u32>

@@ -5,7 +5,7 @@
 #![tactic(auto)]
 
 ghost use Rattle.std.specs.Prelude.{◌≡◌, IfOk};
-ghost use Rattle.tso_cli.specs.Limits.{HasDepth};
+ghost use Rattle.command_line.specs.Limits.{HasDepth};
 
 mod kept;
 

@@ -17,7 +17,8 @@ use Rattle.machine_core.specs.Configuration.{Configuration, IsWithinLimits}
 use Rattle.tso_report.specs.Report.{report}
 use Rattle.tso_report.specs.Shown.{Shown}
 use Rattle.tso_cli.specs.Answers.{counts_under, run_text, IsRunAnswer, IsAnswerTo, IsInputAnswer, IsAnswer, too_large, refused, answered, ran}
-use Rattle.tso_cli.specs.Limits.{IsTaskWithinLimits, IsWithinLimits as IsSettingsWithinLimits}
+use Rattle.tso_cli.specs.Limits.{IsTaskWithinLimits}
+use Rattle.command_line.specs.Limits.{IsWithinLimits as IsSettingsWithinLimits}
 use Rattle.tso_cli.specs.Parts.{parts_of}
 use Rattle.tso_cli.specs.Headline.{PrintsExecution, PrintsEachRun, HeadlineOf, InputHeadline, Headline}
 use Rattle.tso_cli.specs.Runs.{run_by, run_under, AnswersFitBy, AnswersFit}
@@ -25,8 +26,8 @@ use Rattle.tso_cli.specs.RunTexts.{report_in}
 use Rattle.tso_cli.specs.Simulation.{shown_of}
 use Rattle.tso_cli.specs.declared.task.Task.{Task}
 use Rattle.tso_cli.specs.declared.task.Task.TheVariants as tasks
-use Rattle.tso_cli.specs.declared.settings.Settings.{Settings}
-use Rattle.tso_cli.specs.declared.settings.Settings.TheVariants as settings
+use Rattle.command_line.specs.declared.settings.Settings.{Settings}
+use Rattle.command_line.specs.declared.settings.Settings.TheVariants as settings
 use Rattle.tso_cli.specs.declared.answer.Status.{Status}
 use Rattle.tso_cli.proofs.CheckLemmas.{check-means, run-spells}
 use Rattle.tso_cli.proofs.OneAnswer.{Texts, short_rest}

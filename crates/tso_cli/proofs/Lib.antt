@@ -14,6 +14,7 @@ pub mod HeadlineLemmas
 pub mod CheckLemmas
 pub mod CommandLemmas
 pub mod SimulationLemmas
+pub mod SweptRuns
 pub mod Joined
 pub mod Rechecked
 pub mod Replayed

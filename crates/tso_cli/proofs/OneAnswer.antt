@@ -17,8 +17,8 @@ use Rattle.tso_cli.specs.Answers.{counts_under, run_text, run_status, IsRunAnswe
 use Rattle.tso_cli.specs.Witness.{IsWitness, IsWitnessAnswer, reached, too_small, invalid, refused, judged}
 use Rattle.tso_cli.specs.declared.task.Task.{Task}
 use Rattle.tso_cli.specs.declared.task.Task.TheVariants as tasks
-use Rattle.tso_cli.specs.declared.settings.Settings.{Settings}
-use Rattle.tso_cli.specs.declared.settings.Settings.TheVariants as settings
+use Rattle.command_line.specs.declared.settings.Settings.{Settings}
+use Rattle.command_line.specs.declared.settings.Settings.TheVariants as settings
 use Rattle.tso_cli.specs.declared.answer.Status.{Status}
 use Rattle.tso_cli.proofs.CheckLemmas.{IsReal, IsOne, IsOnce, IsNeverBoth}
 use Rattle.tso_cli.proofs.PartLemmas.{rest_within}

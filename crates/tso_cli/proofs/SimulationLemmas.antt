@@ -43,7 +43,7 @@ pub record RunLaws : Type 0 where
 abbrev pub IsDriven : Table → Configuration → Litmus → Running → Running → List Choice → ℕ → ℕ → Type 0
 IsDriven table config t old m choices used stalled = (old ≡ new_machine table config t) × Drives old m choices used stalled
 
-from-new : (table : Table) (config : Configuration) (t : Litmus) (old m : Running) (choices : List Choice) (used stalled : ℕ) → IsDriven table config t old m choices used stalled
+pub from-new : (table : Table) (config : Configuration) (t : Litmus) (old m : Running) (choices : List Choice) (used stalled : ℕ) → IsDriven table config t old m choices used stalled
     → Drives (new_machine table config t) m choices used stalled
 from-new table config t old m choices used stalled driven = subst (λ (o : Running). Drives o m choices used stalled) driven.0 driven.1
 

@@ -15,13 +15,11 @@ use Rattle.tso_model.specs.declared.execution.Entry.{Entry}
 use Rattle.tso_laws.specs.EndedRuns.{IsExecution}
 use Rattle.protocol_tables.specs.declared.kind.ProtocolKind.{ProtocolKind}
 use Rattle.machine_core.specs.Configuration.{Configuration}
-use Rattle.machine_core.specs.declared.counts.Counts.{Counts}
-use Rattle.tso_report.specs.Shown.{Shown}
 use Rattle.tso_report.specs.Report.{head}
-use Rattle.tso_report.specs.Tally.{RunCounts, with_run, with_state, with_verdict, values_in, count_of, runs_in, tally_text}
-use Rattle.tso_cli.specs.Plan.{Plan}
+use Rattle.tso_report.specs.Tally.{RunCounts, with_state, with_verdict, values_in, count_of, runs_in, tally_text}
+use Rattle.command_line.specs.Plan.{Plan}
 use Rattle.tso_cli.specs.Runs.{run_under, AnswersFit}
-use Rattle.tso_cli.specs.Simulation.{registers_in, verdict, shown_of}
+use Rattle.tso_cli.specs.Simulation.{registers_in, verdict}
 use Rattle.tso_cli.specs.Sweep.{choices_of, seeded_run, with_one_run, counts_from, sweep_counts, sweep_lines, AnswersFitFrom, IsSweepAnswer}
 use Rattle.tso_cli.specs.Headline.{has_values, has_truth, seeds_from, PrintsSweep}
 use Rattle.tso_cli.specs.declared.answer.Status.{Status}
@@ -73,7 +71,7 @@ states-with t r c v law = by_end r.ended law
         ∙ ap (λ (w : List ℕ). count_of v c.states + one (bytes_eq v w)) (ap (λ (g : List (List ℕ)). values_in t g r.state.memory) e.registers ∙ ap (λ (m : List ℕ). values_in t (final_registers t r.commits) m) e.memory)
     by_end false law = omega arith
 
-ascend-run : (t : Litmus) (r : Run) (c : RunCounts) → Ascend c.states → Ascend (with_one_run t r c).states
+pub ascend-run : (t : Litmus) (r : Run) (c : RunCounts) → Ascend c.states → Ascend (with_one_run t r c).states
 ascend-run t r c s = by_end r.ended
   where
     by_end : (b : Bool) → Ascend (cond b (with_verdict (verdict t (registers_in r.state) r.state.memory) (with_state (values-left t r) c)) (record c { unfinished = c.unfinished + 1 })).states
@@ -87,7 +85,7 @@ given-run t r c s = by_end r.ended
     by_end true = subst EachGiven (sym (states-judged (verdict t (registers_in r.state) r.state.memory) (with_state (values-left t r) c))) (given-with (values-left t r) c.states s)
     by_end false = s
 
-runs-with : (t : Litmus) (r : Run) (c : RunCounts) → Ascend c.states → runs_in (with_one_run t r c) ≡ runs_in c + 1
+pub runs-with : (t : Litmus) (r : Run) (c : RunCounts) → Ascend c.states → runs_in (with_one_run t r c) ≡ runs_in c + 1
 runs-with t r c s = by_end r.ended
   where
     by_end : (b : Bool) → runs_in (cond b (with_verdict (verdict t (registers_in r.state) r.state.memory) (with_state (values-left t r) c)) (record c { unfinished = c.unfinished + 1 })) ≡ runs_in c + 1
@@ -139,10 +137,6 @@ failed-with t r c k is law = by_end r.ended law
         ap (λ (o : Option Condition). (with_verdict (option_map (λ (k : Condition). truth-left k r) o) (with_state (values-left t r) c)).failed) is
         ∙ failed-judged (truth-left k r) (with_state (values-left t r) c) ∙ ap (λ (b : Bool). c.failed + one (not b)) (same-truth t k r (law refl))
     by_end false law = omega arith
-
--- what is counted of a run that ended is what its report shows
-pub counted-ended : (t : Litmus) (r : Run) (s : Shown) (cs : List Counts) (c : RunCounts) → r.ended ≡ true → s ≡ shown_of t cs r → with_run t s c ≡ with_one_run t r c
-counted-ended t r s cs c ended is = rw ended (ap (λ (s : Shown). with_run t s c) is)
 
 -- the text that is put together is that of the sweep
 pub lines-of : (t u : Litmus) (kind : ProtocolKind) (c : Configuration) (plan : Plan) (counts : RunCounts) (out first told : List ℕ) (from count : ℕ)

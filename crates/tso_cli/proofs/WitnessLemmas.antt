@@ -19,7 +19,7 @@ use Rattle.scheduler.specs.Limits.{most_choices}
 use Rattle.scheduler.specs.Printed.{printed_choices}
 use Rattle.scheduler.specs.Words.{is_space}
 use Rattle.tso_cli.specs.Headline.{WitnessesOrder, WitnessesEachOrder, reached, unreached, broken}
-use Rattle.tso_cli.specs.Limits.{IsDepth}
+use Rattle.command_line.specs.Limits.{IsDepth}
 use Rattle.tso_cli.specs.Simulation.{IsEndingOf, drains}
 use Rattle.tso_cli.specs.Witness.{choices_line, IsWitness, IsWitnessAnswer, HasEndedWith, reached, too_small, invalid, refused, judged}
 use Rattle.tso_cli.specs.declared.simulation.Ending.{Ending}

@@ -11,7 +11,7 @@ use Rattle.axiom_checker.specs.declared.breach.Breach.{Breach}
 use Rattle.axiom_checker.specs.declared.breach.Breach.TheVariants.{Extra, Twice, Missing, WrongValue, ProgramOrder, NotAdjacent, ReadValue, NoMemory}
 use Rattle.tso_report.specs.Report.{line}
 
--- why an order is refused; want of memory is no refusal and has no line
+-- why an order is refused; being out of memory is no refusal and has no line
 abbrev pub order_refusal : OrderFault → List ℕ
 order_refusal orders.NoOrder = line (codes "Refused order NoOrder")
 order_refusal (orders.BadLine number) = codes "Refused order line " ++ (decimal number ++ line (codes " BadLine"))

@@ -30,14 +30,14 @@ use Rattle.tso_cli.specs.Parts.{Parts, parts_of}
 use Rattle.tso_cli.specs.Lines.{input_refusal, test_refusal, depth_line}
 use Rattle.tso_cli.specs.CheckLines.{order_refusal, valid_line, invalid_line}
 use Rattle.tso_cli.specs.RunTexts.{report_in}
-use Rattle.tso_cli.specs.Plan.{Plan}
+use Rattle.command_line.specs.Plan.{Plan}
 use Rattle.tso_cli.specs.Runs.{run_under}
 use Rattle.tso_cli.specs.Simulation.{verdict}
 use Rattle.tso_cli.specs.Sweep.{seeded_run, sweep_lines}
 use Rattle.tso_cli.specs.declared.task.Task.{Task}
 use Rattle.tso_cli.specs.declared.task.Task.TheVariants as tasks
-use Rattle.tso_cli.specs.declared.settings.Settings.{Settings}
-use Rattle.tso_cli.specs.declared.settings.Settings.TheVariants as settings
+use Rattle.command_line.specs.declared.settings.Settings.{Settings}
+use Rattle.command_line.specs.declared.settings.Settings.TheVariants as settings
 
 -- what was printed is the report of a run of the test, plain or as JSON: its order holds each memory action of the
 -- programs exactly once and meets every TSO axiom, and at depth 0, where no core has a store buffer, it keeps program

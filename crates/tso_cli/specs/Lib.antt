@@ -1,6 +1,5 @@
 pub mod Streams
 pub mod Parts
-pub mod Plan
 pub mod Limits
 pub mod Runs
 pub mod Simulation

@@ -15,7 +15,7 @@ input_refusal = line (codes "Refused input TooLarge")
 abbrev pub test_refusal : TextFault → List ℕ
 test_refusal f = codes "Refused test line " ++ (decimal f.line ++ (codes " " ++ line (name_of f.why)))
 
--- `Refused choices word K NAME`; want of memory is no refusal and has no line
+-- `Refused choices word K NAME`; being out of memory is no refusal and has no line
 abbrev pub choices_refusal : ChoiceFault → List ℕ
 choices_refusal (choices.BadWord word) = codes "Refused choices word " ++ (decimal word ++ line (codes " BadWord"))
 choices_refusal (choices.NoSuchCore word) = codes "Refused choices word " ++ (decimal word ++ line (codes " NoSuchCore"))

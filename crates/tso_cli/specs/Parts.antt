@@ -1,18 +1,18 @@
--- The two parts of an input: before and behind the first line that is `====`. (This project's profile.)
+-- The two parts of an input: before and after the first line that is `====`. (This project's profile.)
 use Rattle.std.specs.Prelude.{ℕ, suc, ◌≡◌, ◌==◌, Bool, true, if◌then◌else◌, List, [], ◌∷◌, ◌++◌, drop, Option, Some, None, nat_eq, codes}
 use Rattle.std.specs.List.{starts_with}
 
--- what is behind a line feed
+-- what is after a line feed
 abbrev pub behind_feed : List ℕ → Option (List ℕ)
 behind_feed [] = Some []
 behind_feed (c ∷ cs) = if c == 10 then Some cs else None
 
--- what is behind the end of a line; the end of the text is one too, and a carriage return before it is dropped
+-- what is after the end of a line; the end of the text is one too, and a carriage return before it is dropped
 abbrev pub behind_end : List ℕ → Option (List ℕ)
 behind_end [] = Some []
 behind_end (c ∷ cs) = if c == 13 then behind_feed cs else behind_feed (c ∷ cs)
 
--- what is behind the line `====`, where the text begins with it
+-- what is after the line `====`, where the text begins with it
 abbrev pub behind_divider : List ℕ → Option (List ℕ)
 behind_divider text = if starts_with nat_eq text (codes "====") then behind_end (drop 4 text) else None
 

@@ -13,6 +13,7 @@ use Rattle.protocol_tables.specs.Tables.{Table, table_of}
 use Rattle.protocol_tables.specs.declared.kind.ProtocolKind.{ProtocolKind}
 use Rattle.machine_core.specs.Answered.{answered}
 use Rattle.machine_core.specs.Configuration.{Configuration}
+use Rattle.machine_core.specs.Running.{Running, table_in, configuration_of}
 
 -- on the atomic bus, the flat machine's run: neither the protocol nor the caches have a part in it. On the split bus, the
 -- split machine's run with the caches' answers whether an access hits, each locked instruction's load part put directly
@@ -31,3 +32,10 @@ AnswersFitBy table c t choices = HitsFit c.bus t c.depth (unheld (start t)) (ans
 
 abbrev pub AnswersFit : Litmus → ProtocolKind → Configuration → List Choice → Type 0
 AnswersFit t kind c choices = AnswersFitBy (table_of kind) c t choices
+
+-- the same of a machine at the beginning of its test
+abbrev pub run_on_machine : Running → List Choice → Run
+run_on_machine m choices = run_by m.bus (table_in m) (configuration_of m) m.test choices
+
+abbrev pub AnswersFitOn : Running → List Choice → Type 0
+AnswersFitOn m choices = AnswersFitBy (table_in m) (configuration_of m) m.test choices

@@ -8,7 +8,7 @@ use Rattle.protocol_tables.specs.declared.kind.ProtocolKind.{ProtocolKind}
 use Rattle.machine_core.specs.Configuration.{Configuration}
 use Rattle.tso_report.specs.Report.{head}
 use Rattle.tso_report.specs.Tally.{RunCounts, nothing_counted, with_state, with_verdict, with_unfinished, values_in, tally_text}
-use Rattle.tso_cli.specs.Plan.{Plan}
+use Rattle.command_line.specs.Plan.{Plan}
 use Rattle.tso_cli.specs.Runs.{run_under, AnswersFit}
 use Rattle.tso_cli.specs.Simulation.{registers_in, verdict}
 use Rattle.tso_cli.specs.declared.answer.Status.{Status}

@@ -1,3 +1,5 @@
+//! The answer to an input: its size first, then the test, then the second part.
+
 ghost use Rattle.std.specs.Prelude.{◌≡◌, ◌≢◌, IfOk, OnOk, string_bytes};
 ghost use Rattle.tso_cli.specs.Answers.{IsTableAnswer, IsAnswerTo, IsInputAnswer};
 ghost use Rattle.tso_cli.specs.Headline.{InputHeadline};
@@ -68,7 +70,7 @@ fn refused_input(alloc: Global) -> Result<Answer, NoMemory>
 /// The answer to an input: its size is judged first, then the test that is its first part, then the
 /// second part. The depth of a witness is 1 to 32.
 ///
-/// Fails only for want of memory.
+/// Errors: out of memory only.
 pub fn answer_to(alloc: Global, task: &Task, input: &[u8]) -> Result<Answer, NoMemory>
     requires { HasTaskDepth task.now }
     ensures exact { IfOk result (λ a. IsInputAnswer task.now input.now (string_bytes a.text) a.status) }
@@ -132,7 +134,7 @@ fn answer_of(alloc: Global, task: &Task, test: &Test, text: &[u8]) -> Result<Ans
 
 /// The answer of `tables`.
 ///
-/// Fails only for want of memory.
+/// Errors: out of memory only.
 pub fn table_answer(alloc: Global, kind: ProtocolKind) -> Result<Answer, NoMemory>
     ensures { IfOk result (λ a. IsTableAnswer kind (string_bytes a.text) a.status) }
 {

@@ -1,3 +1,5 @@
+//! The answer of `check`, and the text of a breach.
+
 ghost use Rattle.std.specs.Prelude.{◌≡◌, ◌≢◌, ◌++◌, IfOk, OnOk, string_bytes, codes};
 ghost use Rattle.std.specs.Fmt.{decimal};
 ghost use Rattle.order_builder.specs.PrintedOrder.{printed_entry, HasLocation, IsLocationFor};
@@ -15,7 +17,7 @@ use tso_model::{Core, Entry, Execution, Kind, Loc, NoMemory, Test};
 
 /// The answer of `check` to a test and the text of an order.
 ///
-/// Fails only for want of memory.
+/// Errors: out of memory only.
 pub fn check_answer(alloc: Global, test: &Test, text: &[u8]) -> Result<Answer, NoMemory>
     ensures { IfOk result (λ a. IsCheckAnswer test.now text.now (string_bytes a.text) a.status) }
 {

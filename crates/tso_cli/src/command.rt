@@ -1,16 +1,19 @@
+//! A command from its streams' bytes to its status.
+
 ghost use Rattle.std.specs.Prelude.{◌≡◌, ◌+◌, ◌-◌, ◌^◌, ◌<◌, ◌≤◌, ◌↔◌, ◌⊎◌, IfOk, IfSome, Err, MatchResult, string_bytes};
 ghost use Rattle.std.specs.Io.KnownBytes.{Keeps};
 ghost use Rattle.tso_cli.specs.Streams.{Writes, WritesBeginning, ConsumesAtMost};
 ghost use Rattle.tso_cli.specs.Answers.{IsAnswer, IsInputAnswer, most_read};
 ghost use Rattle.tso_cli.specs.Headline.{Headline, InputHeadline};
-ghost use Rattle.tso_cli.specs.Limits.{longest_input, HasDepth, HasTaskDepth};
+ghost use Rattle.tso_cli.specs.Limits.{longest_input, HasTaskDepth};
+ghost use Rattle.command_line.specs.Limits.{HasDepth};
 ghost use Rattle.tso_cli.specs.declared.answer.Status.{Status};
 
 use crate::answer::{Answer, Status, answer_to, table_answer};
 use crate::counted::Counted;
-use crate::settings::Settings;
 use crate::streams::{RunFault, read_input, write_output};
 use crate::task::Task;
+use command_line::Settings;
 use std::alloc::Global;
 use std::io::{Read, Write};
 

@@ -1,3 +1,5 @@
+//! Streams that count which of their calls failed.
+
 ghost use Rattle.std.specs.Prelude.{◌≡◌, ℕ, ◌+◌, ◌-◌, ◌^◌, ◌<◌, ◌≤◌, min, length, is_ok, if◌then◌else◌, take, MatchResult, ◌==◌, ◌&&◌, nat_lt};
 ghost use Rattle.std.specs.Io.KnownBytes.{ReadConsumes, WriteAppends, Keeps};
 ghost use Rattle.std.specs.Io.{ReadsAtMost, WritesAtMost};

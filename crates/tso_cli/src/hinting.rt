@@ -6,8 +6,8 @@ ghost use Rattle.tso_cli.specs.Hints.{IsTold};
 
 use crate::answer::Status;
 use crate::parts::parts_of;
-use crate::settings::Settings;
 use crate::streams::MAX_INPUT;
+use command_line::Settings;
 use hints::{Asked, general_hint, refusal_hint, size_hint, unended_hint};
 use std::alloc::Global;
 use tso_model::NoMemory;
@@ -16,7 +16,7 @@ use tso_model::NoMemory;
 /// end, and what to do. The empty text where nothing is to be said. `input` is all that was read, and
 /// `status` is what `run_command` answered to it under these settings.
 ///
-/// Fails only for want of memory.
+/// Errors: out of memory only.
 pub fn hint(
     alloc: Global,
     settings: &Settings,
@@ -32,7 +32,7 @@ pub fn hint(
     }
 }
 
-/// What stands behind the dividing line of the input, or whose choices are made; `tables` reads nothing.
+/// What stands after the dividing line of the input, or whose choices are made; `tables` reads nothing.
 fn asked(settings: &Settings) -> Option<Asked> {
     match settings {
         Settings::Run { config, .. } => Some(Asked::Choices {

@@ -18,7 +18,8 @@ ghost use Rattle.machine_core.specs.Configuration.{Configuration};
 ghost use Rattle.tso_cli.specs.Answers.{IsCheckAnswer, IsInputAnswer, IsAnswer};
 ghost use Rattle.tso_cli.specs.CheckLines.{valid_line};
 ghost use Rattle.tso_cli.specs.Headline.{PrintsExecution, InputHeadline, Headline};
-ghost use Rattle.tso_cli.specs.Limits.{IsTaskWithinLimits, IsWithinLimits};
+ghost use Rattle.tso_cli.specs.Limits.{IsTaskWithinLimits};
+ghost use Rattle.command_line.specs.Limits.{IsWithinLimits};
 ghost use Rattle.tso_cli.specs.Parts.{parts_of, joined, HasNoDivider, EndsInFeed};
 ghost use Rattle.tso_cli.specs.Runs.{run_by, AnswersFitBy};
 ghost use Rattle.tso_cli.specs.Simulation.{IsEndingOf};
@@ -26,7 +27,7 @@ ghost use Rattle.tso_cli.specs.Witness.{choices_line, IsWitness, HasEndedWith, R
 ghost use Rattle.tso_cli.specs.declared.simulation.Ending.{Ending};
 ghost use Rattle.tso_cli.specs.declared.answer.Status.{Status};
 ghost use Rattle.tso_cli.specs.declared.answer.Status.TheVariants.{Good};
-ghost use Rattle.tso_cli.specs.declared.settings.Settings.{Settings};
+ghost use Rattle.command_line.specs.declared.settings.Settings.{Settings};
 ghost use Rattle.tso_cli.specs.declared.task.Task.{Task};
 
 use axiom_checker::laws::{first_breach_is_one, first_breach_is_real};
@@ -103,7 +104,7 @@ pub fn answers_meet_the_headline()
 }
 
 /// A first part that ends in a line feed and has no dividing line, put before a dividing line and a
-/// second part, is parted from it again.
+/// second part, is separated from it again.
 pub fn joined_parts_are_parted()
     ensures { (test rest : List ℕ) → EndsInFeed test → HasNoDivider test → parts_of (joined test rest) ≡ record { test = test; rest = rest } }
 {}

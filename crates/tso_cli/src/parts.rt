@@ -1,3 +1,5 @@
+//! The two parts of an input.
+
 ghost use Rattle.std.specs.Prelude.{◌≡◌, ◌<◌, ◌≤◌, length};
 ghost use Rattle.std.specs.Option.{option_map};
 ghost use Rattle.tso_cli.specs.Parts as words;

@@ -1,3 +1,5 @@
+//! The answer of `run`.
+
 ghost use Rattle.std.specs.Prelude.{◌≡◌, ◌≢◌, IfOk, OnOk, length, string_bytes};
 ghost use Rattle.tso_model.specs.Runs.{CoresExist};
 ghost use Rattle.tso_report.specs.Shown.{shown, IsOf};
@@ -17,7 +19,7 @@ use tso_report::{Run, report_json, report_text, unfinished_json};
 
 /// The answer of `run` to a test and the text of choices, plain or as JSON.
 ///
-/// Fails only for want of memory.
+/// Errors: out of memory only.
 pub fn run_answer(
     alloc: Global,
     test: &Test,

@@ -1,18 +1,19 @@
+//! Choices on a machine, until the test has ended.
+
 ghost use Rattle.std.specs.Prelude.{◌≡◌, ◌+◌, ◌*◌, false, IfOk, OnOk, length};
 ghost use Rattle.tso_model.specs.Runs.{CoresExist};
 ghost use Rattle.tso_cli.specs.Runs.{run_by, run_under, AnswersFit, AnswersFitBy};
 ghost use Rattle.tso_cli.specs.Simulation.{IsEndingOf, FitsEnding, HasCounts, IsCounted, HasAllOrder, HasEnded, Drives, verdict};
 ghost use Rattle.protocol_tables.specs.Tables.{table_of};
 ghost use Rattle.machine_core.specs.Statistics.{counts_of};
-ghost use Rattle.scheduler.specs.Seeds.{seeded_choices};
 ghost use Rattle.split_laws.specs.BusChoices.{IsPossibleOn};
 ghost use Rattle.tso_laws.specs.Rounds.{CanBeCutIntoRounds};
 ghost use Rattle.tso_laws.specs.Counting.{instructions, longest};
 
 use crate::laws::ended_runs_of_machines_are_executions;
-use machine_core::{Bus, Choice, Config, Final, Machine, Outcome};
+use machine_core::{Bus, Choice, Config, Machine, Outcome};
 use protocol_tables::{Mesi, Moesi, Mosi, Msi, Protocol, ProtocolKind};
-use scheduler::{Choices, Listed, Seeded};
+use scheduler::{Choices, Listed};
 use split_laws::{
     atomic_runs_are_flat_runs, attempts_lead_from_state_to_state, fair_rounds_end_on_either_bus,
     runs_on_either_bus_stop_where_they_end, what_holds_so_far_on_either_bus,
@@ -50,7 +51,7 @@ impl From<NoMemory> for SimFault {
 /// this protocol and configuration. On the atomic bus neither the protocol nor the shape of the caches
 /// has a part in the answer but in the counts. On a split bus an access that hits needs no bus.
 ///
-/// Fails only for want of memory.
+/// Errors: out of memory only.
 pub fn simulate(
     alloc: Global,
     test: &Test,
@@ -88,32 +89,6 @@ pub fn simulate(
     ended_runs_of_machines_are_executions();
     let _known = test.cores();
     run_with(alloc, test, protocol, config, Listed::new(choices))
-}
-
-/// Runs a test under the first `count` choices of a seed, as `simulate` does under a list. They are drawn
-/// as they are used.
-///
-/// Fails only for want of memory.
-pub fn simulate_seed(
-    alloc: Global,
-    test: &Test,
-    protocol: ProtocolKind,
-    config: Config,
-    seed: u64,
-    count: usize,
-) -> Result<Ending, SimFault>
-    ensures ending { IfOk result (IsEndingOf test.now (run_under test.now protocol config (seeded_choices (length test.now.programs) seed count))) }
-    ensures fits { IfOk result (FitsEnding test.now) }
-    ensures answers { OnOk result (AnswersFit test.now protocol config (seeded_choices (length test.now.programs) seed count)) }
-    ensures counts { IfOk result (HasCounts (counts_of config.bus (table_of protocol) config.shape test.now config.depth (seeded_choices (length test.now.programs) seed count))) }
-{
-    run_with(
-        alloc,
-        test,
-        protocol,
-        config,
-        Seeded::new(test.cores(), seed, count),
-    )
 }
 
 fn run_with<C: Choices>(
@@ -166,7 +141,7 @@ fn run_to_the_end<P: Protocol, C: Choices>(
         });
     }
     let left = machine.finish(alloc)?;
-    let holds = verdict_of(test, &left);
+    let holds = verdict_of(test, &left.registers, &left.memory);
     Ok(Ending::Ended(Run {
         execution: left.execution,
         registers: left.registers,
@@ -181,14 +156,14 @@ fn run_to_the_end<P: Protocol, C: Choices>(
 
 /// How many choices were made, and how many of them stalled.
 #[derive(Clone, Copy)]
-struct Progress {
-    used: usize,
-    stalled: usize,
+pub(crate) struct Progress {
+    pub used: usize,
+    pub stalled: usize,
 }
 
 /// Makes the choices one after the other, until the test has ended. The caches' answers along all of
-/// them fit, those behind the end too: there nobody holds the bus.
-fn drive<P: Protocol, C: Choices>(
+/// them fit, those after the end too: there nobody holds the bus.
+pub(crate) fn drive<P: Protocol, C: Choices>(
     machine: &mut Machine<'_, P>,
     choices: &mut C,
 ) -> Result<Progress, NoMemory>
@@ -222,14 +197,14 @@ fn drive<P: Protocol, C: Choices>(
     Ok(Progress { used, stalled })
 }
 
-/// The truth of the test's condition in the state that a machine left, if it has one.
-fn verdict_of(test: &Test, left: &Final) -> Option<bool>
-    requires cores { length left.now.registers.items ≡ length test.now.programs }
-    requires locations { length left.now.memory.items ≡ length test.now.locations }
-    ensures { result ≡ verdict test.now left.now.registers.items left.now.memory.items }
+/// The truth of the test's condition in this state, if it has one.
+pub(crate) fn verdict_of(test: &Test, registers: &[[u32; 6]], memory: &[u32]) -> Option<bool>
+    requires cores { length registers.now ≡ length test.now.programs }
+    requires locations { length memory.now ≡ length test.now.locations }
+    ensures { result ≡ verdict test.now registers.now memory.now }
 {
     match test.cond() {
         None => None,
-        Some(cond) => Some(cond_holds(cond, &left.registers, &left.memory)),
+        Some(cond) => Some(cond_holds(cond, registers, memory)),
     }
 }

@@ -1,13 +1,23 @@
-ghost use Rattle.std.specs.Prelude.{◌≡◌, ◌<◌, ◌-◌, ◌^◌, ◌==◌, if◌then◌else◌, IfOk, OnOk, string_bytes};
+//! The answer of `sweep`.
+
+ghost use Rattle.std.specs.Prelude.{◌≡◌, ◌<◌, ◌-◌, ◌^◌, ◌==◌, if◌then◌else◌, IfOk, OnOk, length, string_bytes};
+ghost use Rattle.tso_model.specs.Runs.{CoresExist};
+ghost use Rattle.protocol_tables.specs.Tables.{table_of};
+ghost use Rattle.machine_core.specs.Running.{restarted};
 ghost use Rattle.tso_report.specs.Tally.{runs_in};
-ghost use Rattle.tso_cli.specs.Runs.{AnswersFit};
-ghost use Rattle.tso_cli.specs.Sweep.{choices_of, seeded_run, with_one_run, sweep_counts, AnswersFitFrom, IsSweepAnswer};
+ghost use Rattle.tso_cli.specs.Runs.{run_on_machine, AnswersFitOn};
+ghost use Rattle.tso_cli.specs.Sweep.{with_one_run, sweep_counts, AnswersFitFrom, IsSweepAnswer};
 
 use crate::answer::{Answer, Status};
-use crate::plan::SweepPlan;
-use crate::simulation::{Ending, SimFault, simulate_seed};
-use machine_core::Config;
-use protocol_tables::ProtocolKind;
+use crate::simulation::{drive, verdict_of};
+use command_line::SweepPlan;
+use machine_core::{Config, Machine};
+use protocol_tables::{Mesi, Moesi, Mosi, Msi, Protocol, ProtocolKind};
+use scheduler::{Choices, Seeded};
+use split_laws::{
+    atomic_runs_are_flat_runs, attempts_lead_from_state_to_state,
+    runs_on_either_bus_stop_where_they_end,
+};
 use std::alloc::Global;
 use tso_model::{NoMemory, Test};
 use tso_report::{Tally, head_text};
@@ -16,7 +26,7 @@ use tso_report::{Tally, head_text};
 /// what the condition names, and how many made the condition's proposition true and false. A run is
 /// kept no longer than until it is counted.
 ///
-/// Fails only for want of memory.
+/// Errors: out of memory only.
 pub fn sweep_answer(
     alloc: Global,
     test: &Test,
@@ -62,46 +72,76 @@ fn sweep<'a>(
 ) -> Result<Swept<'a>, NoMemory>
     ensures test { IfOk result (λ s. s.tally.test ≡ test.now) }
     ensures counts { IfOk result (λ s. s.tally.counts ≡ sweep_counts test.now protocol config plan) }
-    ensures ended { IfOk result (λ s. s.all_ended ≡ ((sweep_counts test.now protocol config plan).unfinished == 0)) }
+    ensures ended { IfOk result (λ s. s.all_ended ≡ (s.tally.counts.unfinished == 0)) }
     ensures answers { OnOk result (AnswersFitFrom test.now protocol config plan.length plan.from plan.seeds) }
 {
+    match protocol {
+        ProtocolKind::Msi => sweep_on(alloc, test, Msi, config, plan),
+        ProtocolKind::Mesi => sweep_on(alloc, test, Mesi, config, plan),
+        ProtocolKind::Moesi => sweep_on(alloc, test, Moesi, config, plan),
+        ProtocolKind::Mosi => sweep_on(alloc, test, Mosi, config, plan),
+    }
+}
+
+/// Makes the runs on one machine, which goes back to the beginning of the test after each.
+fn sweep_on<'a, P: Protocol>(
+    alloc: Global,
+    test: &'a Test,
+    protocol: P,
+    config: Config,
+    plan: SweepPlan,
+) -> Result<Swept<'a>, NoMemory>
+    ensures test { IfOk result (λ s. s.tally.test ≡ test.now) }
+    ensures counts { (kind : ProtocolKind) → P.table protocol ≡ table_of kind → IfOk result (λ s. s.tally.counts ≡ sweep_counts test.now kind config plan) }
+    ensures ended { IfOk result (λ s. s.all_ended ≡ (s.tally.counts.unfinished == 0)) }
+    ensures answers { (kind : ProtocolKind) → P.table protocol ≡ table_of kind → OnOk result (AnswersFitFrom test.now kind config plan.length plan.from plan.seeds) }
+{
     let mut tally = Tally::new(alloc, test)?;
+    let mut machine = Machine::new(alloc, protocol, test, config)?;
     let mut all_ended = true;
     let length = plan.length() as usize;
     for at in 0..plan.seeds() {
-        let seed = plan.seed(at);
-        let ended = count_run(alloc, test, protocol, config, seed, length, &mut tally)?;
+        let choices = Seeded::new(test.cores(), plan.seed(at), length);
+        let ended = count_run(alloc, test, &mut machine, choices, &mut tally)?;
         all_ended = all_ended && ended;
     }
     Ok(Swept { tally, all_ended })
 }
 
-/// Runs the test under the choices of one seed, counts the run, and answers whether it ended.
-fn count_run(
+/// Runs the test under these choices, counts the run, and answers whether it ended. The machine, which is at
+/// the beginning of the test, is so again then.
+fn count_run<P: Protocol, C: Choices>(
     alloc: Global,
     test: &Test,
-    protocol: ProtocolKind,
-    config: Config,
-    seed: u64,
-    length: usize,
+    machine: &mut Machine<'_, P>,
+    choices: C,
     tally: &mut Tally<'_>,
 ) -> Result<bool, NoMemory>
-    requires same { tally.old.test ≡ test.now }
+    requires beginning { machine.old ≡ restarted machine.old }
+    requires machine { machine.old.test ≡ test.now }
+    requires tally { tally.old.test ≡ test.now }
+    requires cores { CoresExist (length test.now.programs) (C.coming choices) }
     requires room { runs_in tally.old.counts < 2 ^ 32 - 1 }
-    ensures ended { IfOk result (λ b. b ≡ (seeded_run test.now protocol config length seed).ended) }
-    ensures counts { OnOk result (tally.new.counts ≡ with_one_run test.now (seeded_run test.now protocol config length seed) tally.old.counts) }
+
+    ensures ended { IfOk result (λ b. b ≡ (run_on_machine machine.old (C.coming choices)).ended) }
+    ensures counts { OnOk result (tally.new.counts ≡ with_one_run test.now (run_on_machine machine.old (C.coming choices)) tally.old.counts) }
     ensures test { tally.new.test ≡ tally.old.test }
-    ensures answers { OnOk result (AnswersFit test.now protocol config (choices_of test.now length seed)) }
+    ensures answers { OnOk result (AnswersFitOn machine.old (C.coming choices)) }
+    ensures again { OnOk result (machine.new ≡ machine.old) }
 {
-    match simulate_seed(alloc, test, protocol, config, seed, length) {
-        Ok(Ending::Ended(run)) => {
-            tally.add(&run)?;
-            Ok(true)
-        }
-        Ok(Ending::Unfinished { .. }) => {
-            tally.add_unfinished();
-            Ok(false)
-        }
-        Err(SimFault::NoMemory) => Err(NoMemory),
+    attempts_lead_from_state_to_state();
+    atomic_runs_are_flat_runs();
+    runs_on_either_bus_stop_where_they_end();
+    let _known = test.cores();
+    let mut choices = choices;
+    drive(machine, &mut choices)?;
+    if !machine.is_ended() {
+        machine.restart();
+        tally.add_unfinished();
+        return Ok(false);
     }
+    let state = machine.end_run(alloc)?;
+    let holds = verdict_of(test, &state.registers, &state.memory);
+    tally.add_state(&state.registers, &state.memory, holds)?;
+    Ok(true)
 }

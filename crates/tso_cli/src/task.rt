@@ -1,4 +1,6 @@
-use crate::plan::SweepPlan;
+//! What a command that reads an input is to do.
+
+use command_line::SweepPlan;
 use machine_core::Config;
 use protocol_tables::ProtocolKind;
 

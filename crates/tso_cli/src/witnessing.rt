@@ -1,8 +1,10 @@
+//! The answer of `witness`.
+
 ghost use Rattle.std.specs.Prelude.{◌≡◌, ◌≤◌, IfOk, string_bytes};
 ghost use Rattle.tso_model.specs.Execution.{IsTsoExecution};
 ghost use Rattle.tso_model.specs.declared.choice.Choice.{Choice};
 ghost use Rattle.order_builder.specs.Spelling.{IsOrderFor};
-ghost use Rattle.tso_cli.specs.Limits.{IsDepth};
+ghost use Rattle.command_line.specs.Limits.{IsDepth};
 ghost use Rattle.tso_cli.specs.Lines.{depth_line};
 ghost use Rattle.tso_cli.specs.Witness.{choices_line, IsWitness, IsWitnessAnswer};
 
@@ -19,7 +21,7 @@ use tso_model::{Choice, Execution, NoMemory, Test};
 /// The answer of `witness` to a test and the text of an order, for store buffers of this depth (1 to
 /// 32): the order is judged first, as `check` does it.
 ///
-/// Fails only for want of memory.
+/// Errors: out of memory only.
 pub fn witness_answer(
     alloc: Global,
     test: &Test,

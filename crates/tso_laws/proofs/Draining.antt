@@ -13,7 +13,7 @@ waits-or-acts P why s f acts waits = go s.pending refl
     go [] e = acts e
     go (x ∷ xs) e = waits
 
--- the core after a drain of x, with these pending behind it
+-- the core after a drain of x, with these pending after it
 abbrev pub without : CoreState → List Entry → CoreState
 without s xs = record { place = s.place; registers = s.registers; pending = xs }
 

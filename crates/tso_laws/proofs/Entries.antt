@@ -94,7 +94,7 @@ read_value-behind c place kind (x ∷ xs) ys e h r =
         go : (a b : ℕ) (k : Bool) → (a ≡ c → b < place) → ((a == c) && (b == place) && k) ≡ false
         go a b k h = grind (arith, nat_tests)
 
--- the loads of core c in the list have at most d own stores behind them that they passed
+-- the loads of core c in the list have at most d own stores after them that they passed
 abbrev pub Few : ℕ → ℕ → List Entry → Type 0
 Few d c [] = Unit {0}
 Few d c (x ∷ xs) = (x.core.0 ≡ c → is_load x ≡ true → passed x xs ≤ d) × Few d c xs

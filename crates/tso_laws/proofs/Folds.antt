@@ -40,7 +40,7 @@ abbrev pub passed : Entry → List Entry → ℕ
 passed x [] = 0
 passed x (y ∷ ys) = if is_store y && is_before y x then suc (passed x ys) else passed x ys
 
--- what one entry asks of the depth, with these behind it in the order
+-- what one entry asks of the depth, with these after it in the order
 abbrev pub asks : Entry → List Entry → ℕ
 asks x back = if is_load x then passed x back else (if is_store x then 1 else 0)
 
@@ -49,7 +49,7 @@ abbrev pub needs : List Entry → ℕ
 needs [] = 0
 needs (x ∷ back) = max (asks x back) (needs back)
 
--- a store that is put behind the pending ones
+-- a store that is put after the pending ones
 abbrev pub put : CoreState → Entry → Effect
 put s e = record { outcome = Buffered; after = record { place = s.place + 1; registers = s.registers; pending = s.pending ++ e ∷ [] }; commits = [] }
 

@@ -101,7 +101,7 @@ is_store-kind e h = go e.kind h
     go LR h = absurd (let z : ⊥ = cc in z)
     go LW h = absurd (let z : ⊥ = cc in z)
 
--- stores of a core behind one of its stores stand behind it in the program
+-- stores of a core after one of its stores stand after it in the program
 store-behind : (d k : ℕ) (x y : Entry) → Fine d k x y → Apart x y → x.core.0 ≡ k → is_store x ≡ true → y.core.0 ≡ k → is_store y ≡ true → x.place < y.place
 store-behind d k x y f a p w q u =
     go (is_before y x) refl

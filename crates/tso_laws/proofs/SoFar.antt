@@ -47,7 +47,7 @@ test-locations t test k i x e =
 each-all : (P : Entry → Type 0) (xs : List Entry) → Each P xs → All P xs
 each-all P xs h k d l = each-at P xs k (slice_index_or xs k d) h (slice_get-get_or xs k d l)
 
--- entries of other cores behind a list change nothing in what a core sees
+-- entries of other cores after a list change nothing in what a core sees
 ordered-foreign : (d c : ℕ) (xs ys : List Entry) → Ordered d c xs → Each (λ y. y.core.0 ≢ c) ys → Ordered d c (xs ++ ys)
 ordered-foreign d c [] [] o f = tt
 ordered-foreign d c [] (y ∷ ys) o f = (each-map (λ z. z.core.0 ≢ c) (λ z. Fine d c y z) ys (λ z n k b. absurd (n k)) f.1, ordered-foreign d c [] ys tt f.1)

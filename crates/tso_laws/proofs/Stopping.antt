@@ -1,4 +1,4 @@
--- A run stops where it ends, and nothing happens behind the end.
+-- A run stops where it ends, and nothing happens after the end.
 use Rattle.std.proofs.Common.{◌≡◌, ◌<◌, ℕ, zero, suc, List, [], ◌∷◌, ◌++◌, Bool, true, false, length, take, arith, ap, sym, ◌∙◌, refl, inl, inr, if◌then◌else◌}
 use Rattle.tso_model.specs.Litmus.{Litmus}
 use Rattle.tso_model.specs.FlatMachine.{State, program_of, core_of, chosen, effect_of, after_choice, start}
@@ -36,7 +36,7 @@ ended-choice t d state c n h = elim (choice-changes t d state c) [
   | inr w ↦ w
 ]
 
--- behind the end nothing is committed and nothing changes
+-- after the end nothing is committed and nothing changes
 pub ended-same : (t : Litmus) (d : ℕ) (state : State) (cs : List Choice) → length state.cores ≡ length t.programs → has_ended t state ≡ true
     → (state_after t d state cs ≡ state) × (commits_of t d state cs ≡ [])
 ended-same t d state [] n h = (refl, refl)

@@ -9,6 +9,7 @@ pub mod Depth
 pub mod Along
 pub mod Reached
 pub mod Words
+pub mod Laws
 pub mod WorkedRuns
 pub use Rattle.tso_model.specs.Litmus
 pub use Rattle.tso_model.specs.Execution

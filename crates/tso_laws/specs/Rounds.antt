@@ -14,4 +14,5 @@ IsRound cores cs = (k : ℕ) → k < cores → Among (step k) cs × Among (drain
 -- the list can be cut into so many rounds, one after the other, and a rest
 abbrev pub CanBeCutIntoRounds : ℕ → ℕ → List Choice → Type 0
 CanBeCutIntoRounds cores zero cs = Unit {0}
-CanBeCutIntoRounds cores (suc n) cs = (round : List Choice) × (rest : List Choice) × (cs ≡ round ++ rest) × IsRound cores round × CanBeCutIntoRounds cores n rest
+CanBeCutIntoRounds cores (suc n) cs =
+    (round : List Choice) × (rest : List Choice) × (cs ≡ round ++ rest) × IsRound cores round × CanBeCutIntoRounds cores n rest

@@ -29,7 +29,9 @@ tokens_of (AndClaim left right) = (tokens_of left ++ tokens_of right) ++ token 4
 tokens_of (OrClaim left right) = (tokens_of left ++ tokens_of right) ++ token 5 0 0 0 ∷ []
 
 abbrev pub reg_at : ℕ → Reg
-reg_at n = if n == 0 then Eax else (if n == 1 then Ebx else (if n == 2 then Ecx else (if n == 3 then Edx else (if n == 4 then Esi else Edi))))
+reg_at n =
+    if n == 0 then Eax else (if n == 1 then Ebx else (if n == 2 then Ecx else (if n == 3 then Edx
+    else (if n == 4 then Esi else Edi))))
 
 abbrev pub negated : List Claim → List Claim
 negated [] = []
@@ -73,21 +75,33 @@ bit-back : (b : Bool) → (bit_of b == 1) ≡ b
 bit-back true = refl
 bit-back false = refl
 
-after_tokens-tokens_of : (c : Claim) (rest : List Token) (stack : List Claim) → after_tokens (tokens_of c ++ rest) stack ≡ after_tokens rest (c ∷ stack)
+after_tokens-tokens_of : (c : Claim) (rest : List Token) (stack : List Claim)
+    → after_tokens (tokens_of c ++ rest) stack ≡ after_tokens rest (c ∷ stack)
 after_tokens-tokens_of (TruthClaim truth) rest stack = ap (λ b. after_tokens rest (TruthClaim b ∷ stack)) (bit-back truth)
-after_tokens-tokens_of (RegClaim core reg value) rest stack = ap (λ r. after_tokens rest (RegClaim core r value ∷ stack)) (reg_at-index_of reg)
+after_tokens-tokens_of (RegClaim core reg value) rest stack =
+    ap (λ r. after_tokens rest (RegClaim core r value ∷ stack)) (reg_at-index_of reg)
 after_tokens-tokens_of (LocClaim loc value) rest stack = refl
 after_tokens-tokens_of (NotClaim inner) rest stack =
     rw (append_assoc (tokens_of inner) (token 3 0 0 0 ∷ []) rest) (after_tokens-tokens_of inner (token 3 0 0 0 ∷ rest) stack)
 after_tokens-tokens_of (AndClaim left right) rest stack =
-    rw (append_assoc (tokens_of left ++ tokens_of right) (token 4 0 0 0 ∷ []) rest, append_assoc (tokens_of left) (tokens_of right) (token 4 0 0 0 ∷ rest))
-    (after_tokens-tokens_of left (tokens_of right ++ token 4 0 0 0 ∷ rest) stack ∙ after_tokens-tokens_of right (token 4 0 0 0 ∷ rest) (left ∷ stack))
+    rw (
+      append_assoc (tokens_of left ++ tokens_of right) (token 4 0 0 0 ∷ []) rest,
+      append_assoc (tokens_of left) (tokens_of right) (token 4 0 0 0 ∷ rest),
+    )
+    (after_tokens-tokens_of left (tokens_of right ++ token 4 0 0 0 ∷ rest) stack
+    ∙ after_tokens-tokens_of right (token 4 0 0 0 ∷ rest) (left ∷ stack))
 after_tokens-tokens_of (OrClaim left right) rest stack =
-    rw (append_assoc (tokens_of left ++ tokens_of right) (token 5 0 0 0 ∷ []) rest, append_assoc (tokens_of left) (tokens_of right) (token 5 0 0 0 ∷ rest))
-    (after_tokens-tokens_of left (tokens_of right ++ token 5 0 0 0 ∷ rest) stack ∙ after_tokens-tokens_of right (token 5 0 0 0 ∷ rest) (left ∷ stack))
+    rw (
+      append_assoc (tokens_of left ++ tokens_of right) (token 5 0 0 0 ∷ []) rest,
+      append_assoc (tokens_of left) (tokens_of right) (token 5 0 0 0 ∷ rest),
+    )
+    (after_tokens-tokens_of left (tokens_of right ++ token 5 0 0 0 ∷ rest) stack
+    ∙ after_tokens-tokens_of right (token 5 0 0 0 ∷ rest) (left ∷ stack))
 
 pub claim_from-tokens_of : (c : Claim) → claim_from (tokens_of c) ≡ c
 claim_from-tokens_of c = ap first_claim (ap (λ ts. after_tokens ts []) (sym (append-nil (tokens_of c))) ∙ after_tokens-tokens_of c [] [])
 
 abbrev pub claim_code : Coded Claim
-claim_code = code_by (List Token) (coded_list (coded× (coded× coded_ℕ coded_ℕ) (coded× coded_ℕ coded_ℕ))) tokens_of claim_from claim_from-tokens_of
+claim_code =
+    code_by (List Token) (coded_list (coded× (coded× coded_ℕ coded_ℕ) (coded× coded_ℕ coded_ℕ)))
+    tokens_of claim_from claim_from-tokens_of

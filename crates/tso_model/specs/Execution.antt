@@ -1,6 +1,7 @@
 -- When an order of entries is a TSO execution of a test.
 -- (Primer, chapter 4, the axioms of TSO; x86-TSO, section 3, for fences and locked instructions.)
-use Rattle.std.specs.Prelude.{ℕ, ◌+◌, ◌<◌, ◌≡◌, ◌==◌, ◌&&◌, Bool, true, false, if◌then◌else◌, List, [], ◌∷◌, ◌++◌, filter, length, Some, slice_get, slice_index, slice_index_or, suc}
+use Rattle.std.specs.Prelude.{ℕ, ◌+◌, ◌<◌, ◌≡◌, ◌==◌, ◌&&◌, Bool, true, false, if◌then◌else◌, List, [], ◌∷◌, ◌++◌}
+use Rattle.std.specs.Prelude.{filter, length, Some, slice_get, slice_index, slice_index_or, suc}
 use Rattle.tso_model.specs.Actions.{action_of}
 use Rattle.tso_model.specs.Thread.{entries_of}
 use Rattle.tso_model.specs.ProgramOrder.{same_kind, is_before, may_be_passed, is_read, writes_to}

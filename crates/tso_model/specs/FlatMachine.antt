@@ -1,7 +1,9 @@
 -- The flat machine: one memory, and for each core the stores that are pending. One choice acts at a time.
 -- (x86-TSO, section 3, the abstract machine; the bounded buffer, the stalls and the locked instruction
 -- in one step are this project's profile.)
-use Rattle.std.specs.Prelude.{ℕ, ◌+◌, nat_lt, if◌then◌else◌, List, [], ◌∷◌, ◌++◌, map, filter, length, Option, Some, None, slice_get, slice_index, slice_index_or, slice_set, take, drop, zero, suc, Bool, true, false}
+use Rattle.std.specs.Prelude.{ℕ, ◌+◌, nat_lt, if◌then◌else◌, List, [], ◌∷◌, ◌++◌, map, filter, length, Option, Some}
+use Rattle.std.specs.Prelude.{None, slice_get, slice_index, slice_index_or, slice_set, take, drop, zero, suc, Bool}
+use Rattle.std.specs.Prelude.{true, false}
 use Rattle.tso_model.specs.Actions.{action_of}
 use Rattle.tso_model.specs.Thread.{entry, fence, value_in, with_value, value_of, updated}
 use Rattle.tso_model.specs.ProgramOrder.{is_write, writes_to}
@@ -57,7 +59,11 @@ abbrev pub stored : ℕ → CoreState → Entry → Effect
 stored zero s e = record { outcome = Committed; after = advanced s; commits = e ∷ [] }
 stored (suc n) s e =
     if nat_lt (length s.pending) (suc n)
-    then record { outcome = Buffered; after = record { place = s.place + 1; registers = s.registers; pending = s.pending ++ e ∷ [] }; commits = [] }
+    then record {
+      outcome = Buffered;
+      after = record { place = s.place + 1; registers = s.registers; pending = s.pending ++ e ∷ [] };
+      commits = [];
+    }
     else stalled stall.Full s
 
 -- the value that a load gets: of the newest own pending store to the location, else of memory

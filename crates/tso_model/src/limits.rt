@@ -1,7 +1,8 @@
 //! How large a test may be, and how deep the store buffer of a core.
 
 ghost use Rattle.std.specs.Prelude.{◌≡◌};
-ghost use Rattle.tso_model.specs.Limits.{most_cores, most_locations, most_instructions, most_atoms, most_open, longest_name, longest_test_name, least_depth, most_depth};
+ghost use Rattle.tso_model.specs.Limits.{most_cores, most_locations, most_instructions, most_atoms, most_open};
+ghost use Rattle.tso_model.specs.Limits.{longest_name, longest_test_name, least_depth, most_depth};
 
 /// Maximum number of cores of a test.
 pub const MAX_CORES: usize = 8;

@@ -74,8 +74,11 @@ fn run_instruction<'a>(
     reads: &'a [u32],
 ) -> Result<&'a [u32], NoMemory>
     requires { reads_in (instr ∷ []) ≤ length reads.now }
-    ensures entries { IfOk result (λ left. (rest : List Instr) → thread.old.entries.items ++ entries_of core.0 place (instr ∷ rest) thread.old.registers reads.now ≡ thread.new.entries.items ++ entries_of core.0 (place + 1) rest thread.new.registers left.now) }
-    ensures registers { IfOk result (λ left. (rest : List Instr) → registers_after (instr ∷ rest) thread.old.registers reads.now ≡ registers_after rest thread.new.registers left.now) }
+    ensures entries { IfOk result (λ left. (rest : List Instr)
+        → thread.old.entries.items ++ entries_of core.0 place (instr ∷ rest) thread.old.registers reads.now
+        ≡ thread.new.entries.items ++ entries_of core.0 (place + 1) rest thread.new.registers left.now) }
+    ensures registers { IfOk result (λ left. (rest : List Instr)
+        → registers_after (instr ∷ rest) thread.old.registers reads.now ≡ registers_after rest thread.new.registers left.now) }
     ensures left { IfOk result (λ left. length left.now + reads_in (instr ∷ []) ≡ length reads.now) }
 {
     match instr.action() {

@@ -10,7 +10,7 @@ use Rattle.tso_report.specs.Tally.{is_looked_at, IsKnown, register_of, location,
 count-next : (i n : ℕ) → i < n → n - i ≡ suc (n - (i + 1))
 count-next i n h = omega arith
 
--- behind what was noted, the next part and what comes after it
+-- after what was noted, the next part and what comes after it
 part-noted : (p : Named → Bool) (list before after part rest : List Named) → after ≡ before ++ filter p part → before ++ filter p (part ++ rest) ≡ list
     → after ++ filter p rest ≡ list
 part-noted p list before after part rest is was =

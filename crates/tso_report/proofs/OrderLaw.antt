@@ -16,7 +16,7 @@ use Rattle.tso_model.specs.declared.bus.Bus.{Bus}
 use Rattle.tso_model.specs.declared.bus.Bus.TheVariants.{Atomic, Split}
 use Rattle.tso_model.specs.declared.execution.Entry.{Entry}
 use Rattle.tso_model.specs.Names.{is_printable, is_test_name}
-use Rattle.order_builder.specs.Decimals.{decimal_from}
+use Rattle.decimals.specs.Decimals.{decimal_from}
 use Rattle.order_builder.specs.Lines.{is_line}
 use Rattle.order_builder.specs.PrintedOrder.{printed_lines, printed_order}
 use Rattle.order_builder.specs.Spelling.{IsBefore, IsOrderFor, SpellsOrder}

@@ -3,7 +3,6 @@ use Rattle.std.proofs.Common.{◌≡◌, ◌∙◌, ℕ, Bool, List, ◌++◌, l
 use Rattle.tso_model.specs.Litmus.{Litmus}
 use Rattle.tso_report.specs.declared.named.Named.{Named}
 use Rattle.tso_report.specs.declared.counters.Counters.{Counters}
-use Rattle.tso_report.specs.Shown.{Shown, IsOf}
 use Rattle.tso_report.specs.Tally.{Tallied, IsKnown, looked_at, sweep_line, state_lines, observation, tally_text}
 use Rattle.tso_report.specs.Counted.{states_of, counts_in, IsKept}
 use Rattle.tso_report.proofs.Looking.{looked-known}
@@ -11,13 +10,14 @@ use Rattle.tso_report.proofs.Looking.{looked-known}
 abbrev seen : Litmus → Counters → Tallied
 seen t counters = record { test = t; counts = counts_in counters }
 
--- what is looked at is there in each run of the test
-pub known-in-run : (t : Litmus) (counters : Counters) (tally : Tallied) (s : Shown) (names list : List Named) → seen t counters ≡ tally → IsOf tally.test s
-    → names ≡ looked_at t → list ≡ names → All (IsKnown (length s.registers) (length s.memory)) list
-known-in-run t counters tally s names list view fits are same =
-    let cores : length t.programs ≡ length s.registers = ap (λ m. length m.test.programs) view ∙ sym fits.registers in
-    let locations : length t.locations ≡ length s.memory = ap (λ m. length m.test.locations) view ∙ sym fits.memory in
-    subst (λ n. All (IsKnown n (length s.memory)) list) cores
+-- what is looked at is there in each state of the test
+pub known-in-state : (t : Litmus) (counters : Counters) (tally : Tallied) (registers : List (List ℕ)) (memory : List ℕ) (names list : List Named) → seen t counters ≡ tally
+    → length registers ≡ length tally.test.programs → length memory ≡ length tally.test.locations
+    → names ≡ looked_at t → list ≡ names → All (IsKnown (length registers) (length memory)) list
+known-in-state t counters tally registers memory names list view each_core each_location are same =
+    let cores : length t.programs ≡ length registers = ap (λ m. length m.test.programs) view ∙ sym each_core in
+    let locations : length t.locations ≡ length memory = ap (λ m. length m.test.locations) view ∙ sym each_location in
+    subst (λ n. All (IsKnown n (length memory)) list) cores
     (subst (λ n. All (IsKnown (length t.programs) n) list) locations
     (subst (All (IsKnown (length t.programs) (length t.locations))) (sym (same ∙ are)) (looked-known t)))
 

@@ -5,7 +5,7 @@ use Rattle.tso_model.specs.Litmus.{Litmus}
 use Rattle.tso_report.specs.declared.named.Named.{Named}
 use Rattle.tso_report.specs.Tally.{printed_value, printed_values}
 
--- what was written so far, behind which a piece and then a rest come
+-- what was written so far, after which a piece and then a rest come
 behind : (piece rest before after : List ℕ) → after ≡ before ++ piece → after ++ rest ≡ before ++ (piece ++ rest)
 behind piece rest before after is = ap (λ text. text ++ rest) is ∙ append_assoc before piece rest
 

@@ -37,7 +37,9 @@ cache_value cs = array (items_of (map counts_value cs))
 
 abbrev pub choices_value : ℕ → ℕ → ℕ → Data
 choices_value used stalled unused =
-    object (member (codes "stalled") (count stalled) (member (codes "unused") (count unused) (member (codes "used") (count used) no_members)))
+    object (member (codes "stalled") (count stalled)
+    (member (codes "unused") (count unused)
+    (member (codes "used") (count used) no_members)))
 
 -- what stands for the quantifier, and the truth of the proposition
 abbrev pub verdict_value : List ℕ → Bool → Data
@@ -106,7 +108,9 @@ run_value t kind c s =
 -- a run that didn't end
 abbrev pub unfinished_value : ℕ → ℕ → Data
 unfinished_value used stalled =
-    object (member (codes "unfinished") (object (member (codes "stalled") (count stalled) (member (codes "used") (count used) no_members))) no_members)
+    object (member (codes "unfinished") (object
+    (member (codes "stalled") (count stalled)
+    (member (codes "used") (count used) no_members))) no_members)
 
 -- what is printed: the compact text of the value, on one line
 abbrev pub json_report : Litmus → ProtocolKind → Configuration → Shown → List ℕ

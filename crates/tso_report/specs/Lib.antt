@@ -4,3 +4,4 @@ pub mod Json
 pub mod Tally
 pub mod Counted
 pub mod Limits
+pub mod Laws

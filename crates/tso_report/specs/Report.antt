@@ -13,14 +13,12 @@ use Rattle.tso_model.specs.declared.condition.Quantifier.{Quantifier}
 use Rattle.tso_model.specs.declared.condition.Quantifier.TheVariants.{Exists, NotExists, Forall}
 use Rattle.order_builder.specs.PrintedOrder.{printed_order}
 use Rattle.protocol_tables.specs.Names.{protocol_name}
+pub use Rattle.protocol_tables.specs.PrintedTable.{line}
 use Rattle.protocol_tables.specs.declared.kind.ProtocolKind.{ProtocolKind}
 use Rattle.snoop_bus.specs.Geometry.{Geometry}
 use Rattle.machine_core.specs.Configuration.{Configuration}
 use Rattle.machine_core.specs.declared.counts.Counts.{Counts}
 use Rattle.tso_report.specs.Shown.{Shown}
-
-abbrev pub line : List ℕ → List ℕ
-line text = text ++ 10 ∷ []
 
 -- `Test NAME`
 abbrev pub test_line : Litmus → List ℕ
@@ -35,7 +33,7 @@ abbrev pub bus_text : Bus → List ℕ
 bus_text Atomic = []
 bus_text Split = codes " bus=split"
 
--- `Machine msi depth=D sets=S ways=W words=L`, and behind it ` bus=split` on a split bus
+-- `Machine msi depth=D sets=S ways=W words=L`, and after it ` bus=split` on a split bus
 abbrev pub machine_line : ProtocolKind → Configuration → List ℕ
 machine_line kind c =
     codes "Machine " ++ (protocol_name kind ++ (codes " depth=" ++ (decimal c.depth ++ line (shape_text c.shape ++ bus_text c.bus))))
@@ -96,7 +94,9 @@ choices_line used stalled unused =
 
 -- ` forwards=F write_backs=B flushes=L`
 abbrev pub traffic_text : Counts → List ℕ
-traffic_text c = codes " forwards=" ++ (decimal c.forwards ++ (codes " write_backs=" ++ (decimal c.write_backs ++ (codes " flushes=" ++ decimal c.flushes))))
+traffic_text c =
+    codes " forwards=" ++ (decimal c.forwards ++ (codes " write_backs=" ++ (decimal c.write_backs
+    ++ (codes " flushes=" ++ decimal c.flushes))))
 
 -- `Cache Pc hits=H misses=M upgrades=U forwards=F write_backs=B flushes=L`
 abbrev pub cache_line : ℕ → Counts → List ℕ

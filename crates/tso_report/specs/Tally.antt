@@ -1,5 +1,6 @@
 -- What is counted of a sweep, the runs of one test under many lists of choices, and its text. (This project's profile.)
-use Rattle.std.specs.Prelude.{ℕ, zero, suc, ◌+◌, ◌<◌, ◌==◌, ◌&&◌, ◌||◌, Bool, true, false, if◌then◌else◌, List, [], ◌∷◌, ◌++◌, map, filter, sum, length, slice_index, slice_index_or, Option, Some, None, codes}
+use Rattle.std.specs.Prelude.{ℕ, zero, suc, ◌+◌, ◌≡◌, ◌<◌, ◌==◌, ◌&&◌, ◌||◌, Bool, true, false, if◌then◌else◌, Option, Some, None}
+use Rattle.std.specs.Prelude.{List, [], ◌∷◌, ◌++◌, map, filter, sum, length, slice_index, slice_index_or, codes}
 use Rattle.std.specs.Fmt.{decimal}
 use Rattle.std.specs.Option.{unwrap_or}
 use Rattle.std.specs.Ordering.{nat_cmp}
@@ -43,6 +44,10 @@ is_looked_at None (Register core reg) = false
 is_looked_at None (Location loc) = true
 is_looked_at (Some condition) (Register core reg) = names_register condition.claim core.0 reg
 is_looked_at (Some condition) (Location loc) = names_location condition.claim loc.0
+
+-- of these names those that are looked at are put after the list
+abbrev pub AreNoted : Option Condition → List Named → List Named → List Named → Type 0
+AreNoted condition names old new = new ≡ old ++ filter (is_looked_at condition) names
 
 abbrev pub register_of : ℕ → Reg → Named
 register_of core reg = Register (record { 0 = core }) reg
@@ -177,7 +182,9 @@ observation name (Some condition) held failed = observed_line name held failed
 
 -- the text of a sweep whose first seed is `from`, with so many choices a run
 abbrev pub tally_text : Litmus → RunCounts → ℕ → ℕ → List ℕ
-tally_text t c from length = sweep_line (ended_in c) c.unfinished from length ++ (state_lines t c.states ++ observation t.name t.condition c.held c.failed)
+tally_text t c from length =
+    sweep_line (ended_in c) c.unfinished from length
+    ++ (state_lines t c.states ++ observation t.name t.condition c.held c.failed)
 
 -- what a tally holds
 pub record Tallied : Type 0 where

@@ -41,7 +41,7 @@ pub fn no_runs(alloc: Global) -> Counters
 
 /// One more run that ended, with these values and this verdict.
 ///
-/// Fails only for want of memory; then nothing has changed.
+/// Errors: out of memory only; then nothing has changed.
 pub fn count_ended(
     counters: &mut Counters,
     values: Vec<u32>,

@@ -8,7 +8,9 @@ ghost use Rattle.serde_json.specs.View.{view, members_view};
 ghost use Rattle.order_builder.specs.PrintedOrder.{HasLocation};
 ghost use Rattle.tso_report.specs.Shown.{shown, IsOf};
 ghost use Rattle.tso_report.specs.Report.{line};
-ghost use Rattle.tso_report.specs.Json.{counts_value, cache_value, choices_value, verdict_value, condition_value, machine_value, memory_members, memory_value, order_value, registers_value, cores_value, run_value, unfinished_value, json_report, json_unfinished};
+ghost use Rattle.tso_report.specs.Json.{counts_value, cache_value, choices_value, verdict_value, condition_value, machine_value};
+ghost use Rattle.tso_report.specs.Json.{memory_members, memory_value, order_value, registers_value, cores_value, run_value};
+ghost use Rattle.tso_report.specs.Json.{unfinished_value, json_report, json_unfinished};
 
 use crate::report::quantifier_text;
 use crate::run::Run;
@@ -22,7 +24,7 @@ use tso_model::{Entry, Loc, NoMemory, Reg, Test};
 /// The report of a run as JSON: an object of the cache counts, the choices, the condition, the machine, the
 /// memory, the order, the registers and the test, printed compact, and a line feed.
 ///
-/// Fails only for want of memory.
+/// Errors: out of memory only.
 pub fn report_json(
     alloc: Global,
     test: &Test,
@@ -39,7 +41,7 @@ pub fn report_json(
 
 /// The line of a run that didn't end, as JSON: how many choices were used, and how many of these stalled.
 ///
-/// Fails only for want of memory.
+/// Errors: out of memory only.
 pub fn unfinished_json(alloc: Global, used: usize, stalled: usize) -> Result<String, NoMemory>
     ensures { IfOk result (λ text. string_bytes text ≡ json_unfinished used stalled) }
 {
@@ -141,7 +143,8 @@ fn counts_value(alloc: Global, counts: Counts) -> Result<Value, NoMemory>
     let (hits, misses, upgrades) = (counts.hits, counts.misses, counts.upgrades);
     let (forwards, write_backs, flushes) = (counts.forwards, counts.write_backs, counts.flushes);
     Ok(
-        json!(in alloc; {"flushes": flushes, "forwards": forwards, "hits": hits, "misses": misses, "upgrades": upgrades, "write_backs": write_backs})?,
+        json!(in alloc; {"flushes": flushes, "forwards": forwards, "hits": hits, "misses": misses,
+            "upgrades": upgrades, "write_backs": write_backs})?,
     )
 }
 

@@ -1,12 +1,12 @@
 //! What the runs of a sweep are told apart by: the values of the registers and locations that the test's
 //! condition names, or of all locations where there is no condition.
 
-ghost use Rattle.std.specs.Prelude.{◌≡◌, ◌<◌, ◌++◌, ◌∷◌, [], IfOk, OnOk, All, length, map, filter};
+ghost use Rattle.std.specs.Prelude.{◌≡◌, ◌<◌, ◌∷◌, [], IfOk, OnOk, All, length, map};
 ghost use Rattle.tso_model.specs.Condition.{claim_of};
 ghost use Rattle.tso_report.specs.Report.{all_registers};
-ghost use Rattle.tso_report.specs.Tally.{names_register, names_location, is_looked_at, register_of, registers_from, locations_from, looked_at, value_of, IsKnown};
+ghost use Rattle.tso_report.specs.Tally.{names_register, names_location, is_looked_at, AreNoted, register_of};
+ghost use Rattle.tso_report.specs.Tally.{registers_from, locations_from, looked_at, value_of, IsKnown};
 
-use crate::run::Run;
 use std::alloc::Global;
 use tso_model::{Core, Loc, NoMemory, Prop, Reg, Test};
 
@@ -21,6 +21,8 @@ pub enum Named {
 
 /// What is looked at of the test's final states: registers by core and then in their order, and then
 /// locations by number.
+///
+/// Errors: out of memory only.
 pub fn looked_at(alloc: Global, test: &Test) -> Result<Vec<Named>, NoMemory>
     ensures { IfOk result (λ list. list.items ≡ looked_at test.now) }
 {
@@ -31,7 +33,7 @@ pub fn looked_at(alloc: Global, test: &Test) -> Result<Vec<Named>, NoMemory>
 }
 
 fn note_registers(list: &mut Vec<Named>, test: &Test) -> Result<(), NoMemory>
-    ensures { OnOk result (list.new.items ≡ list.old.items ++ filter (is_looked_at test.now.condition) (registers_from 0 (length test.now.programs))) }
+    ensures { OnOk result (AreNoted test.now.condition (registers_from 0 (length test.now.programs)) list.old.items list.new.items) }
 {
     for core in 0..test.cores() {
         note_core(list, test, core)?;
@@ -41,13 +43,13 @@ fn note_registers(list: &mut Vec<Named>, test: &Test) -> Result<(), NoMemory>
 
 #[tactic(auto, unfolding(crate::specs::Report::all_registers))]
 fn note_core(list: &mut Vec<Named>, test: &Test, core: u8) -> Result<(), NoMemory>
-    ensures { OnOk result (list.new.items ≡ list.old.items ++ filter (is_looked_at test.now.condition) (map (register_of core) all_registers)) }
+    ensures { OnOk result (AreNoted test.now.condition (map (register_of core) all_registers) list.old.items list.new.items) }
 {
     note_each(list, test, core, &Reg::ALL)
 }
 
 fn note_each(list: &mut Vec<Named>, test: &Test, core: u8, regs: &[Reg]) -> Result<(), NoMemory>
-    ensures { OnOk result (list.new.items ≡ list.old.items ++ filter (is_looked_at test.now.condition) (map (register_of core) regs.now)) }
+    ensures { OnOk result (AreNoted test.now.condition (map (register_of core) regs.now) list.old.items list.new.items) }
 {
     for reg in regs {
         note(list, test, Named::Register(Core(core), *reg))?;
@@ -56,7 +58,7 @@ fn note_each(list: &mut Vec<Named>, test: &Test, core: u8, regs: &[Reg]) -> Resu
 }
 
 fn note_locations(list: &mut Vec<Named>, test: &Test) -> Result<(), NoMemory>
-    ensures { OnOk result (list.new.items ≡ list.old.items ++ filter (is_looked_at test.now.condition) (locations_from 0 (length test.now.locations))) }
+    ensures { OnOk result (AreNoted test.now.condition (locations_from 0 (length test.now.locations)) list.old.items list.new.items) }
 {
     for loc in 0..test.locations() {
         note(list, test, Named::Location(Loc(loc)))?;
@@ -65,7 +67,7 @@ fn note_locations(list: &mut Vec<Named>, test: &Test) -> Result<(), NoMemory>
 }
 
 fn note(list: &mut Vec<Named>, test: &Test, named: Named) -> Result<(), NoMemory>
-    ensures { OnOk result (list.new.items ≡ list.old.items ++ filter (is_looked_at test.now.condition) (named ∷ [])) }
+    ensures { OnOk result (AreNoted test.now.condition (named ∷ []) list.old.items list.new.items) }
 {
     if is_looked_at(test, named) {
         list.push(named)?;
@@ -110,14 +112,21 @@ fn names_location(prop: &Prop, loc: Loc) -> bool
     }
 }
 
-/// The values that a run has at these, in their order.
-pub fn values_at(alloc: Global, list: &[Named], run: &Run) -> Result<Vec<u32>, NoMemory>
-    requires { All (IsKnown (length run.now.registers.items) (length run.now.memory.items)) list.now }
-    ensures { IfOk result (λ values. values.items ≡ map (value_of run.now.registers.items run.now.memory.items) list.now) }
+/// The values that a final state has at these, in their order.
+///
+/// Errors: out of memory only.
+pub fn values_at(
+    alloc: Global,
+    list: &[Named],
+    registers: &[[u32; 6]],
+    memory: &[u32],
+) -> Result<Vec<u32>, NoMemory>
+    requires { All (IsKnown (length registers.now) (length memory.now)) list.now }
+    ensures { IfOk result (λ values. values.items ≡ map (value_of registers.now memory.now) list.now) }
 {
     let mut values = Vec::new(alloc);
     for named in list {
-        values.push(value_at(*named, &run.registers, &run.memory))?;
+        values.push(value_at(*named, registers, memory))?;
     }
     Ok(values)
 }

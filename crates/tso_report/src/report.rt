@@ -1,20 +1,25 @@
+//! The report of a run, line by line.
+
 ghost use Rattle.std.specs.Prelude.{◌≡◌, ◌++◌, ◌∷◌, [], IfOk, OnOk, string_bytes, length, slice_index_or, Option, is_some, All};
-ghost use Rattle.order_builder.specs.PrintedOrder.{printed_order, HasLocation, HasWord};
+ghost use Rattle.order_builder.specs.PrintedOrder.{printed_order, HasWord};
 ghost use Rattle.tso_report.specs.Shown.{shown, IsOf};
-ghost use Rattle.tso_report.specs.Report.{report, head, line, test_line, machine_line, shape_text, bus_text, printed_register, printed_registers, all_registers, register_line, register_lines, printed_words, memory_line, printed_verdict, condition_line, choices_line, printed_quantifier, printed_truth, traffic_text, cache_line, cache_lines};
+ghost use Rattle.tso_report.specs.Report.{report, head, line, test_line, machine_line, shape_text, bus_text};
+ghost use Rattle.tso_report.specs.Report.{printed_register, printed_registers, all_registers, register_line, register_lines};
+ghost use Rattle.tso_report.specs.Report.{printed_words, memory_line, printed_verdict, condition_line, choices_line};
+ghost use Rattle.tso_report.specs.Report.{printed_quantifier, printed_truth, traffic_text, cache_line, cache_lines};
 
 use crate::run::Run;
 use machine_core::{Bus, Config, Counts};
-use order_builder::order_text;
+use order_builder::write_order;
 use protocol_tables::ProtocolKind;
 use std::alloc::Global;
-use tso_model::{Execution, Loc, NoMemory, Quantifier, Reg, Test};
+use tso_model::{Loc, NoMemory, Quantifier, Reg, Test};
 
 /// The report of a run: the test, the machine with its protocol, the order in which memory saw the run, the final
 /// state, the verdict, the counts of choices and those of each core's cache, each on lines of its own.
 /// That the values of the order are words is told along with it, for those who read the text again.
 ///
-/// Fails only for want of memory.
+/// Errors: out of memory only.
 pub fn report_text(
     alloc: Global,
     test: &Test,
@@ -27,7 +32,7 @@ pub fn report_text(
     ensures words { OnOk result (All HasWord run.now.execution.order.items) }
 {
     let mut text = head_text(alloc, test, protocol, config)?;
-    write_order(alloc, &mut text, test, &run.execution)?;
+    write_order(&mut text, test, &run.execution)?;
     write_registers(&mut text, &run.registers)?;
     write_memory(&mut text, test, &run.memory)?;
     write_condition(&mut text, test, run.holds)?;
@@ -39,7 +44,7 @@ pub fn report_text(
 /// The first two lines of a report, and of what is printed of many runs: the test, and the machine with
 /// its protocol.
 ///
-/// Fails only for want of memory.
+/// Errors: out of memory only.
 pub fn head_text(
     alloc: Global,
     test: &Test,
@@ -92,20 +97,6 @@ fn bus_text(bus: Bus) -> &'static str
         Bus::Atomic => "",
         Bus::Split => " bus=split",
     }
-}
-
-fn write_order(
-    alloc: Global,
-    text: &mut String,
-    test: &Test,
-    execution: &Execution,
-) -> Result<(), NoMemory>
-    requires { All (HasLocation test.now) execution.now.order.items }
-    ensures text { OnOk result (string_bytes text.new ≡ string_bytes text.old ++ printed_order test.now execution.now.order.items) }
-    ensures words { OnOk result (All HasWord execution.now.order.items) }
-{
-    text.push_str(&order_text(alloc, test, execution)?)?;
-    Ok(())
 }
 
 fn write_registers(text: &mut String, registers: &[[u32; 6]]) -> Result<(), NoMemory>

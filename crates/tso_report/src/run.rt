@@ -1,3 +1,5 @@
+//! A run that ended, as it is reported.
+
 use machine_core::Counts;
 use tso_model::Execution;
 
@@ -19,6 +21,6 @@ pub struct Run {
     pub used: usize,
     /// How many of these stalled.
     pub stalled: usize,
-    /// How many choices stood behind the end.
+    /// How many choices stood after the end.
     pub unused: usize,
 }

@@ -1,8 +1,8 @@
 //! What a sweep says of its runs: the tally of them, and its text.
 
-ghost use Rattle.std.specs.Prelude.{◌≡◌, ◌+◌, ◌<◌, ◌^◌, ◌-◌, true, IfOk, OnOk, OnErr, string_bytes, is_some};
+ghost use Rattle.std.specs.Prelude.{◌≡◌, ◌+◌, ◌<◌, ◌^◌, ◌-◌, true, IfOk, OnOk, OnErr, length, string_bytes, is_some};
 ghost use Rattle.tso_report.specs.Shown.{shown, IsOf};
-ghost use Rattle.tso_report.specs.Tally.{nothing_counted, with_run, with_unfinished, runs_in, ended_in, tally_text};
+ghost use Rattle.tso_report.specs.Tally.{nothing_counted, with_run, with_state, with_verdict, with_unfinished, values_in, runs_in, ended_in, tally_text};
 
 use crate::counters::{Counters, count_ended, count_unfinished, no_runs};
 use crate::named::{Named, looked_at, values_at};
@@ -44,7 +44,7 @@ impl<'a> Model for Tally<'a> {
 impl<'a> Tally<'a> {
     /// A tally of the test in which nothing is counted.
     ///
-    /// Fails only for want of memory.
+    /// Errors: out of memory only.
     pub fn new(alloc: Global, test: &'a Test) -> Result<Self, NoMemory>
         ensures { IfOk result (λ tally. tally ≡ record { test = test.now; counts = nothing_counted }) }
     {
@@ -60,7 +60,7 @@ impl<'a> Tally<'a> {
 
     /// Counts a run of the test that ended.
     ///
-    /// Fails only for want of memory; then nothing has changed.
+    /// Errors: out of memory only; then nothing has changed.
     pub fn add(&mut self, run: &Run) -> Result<(), NoMemory>
         requires fits { IsOf self.old.test (shown run.now) }
         requires room { runs_in self.old.counts < 2 ^ 32 - 1 }
@@ -69,8 +69,29 @@ impl<'a> Tally<'a> {
         ensures test { self.new.test ≡ self.old.test }
         ensures refused { OnErr result (self.new ≡ self.old) }
     {
-        let values = values_at(self.alloc, &self.names, run)?;
-        count_ended(&mut self.counters, values, run.holds)
+        self.add_state(&run.registers, &run.memory, run.holds)
+    }
+
+    /// Counts a run of the test that ended in this state, with this truth of the condition's proposition.
+    ///
+    /// Errors: out of memory only; then nothing has changed.
+    pub fn add_state(
+        &mut self,
+        registers: &[[u32; 6]],
+        memory: &[u32],
+        holds: Option<bool>,
+    ) -> Result<(), NoMemory>
+        requires registers { length registers.now ≡ length self.old.test.programs }
+        requires memory { length memory.now ≡ length self.old.test.locations }
+        requires verdict { is_some holds ≡ is_some self.old.test.condition }
+        requires room { runs_in self.old.counts < 2 ^ 32 - 1 }
+
+        ensures counts { OnOk result (self.new.counts ≡ with_verdict holds (with_state (values_in self.old.test registers.now memory.now) self.old.counts)) }
+        ensures test { self.new.test ≡ self.old.test }
+        ensures refused { OnErr result (self.new ≡ self.old) }
+    {
+        let values = values_at(self.alloc, &self.names, registers, memory)?;
+        count_ended(&mut self.counters, values, holds)
     }
 
     /// Counts a run of the test that didn't end.
@@ -88,7 +109,8 @@ impl<'a> Tally<'a> {
         ensures runs { result ≡ runs_in self.now.counts }
 
         // With a condition, each run that ended made its proposition true or false.
-        ensures verdicts { is_some self.now.test.condition ≡ true → self.now.counts.held + self.now.counts.failed ≡ ended_in self.now.counts }
+        ensures verdicts { is_some self.now.test.condition ≡ true
+            → self.now.counts.held + self.now.counts.failed ≡ ended_in self.now.counts }
     {
         self.counters.ended + self.counters.unfinished
     }
@@ -97,7 +119,7 @@ impl<'a> Tally<'a> {
     /// where the test has a condition, a line on how often its proposition was true and false. `from` is
     /// the number of the first run, and `length` how many choices each run was given.
     ///
-    /// Fails only for want of memory.
+    /// Errors: out of memory only.
     pub fn text(&self, alloc: Global, from: u32, length: u32) -> Result<String, NoMemory>
         ensures { IfOk result (λ text. string_bytes text ≡ tally_text self.now.test self.now.counts from length) }
     {

@@ -2,14 +2,15 @@
 
 ghost use Rattle.std.specs.Prelude.{◌≡◌, ◌+◌, ◌<◌, ◌^◌, ◌++◌, OnOk, All, string_bytes, length};
 ghost use Rattle.tso_report.specs.Report.{line};
-ghost use Rattle.tso_report.specs.Tally.{looked_at, IsKnown, printed_value, printed_values, state_line, state_lines, ends_text, sweep_line, frequency, frequency_text, observed_line, observation};
+ghost use Rattle.tso_report.specs.Tally.{looked_at, IsKnown, printed_value, printed_values, state_line, state_lines, ends_text};
+ghost use Rattle.tso_report.specs.Tally.{sweep_line, frequency, frequency_text, observed_line, observation};
 ghost use Rattle.tso_report.specs.Counted.{states_of};
 
 use crate::counters::Counters;
 use crate::named::Named;
 use tso_model::{NoMemory, Test};
 
-/// `Sweep from=F seeds=N length=L ended=E unfinished=U`.
+/// `Sweep from=F seeds=N length=L ended=E unfinished=U`. Errors: out of memory only.
 pub fn write_sweep(
     text: &mut String,
     ended: u32,
@@ -34,7 +35,7 @@ fn write_ends(text: &mut String, ended: u32, unfinished: u32) -> Result<(), NoMe
     Ok(())
 }
 
-/// A line for each list of values.
+/// A line for each list of values. Errors: out of memory only.
 pub fn write_states(
     text: &mut String,
     test: &Test,
@@ -100,13 +101,14 @@ fn write_value(text: &mut String, test: &Test, named: Named, value: u32) -> Resu
     Ok(())
 }
 
-/// `Observation NAME Sometimes P Q`, where the test has a condition.
+/// `Observation NAME Sometimes P Q`, where the test has a condition. Errors: out of memory only.
 pub fn write_observation(
     text: &mut String,
     test: &Test,
     counters: &Counters,
 ) -> Result<(), NoMemory>
-    ensures { OnOk result (string_bytes text.new ≡ string_bytes text.old ++ observation test.now.name test.now.condition counters.now.held counters.now.failed) }
+    ensures { OnOk result (string_bytes text.new ≡ string_bytes text.old
+        ++ observation test.now.name test.now.condition counters.now.held counters.now.failed) }
 {
     match test.cond() {
         None => Ok(()),

@@ -1,10 +1,24 @@
 //! One set of a cache: which line leaves, and what keeps its place.
-ghost use Rattle.std.specs.Prelude.{◌≢◌};
 
+use crate::named::MEMORY;
 use cache_set::{CacheSet, Line, Victim};
 use protocol_tables::State;
+use std::alloc::Global;
 use std::process::Abort;
-use std::test::Fail;
+
+/// A call of the set or a look at it, with the line's number, and what it answers.
+#[derive(Clone, Copy)]
+enum Call {
+    /// In this state with this word, into a set that has room.
+    Fill(u8, State, u32),
+    /// In this state with this word, in the place of another line, with its state and word.
+    Replace(u8, State, u32, u8, State, u32),
+    Touch(u8),
+    Write(u8, u32),
+    Drop(u8, State, u32),
+    Has(u8, State, u32),
+    Lacks(u8),
+}
 
 fn copy(state: State, word: u32) -> Line {
     Line {
@@ -21,27 +35,20 @@ fn lacks(rt: &impl Abort, set: &CacheSet, line: u8) {
     assert!(rt; set.look(line).is_none());
 }
 
-fn fill(
-    rt: &impl Abort,
-    set: &mut CacheSet,
-    line: u8,
-    state: State,
-    word: u32,
-) -> Result<Option<Victim>, Fail>
-    requires { state ≢ State.I }
-{
+fn fill(rt: &impl Abort, set: &mut CacheSet, line: u8, content: Line) -> Option<Victim> {
     assert!(rt; set.look(line).is_none());
-    Ok(set.fill(line, state, [word, 0, 0, 0])?)
+    assert!(rt; content.state != State::I);
+    set.fill(line, content.state, content.words)
+        .expect(rt, MEMORY)
+}
+
+fn victim_is(rt: &impl Abort, victim: Option<Victim>, wanted: Option<Victim>) {
+    assert!(rt; victim == wanted);
 }
 
 fn touch(rt: &impl Abort, set: &mut CacheSet, line: u8) {
     assert!(rt; set.look(line).is_some());
     set.touch(line);
-}
-
-fn drop_line(rt: &impl Abort, set: &mut CacheSet, line: u8) -> Line {
-    assert!(rt; set.look(line).is_some());
-    set.drop_line(line)
 }
 
 fn write(rt: &impl Abort, set: &mut CacheSet, line: u8, word: u32) {
@@ -50,35 +57,69 @@ fn write(rt: &impl Abort, set: &mut CacheSet, line: u8, word: u32) {
     set.write_word(line, 0, word);
 }
 
-fn left(rt: &impl Abort, victim: Option<Victim>, line: u8, state: State, word: u32) {
-    let content = copy(state, word);
-    assert!(rt; victim == Some(Victim { line, content }));
+fn drop_line(rt: &impl Abort, set: &mut CacheSet, line: u8, content: Line) {
+    assert!(rt; set.look(line).is_some());
+    assert!(rt; set.drop_line(line) == content);
 }
 
-#[test]
-fn the_line_used_longest_ago_leaves(rt: HostRuntime) -> Result<(), Fail> {
-    let mut set = CacheSet::new(rt.alloc(), 2)?;
-    assert!(rt; fill(&rt, &mut set, 0, State::S, 5)?.is_none());
-    assert!(rt; fill(&rt, &mut set, 1, State::M, 6)?.is_none());
-    touch(&rt, &mut set, 0);
-    left(&rt, fill(&rt, &mut set, 2, State::S, 7)?, 1, State::M, 6);
-    has(&rt, &set, 0, State::S, 5);
-    left(&rt, fill(&rt, &mut set, 3, State::E, 8)?, 0, State::S, 5);
-    assert!(rt; drop_line(&rt, &mut set, 2) == copy(State::S, 7));
-    has(&rt, &set, 3, State::E, 8);
-    lacks(&rt, &set, 0);
-    lacks(&rt, &set, 1);
-    lacks(&rt, &set, 2);
-    Ok(())
+fn make(rt: &impl Abort, set: &mut CacheSet, call: Call) {
+    match call {
+        Call::Fill(line, state, word) => victim_is(
+            rt,
+            fill(rt, set, line, copy(state, word)),
+            None,
+        ),
+        Call::Replace(line, state, word, left, left_state, left_word) => {
+            let victim = Victim {
+                line: left,
+                content: copy(left_state, left_word),
+            };
+            victim_is(rt, fill(rt, set, line, copy(state, word)), Some(victim));
+        }
+        Call::Touch(line) => touch(rt, set, line),
+        Call::Write(line, word) => write(rt, set, line, word),
+        Call::Drop(line, state, word) => drop_line(rt, set, line, copy(state, word)),
+        Call::Has(line, state, word) => has(rt, set, line, state, word),
+        Call::Lacks(line) => lacks(rt, set, line),
+    }
 }
 
+/// Makes the calls on a new set for two lines.
+fn answers(rt: &impl Abort, alloc: Global, calls: &[Call]) {
+    let mut set = CacheSet::new(alloc, 2).expect(rt, MEMORY);
+    for call in calls {
+        make(rt, &mut set, *call);
+    }
+}
+
+const REPLACED: [Call; 11] = [
+    Call::Fill(0, State::S, 5),
+    Call::Fill(1, State::M, 6),
+    Call::Touch(0),
+    Call::Replace(2, State::S, 7, 1, State::M, 6),
+    Call::Has(0, State::S, 5),
+    Call::Replace(3, State::E, 8, 0, State::S, 5),
+    Call::Drop(2, State::S, 7),
+    Call::Has(3, State::E, 8),
+    Call::Lacks(0),
+    Call::Lacks(1),
+    Call::Lacks(2),
+];
+
 #[test]
-fn a_write_keeps_the_place(rt: HostRuntime) -> Result<(), Fail> {
-    let mut set = CacheSet::new(rt.alloc(), 2)?;
-    assert!(rt; fill(&rt, &mut set, 0, State::E, 5)?.is_none());
-    assert!(rt; fill(&rt, &mut set, 1, State::S, 6)?.is_none());
-    write(&rt, &mut set, 0, 9);
-    left(&rt, fill(&rt, &mut set, 2, State::S, 7)?, 0, State::M, 9);
-    has(&rt, &set, 1, State::S, 6);
-    Ok(())
+fn the_line_used_longest_ago_leaves(rt: HostRuntime) {
+    answers(&rt, rt.alloc(), &REPLACED);
+}
+
+const WRITTEN: [Call; 5] = [
+    Call::Fill(0, State::E, 5),
+    Call::Fill(1, State::S, 6),
+    Call::Write(0, 9),
+    Call::Replace(2, State::S, 7, 0, State::M, 9),
+    Call::Has(1, State::S, 6),
+];
+
+#[test]
+fn a_write_keeps_the_place(rt: HostRuntime) {
+    answers(&rt, rt.alloc(), &WRITTEN);
 }

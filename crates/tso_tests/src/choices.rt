@@ -6,37 +6,6 @@ use rand_pcg::Lcg64Xsh32;
 use scheduler::read_choices;
 use std::alloc::Global;
 use std::process::Abort;
-use std::test::Fail;
-use tso_model::{Choice, Core};
-
-fn step(core: u8) -> Choice {
-    Choice::Step(Core(core))
-}
-
-fn drain(core: u8) -> Choice {
-    Choice::Drain(Core(core))
-}
-
-fn spells(
-    rt: &impl Abort,
-    alloc: Global,
-    cores: u8,
-    text: &[u8],
-    choices: &[Choice],
-) -> Result<(), Fail> {
-    assert!(rt; 0 < cores);
-    let read = read_choices(alloc, cores, text)?;
-    assert!(rt; read.as_slice() == choices);
-    Ok(())
-}
-
-#[test]
-fn a_seed_begins_anew_each_time(rt: HostRuntime) -> Result<(), Fail> {
-    let read = read_choices(rt.alloc(), 2, b"seed 9 4 seed 9 2")?;
-    assert!(rt; read.len() == 6);
-    assert!(rt; &read[4..] == &read[..2]);
-    Ok(())
-}
 
 fn next_is(rt: &impl Abort, generator: &mut Lcg64Xsh32, word: u32) {
     assert!(rt; generator.next_word() == word);
@@ -62,30 +31,26 @@ fn the_generator_gives_the_published_words(rt: HostRuntime) {
     next_is(&rt, &mut seeded, 0xfc843fd7);
 }
 
-// Worked out apart from this project from the published algorithm.
+/// Choices of seeds for so many cores, and the same one by one, worked out apart from this project from the published
+/// algorithm. In the last a seed begins anew.
+const SEEDS: [(u8, &[u8], &[u8]); 5] = [
+    (255, b"seed 0 2", b"93d 203d"),
+    (2, b"seed 9 6", b"1s 1d 1d 1d 1s 0d"),
+    (3, b"seed 17 6", b"0d 2d 2s 2d 1d 0d"),
+    (2, b"seed 18446744073709551615 4", b"1s 1s 0s 0d"),
+    (2, b"seed 9 4 seed 9 2", b"1s 1d 1d 1d 1s 1d"),
+];
+
+fn are_the_same(rt: &impl Abort, alloc: Global, cores: u8, seeds: &[u8], choices: &[u8]) {
+    assert!(rt; 0 < cores);
+    let seeded = read_choices(alloc, cores, seeds).expect(rt, "choices");
+    let listed = read_choices(alloc, cores, choices).expect(rt, "choices");
+    assert!(rt; seeded == listed);
+}
+
 #[test]
-fn seeds_give_the_published_choices(rt: HostRuntime) -> Result<(), Fail> {
-    let alloc = rt.alloc();
-    spells(&rt, alloc, 255, b"seed 0 2", &[drain(93), drain(203)])?;
-    spells(
-        &rt,
-        alloc,
-        2,
-        b"seed 9 6",
-        &[step(1), drain(1), drain(1), drain(1), step(1), drain(0)],
-    )?;
-    spells(
-        &rt,
-        alloc,
-        3,
-        b"seed 17 6",
-        &[drain(0), drain(2), step(2), drain(2), drain(1), drain(0)],
-    )?;
-    spells(
-        &rt,
-        alloc,
-        2,
-        b"seed 18446744073709551615 4",
-        &[step(1), step(1), step(0), drain(0)],
-    )
+fn seeds_give_the_published_choices(rt: HostRuntime) {
+    for (cores, seeds, choices) in &SEEDS {
+        are_the_same(&rt, rt.alloc(), *cores, seeds, choices);
+    }
 }

@@ -1,7 +1,7 @@
 //! Tests, of what neither a clause nor a row of the program says: outside vectors, calls that the program doesn't make
 //! with ample memory, and the command over streams that fail or give little at a time. A test is proved like any
-//! function, and many calls on one value in one function cost minutes: each call stands in a helper of its own, which
-//! promises little.
+//! function, and many calls on one value in one function cost minutes: the calls are data, listed with what each is to
+//! answer, and each stands in a helper of its own, which promises little.
 #![tactic(auto)]
 
 #[cfg(test)]
@@ -9,19 +9,21 @@ mod bus;
 #[cfg(test)]
 mod caches;
 #[cfg(test)]
+mod calls;
+#[cfg(test)]
 mod choices;
 #[cfg(test)]
 mod halves;
 #[cfg(test)]
-mod inputs;
-#[cfg(test)]
 mod machine;
+#[cfg(test)]
+mod named;
 #[cfg(test)]
 mod orders;
 #[cfg(test)]
-mod settings;
-#[cfg(test)]
 mod streams;
+#[cfg(test)]
+mod taken;
 #[cfg(test)]
 mod tally;
 #[cfg(test)]

@@ -1,30 +1,47 @@
 //! Orders that no text can spell, and what a breach says of itself.
 
-use crate::inputs::{Y, entry, test_of};
+use crate::named::{MEMORY, P0, X, Y, test_of};
 use axiom_checker::{Breach, check_order};
 use std::alloc::Global;
 use std::process::Abort;
-use std::test::Fail;
-use tso_model::{Core, Entry, Execution, Instr, Kind, Loc, Test};
+use tso_model::{Entry, Execution, Kind, Test};
 
-fn is_extra(rt: &impl Abort, alloc: Global, test: &Test, fence: Entry) -> Result<(), Fail> {
-    let order = vec![in alloc; fence]?;
+/// The one with a value, the other with a location.
+const FENCES: [Entry; 2] = [
+    Entry {
+        core: P0,
+        place: 0,
+        kind: Kind::F,
+        loc: X,
+        value: 7,
+    },
+    Entry {
+        core: P0,
+        place: 0,
+        kind: Kind::F,
+        loc: Y,
+        value: 0,
+    },
+];
+
+fn is_extra(rt: &impl Abort, alloc: Global, test: &Test, fence: Entry) {
+    let order = vec![in alloc; fence].expect(rt, MEMORY);
     let judged = check_order(alloc, test, &Execution { order });
     assert!(rt; judged == Err(Breach::Extra(fence)));
-    Ok(())
 }
 
 #[test]
-fn a_fence_has_neither_location_nor_value(rt: HostRuntime) -> Result<(), Fail> {
-    let alloc = rt.alloc();
-    let test = test_of(alloc, &[&[Instr::Fence]])?;
-    is_extra(&rt, alloc, &test, entry(0, 0, Kind::F, Loc(0), 7))?;
-    is_extra(&rt, alloc, &test, entry(0, 0, Kind::F, Y, 0))
+fn a_fence_has_neither_location_nor_value(rt: HostRuntime) {
+    let text = b"X86 t\n{ x=0; y=0; }\n P0 ;\n MFENCE ;\n";
+    let test = test_of(&rt, rt.alloc(), text);
+    for fence in &FENCES {
+        is_extra(&rt, rt.alloc(), &test, *fence);
+    }
 }
 
 #[test]
-fn a_breach_prints_what_is_wrong(rt: HostRuntime) -> Result<(), Fail> {
-    let breach = Breach::Missing(Core(0), 0, Kind::W, Y);
-    assert!(rt; format!(in rt.alloc(); "{breach}")?.as_str() == "an entry is missing");
-    Ok(())
+fn a_breach_prints_what_is_wrong(rt: HostRuntime) {
+    let breach = Breach::Missing(P0, 0, Kind::W, Y);
+    let text = format!(in rt.alloc(); "{breach}").expect(&rt, MEMORY);
+    assert!(rt; text.as_str() == "an entry is missing");
 }

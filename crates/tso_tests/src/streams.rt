@@ -5,7 +5,6 @@ use std::alloc::Global;
 use std::io;
 use std::io::{Read, Write};
 use std::process::Abort;
-use std::test::Fail;
 use tso_cli::{Counted, RunFault, Settings, Status, run_command};
 
 const INPUT: &[u8] =
@@ -103,8 +102,8 @@ struct Left {
     sink: Sink,
 }
 
-fn run(rt: &impl Abort, alloc: Global, source: Source<'_>, sink: Sink) -> Result<Left, Fail> {
-    let config = Config::new(4, Shape::default(), Bus::Atomic).ok_or("a configuration")?;
+fn run(rt: &impl Abort, alloc: Global, source: Source<'_>, sink: Sink) -> Left {
+    let config = Config::new(4, Shape::default(), Bus::Atomic).expect(rt, "a configuration");
     let settings = Settings::Run {
         protocol: ProtocolKind::Msi,
         config,
@@ -114,13 +113,13 @@ fn run(rt: &impl Abort, alloc: Global, source: Source<'_>, sink: Sink) -> Result
     let mut writer = Counted::new(sink);
     assert!(rt; reader.failures() == 0 && writer.failures() == 0);
     let result = run_command(alloc, &mut reader, &mut writer, &settings);
-    Ok(Left {
+    Left {
         result,
         read_failures: reader.failures(),
         write_failures: writer.failures(),
         reads: reader.into_inner().calls,
         sink: writer.into_inner(),
-    })
+    }
 }
 
 fn failures_are(rt: &impl Abort, left: &Left, reading: u32, writing: u32) {
@@ -136,54 +135,50 @@ fn took(rt: &impl Abort, sink: &Sink, calls: u64, bytes: &[u8]) {
 }
 
 #[test]
-fn a_readers_fault_ends_the_command(rt: HostRuntime) -> Result<(), Fail> {
+fn a_readers_fault_ends_the_command(rt: HostRuntime) {
     let left = run(
         &rt,
         rt.alloc(),
         reader_of(64, 1),
         writer_of(rt.alloc(), 64, 0, 0),
-    )?;
+    );
     failures_are(&rt, &left, 1, 0);
     assert!(rt; left.reads == 1);
     took(&rt, &left.sink, 0, b"");
-    Ok(())
 }
 
 #[test]
-fn a_writers_fault_leaves_a_beginning(rt: HostRuntime) -> Result<(), Fail> {
+fn a_writers_fault_leaves_a_beginning(rt: HostRuntime) {
     let left = run(
         &rt,
         rt.alloc(),
         reader_of(64, 0),
         writer_of(rt.alloc(), 10, 2, 0),
-    )?;
+    );
     failures_are(&rt, &left, 0, 1);
     took(&rt, &left.sink, 2, b"Test SB\nMa");
-    Ok(())
 }
 
 #[test]
-fn a_write_of_no_byte_is_a_fault(rt: HostRuntime) -> Result<(), Fail> {
+fn a_write_of_no_byte_is_a_fault(rt: HostRuntime) {
     let left = run(
         &rt,
         rt.alloc(),
         reader_of(64, 0),
         writer_of(rt.alloc(), 64, 0, 1),
-    )?;
+    );
     failures_are(&rt, &left, 0, 1);
     took(&rt, &left.sink, 1, b"");
-    Ok(())
 }
 
 #[test]
-fn one_byte_a_call_is_enough(rt: HostRuntime) -> Result<(), Fail> {
+fn one_byte_a_call_is_enough(rt: HostRuntime) {
     let left = run(
         &rt,
         rt.alloc(),
         reader_of(1, 0),
         writer_of(rt.alloc(), 1, 0, 0),
-    )?;
+    );
     assert!(rt; left.result == Ok(Status::Good));
     took(&rt, &left.sink, REPORT.len() as u64, REPORT);
-    Ok(())
 }

@@ -1,28 +1,44 @@
 //! A thread's entries and registers, from the values that its reads returned.
 
-use crate::inputs::{X, entry, test_of};
+use crate::named::{MEMORY, P0, X, test_of};
 use std::alloc::Global;
 use std::process::Abort;
-use std::test::Fail;
-use tso_model::{Core, Instr, Kind, Reg, Test, Thread, read_count, thread_entries};
+use tso_model::{Entry, Kind, Test, Thread, read_count, thread_entries};
 
-fn thread(rt: &impl Abort, alloc: Global, test: &Test, read: u32) -> Result<Thread, Fail> {
+const ENTRIES: [Entry; 2] = [
+    Entry {
+        core: P0,
+        place: 1,
+        kind: Kind::LR,
+        loc: X,
+        value: 4294967290,
+    },
+    Entry {
+        core: P0,
+        place: 1,
+        kind: Kind::LW,
+        loc: X,
+        value: 1,
+    },
+];
+
+const REGISTERS: [u32; 6] = [0, 4294967290, 0, 0, 0, 0];
+
+fn thread(rt: &impl Abort, alloc: Global, test: &Test, read: u32) -> Thread {
     assert!(rt; test.cores() == 1);
-    assert!(rt; read_count(test, Core(0)) == 1);
-    Ok(thread_entries(alloc, test, Core(0), &[read])?)
+    assert!(rt; read_count(test, P0) == 1);
+    thread_entries(alloc, test, P0, &[read]).expect(rt, MEMORY)
+}
+
+fn is_as_counted(rt: &impl Abort, thread: &Thread) {
+    assert!(rt; thread.entries.as_slice() == ENTRIES.as_slice());
+    assert!(rt; thread.registers == REGISTERS);
 }
 
 #[test]
-fn a_locked_addition_reads_the_old_word_and_writes_the_sum(rt: HostRuntime) -> Result<(), Fail> {
-    let alloc = rt.alloc();
-    let test = test_of(
-        alloc,
-        &[&[Instr::SetImm(Reg::Ebx, 7), Instr::Xadd(X, Reg::Ebx)]],
-    )?;
-    let thread = thread(&rt, alloc, &test, 4294967290)?;
-    let read = entry(0, 1, Kind::LR, X, 4294967290);
-    let written = entry(0, 1, Kind::LW, X, 1);
-    assert!(rt; thread.entries.as_slice() == [read, written].as_slice());
-    assert!(rt; thread.registers == [0, 4294967290, 0, 0, 0, 0]);
-    Ok(())
+fn a_locked_addition_reads_the_old_word_and_writes_the_sum(rt: HostRuntime) {
+    let text = b"X86 t\n{ }\n P0 ;\n MOV EBX,$7 ;\n LOCK XADD [x],EBX ;\n";
+    let test = test_of(&rt, rt.alloc(), text);
+    let thread = thread(&rt, rt.alloc(), &test, 4294967290);
+    is_as_counted(&rt, &thread);
 }

@@ -1,5 +1,5 @@
 use Rattle.axiom_checker.specs.Slots.{HasNotCome}
-use Rattle.axiom_checker.proofs.Firsts.{NoneBefore}
+use Rattle.axiom_checker.specs.First.{NoneBefore}
 use Rattle.axiom_checker.proofs.arrivals.first_missing.Given as goal
 
 abbrev pub invariant-loop-i : goal.invariant-loop-i

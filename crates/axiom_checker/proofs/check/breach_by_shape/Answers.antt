@@ -6,17 +6,23 @@ use Rattle.axiom_checker.specs.Passing.{IsMatched}
 use Rattle.axiom_checker.proofs.Judging.{alike-of, names-first-stray, names-first-missing, all-matched, all-read, made-index}
 use Rattle.axiom_checker.proofs.check.breach_by_shape.Goals as goal
 
-pub returns-in-Some-clause-found : goal.returns-in-Some-clause-found
-returns-in-Some-clause-found g c =
+pub returns-in-Some-clause-breach : goal.returns-in-Some-clause-breach
+returns-in-Some-clause-breach g c =
     let t = c.args.test.now in
     let order = c.args.order.now.order in
-    names-first-stray t order c.args.shape.now (alike-of t order c.args.shape.now c.requires.shape) c.in-Some.stray c.in-Some.ensures.found
+    record {
+      found = names-first-stray t order c.args.shape.now (alike-of t order c.args.shape.now c.requires.shape) c.in-Some.stray c.in-Some.ensures.found;
+      none = λ n. absurd (let z : ⊥ = cc in z);
+    }
 
-pub returns-in-Some-first_missing-clause-found : goal.returns-in-Some-first_missing-clause-found
-returns-in-Some-first_missing-clause-found g c =
+pub returns-in-Some-first_missing-clause-breach : goal.returns-in-Some-first_missing-clause-breach
+returns-in-Some-first_missing-clause-breach g c =
     let first = c.in-Some-first_missing.ensures.found in
-    names-first-missing c.args.test.now c.args.order.now.order c.args.shape.now c.requires.shape c.args.slots.now c.requires.index c.first_stray.new.came
-    (c.in_default.ensures.none refl) (c.in_default.ensures.came refl) c.in-Some-first_missing.e first.0 first.1
+    record {
+      found = names-first-missing c.args.test.now c.args.order.now.order c.args.shape.now c.requires.shape c.args.slots.now c.requires.index
+          c.first_stray.new.came (c.in_default.ensures.none refl) (c.in_default.ensures.came refl) c.in-Some-first_missing.e first.0 first.1;
+      none = λ n. absurd (let z : ⊥ = cc in z);
+    }
 
 pub made_entries-requires : goal.made_entries-requires
 made_entries-requires g c =

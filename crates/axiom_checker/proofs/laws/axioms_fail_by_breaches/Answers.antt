@@ -1,5 +1,5 @@
 use Rattle.axiom_checker.proofs.Whole.{whole-from, whole-clean}
-use Rattle.axiom_checker.proofs.Keeps.{keeps-order, none-late, keeps-pairs, none-parted, has-values, none-wrong}
+use Rattle.axiom_checker.proofs.Keeps.{keeps-order, none-late, keeps-pairs, none-separated, has-values, none-wrong}
 use Rattle.axiom_checker.proofs.laws.axioms_fail_by_breaches.Goals as goal
 
 pub returns-clause-whole : goal.returns-clause-whole
@@ -12,7 +12,7 @@ pub returns-clause-program_order : goal.returns-clause-program_order
 returns-clause-program_order c order = (none-late order, keeps-order order)
 
 pub returns-clause-pairs : goal.returns-clause-pairs
-returns-clause-pairs c order = (none-parted order, keeps-pairs order)
+returns-clause-pairs c order = (none-separated order, keeps-pairs order)
 
 pub returns-clause-read_values : goal.returns-clause-read_values
 returns-clause-read_values c t order = (none-wrong t order, has-values t order)

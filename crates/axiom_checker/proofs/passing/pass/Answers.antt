@@ -29,19 +29,19 @@ loop-at-preserved g c =
     let x = c.loop-at.x in
     let inside : at < length order = let l = c.loop-at-test.true in let n = c.len-at-end.ensures in let o = ap (λ s. length s.order) c.look-x.ensures.counted in omega (arith, l, n, o) in
     let here = c.loop-at.invariant.here inside in
-    let next = c.entry_behind-next.ensures.next ∙ ap (λ o. unwrap_or (slice_get o (at + 1)) x) c.loop-at.invariant.order in
+    let next = c.entry_after-next.ensures.next ∙ ap (λ o. unwrap_or (slice_get o (at + 1)) x) c.loop-at.invariant.order in
     let ours = c.requires.of_programs in
     let core = ours.of_a_core at x here in
     let all : x.core.0 < length c.loop-at.reached = let n = c.loop-at.auto.reached in omega (arith, core, n) in
     let others : x.core.0 < length c.loop-at.settled = let n = c.loop-at.auto.settled in let m = c.requires.settled in omega (arith, core, n, m) in
     let looks = c.loop-at.invariant.looks in
-    let step = c.entry_behind-next.ensures.looks in
-    let last = c.entry_behind-next.ensures.last in
+    let step = c.entry_after-next.ensures.looks in
+    let last = c.entry_after-next.ensures.last in
     record {
-      order = c.entry_behind-next.ensures.same ∙ c.loop-at.invariant.order;
-      here = λ l. ahead order (at + 1) x c.entry_behind-next.result l next;
+      order = c.entry_after-next.ensures.same ∙ c.loop-at.invariant.order;
+      here = λ l. ahead order (at + 1) x c.entry_after-next.result l next;
       looks = omega (arith, looks, step);
-      no_more = no-more-looks c.args.order.now.looks (length order) at c.loop-at.order.looks c.entry_behind-next.new.order.looks looks c.loop-at.invariant.no_more step
+      no_more = no-more-looks c.args.order.now.looks (length order) at c.loop-at.order.looks c.entry_after-next.new.order.looks looks c.loop-at.invariant.no_more step
           (λ l. last (let n = ap length c.loop-at.invariant.order in omega (arith, n, l)));
       reached = subst (λ m. AreMarks order (at + 1) of_core m) (sym c.reach.ensures)
           (all-reached order at c.loop-at.reached x here all (length-set c.loop-at.reached x.core.0 _) c.loop-at.invariant.reached);
@@ -53,10 +53,10 @@ loop-at-preserved g c =
       met = λ t v w m.
           let ours_too = ours.made_by_one at x here in
           met-more t order at x v here c.args.programs.made.now m c.loop-at.reached c.loop-at.settled c.loop-at.words c.args.words.now w c.loop-at.invariant.reached c.loop-at.invariant.settled c.loop-at.invariant.words all others
-          c.entry_behind-next.result next
+          c.entry_after-next.result next
           c.wrong_write.result (c.wrong_write.ensures.found ours_too) (c.wrong_write.ensures.none ours_too)
           c.late.result c.late.ensures
-          c.parted.result c.parted.ensures.found c.parted.ensures.none
+          c.separated.result c.separated.ensures.found c.separated.ensures.none
           c.wrong_read.result (c.wrong_read.ensures.found ours_too) (c.wrong_read.ensures.none ours_too)
           c.loop-at.met _ c.first.ensures c.first-in-loop-at.ensures c.first-in-loop-at-2.ensures c.first-in-loop-at-3.ensures
           (c.loop-at.invariant.met t v w m);

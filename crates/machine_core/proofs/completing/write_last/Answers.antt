@@ -1,7 +1,4 @@
-use Rattle.std.proofs.Common.{◌≡◌, ◌<◌, ◌∙◌, ◌≤◌, Some, refl, sym, ap, subst, length, slice_get, arith}
-use Rattle.std.proofs.lemmas.Option.{slice_get_within}
-use Rattle.tso_model.specs.Limits.{most_instructions}
-use Rattle.tso_model.specs.FlatMachine.{program_of}
+use Rattle.std.proofs.Common.{◌∙◌, refl, sym, ap, subst, slice_get}
 use Rattle.tso_model.specs.SplitMachine.{Free, acts}
 use Rattle.tso_model.specs.declared.choice.Choice.TheVariants.{Step}
 use Rattle.tso_model.specs.declared.choice.Outcome.TheVariants.{Committed}
@@ -9,63 +6,55 @@ use Rattle.machine_core.specs.declared.cache_use.CacheUse.TheVariants.{Unused}
 use Rattle.machine_core.specs.Cores.{core_state, pending_in}
 use Rattle.machine_core.specs.Performed.{HasUsed}
 use Rattle.machine_core.specs.Split.{writes_last_in}
-use Rattle.machine_core.proofs.Performing.{Performs-by, IsCore-at, within-cores, access_of-step}
-use Rattle.machine_core.proofs.StepCompletions.{next-some}
-use Rattle.machine_core.proofs.LastWrites.{has-read, locks-some, is-locked, last_part, writes-last, use-last, rests-last}
+use Rattle.machine_core.proofs.Performing.{Performs-by, within-cores}
+use Rattle.machine_core.proofs.StepCompletions.{next-some, place-within, IsNext, is-next, access-next}
+use Rattle.machine_core.proofs.LastWrites.{has-read, locks-some, is-lock, last_part, writes-last, use-last, rests-last}
 use Rattle.machine_core.proofs.completing.write_last.Goals as goal
 
 pub unwrap-instr-requires : goal.unwrap-instr-requires
 unwrap-instr-requires g c =
     let p = c.index_mut-processor.result.now in
     let e = c.args.read in
-    let within = within-cores c.args.test.now c.args.parts.now e.core.0 c.requires.fits c.requires.core in
     let read = has-read c.args.test.now c.args.parts.now e c.requires.holder c.requires.between in
-    next-some c.args.test.now c.args.parts.now e.core p c.instruction_at.result within c.index_mut-processor.ensures.value
+    next-some c.args.test.now c.args.parts.now e.core p c.instruction_at.result (within-cores c.args.test.now c.args.parts.now e.core.0 c.requires.fits c.requires.core) c.index_mut-processor.ensures.value
     (ap (λ xs. slice_get xs p.place) (sym c.program.ensures.value) ∙ sym c.instruction_at.ensures) (locks-some _ e.loc read.access)
 
 pub written-reg-requires : goal.written-reg-requires
 written-reg-requires g c =
     let p = c.index_mut-processor.result.now in
     let e = c.args.read in
-    let within = within-cores c.args.test.now c.args.parts.now e.core.0 c.requires.fits c.requires.core in
-    let kept = IsCore-at c.args.test.now c.args.parts.now e.core.0 p c.requires.fits c.requires.core c.index_mut-processor.ensures.value in
     let read = has-read c.args.test.now c.args.parts.now e c.requires.holder c.requires.between in
-    let got : slice_get (program_of c.args.test.now e.core.0) p.place ≡ Some c.unwrap-instr.result =
-    ap (λ xs. slice_get xs p.place) (sym c.program.ensures.value) ∙ sym c.instruction_at.ensures ∙ c.unwrap-instr.ensures in
-    is-locked p.stores.depth c.unwrap-instr.result (pending_in e.core.0 p) e.loc
-    (sym (access_of-step c.args.test.now c.args.parts.now e.core p c.unwrap-instr.result within c.index_mut-processor.ensures.value kept.depth_is got) ∙ read.access)
+    let next : IsNext c.args.test.now c.args.parts.now e.core p c.action.result =
+    is-next c.args.test.now c.args.parts.now e.core p c.program.result.now c.instruction_at.result c.unwrap-instr.result c.action.result c.action.result c.requires.fits c.requires.core c.index_mut-processor.ensures.value
+    c.program.ensures.value c.instruction_at.ensures c.unwrap-instr.ensures c.action.ensures refl in
+    is-lock p.stores.depth c.action.result (pending_in e.core.0 p) e.loc (sym (access-next c.args.test.now c.args.parts.now e.core p c.action.result next) ∙ read.access)
 
 pub advance-requires : goal.advance-requires
 advance-requires g c =
-    let p = c.index_mut-processor.result.now in
-    let inside : p.place < length c.program.result.now = slice_get_within c.program.result.now p.place c.unwrap-instr.result (sym c.instruction_at.ensures ∙ c.unwrap-instr.ensures) in
-    let size : length c.program.result.now ≤ most_instructions = c.program.ensures.size in
-    omega (arith, inside, size)
+    place-within c.program.result.now c.instruction_at.result c.unwrap-instr.result c.index_mut-processor.result.now.place c.instruction_at.ensures c.unwrap-instr.ensures c.program.ensures.size
 
 pub returns-clause-ok : goal.returns-clause-ok
 returns-clause-ok g c =
     let p = c.index_mut-processor.result.now in
     let e = c.args.read in
-    let within = within-cores c.args.test.now c.args.parts.now e.core.0 c.requires.fits c.requires.core in
-    let kept = IsCore-at c.args.test.now c.args.parts.now e.core.0 p c.requires.fits c.requires.core c.index_mut-processor.ensures.value in
     let read = has-read c.args.test.now c.args.parts.now e c.requires.holder c.requires.between in
-    let got : slice_get (program_of c.args.test.now e.core.0) p.place ≡ Some c.unwrap-instr.result =
-    ap (λ xs. slice_get xs p.place) (sym c.program.ensures.value) ∙ sym c.instruction_at.ensures ∙ c.unwrap-instr.ensures in
-    let writes = writes-last c.args.test.now c.args.parts.now e p c.unwrap-instr.result c.written-reg.result.0 c.written-reg.result.1 within c.index_mut-processor.ensures.value kept.depth_is got read c.written-reg.ensures in
+    let next : IsNext c.args.test.now c.args.parts.now e.core p c.action.result =
+    is-next c.args.test.now c.args.parts.now e.core p c.program.result.now c.instruction_at.result c.unwrap-instr.result c.action.result c.action.result c.requires.fits c.requires.core c.index_mut-processor.ensures.value
+    c.program.ensures.value c.instruction_at.ensures c.unwrap-instr.ensures c.action.ensures refl in
     Performs-by c.args.parts.now _ (Step e.core) Committed c.advance.new.processor (writes_last_in c.args.test.now c.args.parts.now e)
-    (acts (last_part e.core.0 e.place (core_state e.core.0 p) e.loc c.written-reg.result.0 e.value c.written-reg.result.1) Free) writes refl
+    (acts (last_part e.core.0 e.place (core_state e.core.0 p) e.loc c.written-reg.result.0 e.value c.written-reg.result.1) Free)
+    (writes-last c.args.test.now c.args.parts.now e p c.action.result c.written-reg.result.0 c.written-reg.result.1 next read c.written-reg.ensures) refl
     (ap (core_state e.core.0) c.advance.ensures) c.complete_write.ensures.words c.in_ok-note.ensures.ok refl refl
 
 pub returns-clause-caches : goal.returns-clause-caches
 returns-clause-caches g c =
     let p = c.index_mut-processor.result.now in
     let e = c.args.read in
-    let within = within-cores c.args.test.now c.args.parts.now e.core.0 c.requires.fits c.requires.core in
-    let kept = IsCore-at c.args.test.now c.args.parts.now e.core.0 p c.requires.fits c.requires.core c.index_mut-processor.ensures.value in
     let read = has-read c.args.test.now c.args.parts.now e c.requires.holder c.requires.between in
-    let got : slice_get (program_of c.args.test.now e.core.0) p.place ≡ Some c.unwrap-instr.result =
-    ap (λ xs. slice_get xs p.place) (sym c.program.ensures.value) ∙ sym c.instruction_at.ensures ∙ c.unwrap-instr.ensures in
-    let writes = writes-last c.args.test.now c.args.parts.now e p c.unwrap-instr.result c.written-reg.result.0 c.written-reg.result.1 within c.index_mut-processor.ensures.value kept.depth_is got read c.written-reg.ensures in
+    let next : IsNext c.args.test.now c.args.parts.now e.core p c.action.result =
+    is-next c.args.test.now c.args.parts.now e.core p c.program.result.now c.instruction_at.result c.unwrap-instr.result c.action.result c.action.result c.requires.fits c.requires.core c.index_mut-processor.ensures.value
+    c.program.ensures.value c.instruction_at.ensures c.unwrap-instr.ensures c.action.ensures refl in
+    let writes = writes-last c.args.test.now c.args.parts.now e p c.action.result c.written-reg.result.0 c.written-reg.result.1 next read c.written-reg.ensures in
     let same = use-last c.args.test.now c.args.parts.now e (writes_last_in c.args.test.now c.args.parts.now e) p c.written-reg.result.0 c.written-reg.result.1 c.requires.between writes in
     subst (λ u. HasUsed u c.complete_write.new.self Unused) (sym same)
     (rests-last c.args.parts.now.bus c.complete_write.new.self c.complete_write.ensures.contents c.complete_write.ensures.machine c.complete_write.ensures.free c.complete_write.ensures.nothing_awaited)

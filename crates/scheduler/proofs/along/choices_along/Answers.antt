@@ -1,4 +1,3 @@
-use Rattle.std.proofs.Common.{length, rules, refl}
 use Rattle.scheduler.proofs.AlongLemmas.{begun, as-many}
 use Rattle.scheduler.proofs.along.choices_along.Goals as goal
 

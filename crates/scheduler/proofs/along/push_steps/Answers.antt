@@ -1,4 +1,3 @@
-use Rattle.std.proofs.Common.{refl}
 use Rattle.scheduler.proofs.AlongLemmas.{one-step-more}
 use Rattle.scheduler.proofs.along.push_steps.Goals as goal
 

@@ -17,14 +17,14 @@ pub returns-in_err-read-clause-refused : goal.returns-in_err-read-clause-refused
 returns-in_err-read-clause-refused c =
     let p = err_from_is_err_and c.from_residual.result c.from_residual.ensures.1 in
     let i = c.loop-word.invariant in
-    rw (p.1, p.2) (λ _. refused_at c.args.cores _ c.loop-word.words (words_of c.args.text.now) (words_of c.in-Some.behind.now) c.in-Some.word.now c.loop-word.choices.items _ c.requires i.few
+    rw (p.1, p.2) (λ _. refused_at c.args.cores _ c.loop-word.words (words_of c.args.text.now) (words_of c.in-Some.after.now) c.in-Some.word.now c.loop-word.choices.items _ c.requires i.few
     (omega (arith, c.len-room.ensures)) (i.to_come ∙ c.in-Some.ensures.some) c.in_err-read.ensures.item i.items)
 
 pub loop-word-preserved : goal.loop-word-preserved
 loop-word-preserved c =
     let i = c.loop-word.invariant in
-    let on = went_on c.args.cores _ _ c.loop-word.words (words_of c.args.text.now) (words_of c.in-Some.behind.now) (words_of c.in_ok-read.read.behind.now) c.in-Some.word.now c.loop-word.choices.items
-    c.in_ok-read.read.item c.requires i.few (omega (arith, c.len-room.ensures)) (i.to_come ∙ c.in-Some.ensures.some) c.in_ok-read.ensures.item c.in_ok-read.ensures.behind i.items in
+    let on = went_on c.args.cores _ _ c.loop-word.words (words_of c.args.text.now) (words_of c.in-Some.after.now) (words_of c.in_ok-read.read.after.now) c.in-Some.word.now c.loop-word.choices.items
+    c.in_ok-read.read.item c.requires i.few (omega (arith, c.len-room.ensures)) (i.to_come ∙ c.in-Some.ensures.some) c.in_ok-read.ensures.item c.in_ok-read.ensures.after i.items in
     let shorter = c.in-Some.ensures.shorter in
     let used = c.in_ok-read.ensures.shorter in
     rw (c.words-words.ensures, c.in_ok-push_to.ensures) (record { items = on.items; few = on.few; to_come = on.to_come; within = omega (arith, i.within, shorter, used) })

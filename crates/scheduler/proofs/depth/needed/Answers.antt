@@ -1,4 +1,4 @@
-use Rattle.std.proofs.Common.{◌≡◌, ◌+◌, ◌-◌, ◌<◌, length, get_or, arith, refl, ◌∙◌}
+use Rattle.std.proofs.Common.{◌+◌, ◌<◌, get_or, arith, refl, ◌∙◌}
 use Rattle.scheduler.proofs.Counted.{sum-fits, count-fits, onward-load, onward-store, onward-other, entry-fits, greatest}
 use Rattle.tso_model.specs.declared.execution.Entry.{Entry}
 use Rattle.tso_model.specs.declared.execution.Kind.TheVariants.{R}

@@ -1,11 +1,11 @@
 use Rattle.std.proofs.Common.{◌≡◌, List, ◌++◌, length, map}
 use Rattle.tso_model.specs.declared.choice.Choice.{Choice}
-use Rattle.scheduler.specs.Seeds.{choice_of_word, first_words, seeded_choices}
+use Rattle.scheduler.specs.Seeds.{choice_of_word, drawn_words, seeded_choices}
 use Rattle.scheduler.specs.declared.coming.Seeded.{Seeded}
 use Rattle.scheduler.proofs.seeds.push_seeded.Given as goal
 
 abbrev to_come : Seeded → List Choice
-to_come s = map (choice_of_word s.cores) (first_words s.left s.generator)
+to_come s = map (choice_of_word s.cores) (drawn_words s.left s.generator)
 
 -- what is made and what is to come are the whole
 abbrev pub invariant-loop-choice : goal.invariant-loop-choice

@@ -2,6 +2,7 @@ use Rattle.std.proofs.Common.{arith, ◌≡◌, true, false, sym, subst, ap, ◌
 use Rattle.tso_model.specs.Execution.{IsWhole}
 use Rattle.tso_laws.specs.EndedRuns.{IsExecution}
 use Rattle.tso_cli.specs.Runs.{run_by, AnswersFitBy}
+use Rattle.tso_cli.specs.Simulation.{verdict}
 use Rattle.tso_cli.proofs.CountLemmas.{counts-each}
 use Rattle.tso_cli.proofs.SimulationLemmas.{RunLaws, unfinished-is, ended-is, ended-order, answers-fit, counts-are, locations-known, is_some-verdict}
 use Rattle.tso_cli.proofs.simulation.run_to_the_end.Goals as goal
@@ -29,9 +30,12 @@ returns-clause-ending g c =
       stops = c.runs_on_either_bus_stop_where_they_end.ensures.stops;
     } in
     let ended : c.is_ended.result ≡ true = grind arith in
+    let left = c.in_ok-left.left in
+    let truth : c.verdict_of-holds.result ≡ verdict c.args.test.now left.registers.items left.memory.items =
+    c.verdict_of-holds.ensures ∙ ap (λ r. verdict c.args.test.now r c.deref-2.result.now) c.deref.ensures.value ∙ ap (λ w. verdict c.args.test.now left.registers.items w) c.deref-2.ensures.value in
     ended-is (g.P.Protocol.table c.args.protocol) c.args.config c.args.test.now _ _ (g.C.Choices.coming c.args.choices) _ _ _ laws (c.in_ok-machine.ensures, c.in_ok-progress.ensures.drives)
     (sym c.is_ended.ensures ∙ ended) c.in_ok-left.ensures.order c.in_ok-left.ensures.registers c.in_ok-left.ensures.memory
-    c.verdict_of-holds.ensures refl refl (omega (arith, c.left.ensures, c.in_ok-progress.ensures.left))
+    truth refl refl (omega (arith, c.left.ensures, c.in_ok-progress.ensures.left))
 
 pub returns-clause-answers : goal.returns-clause-answers
 returns-clause-answers g c =

@@ -4,4 +4,4 @@ use Rattle.tso_report.proofs.named.values_at.Given as goal
 
 abbrev pub invariant-loop-named : goal.invariant-loop-named
 invariant-loop-named l =
-    l.values.items ++ map (value_of l.run.registers.items l.run.memory.items) (drop l.named-index l.list) ≡ map (value_of l.run.registers.items l.run.memory.items) l.list
+    l.values.items ++ map (value_of l.registers l.memory) (drop l.named-index l.list) ≡ map (value_of l.registers l.memory) l.list

@@ -1,6 +1,6 @@
-use Rattle.scheduler.specs.Seeds.{generator, first_words}
+use Rattle.scheduler.specs.Seeds.{generator, drawn_words}
 use Rattle.scheduler.proofs.Cores.{words-exist}
 use Rattle.scheduler.proofs.coming.Seeded.new.Goals as goal
 
 pub returns-clause-cores : goal.returns-clause-cores
-returns-clause-cores c = words-exist c.args.cores (first_words c.args.count (generator c.args.seed)) c.requires
+returns-clause-cores c = words-exist c.args.cores (drawn_words c.args.count (generator c.args.seed)) c.requires

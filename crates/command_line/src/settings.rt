@@ -1,0 +1,160 @@
+//! What the words of a command line ask for.
+
+ghost use Rattle.std.specs.Prelude.{IfOk, IfSome};
+ghost use Rattle.command_line.specs.Limits.{IsWithinLimits, HasDepth};
+
+use crate::options::command_line;
+use crate::plan::SweepPlan;
+use clap::ArgMatches;
+use machine_core::{Bus, Config, Shape};
+use protocol_tables::ProtocolKind;
+use std::alloc::Global;
+use thiserror::Error;
+use tso_model::limits::{MAX_DEPTH, MIN_DEPTH};
+
+/// What a command line asks for.
+#[derive(Clone, Copy)]
+pub enum Settings {
+    /// Run a test under choices, on a machine of this protocol and configuration, and report it, as
+    /// JSON if that is asked for.
+    Run {
+        protocol: ProtocolKind,
+        config: Config,
+        json: bool,
+    },
+    /// Run a test under the choices of each seed of a plan, on such a machine, and tell which final
+    /// states were met.
+    Sweep {
+        protocol: ProtocolKind,
+        config: Config,
+        plan: SweepPlan,
+    },
+    /// Check an order of a test against the axioms.
+    Check,
+    /// Find choices that reach an order of a test, with store buffers of this depth (1 to 32).
+    Witness {
+        depth: u8,
+    },
+    /// Print a protocol's table.
+    Tables(ProtocolKind),
+}
+
+/// Why a command line is refused.
+#[derive(Debug, Drop, Error)]
+pub enum LineFault {
+    /// The words aren't a command with its options; being out of memory is reported so, too.
+    #[error(transparent)]
+    Words(#[from] clap::Error),
+    /// A value that the options let pass is outside its limits.
+    #[error("range")]
+    Range,
+}
+
+/// The settings of a command line, whose first word is the program's name.
+///
+/// `Words` where the words aren't a command with its options; `Range` where a value that the
+/// options let pass is outside its limits.
+pub fn settings_of(alloc: Global, words: &[&str]) -> Result<Settings, LineFault>
+    ensures within { IfOk result IsWithinLimits }
+    ensures depth { IfOk result HasDepth }
+{
+    let command = command_line(alloc).map_err(clap::Error::from)?;
+    let matches = command.try_get_matches_from(words)?;
+    match matches.subcommand() {
+        Some((name, inner)) => settings_in(name, inner).ok_or(LineFault::Range),
+        None => Err(LineFault::Range),
+    }
+}
+
+/// The settings of a subcommand; `None` where a value is outside its limits.
+fn settings_in(name: &str, matches: &ArgMatches<'_>) -> Option<Settings>
+    ensures within { IfSome result IsWithinLimits }
+    ensures depth { IfSome result HasDepth }
+{
+    match name {
+        "run" => run_settings(matches),
+        "sweep" => sweep_settings(matches),
+        "check" => Some(Settings::Check),
+        "witness" => witness_settings(matches),
+        "tables" => Some(Settings::Tables(protocol_in(matches)?)),
+        _ => None,
+    }
+}
+
+fn run_settings(matches: &ArgMatches<'_>) -> Option<Settings>
+    ensures within { IfSome result IsWithinLimits }
+    ensures depth { IfSome result HasDepth }
+{
+    let protocol = protocol_in(matches)?;
+    let config = config_in(matches)?;
+    let json = matches.get_flag("json");
+    let _known = config.depth();
+    Some(Settings::Run {
+        protocol,
+        config,
+        json,
+    })
+}
+
+fn sweep_settings(matches: &ArgMatches<'_>) -> Option<Settings>
+    ensures within { IfSome result IsWithinLimits }
+    ensures depth { IfSome result HasDepth }
+{
+    let protocol = protocol_in(matches)?;
+    let config = config_in(matches)?;
+    let plan = plan_in(matches)?;
+    let _known = (config.depth(), plan.seeds());
+    Some(Settings::Sweep {
+        protocol,
+        config,
+        plan,
+    })
+}
+
+fn witness_settings(matches: &ArgMatches<'_>) -> Option<Settings>
+    ensures within { IfSome result IsWithinLimits }
+    ensures depth { IfSome result HasDepth }
+{
+    let depth = matches.get_one::<u8>("depth")?;
+    if !(MIN_DEPTH..=MAX_DEPTH).contains(&depth) {
+        return None;
+    }
+    Some(Settings::Witness { depth })
+}
+
+fn config_in(matches: &ArgMatches<'_>) -> Option<Config> {
+    let depth = matches.get_one::<u8>("depth")?;
+    Config::new(depth, shape_in(matches)?, bus_in(matches)?)
+}
+
+fn plan_in(matches: &ArgMatches<'_>) -> Option<SweepPlan> {
+    let from = matches.get_one::<u32>("from")?;
+    let seeds = matches.get_one::<u32>("seeds")?;
+    let length = matches.get_one::<u32>("length")?;
+    SweepPlan::new(from, seeds, length)
+}
+
+fn shape_in(matches: &ArgMatches<'_>) -> Option<Shape> {
+    let sets = matches.get_one::<u8>("sets")?;
+    let ways = matches.get_one::<u8>("ways")?;
+    let words = matches.get_one::<u8>("words")?;
+    Shape::new(sets, ways, words)
+}
+
+fn bus_in(matches: &ArgMatches<'_>) -> Option<Bus> {
+    match matches.get_str("bus")? {
+        "atomic" => Some(Bus::Atomic),
+        "split" => Some(Bus::Split),
+        _ => None,
+    }
+}
+
+fn protocol_in(matches: &ArgMatches<'_>) -> Option<ProtocolKind> {
+    match matches.get_str("protocol")? {
+        "msi" => Some(ProtocolKind::Msi),
+        "mesi" => Some(ProtocolKind::Mesi),
+        "moesi" => Some(ProtocolKind::Moesi),
+        "mosi" => Some(ProtocolKind::Mosi),
+        _ => None,
+    }
+}

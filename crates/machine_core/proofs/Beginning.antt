@@ -1,0 +1,65 @@
+-- The parts of a machine that goes back to the beginning of its test.
+use Rattle.std.proofs.Common.{◌≡◌, ◌+◌, ℕ, zero, suc, List, [], ◌∷◌, length, slice_index_or, map, replicate, All, refl, sym, ap, ◌∙◌, subst, arith}
+use Rattle.tso_model.specs.Litmus.{Litmus}
+use Rattle.tso_model.specs.FlatMachine.{started, start}
+use Rattle.tso_model.specs.SplitMachine.{Free}
+use Rattle.tso_model.specs.EitherBus.{unheld}
+use Rattle.tso_model.specs.declared.bus.Bus as kind
+use Rattle.tso_model.specs.declared.instruction.Instr.{Instr}
+use Rattle.split_laws.specs.BusChoices.{IsPossibleOn}
+use Rattle.store_buffer.specs.Stores.{stores}
+use Rattle.snoop_bus.specs.Rows.{table_of}
+use Rattle.snoop_bus.specs.Bus.{Bus, cores_of}
+use Rattle.snoop_bus.specs.Accesses.{new_bus}
+use Rattle.machine_core.proofs.Overwriting.{written}
+use Rattle.machine_core.specs.declared.processor.Processor.{Processor}
+use Rattle.machine_core.specs.Cores.{core_states, core_state, state_of, restarted}
+use Rattle.machine_core.specs.declared.counts.Counts.{Counts}
+use Rattle.machine_core.specs.Statistics.{no_counts, no_statistics}
+use Rattle.machine_core.specs.Caches.{caches_of}
+use Rattle.machine_core.specs.declared.parts.Parts.{Parts}
+use Rattle.machine_core.specs.Kept.{IsCore, state_in}
+use Rattle.machine_core.proofs.CoreLemmas.{IsCore-new}
+
+-- a core that has gone back, with its first registers
+abbrev pub begun : List (List ℕ) → ℕ → Processor → Processor
+begun registers core p = restarted (slice_index_or registers core []) p
+
+pub started-begun : (registers : List (List ℕ)) (k : ℕ) (ps : List Processor) (programs : List (List Instr)) → length ps ≡ length programs
+    → core_states k (written (begun registers) k (length ps) ps) ≡ started k programs registers
+started-begun registers k [] [] same = refl
+started-begun registers k [] (q ∷ qs) same = absurd (omega arith)
+started-begun registers k (p ∷ ps) [] same = absurd (omega arith)
+started-begun registers k (p ∷ ps) (q ∷ qs) same =
+    ap (λ cs. core_state k (begun registers k p) ∷ cs) (started-begun registers (k + 1) ps qs (omega arith))
+
+pub depth-begun : (registers : List (List ℕ)) (depth before locations k : ℕ) (ps : List Processor) → All (IsCore depth before) ps
+    → All (IsCore depth locations) (written (begun registers) k (length ps) ps)
+depth-begun registers depth before locations k [] all i d l = absurd (omega arith)
+depth-begun registers depth before locations k (p ∷ ps) all zero d l =
+    IsCore-new depth locations (begun registers k p) (ap (λ n. stores [] n) (all 0 p (omega arith)).depth_is)
+depth-begun registers depth before locations k (p ∷ ps) all (suc i) d l =
+    depth-begun registers depth before locations (k + 1) ps (λ n e m. all (suc n) e (omega arith)) i d (omega arith)
+
+pub all-none : (cs : List Counts) → map (λ _. no_counts) cs ≡ replicate (length cs) no_counts
+all-none [] = refl
+all-none (c ∷ cs) = ap (λ ns. no_counts ∷ ns) (all-none cs)
+
+pub begun-state : (ps : List Processor) (words : List ℕ) (t : Litmus) → core_states 0 ps ≡ started 0 t.programs t.registers → words ≡ t.words
+    → record { flat = state_of ps words; holder = Free } ≡ unheld (start t)
+begun-state ps words t cores memory = rw (cores, memory) refl
+
+pub begun-statistics : (old new : Bus) (init : List ℕ) (counts : List Counts) (t : Litmus) (n : ℕ) → new ≡ new_bus (table_of old.rows) (cores_of old) old.shape init → cores_of old ≡ length t.programs
+    → init ≡ t.words → counts ≡ replicate n no_counts → n ≡ length t.programs
+    → record { caches = caches_of new; counts = counts } ≡ no_statistics (table_of old.rows) old.shape t
+begun-statistics old new init counts t n exact cores words none all =
+    let bus : new ≡ new_bus (table_of old.rows) (length t.programs) old.shape t.words =
+    exact ∙ ap (λ k. new_bus (table_of old.rows) k old.shape init) cores ∙ ap (λ w. new_bus (table_of old.rows) (length t.programs) old.shape w) words in
+    rw (bus, none, all) refl
+
+-- what a machine has come to at the beginning is possible
+pub possible-first : {P : Type 0} (t : Litmus) (m : Parts P) → ((bus : kind.Bus) (t : Litmus) (depth : ℕ) → IsPossibleOn bus t depth [] (unheld (start t)))
+    → state_in m ≡ unheld (start t) → m.commits.entries ≡ [] → IsPossibleOn m.config.bus t m.config.depth m.commits.entries (state_in m)
+possible-first t m first state commits =
+    subst (λ es. IsPossibleOn m.config.bus t m.config.depth es (state_in m)) (sym commits)
+    (subst (λ s. IsPossibleOn m.config.bus t m.config.depth [] s) (sym state) (first m.config.bus t m.config.depth))

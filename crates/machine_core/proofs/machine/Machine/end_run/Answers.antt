@@ -1,0 +1,49 @@
+use Rattle.std.proofs.Common.{◌≡◌, [], false, IsTrue, IfOk, map, refl, ap, ◌∙◌, sym, subst, length}
+use Rattle.tso_model.specs.FlatMachine.{start}
+use Rattle.tso_model.specs.EitherBus.{unheld}
+use Rattle.snoop_bus.specs.Rows.{table_of}
+use Rattle.machine_core.specs.Running.{is_ended, restarted}
+use Rattle.machine_core.specs.Kept.{state_in, statistics_in}
+use Rattle.machine_core.specs.Statistics.{no_statistics}
+use Rattle.machine_core.proofs.Beginning.{possible-first}
+use Rattle.machine_core.proofs.CoreLemmas.{registers-core_states}
+use Rattle.machine_core.proofs.RunningLemmas.{Running-same, has-ended, free-bus}
+use Rattle.machine_core.proofs.machine.Machine.end_run.Goals as goal
+
+pub final_state-state-requires-clause-free : goal.final_state-state-requires-clause-free
+final_state-state-requires-clause-free g c =
+    let t = c.self.inside.test.now in
+    let parts = c.self.inside.parts in
+    let ended = has-ended c.self.inside.failed _ (subst (λ m. IsTrue (is_ended m)) (sym c.self.view_is) c.requires) in
+    free-bus t parts c.self.invariant.1
+    (c.what_holds_so_far_on_either_bus.ensures.free parts.config.bus t parts.config.depth parts.commits.entries (state_in parts) c.self.invariant.2 ended)
+
+pub restart-requires-clause-test : goal.restart-requires-clause-test
+restart-requires-clause-test g c = c.self.invariant.3.test
+
+pub restart-requires-clause-counts : goal.restart-requires-clause-counts
+restart-requires-clause-counts g c = ap length c.final_state-state.ensures.counts ∙ c.self.invariant.3.cores
+
+pub invariant_of-self : goal.invariant_of-self
+invariant_of-self g c =
+    let r = c.restart.ensures in
+    (r.fits, r.held, possible-first c.self.inside.test.now c.restart.new.parts c.attempts_lead_from_state_to_state.ensures.first r.state r.commits, r.tallied)
+
+pub returns-clause-registers : goal.returns-clause-registers
+returns-clause-registers g c =
+    subst (λ rs. IfOk c.final_state-state.result (λ f. f.registers.items ≡ rs))
+    (registers-core_states 0 c.self.inside.parts.processors.items ∙ ap (λ m. map (λ s. s.registers) m.state.flat.cores) c.self.view_is) c.final_state-state.ensures.registers
+
+pub returns-clause-restarted : goal.returns-clause-restarted
+returns-clause-restarted g c =
+    let r = c.restart.ensures in
+    let left = c.final_state-state.ensures in
+    let t = c.self.inside.test.now in
+    let old = c.self.inside.parts in
+    let mid = c.final_state-state.new.parts in
+    let new = c.restart.new.parts in
+    let config = r.config ∙ left.config in
+    let statistics = r.statistics ∙ ap (λ rows. no_statistics (table_of rows) mid.bus.shape t) left.machine.rows ∙ ap (λ shape. no_statistics (table_of old.bus.rows) shape t) left.machine.shape in
+    Running-same _ t old.config.bus new.config.bus old.config.depth new.config.depth (unheld (start t)) (state_in new) [] new.commits.entries _ (statistics_in new) false false
+    refl (ap (λ config. config.bus) config) (ap (λ config. config.depth) config) r.state r.commits statistics refl
+    ∙ ap restarted c.self.view_is

@@ -1,0 +1,60 @@
+//! A machine that goes back to the beginning of its test, in the room that it has.
+ghost use Rattle.std.specs.Prelude.{◌≡◌, ℕ, [], IfOk, All, length, map, replicate};
+ghost use Rattle.tso_model.specs.Litmus.{IsTest};
+ghost use Rattle.tso_model.specs.FlatMachine.{start, started};
+ghost use Rattle.tso_model.specs.EitherBus.{unheld};
+ghost use Rattle.snoop_bus.specs.Rows.{table_of};
+ghost use Rattle.machine_core.specs.Cores.{core_states};
+ghost use Rattle.machine_core.specs.Statistics.{no_counts, no_statistics};
+ghost use Rattle.machine_core.specs.Kept.{IsCore, FitsTest, IsHeldAs, IsTallied, state_in, statistics_in};
+
+use crate::counts::Counts;
+use crate::holding::Holding;
+use crate::parts::Parts;
+use crate::processor::Processor;
+use protocol_tables::Protocol;
+use tso_model::{Core, Test};
+
+/// The parts go back to the beginning of the test.
+pub fn restart<P: Protocol>(parts: &mut Parts<P>, test: &Test)
+    requires fits { FitsTest test.now parts.old }
+    requires test { IsTest test.now }
+    requires counts { length parts.old.counts.items ≡ length test.now.programs }
+
+    ensures fits { FitsTest test.now parts.new }
+    ensures held { IsHeldAs test.now parts.new }
+    ensures state { state_in parts.new ≡ unheld (start test.now) }
+    ensures commits { parts.new.commits.entries ≡ [] }
+    ensures config { parts.new.config ≡ parts.old.config }
+    ensures statistics { statistics_in parts.new ≡ no_statistics (table_of parts.old.bus.rows) parts.old.bus.shape test.now }
+    ensures tallied { IsTallied test.now (state_in parts.new) (statistics_in parts.new) }
+{
+    restart_cores(&mut parts.processors, test);
+    parts.bus.restart(test.initial_words());
+    parts.holding = Holding::Free;
+    parts.commits.clear();
+    count_nothing(&mut parts.counts);
+}
+
+/// Each core goes back before its first instruction, with its first registers and nothing pending.
+fn restart_cores(processors: &mut [Processor], test: &Test)
+    requires { length processors.old ≡ length test.now.programs }
+    ensures states { core_states 0 processors.new ≡ started 0 test.now.programs test.now.registers }
+    ensures depths { (depth before locations : ℕ) → All (IsCore depth before) processors.old → All (IsCore depth locations) processors.new }
+    ensures count { length processors.new ≡ length processors.old }
+{
+    for core in 0..test.cores() {
+        let registers = test.initial_registers(Core(core));
+        let processor = &mut processors[core as usize];
+        processor.restart(registers);
+    }
+}
+
+/// Nothing is counted for any core.
+fn count_nothing(counts: &mut [Counts])
+    ensures { counts.new ≡ replicate (length counts.old) no_counts }
+{
+    for core in 0..counts.len() {
+        counts[core] = Counts::NONE;
+    }
+}

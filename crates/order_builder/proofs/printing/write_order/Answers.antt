@@ -1,0 +1,10 @@
+use Rattle.std.proofs.Common.{ap, ◌∙◌, ◌++◌, string_bytes}
+use Rattle.order_builder.specs.PrintedOrder.{printed_order}
+use Rattle.order_builder.proofs.PrintLemmas.{written_order}
+use Rattle.order_builder.proofs.printing.write_order.Goals as goal
+
+pub returns-clause-text : goal.returns-clause-text
+returns-clause-text c =
+    written_order c.args.test.now c.as_slice-order.result.now _ _ _ _ c.in_ok-push_str.ensures.bytes c.in_ok-write_entries.ensures.text
+    c.in_ok-write_end.ensures
+    ∙ ap (λ order. string_bytes c.args.text.now ++ printed_order c.args.test.now order) c.as_slice-order.ensures.value

@@ -1,0 +1,35 @@
+//! Numbers as an order is written with them: decimal, without leading zeros.
+
+ghost use Rattle.std.specs.Prelude.{◌≡◌, ◌≤◌, ◌==◌, IfSome};
+ghost use Rattle.decimals.specs.Decimals.{decimal_value};
+ghost use Rattle.order_builder.specs.Numbers.{is_number, number_in};
+
+use decimals::{all_digits, number_up_to};
+
+/// Whether the text is a decimal number without leading zeros, of any size.
+pub fn is_number(text: &[u8]) -> bool
+    ensures { result ≡ is_number text.now }
+{
+    !text.is_empty() && all_digits(text) && (text[0] != b'0' || text.len() == 1)
+}
+
+/// Whether digits say this number.
+#[tactic(auto, unfolding(decimals::specs::Decimals::number_up_to))]
+pub fn number_is(digits: &[u8], number: u64) -> bool
+    ensures { result ≡ (decimal_value digits.now == number) }
+{
+    number_up_to(number, digits) == Some(number)
+}
+
+/// The number that a text is, if it is one and no greater than `most`.
+#[tactic(auto, unfolding(crate::specs::Numbers::number_in))]
+pub fn number_in(text: &[u8], most: u64) -> Option<u64>
+    ensures value { result ≡ number_in most text.now }
+    ensures within { IfSome result (λ number. number ≤ most) }
+{
+    if is_number(text) {
+        number_up_to(most, text)
+    } else {
+        None
+    }
+}

@@ -1,0 +1,58 @@
+-- A bus that begins anew: its caches are emptied, and memory gets its first words again.
+use Rattle.std.proofs.Common.{◌≡◌, ◌<◌, ◌≤◌, ℕ, Option, None, List, [], ◌∷◌, length, map, replicate, refl, sym, ap, ◌∙◌, arith}
+use Rattle.std.specs.Int.{div_ceil}
+use Rattle.std.proofs.lemmas.Grind.{div_ceil_times}
+use Rattle.std.proofs.lemmas.List.{length-map}
+use Rattle.std.proofs.lemmas.List.FromFn.{length-map-range_with_len}
+use Rattle.std.proofs.Math.ListN.{get_or-map}
+use Rattle.protocol_tables.specs.Tables.{Table}
+use Rattle.cache_set.specs.Limits.{most_words}
+use Rattle.cache_set.specs.Contents.{contents, copy_of}
+use Rattle.snoop_bus.specs.Geometry.{Geometry}
+use Rattle.snoop_bus.specs.Rows.{rows_of}
+use Rattle.snoop_bus.specs.Lines.{Words, words_in, lines_of_words}
+use Rattle.snoop_bus.specs.Copies.{Sets, emptied, ways_of, AtHome}
+use Rattle.snoop_bus.specs.Bus.{Bus, IsBus, words_of, seen, empty_caches}
+use Rattle.snoop_bus.specs.Accesses.{new_bus}
+use Rattle.snoop_bus.specs.declared.holding.Held.{Held}
+use Rattle.snoop_bus.proofs.NewLemmas.{map-replicate, new-bus, new-words}
+
+pub home-emptied : (sets : Sets) → 0 < length sets → (0 < length (map emptied sets)) × AtHome (map emptied sets)
+home-emptied sets some = ((rw (length-map sets emptied) some), λ i line within other. ap (λ s. copy_of s line) (get_or-map emptied sets i (contents [] 1)))
+
+emptied-sets : (sets : Sets) → map emptied sets ≡ map (λ ways. contents [] ways) (map (λ s. s.ways) sets)
+emptied-sets [] = refl
+emptied-sets (s ∷ sets) = ap (λ ss. emptied s ∷ ss) (emptied-sets sets)
+
+emptied-caches : (caches : List Sets) → map (map emptied) caches ≡ map (map (λ ways. contents [] ways)) (ways_of caches)
+emptied-caches [] = refl
+emptied-caches (sets ∷ caches) = ap (λ s. s ∷ map (map emptied) caches) (emptied-sets sets) ∙ ap (λ cs. map (λ ways. contents [] ways) (map (λ s. s.ways) sets) ∷ cs) (emptied-caches caches)
+
+all-emptied : (shape : Geometry) (caches : List Sets) → ways_of caches ≡ replicate (length caches) (replicate shape.sets shape.ways) → map (map emptied) caches ≡ empty_caches (length caches) shape
+all-emptied shape caches shaped =
+    emptied-caches caches ∙ ap (map (map (λ ways. contents [] ways))) shaped ∙ map-replicate (map (λ ways. contents [] ways)) (length caches) (replicate shape.sets shape.ways)
+    ∙ ap (replicate (length caches)) (map-replicate (λ ways. contents [] ways) shape.sets shape.ways)
+
+pub count-words : (b : Bus) → length (words_of b) ≡ b.locations
+count-words b = length-map-range_with_len _ 0 b.locations
+
+-- these caches and this memory are those of a new bus
+pub record IsNew (t : Table) (shape : Geometry) (locations cores : ℕ) (caches : List Sets) (memory : List Words) (init : List ℕ) : Type 0 where
+  pub bus : IsBus shape locations caches memory None
+  pub words : words_in shape.words (seen caches memory) locations ≡ init
+  pub exact : record { rows = rows_of t; shape = shape; locations = locations; caches = caches; memory = memory; held = None } ≡ new_bus t cores shape init
+
+pub begins-anew : (t : Table) (shape : Geometry) (locations : ℕ) (c0 c2 : List Sets) (m0 m2 : List Words) (h : Option Held) (init : List ℕ) → IsBus shape locations c0 m0 h → shape.words ≤ most_words
+    → length init ≡ locations → c2 ≡ map (map emptied) c0 → m2 ≡ lines_of_words shape.words init (length m0) → IsNew t shape locations (length c0) c2 m2 init
+begins-anew t shape locations c0 c2 m0 m2 h init b size same caches memory =
+    let lines : length m0 ≡ div_ceil (length init) shape.words = b.as_many_lines ∙ ap (λ n. div_ceil n shape.words) (sym same) in
+    let enough = div_ceil_times (length init) shape.words b.some_word in
+    let caches_are : c2 ≡ empty_caches (length c0) shape = caches ∙ all-emptied shape c0 b.shaped in
+    let memory_is : m2 ≡ lines_of_words shape.words init (div_ceil (length init) shape.words) = memory ∙ ap (lines_of_words shape.words init) lines in
+    let few = b.few_locations in
+    record {
+      bus = rw (caches_are, memory_is, ← same)
+          (new-bus (length c0) (div_ceil (length init) shape.words) shape init b.some_core b.few_cores b.some_word size (omega arith) enough.0 enough.1 refl);
+      words = rw (caches_are, memory_is, ← same) (new-words shape.words (div_ceil (length init) shape.words) (length c0) shape init b.some_word size enough.0);
+      exact = rw (caches_are, memory_is, ← same) refl;
+    }

@@ -1,0 +1,37 @@
+//! A bus that begins anew, with its room.
+ghost use Rattle.std.specs.Prelude.{◌≡◌, length, map};
+ghost use Rattle.snoop_bus.specs.Rows.{table_of};
+ghost use Rattle.snoop_bus.specs.Copies.{emptied};
+ghost use Rattle.snoop_bus.specs.Bus.{words_of, cores_of, IsCoherent, IsSameMachine};
+ghost use Rattle.snoop_bus.specs.Accesses.{new_bus};
+
+use crate::bus::SnoopBus;
+use crate::cache::Cache;
+use crate::lines::put_lines;
+use protocol_tables::Protocol;
+
+impl<P: Protocol> SnoopBus<P> {
+    /// Begins anew with these words in memory, as many as before. The bus is then as `new` left it: its caches
+    /// are empty, and nobody holds it. No memory is taken.
+    pub fn restart(&mut self, init: &[u32])
+        requires { length init.now ≡ length (words_of self.old) }
+        ensures words { words_of self.new ≡ init.now }
+        ensures exact { self.new ≡ new_bus (table_of self.old.rows) (cores_of self.old) self.old.shape init.now }
+        ensures coherent { IsCoherent self.new }
+        ensures machine { IsSameMachine self.old self.new }
+    {
+        clear_caches(&mut self.caches);
+        put_lines(&mut self.memory, self.shape, init);
+        self.held = None;
+    }
+}
+
+/// Every line leaves these caches.
+fn clear_caches(caches: &mut [Cache])
+    ensures { caches.new ≡ map (map emptied) caches.old }
+{
+    for core in 0..caches.len() {
+        let cache = &mut caches[core];
+        cache.clear();
+    }
+}

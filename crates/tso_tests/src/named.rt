@@ -1,0 +1,24 @@
+//! Cores and locations by the names that the text of a test gives them, and such a test.
+
+use litmus_reader::read_test;
+use std::alloc::Global;
+use std::process::Abort;
+use tso_model::{Core, Loc, Test};
+
+/// What a test takes for granted.
+pub const MEMORY: &str = "memory is ample";
+
+pub const P0: Core = Core(0);
+
+pub const P1: Core = Core(1);
+
+pub const X: Loc = Loc(0);
+
+pub const Y: Loc = Loc(1);
+
+pub const Z: Loc = Loc(2);
+
+/// The test that a text spells.
+pub fn test_of(rt: &impl Abort, alloc: Global, text: &[u8]) -> Test {
+    read_test(alloc, text).expect(rt, "a test")
+}
