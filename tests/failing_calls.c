@@ -7,7 +7,7 @@
      FAIL_SHORT   where it is there, reads and writes move one byte at most
      FAIL_NOTES   the number of an open file, to which goes a line for each call that fails, and for what follows it:
                   'failed', 'again' (the next such call), 'more' (each later one), each with the size that was asked
-                  for; and the line 'reading N' at the first read, behind N requests for memory */
+                  for; and the line 'reading N' at the first read, after N requests for memory */
 #define _GNU_SOURCE
 #include <dlfcn.h>
 #include <errno.h>
@@ -28,7 +28,7 @@ static void note(const char *word, long number) {
         syscall(SYS_write, notes, line, length);
 }
 
-/* Runs before the program's own code, but behind the loader's: what that asks for isn't counted. */
+/* Runs before the program's own code, but after the loader's: what that asks for isn't counted. */
 __attribute__((constructor)) static void begin(void) {
     const char *text;
     if ((text = getenv("FAIL_CALL")))

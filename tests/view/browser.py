@@ -96,7 +96,7 @@ class Browser:
             self.requests.append(said["request"]["url"])
 
     def open(self, address):
-        """Opens an address anew, even where only what stands behind its `#` has changed."""
+        """Opens an address anew, even where only what stands after its `#` has changed."""
         self.call("Page.navigate", url="about:blank")
         self.call("Page.navigate", url=address)
         self.value("new Promise(done => document.readyState === 'complete' ? done() : addEventListener('load', () => done()))")

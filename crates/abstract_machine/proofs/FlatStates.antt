@@ -18,7 +18,8 @@ use Rattle.tso_model.specs.declared.execution.Kind.TheVariants.{W}
 use Rattle.tso_model.specs.declared.choice.Choice.{Choice}
 use Rattle.tso_model.specs.declared.choice.Outcome.TheVariants.{Committed, Buffered}
 use Rattle.tso_laws.specs.Choices.{IsPossible}
-use Rattle.abstract_machine.proofs.Lists.{Each, each-at, each-set, length-set, within, get-or}
+use Rattle.basic_laws.proofs.Lists.{Each, each-at}
+use Rattle.abstract_machine.proofs.Lists.{each-set, length-set, within, get-or}
 use Rattle.abstract_machine.proofs.States.{first-size}
 
 -- each choice leads from one possible state to another one

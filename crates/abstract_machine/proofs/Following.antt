@@ -21,7 +21,8 @@ use Rattle.tso_model.specs.declared.choice.Stall.TheVariants as stall
 use Rattle.tso_model.specs.declared.choice.Outcome.TheVariants.{Buffered}
 use Rattle.abstract_machine.specs.Machine.{NotLocked, HasBegun, HasRead, HasWritten, HardwareThread, Machine, with_thread, with_word, with_buffer}
 use Rattle.abstract_machine.specs.Steps.{from_memory, read, write, flush, move, mfence, lock, locked_read, locked_write, unlock, Runs, rests, goes_on}
-use Rattle.abstract_machine.proofs.Lists.{map-set, map-get, set-get, set-set, set-same, length-set, length-map, Each, each-append, each-set, each-at}
+use Rattle.abstract_machine.proofs.Lists.{map-set, map-get, set-get, set-set, set-same, length-set, length-map, each-set}
+use Rattle.basic_laws.proofs.Lists.{Each, each-append, each-at}
 use Rattle.abstract_machine.proofs.Reading.{can-read}
 use Rattle.abstract_machine.proofs.States.{thread, lifted}
 

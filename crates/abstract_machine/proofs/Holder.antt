@@ -8,7 +8,8 @@ use Rattle.tso_model.specs.declared.execution.Entry.{Entry}
 use Rattle.tso_model.specs.declared.choice.Outcome.TheVariants.{Committed}
 use Rattle.abstract_machine.specs.Machine.{NotLocked, HasBegun, HasRead, HardwareThread, Machine, with_thread, with_word, with_buffer, with_progress}
 use Rattle.abstract_machine.specs.Steps.{Step, read, write, flush, move, mfence, lock, locked_read, locked_write, unlock}
-use Rattle.abstract_machine.proofs.Lists.{map-set, map-get, set-get, set-set, set-same, each-at, append-nil, not-empty, within}
+use Rattle.abstract_machine.proofs.Lists.{map-set, map-get, set-get, set-set, set-same, not-empty, within}
+use Rattle.basic_laws.proofs.Lists.{each-at, append-nil}
 use Rattle.abstract_machine.proofs.Reading.{was-read, flush-leaves}
 use Rattle.abstract_machine.proofs.States.{thread}
 use Rattle.abstract_machine.proofs.Joining.{Joins, store-plain, plain-joins, waits-joins, pair-joins}

@@ -5,7 +5,7 @@ use Rattle.tso_model.specs.Execution.{IsStorePart}
 use Rattle.tso_model.specs.Together.{put_before, put_together}
 use Rattle.tso_model.specs.declared.execution.Entry.{Entry}
 use Rattle.tso_model.specs.declared.execution.Kind.TheVariants.{W, LR, LW}
-use Rattle.abstract_machine.proofs.Lists.{Each}
+use Rattle.basic_laws.proofs.Lists.{Each}
 use Rattle.abstract_machine.proofs.Together.{before-part}
 
 -- a load part that waits is put before its store part, in what comes after it

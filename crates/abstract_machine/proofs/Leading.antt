@@ -14,7 +14,9 @@ use Rattle.abstract_machine.specs.Machine.{Machine}
 use Rattle.abstract_machine.specs.Steps.{Runs, rests, goes_on}
 use Rattle.abstract_machine.specs.Ended.{IsFinished, HasEnded, IsReachedFreely}
 use Rattle.abstract_machine.proofs.Together.{already-together}
-use Rattle.abstract_machine.proofs.Lists.{and-left, and-right, get-map, length-set, Each}
+use Rattle.basic_laws.proofs.Basics.{and-left, and-right}
+use Rattle.abstract_machine.proofs.Lists.{get-map, length-set}
+use Rattle.basic_laws.proofs.Lists.{Each}
 use Rattle.abstract_machine.proofs.States.{thread, lifted, first-lifted, first-size}
 use Rattle.abstract_machine.proofs.Following.{AreWrites, OnlyWrites, by-choice, writes-choice}
 

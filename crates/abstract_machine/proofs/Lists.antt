@@ -1,17 +1,6 @@
--- Small facts on lists, tests and numbers.
-use Rattle.std.proofs.Common.{◌≡◌, ◌≢◌, ◌<◌, ℕ, zero, suc, Bool, true, false, List, [], ◌∷◌, ◌++◌, length, map, Some, slice_get, slice_set, slice_index_or, arith, ap, sym, refl, ◌⊎◌, inl, inr, ◌==◌, ◌&&◌, subst}
-use Rattle.std.proofs.lemmas.Bool.Decides.{nat_tests}
-
-pub test-true : (a b : ℕ) → a ≡ b → (a == b) ≡ true
-test-true a b h = grind (arith, nat_tests)
-
-pub and-left : (a b : Bool) → (a && b) ≡ true → a ≡ true
-and-left true b h = refl
-and-left false b h = absurd (let z : ⊥ = cc in z)
-
-pub and-right : (a b : Bool) → (a && b) ≡ true → b ≡ true
-and-right true b h = h
-and-right false b h = absurd (let z : ⊥ = cc in z)
+-- Small facts on lists that are written and mapped.
+use Rattle.std.proofs.Common.{◌≡◌, ◌≢◌, ◌<◌, ℕ, zero, suc, List, [], ◌∷◌, ◌++◌, length, map, Some, slice_get, slice_set, slice_index_or, arith, ap, sym, refl}
+use Rattle.basic_laws.proofs.Lists.{Each}
 
 pub map-set : {A B : Type 0} (f : A → B) (xs : List A) (k : ℕ) (v : A) → map f (slice_set xs k v) ≡ slice_set (map f xs) k (f v)
 map-set f [] k v = refl
@@ -53,28 +42,11 @@ pub length-map : {A B : Type 0} (f : A → B) (xs : List A) → length (map f xs
 length-map f [] = refl
 length-map f (x ∷ xs) = ap suc (length-map f xs)
 
-abbrev pub Each : {A : Type 0} → (A → Type 0) → List A → Type 0
-Each P [] = Unit {0}
-Each P (x ∷ xs) = P x × Each P xs
-
-pub each-append : {A : Type 0} (P : A → Type 0) (xs ys : List A) → Each P xs → Each P ys → Each P (xs ++ ys)
-each-append P [] ys h k = k
-each-append P (x ∷ xs) ys h k = (h.0, each-append P xs ys h.1 k)
-
 -- what stands in the list at a place after a write there or elsewhere
 pub each-set : {A : Type 0} (P : A → Type 0) (xs : List A) (k : ℕ) (v : A) → Each P xs → P v → Each P (slice_set xs k v)
 each-set P [] k v h p = tt
 each-set P (x ∷ xs) zero v h p = (p, h.1)
 each-set P (x ∷ xs) (suc k) v h p = (h.0, each-set P xs k v h.1 p)
-
-pub each-at : {A : Type 0} (P : A → Type 0) (xs : List A) (k : ℕ) (x : A) → Each P xs → slice_get xs k ≡ Some x → P x
-each-at P [] k x h e = absurd (let w : ⊥ = cc in w)
-each-at P (y ∷ ys) zero x h e = let q : y ≡ x = cc in subst P q h.0
-each-at P (y ∷ ys) (suc k) x h e = each-at P ys k x h.1 e
-
-pub append-nil : {A : Type 0} (xs : List A) → xs ++ [] ≡ xs
-append-nil [] = refl
-append-nil (x ∷ xs) = ap (λ r. x ∷ r) (append-nil xs)
 
 pub append-one : {A : Type 0} (xs : List A) (x : A) → length (xs ++ (x ∷ [])) ≡ suc (length xs)
 append-one [] x = refl
@@ -112,13 +84,3 @@ set-apart (x ∷ xs) (suc k) (suc j) v w n = ap (λ z. x ∷ z) (set-apart xs k 
 pub map-map : {A B C : Type 0} (g : B → C) (f : A → B) (xs : List A) → map g (map f xs) ≡ map (λ x. g (f x)) xs
 map-map g f [] = refl
 map-map g f (x ∷ xs) = ap (λ z. g (f x) ∷ z) (map-map g f xs)
-
-pub decide : (a b : ℕ) → (a ≡ b) ⊎ (a ≢ b)
-decide a b = go (a == b) refl
-  where
-    go : (t : Bool) → (a == b) ≡ t → (a ≡ b) ⊎ (a ≢ b)
-    go true q = inl (let z : a ≡ b = grind (arith, nat_tests) in z)
-    go false q = inr (let z : a ≢ b = grind (arith, nat_tests) in z)
-
-pub test-false : (a b : ℕ) → a ≢ b → (a == b) ≡ false
-test-false a b h = grind (arith, nat_tests)

@@ -6,7 +6,7 @@ use Rattle.tso_model.specs.declared.execution.Entry.{Entry}
 use Rattle.tso_model.specs.declared.execution.Kind.TheVariants.{W}
 use Rattle.abstract_machine.specs.Machine.{HardwareThread, Machine}
 use Rattle.abstract_machine.specs.Steps.{CanRead, from_memory, from_buffer}
-use Rattle.abstract_machine.proofs.Lists.{decide, test-true, test-false}
+use Rattle.basic_laws.proofs.Basics.{decide, test-true, test-false}
 
 record Newest (loc : ℕ) (q : List Entry) : Type 0 where
   older : List Entry

@@ -15,7 +15,9 @@ use Rattle.tso_laws.specs.Stopping.{StopsAtTheEnd}
 use Rattle.abstract_machine.specs.Machine.{HardwareThread, Machine, first}
 use Rattle.abstract_machine.specs.Steps.{Step, Runs, rests, goes_on}
 use Rattle.abstract_machine.specs.Ended.{IsFinished, HasEnded, registers_of, EndsWith}
-use Rattle.abstract_machine.proofs.Lists.{decide, map-get, map-map, set-get, append-nil, within, test-true}
+use Rattle.basic_laws.proofs.Basics.{decide, test-true}
+use Rattle.abstract_machine.proofs.Lists.{map-get, map-map, set-get, within}
+use Rattle.basic_laws.proofs.Lists.{append-nil}
 use Rattle.abstract_machine.proofs.States.{thread, lifted, first-lifted}
 use Rattle.abstract_machine.proofs.FlatStates.{Nexts, HasRoom, IsKnown, test-room, test-known, first-base}
 use Rattle.abstract_machine.proofs.Tracks.{Tied, begun, has_read, written, left, locked_by, Tracks, unheld, held, open-step, other-step}

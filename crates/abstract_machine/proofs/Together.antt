@@ -6,7 +6,7 @@ use Rattle.tso_model.specs.Together.{put_before, put_together}
 use Rattle.tso_model.specs.declared.execution.Entry.{Entry}
 use Rattle.tso_model.specs.declared.execution.Kind.{Kind}
 use Rattle.tso_model.specs.declared.execution.Kind.TheVariants.{R, W, F, LR, LW}
-use Rattle.abstract_machine.proofs.Lists.{test-true}
+use Rattle.basic_laws.proofs.Basics.{test-true}
 
 load-kind : (k : Kind) → same_kind k LR ≡ true → k ≡ LR
 load-kind R h = absurd (let z : ⊥ = cc in z)

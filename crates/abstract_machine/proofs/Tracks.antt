@@ -14,7 +14,8 @@ use Rattle.tso_model.specs.declared.execution.Entry.{Entry}
 use Rattle.tso_model.specs.declared.execution.Kind.TheVariants.{LR, LW}
 use Rattle.abstract_machine.specs.Machine.{HasBegun, HasRead, HasWritten, HardwareThread, Machine, IsNotBlocked, with_progress}
 use Rattle.abstract_machine.specs.Steps.{Step, read, write, flush, move, mfence, lock, locked_read, locked_write, unlock}
-use Rattle.abstract_machine.proofs.Lists.{map-set, get-map, append-nil, get-other, set-apart}
+use Rattle.abstract_machine.proofs.Lists.{map-set, get-map, get-other, set-apart}
+use Rattle.basic_laws.proofs.Lists.{append-nil}
 use Rattle.abstract_machine.proofs.States.{thread, lifted}
 use Rattle.abstract_machine.proofs.Joining.{Joins, plain-joins}
 use Rattle.abstract_machine.proofs.FlatStates.{Nexts, HasRoom, IsKnown, Base}

@@ -14,7 +14,8 @@ use Rattle.tso_model.specs.declared.execution.Kind.TheVariants.{R, W}
 use Rattle.tso_model.specs.declared.choice.Outcome.TheVariants.{Committed, Buffered, Moved}
 use Rattle.abstract_machine.specs.Machine.{NotLocked, HasBegun, Machine, with_thread, with_lock, with_progress}
 use Rattle.abstract_machine.specs.Steps.{StandsAt, Step, read, write, flush, move, mfence, lock, locked_read, locked_write, unlock}
-use Rattle.abstract_machine.proofs.Lists.{Each, each-append, each-at, append-one}
+use Rattle.basic_laws.proofs.Lists.{Each, each-append, each-at}
+use Rattle.abstract_machine.proofs.Lists.{append-one}
 use Rattle.abstract_machine.proofs.Reading.{was-read}
 use Rattle.abstract_machine.proofs.States.{thread}
 use Rattle.abstract_machine.proofs.Joining.{IsPlain, store-plain}

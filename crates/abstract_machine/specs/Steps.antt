@@ -14,7 +14,8 @@ use Rattle.tso_model.specs.declared.action.Action.{Action}
 use Rattle.tso_model.specs.declared.action.Action.TheVariants.{Store, Load, Move, Fence, Lock}
 use Rattle.tso_model.specs.declared.execution.Entry.{Entry}
 use Rattle.tso_model.specs.declared.execution.Kind.TheVariants.{R, W, LR, LW}
-use Rattle.abstract_machine.specs.Machine.{Progress, NotLocked, HasBegun, HasRead, HasWritten, HardwareThread, Machine, IsNotBlocked, with_thread, with_lock, with_word, passed, with_register, with_buffer, with_progress}
+use Rattle.abstract_machine.specs.Machine.{Progress, NotLocked, HasBegun, HasRead, HasWritten, HardwareThread, Machine, IsNotBlocked}
+use Rattle.abstract_machine.specs.Machine.{with_thread, with_lock, with_word, passed, with_register, with_buffer, with_progress}
 
 -- thread p stands at an instruction with this action, and is so far with it
 pub record StandsAt (t : Litmus) (p : ℕ) (h : HardwareThread) (progress : Progress) (action : Action) : Type 0 where

@@ -15,7 +15,7 @@ ghost use Rattle.std.specs.Prelude.{ℕ, ◌≡◌, ◌≤◌, ◌↔◌, List};
 ghost use Rattle.tso_model.specs.Litmus.{Litmus, IsTest};
 ghost use Rattle.tso_model.specs.Execution.{IsTsoExecution};
 ghost use Rattle.tso_model.specs.FinalState.{final_words, final_registers};
-ghost use Rattle.tso_model.specs.Examples.{sb, sb_order, n6, n6_order, added, parted_order};
+ghost use Rattle.tso_model.specs.Examples.{sb, sb_order, n6, n6_order, added, separated_order};
 ghost use Rattle.tso_model.specs.declared.execution.Entry.{Entry};
 ghost use Rattle.tso_laws.specs.Counting.{most_stores};
 ghost use Rattle.tso_laws.specs.Reached.{IsReached};
@@ -70,7 +70,7 @@ pub fn worked_runs_of_the_abstract_machine()
     ensures n6_is_reached { IsReachedFreely n6 n6_order }
     ensures short_is_not_reached { IsReachedFreely sb short_order → ⊥ }
     ensures turned_is_not_reached { IsReachedFreely n6 turned_order → ⊥ }
-    ensures parted_is_not_reached { IsReachedFreely added parted_order → ⊥ }
+    ensures separated_is_not_reached { IsReachedFreely added separated_order → ⊥ }
     ensures wrong_is_not_reached { IsReachedFreely sb wrong_order → ⊥ }
 {
     worked_orders();

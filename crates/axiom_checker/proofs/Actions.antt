@@ -3,7 +3,7 @@ use Rattle.std.proofs.Common.{◌≡◌, ◌<◌, ℕ, suc, zero, List, [], ◌�
 use Rattle.std.proofs.lemmas.Bool.Decides.{eqb_tells}
 use Rattle.tso_model.specs.Thread.{entry}
 use Rattle.tso_model.specs.ProgramOrder.{same_kind, is_read, is_write}
-use Rattle.axiom_checker.proofs.ByRank.{is_read_kind, is_write_kind}
+use Rattle.basic_laws.proofs.Ranks.{is_read_kind, is_write_kind}
 use Rattle.tso_model.specs.Execution.{is_at, read_value}
 use Rattle.tso_model.specs.declared.execution.Entry.{Entry}
 use Rattle.tso_model.specs.declared.execution.Kind.{Kind}
@@ -107,8 +107,8 @@ apart-none (z ∷ zs) a (suc i) zero x y l e f s =
     absurd (let v : ⊥ = cc in v)
 apart-none (z ∷ zs) a (suc i) (suc j) x y l e f s = apart-none zs a.1 i j x y (omega arith) e f s
 
-behind : (z : Entry) (zs : List Entry) → NoneTwice (z ∷ zs) → NoneTwice zs
-behind z zs n i j x y l e f s = n (suc i) (suc j) x y (omega arith) e f s
+after : (z : Entry) (zs : List Entry) → NoneTwice (z ∷ zs) → NoneTwice zs
+after z zs n i j x y l e f s = n (suc i) (suc j) x y (omega arith) e f s
 
 -- two entries of one core, place and kind are one
 pub one-place : (list : List Entry) → NoneTwice list → (i j : ℕ) (x y : Entry) → slice_get list i ≡ Some x → slice_get list j ≡ Some y → SameAction x y → i ≡ j
@@ -140,7 +140,7 @@ value-at (y ∷ ys) n zero x e =
 value-at (y ∷ ys) n (suc k) x e =
     value-step x y ys (is_at x.core.0 x.place x.kind y) refl
     (λ t. absurd (n (suc k) zero x y (omega arith) e refl (same-parts x y t)))
-    (λ _. value-at ys (behind y ys n) k x e)
+    (λ _. value-at ys (after y ys n) k x e)
 
 -- two entries of one core, place and kind are looked up alike
 pub looked-up : (x y : Entry) (list : List Entry) → SameAction x y → read_value x.core.0 x.place x.kind list ≡ read_value y.core.0 y.place y.kind list

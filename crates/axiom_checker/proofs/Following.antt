@@ -3,8 +3,8 @@ use Rattle.std.proofs.Common.{◌≡◌, ◌<◌, ◌≤◌, ℕ, ◌+◌, ◌*�
 use Rattle.std.proofs.lemmas.Bool.Decides.{leb_tells}
 use Rattle.tso_model.specs.Litmus.{Litmus, IsTest}
 use Rattle.tso_model.specs.ProgramOrder.{is_before, may_be_passed, is_read, is_load, is_store, is_write, writes_to}
-use Rattle.axiom_checker.specs.Ranks.{rank}
-use Rattle.axiom_checker.proofs.ByRank.{is_load_kind, is_read_kind, is_write_kind}
+use Rattle.basic_laws.specs.Ranks.{rank}
+use Rattle.basic_laws.proofs.Ranks.{is_load_kind, is_read_kind, is_write_kind}
 use Rattle.tso_model.specs.Execution.{made, IsWhole, KeepsProgramOrder, last_value}
 use Rattle.tso_model.specs.declared.execution.Entry.{Entry}
 use Rattle.tso_model.specs.declared.execution.Kind.{Kind}
@@ -14,7 +14,6 @@ use Rattle.axiom_checker.specs.Slots.{slots_of_a_core}
 use Rattle.axiom_checker.specs.Sources.{IsLastOwn, IsSource}
 use Rattle.axiom_checker.specs.Passing.{due_from}
 use Rattle.axiom_checker.proofs.Firsts.{three-ways}
-use Rattle.axiom_checker.proofs.Slots.{Each, each-append, each-at, entries-from, IsFrom}
 use Rattle.axiom_checker.proofs.OwnReads.{made-read}
 use Rattle.axiom_checker.proofs.Actions.{apart-none, SameAction, one-place}
 use Rattle.axiom_checker.proofs.Whole.{whole-clean, in-made, none-twice}
@@ -55,21 +54,21 @@ last-kept p q (x ∷ xs) (suc j) s w here ps qs h =
     passes (p x) (q x) x q (filter p xs) w s.value refl (λ v. last-kept p q xs j s v here ps qs (λ k e l f. h (suc k) e (omega arith) f))
 
 -- places after a place
-behind-by : (list : List Entry) (n j m : ℕ) (e : Entry) → m ≡ n + j → slice_get (drop n list) j ≡ Some e → slice_get list m ≡ Some e
-behind-by [] zero j m e q h = absurd (let z : ⊥ = cc in z)
-behind-by [] (suc n) j m e q h = absurd (let z : ⊥ = cc in z)
-behind-by (x ∷ xs) zero j m e q h = ap (λ i. slice_get (x ∷ xs) i) (let r : m ≡ j = omega arith in r) ∙ h
-behind-by (x ∷ xs) (suc n) j zero e q h = absurd (omega arith)
-behind-by (x ∷ xs) (suc n) j (suc m) e q h = behind-by xs n j m e (omega arith) h
+after-by : (list : List Entry) (n j m : ℕ) (e : Entry) → m ≡ n + j → slice_get (drop n list) j ≡ Some e → slice_get list m ≡ Some e
+after-by [] zero j m e q h = absurd (let z : ⊥ = cc in z)
+after-by [] (suc n) j m e q h = absurd (let z : ⊥ = cc in z)
+after-by (x ∷ xs) zero j m e q h = ap (λ i. slice_get (x ∷ xs) i) (let r : m ≡ j = omega arith in r) ∙ h
+after-by (x ∷ xs) (suc n) j zero e q h = absurd (omega arith)
+after-by (x ∷ xs) (suc n) j (suc m) e q h = after-by xs n j m e (omega arith) h
 
-behind-at : (list : List Entry) (n j : ℕ) (e : Entry) → slice_get (drop n list) j ≡ Some e → slice_get list (n + j) ≡ Some e
-behind-at list n j e h = behind-by list n j (n + j) e refl h
+after-at : (list : List Entry) (n j : ℕ) (e : Entry) → slice_get (drop n list) j ≡ Some e → slice_get list (n + j) ≡ Some e
+after-at list n j e h = after-by list n j (n + j) e refl h
 
-at-behind : (list : List Entry) (n k : ℕ) (e : Entry) → n ≤ k → slice_get list k ≡ Some e → (j : ℕ) × (slice_get (drop n list) j ≡ Some e) × (n + j ≡ k)
-at-behind [] n k e l h = absurd (let z : ⊥ = cc in z)
-at-behind (x ∷ xs) zero k e l h = (k, h, omega arith)
-at-behind (x ∷ xs) (suc n) zero e l h = absurd (omega arith)
-at-behind (x ∷ xs) (suc n) (suc k) e l h = let r = at-behind xs n k e (omega arith) h in let q = r.2 in (r.0, r.1, omega arith)
+at-after : (list : List Entry) (n k : ℕ) (e : Entry) → n ≤ k → slice_get list k ≡ Some e → (j : ℕ) × (slice_get (drop n list) j ≡ Some e) × (n + j ≡ k)
+at-after [] n k e l h = absurd (let z : ⊥ = cc in z)
+at-after (x ∷ xs) zero k e l h = (k, h, omega arith)
+at-after (x ∷ xs) (suc n) zero e l h = absurd (omega arith)
+at-after (x ∷ xs) (suc n) (suc k) e l h = let r = at-after xs n k e (omega arith) h in let q = r.2 in (r.0, r.1, omega arith)
 
 write-is-no-load : (k : Kind) → is_write_kind k ≡ true → is_load_kind k ≡ false
 write-is-no-load R h = absurd (let z : ⊥ = cc in z)
@@ -116,7 +115,7 @@ module _ (t : Litmus) (order : List Entry) (at : ℕ) (x : Entry) (valid : IsTes
   Follows k e = (at < k) × (slice_get order k ≡ Some e) × Before e x × (writes_to x.loc.0 e ≡ true)
 
   follows-of : (j : ℕ) (e : Entry) → slice_get (drop (suc at) order) j ≡ Some e → is_before e x ≡ true → writes_to x.loc.0 e ≡ true → Follows (suc at + j) e
-  follows-of j e f b w = ((let l : at < suc at + j = omega arith in l), behind-at order (suc at) j e f, before-parts e x b, w)
+  follows-of j e f b w = ((let l : at < suc at + j = omega arith in l), after-at order (suc at) j e f, before-parts e x b, w)
 
   none-follow : (word : ℕ) → ((k : ℕ) (e : Entry) → Follows k e → ⊥) → last_value (filter (writes_to x.loc.0) (filter (λ e. is_before e x) (drop (suc at) order))) word ≡ word
   none-follow word none =
@@ -135,7 +134,7 @@ module _ (t : Litmus) (order : List Entry) (at : ℕ) (x : Entry) (valid : IsTes
           | inr b ↦
               let p = and-parts (b.1.core.0 == x.core.0) (not (is_load b.1)) b.4 in
               let same : e.core.0 ≡ b.1.core.0 = f.2.core ∙ sym (test-is b.1.core.0 x.core.0 p.0) in
-              let behind = f.0 in
+              let after = f.0 in
               let front = b.2 in
               let reach = b.5 in
               elim (three-ways (rank e) (rank b.1)) [
@@ -154,7 +153,7 @@ module _ (t : Litmus) (order : List Entry) (at : ℕ) (x : Entry) (valid : IsTes
         let b = before-parts s x own.before in
         let w = and-parts (is_write s) (s.loc.0 == x.loc.0) own.writes in
         let no_load : is_load s ≡ false = write-is-no-load s.kind w.0 in
-        let behind : at < stands.0 = elim (three-ways at stands.0) [
+        let after : at < stands.0 = elim (three-ways at stands.0) [
           | inl q ↦
               let p : s ≡ x = at-place order at stands.0 x s here stands.1 (sym q) in
               absurd (write-is-no-read s.kind w.0 (subst (λ z. is_read z ≡ true) (sym p) read))
@@ -165,7 +164,7 @@ module _ (t : Litmus) (order : List Entry) (at : ℕ) (x : Entry) (valid : IsTes
                 absurd (omega arith)
           ]
         ] in
-        let r = at-behind order (suc at) stands.0 s (omega arith) stands.1 in
+        let r = at-after order (suc at) stands.0 s (omega arith) stands.1 in
         sym (last-kept (λ e. is_before e x) (writes_to x.loc.0) (drop (suc at) order) r.0 s word r.1 own.before own.writes (λ j e m f be we.
         let fo = follows-of j e f be we in
         let n = own-made (suc at + j) e fo.1 in

@@ -1,8 +1,8 @@
 -- The breach that is named of what the passes met is the first.
 use Rattle.std.proofs.Common.{◌≡◌, ◌<◌, ◌+◌, ◌*◌, ℕ, true, inl, List, length, Option, Some, None, IfSome, IsNone, refl, sym, subst, arith}
 use Rattle.tso_model.specs.Litmus.{Litmus, IsTest}
-use Rattle.axiom_checker.specs.Ranks.{rank}
-use Rattle.axiom_checker.proofs.ByRank.{is_write_kind}
+use Rattle.basic_laws.specs.Ranks.{rank}
+use Rattle.basic_laws.proofs.Ranks.{is_write_kind}
 use Rattle.tso_model.specs.Execution.{made, IsTsoExecution, IsWhole}
 use Rattle.tso_model.specs.declared.execution.Entry.{Entry}
 use Rattle.axiom_checker.specs.First.{IsFirst, IsEarliest, IsNowhere}

@@ -7,8 +7,8 @@ use Rattle.tso_model.specs.Execution.{KeepsProgramOrder, KeepsPairs, IsStorePart
 use Rattle.tso_model.specs.declared.execution.Entry.{Entry}
 use Rattle.tso_model.specs.declared.execution.Kind.{Kind}
 use Rattle.tso_model.specs.declared.execution.Kind.TheVariants.{R, W, F, LR, LW}
-use Rattle.axiom_checker.specs.Ranks.{rank}
-use Rattle.axiom_checker.proofs.ByRank.{by-rank}
+use Rattle.basic_laws.specs.Ranks.{rank}
+use Rattle.basic_laws.proofs.Ranks.{by-rank}
 use Rattle.axiom_checker.specs.First.{IsNowhere}
 use Rattle.axiom_checker.proofs.Firsts.{three-ways}
 use Rattle.axiom_checker.specs.Axioms.{IsLate, IsSeparated, IsWrongRead, due_at}

@@ -1,4 +1,3 @@
-pub mod ByRank
 pub mod Firsts
 pub mod Finds
 pub mod Slots

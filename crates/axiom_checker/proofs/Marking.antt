@@ -4,8 +4,8 @@ use Rattle.std.proofs.lemmas.List.{get_or-set_same, get_or-set_other}
 use Rattle.std.proofs.lemmas.Bool.{lt-ltb, ltb-true, ltb-false}
 use Rattle.std.proofs.lemmas.Bool.Decides.{eqb_tells}
 use Rattle.tso_model.specs.ProgramOrder.{is_before, may_be_passed, is_load, is_store, is_write, writes_to}
-use Rattle.axiom_checker.proofs.ByRank.{by-rank}
-use Rattle.axiom_checker.specs.Ranks.{rank}
+use Rattle.basic_laws.proofs.Ranks.{by-rank}
+use Rattle.basic_laws.specs.Ranks.{rank}
 use Rattle.tso_model.specs.Execution.{last_value}
 use Rattle.tso_model.specs.declared.execution.Entry.{Entry}
 use Rattle.axiom_checker.specs.Axioms.{must_stand_before, IsLate}

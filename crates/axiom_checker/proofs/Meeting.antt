@@ -72,12 +72,12 @@ module _ (t : Litmus) (order : List Entry) (at : ℕ) (x : Entry) (here : slice_
       (λ none. if-some _ _ next (λ v h. ((at, first-here (IsWrongWrite (made t order)) v.0 h.0 h.1 none), h.2 ∙ ap (λ y. written_value (made t order) y) (sym h.0))) w.found)
       w.none so
 
-  behind : (found : Option (ℕ × Entry)) (b : Bool) → (b ≡ true → IsLate order at x) → (b ≡ false → IsLate order at x → ⊥) → SoFar order (IsLate order) at (λ a. IsFirst order (IsLate order) a.0 a.1) found
+  after : (found : Option (ℕ × Entry)) (b : Bool) → (b ≡ true → IsLate order at x) → (b ≡ false → IsLate order at x → ⊥) → SoFar order (IsLate order) at (λ a. IsFirst order (IsLate order) a.0 a.1) found
       → SoFar order (IsLate order) (at + 1) (λ a. IsFirst order (IsLate order) a.0 a.1) (first_of found (if b then Some (at, x) else None))
-  behind found true found_it never so =
+  after found true found_it never so =
       so-far-more order (IsLate order) at (λ a. IsFirst order (IsLate order) a.0 a.1) x found (Some (at, x)) here
       (λ none. first-here (IsLate order) x refl (found_it refl) none) (λ n. absurd (let z : ⊥ = cc in z)) so
-  behind found false found_it never so =
+  after found false found_it never so =
       so-far-more order (IsLate order) at (λ a. IsFirst order (IsLate order) a.0 a.1) x found None here (λ none. tt) (λ _. never refl) so
 
   next-is : (o : Option Entry) (y : Entry) → o ≡ Some y → unwrap_or o x ≡ y
@@ -142,7 +142,7 @@ met-more t order at x valid here entries is all others words first same_words a 
           }) so.wrong_write);
       late =
           subst (λ f. SoFar order (IsLate order) (at + 1) (λ a. IsFirst order (IsLate order) a.0 a.1) f) (sym (e2 ∙ ap (λ n. first_of met.late n) late_is))
-          (behind t order at x here met.late (is_late all others x) tells.0 tells.1 so.late);
+          (after t order at x here met.late (is_late all others x) tells.0 tells.1 so.late);
       separated =
           subst (λ f. SoFar order (IsSeparated order) (at + 1) (λ x. IsEarliest order (IsSeparated order) x) f) (sym e3)
           (split t order at x here met.separated next separated next_is p_found p_none so.separated);

@@ -3,7 +3,7 @@ use Rattle.std.proofs.Common.{◌≡◌, ◌<◌, ◌≤◌, ℕ, ◌+◌, suc, 
 use Rattle.std.proofs.lemmas.List.{get_or-set_same, get_or-set_other}
 use Rattle.std.proofs.lemmas.Option.{slice_get-get_or}
 use Rattle.tso_model.specs.ProgramOrder.{is_write, writes_to}
-use Rattle.axiom_checker.specs.Ranks.{rank}
+use Rattle.basic_laws.specs.Ranks.{rank}
 use Rattle.tso_model.specs.declared.execution.Entry.{Entry}
 use Rattle.axiom_checker.specs.Programs.{kept_in}
 use Rattle.axiom_checker.specs.Slots.{slot_of, Ascends, slots_of_a_core}

@@ -5,8 +5,8 @@ use Rattle.std.proofs.lemmas.Bool.Decides.{eqb_tells}
 use Rattle.tso_model.specs.Litmus.{Litmus, IsProgram, IsTest}
 use Rattle.tso_model.specs.Thread.{entries_of}
 use Rattle.tso_model.specs.ProgramOrder.{is_before}
-use Rattle.axiom_checker.specs.Ranks.{rank}
-use Rattle.axiom_checker.proofs.ByRank.{by-rank}
+use Rattle.basic_laws.specs.Ranks.{rank}
+use Rattle.basic_laws.proofs.Ranks.{by-rank}
 use Rattle.tso_model.specs.Execution.{made, made_from, read_values}
 use Rattle.tso_model.specs.declared.instruction.Instr.{Instr}
 use Rattle.tso_model.specs.declared.execution.Entry.{Entry}

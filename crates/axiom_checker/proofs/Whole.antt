@@ -3,7 +3,7 @@ use Rattle.std.proofs.Common.{◌≡◌, ◌≢◌, ℕ, List, length, Some, sli
 use Rattle.std.specs.List.{list_any}
 use Rattle.std.proofs.lemmas.Bool.Decides.{eqb_tells}
 use Rattle.tso_model.specs.Litmus.{Litmus}
-use Rattle.axiom_checker.proofs.ByRank.{is_read_kind, is_write_kind}
+use Rattle.basic_laws.proofs.Ranks.{is_read_kind, is_write_kind}
 use Rattle.tso_model.specs.Execution.{made, StandsIn, IsWhole}
 use Rattle.tso_model.specs.declared.execution.Entry.{Entry}
 use Rattle.tso_model.specs.declared.execution.Kind.{Kind}

@@ -1,6 +1,5 @@
 pub mod First
 pub mod Entries
-pub mod Ranks
 pub mod Axioms
 pub mod FirstBreach
 pub mod Programs

@@ -3,7 +3,7 @@ use Rattle.std.specs.Prelude.{ℕ, ◌<◌, ◌≡◌, ◌≢◌, nat_le, true, 
 use Rattle.std.specs.Prelude.{List, Option, Some, None, IfSome, IsNone, slice_get, slice_index}
 use Rattle.tso_model.specs.Litmus.{Litmus, IsTest}
 use Rattle.tso_model.specs.ProgramOrder.{is_read, is_write}
-use Rattle.axiom_checker.specs.Ranks.{rank}
+use Rattle.basic_laws.specs.Ranks.{rank}
 use Rattle.tso_model.specs.declared.execution.Entry.{Entry}
 use Rattle.tso_model.specs.Execution.{made, IsWhole, KeepsProgramOrder}
 use Rattle.axiom_checker.specs.First.{IsFirst, IsEarliest, IsNowhere}

@@ -1,7 +1,7 @@
 -- How the checker finds the program's entry of an entry of the order. (This project's profile.)
 use Rattle.std.specs.Prelude.{ℕ, ◌+◌, ◌*◌, ◌≤◌, ◌<◌, ◌≡◌, true, List, [], ◌∷◌, Option, Some, None, slice_get}
 use Rattle.tso_model.specs.Limits.{most_instructions}
-use Rattle.axiom_checker.specs.Ranks.{rank}
+use Rattle.basic_laws.specs.Ranks.{rank}
 use Rattle.tso_model.specs.declared.execution.Entry.{Entry}
 use Rattle.axiom_checker.specs.First.{IsEarliest}
 use Rattle.axiom_checker.specs.Entries.{same_action, same_but_value, IsExtra, IsStray}

@@ -1,7 +1,7 @@
 -- The write of its own program that an entry comes after. (This project's profile.)
 use Rattle.std.specs.Prelude.{ℕ, ◌≡◌, ◌≤◌, ◌==◌, true, if◌then◌else◌, List, Option, Some, None, slice_get, slice_set}
 use Rattle.tso_model.specs.ProgramOrder.{is_before, is_write, writes_to}
-use Rattle.axiom_checker.specs.Ranks.{rank}
+use Rattle.basic_laws.specs.Ranks.{rank}
 use Rattle.tso_model.specs.declared.execution.Entry.{Entry}
 use Rattle.axiom_checker.specs.Programs.{kept_in}
 

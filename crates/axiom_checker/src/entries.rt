@@ -4,7 +4,7 @@ ghost use Rattle.tso_model.specs.ProgramOrder as program_order;
 ghost use Rattle.tso_model.specs.Execution.{IsStorePart};
 ghost use Rattle.axiom_checker.specs.Entries as entries;
 ghost use Rattle.axiom_checker.specs.Axioms as axioms;
-ghost use Rattle.axiom_checker.specs.Ranks as ranks;
+ghost use Rattle.basic_laws.specs.Ranks as ranks;
 
 use tso_model::{Entry, Kind};
 

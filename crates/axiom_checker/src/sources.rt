@@ -1,7 +1,7 @@
 //! The last write that an entry's own program has before it.
 ghost use Rattle.std.specs.Prelude.{◌≡◌, ◌<◌, ℕ, length, slice_get, slice_set, Some, None, true, IfOk};
 ghost use Rattle.tso_model.specs.ProgramOrder as program_order;
-ghost use Rattle.axiom_checker.specs.Ranks as ranks;
+ghost use Rattle.basic_laws.specs.Ranks as ranks;
 ghost use Rattle.tso_model.specs.declared.execution.Entry.{Entry};
 ghost use Rattle.axiom_checker.specs.Entries.{IsExtra, written_value};
 ghost use Rattle.axiom_checker.specs.Programs.{kept_in};

@@ -1,6 +1,7 @@
 -- The contents of one set of a cache: copies of lines in the order of their last use, and what each
 -- call makes of them. (That the line used longest ago gives way to a new one is this project's profile.)
-use Rattle.std.specs.Prelude.{◌≡◌, ◌≢◌, ◌<◌, ◌≤◌, ◌-◌, ℕ, List, [], ◌∷◌, length, map, take, slice_get, Option, Some, None, option_map, nat_eq, if◌then◌else◌, ⊤}
+use Rattle.std.specs.Prelude.{◌≡◌, ◌≢◌, ◌<◌, ◌≤◌, ◌-◌, ℕ, nat_eq, if◌then◌else◌, ⊤}
+use Rattle.std.specs.Prelude.{List, [], ◌∷◌, length, map, take, slice_get, Option, Some, None, option_map}
 use Rattle.std.specs.Option.{option_map_or}
 use Rattle.std.specs.Map.{lookup, remove_entry}
 use Rattle.protocol_tables.specs.declared.state.State.TheVariants.{I}
@@ -68,3 +69,11 @@ without line s = contents (remove_entry (nat_eq line) s.copies) s.ways
 abbrev pub after_fill : ℕ → Line → Option Victim → ℕ → Option Line → Option Line
 after_fill line copy None k old = if nat_eq k line then Some copy else old
 after_fill line copy (Some v) k old = if nat_eq k line then Some copy else if nat_eq k v.line then None else old
+
+-- what is found once a line came in with this copy, and this victim left
+abbrev pub Fills : ℕ → Line → Contents → Contents → Option Victim → Type 0
+Fills line copy old new victim = (k : ℕ) → copy_of new k ≡ after_fill line copy victim k (copy_of old k)
+
+-- what is found once one line's copy was changed so, and no other
+abbrev pub ChangesLine : ℕ → (Option Line → Option Line) → Contents → Contents → Type 0
+ChangesLine line change old new = (k : ℕ) → copy_of new k ≡ (if nat_eq k line then change (copy_of old k) else copy_of old k)

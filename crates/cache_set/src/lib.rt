@@ -3,7 +3,7 @@
 //! the caller's to say: `touch` and `fill` bring a line to the front, and nothing else moves one.
 #![tactic(auto)]
 
-ghost use Rattle.std.specs.Prelude.{◌≡◌, ◌≢◌, ◌<◌, ◌≤◌, ℕ, [], Some, None, IsSome, IfSome, IfOk, OnErr, option_map, option_copied, nat_eq, if◌then◌else◌};
+ghost use Rattle.std.specs.Prelude.{◌≡◌, ◌≢◌, ◌<◌, ◌≤◌, ℕ, [], Some, None, IsSome, IfSome, IfOk, OnErr, option_map, option_copied};
 ghost use Rattle.cache_set.specs.Limits.{most_ways, most_words};
 
 mod hashing;
@@ -63,7 +63,8 @@ impl Model for CacheSet {
 }
 
 impl CacheSet {
-    ghost use Rattle.cache_set.specs.Contents.{contents, IsCacheSet, copy_of, to_front, with_new, victim_of, with_changed, without, after_fill};
+    ghost use Rattle.cache_set.specs.Contents.{contents, IsCacheSet, copy_of, to_front, with_new, victim_of, with_changed, without};
+    ghost use Rattle.cache_set.specs.Contents.{ChangesLine, Fills};
     ghost use Rattle.cache_set.specs.Copy.{copy_with, with_state, with_word};
 
     /// An empty set for `ways` lines, from 1 to `MAX_WAYS`. Of the other calls only `fill` takes
@@ -118,7 +119,7 @@ impl CacheSet {
         requires valid { state ≢ State.I }
         ensures exact { IfOk result (λ _. self.new ≡ with_new line (copy_with state words) self.old) }
         ensures victim { IfOk result (λ v. v ≡ victim_of self.old) }
-        ensures copies { IfOk result (λ v. (k : ℕ) → copy_of self.new k ≡ after_fill line (copy_with state words) v k (copy_of self.old k)) }
+        ensures copies { IfOk result (Fills line (copy_with state words) self.old self.new) }
         ensures was_here { IfOk result (λ v. IfSome v (λ x. copy_of self.old x.line ≡ Some x.content)) }
         ensures err { OnErr result (self.new ≡ self.old) }
         ensures valid { IsCacheSet self.new }
@@ -133,7 +134,7 @@ impl CacheSet {
         requires valid { state ≢ State.I }
         ensures exact { self.new ≡ with_changed (with_state state) line self.old }
         ensures valid { IsCacheSet self.new }
-        ensures copies { (k : ℕ) → copy_of self.new k ≡ (if nat_eq k line then option_map (with_state state) (copy_of self.old k) else copy_of self.old k) }
+        ensures copies { ChangesLine line (option_map (with_state state)) self.old self.new }
     {
         let copy = self.lines.peek_mut(&line).unwrap();
         copy.state = state;
@@ -146,7 +147,7 @@ impl CacheSet {
         requires place { place < most_words }
         ensures exact { self.new ≡ with_changed (with_word place value) line self.old }
         ensures valid { IsCacheSet self.new }
-        ensures copies { (k : ℕ) → copy_of self.new k ≡ (if nat_eq k line then option_map (with_word place value) (copy_of self.old k) else copy_of self.old k) }
+        ensures copies { ChangesLine line (option_map (with_word place value)) self.old self.new }
     {
         let copy = self.lines.peek_mut(&line).unwrap();
         copy.words[usize::from(place)] = value;
@@ -158,7 +159,7 @@ impl CacheSet {
         ensures content { Some result ≡ copy_of self.old line }
         ensures exact { self.new ≡ without line self.old }
         ensures valid { IsCacheSet self.new }
-        ensures copies { (k : ℕ) → copy_of self.new k ≡ (if nat_eq k line then None else copy_of self.old k) }
+        ensures copies { ChangesLine line (λ _. None) self.old self.new }
     {
         self.lines.pop(&line).unwrap()
     }

@@ -1,5 +1,5 @@
 -- What is shown is printable, and so a text.
-use Rattle.std.proofs.Common.{◌≡◌, ◌++◌, ◌∷◌, [], List, ℕ, ◌≤◌, ◌<◌, true, length, All, codes, map, take, sym, ap, arith, refl}
+use Rattle.std.proofs.Common.{◌≡◌, ◌++◌, ◌∷◌, [], List, ℕ, ◌≤◌, ◌<◌, true, length, codes, map, take, arith, refl}
 use Rattle.std.specs.List.{list_all}
 use Rattle.std.specs.Str.{IsUtf8}
 use Rattle.std.proofs.Math.Nat.{min-le_left}
@@ -11,7 +11,7 @@ use Rattle.std.proofs.lemmas.List.{length-map, length-append, length-take}
 use Rattle.std.proofs.lemmas.Str.{IsUtf8-from_ascii}
 use Rattle.std.proofs.lemmas.Str.Ascii.{IsAscii-from_all}
 use Rattle.tso_model.specs.Names.{is_printable}
-use Rattle.hints.specs.Hint.{IsHint, longest_hint, most_words, printable}
+use Rattle.hints.specs.Hint.{IsHint, most_words, printable}
 
 shown_is_printable : (c : ℕ) → is_printable (printable c) ≡ true
 unfolding printable

@@ -69,7 +69,7 @@ enum Part {
 }
 
 /// Which word of its item stands after these words.
-fn part_behind(words: &[&[u8]]) -> Part {
+fn part_after(words: &[&[u8]]) -> Part {
     let mut part = Part::First;
     for word in words {
         part = match part {
@@ -88,7 +88,7 @@ fn words_before<'a, 'b>(words: &'b [&'a [u8]], number: usize) -> &'b [&'a [u8]] 
 
 fn bad_word<'a>(words: &[&'a [u8]], number: usize) -> Words<'a> {
     let word = nth(words, number);
-    match part_behind(words_before(words, number)) {
+    match part_after(words_before(words, number)) {
         Part::First => bad_first(word),
         Part::Seed => naming(
             word,

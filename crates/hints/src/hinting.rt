@@ -8,7 +8,7 @@ use crate::faults::test_words;
 use crate::orders::order_words;
 use crate::place::Place;
 use crate::printing::{Where, hint};
-use crate::unended::{choices_end, sweep_ends};
+use crate::unended::{choices_end, has_no_choices, no_choices, sweep_ends};
 use crate::words::plain;
 use litmus_reader::{Fault, fault_in, read_test};
 use order_builder::{OrderFault, read_order};
@@ -48,13 +48,13 @@ pub fn refusal_hint(
     alloc: Global,
     asked: Asked,
     text: &[u8],
-    behind: Option<&[u8]>,
+    after: Option<&[u8]>,
 ) -> Result<String, NoMemory>
     ensures { IfOk result (λ text. IsHint (string_bytes text)) }
 {
     match fault_in(alloc, text)? {
-        Some(fault) => test_hint(alloc, asked, behind.is_some(), text, fault),
-        None => behind_hint(alloc, asked, text, behind.unwrap_or(&[])),
+        Some(fault) => test_hint(alloc, asked, after.is_some(), text, fault),
+        None => after_hint(alloc, asked, text, after.unwrap_or(&[])),
     }
 }
 
@@ -72,15 +72,15 @@ fn test_hint(
     hint(alloc, Where::Line(place.line()), &words)
 }
 
-fn behind_hint(alloc: Global, asked: Asked, text: &[u8], behind: &[u8]) -> Result<String, NoMemory>
+fn after_hint(alloc: Global, asked: Asked, text: &[u8], after: &[u8]) -> Result<String, NoMemory>
     ensures { IfOk result (λ text. IsHint (string_bytes text)) }
 {
     let Ok(test) = read_test(alloc, text) else {
         return Err(NoMemory);
     };
     match asked {
-        Asked::Choices { .. } => choices_hint(alloc, &test, behind),
-        Asked::Order => order_hint(alloc, &test, behind),
+        Asked::Choices { .. } => choices_hint(alloc, &test, after),
+        Asked::Order => order_hint(alloc, &test, after),
         Asked::Seeds { .. } => general_hint(alloc),
     }
 }
@@ -138,18 +138,31 @@ pub fn unended_hint(
     alloc: Global,
     asked: Asked,
     text: &[u8],
-    behind: &[u8],
+    after: &[u8],
 ) -> Result<String, NoMemory>
     ensures { IfOk result (λ text. IsHint (string_bytes text)) }
 {
     match asked {
         Asked::Seeds { length } => hint(alloc, Where::Input, &sweep_ends(length)),
-        Asked::Choices { buffered } => {
-            let Ok(test) = read_test(alloc, text) else {
-                return Err(NoMemory);
-            };
-            hint(alloc, Where::Input, &choices_end(&test, buffered, behind))
-        }
+        Asked::Choices { buffered } => too_few_hint(alloc, buffered, text, after),
         Asked::Order => general_hint(alloc),
     }
+}
+
+/// Of choices that end before the test. The test is read again only where there are some.
+fn too_few_hint(
+    alloc: Global,
+    buffered: bool,
+    text: &[u8],
+    choices: &[u8],
+) -> Result<String, NoMemory>
+    ensures { IfOk result (λ text. IsHint (string_bytes text)) }
+{
+    if has_no_choices(choices) {
+        return hint(alloc, Where::Input, &no_choices());
+    }
+    let Ok(test) = read_test(alloc, text) else {
+        return Err(NoMemory);
+    };
+    hint(alloc, Where::Input, &choices_end(&test, buffered))
 }

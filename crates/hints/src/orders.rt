@@ -17,7 +17,7 @@ pub fn order_words<'a>(
     match fault {
         OrderFault::NoOrder => Ok((Where::Input, no_order(text))),
         OrderFault::BadLine(number) => Ok((
-            Where::LineBehind(number),
+            Where::LineAfter(number),
             bad_line(test, nth_line(text, number)),
         )),
         OrderFault::BadCount => Ok(bad_count(text)),
@@ -92,8 +92,8 @@ fn bad_line<'a>(test: &Test, line: &'a [u8]) -> Words<'a> {
 
 /// What stands before `=` in the third of three pieces, which one space separates.
 fn location_in(line: &[u8]) -> Option<&[u8]> {
-    let behind_place = behind(line, b' ')?;
-    let access = behind(behind_place, b' ')?;
+    let after_place = after_byte(line, b' ')?;
+    let access = after_byte(after_place, b' ')?;
     if access.contains(&b' ') || !access.contains(&b'=') {
         return None;
     }
@@ -101,10 +101,10 @@ fn location_in(line: &[u8]) -> Option<&[u8]> {
 }
 
 /// What stands after the first such byte.
-fn behind(text: &[u8], byte: u8) -> Option<&[u8]> {
+fn after_byte(text: &[u8], byte: u8) -> Option<&[u8]> {
     let (_, rest) = text.split_at(up_to(text, byte).len().min(text.len()));
-    let (_, behind) = rest.split_first()?;
-    Some(behind)
+    let (_, after) = rest.split_first()?;
+    Some(after)
 }
 
 fn is_location(test: &Test, name: &[u8]) -> bool {
@@ -128,7 +128,7 @@ fn bad_count<'a>(text: &'a [u8]) -> (Where, Words<'a>) {
             }
         } else if line.starts_with(b"Endorder ") {
             return (
-                Where::LineBehind(number),
+                Where::LineAfter(number),
                 counted(
                     without_return(line),
                     number.saturating_sub(start).saturating_sub(1),

@@ -31,7 +31,7 @@ pub enum Where {
     /// A word of choices, from 1.
     Word(usize),
     /// A line after the dividing line, from 1.
-    LineBehind(usize),
+    LineAfter(usize),
 }
 
 /// The line that says these words.
@@ -90,7 +90,7 @@ fn push_place(alloc: Global, bytes: &mut Vec<u8>, place: Where) -> Result<(), No
         Where::Input => Ok(()),
         Where::Line(number) => push_numbered(alloc, bytes, "line ", number, ": "),
         Where::Word(number) => push_numbered(alloc, bytes, "word ", number, ": "),
-        Where::LineBehind(number) => push_numbered(alloc, bytes, "line ", number, " after ====: "),
+        Where::LineAfter(number) => push_numbered(alloc, bytes, "line ", number, " after ====: "),
     }
 }
 

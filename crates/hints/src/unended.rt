@@ -13,11 +13,18 @@ pub fn sweep_ends<'a>(length: u32) -> Words<'a> {
     )
 }
 
+/// Whether nothing but white space stands where choices may.
+pub fn has_no_choices(choices: &[u8]) -> bool {
+    first_word(choices).is_empty()
+}
+
+/// Of a run without choices.
+pub fn no_choices<'a>() -> Words<'a> {
+    plain("no choices: give some after a line ====, or use --help")
+}
+
 /// Of a run under choices that are too few.
-pub fn choices_end<'a>(test: &Test, buffered: bool, choices: &[u8]) -> Words<'a> {
-    if first_word(choices).is_empty() {
-        return plain("no choices: give some after a line ====, or use --help");
-    }
+pub fn choices_end<'a>(test: &Test, buffered: bool) -> Words<'a> {
     let steps = count(test, false);
     let drains = if buffered { count(test, true) } else { 0 };
     taking_at_least(steps, drains)

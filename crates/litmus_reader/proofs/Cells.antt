@@ -21,19 +21,19 @@ use Rattle.litmus_reader.specs.RefusedTable.{cells_of}
 abbrev pub Read : Type 0
 Read = Result (List CoreInstr × List (List ℕ)) Fault
 
-pub cells_go_on : (core : ℕ) (instrs after : List CoreInstr) (names known : List (List ℕ)) (row cell : List Piece) (behind : List (List Piece)) (total : Read)
-    → cells_of row ≡ cell ∷ behind → cell_in core instrs names cell ≡ Ok (after, known)
-    → cells_in core instrs names (cells_of row) ≡ total → cells_in (core + 1) after known behind ≡ total
+pub cells_go_on : (core : ℕ) (instrs after : List CoreInstr) (names known : List (List ℕ)) (row cell : List Piece) (after_it : List (List Piece)) (total : Read)
+    → cells_of row ≡ cell ∷ after_it → cell_in core instrs names cell ≡ Ok (after, known)
+    → cells_in core instrs names (cells_of row) ≡ total → cells_in (core + 1) after known after_it ≡ total
 unfolding cells_in
-cells_go_on core instrs after names known row cell behind total cut is so_far =
-    let one : cells_in core instrs names (cells_of row) ≡ cells_in (core + 1) after known behind = rw (cut, is) refl in
+cells_go_on core instrs after names known row cell after_it total cut is so_far =
+    let one : cells_in core instrs names (cells_of row) ≡ cells_in (core + 1) after known after_it = rw (cut, is) refl in
     sym one ∙ so_far
 
-pub cells_end : (e : ReadError) (core : ℕ) (instrs : List CoreInstr) (names : List (List ℕ)) (row cell : List Piece) (behind : List (List Piece)) (total : Read)
-    → cells_of row ≡ cell ∷ behind → Fails e (cell_in core instrs names cell) → cells_in core instrs names (cells_of row) ≡ total → Fails e total
+pub cells_end : (e : ReadError) (core : ℕ) (instrs : List CoreInstr) (names : List (List ℕ)) (row cell : List Piece) (after_it : List (List Piece)) (total : Read)
+    → cells_of row ≡ cell ∷ after_it → Fails e (cell_in core instrs names cell) → cells_in core instrs names (cells_of row) ≡ total → Fails e total
 unfolding cells_in
-cells_end errors.NoMemory core instrs names row cell behind total cut is so_far = tt
-cells_end (errors.Fault f) core instrs names row cell behind total cut is so_far =
+cells_end errors.NoMemory core instrs names row cell after_it total cut is so_far = tt
+cells_end (errors.Fault f) core instrs names row cell after_it total cut is so_far =
     let one : cells_in core instrs names (cells_of row) ≡ Err f = rw (cut, is) refl in
     sym so_far ∙ one
 
@@ -77,8 +77,8 @@ cells_counted row n is = rw (cells_as row, length-map (slice_split (λ t. is_sym
 -- one more than the tokens that are left, and none where no cell is
 abbrev pub room_of : Option (Bor (List Token)) → ℕ
 room_of None = 0
-room_of (Some behind) = length behind.now + 1
+room_of (Some after_it) = length after_it.now + 1
 
-pub less_room : (left : Option (Bor (List Token))) (n : ℕ) → IfSome left (λ behind. length behind.now < n) → room_of left ≤ n
+pub less_room : (left : Option (Bor (List Token))) (n : ℕ) → IfSome left (λ after_it. length after_it.now < n) → room_of left ≤ n
 less_room None n shorter = omega arith
-less_room (Some behind) n shorter = omega (arith, shorter)
+less_room (Some after_it) n shorter = omega (arith, shorter)

@@ -17,7 +17,7 @@ use Rattle.litmus_reader.specs.Faults.{◌>>=◌, or_unfit}
 use Rattle.litmus_reader.specs.Locations.{located}
 use Rattle.litmus_reader.specs.Items.{setting_at, word_at, core_of}
 use Rattle.litmus_reader.specs.Conditions.{claim_in, Claimed, claimed, one_more, truth_at, truth_atom, setting_atom, atom_at, Proposition, joined_to, chain, chain_of, both, either, conjunction, disjunction, negation_at, opens_unit, negated, bracketed, unit_by, unit_at, proposition_at, Conditioned, with_claim, quantified, not_exists, condition_at, in_condition}
-use Rattle.litmus_reader.specs.Keywords.{word_behind}
+use Rattle.litmus_reader.specs.Keywords.{word_after}
 use Rattle.litmus_reader.proofs.Keeps.{Any, ok_any, some_any, bind_keeps, there_keeps, cond_keeps, core_keeps}
 use Rattle.litmus_reader.proofs.Named.{NamedSetting, setting_named}
 use Rattle.litmus_reader.proofs.Known.{AreNames, Grown, same_names, grown_further, LocatesIn, located_keeps}
@@ -183,13 +183,13 @@ quantified_keeps stop cores quantifier names ps h =
 not_exists_keeps : (stop : Stop) (cores : ℕ) (names : List (List ℕ)) (ps : List Piece) → AreNames names → IfKept cores names (not_exists stop cores names ps)
 unfolding not_exists
 not_exists_keeps stop cores names ps h =
-    bind_keeps (λ x. Any x) (KeptCondition cores names) (or_unfit (in_condition stop) ps (word_behind (codes "exists") ps)) _ (ok_any _)
+    bind_keeps (λ x. Any x) (KeptCondition cores names) (or_unfit (in_condition stop) ps (word_after (codes "exists") ps)) _ (ok_any _)
     (λ rest _. quantified_keeps stop cores NotExists names rest h)
 
 pub condition_keeps : (stop : Stop) (cores : ℕ) (names : List (List ℕ)) (ps : List Piece) → AreNames names → IfKept cores names (condition_at stop cores names ps)
 unfolding condition_at
 condition_keeps stop cores names ps h =
-    there_keeps (λ x. Any x) (IfKept cores names) (word_behind (codes "exists") ps) (quantified stop cores Exists names) _ (some_any _) (λ rest _. quantified_keeps stop cores Exists names rest h)
-    (there_keeps (λ x. Any x) (IfKept cores names) (word_behind (codes "forall") ps) (quantified stop cores Forall names) _ (some_any _) (λ rest _. quantified_keeps stop cores Forall names rest h)
+    there_keeps (λ x. Any x) (IfKept cores names) (word_after (codes "exists") ps) (quantified stop cores Exists names) _ (some_any _) (λ rest _. quantified_keeps stop cores Exists names rest h)
+    (there_keeps (λ x. Any x) (IfKept cores names) (word_after (codes "forall") ps) (quantified stop cores Forall names) _ (some_any _) (λ rest _. quantified_keeps stop cores Forall names rest h)
     (there_keeps (λ x. Any x) (IfKept cores names) (symbol_at Tilde ps) (not_exists stop cores names) _ (some_any _) (λ rest _. not_exists_keeps stop cores names rest h)
     (record { grown = same_names names h; fits = λ x e. absurd cc })))

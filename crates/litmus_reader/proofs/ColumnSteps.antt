@@ -5,13 +5,13 @@ use Rattle.litmus_tokens.specs.declared.token.Stop.{Stop}
 use Rattle.litmus_tokens.specs.Pieces.{Piece}
 use Rattle.litmus_reader.specs.declared.fault.Why.TheVariants.{TooLarge}
 use Rattle.litmus_reader.specs.Faults.{◌>>=◌, or_unfit}
-use Rattle.litmus_reader.specs.Columns.{columns, core_at, parting_at, in_columns}
+use Rattle.litmus_reader.specs.Columns.{columns, core_at, separator_at, in_columns}
 use Rattle.litmus_reader.specs.Places.{fault, left_of}
 
 pub columns_next : (stop : Stop) (core : ℕ) (ps : List Piece) → core < most_cores → columns stop (most_cores - core) core ps ≡
     (or_unfit (in_columns stop) ps (core_at core ps) >>= λ rest.
-    or_unfit (in_columns stop) rest (parting_at rest) >>= λ parting.
-    cond parting.0 (columns stop (most_cores - (core + 1)) (core + 1) parting.1) (Ok (core + 1, parting.1)))
+    or_unfit (in_columns stop) rest (separator_at rest) >>= λ separator.
+    cond separator.0 (columns stop (most_cores - (core + 1)) (core + 1) separator.1) (Ok (core + 1, separator.1)))
 unfolding columns
 columns_next stop core ps lt = let e : most_cores - core ≡ suc (most_cores - (core + 1)) = omega arith in rw e
 

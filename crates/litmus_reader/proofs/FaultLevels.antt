@@ -195,7 +195,7 @@ inner_as_read : (stop : Stop) (cores n atoms : ℕ) (names : List (List ℕ)) (p
 inner_as_read stop cores n atoms names p ps f begins bad = by_test (is_negation p.term) refl
   where
     by_test : (b : Bool) → is_negation p.term ≡ b → level.IsUnitFault stop cores (suc n) atoms names (p ∷ ps) f
-    by_test true is = level.behind_negation p ps f is bad
+    by_test true is = level.after_negation p ps f is bad
     by_test false other =
         level.in_brackets p ps f (symbol_slot OpenRound p.term (one_of (is_negation p.term) (is_symbol_term OpenRound p.term) begins other)) (level.first ps f (level.first ps f bad))
 
@@ -216,7 +216,7 @@ pub unit_as_refused : (n : ℕ) (stop : Stop) (cores atoms : ℕ) (names : List 
 unit_as_refused zero stop cores atoms names ps _ (level.one_open_too_many begins) = refused.one_open_too_many atoms names ps begins
 unit_as_refused zero stop cores atoms names ps _ (level.in_atom f plain bad) = atom_as_refused stop cores zero atoms names ps f plain bad
 unit_as_refused (suc n) stop cores atoms names _ _ (level.in_atom ps f plain bad) = atom_as_refused stop cores (suc n) atoms names ps f plain bad
-unit_as_refused (suc n) stop cores atoms names _ _ (level.behind_negation p ps f is bad) =
+unit_as_refused (suc n) stop cores atoms names _ _ (level.after_negation p ps f is bad) =
     refused.inner n atoms names p ps f (or_left (is_negation p.term) (is_symbol_term OpenRound p.term) is) (unit_as_refused n stop cores atoms names ps f bad)
 unit_as_refused (suc n) stop cores atoms names _ _ (level.in_brackets p ps f is bad) =
     in_round p ps f is (cases (IsUnit n) (level.IsUnitFault stop cores n) cores atoms names ps f bad) (λ a l qs h. unit_as_refused n stop cores a l qs f h)

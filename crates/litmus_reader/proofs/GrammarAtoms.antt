@@ -16,7 +16,7 @@ use Rattle.litmus_tokens.specs.Pieces.{Piece}
 use Rattle.litmus_tokens.specs.Front.{is_symbol, symbol_at, name_at}
 use Rattle.litmus_reader.specs.declared.fault.Why.TheVariants.{TooLarge, NoSuchCore}
 use Rattle.litmus_reader.specs.Faults.{there}
-use Rattle.litmus_reader.specs.Keywords.{if_word, word_behind}
+use Rattle.litmus_reader.specs.Keywords.{if_word, word_after}
 use Rattle.litmus_reader.specs.Locations.{located}
 use Rattle.litmus_reader.specs.Items.{setting_at, or_bad_number, word_at, core_of}
 use Rattle.litmus_reader.specs.Conditions.{claim_in, Claimed, claimed, one_more, truth_at, truth_atom, setting_atom, atom_at, negation_at, in_condition}
@@ -160,7 +160,7 @@ pub record IsPlain (ps : List Piece) : Type 0 where
   pub no_bracket : symbol_at OpenRound ps ≡ None
 
 pub setting_plain : (ts back : List Term) (s : Setting) → IsSetting ts s → (ps : List Piece) → terms ps ≡ ts ++ back → IsPlain ps
-unfolding truth_at negation_at word_behind name_at symbol_at is_symbol
+unfolding truth_at negation_at word_after name_at symbol_at is_symbol
 setting_plain _ back _ (sets_register core word v reg good) ps e =
     opened IsPlain ps (number core) (symbol Colon ∷ name word ∷ symbol Equals ∷ number v ∷ back) e (λ p rest is _.
     record { no_truth = rw is refl; no_negation = rw is refl; no_bracket = rw is refl })
@@ -185,22 +185,22 @@ setting_atom_found stop cores ts s is atoms names allowed back ps e =
     let f = setting_found (in_condition stop) ts back s is ps e in
     let claim = claim_found cores (left_of ps) names s (fits_atom cores s allowed.fits) allowed.room in
     let done : atom_at stop cores atoms names ps ≡ Ok (given_by atoms names (atom s) f.rest) = rw (plain.no_truth, f.is, claim, one_more_is (left_of ps) atoms allowed.few) refl in
-    record { rest = f.rest; is = done; behind = f.behind }
+    record { rest = f.rest; is = done; after_it = f.after_it }
 
 pub atom_found : (stop : Stop) (cores : ℕ) → Finds cores (atom_at stop cores) IsAtom Anything
-unfolding atom_at truth_at word_behind name_at numbered
+unfolding atom_at truth_at word_after name_at numbered
 atom_found stop cores _ _ says_true atoms names allowed back ok ps e =
-    opened (ReadsPhrase (atom_at stop cores) atoms names (truth true) back) ps (name (codes "true")) back e (λ p rest is behind.
-    record { rest = rest; is = rw (is, one_more_is p.left atoms allowed.few) refl; behind = behind })
+    opened (ReadsPhrase (atom_at stop cores) atoms names (truth true) back) ps (name (codes "true")) back e (λ p rest is after_it.
+    record { rest = rest; is = rw (is, one_more_is p.left atoms allowed.few) refl; after_it = after_it })
 atom_found stop cores _ _ says_false atoms names allowed back ok ps e =
-    opened (ReadsPhrase (atom_at stop cores) atoms names (truth false) back) ps (name (codes "false")) back e (λ p rest is behind.
-    record { rest = rest; is = rw (is, one_more_is p.left atoms allowed.few) refl; behind = behind })
+    opened (ReadsPhrase (atom_at stop cores) atoms names (truth false) back) ps (name (codes "false")) back e (λ p rest is after_it.
+    record { rest = rest; is = rw (is, one_more_is p.left atoms allowed.few) refl; after_it = after_it })
 atom_found stop cores _ _ (says_setting ts s is) atoms names allowed back ok ps e = setting_atom_found stop cores ts s is atoms names allowed back ps e
 
 -- ---- atoms taken
 
-pub word_taken : (word : List ℕ) (ps rest : List Piece) → word_behind word ps ≡ Some rest → terms ps ≡ name word ∷ terms rest
-unfolding word_behind
+pub word_taken : (word : List ℕ) (ps rest : List Piece) → word_after word ps ≡ Some rest → terms ps ≡ name word ∷ terms rest
+unfolding word_after
 word_taken word ps rest e =
     let n = there_some (name_at ps) (if_word word) rest e in
     elim (chosen (bytes_eq n.0.0 word) (Some n.0.1) None (Some rest) n.2) [
@@ -213,11 +213,11 @@ word_taken word ps rest e =
 pub truth_taken : (ps : List Piece) (t : Bool × List Piece) → truth_at ps ≡ Some t → Begins (λ ts. IsAtom ts (truth t.0)) ps t.1
 unfolding truth_at
 truth_taken ps t e =
-    elim (there_is (word_behind (codes "true") ps) (λ rest. Some (true, rest)) (there (word_behind (codes "false") ps) (λ rest. Some (false, rest)) None) (Some t) e) [
+    elim (there_is (word_after (codes "true") ps) (λ rest. Some (true, rest)) (there (word_after (codes "false") ps) (λ rest. Some (false, rest)) None) (Some t) e) [
       | inl yes_at ↦ subst (λ (t : Bool × List Piece). Begins (λ ts. IsAtom ts (truth t.0)) ps t.1) (some_is (true, yes_at.0) t yes_at.2)
           (record { ts = name (codes "true") ∷ []; is = says_true; parts = word_taken (codes "true") ps yes_at.0 yes_at.1 })
       | inr no_true ↦
-          let no_at = there_some (word_behind (codes "false") ps) (λ rest. Some (false, rest)) t no_true.1 in
+          let no_at = there_some (word_after (codes "false") ps) (λ rest. Some (false, rest)) t no_true.1 in
           subst (λ (t : Bool × List Piece). Begins (λ ts. IsAtom ts (truth t.0)) ps t.1) (some_is (false, no_at.0) t no_at.2)
           (record { ts = name (codes "false") ∷ []; is = says_false; parts = word_taken (codes "false") ps no_at.0 no_at.1 })
     ]

@@ -14,10 +14,10 @@ use Rattle.litmus_tokens.specs.Pieces.{Piece}
 use Rattle.litmus_tokens.specs.Front.{is_symbol, symbol_at, name_at, number_at}
 use Rattle.litmus_reader.specs.Faults.{there}
 use Rattle.litmus_reader.specs.Items.{if_location, location_at, if_register, register_at}
-use Rattle.litmus_reader.specs.Operands.{Place, in_memory, in_register, constant, as_constant, dollar_at, closed_memory, memory_at, as_register, operand_at, if_last, second_of, behind_first, two_operands}
+use Rattle.litmus_reader.specs.Operands.{Place, in_memory, in_register, constant, as_constant, dollar_at, closed_memory, memory_at, as_register, operand_at, if_last, second_of, after_operand, two_operands}
 use Rattle.litmus_reader.specs.Forms.{mov_of, xchg_of, xadd_of, no_more, locked_by, locked_at, by_mnemonic, spelled_in}
 use Rattle.litmus_reader.specs.Grammar.{terms}
-use Rattle.litmus_reader.specs.GrammarCells.{IsConstant, plain, with_dollar, IsMemory, in_squares, IsRegister, named, IsMnemonic, spelled, parted, IsExchange, memory_first, register_first, IsCell, stores_constant, stores_register, loads, sets_constant, sets_register, fences, exchanges, locks_exchange, locks_add, moves}
+use Rattle.litmus_reader.specs.GrammarCells.{IsConstant, plain, with_dollar, IsMemory, in_squares, IsRegister, named, IsMnemonic, spelled, separated, IsExchange, memory_first, register_first, IsCell, stores_constant, stores_register, loads, sets_constant, sets_register, fences, exchanges, locks_exchange, locks_add, moves}
 use Rattle.litmus_reader.proofs.GrammarTokens.{chosen, there_is, there_some, some_is, pair_is, front, opened, no_terms, number_takes, name_takes, symbol_takes}
 use Rattle.litmus_reader.specs.Written.{Shape, store_imm, store_reg, load, set_imm, set_reg, fence, xchg, xadd}
 
@@ -53,42 +53,42 @@ IsOperand ts (constant v) = IsConstant ts v
 pub record Found (ps : List Piece) (o : Place) (back : List Term) : Type 0 where
   pub rest : List Piece
   pub is : operand_at ps ≡ Some (o, rest)
-  pub behind : terms rest ≡ back
+  pub after_it : terms rest ≡ back
 
 constant_found : (ts back : List Term) (v : ℕ) → IsConstant ts v → (ps : List Piece) → terms ps ≡ ts ++ back → Found ps (constant v) back
 unfolding operand_at number_at symbol_at is_symbol
 constant_found _ back _ (plain v) ps e =
-    opened (λ ps. Found ps (constant (decimal_value v)) back) ps (number v) back e (λ p rest is behind. record { rest = rest; is = rw is refl; behind = behind })
+    opened (λ ps. Found ps (constant (decimal_value v)) back) ps (number v) back e (λ p rest is after_it. record { rest = rest; is = rw is refl; after_it = after_it })
 constant_found _ back _ (with_dollar v) ps e =
     opened (λ ps. Found ps (constant (decimal_value v)) back) ps (symbol Dollar) (number v ∷ back) e (λ p after is then.
-    opened (λ after. Found (p ∷ after) (constant (decimal_value v)) back) after (number v) back then (λ q rest is_number behind.
-    record { rest = rest; is = rw (is, is_number) refl; behind = behind }))
+    opened (λ after. Found (p ∷ after) (constant (decimal_value v)) back) after (number v) back then (λ q rest is_number after_it.
+    record { rest = rest; is = rw (is, is_number) refl; after_it = after_it }))
 
 memory_found : (ts back : List Term) (x : List ℕ) → IsMemory ts x → (ps : List Piece) → terms ps ≡ ts ++ back → Found ps (in_memory x) back
 unfolding operand_at number_at symbol_at is_symbol location_at name_at
 memory_found _ back _ (in_squares x good) ps e =
     opened (λ ps. Found ps (in_memory x) back) ps (symbol OpenSquare) (name x ∷ symbol CloseSquare ∷ back) e (λ p after is then.
     opened (λ after. Found (p ∷ after) (in_memory x) back) after (name x) (symbol CloseSquare ∷ back) then (λ q last is_name close.
-    opened (λ last. Found (p ∷ q ∷ last) (in_memory x) back) last (symbol CloseSquare) back close (λ r rest is_close behind.
-    record { rest = rest; is = rw (is, is_name, good, is_close) refl; behind = behind })))
+    opened (λ last. Found (p ∷ q ∷ last) (in_memory x) back) last (symbol CloseSquare) back close (λ r rest is_close after_it.
+    record { rest = rest; is = rw (is, is_name, good, is_close) refl; after_it = after_it })))
 
 register_found : (ts back : List Term) (reg : Reg) → IsRegister ts reg → (ps : List Piece) → terms ps ≡ ts ++ back → Found ps (in_register reg) back
 unfolding operand_at number_at symbol_at is_symbol register_at name_at
 register_found _ back _ (named word reg is) ps e =
-    opened (λ ps. Found ps (in_register reg) back) ps (name word) back e (λ p rest is_name behind. record { rest = rest; is = rw (is_name, is) refl; behind = behind })
+    opened (λ ps. Found ps (in_register reg) back) ps (name word) back e (λ p rest is_name after_it. record { rest = rest; is = rw (is_name, is) refl; after_it = after_it })
 
 operand_found : (ts back : List Term) (o : Place) → IsOperand ts o → (ps : List Piece) → terms ps ≡ ts ++ back → Found ps o back
 operand_found ts back (in_memory x) is ps e = memory_found ts back x is ps e
 operand_found ts back (in_register reg) is ps e = register_found ts back reg is ps e
 operand_found ts back (constant v) is ps e = constant_found ts back v is ps e
 
-pub two_found : (a b : List Term) (first second : Place) → IsOperand a first → IsOperand b second → (ps : List Piece) → terms ps ≡ parted a b → two_operands ps ≡ Some (first, second)
+pub two_found : (a b : List Term) (first second : Place) → IsOperand a first → IsOperand b second → (ps : List Piece) → terms ps ≡ separated a b → two_operands ps ≡ Some (first, second)
 unfolding two_operands symbol_at is_symbol
 two_found a b first second is_first is_second ps e =
     let one = operand_found a (symbol Comma ∷ b) first is_first ps e in
-    let comma = front one.rest (symbol Comma) b one.behind in
-    let other = operand_found b [] second is_second comma.rest (comma.behind ∙ sym (append-nil b)) in
-    rw (one.is, comma.parts, comma.is, other.is, no_terms other.rest other.behind) refl
+    let comma = front one.rest (symbol Comma) b one.after_it in
+    let other = operand_found b [] second is_second comma.rest (comma.after_it ∙ sym (append-nil b)) in
+    rw (one.is, comma.parts, comma.is, other.is, no_terms other.rest other.after_it) refl
 
 -- what an operand took
 pub record Taken (ps : List Piece) (o : Place) (rest : List Piece) : Type 0 where
@@ -137,7 +137,7 @@ operand_taken ps rest o e =
 pub record TwoTaken (ps : List Piece) (both : Place × Place) : Type 0 where
   pub a : List Term
   pub b : List Term
-  pub parts : terms ps ≡ parted a b
+  pub parts : terms ps ≡ separated a b
   pub first : IsOperand a both.0
   pub second : IsOperand b both.1
 
@@ -148,7 +148,7 @@ at_last first (second, p ∷ ps) both e = absurd cc
 pub two_taken : (ps : List Piece) (both : Place × Place) → two_operands ps ≡ Some both → TwoTaken ps both
 unfolding two_operands
 two_taken ps both e =
-    let f = there_some (operand_at ps) behind_first both e in
+    let f = there_some (operand_at ps) after_operand both e in
     let c = there_some (symbol_at Comma f.0.1) (second_of f.0.0) both f.2 in
     let s = there_some (operand_at c.0) (if_last f.0.0) both c.2 in
     let one = operand_taken ps f.0.1 f.0.0 f.1 in
@@ -173,32 +173,32 @@ other_word x one another is apart =
     rw same apart
 
 mov_found : (m : Term) (a b : List Term) (first second : Place) (shape : Shape) → IsMnemonic (codes "MOV") m → IsOperand a first → IsOperand b second → mov_of (first, second) ≡ Some shape
-    → (ps : List Piece) → terms ps ≡ m ∷ parted a b → spelled_in ps ≡ Some shape
+    → (ps : List Piece) → terms ps ≡ m ∷ separated a b → spelled_in ps ≡ Some shape
 unfolding spelled_in name_at
 mov_found _ a b first second shape (spelled letters is) is_first is_second made ps e =
-    let f = front ps (name letters) (parted a b) e in
-    rw (f.parts, f.is, is, two_found a b first second is_first is_second f.rest f.behind) made
+    let f = front ps (name letters) (separated a b) e in
+    rw (f.parts, f.is, is, two_found a b first second is_first is_second f.rest f.after_it) made
 
 fence_found : (m : Term) → IsMnemonic (codes "MFENCE") m → (ps : List Piece) → terms ps ≡ m ∷ [] → spelled_in ps ≡ Some fence
 unfolding spelled_in name_at
 fence_found _ (spelled letters is) ps e =
     let f = front ps (name letters) [] e in
-    rw (f.parts, f.is, other_word letters (codes "MFENCE") (codes "MOV") is refl, is, no_terms f.rest f.behind) refl
+    rw (f.parts, f.is, other_word letters (codes "MFENCE") (codes "MOV") is refl, is, no_terms f.rest f.after_it) refl
 
 exchange_found : (m : Term) (a b : List Term) (first second : Place) (shape : Shape) → IsMnemonic (codes "XCHG") m → IsOperand a first → IsOperand b second → xchg_of (first, second) ≡ Some shape
-    → (ps : List Piece) → terms ps ≡ m ∷ parted a b → (spelled_in ps ≡ Some shape) × (locked_at ps ≡ Some shape)
+    → (ps : List Piece) → terms ps ≡ m ∷ separated a b → (spelled_in ps ≡ Some shape) × (locked_at ps ≡ Some shape)
 unfolding spelled_in locked_at name_at
 exchange_found _ a b first second shape (spelled letters is) is_first is_second made ps e =
-    let f = front ps (name letters) (parted a b) e in
-    let two = two_found a b first second is_first is_second f.rest f.behind in
+    let f = front ps (name letters) (separated a b) e in
+    let two = two_found a b first second is_first is_second f.rest f.after_it in
     (rw (f.parts, f.is, other_word letters (codes "XCHG") (codes "MOV") is refl, other_word letters (codes "XCHG") (codes "MFENCE") is refl, is, two) made, rw (f.parts, f.is, is, two) made)
 
 add_found : (m : Term) (a b : List Term) (x : List ℕ) (reg : Reg) → IsMnemonic (codes "XADD") m → IsMemory a x → IsRegister b reg
-    → (ps : List Piece) → terms ps ≡ m ∷ parted a b → locked_at ps ≡ Some (xadd x reg)
+    → (ps : List Piece) → terms ps ≡ m ∷ separated a b → locked_at ps ≡ Some (xadd x reg)
 unfolding locked_at name_at
 add_found _ a b x reg (spelled letters is) first second ps e =
-    let f = front ps (name letters) (parted a b) e in
-    rw (f.parts, f.is, other_word letters (codes "XADD") (codes "XCHG") is refl, is, two_found a b (in_memory x) (in_register reg) first second f.rest f.behind) refl
+    let f = front ps (name letters) (separated a b) e in
+    rw (f.parts, f.is, other_word letters (codes "XADD") (codes "XCHG") is refl, is, two_found a b (in_memory x) (in_register reg) first second f.rest f.after_it) refl
 
 exchanges_found : (ts : List Term) (shape : Shape) → IsExchange ts shape → (ps : List Piece) → terms ps ≡ ts → (spelled_in ps ≡ Some shape) × (locked_at ps ≡ Some shape)
 exchanges_found _ _ (memory_first m a b x reg is first second) ps e = exchange_found m a b (in_memory x) (in_register reg) (xchg x reg) is first second refl ps e
@@ -209,7 +209,7 @@ locked_found : (l : Term) (ts : List Term) (shape : Shape) → IsMnemonic (codes
 unfolding spelled_in name_at
 locked_found _ ts shape (spelled letters is) locked ps e =
     let f = front ps (name letters) ts e in
-    rw (f.parts, f.is, other_word letters (codes "LOCK") (codes "MOV") is refl, other_word letters (codes "LOCK") (codes "MFENCE") is refl, other_word letters (codes "LOCK") (codes "XCHG") is refl, is) (locked f.rest f.behind)
+    rw (f.parts, f.is, other_word letters (codes "LOCK") (codes "MOV") is refl, other_word letters (codes "LOCK") (codes "MFENCE") is refl, other_word letters (codes "LOCK") (codes "XCHG") is refl, is) (locked f.rest f.after_it)
 
 cell_found : (ts : List Term) (shape : Shape) → IsCell ts shape → (ps : List Piece) → terms ps ≡ ts → spelled_in ps ≡ Some shape
 cell_found _ _ (moves m a b _ is (stores_constant x v first second)) ps e = mov_found m a b (in_memory x) (constant v) (store_imm x v) is first second refl ps e
@@ -220,14 +220,14 @@ cell_found _ _ (moves m a b _ is (sets_register reg other first second)) ps e = 
 cell_found _ _ (fences m is) ps e = fence_found m is ps e
 cell_found _ _ (exchanges ts shape is) ps e = (exchanges_found ts shape is ps e).0
 cell_found _ _ (locks_exchange l ts shape lock is) ps e = locked_found l ts shape lock (λ ps e. (exchanges_found ts shape is ps e).1) ps e
-cell_found _ _ (locks_add l m a b x reg lock is first second) ps e = locked_found l (m ∷ parted a b) (xadd x reg) lock (λ ps e. add_found m a b x reg is first second ps e) ps e
+cell_found _ _ (locks_add l m a b x reg lock is first second) ps e = locked_found l (m ∷ separated a b) (xadd x reg) lock (λ ps e. add_found m a b x reg is first second ps e) ps e
 
 pub cell_again : (cell : List Piece) (shape : Shape) → IsCell (terms cell) shape → spelled_in cell ≡ Some shape
 cell_again cell shape is = cell_found (terms cell) shape is cell refl
 
 -- ---- taken
 
-mov_made : (m : Term) (a b : List Term) (both : Place × Place) (shape : Shape) → IsMnemonic (codes "MOV") m → IsOperand a both.0 → IsOperand b both.1 → mov_of both ≡ Some shape → IsCell (m ∷ parted a b) shape
+mov_made : (m : Term) (a b : List Term) (both : Place × Place) (shape : Shape) → IsMnemonic (codes "MOV") m → IsOperand a both.0 → IsOperand b both.1 → mov_of both ≡ Some shape → IsCell (m ∷ separated a b) shape
 mov_made m a b (in_memory x, constant v) shape is first second e = subst (IsCell _) (some_is (store_imm x v) shape e) (moves m a b _ is (stores_constant x v first second))
 mov_made m a b (in_memory x, in_register r) shape is first second e = subst (IsCell _) (some_is (store_reg x r) shape e) (moves m a b _ is (stores_register x r first second))
 mov_made m a b (in_memory x, in_memory y) shape is first second e = absurd cc
@@ -236,7 +236,7 @@ mov_made m a b (in_register r, constant v) shape is first second e = subst (IsCe
 mov_made m a b (in_register r, in_register s) shape is first second e = subst (IsCell _) (some_is (set_reg r s) shape e) (moves m a b _ is (sets_register r s first second))
 mov_made m a b (constant v, other) shape is first second e = absurd cc
 
-exchange_made : (m : Term) (a b : List Term) (both : Place × Place) (shape : Shape) → IsMnemonic (codes "XCHG") m → IsOperand a both.0 → IsOperand b both.1 → xchg_of both ≡ Some shape → IsExchange (m ∷ parted a b) shape
+exchange_made : (m : Term) (a b : List Term) (both : Place × Place) (shape : Shape) → IsMnemonic (codes "XCHG") m → IsOperand a both.0 → IsOperand b both.1 → xchg_of both ≡ Some shape → IsExchange (m ∷ separated a b) shape
 exchange_made m a b (in_memory x, in_register r) shape is first second e = subst (IsExchange _) (some_is (xchg x r) shape e) (memory_first m a b x r is first second)
 exchange_made m a b (in_memory x, in_memory y) shape is first second e = absurd cc
 exchange_made m a b (in_memory x, constant v) shape is first second e = absurd cc
@@ -246,7 +246,7 @@ exchange_made m a b (in_register r, constant v) shape is first second e = absurd
 exchange_made m a b (constant v, other) shape is first second e = absurd cc
 
 add_made : (l m : Term) (a b : List Term) (both : Place × Place) (shape : Shape) → IsMnemonic (codes "LOCK") l → IsMnemonic (codes "XADD") m → IsOperand a both.0 → IsOperand b both.1 → xadd_of both ≡ Some shape
-    → IsCell (l ∷ m ∷ parted a b) shape
+    → IsCell (l ∷ m ∷ separated a b) shape
 add_made l m a b (in_memory x, in_register r) shape lock is first second e = subst (IsCell _) (some_is (xadd x r) shape e) (locks_add l m a b x r lock is first second)
 add_made l m a b (in_memory x, in_memory y) shape lock is first second e = absurd cc
 add_made l m a b (in_memory x, constant v) shape lock is first second e = absurd cc

@@ -11,7 +11,7 @@ use Rattle.litmus_tokens.specs.Front.{is_symbol, symbol_at, name_at}
 use Rattle.litmus_reader.specs.declared.fault.Fault.{Fault}
 use Rattle.litmus_reader.specs.declared.fault.Why.TheVariants.{TooLarge}
 use Rattle.litmus_reader.specs.Faults.{there, or_unfit}
-use Rattle.litmus_reader.specs.Columns.{if_core, core_at, parting_at, columns, columns_at, in_columns}
+use Rattle.litmus_reader.specs.Columns.{if_core, core_at, separator_at, columns, columns_at, in_columns}
 use Rattle.litmus_reader.specs.Grammar.{terms}
 use Rattle.litmus_reader.specs.GrammarColumns.{AreColumns, last, more, IsHeaderRow, core_name}
 use Rattle.litmus_reader.proofs.GrammarTokens.{chosen, there_is, there_some, some_is, ok_pair, bind_ok, or_unfit_ok, opened, name_takes, symbol_takes}
@@ -30,19 +30,19 @@ grow _ _ _ (more core ts cores are) = let g = grow (core + 1) ts cores are in om
 
 columns_found : (stop : Stop) (core : ℕ) (ts : List Term) (cores : ℕ) → AreColumns core ts cores → (n : ℕ) → cores ≤ core + n → (back : List Term) (ps : List Piece) → terms ps ≡ ts ++ back
     → Found stop n core cores back ps
-unfolding columns core_at parting_at name_at symbol_at is_symbol
+unfolding columns core_at separator_at name_at symbol_at is_symbol
 columns_found stop core ts cores are zero few back ps e = let g = grow core ts cores are in absurd (omega arith)
 columns_found stop _ _ _ (last core) (suc n) few back ps e =
     let Is : List Piece → Type 0 = Found stop (suc n) core (core + 1) back in
     opened Is ps (name (core_name core)) (symbol Semicolon ∷ back) e (λ a later is_name e.
-    opened (λ l. Is (a ∷ l)) later (symbol Semicolon) back e (λ b rest is_end behind.
-    record { rest = rest; is = rw (is_name, same_bytes (core_name core), is_end) refl; behind = behind }))
+    opened (λ l. Is (a ∷ l)) later (symbol Semicolon) back e (λ b rest is_end after_it.
+    record { rest = rest; is = rw (is_name, same_bytes (core_name core), is_end) refl; after_it = after_it }))
 columns_found stop _ _ _ (more core ts cores are) (suc n) few back ps e =
     let Is : List Piece → Type 0 = Found stop (suc n) core cores back in
     opened Is ps (name (core_name core)) (symbol Bar ∷ ts ++ back) e (λ a later is_name e.
     opened (λ l. Is (a ∷ l)) later (symbol Bar) (ts ++ back) e (λ b bs is_bar e.
     let others = columns_found stop (core + 1) ts cores are n (omega arith) back bs e in
-    record { rest = others.rest; is = rw (is_name, same_bytes (core_name core), is_bar) others.is; behind = others.behind }))
+    record { rest = others.rest; is = rw (is_name, same_bytes (core_name core), is_bar) others.is; after_it = others.after_it }))
 
 -- what columns took
 record ColumnsTaken (n core cores : ℕ) (ps rest : List Piece) : Type 0 where
@@ -67,9 +67,9 @@ abbrev PartingTaken : List Piece → Bool × List Piece → Type 0
 PartingTaken ps (true, rest) = terms ps ≡ symbol Bar ∷ terms rest
 PartingTaken ps (false, rest) = terms ps ≡ symbol Semicolon ∷ terms rest
 
-parting_taken : (ps : List Piece) (p : Bool × List Piece) → parting_at ps ≡ Some p → PartingTaken ps p
-unfolding parting_at
-parting_taken ps p e =
+separator_taken : (ps : List Piece) (p : Bool × List Piece) → separator_at ps ≡ Some p → PartingTaken ps p
+unfolding separator_at
+separator_taken ps p e =
     elim (there_is (symbol_at Bar ps) (λ (rest : List Piece). Some (true, rest)) (there (symbol_at Semicolon ps) (λ (rest : List Piece). Some (false, rest)) None) (Some p) e) [
       | inl bar ↦ subst (PartingTaken ps) (some_is (true, bar.0) p bar.2) (symbol_takes Bar ps bar.0 bar.1)
       | inr no_bar ↦
@@ -77,10 +77,10 @@ parting_taken ps p e =
           subst (PartingTaken ps) (some_is (false, end.0) p end.2) (symbol_takes Semicolon ps end.0 end.1)
     ]
 
-by_parting : (stop : Stop) (n core cores : ℕ) (ps later rest : List Piece) → terms ps ≡ name (core_name core) ∷ terms later
+by_separator : (stop : Stop) (n core cores : ℕ) (ps later rest : List Piece) → terms ps ≡ name (core_name core) ∷ terms later
     → ((bs : List Piece) → columns stop n (core + 1) bs ≡ Ok (cores, rest) → ColumnsTaken n (core + 1) cores bs rest) → (p : Bool × List Piece) → PartingTaken later p
     → cond p.0 (columns stop n (core + 1) p.1) (Ok (core + 1, p.1)) ≡ Ok (cores, rest) → ColumnsTaken (suc n) core cores ps rest
-by_parting stop n core cores ps later rest front further (true, bs) bar h =
+by_separator stop n core cores ps later rest front further (true, bs) bar h =
     let others = further bs h in
     record {
       ts = name (core_name core) ∷ symbol Bar ∷ others.ts;
@@ -88,7 +88,7 @@ by_parting stop n core cores ps later rest front further (true, bs) bar h =
       few = omega (arith, others.few);
       parts = front ∙ ap (λ (ts : List Term). name (core_name core) ∷ ts) (bar ∙ ap (λ (ts : List Term). symbol Bar ∷ ts) others.parts);
     }
-by_parting stop n core cores ps later rest front further (false, bs) end h =
+by_separator stop n core cores ps later rest front further (false, bs) end h =
     let same = ok_pair (core + 1) cores bs rest h in
     record {
       ts = name (core_name core) ∷ symbol Semicolon ∷ [];
@@ -105,10 +105,10 @@ columns_taken stop zero core cores ps rest e =
     absurd cc
 columns_taken stop (suc n) core cores ps rest e =
     let a = bind_ok (or_unfit (in_columns stop) ps (core_at core ps)) _ (cores, rest) e in
-    let b = bind_ok (or_unfit (in_columns stop) a.0 (parting_at a.0)) _ (cores, rest) a.2 in
+    let b = bind_ok (or_unfit (in_columns stop) a.0 (separator_at a.0)) _ (cores, rest) a.2 in
     let front = core_taken core ps a.0 (or_unfit_ok (in_columns stop) ps (core_at core ps) a.0 a.1) in
-    let parting = parting_taken a.0 b.0 (or_unfit_ok (in_columns stop) a.0 (parting_at a.0) b.0 b.1) in
-    by_parting stop n core cores ps a.0 rest front (λ bs h. columns_taken stop n (core + 1) cores bs rest h) b.0 parting b.2
+    let separator = separator_taken a.0 b.0 (or_unfit_ok (in_columns stop) a.0 (separator_at a.0) b.0 b.1) in
+    by_separator stop n core cores ps a.0 rest front (λ bs h. columns_taken stop n (core + 1) cores bs rest h) b.0 separator b.2
 
 pub header_row_again : (stop : Stop) (ps : List Piece) (ts back : List Term) (cores : ℕ) → IsHeaderRow ts cores → terms ps ≡ ts ++ back → Found stop most_cores 0 cores back ps
 header_row_again stop ps ts back cores is e = columns_found stop 0 ts cores is.columns most_cores (omega (arith, is.few)) back ps e

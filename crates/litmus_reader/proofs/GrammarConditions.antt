@@ -9,7 +9,7 @@ use Rattle.litmus_tokens.specs.Pieces.{Piece}
 use Rattle.litmus_tokens.specs.Front.{is_symbol, symbol_at, name_at, is_symbol_term}
 use Rattle.litmus_reader.specs.declared.fault.Why.TheVariants.{TooLarge}
 use Rattle.litmus_reader.specs.Faults.{there, or_unfit}
-use Rattle.litmus_reader.specs.Keywords.{word_behind}
+use Rattle.litmus_reader.specs.Keywords.{word_after}
 use Rattle.litmus_reader.specs.Conditions.{Claimed, claimed, atom_at, Proposition, disjunction, negation_at, opens_unit, negated, bracketed, unit_by, unit_at, proposition_at, in_condition}
 use Rattle.litmus_reader.specs.Grammar.{terms}
 use Rattle.litmus_reader.specs.GrammarNames.{numbered}
@@ -28,7 +28,7 @@ use Rattle.std.specs.Str.{bytes_eq}
 -- ---- units found
 
 pub atom_plain : (ts back : List Term) (p : Phrase) → IsAtom ts p → (ps : List Piece) → terms ps ≡ ts ++ back → (negation_at ps ≡ None) × (symbol_at OpenRound ps ≡ None)
-unfolding negation_at word_behind name_at symbol_at is_symbol
+unfolding negation_at word_after name_at symbol_at is_symbol
 atom_plain _ back _ says_true ps e =
     opened (λ ps. (negation_at ps ≡ None) × (symbol_at OpenRound ps ≡ None)) ps (name (codes "true")) back e (λ p rest is _. (rw is refl, rw is refl))
 atom_plain _ back _ says_false ps e =
@@ -40,7 +40,7 @@ unfolding unit_at opens_unit
 last_found stop cores ts p is atoms names allowed back ok ps e =
     let plain = atom_plain ts back p is ps e in
     let f = atom_found stop cores ts p is atoms names allowed back tt ps e in
-    record { rest = f.rest; is = rw (plain.0, plain.1) f.is; behind = f.behind }
+    record { rest = f.rest; is = rw (plain.0, plain.1) f.is; after_it = f.after_it }
 
 abbrev negated_claim : Claimed → Claimed
 negated_claim c = claimed (NotClaim c.claim) c.atoms c.names c.rest
@@ -55,7 +55,7 @@ unfolding unit_at unit_by
 plain_found stop cores n ts p is atoms names allowed back ps e =
     let plain = atom_plain ts back p is ps e in
     let f = atom_found stop cores ts p is atoms names allowed back tt ps e in
-    record { rest = f.rest; is = rw (plain.0, plain.1) f.is; behind = f.behind }
+    record { rest = f.rest; is = rw (plain.0, plain.1) f.is; after_it = f.after_it }
 
 bracketed_found : (stop : Stop) (inner : Proposition) (atoms : ℕ) (names : List (List ℕ)) (p : Phrase) (ps close rest : List Piece) (r : Piece)
     → disjunction inner atoms names ps ≡ Ok (given_by atoms names p close) → close ≡ r ∷ rest → r.term ≡ symbol CloseRound
@@ -64,7 +64,7 @@ unfolding symbol_at is_symbol
 bracketed_found stop inner atoms names p ps close rest r is parts is_close = rw (is, parts, is_close) refl
 
 negation_there : (p : Piece) (rest : List Piece) → is_negation p.term ≡ true → negation_at (p ∷ rest) ≡ Some rest
-unfolding negation_at word_behind name_at symbol_at is_symbol
+unfolding negation_at word_after name_at symbol_at is_symbol
 negation_there p rest e = by_term p.term refl e
   where
     by_word : (x : List ℕ) → p.term ≡ name x → (b : Bool) → bytes_eq x (codes "not") ≡ b → b ≡ true → negation_at (p ∷ rest) ≡ Some rest
@@ -81,18 +81,18 @@ negation_there p rest e = by_term p.term refl e
     by_term (symbol s) is h = by_symbol s is (is_symbol_term Tilde (symbol s)) refl h
 
 next_found : (stop : Stop) (cores n : ℕ) → Finds cores (unit_at stop cores n) (IsUnit n) Anything → Finds cores (unit_at stop cores (suc n)) (IsUnit (suc n)) Anything
-unfolding unit_at unit_by negation_at word_behind name_at symbol_at is_symbol
+unfolding unit_at unit_by negation_at word_after name_at symbol_at is_symbol
 next_found stop cores n finds _ _ (plain ts p is) atoms names allowed back ok ps e = plain_found stop cores n ts p is atoms names allowed back ps e
 next_found stop cores n finds _ _ (negated_by t ts p is_not is) atoms names allowed back ok ps e =
-    opened (ReadsPhrase (unit_at stop cores (suc n)) atoms names (negation p) back) ps t (ts ++ back) e (λ a rest here behind.
-    let f = finds ts p is atoms names (record { fits = allowed.fits; few = allowed.few; room = allowed.room }) back tt rest behind in
+    opened (ReadsPhrase (unit_at stop cores (suc n)) atoms names (negation p) back) ps t (ts ++ back) e (λ a rest here after_it.
+    let f = finds ts p is atoms names (record { fits = allowed.fits; few = allowed.few; room = allowed.room }) back tt rest after_it in
     let there = negation_there a rest (ap is_negation here ∙ is_not) in
-    record { rest = f.rest; is = rw there (negated_found (unit_at stop cores n) atoms names p back rest f); behind = f.behind })
+    record { rest = f.rest; is = rw there (negated_found (unit_at stop cores n) atoms names p back rest f); after_it = f.after_it })
 next_found stop cores n finds _ _ (in_brackets ts p is) atoms names allowed back ok ps e =
-    opened (ReadsPhrase (unit_at stop cores (suc n)) atoms names p back) ps (symbol OpenRound) ((ts ++ symbol CloseRound ∷ []) ++ back) e (λ a rest is_open behind.
-    let f = proposition_finds (IsUnit n) cores (unit_at stop cores n) finds (unit_leaves stop cores n) ts p is atoms names allowed (symbol CloseRound ∷ back) ((tt, refl), refl) rest (behind ∙ append_assoc ts (symbol CloseRound ∷ []) back) in
-    let g = front f.rest (symbol CloseRound) back f.behind in
-    record { rest = g.rest; is = rw is_open (bracketed_found stop (unit_at stop cores n) atoms names p rest f.rest g.rest g.first f.is g.parts g.is); behind = g.behind })
+    opened (ReadsPhrase (unit_at stop cores (suc n)) atoms names p back) ps (symbol OpenRound) ((ts ++ symbol CloseRound ∷ []) ++ back) e (λ a rest is_open after_it.
+    let f = proposition_finds (IsUnit n) cores (unit_at stop cores n) finds (unit_leaves stop cores n) ts p is atoms names allowed (symbol CloseRound ∷ back) ((tt, refl), refl) rest (after_it ∙ append_assoc ts (symbol CloseRound ∷ []) back) in
+    let g = front f.rest (symbol CloseRound) back f.after_it in
+    record { rest = g.rest; is = rw is_open (bracketed_found stop (unit_at stop cores n) atoms names p rest f.rest g.rest g.first f.is g.parts g.is); after_it = g.after_it })
 
 pub unit_finds : (stop : Stop) (cores n : ℕ) → Finds cores (unit_at stop cores n) (IsUnit n) Anything
 unit_finds stop cores zero = last_found stop cores
@@ -103,7 +103,7 @@ unit_finds stop cores (suc n) = next_found stop cores n (unit_finds stop cores n
 negation_taken : (ps rest : List Piece) → negation_at ps ≡ Some rest → (terms ps ≡ symbol Tilde ∷ terms rest) ⊎ (terms ps ≡ name (codes "not") ∷ terms rest)
 unfolding negation_at
 negation_taken ps rest e =
-    elim (there_is (symbol_at Tilde ps) (λ rest. Some rest) (word_behind (codes "not") ps) (Some rest) e) [
+    elim (there_is (symbol_at Tilde ps) (λ rest. Some rest) (word_after (codes "not") ps) (Some rest) e) [
       | inl at ↦ inl (symbol_takes Tilde ps at.0 at.1 ∙ ap (λ (l : List Piece). symbol Tilde ∷ terms l) (some_is at.0 rest at.2))
       | inr none ↦ inr (word_taken (codes "not") ps rest none.1)
     ]

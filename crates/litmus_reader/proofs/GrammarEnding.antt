@@ -12,15 +12,15 @@ use Rattle.litmus_tokens.specs.Terms.{Term, number, name, symbol}
 use Rattle.litmus_tokens.specs.Pieces.{Piece, pieces_of}
 use Rattle.litmus_tokens.specs.Front.{is_symbol, symbol_at, name_then, name_at}
 use Rattle.litmus_reader.specs.Faults.{◌>>=◌, there, or_unfit}
-use Rattle.litmus_reader.specs.Keywords.{word_behind, if_word}
-use Rattle.litmus_reader.specs.Observed.{square_end, brackets_end, observed_end, behind_word}
+use Rattle.litmus_reader.specs.Keywords.{word_after, if_word}
+use Rattle.litmus_reader.specs.Observed.{square_end, brackets_end, brackets_tokens, ending_tokens, in_observed}
 use Rattle.litmus_reader.specs.Conditions.{Conditioned, condition_at}
-use Rattle.litmus_reader.specs.Reading.{end_at, ending_at, ending_from, tail_at}
+use Rattle.litmus_reader.specs.Reading.{end_at, ending_at, tail_at}
 use Rattle.litmus_reader.specs.Grammar.{terms}
 use Rattle.litmus_reader.specs.GrammarNames.{numbered}
 use Rattle.litmus_reader.specs.GrammarText.{ClosesBrackets}
 use Rattle.litmus_reader.specs.GrammarConditions.{condition, says_exists, says_forall, says_not_exists}
-use Rattle.litmus_reader.specs.GrammarEnding.{MayAsk, nothing, a_condition, IsEnding, at_once, behind_locations, names_asked, condition_of, IsAskedWithin}
+use Rattle.litmus_reader.specs.GrammarEnding.{MayAsk, nothing, a_condition, IsEnding, at_once, after_locations, names_asked, condition_of, IsAskedWithin}
 use Rattle.litmus_reader.proofs.GrammarTokens.{there_is, ok_is, some_is, chosen, bind_ok, or_unfit_ok, opened, no_terms, symbol_is}
 use Rattle.litmus_reader.proofs.GrammarQuantified.{condition_again, condition_takes}
 use Rattle.litmus_reader.specs.Places.{left_of, from_place}
@@ -50,21 +50,21 @@ end_found stop ended = rw ended refl
 
 ending_found : (stop : Stop) (cores : ℕ) (names : List (List ℕ)) (ps : List Piece) (c : Option Asked) (ts : List Term) → stop ≡ End → terms ps ≡ ts → MayAsk ts c → IsAskedWithin cores names c
     → ending_at stop cores names ps ≡ Ok (given names c)
-unfolding ending_at condition_at word_behind name_at symbol_at numbered end_at
+unfolding ending_at condition_at word_after name_at symbol_at numbered end_at
 ending_found stop cores names ps _ _ ended e nothing within = rw (no_terms ps e, ended) refl
 ending_found stop cores names ps _ _ ended e (a_condition ts quantifier phrase is) within =
     let f = condition_again stop cores names ps ts [] quantifier phrase is within (e ∙ sym (append-nil ts)) refl refl in
-    rw (f.is, no_terms f.rest f.behind, end_found stop ended) refl
+    rw (f.is, no_terms f.rest f.after_it, end_found stop ended) refl
 
-no_locations : (ps : List Piece) (c : Option Asked) (ts : List Term) → terms ps ≡ ts → MayAsk ts c → word_behind (codes "locations") ps ≡ None
-unfolding word_behind name_at
+no_locations : (ps : List Piece) (c : Option Asked) (ts : List Term) → terms ps ≡ ts → MayAsk ts c → word_after (codes "locations") ps ≡ None
+unfolding word_after name_at
 no_locations ps _ _ e nothing = rw (no_terms ps e) refl
 no_locations ps _ _ e (a_condition _ _ _ (condition _ us _ phrase says_exists is)) =
-    opened (λ ps. word_behind (codes "locations") ps ≡ None) ps (name (codes "exists")) us e (λ p rest is behind. rw is refl)
+    opened (λ ps. word_after (codes "locations") ps ≡ None) ps (name (codes "exists")) us e (λ p rest is after_it. rw is refl)
 no_locations ps _ _ e (a_condition _ _ _ (condition _ us _ phrase says_forall is)) =
-    opened (λ ps. word_behind (codes "locations") ps ≡ None) ps (name (codes "forall")) us e (λ p rest is behind. rw is refl)
+    opened (λ ps. word_after (codes "locations") ps ≡ None) ps (name (codes "forall")) us e (λ p rest is after_it. rw is refl)
 no_locations ps _ _ e (a_condition _ _ _ (condition _ us _ phrase says_not_exists is)) =
-    opened (λ ps. word_behind (codes "locations") ps ≡ None) ps (symbol Tilde) (name (codes "exists") ∷ us) e (λ p rest is behind. rw is refl)
+    opened (λ ps. word_after (codes "locations") ps ≡ None) ps (symbol Tilde) (name (codes "exists") ∷ us) e (λ p rest is after_it. rw is refl)
 
 -- the law of the brackets, as this file uses it
 abbrev pub Closes : Type 0
@@ -74,16 +74,16 @@ abbrev pub Closed : Type 0
 Closed = (left : ℕ) (bytes rest : List ℕ) → square_end left bytes ≡ Ok rest → ClosesBrackets bytes rest
 
 pub observed_found : (text : List ℕ) (stop : Stop) (word opener : Piece) (ps : List Piece) (bytes : List ℕ) → Closes → word.term ≡ name (codes "locations") → opener.term ≡ symbol OpenSquare
-    → ClosesBrackets (from_place text opener.left) bytes → observed_end text stop (word ∷ opener ∷ ps) ≡ Ok (Some bytes)
-unfolding observed_end word_behind name_at brackets_end symbol_at is_symbol
+    → ClosesBrackets (from_place text opener.left) bytes → ending_tokens text stop (word ∷ opener ∷ ps) ≡ Ok (pieces_of bytes)
+unfolding ending_tokens word_after name_at brackets_end symbol_at is_symbol
 observed_found text stop word opener ps bytes closes is_word is_opener found = rw (is_word, is_opener, closes opener.left (from_place text opener.left) bytes found) refl
 
 pub tail_again : (text : List ℕ) (stop : Stop) (cores : ℕ) (names : List (List ℕ)) (ps : List Piece) (c : Option Asked) → Closes → IsEnding text stop ps c → IsAskedWithin cores names c
     → tail_at text stop cores names ps ≡ Ok (given names c)
-unfolding tail_at observed_end
+unfolding tail_at ending_tokens
 tail_again text stop cores names _ _ closes (at_once ps c ended is) within =
     rw (no_locations ps c (terms ps) refl is) (ending_found stop cores names ps c (terms ps) ended refl is within)
-tail_again text stop cores names _ _ closes (behind_locations word opener ps bytes c is_word is_opener found ended is) within =
+tail_again text stop cores names _ _ closes (after_locations word opener ps bytes c is_word is_opener found ended is) within =
     rw (observed_found text stop word opener ps bytes closes is_word is_opener found) (ending_found (pieces_of bytes).1 cores names (pieces_of bytes).0 c (terms (pieces_of bytes).0) ended refl is within)
 
 -- ---- taken
@@ -130,8 +130,8 @@ ending_taken stop cores names ps g le e =
       }
     ]
 
-pub word_found : (word : List ℕ) (ps rest : List Piece) → word_behind word ps ≡ Some rest → (p : Piece) × (ps ≡ p ∷ rest) × (p.term ≡ name word)
-unfolding word_behind name_at
+pub word_found : (word : List ℕ) (ps rest : List Piece) → word_after word ps ≡ Some rest → (p : Piece) × (ps ≡ p ∷ rest) × (p.term ≡ name word)
+unfolding word_after name_at
 word_found word [] rest e = absurd cc
 word_found word (p ∷ ps) rest e = by_term p.term refl e
   where
@@ -162,26 +162,26 @@ pub record Tail (text : List ℕ) (stop : Stop) (cores : ℕ) (names : List (Lis
 
 pub tail_takes : (text : List ℕ) (stop : Stop) (cores : ℕ) (names : List (List ℕ)) (ps : List Piece) (g : Given) → Closed → length names ≤ 16
     → tail_at text stop cores names ps ≡ Ok g → Tail text stop cores names ps g
-unfolding tail_at observed_end brackets_end
+unfolding tail_at ending_tokens brackets_end
 tail_takes text stop cores names ps g closed le e =
-    let a = bind_ok (observed_end text stop ps) (λ behind. ending_from stop cores names ps behind) g e in
-    elim (there_is (word_behind (codes "locations") ps) (λ rest. brackets_end text stop rest >>= λ bytes. Ok (Some bytes)) (Ok None) (Ok a.0) a.1) [
+    let a = bind_ok (ending_tokens text stop ps) (λ rest. ending_at rest.1 cores names rest.0) g e in
+    elim (there_is (word_after (codes "locations") ps) (brackets_tokens text stop) (Ok (ps, stop)) (Ok a.0) a.1) [
       | inl at ↦
           let w = word_found (codes "locations") ps at.0 at.1 in
-          let b = bind_ok (brackets_end text stop at.0) (λ bytes. Ok (Some bytes)) a.0 at.2 in
-          let d = bind_ok (or_unfit (behind_word stop) at.0 (symbol_at OpenSquare at.0)) (λ rest. square_end (left_of at.0) (from_place text (left_of at.0))) b.0 b.1 in
-          let o = symbol_found OpenSquare at.0 d.0 (or_unfit_ok (behind_word stop) at.0 (symbol_at OpenSquare at.0) d.0 d.1) in
-          let bytes : Some b.0 ≡ a.0 = ok_is (Some b.0) a.0 b.2 in
-          let ends = ending_taken (pieces_of b.0).1 cores names (pieces_of b.0).0 g le (subst (λ behind. ending_from stop cores names ps behind ≡ Ok g) (sym bytes) a.2) in
+          let b = bind_ok (brackets_end text stop at.0) (λ bytes. Ok (pieces_of bytes)) a.0 at.2 in
+          let d = bind_ok (or_unfit (in_observed stop) at.0 (symbol_at OpenSquare at.0)) (λ rest. square_end (left_of at.0) (from_place text (left_of at.0))) b.0 b.1 in
+          let o = symbol_found OpenSquare at.0 d.0 (or_unfit_ok (in_observed stop) at.0 (symbol_at OpenSquare at.0) d.0 d.1) in
+          let tokens : pieces_of b.0 ≡ a.0 = ok_is (pieces_of b.0) a.0 b.2 in
+          let ends = ending_taken (pieces_of b.0).1 cores names (pieces_of b.0).0 g le (subst (λ (rest : List Piece × Stop). ending_at rest.1 cores names rest.0 ≡ Ok g) (sym tokens) a.2) in
           let place : ClosesBrackets (from_place text o.0.left) b.0 = closed o.0.left (from_place text o.0.left) b.0 (subst (λ (l : List Piece). square_end (left_of l) (from_place text (left_of l)) ≡ Ok b.0) o.1 d.2) in
           record {
             c = ends.c;
-            ending = subst (λ l. IsEnding text stop l ends.c) (sym (w.1 ∙ ap (λ (l : List Piece). w.0 ∷ l) o.1)) (behind_locations w.0 o.0 d.0 b.0 ends.c w.2 o.2 place ends.ends.ended ends.ends.is);
+            ending = subst (λ l. IsEnding text stop l ends.c) (sym (w.1 ∙ ap (λ (l : List Piece). w.0 ∷ l) o.1)) (after_locations w.0 o.0 d.0 b.0 ends.c w.2 o.2 place ends.ends.ended ends.ends.is);
             within = ends.within;
             gives = ends.gives;
           }
       | inr none ↦
-          let nothing_found : None ≡ a.0 = ok_is None a.0 none.1 in
-          let ends = ending_taken stop cores names ps g le (subst (λ behind. ending_from stop cores names ps behind ≡ Ok g) (sym nothing_found) a.2) in
+          let all : (ps, stop) ≡ a.0 = ok_is (ps, stop) a.0 none.1 in
+          let ends = ending_taken stop cores names ps g le (subst (λ (rest : List Piece × Stop). ending_at rest.1 cores names rest.0 ≡ Ok g) (sym all) a.2) in
           record { c = ends.c; ending = at_once ps ends.c ends.ends.ended ends.ends.is; within = ends.within; gives = ends.gives }
     ]

@@ -30,12 +30,12 @@ judged_again : (left : ℕ) (name : List ℕ) → is_test_name name ≡ true →
 unfolding judged
 judged_again left name e = rw e refl
 
-pub header_takes : (text name behind : List ℕ) → header_at text ≡ Ok (name, behind) → IsHeaderLine text name behind
+pub header_takes : (text name after_it : List ℕ) → header_at text ≡ Ok (name, after_it) → IsHeaderLine text name after_it
 unfolding header_at
-header_takes text name behind e =
-    let a = bind_ok (from_gap (gap_end None text)) _ (name, behind) e in
-    let b = bind_ok (judged (length a.0) (name_in (first_line a.0).0)) _ (name, behind) a.2 in
-    let same = ok_pair b.0 name (first_line a.0).1 behind b.2 in
+header_takes text name after_it e =
+    let a = bind_ok (from_gap (gap_end None text)) _ (name, after_it) e in
+    let b = bind_ok (judged (length a.0) (name_in (first_line a.0).0)) _ (name, after_it) a.2 in
+    let same = ok_pair b.0 name (first_line a.0).1 after_it b.2 in
     let j = judged_takes (length a.0) (name_in (first_line a.0).0) b.0 b.1 in
     record {
       at = a.0;
@@ -45,6 +45,6 @@ header_takes text name behind e =
       rest = sym same.1;
     }
 
-pub header_again : (text name behind : List ℕ) → IsHeaderLine text name behind → header_at text ≡ Ok (name, behind)
+pub header_again : (text name after_it : List ℕ) → IsHeaderLine text name after_it → header_at text ≡ Ok (name, after_it)
 unfolding header_at
-header_again text name behind is = rw (is.gap, is.names, judged_again (length is.at) name is.good, is.rest) refl
+header_again text name after_it is = rw (is.gap, is.names, judged_again (length is.at) name is.good, is.rest) refl

@@ -12,7 +12,7 @@ use Rattle.litmus_reader.specs.Information.{quotation_end, closed_quotation, key
 use Rattle.litmus_reader.specs.GrammarText.{first_line, is_quoted, IsInformation, quotation, key_line, AreInformationLines, none, more, continues_key}
 use Rattle.litmus_reader.proofs.GrammarTokens.{chosen, some_is, ok_is, bind_ok}
 use Rattle.litmus_reader.proofs.GrammarGaps.{gap_within, from_gap_ok}
-use Rattle.litmus_reader.proofs.GrammarRuns.{both, differs, Stops, run, run_behind, line_within}
+use Rattle.litmus_reader.proofs.GrammarRuns.{both, differs, Stops, run, run_after, line_within}
 
 -- ---- quotations
 
@@ -33,12 +33,12 @@ quotation_takes (b ∷ bs) rest e =
       | inr miss ↦ let q = quotation_takes bs rest miss.1 in record { inside = b ∷ q.inside; parts = ap (λ (l : List ℕ). b ∷ l) q.parts; all = rw miss.0 q.all }
     ]
 
-pub quotation_again : (inside behind : List ℕ) → list_all is_quoted inside ≡ true → quotation_end (inside ++ 34 ∷ behind) ≡ Some behind
+pub quotation_again : (inside after_it : List ℕ) → list_all is_quoted inside ≡ true → quotation_end (inside ++ 34 ∷ after_it) ≡ Some after_it
 unfolding quotation_end
-quotation_again [] behind all = refl
-quotation_again (b ∷ bs) behind all =
+quotation_again [] after_it all = refl
+quotation_again (b ∷ bs) after_it all =
     let parts = both (is_quoted b) (list_all is_quoted bs) all in
-    rw (not-true (eqb b 34) parts.0) (quotation_again bs behind parts.1)
+    rw (not-true (eqb b 34) parts.0) (quotation_again bs after_it parts.1)
 
 closed_ok : (left : ℕ) (o : Option (List ℕ)) (rest : List ℕ) → closed_quotation left o ≡ Ok rest → o ≡ Some rest
 closed_ok left (Some x) rest e = ap (λ (l : List ℕ). Some l) (ok_is x rest e)
@@ -60,55 +60,55 @@ equals_ends : continues_key 61 ≡ false
 unfolding continues_key
 equals_ends = refl
 
-value_taken : (left b : ℕ) (key back behind : List ℕ) → is_ascii_alphabetic b ≡ true → list_all continues_key key ≡ true → key_value left back ≡ Ok behind → IsInformation (b ∷ key ++ back) behind
-value_taken left b key [] behind letter all e = absurd cc
-value_taken left b key (c ∷ cs) behind letter all e =
-    elim (chosen (eqb c 61) (Ok (first_line cs).1) _ (Ok behind) e) [
+value_taken : (left b : ℕ) (key back after_it : List ℕ) → is_ascii_alphabetic b ≡ true → list_all continues_key key ≡ true → key_value left back ≡ Ok after_it → IsInformation (b ∷ key ++ back) after_it
+value_taken left b key [] after_it letter all e = absurd cc
+value_taken left b key (c ∷ cs) after_it letter all e =
+    elim (chosen (eqb c 61) (Ok (first_line cs).1) _ (Ok after_it) e) [
       | inl hit ↦
           let equals : c ≡ 61 = eqb-true _ _ hit.0 in
-          let same : (first_line cs).1 ≡ behind = ok_is _ behind hit.1 in
+          let same : (first_line cs).1 ≡ after_it = ok_is _ after_it hit.1 in
           rw equals (subst (IsInformation (b ∷ key ++ 61 ∷ cs)) same (key_line b key cs letter all))
       | inr miss ↦ absurd cc
     ]
 
-key_behind : (b : ℕ) (key back : List ℕ) → is_ascii_alphabetic b ≡ true → list_all continues_key key ≡ true → Stops continues_key back
+key_after : (b : ℕ) (key back : List ℕ) → is_ascii_alphabetic b ≡ true → list_all continues_key key ≡ true → Stops continues_key back
     → drop (prefix_len continues_key (b ∷ key ++ back)) (b ∷ key ++ back) ≡ back
-key_behind b key back letter all stops = run_behind continues_key (b ∷ key) back (rw (letter_continues b letter) all) stops
+key_after b key back letter all stops = run_after continues_key (b ∷ key) back (rw (letter_continues b letter) all) stops
 
-key_line_takes : (b : ℕ) (bs behind : List ℕ) → is_ascii_alphabetic b ≡ true → key_line_end (b ∷ bs) ≡ Ok behind → IsInformation (b ∷ bs) behind
-key_line_takes b bs behind letter e =
+key_line_takes : (b : ℕ) (bs after_it : List ℕ) → is_ascii_alphabetic b ≡ true → key_line_end (b ∷ bs) ≡ Ok after_it → IsInformation (b ∷ bs) after_it
+key_line_takes b bs after_it letter e =
     let r = run continues_key bs in
-    let there : drop (prefix_len continues_key (b ∷ bs)) (b ∷ bs) ≡ r.back = ap (λ (l : List ℕ). drop (prefix_len continues_key (b ∷ l)) (b ∷ l)) r.parts ∙ key_behind b r.front r.back letter r.passes r.stops in
-    subst (λ (l : List ℕ). IsInformation (b ∷ l) behind) (sym r.parts)
-    (value_taken (length (b ∷ bs)) b r.front r.back behind letter r.passes (sym (ap (key_value (length (b ∷ bs))) there) ∙ e))
+    let there : drop (prefix_len continues_key (b ∷ bs)) (b ∷ bs) ≡ r.back = ap (λ (l : List ℕ). drop (prefix_len continues_key (b ∷ l)) (b ∷ l)) r.parts ∙ key_after b r.front r.back letter r.passes r.stops in
+    subst (λ (l : List ℕ). IsInformation (b ∷ l) after_it) (sym r.parts)
+    (value_taken (length (b ∷ bs)) b r.front r.back after_it letter r.passes (sym (ap (key_value (length (b ∷ bs))) there) ∙ e))
 
 -- ---- one
 
-pub information_takes : (at behind : List ℕ) → information_end at ≡ Ok behind → IsInformation at behind
+pub information_takes : (at after_it : List ℕ) → information_end at ≡ Ok after_it → IsInformation at after_it
 unfolding information_end
-information_takes [] behind e = absurd cc
-information_takes (b ∷ bs) behind e =
-    elim (chosen (eqb b 34) _ _ (Ok behind) e) [
+information_takes [] after_it e = absurd cc
+information_takes (b ∷ bs) after_it e =
+    elim (chosen (eqb b 34) _ _ (Ok after_it) e) [
       | inl hit ↦
           let mark : b ≡ 34 = eqb-true _ _ hit.0 in
-          let q = quotation_takes bs behind (closed_ok _ (quotation_end bs) behind hit.1) in
-          rw (mark, q.parts) (quotation q.inside behind q.all)
-      | inr miss ↦ elim (chosen (is_ascii_alphabetic b) _ _ (Ok behind) miss.1) [
-        | inl letter ↦ key_line_takes b bs behind letter.0 letter.1
+          let q = quotation_takes bs after_it (closed_ok _ (quotation_end bs) after_it hit.1) in
+          rw (mark, q.parts) (quotation q.inside after_it q.all)
+      | inr miss ↦ elim (chosen (is_ascii_alphabetic b) _ _ (Ok after_it) miss.1) [
+        | inl letter ↦ key_line_takes b bs after_it letter.0 letter.1
         | inr other ↦ absurd cc
       ]
     ]
 
-pub information_again : (at behind : List ℕ) → IsInformation at behind → information_end at ≡ Ok behind
+pub information_again : (at after_it : List ℕ) → IsInformation at after_it → information_end at ≡ Ok after_it
 unfolding information_end
-information_again _ _ (quotation inside behind all) = rw (quotation_again inside behind all) refl
+information_again _ _ (quotation inside after_it all) = rw (quotation_again inside after_it all) refl
 information_again _ _ (key_line letter key rest is all) =
     let found : key_line_end (letter ∷ key ++ 61 ∷ rest) ≡ Ok (first_line rest).1 =
-    ap (key_value (length (letter ∷ key ++ 61 ∷ rest))) (key_behind letter key (61 ∷ rest) is all equals_ends) in
+    ap (key_value (length (letter ∷ key ++ 61 ∷ rest))) (key_after letter key (61 ∷ rest) is all equals_ends) in
     rw (differs is_ascii_alphabetic letter 34 refl is, is) found
 
-pub information_shorter : (at behind : List ℕ) → IsInformation at behind → length behind < length at
-information_shorter _ _ (quotation inside behind all) = omega (arith, length-append inside (34 ∷ behind))
+pub information_shorter : (at after_it : List ℕ) → IsInformation at after_it → length after_it < length at
+information_shorter _ _ (quotation inside after_it all) = omega (arith, length-append inside (34 ∷ after_it))
 information_shorter _ _ (key_line letter key rest is all) = omega (arith, length-append key (61 ∷ rest), line_within rest)
 
 -- ---- all
@@ -142,18 +142,18 @@ unfolding braces_at
 lines_take bytes braces e = within_takes (suc (length bytes)) bytes braces e
 
 -- what begins an information line doesn't begin the initial state
-pub no_braces : (at behind : List ℕ) → IsInformation at behind → begins_initial at ≡ false
+pub no_braces : (at after_it : List ℕ) → IsInformation at after_it → begins_initial at ≡ false
 unfolding begins_initial
-no_braces _ _ (quotation inside behind all) = refl
+no_braces _ _ (quotation inside after_it all) = refl
 no_braces _ _ (key_line letter key rest is all) = differs is_ascii_alphabetic letter 123 refl is
 
 within_again : (bytes braces : List ℕ) → AreInformationLines bytes braces → (n : ℕ) → length bytes < n → braces_within n bytes ≡ Ok braces
 unfolding braces_within begins_initial
 within_again bytes braces are zero enough = absurd (omega arith)
 within_again _ _ (none bytes rest gap) (suc n) enough = rw gap refl
-within_again _ _ (more bytes at behind braces gap is are) (suc n) enough =
-    rw (gap, no_braces at behind is, information_again at behind is)
-    (within_again behind braces are n (omega (arith, gap_within None bytes at gap, information_shorter at behind is, enough)))
+within_again _ _ (more bytes at after_it braces gap is are) (suc n) enough =
+    rw (gap, no_braces at after_it is, information_again at after_it is)
+    (within_again after_it braces are n (omega (arith, gap_within None bytes at gap, information_shorter at after_it is, enough)))
 
 pub lines_again : (bytes braces : List ℕ) → AreInformationLines bytes braces → braces_at bytes ≡ Ok braces
 unfolding braces_at

@@ -13,7 +13,7 @@ use Rattle.litmus_reader.specs.Initial.{Initial, initial, judged, item_in, step_
 use Rattle.litmus_reader.specs.Grammar.{terms}
 use Rattle.litmus_reader.specs.GrammarItems.{IsSetting, sets_register, sets_location, sets_in_squares}
 use Rattle.litmus_reader.specs.GrammarInitial.{IsItem, empty, given, AreItems, last, more, IsInitialState, in_braces, Fits}
-use Rattle.litmus_reader.proofs.ItemSteps.{ReadItems, ItemsBehind, items_start, items_end, items_go_on}
+use Rattle.litmus_reader.proofs.ItemSteps.{ReadItems, ItemsAfter, items_start, items_end, items_go_on}
 use Rattle.litmus_reader.proofs.GrammarTokens.{chosen, there_is, bind_ok, or_unfit_ok, ok_pair, opened, symbol_takes}
 use Rattle.litmus_reader.proofs.GrammarItems.{setting_found, setting_taken}
 use Rattle.litmus_reader.proofs.GrammarInitialJudged.{Holds, judged_found, judged_taken}
@@ -31,11 +31,11 @@ pub record NoEnd (ps : List Piece) : Type 0 where
 pub no_end : (ts back : List Term) (s : Setting) → IsSetting ts s → (ps : List Piece) → terms ps ≡ ts ++ back → NoEnd ps
 unfolding symbol_at is_symbol
 no_end _ back _ (sets_register core word v reg good) ps e =
-    opened NoEnd ps (number core) _ e (λ p rest is behind. record { semicolon = rw is refl; curly = rw is refl })
+    opened NoEnd ps (number core) _ e (λ p rest is after_it. record { semicolon = rw is refl; curly = rw is refl })
 no_end _ back _ (sets_location x v good) ps e =
-    opened NoEnd ps (name x) _ e (λ p rest is behind. record { semicolon = rw is refl; curly = rw is refl })
+    opened NoEnd ps (name x) _ e (λ p rest is after_it. record { semicolon = rw is refl; curly = rw is refl })
 no_end _ back _ (sets_in_squares x v good) ps e =
-    opened NoEnd ps _ _ e (λ p rest is behind. record { semicolon = rw is refl; curly = rw is refl })
+    opened NoEnd ps _ _ e (λ p rest is after_it. record { semicolon = rw is refl; curly = rw is refl })
 
 pub length-terms : (ps : List Piece) → length (terms ps) ≡ length ps
 length-terms ps = length-map ps (λ p. p.term)
@@ -52,17 +52,17 @@ pub data IsEnd : Term → Type 0 where
 
 pub ended : (t : Term) (back : List Term) → IsEnd t → (ps : List Piece) → terms ps ≡ t ∷ back → ends_item ps ≡ true
 unfolding ends_item is_symbol
-ended _ back at_semicolon ps e = opened (λ ps. ends_item ps ≡ true) ps (symbol Semicolon) back e (λ p rest is behind. rw is refl)
-ended _ back at_curly ps e = opened (λ ps. ends_item ps ≡ true) ps (symbol CloseCurly) back e (λ p rest is behind. rw is refl)
+ended _ back at_semicolon ps e = opened (λ ps. ends_item ps ≡ true) ps (symbol Semicolon) back e (λ p rest is after_it. rw is refl)
+ended _ back at_curly ps e = opened (λ ps. ends_item ps ≡ true) ps (symbol CloseCurly) back e (λ p rest is after_it. rw is refl)
 
 -- an item is taken in, and what stands from its end on
-pub record Stepped (part : Part) (i : Initial) (ps : List Piece) (done : List Setting) (behind : List Term) : Type 0 where
+pub record Stepped (part : Part) (i : Initial) (ps : List Piece) (done : List Setting) (after_it : List Term) : Type 0 where
   pub after : Initial
   pub rest : List Piece
   pub is : step_in part i ps ≡ Ok (after, rest)
   pub goes_on : None ≡ symbol_at CloseCurly ps
   pub shorter : length rest < length ps
-  pub parts : terms rest ≡ behind
+  pub parts : terms rest ≡ after_it
   pub holds : Holds done after
 
 pub item_stepped : (part : Part) (i : Initial) (ps : List Piece) (done others : List Setting) (s : Setting) (ts back : List Term) (t : Term) → IsEnd t → IsSetting ts s → terms ps ≡ ts ++ t ∷ back
@@ -72,23 +72,23 @@ item_stepped part i ps done others s ts back t end is e h fits =
     let found = setting_found part ts (t ∷ back) s is ps e in
     let none = no_end ts (t ∷ back) s is ps e in
     let j = judged_found (left_of ps) i done others s h fits in
-    let ends = ended t back end found.rest found.behind in
+    let ends = ended t back end found.rest found.after_it in
     let long = setting_some ts s is in
     record {
       after = j.after;
       rest = found.rest;
       is = rw (none.semicolon, found.is, ends, j.is) refl;
       goes_on = sym none.curly;
-      shorter = omega (arith, long, ap length e, length-append ts (t ∷ back), length-terms ps, ap length found.behind, length-terms found.rest);
-      parts = found.behind;
+      shorter = omega (arith, long, ap length e, length-append ts (t ∷ back), length-terms ps, ap length found.after_it, length-terms found.rest);
+      parts = found.after_it;
       holds = j.holds;
     }
 
 pub semicolon_stepped : (part : Part) (i : Initial) (ps : List Piece) (done : List Setting) (back : List Term) → terms ps ≡ symbol Semicolon ∷ back → Holds done i → Stepped part i ps done back
 unfolding step_in symbol_at is_symbol
 semicolon_stepped part i ps done back e h =
-    opened (λ ps. Stepped part i ps done back) ps (symbol Semicolon) back e (λ p rest is behind.
-    record { after = i; rest = rest; is = rw is refl; goes_on = rw is refl; shorter = omega arith; parts = behind; holds = h })
+    opened (λ ps. Stepped part i ps done back) ps (symbol Semicolon) back e (λ p rest is after_it.
+    record { after = i; rest = rest; is = rw is refl; goes_on = rw is refl; shorter = omega arith; parts = after_it; holds = h })
 
 -- all items are taken in
 record Found (total : ReadItems) (settings : List Setting) (back : List Term) : Type 0 where
@@ -98,17 +98,17 @@ record Found (total : ReadItems) (settings : List Setting) (back : List Term) : 
   pub parts : terms rest ≡ back
   pub holds : Holds settings after
 
-pub go_on : (part : Part) (i : Initial) (ps : List Piece) (done : List Setting) (behind : List Term) (total : ReadItems) → (s : Stepped part i ps done behind) → ItemsBehind part i ps total → ItemsBehind part s.after s.rest total
-go_on part i ps done behind total s b = items_go_on part i s.after ps s.rest total s.goes_on s.is s.shorter b
+pub go_on : (part : Part) (i : Initial) (ps : List Piece) (done : List Setting) (after_it : List Term) (total : ReadItems) → (s : Stepped part i ps done after_it) → ItemsAfter part i ps total → ItemsAfter part s.after s.rest total
+go_on part i ps done after_it total s b = items_go_on part i s.after ps s.rest total s.goes_on s.is s.shorter b
 
-closed : (part : Part) (i : Initial) (ps : List Piece) (total : ReadItems) (done : List Setting) (back : List Term) → terms ps ≡ symbol CloseCurly ∷ back → Holds done i → ItemsBehind part i ps total → Found total done back
+closed : (part : Part) (i : Initial) (ps : List Piece) (total : ReadItems) (done : List Setting) (back : List Term) → terms ps ≡ symbol CloseCurly ∷ back → Holds done i → ItemsAfter part i ps total → Found total done back
 unfolding symbol_at is_symbol
 closed part i ps total done back e h =
-    opened (λ ps. ItemsBehind part i ps total → Found total done back) ps (symbol CloseCurly) back e (λ p rest is behind b.
-    record { after = i; rest = rest; is = items_end part i (p ∷ rest) rest total (rw is refl) b; parts = behind; holds = h })
+    opened (λ ps. ItemsAfter part i ps total → Found total done back) ps (symbol CloseCurly) back e (λ p rest is after_it b.
+    record { after = i; rest = rest; is = items_end part i (p ∷ rest) rest total (rw is refl) b; parts = after_it; holds = h })
 
 items_found : (ts : List Term) (settings : List Setting) → AreItems ts settings → (part : Part) (i : Initial) (ps : List Piece) (total : ReadItems) (done : List Setting) (back : List Term)
-    → terms ps ≡ ts ++ symbol CloseCurly ∷ back → Holds done i → Fits (done ++ settings) → ItemsBehind part i ps total → Found total (done ++ settings) back
+    → terms ps ≡ ts ++ symbol CloseCurly ∷ back → Holds done i → Fits (done ++ settings) → ItemsAfter part i ps total → Found total (done ++ settings) back
 items_found _ _ (last _ _ empty) part i ps total done back e h fits b =
     subst (λ (l : List Setting). Found total l back) (sym (append-nil done)) (closed part i ps total done back e h b)
 items_found _ _ (last _ _ (given ts s is)) part i ps total done back e h fits b =
@@ -139,21 +139,21 @@ pub initial_found : (stop : Stop) (ps : List Piece) (ts back : List Term) (setti
 unfolding initial_at symbol_at is_symbol
 initial_found stop ps _ back _ (in_braces ts settings are) fits e =
     let front : terms ps ≡ symbol OpenCurly ∷ ts ++ symbol CloseCurly ∷ back = e ∙ ap (λ (l : List Term). symbol OpenCurly ∷ l) (append_assoc ts (symbol CloseCurly ∷ []) back) in
-    opened (λ ps. InitialFound stop ps settings back) ps (symbol OpenCurly) (ts ++ symbol CloseCurly ∷ back) front (λ p rest is behind.
+    opened (λ ps. InitialFound stop ps settings back) ps (symbol OpenCurly) (ts ++ symbol CloseCurly ∷ back) front (λ p rest is after_it.
     let part = in_initial p.left stop in
-    let found = items_found ts settings are part (initial [] [] []) rest (items_at part [] rest) [] back behind nothing fits (items_start part [] rest) in
-    record { i = found.after; reads = record { rest = found.rest; is = rw is found.is; behind = found.parts }; holds = found.holds })
+    let found = items_found ts settings are part (initial [] [] []) rest (items_at part [] rest) [] back after_it nothing fits (items_start part [] rest) in
+    record { i = found.after; reads = record { rest = found.rest; is = rw is found.is; after_it = found.parts }; holds = found.holds })
 
 -- ---- taken
 
 -- what has been read of the item at hand: nothing, or all, and then its end stands there
 data AtHand (ps : List Piece) : List Term → List Setting → Type 0 where
   before_any : AtHand ps [] []
-  behind_one : (ts : List Term) (s : Setting) → IsSetting ts s → ends_item ps ≡ true → AtHand ps ts (s ∷ [])
+  after_one : (ts : List Term) (s : Setting) → IsSetting ts s → ends_item ps ≡ true → AtHand ps ts (s ∷ [])
 
 item_at_hand : (ps : List Piece) (ts : List Term) (item : List Setting) → AtHand ps ts item → IsItem ts item
 item_at_hand ps _ _ before_any = empty
-item_at_hand ps _ _ (behind_one ts s is end) = given ts s is
+item_at_hand ps _ _ (after_one ts s is end) = given ts s is
 
 -- what stands before the `}`, after what is at hand
 record ItemsTaken (ts : List Term) (item done : List Setting) (ps rest : List Piece) (i : Initial) : Type 0 where
@@ -207,9 +207,9 @@ item_taken part i ps done after e h fits =
       | inr miss ↦ absurd cc
     ]
 
-onto : (ts : List Term) (item done : List Setting) (ps behind rest : List Piece) (i j : Initial) → AtHand ps ts item → symbol_at CloseCurly ps ≡ None → symbol_at Semicolon ps ≡ None
-    → (one : ItemTaken ps behind done i) → ItemsTaken one.ts (one.s ∷ []) (done ++ one.s ∷ []) behind rest j → ItemsTaken ts item done ps rest j
-onto _ _ done ps behind rest i j before_any curly semicolon one others =
+onto : (ts : List Term) (item done : List Setting) (ps after_it rest : List Piece) (i j : Initial) → AtHand ps ts item → symbol_at CloseCurly ps ≡ None → symbol_at Semicolon ps ≡ None
+    → (one : ItemTaken ps after_it done i) → ItemsTaken one.ts (one.s ∷ []) (done ++ one.s ∷ []) after_it rest j → ItemsTaken ts item done ps rest j
+onto _ _ done ps after_it rest i j before_any curly semicolon one others =
     let all : (done ++ one.s ∷ []) ++ others.settings ≡ done ++ one.s ∷ others.settings = append_assoc done (one.s ∷ []) others.settings in
     record {
       further = one.ts ++ others.further;
@@ -219,7 +219,7 @@ onto _ _ done ps behind rest i j before_any curly semicolon one others =
       holds = subst (λ (l : List Setting). Holds l j) all others.holds;
       fits = subst Fits all others.fits;
     }
-onto _ _ done ps behind rest i j (behind_one ts s is end) curly semicolon one others = absurd (not_ended ps curly semicolon end)
+onto _ _ done ps after_it rest i j (after_one ts s is end) curly semicolon one others = absurd (not_ended ps curly semicolon end)
 
 items_taken : (n : ℕ) (part : Part) (i j : Initial) (ps rest : List Piece) (ts : List Term) (item done : List Setting) → AtHand ps ts item → Holds done i → Fits done
     → items_within n part i ps ≡ Ok (j, rest) → ItemsTaken ts item done ps rest j
@@ -255,7 +255,7 @@ items_taken (suc n) part i j ps rest ts item done hand h fits e =
                 }
             | inr no_end ↦
                 let one = item_taken part i ps done stepped.0 no_end.1 h fits in
-                let others = items_taken n part stepped.0.0 j stepped.0.1 rest one.ts (one.s ∷ []) (done ++ one.s ∷ []) (behind_one one.ts one.s one.is one.ends) one.holds one.fits stepped.2 in
+                let others = items_taken n part stepped.0.0 j stepped.0.1 rest one.ts (one.s ∷ []) (done ++ one.s ∷ []) (after_one one.ts one.s one.is one.ends) one.holds one.fits stepped.2 in
                 onto ts item done ps stepped.0.1 rest stepped.0.0 j hand open_still.0 no_end.0 one others
           ]
     ]

@@ -28,10 +28,10 @@ words_in (of_register core reg v ∷ rest) = words_in rest
 words_in (of_location x v ∷ rest) = v ∷ words_in rest
 
 -- the settings of registers
-abbrev pub registers_in : List Setting → List Setting
-registers_in [] = []
-registers_in (of_register core reg v ∷ rest) = of_register core reg v ∷ registers_in rest
-registers_in (of_location x v ∷ rest) = registers_in rest
+abbrev pub settings_of_registers : List Setting → List Setting
+settings_of_registers [] = []
+settings_of_registers (of_register core reg v ∷ rest) = of_register core reg v ∷ settings_of_registers rest
+settings_of_registers (of_location x v ∷ rest) = settings_of_registers rest
 
 abbrev pub unplaced : Given → Setting
 unplaced g = of_register g.core g.reg g.value
@@ -40,7 +40,7 @@ unplaced g = of_register g.core g.reg g.value
 pub record Holds (done : List Setting) (i : Initial) : Type 0 where
   pub names : i.names ≡ names_in done
   pub words : i.words ≡ words_in done
-  pub registers : map unplaced i.registers ≡ registers_in done
+  pub registers : map unplaced i.registers ≡ settings_of_registers done
 
 pub names_in-append : (xs ys : List Setting) → names_in (xs ++ ys) ≡ names_in xs ++ names_in ys
 names_in-append [] ys = refl
@@ -52,10 +52,10 @@ words_in-append [] ys = refl
 words_in-append (of_register core reg v ∷ xs) ys = words_in-append xs ys
 words_in-append (of_location x v ∷ xs) ys = ap (λ (l : List ℕ). v ∷ l) (words_in-append xs ys)
 
-pub registers_in-append : (xs ys : List Setting) → registers_in (xs ++ ys) ≡ registers_in xs ++ registers_in ys
-registers_in-append [] ys = refl
-registers_in-append (of_register core reg v ∷ xs) ys = ap (λ (l : List Setting). of_register core reg v ∷ l) (registers_in-append xs ys)
-registers_in-append (of_location x v ∷ xs) ys = registers_in-append xs ys
+pub settings_of_registers-append : (xs ys : List Setting) → settings_of_registers (xs ++ ys) ≡ settings_of_registers xs ++ settings_of_registers ys
+settings_of_registers-append [] ys = refl
+settings_of_registers-append (of_register core reg v ∷ xs) ys = ap (λ (l : List Setting). of_register core reg v ∷ l) (settings_of_registers-append xs ys)
+settings_of_registers-append (of_location x v ∷ xs) ys = settings_of_registers-append xs ys
 
 pub a_word_each : (xs : List Setting) → length (words_in xs) ≡ length (names_in xs)
 a_word_each [] = refl
@@ -69,12 +69,12 @@ location_given x v [] = refl
 location_given x v (of_register core reg w ∷ done) = location_given x v done
 location_given x v (of_location y w ∷ done) = ap (λ (b : Bool). bytes_eq x y || b) (location_given x v done)
 
-among_registers : (core : List ℕ) (reg : Reg) (v : ℕ) (done : List Setting) → list_any (same_place (of_register core reg v)) done ≡ list_any (same_place (of_register core reg v)) (registers_in done)
+among_registers : (core : List ℕ) (reg : Reg) (v : ℕ) (done : List Setting) → list_any (same_place (of_register core reg v)) done ≡ list_any (same_place (of_register core reg v)) (settings_of_registers done)
 among_registers core reg v [] = refl
 among_registers core reg v (of_register c r w ∷ done) = ap (λ (b : Bool). same_place (of_register core reg v) (of_register c r w) || b) (among_registers core reg v done)
 among_registers core reg v (of_location y w ∷ done) = among_registers core reg v done
 
-pub register_given : (core : List ℕ) (reg : Reg) (v : ℕ) (done : List Setting) (gs : List Given) → map unplaced gs ≡ registers_in done
+pub register_given : (core : List ℕ) (reg : Reg) (v : ℕ) (done : List Setting) (gs : List Given) → map unplaced gs ≡ settings_of_registers done
     → list_any (same_place (of_register core reg v)) done ≡ list_any (gives core reg) gs
 register_given core reg v done gs e =
     among_registers core reg v done ∙ ap (list_any (same_place (of_register core reg v))) (sym e) ∙ list_any_map (same_place (of_register core reg v)) unplaced gs
@@ -136,15 +136,15 @@ located_is left names x loc e past =
       | inl hit ↦
           let same : (location (number_of names x), with_name names x) ≡ loc = ok_is _ loc hit.1 in
           let number : number_of names x ≡ loc.0.0 = ap (λ (l : Loc × List (List ℕ)). l.0.0) same in
-          let behind : length names ≤ number_of names x = rw number (ltb-false _ _ past) in
-          by_known (list_any (bytes_eq x) names) refl (ltb-true _ _ hit.0) behind (ap (λ (l : Loc × List (List ℕ)). l.1) same)
+          let after_it : length names ≤ number_of names x = rw number (ltb-false _ _ past) in
+          by_known (list_any (bytes_eq x) names) refl (ltb-true _ _ hit.0) after_it (ap (λ (l : Loc × List (List ℕ)). l.1) same)
       | inr miss ↦ absurd cc
     ]
   where
     by_known : (b : Bool) → list_any (bytes_eq x) names ≡ b → number_of names x < 16 → length names ≤ number_of names x → cond b names (names ++ x ∷ []) ≡ loc.1
         → (list_any (bytes_eq x) names ≡ false) × (length names < 16) × (loc.1 ≡ names ++ x ∷ [])
-    by_known true any room behind is = let below = place_below (bytes_eq x) names any in absurd (omega (arith, below, behind))
-    by_known false any room behind is = (any, omega (arith, room, behind), sym is)
+    by_known true any room after_it is = let below = place_below (bytes_eq x) names any in absurd (omega (arith, below, after_it))
+    by_known false any room after_it is = (any, omega (arith, room, after_it), sym is)
 
 -- ---- judged
 
@@ -168,7 +168,7 @@ hold_register : (done : List Setting) (i : Initial) (left : ℕ) (core : List �
 hold_register done i left core reg v h = record {
   names = h.names ∙ sym (append_nil_names (names_in done)) ∙ sym (names_in-append done (of_register core reg v ∷ []));
   words = h.words ∙ sym (append_nil_words (words_in done)) ∙ sym (words_in-append done (of_register core reg v ∷ []));
-  registers = map-append unplaced i.registers (given left core reg v ∷ []) ∙ ap (λ (l : List Setting). l ++ of_register core reg v ∷ []) h.registers ∙ sym (registers_in-append done (of_register core reg v ∷ []));
+  registers = map-append unplaced i.registers (given left core reg v ∷ []) ∙ ap (λ (l : List Setting). l ++ of_register core reg v ∷ []) h.registers ∙ sym (settings_of_registers-append done (of_register core reg v ∷ []));
 }
   where
     append_nil_names : (l : List (List ℕ)) → l ++ [] ≡ l
@@ -184,7 +184,7 @@ hold_location : (done : List Setting) (i : Initial) (x : List ℕ) (v : ℕ) (na
 hold_location done i x v names h e = record {
   names = e ∙ sym (names_in-append done (of_location x v ∷ []));
   words = ap (λ (l : List ℕ). l ++ v ∷ []) h.words ∙ sym (words_in-append done (of_location x v ∷ []));
-  registers = h.registers ∙ sym (append_nil (registers_in done)) ∙ sym (registers_in-append done (of_location x v ∷ []));
+  registers = h.registers ∙ sym (append_nil (settings_of_registers done)) ∙ sym (settings_of_registers-append done (of_location x v ∷ []));
 }
   where
     append_nil : (l : List Setting) → l ++ [] ≡ l

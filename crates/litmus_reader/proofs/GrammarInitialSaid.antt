@@ -21,7 +21,7 @@ use Rattle.litmus_reader.specs.GrammarInitial.{same_place, each_once, names_in, 
 use Rattle.litmus_reader.proofs.GrammarTokens.{bind_ok}
 use Rattle.litmus_reader.specs.GrammarNames.{numbered, with_name}
 use Rattle.litmus_reader.proofs.GrammarNames.{same_bytes}
-use Rattle.litmus_reader.proofs.GrammarInitialJudged.{words_in, registers_in, unplaced, Holds, names_in-append, a_word_each, location_given, once_apart}
+use Rattle.litmus_reader.proofs.GrammarInitialJudged.{words_in, settings_of_registers, unplaced, Holds, names_in-append, a_word_each, location_given, once_apart}
 use Rattle.litmus_reader.proofs.Readings.{Says}
 use Rattle.litmus_reader.specs.Places.{fault}
 use Rattle.litmus_reader.specs.Written.{Setting, of_register, of_location}
@@ -234,19 +234,19 @@ nothing_first : (a n : ℕ) → replicate n no_registers ≡ map (first_register
 nothing_first a zero = refl
 nothing_first a (suc n) = ap (λ (l : List (List ℕ)). no_registers ∷ l) (nothing_first (a + 1) n)
 
-of_registers_alone : (core : ℕ) (reg : Reg) (otherwise : ℕ) (settings : List Setting) → first_register core reg otherwise (registers_in settings) ≡ first_register core reg otherwise settings
+of_registers_alone : (core : ℕ) (reg : Reg) (otherwise : ℕ) (settings : List Setting) → first_register core reg otherwise (settings_of_registers settings) ≡ first_register core reg otherwise settings
 of_registers_alone core reg otherwise [] = refl
 of_registers_alone core reg otherwise (of_register c r v ∷ rest) = of_registers_alone core reg (cond (eqb (decimal_value c) core && eqb (index_of r) (index_of reg)) v otherwise) rest
 of_registers_alone core reg otherwise (of_location y v ∷ rest) = of_registers_alone core reg otherwise rest
 
-rows_alone : (settings : List Setting) (cores : List ℕ) → map (first_registers_of (registers_in settings)) cores ≡ map (first_registers_of settings) cores
+rows_alone : (settings : List Setting) (cores : List ℕ) → map (first_registers_of (settings_of_registers settings)) cores ≡ map (first_registers_of settings) cores
 rows_alone settings [] = refl
-rows_alone settings (core ∷ cores) = with_first (first_registers_of (registers_in settings) core) (first_registers_of settings core) _ _ (rw (e Eax, e Ebx, e Ecx, e Edx, e Esi, e Edi) refl) (rows_alone settings cores)
+rows_alone settings (core ∷ cores) = with_first (first_registers_of (settings_of_registers settings) core) (first_registers_of settings core) _ _ (rw (e Eax, e Ebx, e Ecx, e Edx, e Esi, e Edi) refl) (rows_alone settings cores)
   where
-    e : (reg : Reg) → first_register core reg 0 (registers_in settings) ≡ first_register core reg 0 settings
+    e : (reg : Reg) → first_register core reg 0 (settings_of_registers settings) ≡ first_register core reg 0 settings
     e reg = of_registers_alone core reg 0 settings
 
-pub cores_alone : (cores : ℕ) (settings : List Setting) → list_all (has_core cores) (registers_in settings) ≡ list_all (has_core cores) settings
+pub cores_alone : (cores : ℕ) (settings : List Setting) → list_all (has_core cores) (settings_of_registers settings) ≡ list_all (has_core cores) settings
 cores_alone cores [] = refl
 cores_alone cores (of_register c r v ∷ rest) = ap (λ (b : Bool). has_core cores (of_register c r v) && b) (cores_alone cores rest)
 cores_alone cores (of_location y v ∷ rest) = cores_alone cores rest

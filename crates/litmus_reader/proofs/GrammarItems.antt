@@ -26,22 +26,22 @@ setting_found part _ back _ (sets_register core word v reg good) ps e =
     opened (λ l. Is (a ∷ l)) later (symbol Colon) (name word ∷ symbol Equals ∷ number v ∷ back) e (λ b bs is_colon e.
     opened (λ l. Is (a ∷ b ∷ l)) bs (name word) (symbol Equals ∷ number v ∷ back) e (λ c cs is_name e.
     opened (λ l. Is (a ∷ b ∷ c ∷ l)) cs (symbol Equals) (number v ∷ back) e (λ d ds is_equals e.
-    opened (λ l. Is (a ∷ b ∷ c ∷ d ∷ l)) ds (number v) back e (λ f rest is_value behind.
-    record { rest = rest; is = rw (is_core, is_colon, is_name, good, is_equals, is_value) refl; behind = behind })))))
+    opened (λ l. Is (a ∷ b ∷ c ∷ d ∷ l)) ds (number v) back e (λ f rest is_value after_it.
+    record { rest = rest; is = rw (is_core, is_colon, is_name, good, is_equals, is_value) refl; after_it = after_it })))))
 setting_found part _ back _ (sets_location x v good) ps e =
     let Is : List Piece → Type 0 = Found part (of_location x (decimal_value v)) back in
     opened Is ps (name x) (symbol Equals ∷ number v ∷ back) e (λ a later is_name e.
     opened (λ l. Is (a ∷ l)) later (symbol Equals) (number v ∷ back) e (λ b bs is_equals e.
-    opened (λ l. Is (a ∷ b ∷ l)) bs (number v) back e (λ c rest is_value behind.
-    record { rest = rest; is = rw (is_name, good, is_equals, is_value) refl; behind = behind })))
+    opened (λ l. Is (a ∷ b ∷ l)) bs (number v) back e (λ c rest is_value after_it.
+    record { rest = rest; is = rw (is_name, good, is_equals, is_value) refl; after_it = after_it })))
 setting_found part _ back _ (sets_in_squares x v good) ps e =
     let Is : List Piece → Type 0 = Found part (of_location x (decimal_value v)) back in
     opened Is ps (symbol OpenSquare) (name x ∷ symbol CloseSquare ∷ symbol Equals ∷ number v ∷ back) e (λ a later is_open e.
     opened (λ l. Is (a ∷ l)) later (name x) (symbol CloseSquare ∷ symbol Equals ∷ number v ∷ back) e (λ b bs is_name e.
     opened (λ l. Is (a ∷ b ∷ l)) bs (symbol CloseSquare) (symbol Equals ∷ number v ∷ back) e (λ c cs is_close e.
     opened (λ l. Is (a ∷ b ∷ c ∷ l)) cs (symbol Equals) (number v ∷ back) e (λ d ds is_equals e.
-    opened (λ l. Is (a ∷ b ∷ c ∷ d ∷ l)) ds (number v) back e (λ f rest is_value behind.
-    record { rest = rest; is = rw (is_open, is_name, good, is_close, is_equals, is_value) refl; behind = behind })))))
+    opened (λ l. Is (a ∷ b ∷ c ∷ d ∷ l)) ds (number v) back e (λ f rest is_value after_it.
+    record { rest = rest; is = rw (is_open, is_name, good, is_close, is_equals, is_value) refl; after_it = after_it })))))
 
 -- ---- taken
 

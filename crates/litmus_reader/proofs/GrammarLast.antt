@@ -13,20 +13,20 @@ use Rattle.litmus_tokens.specs.Front.{symbol_at, name_at}
 use Rattle.litmus_reader.specs.declared.fault.Fault.{Fault}
 use Rattle.tso_model.specs.Limits.{most_open}
 use Rattle.litmus_reader.specs.Faults.{◌>>=◌, or_unfit}
-use Rattle.litmus_reader.specs.Keywords.{if_word, word_behind}
+use Rattle.litmus_reader.specs.Keywords.{if_word, word_after}
 use Rattle.litmus_reader.specs.Items.{setting_at}
 use Rattle.litmus_reader.specs.Conditions as reading
 use Rattle.litmus_reader.specs.Conditions.{claim_in, Claimed, one_more, truth_at, truth_atom, setting_atom, atom_at, Proposition, joined_to, chain, chain_of, conjunction, disjunction, negation_at, opens_unit, negated, bracketed, unit_by, unit_at, proposition_at, Conditioned, quantified, not_exists, condition_at, in_condition}
 use Rattle.litmus_reader.proofs.Keeps.{Any, ok_any, bind_keeps, there_keeps, cond_keeps, or_unfit_keeps}
-use Rattle.litmus_reader.proofs.GrammarBehind.{all_last, last_further, Leaves, symbol_leaves, name_leaves, setting_leaves}
+use Rattle.litmus_reader.proofs.GrammarAfter.{all_last, last_further, Leaves, symbol_leaves, name_leaves, setting_leaves}
 use Rattle.litmus_reader.proofs.Readings.{AreLast}
 use Rattle.litmus_reader.specs.Places.{left_of}
 
 abbrev pub LeavesLast : Proposition → Type 0
 LeavesLast unit = (atoms : ℕ) (names : List (List ℕ)) (ps : List Piece) → IfOk (unit atoms names ps) (λ c. AreLast ps c.rest)
 
-pub word_leaves : (word : List ℕ) (ps : List Piece) → IfSome (word_behind word ps) (AreLast ps)
-unfolding word_behind
+pub word_leaves : (word : List ℕ) (ps : List Piece) → IfSome (word_after word ps) (AreLast ps)
+unfolding word_after
 word_leaves word ps =
     let P : Option (List Piece) → Type 0 = λ o. IfSome o (AreLast ps) in
     there_keeps (λ found. Leaves ps found) P (name_at ps) (if_word word) None (name_leaves ps) (λ found a. cond_keeps P (bytes_eq found.0 word) (Some found.1) None (λ _. a) (λ _. tt)) tt
@@ -35,15 +35,15 @@ truth_leaves : (ps : List Piece) → IfSome (truth_at ps) (λ found. Leaves ps f
 unfolding truth_at
 truth_leaves ps =
     let P : Option (Bool × List Piece) → Type 0 = λ o. IfSome o (λ found. Leaves ps found) in
-    there_keeps (AreLast ps) P (word_behind (codes "true") ps) (λ rest. Some (true, rest)) _ (word_leaves (codes "true") ps) (λ rest a. a)
-    (there_keeps (AreLast ps) P (word_behind (codes "false") ps) (λ rest. Some (false, rest)) None (word_leaves (codes "false") ps) (λ rest a. a) tt)
+    there_keeps (AreLast ps) P (word_after (codes "true") ps) (λ rest. Some (true, rest)) _ (word_leaves (codes "true") ps) (λ rest a. a)
+    (there_keeps (AreLast ps) P (word_after (codes "false") ps) (λ rest. Some (false, rest)) None (word_leaves (codes "false") ps) (λ rest a. a) tt)
 
 abbrev LeavesClaim : List Piece → Result Claimed Fault → Type 0
 LeavesClaim ps r = IfOk r (λ c. AreLast ps c.rest)
 
-claim_behind : (ps qs : List Piece) (r : Result Claimed Fault) → AreLast ps qs → LeavesClaim qs r → LeavesClaim ps r
-claim_behind ps qs (Ok c) a b = last_further ps qs c.rest a b
-claim_behind ps qs (Err e) a b = tt
+claim_after : (ps qs : List Piece) (r : Result Claimed Fault) → AreLast ps qs → LeavesClaim qs r → LeavesClaim ps r
+claim_after ps qs (Ok c) a b = last_further ps qs c.rest a b
+claim_after ps qs (Err e) a b = tt
 
 atom_leaves : (stop : Stop) (cores : ℕ) → LeavesLast (atom_at stop cores)
 unfolding atom_at setting_atom
@@ -60,21 +60,21 @@ chain_leaves_in s join unit leaves zero c = all_last c.rest
 chain_leaves_in s join unit leaves (suc n) c =
     there_keeps (AreLast c.rest) (LeavesClaim c.rest) (symbol_at s c.rest) (λ rest. unit c.atoms c.names rest >>= λ right. chain s join unit n (joined_to join c.claim right)) (Ok c) (symbol_leaves s c.rest)
     (λ rest a. bind_keeps (λ right. AreLast rest right.rest) (λ d. AreLast c.rest d.rest) (unit c.atoms c.names rest) _ (leaves c.atoms c.names rest)
-    (λ right b. claim_behind c.rest right.rest (chain s join unit n (joined_to join c.claim right)) (last_further c.rest rest right.rest a b) (chain_leaves_in s join unit leaves n (joined_to join c.claim right))))
+    (λ right b. claim_after c.rest right.rest (chain s join unit n (joined_to join c.claim right)) (last_further c.rest rest right.rest a b) (chain_leaves_in s join unit leaves n (joined_to join c.claim right))))
     (all_last c.rest)
 
 pub chain_leaves : (s : Symbol) (join : Claim → Claim → Claim) (unit : Proposition) → LeavesLast unit → LeavesLast (chain_of s join unit)
 unfolding chain_of
 chain_leaves s join unit leaves atoms names ps =
     bind_keeps (λ first. AreLast ps first.rest) (λ c. AreLast ps c.rest) (unit atoms names ps) _ (leaves atoms names ps)
-    (λ first a. claim_behind ps first.rest (chain s join unit (length first.rest) first) a (chain_leaves_in s join unit leaves (length first.rest) first))
+    (λ first a. claim_after ps first.rest (chain s join unit (length first.rest) first) a (chain_leaves_in s join unit leaves (length first.rest) first))
 
 pub disjunction_leaves : (unit : Proposition) → LeavesLast unit → LeavesLast (disjunction unit)
 disjunction_leaves unit leaves = chain_leaves Or reading.either (conjunction unit) (chain_leaves And reading.both unit leaves)
 
 pub negation_leaves : (ps : List Piece) → IfSome (negation_at ps) (AreLast ps)
 unfolding negation_at
-negation_leaves ps = there_keeps (AreLast ps) (λ (o : Option (List Piece)). IfSome o (AreLast ps)) (symbol_at Tilde ps) (λ rest. Some rest) (word_behind (codes "not") ps) (symbol_leaves Tilde ps) (λ rest a. a) (word_leaves (codes "not") ps)
+negation_leaves ps = there_keeps (AreLast ps) (λ (o : Option (List Piece)). IfSome o (AreLast ps)) (symbol_at Tilde ps) (λ rest. Some rest) (word_after (codes "not") ps) (symbol_leaves Tilde ps) (λ rest a. a) (word_leaves (codes "not") ps)
 
 unit_by_leaves : (stop : Stop) (cores : ℕ) (inner : Proposition) → LeavesLast inner → LeavesLast (unit_by stop cores inner)
 unfolding unit_by
@@ -96,9 +96,9 @@ unit_leaves stop cores (suc n) atoms names ps = unit_by_leaves stop cores (unit_
 abbrev LeavesCondition : List Piece → Result Conditioned Fault → Type 0
 LeavesCondition ps r = IfOk r (λ c. AreLast ps c.rest)
 
-condition_behind : (ps qs : List Piece) (r : Result Conditioned Fault) → AreLast ps qs → LeavesCondition qs r → LeavesCondition ps r
-condition_behind ps qs (Ok c) a b = last_further ps qs c.rest a b
-condition_behind ps qs (Err e) a b = tt
+condition_after : (ps qs : List Piece) (r : Result Conditioned Fault) → AreLast ps qs → LeavesCondition qs r → LeavesCondition ps r
+condition_after ps qs (Ok c) a b = last_further ps qs c.rest a b
+condition_after ps qs (Err e) a b = tt
 
 quantified_leaves : (stop : Stop) (cores : ℕ) (quantifier : Quantifier) (names : List (List ℕ)) (ps : List Piece) → LeavesCondition ps (quantified stop cores quantifier names ps)
 unfolding quantified
@@ -109,12 +109,12 @@ quantified_leaves stop cores quantifier names ps =
 pub condition_leaves : (stop : Stop) (cores : ℕ) (names : List (List ℕ)) (ps : List Piece) → LeavesCondition ps (condition_at stop cores names ps)
 unfolding condition_at not_exists
 condition_leaves stop cores names ps =
-    there_keeps (AreLast ps) (LeavesCondition ps) (word_behind (codes "exists") ps) (quantified stop cores Exists names) _ (word_leaves (codes "exists") ps)
-    (λ rest a. condition_behind ps rest (quantified stop cores Exists names rest) a (quantified_leaves stop cores Exists names rest))
-    (there_keeps (AreLast ps) (LeavesCondition ps) (word_behind (codes "forall") ps) (quantified stop cores Forall names) _ (word_leaves (codes "forall") ps)
-    (λ rest a. condition_behind ps rest (quantified stop cores Forall names rest) a (quantified_leaves stop cores Forall names rest))
+    there_keeps (AreLast ps) (LeavesCondition ps) (word_after (codes "exists") ps) (quantified stop cores Exists names) _ (word_leaves (codes "exists") ps)
+    (λ rest a. condition_after ps rest (quantified stop cores Exists names rest) a (quantified_leaves stop cores Exists names rest))
+    (there_keeps (AreLast ps) (LeavesCondition ps) (word_after (codes "forall") ps) (quantified stop cores Forall names) _ (word_leaves (codes "forall") ps)
+    (λ rest a. condition_after ps rest (quantified stop cores Forall names rest) a (quantified_leaves stop cores Forall names rest))
     (there_keeps (AreLast ps) (LeavesCondition ps) (symbol_at Tilde ps) (not_exists stop cores names) _ (symbol_leaves Tilde ps)
-    (λ rest a. bind_keeps (AreLast rest) (λ c. AreLast ps c.rest) (or_unfit (in_condition stop) rest (word_behind (codes "exists") rest)) _
-    (or_unfit_keeps (AreLast rest) (in_condition stop) rest (word_behind (codes "exists") rest) (word_leaves (codes "exists") rest))
-    (λ back b. condition_behind ps back (quantified stop cores NotExists names back) (last_further ps rest back a b) (quantified_leaves stop cores NotExists names back)))
+    (λ rest a. bind_keeps (AreLast rest) (λ c. AreLast ps c.rest) (or_unfit (in_condition stop) rest (word_after (codes "exists") rest)) _
+    (or_unfit_keeps (AreLast rest) (in_condition stop) rest (word_after (codes "exists") rest) (word_leaves (codes "exists") rest))
+    (λ back b. condition_after ps back (quantified stop cores NotExists names back) (last_further ps rest back a b) (quantified_leaves stop cores NotExists names back)))
     (all_last ps)))

@@ -5,7 +5,7 @@ use Rattle.litmus_reader.proofs.GrammarInitialItems.{initial_found, initial_take
 use Rattle.litmus_reader.proofs.GrammarInitialSaid.{said}
 use Rattle.litmus_reader.proofs.GrammarColumns.{header_row_again, header_row_takes}
 use Rattle.litmus_reader.proofs.GrammarTable.{rows_again, rows_take}
-use Rattle.litmus_reader.proofs.GrammarBehind.{initial_leaves, header_row_leaves, all_rows_leave}
+use Rattle.litmus_reader.proofs.GrammarAfter.{initial_leaves, header_row_leaves, all_rows_leave}
 use Rattle.litmus_reader.proofs.GrammarBrackets.{brackets_again, brackets_take}
 use Rattle.litmus_reader.proofs.GrammarTest.{Parts}
 

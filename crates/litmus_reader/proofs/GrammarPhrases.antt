@@ -18,7 +18,7 @@ use Rattle.litmus_reader.specs.GrammarNames.{numbered}
 use Rattle.litmus_reader.specs.GrammarInitial.{names_in, is_allowed}
 use Rattle.litmus_reader.specs.GrammarConditions.{AreJoined, one, more, IsConjunction, IsProposition, settings_in, locations_in, atoms_of, Fits, claim_of, IsWithin}
 use Rattle.litmus_reader.proofs.Keeps.{ok_is as keeps_ok, some_is as keeps_some}
-use Rattle.litmus_reader.proofs.GrammarBehind.{last_further, symbol_leaves}
+use Rattle.litmus_reader.proofs.GrammarAfter.{last_further, symbol_leaves}
 use Rattle.litmus_reader.proofs.GrammarLast.{LeavesLast, chain_leaves}
 use Rattle.litmus_reader.proofs.GrammarTokens.{there_is, ok_is, bind_ok, front, symbol_takes, spelled_so}
 use Rattle.litmus_reader.proofs.GrammarNames.{Known, known_with, known_more, number_more, numbered_append, grows}
@@ -81,8 +81,8 @@ first_stays p xs names = stays p xs (numbered names (locations_in p)) (all_known
 -- ---- what is found and what is taken
 
 abbrev pub Finds : ℕ → Proposition → (List Term → Phrase → Type 0) → (List Term → Type 0) → Type 0
-Finds cores unit Is Behind = (ts : List Term) (p : Phrase) → Is ts p → (atoms : ℕ) (names : List (List ℕ)) → IsWithin cores atoms names p
-    → (back : List Term) → Behind back → (ps : List Piece) → terms ps ≡ ts ++ back → ReadsPhrase unit atoms names p back ps
+Finds cores unit Is After = (ts : List Term) (p : Phrase) → Is ts p → (atoms : ℕ) (names : List (List ℕ)) → IsWithin cores atoms names p
+    → (back : List Term) → After back → (ps : List Piece) → terms ps ≡ ts ++ back → ReadsPhrase unit atoms names p back ps
 
 pub record Taken (cores : ℕ) (Is : List Term → Phrase → Type 0) (atoms : ℕ) (names : List (List ℕ)) (ps : List Piece) (c : Claimed) : Type 0 where
   pub ts : List Term
@@ -222,7 +222,7 @@ pub record ChainAt (s : Symbol) (join : Claim → Claim → Claim) (unit : Propo
   pub count : ℕ
   pub enough : length rest ≤ count
   pub same : chain_of s join unit atoms names ps ≡ chain s join unit count (given_by atoms names p rest)
-  pub behind : terms rest ≡ back
+  pub after_it : terms rest ≡ back
   pub last : AreLast ps rest
 
 chain_step : (s : Symbol) (join : Claim → Claim → Claim) (unit : Proposition) (k : ℕ) (c right : Claimed) (after : List Piece) → symbol_at s c.rest ≡ Some after → unit c.atoms c.names after ≡ Ok right
@@ -255,7 +255,7 @@ chain_started : (s : Symbol) (join : Claim → Claim → Claim) (unit : Proposit
 unfolding chain_of
 chain_started s join unit atoms names p back ps leaves f =
     let same : chain_of s join unit atoms names ps ≡ chain s join unit (length f.rest) (given_by atoms names p f.rest) = rw f.is refl in
-    record { rest = f.rest; count = length f.rest; enough = omega arith; same = same; behind = f.behind; last = last_of unit leaves atoms names ps (given_by atoms names p f.rest) f.is }
+    record { rest = f.rest; count = length f.rest; enough = omega arith; same = same; after_it = f.after_it; last = last_of unit leaves atoms names ps (given_by atoms names p f.rest) f.is }
 
 pub first_allowed : (join : Claim → Claim → Claim) (phrases : Phrase → Phrase → Phrase) → Joining join phrases → (cores atoms : ℕ) (names : List (List ℕ)) (p q : Phrase)
     → IsWithin cores atoms names (phrases p q) → IsWithin cores atoms names p
@@ -280,42 +280,42 @@ chain_further : (s : Symbol) (join : Claim → Claim → Claim) (phrases : Phras
 chain_further s join phrases j unit atoms names p q us back ps after left at leaves right = by_count left.count left.enough left.same
   where
     by_count : (k : ℕ) → length left.rest ≤ k → chain_of s join unit atoms names ps ≡ chain s join unit k (given_by atoms names p left.rest) → ChainAt s join unit atoms names (phrases p q) back ps
-    by_count zero enough same = let long = terms_length left.rest (symbol s ∷ us ++ back) left.behind in absurd (omega arith)
+    by_count zero enough same = let long = terms_length left.rest (symbol s ∷ us ++ back) left.after_it in absurd (omega arith)
     by_count (suc k) enough same =
-        let long = terms_length left.rest (symbol s ∷ us ++ back) left.behind in
+        let long = terms_length left.rest (symbol s ∷ us ++ back) left.after_it in
         let sum = length-append us back in
-        let short = terms_length right.rest back right.behind in
+        let short = terms_length right.rest back right.after_it in
         record {
           rest = right.rest;
           count = k;
           enough = omega (arith, long, sum, short, enough);
           same = same ∙ chain_step s join unit k (given_by atoms names p left.rest) (given_by (atoms + atoms_of p) (numbered names (locations_in p)) q right.rest) after at right.is
               ∙ ap (λ (c : Claimed). chain s join unit k c) (sym (given_joined join phrases j atoms names p q right.rest));
-          behind = right.behind;
+          after_it = right.after_it;
           last = last_further ps left.rest right.rest left.last (last_further left.rest after right.rest (keeps_some (AreLast left.rest) (symbol_at s left.rest) after (symbol_leaves s left.rest) at)
               (last_of unit leaves (atoms + atoms_of p) (numbered names (locations_in p)) after (given_by (atoms + atoms_of p) (numbered names (locations_in p)) q right.rest) right.is));
         }
 
 pub chain_found : (s : Symbol) (join : Claim → Claim → Claim) (phrases : Phrase → Phrase → Phrase) (IsPart : List Term → Phrase → Type 0) → Joining join phrases
-    → (cores : ℕ) (unit : Proposition) (Behind : List Term → Type 0) → Finds cores unit IsPart Behind → LeavesLast unit → ((l : List Term) → Behind (symbol s ∷ l))
+    → (cores : ℕ) (unit : Proposition) (After : List Term → Type 0) → Finds cores unit IsPart After → LeavesLast unit → ((l : List Term) → After (symbol s ∷ l))
     → (ts : List Term) (p : Phrase) → AreJoined s phrases IsPart ts p → (atoms : ℕ) (names : List (List ℕ)) → IsWithin cores atoms names p
-    → (back : List Term) → Behind back → (ps : List Piece) → terms ps ≡ ts ++ back → ChainAt s join unit atoms names p back ps
-chain_found s join phrases IsPart j cores unit Behind finds leaves parted _ _ (one ts p is) atoms names allowed back ok ps e =
+    → (back : List Term) → After back → (ps : List Piece) → terms ps ≡ ts ++ back → ChainAt s join unit atoms names p back ps
+chain_found s join phrases IsPart j cores unit After finds leaves separated _ _ (one ts p is) atoms names allowed back ok ps e =
     chain_started s join unit atoms names p back ps leaves (finds ts p is atoms names allowed back ok ps e)
-chain_found s join phrases IsPart j cores unit Behind finds leaves parted _ _ (more ts us p q are is) atoms names allowed back ok ps e =
-    let left = chain_found s join phrases IsPart j cores unit Behind finds leaves parted ts p are atoms names (first_allowed join phrases j cores atoms names p q allowed)
-    (symbol s ∷ us ++ back) (parted (us ++ back)) ps (e ∙ append_assoc ts (symbol s ∷ us) back) in
-    let f = front left.rest (symbol s) (us ++ back) left.behind in
-    let right = finds us q is (atoms + atoms_of p) (numbered names (locations_in p)) (second_allowed join phrases j cores atoms names p q allowed) back ok f.rest f.behind in
+chain_found s join phrases IsPart j cores unit After finds leaves separated _ _ (more ts us p q are is) atoms names allowed back ok ps e =
+    let left = chain_found s join phrases IsPart j cores unit After finds leaves separated ts p are atoms names (first_allowed join phrases j cores atoms names p q allowed)
+    (symbol s ∷ us ++ back) (separated (us ++ back)) ps (e ∙ append_assoc ts (symbol s ∷ us) back) in
+    let f = front left.rest (symbol s) (us ++ back) left.after_it in
+    let right = finds us q is (atoms + atoms_of p) (numbered names (locations_in p)) (second_allowed join phrases j cores atoms names p q allowed) back ok f.rest f.after_it in
     chain_further s join phrases j unit atoms names p q us back ps f.rest left (symbol_there s left.rest f.rest f.first f.parts f.is) leaves right
 
 joined_finds : (s : Symbol) (join : Claim → Claim → Claim) (phrases : Phrase → Phrase → Phrase) (IsPart : List Term → Phrase → Type 0) → Joining join phrases
-    → (cores : ℕ) (unit : Proposition) (Behind : List Term → Type 0) → Finds cores unit IsPart Behind → LeavesLast unit → ((l : List Term) → Behind (symbol s ∷ l))
-    → Finds cores (chain_of s join unit) (AreJoined s phrases IsPart) (λ back. Behind back × (begins_with (is_symbol_term s) back ≡ false))
-joined_finds s join phrases IsPart j cores unit Behind finds leaves parted ts p are atoms names allowed back ok ps e =
-    let c = chain_found s join phrases IsPart j cores unit Behind finds leaves parted ts p are atoms names allowed back ok.0 ps e in
-    let none : begins_with (is_symbol_term s) (terms c.rest) ≡ false = ap (λ (l : List Term). begins_with (is_symbol_term s) l) c.behind ∙ ok.1 in
-    record { rest = c.rest; is = c.same ∙ chain_ends s join unit c.count (given_by atoms names p c.rest) (no_symbol s c.rest none); behind = c.behind }
+    → (cores : ℕ) (unit : Proposition) (After : List Term → Type 0) → Finds cores unit IsPart After → LeavesLast unit → ((l : List Term) → After (symbol s ∷ l))
+    → Finds cores (chain_of s join unit) (AreJoined s phrases IsPart) (λ back. After back × (begins_with (is_symbol_term s) back ≡ false))
+joined_finds s join phrases IsPart j cores unit After finds leaves separated ts p are atoms names allowed back ok ps e =
+    let c = chain_found s join phrases IsPart j cores unit After finds leaves separated ts p are atoms names allowed back ok.0 ps e in
+    let none : begins_with (is_symbol_term s) (terms c.rest) ≡ false = ap (λ (l : List Term). begins_with (is_symbol_term s) l) c.after_it ∙ ok.1 in
+    record { rest = c.rest; is = c.same ∙ chain_ends s join unit c.count (given_by atoms names p c.rest) (no_symbol s c.rest none); after_it = c.after_it }
 
 -- where anything may stand after
 abbrev pub Anything : List Term → Type 0

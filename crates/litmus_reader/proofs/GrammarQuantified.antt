@@ -10,7 +10,7 @@ use Rattle.litmus_tokens.specs.Pieces.{Piece}
 use Rattle.litmus_tokens.specs.Front.{is_symbol, symbol_at, name_at, is_symbol_term}
 use Rattle.tso_model.specs.Limits.{most_open}
 use Rattle.litmus_reader.specs.Faults.{there, or_unfit}
-use Rattle.litmus_reader.specs.Keywords.{word_behind}
+use Rattle.litmus_reader.specs.Keywords.{word_after}
 use Rattle.litmus_reader.specs.Conditions.{Conditioned, conditioned, with_claim, quantified, not_exists, condition_at, proposition_at, in_condition}
 use Rattle.litmus_reader.specs.Grammar.{terms}
 use Rattle.litmus_reader.specs.GrammarConditions.{IsUnit, IsProposition, IsWithin, IsQuantifier, says_exists, says_forall, says_not_exists, IsCondition, condition}
@@ -30,29 +30,29 @@ unfolding quantified
 quantified_found stop cores quantifier names ps us back p is within e no_and no_or =
     let f = proposition_again stop cores most_open 0 names ps us back p is within e no_and no_or in
     let whole : quantified stop cores quantifier names ps ≡ Ok (condition_by names quantifier p f.rest) = rw f.is refl in
-    record { rest = f.rest; is = whole; behind = f.behind }
+    record { rest = f.rest; is = whole; after_it = f.after_it }
 
-behind_quantifier : (stop : Stop) (cores : ℕ) (names : List (List ℕ)) (ps : List Piece) (ts us : List Term) (quantifier : Quantifier) → IsQuantifier ts quantifier → terms ps ≡ ts ++ us
+after_quantifier : (stop : Stop) (cores : ℕ) (names : List (List ℕ)) (ps : List Piece) (ts us : List Term) (quantifier : Quantifier) → IsQuantifier ts quantifier → terms ps ≡ ts ++ us
     → (rest : List Piece) × (condition_at stop cores names ps ≡ quantified stop cores quantifier names rest) × (terms rest ≡ us)
-unfolding condition_at not_exists word_behind name_at symbol_at is_symbol
-behind_quantifier stop cores names ps _ us _ says_exists e =
+unfolding condition_at not_exists word_after name_at symbol_at is_symbol
+after_quantifier stop cores names ps _ us _ says_exists e =
     opened (λ ps. (rest : List Piece) × (condition_at stop cores names ps ≡ quantified stop cores Exists names rest) × (terms rest ≡ us)) ps (name (codes "exists")) us e
-    (λ p rest is behind. (rest, rw is refl, behind))
-behind_quantifier stop cores names ps _ us _ says_forall e =
+    (λ p rest is after_it. (rest, rw is refl, after_it))
+after_quantifier stop cores names ps _ us _ says_forall e =
     opened (λ ps. (rest : List Piece) × (condition_at stop cores names ps ≡ quantified stop cores Forall names rest) × (terms rest ≡ us)) ps (name (codes "forall")) us e
-    (λ p rest is behind. (rest, rw is refl, behind))
-behind_quantifier stop cores names ps _ us _ says_not_exists e =
+    (λ p rest is after_it. (rest, rw is refl, after_it))
+after_quantifier stop cores names ps _ us _ says_not_exists e =
     opened (λ ps. (rest : List Piece) × (condition_at stop cores names ps ≡ quantified stop cores NotExists names rest) × (terms rest ≡ us)) ps (symbol Tilde) (name (codes "exists") ∷ us) e (λ p later is then.
     opened (λ later. (rest : List Piece) × (condition_at stop cores names (p ∷ later) ≡ quantified stop cores NotExists names rest) × (terms rest ≡ us)) later (name (codes "exists")) us then
-    (λ q rest is_exists behind. (rest, rw (is, is_exists) refl, behind)))
+    (λ q rest is_exists after_it. (rest, rw (is, is_exists) refl, after_it)))
 
 pub condition_again : (stop : Stop) (cores : ℕ) (names : List (List ℕ)) (ps : List Piece) (ts back : List Term) (quantifier : Quantifier) (p : Phrase)
     → IsCondition ts quantifier p → IsWithin cores 0 names p → terms ps ≡ ts ++ back → begins_with (is_symbol_term And) back ≡ false → begins_with (is_symbol_term Or) back ≡ false
     → ReadsCondition (condition_at stop cores names ps) names quantifier p back
 condition_again stop cores names ps _ back _ _ (condition ts us quantifier p is_quantifier is) within e no_and no_or =
-    let q = behind_quantifier stop cores names ps ts (us ++ back) quantifier is_quantifier (e ∙ append_assoc ts us back) in
+    let q = after_quantifier stop cores names ps ts (us ++ back) quantifier is_quantifier (e ∙ append_assoc ts us back) in
     let f = quantified_found stop cores quantifier names q.0 us back p is within q.2 no_and no_or in
-    record { rest = f.rest; is = q.1 ∙ f.is; behind = f.behind }
+    record { rest = f.rest; is = q.1 ∙ f.is; after_it = f.after_it }
 
 -- ---- taken
 
@@ -76,16 +76,16 @@ pub condition_takes : (stop : Stop) (cores : ℕ) (names : List (List ℕ)) (ps 
     → SpellsCondition cores names ps c ⊎ ReadsNone names ps c
 unfolding condition_at not_exists
 condition_takes stop cores names ps c le e =
-    elim (there_is (word_behind (codes "exists") ps) (quantified stop cores Exists names) (there (word_behind (codes "forall") ps) (quantified stop cores Forall names)
+    elim (there_is (word_after (codes "exists") ps) (quantified stop cores Exists names) (there (word_after (codes "forall") ps) (quantified stop cores Forall names)
     (there (symbol_at Tilde ps) (not_exists stop cores names) (Ok (conditioned None names ps)))) (Ok c) e) [
       | inl at ↦ inl (quantified_taken stop cores Exists names ps at.0 (name (codes "exists") ∷ []) c le says_exists (word_taken (codes "exists") ps at.0 at.1) at.2)
-      | inr no_exists ↦ elim (there_is (word_behind (codes "forall") ps) (quantified stop cores Forall names)
+      | inr no_exists ↦ elim (there_is (word_after (codes "forall") ps) (quantified stop cores Forall names)
           (there (symbol_at Tilde ps) (not_exists stop cores names) (Ok (conditioned None names ps))) (Ok c) no_exists.1) [
             | inl at ↦ inl (quantified_taken stop cores Forall names ps at.0 (name (codes "forall") ∷ []) c le says_forall (word_taken (codes "forall") ps at.0 at.1) at.2)
             | inr no_forall ↦ elim (there_is (symbol_at Tilde ps) (not_exists stop cores names) (Ok (conditioned None names ps)) (Ok c) no_forall.1) [
               | inl at ↦
-                  let b = bind_ok (or_unfit (in_condition stop) at.0 (word_behind (codes "exists") at.0)) (λ rest. quantified stop cores NotExists names rest) c at.2 in
-                  let word = word_taken (codes "exists") at.0 b.0 (or_unfit_ok (in_condition stop) at.0 (word_behind (codes "exists") at.0) b.0 b.1) in
+                  let b = bind_ok (or_unfit (in_condition stop) at.0 (word_after (codes "exists") at.0)) (λ rest. quantified stop cores NotExists names rest) c at.2 in
+                  let word = word_taken (codes "exists") at.0 b.0 (or_unfit_ok (in_condition stop) at.0 (word_after (codes "exists") at.0) b.0 b.1) in
                   inl (quantified_taken stop cores NotExists names ps b.0 (symbol Tilde ∷ name (codes "exists") ∷ []) c le says_not_exists
                   (symbol_takes Tilde ps at.0 at.1 ∙ ap (λ (l : List Term). symbol Tilde ∷ l) word) b.2)
               | inr none ↦ inr (sym (ok_is (conditioned None names ps) c none.1))

@@ -15,7 +15,7 @@ use Rattle.litmus_reader.specs.declared.fault.Why.TheVariants.{Unclosed}
 use Rattle.litmus_reader.specs.Forms.{spelled_in}
 use Rattle.litmus_reader.specs.Rows.{row_at}
 use Rattle.litmus_reader.specs.Grammar.{terms}
-use Rattle.litmus_reader.specs.GrammarCells.{IsConstant, plain, with_dollar, IsMemory, in_squares, IsRegister, named, IsMnemonic, spelled, parted, IsExchange, memory_first, register_first, IsCell, stores_constant, stores_register, loads, sets_constant, sets_register, fences, exchanges, locks_exchange, locks_add, moves}
+use Rattle.litmus_reader.specs.GrammarCells.{IsConstant, plain, with_dollar, IsMemory, in_squares, IsRegister, named, IsMnemonic, spelled, separated, IsExchange, memory_first, register_first, IsCell, stores_constant, stores_register, loads, sets_constant, sets_register, fences, exchanges, locks_exchange, locks_add, moves}
 use Rattle.litmus_reader.specs.GrammarRows.{IsField, empty, full, AreFields, last, more, IsRow, row}
 use Rattle.litmus_reader.proofs.GrammarTokens.{chosen, ok_pair, symbol_is, spelled_so}
 use Rattle.litmus_reader.proofs.GrammarCells.{cell_again, cell_takes}
@@ -61,7 +61,7 @@ register_lacks s p _ _ (named word reg is) = (refl, tt)
 mnemonic_lacks : (s : Symbol) (word : List ℕ) (m : Term) → IsMnemonic word m → is_symbol_term s m ≡ false
 mnemonic_lacks s word _ (spelled letters is) = refl
 
-two_lack : (s : Symbol) → Parts s → (word : List ℕ) (m : Term) (a b : List Term) → IsMnemonic word m → Lacks s a → Lacks s b → Lacks s (m ∷ parted a b)
+two_lack : (s : Symbol) → Parts s → (word : List ℕ) (m : Term) (a b : List Term) → IsMnemonic word m → Lacks s a → Lacks s b → Lacks s (m ∷ separated a b)
 two_lack s p word m a b is h k = (mnemonic_lacks s word m is, lacks-append s a (symbol Comma ∷ b) h (p.no_comma, k))
 
 exchange_lacks : (s : Symbol) → Parts s → (ts : List Term) (shape : Shape) → IsExchange ts shape → Lacks s ts
@@ -116,7 +116,7 @@ no_end s [] back e = absurd cc
 no_end s (u ∷ us) back e = absurd cc
 
 cut_here : (s : Symbol) (back : List Term) (p : Piece) (ps : List Piece) → is_symbol s p ≡ true → terms ps ≡ back → Cut s [] back (p ∷ ps)
-cut_here s back p ps hit behind = record {
+cut_here s back p ps hit after_it = record {
   front = [];
   rest = ps;
   split = slice_split-cons_yes (is_symbol s) p ps hit;
@@ -124,7 +124,7 @@ cut_here s back p ps hit behind = record {
   before = rw hit refl;
   after = rw hit refl;
   is_front = refl;
-  is_rest = behind;
+  is_rest = after_it;
 }
 
 before_miss : (s : Symbol) (p : Piece) (ps : List Piece) → is_symbol s p ≡ false → before_first (is_symbol s) (p ∷ ps) ≡ p ∷ before_first (is_symbol s) ps
@@ -153,12 +153,12 @@ cut : (s : Symbol) (us back : List Term) → Lacks s us → (ps : List Piece) �
 cut s us back lacks [] e = absurd (no_end s us back e)
 cut s [] back lacks (p ∷ ps) e =
     let is : p.term ≡ symbol s = cc in
-    let behind : terms ps ≡ back = cc in
-    cut_here s back p ps (hits s p is) behind
+    let after_it : terms ps ≡ back = cc in
+    cut_here s back p ps (hits s p is) after_it
 cut s (u ∷ us) back lacks (p ∷ ps) e =
     let is : p.term ≡ u = cc in
-    let behind : terms ps ≡ us ++ symbol s ∷ back = cc in
-    cut_further s u us back p ps (misses s p u is lacks.0) is (cut s us back lacks.1 ps behind)
+    let after_it : terms ps ≡ us ++ symbol s ∷ back = cc in
+    cut_further s u us back p ps (misses s p u is lacks.0) is (cut s us back lacks.1 ps after_it)
 
 uncut : (s : Symbol) (ps : List Piece) → Lacks s (terms ps) → slice_split (is_symbol s) ps ≡ ps ∷ []
 uncut s [] lacks = refl
@@ -189,7 +189,7 @@ unfolding row_at
 row_again stop cores ps _ back _ (row ts cells are count) e =
     let at = cut Semicolon ts back (fields_lack ts cells are) ps (e ∙ append_assoc ts (symbol Semicolon ∷ []) back) in
     let closed : row_at stop ps ≡ Ok (at.front, at.rest) = rw (lt-ltb _ _ at.there, at.before, at.after) refl in
-    record { row = at.front; rest = at.rest; is = closed; cells_are = fields_read ts cells are at.front at.is_front; behind = at.is_rest }
+    record { row = at.front; rest = at.rest; is = closed; cells_are = fields_read ts cells are at.front at.is_front; after_it = at.is_rest }
 
 -- ---- taken
 
@@ -207,19 +207,19 @@ row_cut s (p ∷ ps) lt = by_first (λ h. row_cut s ps h) (is_symbol s p) refl
         rw (before_miss s p ps is, after_miss s p ps is) (ap (λ (l : List Term). p.term ∷ l) (further shorter))
 
 -- cells with vertical bars between them
-abbrev behind_bars : List (List Piece) → List Term
-behind_bars [] = []
-behind_bars (ps ∷ rest) = symbol Bar ∷ terms ps ++ behind_bars rest
+abbrev after_bars : List (List Piece) → List Term
+after_bars [] = []
+after_bars (ps ∷ rest) = symbol Bar ∷ terms ps ++ after_bars rest
 
 abbrev joined : List (List Piece) → List Term
 joined [] = []
-joined (ps ∷ rest) = terms ps ++ behind_bars rest
+joined (ps ∷ rest) = terms ps ++ after_bars rest
 
 abbrev HasOne : List (List Piece) → Type 0
 HasOne [] = ⊥
 HasOne (ps ∷ rest) = Unit {0}
 
-bar_before : (parts : List (List Piece)) → HasOne parts → behind_bars parts ≡ symbol Bar ∷ joined parts
+bar_before : (parts : List (List Piece)) → HasOne parts → after_bars parts ≡ symbol Bar ∷ joined parts
 bar_before [] some = absurd some
 bar_before (ps ∷ rest) some = refl
 

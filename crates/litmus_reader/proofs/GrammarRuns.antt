@@ -51,8 +51,8 @@ run_len p [] (b ∷ bs) all stops = rw stops refl
 run_len p (b ∷ bs) back all stops = let parts = both (p b) (list_all p bs) all in rw (parts.0, run_len p bs back parts.1 stops) (omega arith)
 
 -- what stands after a run
-pub run_behind : (p : ℕ → Bool) (front back : List ℕ) → list_all p front ≡ true → Stops p back → drop (prefix_len p (front ++ back)) (front ++ back) ≡ back
-run_behind p front back all stops = ap (λ (n : ℕ). drop n (front ++ back)) (run_len p front back all stops) ∙ drop-append_seam front back
+pub run_after : (p : ℕ → Bool) (front back : List ℕ) → list_all p front ≡ true → Stops p back → drop (prefix_len p (front ++ back)) (front ++ back) ≡ back
+run_after p front back all stops = ap (λ (n : ℕ). drop n (front ++ back)) (run_len p front back all stops) ∙ drop-append_seam front back
 
 -- ---- lines
 

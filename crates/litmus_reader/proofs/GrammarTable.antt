@@ -16,7 +16,7 @@ use Rattle.litmus_reader.specs.Faults.{◌>>=◌}
 use Rattle.litmus_reader.specs.Cells.{cells_in}
 use Rattle.litmus_reader.specs.Rows.{row_at, counted, row_in, Rows, rows, rows_within, rows_at}
 use Rattle.litmus_reader.specs.Grammar.{terms}
-use Rattle.litmus_reader.specs.GrammarCells.{IsMnemonic, spelled, parted, IsExchange, memory_first, register_first, IsCell, stores_constant, stores_register, loads, sets_constant, sets_register, fences, exchanges, locks_exchange, locks_add, moves}
+use Rattle.litmus_reader.specs.GrammarCells.{IsMnemonic, spelled, separated, IsExchange, memory_first, register_first, IsCell, stores_constant, stores_register, loads, sets_constant, sets_register, fences, exchanges, locks_exchange, locks_add, moves}
 use Rattle.litmus_reader.specs.GrammarNames.{numbered}
 use Rattle.litmus_reader.specs.GrammarRows as grammar
 use Rattle.litmus_reader.specs.GrammarRows.{IsField, empty, full, AreFields, IsRow, row}
@@ -65,19 +65,19 @@ lock_other : IsOther (codes "LOCK")
 lock_other = record { no_locations = refl; no_exists = refl; no_forall = refl }
 
 exchange_begins : (ts : List Term) (shape : Shape) → IsExchange ts shape → (back : List Term) → ends_table (ts ++ back) ≡ false
-exchange_begins _ _ (memory_first m a b x reg is _ _) back = mnemonic_begins (codes "XCHG") xchg_other m is (parted a b ++ back)
-exchange_begins _ _ (register_first m a b reg x is _ _) back = mnemonic_begins (codes "XCHG") xchg_other m is (parted a b ++ back)
+exchange_begins _ _ (memory_first m a b x reg is _ _) back = mnemonic_begins (codes "XCHG") xchg_other m is (separated a b ++ back)
+exchange_begins _ _ (register_first m a b reg x is _ _) back = mnemonic_begins (codes "XCHG") xchg_other m is (separated a b ++ back)
 
 cell_begins : (ts : List Term) (shape : Shape) → IsCell ts shape → (back : List Term) → ends_table (ts ++ back) ≡ false
-cell_begins _ _ (moves m a b _ is (stores_constant x v _ _)) back = mnemonic_begins (codes "MOV") mov_other m is (parted a b ++ back)
-cell_begins _ _ (moves m a b _ is (stores_register x reg _ _)) back = mnemonic_begins (codes "MOV") mov_other m is (parted a b ++ back)
-cell_begins _ _ (moves m a b _ is (loads reg x _ _)) back = mnemonic_begins (codes "MOV") mov_other m is (parted a b ++ back)
-cell_begins _ _ (moves m a b _ is (sets_constant reg v _ _)) back = mnemonic_begins (codes "MOV") mov_other m is (parted a b ++ back)
-cell_begins _ _ (moves m a b _ is (sets_register reg other _ _)) back = mnemonic_begins (codes "MOV") mov_other m is (parted a b ++ back)
+cell_begins _ _ (moves m a b _ is (stores_constant x v _ _)) back = mnemonic_begins (codes "MOV") mov_other m is (separated a b ++ back)
+cell_begins _ _ (moves m a b _ is (stores_register x reg _ _)) back = mnemonic_begins (codes "MOV") mov_other m is (separated a b ++ back)
+cell_begins _ _ (moves m a b _ is (loads reg x _ _)) back = mnemonic_begins (codes "MOV") mov_other m is (separated a b ++ back)
+cell_begins _ _ (moves m a b _ is (sets_constant reg v _ _)) back = mnemonic_begins (codes "MOV") mov_other m is (separated a b ++ back)
+cell_begins _ _ (moves m a b _ is (sets_register reg other _ _)) back = mnemonic_begins (codes "MOV") mov_other m is (separated a b ++ back)
 cell_begins _ _ (fences m is) back = mnemonic_begins (codes "MFENCE") fence_other m is back
 cell_begins _ _ (exchanges ts shape is) back = exchange_begins ts shape is back
 cell_begins _ _ (locks_exchange l ts shape is _) back = mnemonic_begins (codes "LOCK") lock_other l is (ts ++ back)
-cell_begins _ _ (locks_add l m a b x reg is _ _ _) back = mnemonic_begins (codes "LOCK") lock_other l is (m ∷ parted a b ++ back)
+cell_begins _ _ (locks_add l m a b x reg is _ _ _) back = mnemonic_begins (codes "LOCK") lock_other l is (m ∷ separated a b ++ back)
 
 field_begins : (ts : List Term) (c : Option Shape) → IsField ts c → (t : Term) (back : List Term) → ends_table (t ∷ back) ≡ false → ends_table (ts ++ t ∷ back) ≡ false
 field_begins _ _ empty t back other = other
@@ -161,7 +161,7 @@ rows_step n stop cores instrs names ps front rest read go at is = rw (go, at, is
 record RowsFound (n : ℕ) (stop : Stop) (cores : ℕ) (names : List (List ℕ)) (done all : List Placed) (back : List Term) (ps : List Piece) : Type 0 where
   pub rest : List Piece
   pub is : rows_within n stop cores (instrs_of names done) (names_of names done) ps ≡ Ok (rows_by names all rest)
-  pub behind : terms rest ≡ back
+  pub after_it : terms rest ≡ back
 
 rows_found : (stop : Stop) (cores : ℕ) (names : List (List ℕ)) (ts : List Term) (table : List (List (Option Shape))) → AreRows cores ts table → (n : ℕ) (ps : List Piece) → length ps ≤ n
     → (done : List Placed) → EntriesWithin names (done ++ placed_in table) → (back : List Term) → terms ps ≡ ts ++ back → ends_table back ≡ true → RowsFound n stop cores names done (done ++ placed_in table) back ps
@@ -170,7 +170,7 @@ rows_found stop cores names _ _ none n ps enough done h back e end =
     record {
       rest = ps;
       is = rows_end n stop cores (instrs_of names done) (names_of names done) ps here ∙ ap (λ (l : List Placed). Ok (rows_by names l ps)) (sym (append-nil done));
-      behind = e;
+      after_it = e;
     }
 rows_found stop cores names _ _ (more ts us cells others is are) n ps enough done h back e end =
     let e' : terms ps ≡ ts ++ (us ++ back) = e ∙ append_assoc ts us back in
@@ -180,8 +180,8 @@ rows_found stop cores names _ _ (more ts us cells others is are) n ps enough don
     let whole : EntriesWithin names ((done ++ one) ++ placed_in others) = subst (λ (l : List Placed). EntriesWithin names l) (sym regroup) h in
     let read = row_found cores (left_of ps) names done first.row cells (row_count cores ts cells is) first.cells_are (within_first names (done ++ one) (placed_in others) whole) in
     let go : ends_rows ps ≡ false = ends_is ps ∙ ap ends_table e' ∙ row_begins cores ts cells is (us ++ back) in
-    let shorter = row_shorter cores ts cells ps first.rest is (e' ∙ ap (λ (l : List Term). ts ++ l) (sym first.behind)) in
-    subst (λ (l : List Placed). RowsFound n stop cores names done l back ps) regroup (by_count n enough go first.row first.rest first.is read shorter (λ k le. rows_found stop cores names us others are k first.rest le (done ++ one) whole back first.behind end))
+    let shorter = row_shorter cores ts cells ps first.rest is (e' ∙ ap (λ (l : List Term). ts ++ l) (sym first.after_it)) in
+    subst (λ (l : List Placed). RowsFound n stop cores names done l back ps) regroup (by_count n enough go first.row first.rest first.is read shorter (λ k le. rows_found stop cores names us others are k first.rest le (done ++ one) whole back first.after_it end))
   where
     by_count : (n : ℕ) → length ps ≤ n → ends_rows ps ≡ false → (front rest : List Piece) → row_at stop ps ≡ Ok (front, rest)
         → row_in cores (left_of ps) (instrs_of names done) (names_of names done) front ≡ Ok (read_of names (done ++ placed_from 0 cells)) → length rest < length ps
@@ -193,7 +193,7 @@ rows_found stop cores names _ _ (more ts us cells others is are) n ps enough don
         record {
           rest = f.rest;
           is = rows_step k stop cores (instrs_of names done) (names_of names done) ps front rest (read_of names (done ++ placed_from 0 cells)) go at read ∙ f.is;
-          behind = f.behind;
+          after_it = f.after_it;
         }
 
 pub rows_again : (stop : Stop) (cores : ℕ) (names : List (List ℕ)) (ps : List Piece) (ts back : List Term) (table : List (List (Option Shape))) → AreRows cores ts table
@@ -201,7 +201,7 @@ pub rows_again : (stop : Stop) (cores : ℕ) (names : List (List ℕ)) (ps : Lis
 unfolding rows_at numbered
 rows_again stop cores names ps ts back table are h e end =
     let f = rows_found stop cores names ts table are (length ps) ps (omega arith) [] h back e end in
-    record { rest = f.rest; is = f.is; behind = f.behind }
+    record { rest = f.rest; is = f.is; after_it = f.after_it }
 
 -- ---- rows taken
 

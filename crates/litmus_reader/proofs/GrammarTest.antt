@@ -23,7 +23,7 @@ use Rattle.litmus_reader.specs.GrammarColumns.{IsHeaderRow}
 use Rattle.litmus_reader.specs.GrammarTable.{AreRows}
 use Rattle.litmus_reader.proofs.Placed.{placed_in, instrs_with, locations_of, EntriesWithin}
 use Rattle.litmus_reader.specs.GrammarConditions.{condition, says_exists, says_forall, says_not_exists}
-use Rattle.litmus_reader.specs.GrammarEnding.{MayAsk, nothing, a_condition, IsEnding, at_once, behind_locations, names_asked, condition_of, IsAskedWithin}
+use Rattle.litmus_reader.specs.GrammarEnding.{MayAsk, nothing, a_condition, IsEnding, at_once, after_locations, names_asked, condition_of, IsAskedWithin}
 use Rattle.litmus_reader.specs.GrammarTest.{IsBody, first_names, test_written, KeepsLimits}
 use Rattle.litmus_reader.specs.Spelling.{SpellsTest}
 use Rattle.litmus_reader.proofs.Columnwise.{named-same, programs-columns, entries_within, columns_within, program}
@@ -65,8 +65,8 @@ cancel_back (x ∷ xs) (y ∷ ys) z e =
 -- ---- the laws of the parts, as this file uses them
 
 pub record Parts : Type 0 where
-  pub header_again : (text name behind : List ℕ) → IsHeaderLine text name behind → header_at text ≡ Ok (name, behind)
-  pub header_takes : (text name behind : List ℕ) → header_at text ≡ Ok (name, behind) → IsHeaderLine text name behind
+  pub header_again : (text name after_it : List ℕ) → IsHeaderLine text name after_it → header_at text ≡ Ok (name, after_it)
+  pub header_takes : (text name after_it : List ℕ) → header_at text ≡ Ok (name, after_it) → IsHeaderLine text name after_it
   pub information_again : (bytes braces : List ℕ) → AreInformationLines bytes braces → braces_at bytes ≡ Ok braces
   pub information_takes : (bytes braces : List ℕ) → braces_at bytes ≡ Ok braces → AreInformationLines bytes braces
   pub initial_again : (stop : Stop) (ps : List Piece) (ts back : List Term) (settings : List Setting) → IsInitialState ts settings → Fits settings → terms ps ≡ ts ++ back
@@ -112,7 +112,7 @@ ends_asked _ _ (a_condition _ _ _ (condition _ us _ phrase says_not_exists is)) 
 
 ends_here : (text : List ℕ) (stop : Stop) (ps : List Piece) (c : Option Asked) → IsEnding text stop ps c → ends_table (terms ps) ≡ true
 ends_here text stop _ _ (at_once ps c ended is) = ends_asked (terms ps) c is
-ends_here text stop _ _ (behind_locations word opener ps bytes c is_word is_opener found ended is) = rw is_word refl
+ends_here text stop _ _ (after_locations word opener ps bytes c is_word is_opener found ended is) = rw is_word refl
 
 -- ---- what has been read is the test that is written
 
@@ -172,17 +172,17 @@ body_found braces w laws b limits =
     let two = b.head.header_row in
     let three = b.are_rows in
     let i = laws.initial_again stop ps (terms one.front) (terms b.head.columns) w.settings one.is limits.settings (ap terms one.parts ∙ terms_append one.front b.head.columns) in
-    let c = laws.columns_again stop i.1.rest (terms two.front) (terms b.rows) w.cores two.is (i.1.behind ∙ ap terms two.parts ∙ terms_append two.front b.rows) in
+    let c = laws.columns_again stop i.1.rest (terms two.front) (terms b.rows) w.cores two.is (i.1.after_it ∙ ap terms two.parts ∙ terms_append two.front b.rows) in
     let registers : registers_of w.cores i.0.registers ≡ Ok (first_registers w.settings w.cores) = i.2.registers w.cores limits.cores in
     let within : EntriesWithin i.0.names es = subst (λ names. EntriesWithin names es) (sym i.2.names) (entries_within (first_names w) w.table limits.rows) in
-    let r = laws.rows_again stop w.cores i.0.names c.rest (terms three.front) (terms b.ending) w.table three.is within (c.behind ∙ ap terms three.parts ∙ terms_append three.front b.ending)
+    let r = laws.rows_again stop w.cores i.0.names c.rest (terms three.front) (terms b.ending) w.table three.is within (c.after_it ∙ ap terms three.parts ∙ terms_append three.front b.ending)
     (ends_here braces stop b.ending w.asked b.is_ending) in
     let known = numbered i.0.names (locations_of es) in
     let last : AreLast ps r.rest =
     last_of_last ps c.rest r.rest (last_of_last ps i.1.rest c.rest (laws.last_initial stop [] ps i.1.rest i.0 i.1.is) (laws.last_columns stop i.1.rest c.rest w.cores c.is))
     (laws.last_rows stop w.cores i.0.names c.rest (rows_by i.0.names es r.rest) r.is) in
     let whole : AreLast ps b.ending = last_of_last ps b.rows b.ending (last_of_last ps b.head.columns b.rows (left_by one) (left_by two)) (left_by three) in
-    let same : r.rest ≡ b.ending = same_end last.taken whole.taken r.rest b.ending (sym last.parts ∙ whole.parts) (same_length r.rest b.ending r.behind) in
+    let same : r.rest ≡ b.ending = same_end last.taken whole.taken r.rest b.ending (sym last.parts ∙ whole.parts) (same_length r.rest b.ending r.after_it) in
     let asked : IsAskedWithin w.cores known w.asked = subst (λ names. IsAskedWithin w.cores (numbered names (locations_of es)) w.asked) (sym i.2.names) (subst (λ named. IsAskedWithin w.cores (numbered (first_names w) named) w.asked) (sym (named-same w.table)) limits.condition) in
     let tail : tail_at braces stop w.cores known r.rest ≡ Ok (given known w.asked) =
     subst (λ (l : List Piece). tail_at braces stop w.cores known l ≡ Ok (given known w.asked)) (sym same) (tail_again braces stop w.cores known b.ending w.asked laws.closes b.is_ending asked) in
@@ -195,7 +195,7 @@ pub text_again : (text : List ℕ) (t : Litmus) → Parts → SpellsTest text t 
 unfolding reading_of
 text_again text t laws s =
     let is = s.is in
-    rw (sized_found text is.small, laws.header_again text s.written.name is.behind is.header, laws.information_again is.behind is.braces is.information)
+    rw (sized_found text is.small, laws.header_again text s.written.name is.after is.header, laws.information_again is.after is.braces is.information)
     (body_found is.braces s.written laws is.body s.limits ∙ ap (λ (t : Litmus). Ok t) (sym s.says))
 
 -- ---- taken
@@ -295,7 +295,7 @@ text_takes text t laws e =
       written = k.w;
       is = record {
         small = small.0;
-        behind = h.0.1;
+        after = h.0.1;
         braces = b.0;
         header = subst (λ called. IsHeaderLine text called h.0.1) (sym k.named) (laws.header_takes text h.0.0 h.0.1 header);
         information = laws.information_takes h.0.1 b.0 b.1;

@@ -54,16 +54,16 @@ pub record Front (ps : List Piece) (t : Term) (back : List Term) : Type 0 where
   pub rest : List Piece
   pub parts : ps ≡ first ∷ rest
   pub is : first.term ≡ t
-  pub behind : terms rest ≡ back
+  pub after_it : terms rest ≡ back
 
 pub front : (ps : List Piece) (t : Term) (back : List Term) → terms ps ≡ t ∷ back → Front ps t back
 front [] t back e = absurd cc
-front (p ∷ ps) t back e = record { first = p; rest = ps; parts = refl; is = cc; behind = cc }
+front (p ∷ ps) t back e = record { first = p; rest = ps; parts = refl; is = cc; after_it = cc }
 
 pub opened : (P : List Piece → Type 0) (ps : List Piece) (t : Term) (back : List Term) → terms ps ≡ t ∷ back
     → ((p : Piece) (rest : List Piece) → p.term ≡ t → terms rest ≡ back → P (p ∷ rest)) → P ps
 opened P [] t back e f = absurd cc
-opened P (p ∷ ps) t back e f = let is : p.term ≡ t = cc in let behind : terms ps ≡ back = cc in f p ps is behind
+opened P (p ∷ ps) t back e f = let is : p.term ≡ t = cc in let after_it : terms ps ≡ back = cc in f p ps is after_it
 
 pub no_terms : (ps : List Piece) → terms ps ≡ [] → ps ≡ []
 no_terms [] e = refl

@@ -18,12 +18,12 @@ abbrev pub ReadItems : Type 0
 ReadItems = Result (Initial × List Piece) Fault
 
 -- the total is what the rest gives, in some number of steps that is enough
-pub record ItemsBehind (part : Part) (i : Initial) (ps : List Piece) (total : ReadItems) : Type 0 where
+pub record ItemsAfter (part : Part) (i : Initial) (ps : List Piece) (total : ReadItems) : Type 0 where
   pub count : ℕ
   pub enough : length ps ≤ count
   pub same : items_within count part i ps ≡ total
 
-pub items_start : (part : Part) (names : List (List ℕ)) (ps : List Piece) → ItemsBehind part (initial names [] []) ps (items_at part names ps)
+pub items_start : (part : Part) (names : List (List ℕ)) (ps : List Piece) → ItemsAfter part (initial names [] []) ps (items_at part names ps)
 unfolding items_at
 items_start part names ps = record { count = length ps; enough = omega arith; same = refl }
 
@@ -32,7 +32,7 @@ unfolding symbol_at
 nothing_left symbol [] le = refl
 nothing_left symbol (p ∷ ps) le = absurd (omega arith)
 
-pub items_end : (part : Part) (i : Initial) (ps rest : List Piece) (total : ReadItems) → Some rest ≡ symbol_at CloseCurly ps → ItemsBehind part i ps total → total ≡ Ok (i, rest)
+pub items_end : (part : Part) (i : Initial) (ps rest : List Piece) (total : ReadItems) → Some rest ≡ symbol_at CloseCurly ps → ItemsAfter part i ps total → total ≡ Ok (i, rest)
 unfolding items_within
 items_end part i ps rest total at b = by_count b.count b.enough b.same
   where
@@ -46,10 +46,10 @@ unfolding items_within
 step n part i ps at = rw (← at) refl
 
 pub items_go_on : (part : Part) (i after : Initial) (ps rest : List Piece) (total : ReadItems) → None ≡ symbol_at CloseCurly ps → step_in part i ps ≡ Ok (after, rest) → length rest < length ps
-    → ItemsBehind part i ps total → ItemsBehind part after rest total
+    → ItemsAfter part i ps total → ItemsAfter part after rest total
 items_go_on part i after ps rest total at is shorter b = by_count b.count b.enough b.same
   where
-    by_count : (n : ℕ) → length ps ≤ n → items_within n part i ps ≡ total → ItemsBehind part after rest total
+    by_count : (n : ℕ) → length ps ≤ n → items_within n part i ps ≡ total → ItemsAfter part after rest total
     by_count zero enough same = absurd (omega arith)
     by_count (suc n) enough same = record {
       count = n;
@@ -64,7 +64,7 @@ at_the_end part i [] le = refl
 at_the_end part i (p ∷ ps) le = absurd (omega arith)
 
 pub item_fails : (e : ReadError) (part : Part) (i : Initial) (ps : List Piece) (total : ReadItems) → None ≡ symbol_at CloseCurly ps → Fails e (step_in part i ps)
-    → ItemsBehind part i ps total → Fails e total
+    → ItemsAfter part i ps total → Fails e total
 unfolding items_within
 item_fails errors.NoMemory part i ps total at is b = tt
 item_fails (errors.Fault f) part i ps total at is b = by_count b.count b.enough b.same

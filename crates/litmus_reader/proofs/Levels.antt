@@ -53,7 +53,7 @@ pub data IsLastUnitFault (stop : Stop) (cores atoms : ℕ) (names : List (List �
 pub data IsUnitFaultOf (stop : Stop) (IsInner : List Term → Phrase → Type 0) (IsInnerFault : ℕ → List (List ℕ) → List Piece → Fault → Type 0) (cores atoms : ℕ) (names : List (List ℕ))
     : List Piece → Fault → Type 0 where
   in_atom : (ps : List Piece) (f : Fault) → IsFalse (begins_with begins_unit (terms ps)) → IsAtomFault stop cores atoms names ps f → IsUnitFaultOf stop IsInner IsInnerFault cores atoms names ps f
-  behind_negation : (p : Piece) (ps : List Piece) (f : Fault) → IsTrue (is_negation p.term) → IsInnerFault atoms names ps f → IsUnitFaultOf stop IsInner IsInnerFault cores atoms names (p ∷ ps) f
+  after_negation : (p : Piece) (ps : List Piece) (f : Fault) → IsTrue (is_negation p.term) → IsInnerFault atoms names ps f → IsUnitFaultOf stop IsInner IsInnerFault cores atoms names (p ∷ ps) f
   in_brackets : (p : Piece) (ps : List Piece) (f : Fault) → p.term ≡ symbol OpenRound → IsPropositionFault IsInner IsInnerFault cores atoms names ps f
       → IsUnitFaultOf stop IsInner IsInnerFault cores atoms names (p ∷ ps) f
   -- a whole proposition stands in the brackets, and neither goes on nor is followed by `)`

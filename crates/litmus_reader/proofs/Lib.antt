@@ -3,7 +3,7 @@ pub mod Lines
 pub mod Informed
 pub mod Names
 pub mod ItemSteps
-pub mod InitialLists
+pub mod Listed
 pub mod ColumnSteps
 pub mod Cells
 pub mod RowEnds
@@ -43,7 +43,7 @@ pub mod GrammarRuns
 pub mod GrammarInformation
 pub mod GrammarHeader
 pub mod GrammarEnding
-pub mod GrammarBehind
+pub mod GrammarAfter
 pub mod GrammarShapes
 pub mod GrammarTableEntries
 pub mod GrammarTable
@@ -71,3 +71,7 @@ pub mod RefusedOpens
 pub mod RefusedLast
 pub mod RefusedTexts
 pub mod Decided
+pub mod Closings
+pub mod TokensRead
+pub mod Lexed
+pub mod Remaining

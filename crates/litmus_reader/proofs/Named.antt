@@ -10,7 +10,7 @@ use Rattle.litmus_reader.specs.declared.fault.Fault.{Fault}
 use Rattle.litmus_reader.specs.declared.fault.Part.{Part}
 use Rattle.litmus_reader.specs.Faults.{or_unfit, there}
 use Rattle.litmus_reader.specs.Items.{if_location, location_at, register_at, value_at, register_setting, square_setting, plain_setting, setting_at}
-use Rattle.litmus_reader.specs.Operands.{Place, in_memory, in_register, constant, as_constant, dollar_at, closed_memory, memory_at, as_register, operand_at, if_last, second_of, behind_first, two_operands}
+use Rattle.litmus_reader.specs.Operands.{Place, in_memory, in_register, constant, as_constant, dollar_at, closed_memory, memory_at, as_register, operand_at, if_last, second_of, after_operand, two_operands}
 use Rattle.litmus_reader.specs.Forms.{mov_of, xchg_of, xadd_of, no_more, locked_by, locked_at, by_mnemonic, spelled_in}
 use Rattle.litmus_reader.proofs.Keeps.{Any, ok_any, some_any, bind_keeps, there_keeps, cond_keeps, or_unfit_keeps}
 use Rattle.litmus_reader.specs.Written.{Setting, of_register, of_location, Shape, store_imm, store_reg, load, set_imm, set_reg, fence, xchg, xadd}
@@ -57,7 +57,7 @@ last_named first second (p ∷ ps) h k = tt
 pub two_named : (ps : List Piece) → NamedBoth (two_operands ps)
 unfolding two_operands
 two_named ps =
-    there_keeps (λ x. Named x.0) NamedBoth (operand_at ps) behind_first None (operand_named ps)
+    there_keeps (λ x. Named x.0) NamedBoth (operand_at ps) after_operand None (operand_named ps)
     (λ x h. there_keeps (λ r. Any r) NamedBoth (symbol_at Comma x.1) (second_of x.0) None (some_any _)
     (λ rest _. there_keeps (λ y. Named y.0) NamedBoth (operand_at rest) (if_last x.0) None (operand_named rest) (λ y k. last_named x.0 y.0 y.1 h k) tt) tt) tt
 

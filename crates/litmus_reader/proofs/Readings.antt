@@ -29,7 +29,7 @@ ends_table (t ∷ ts) = ends_rows_term t || is_symbol_term Tilde t
 pub record Reads {X : Type 0} (reading : Result (X × List Piece) Fault) (x : X) (back : List Term) : Type 0 where
   pub rest : List Piece
   pub is : reading ≡ Ok (x, rest)
-  pub behind : terms rest ≡ back
+  pub after_it : terms rest ≡ back
 
 -- tokens of a form stand at the front, and after them the rest
 pub record Begins (Is : List Term → Type 0) (ps rest : List Piece) : Type 0 where
@@ -70,7 +70,7 @@ pub record ReadsRow (stop : Stop) (ps : List Piece) (cells : List (Option Shape)
   pub rest : List Piece
   pub is : row_at stop ps ≡ Ok (row, rest)
   pub cells_are : AreReadAs (cells_of row) cells
-  pub behind : terms rest ≡ back
+  pub after_it : terms rest ≡ back
 
 -- what is read of entries after these names, where this stands after them
 abbrev pub rows_by : List (List ℕ) → List Placed → List Piece → Rows
@@ -80,7 +80,7 @@ rows_by names entries rest = rows (instrs_with (numbered names (locations_of ent
 pub record ReadsPlaced (reading : Result Rows Fault) (names : List (List ℕ)) (entries : List Placed) (back : List Term) : Type 0 where
   pub rest : List Piece
   pub is : reading ≡ Ok (rows_by names entries rest)
-  pub behind : terms rest ≡ back
+  pub after_it : terms rest ≡ back
 
 -- what was read are rows within the limits that the tokens at the front spell, and no row stands after them
 pub record SpellsRows (cores : ℕ) (names : List (List ℕ)) (ps : List Piece) (r : Rows) : Type 0 where
@@ -100,7 +100,7 @@ given_by atoms names p rest = claimed (claim_of (numbered names (locations_in p)
 pub record ReadsPhrase (reading : Proposition) (atoms : ℕ) (names : List (List ℕ)) (p : Phrase) (back : List Term) (ps : List Piece) : Type 0 where
   pub rest : List Piece
   pub is : reading atoms names ps ≡ Ok (given_by atoms names p rest)
-  pub behind : terms rest ≡ back
+  pub after_it : terms rest ≡ back
 
 -- what was read is a phrase within the limits that the tokens at the front spell
 pub record SpellsPhrase (Is : List Term → Phrase → Type 0) (cores atoms : ℕ) (names : List (List ℕ)) (ps : List Piece) (c : Claimed) : Type 0 where
@@ -119,7 +119,7 @@ condition_by names quantifier p rest = with_claim quantifier (given_by 0 names p
 pub record ReadsCondition (reading : Result Conditioned Fault) (names : List (List ℕ)) (quantifier : Quantifier) (p : Phrase) (back : List Term) : Type 0 where
   pub rest : List Piece
   pub is : reading ≡ Ok (condition_by names quantifier p rest)
-  pub behind : terms rest ≡ back
+  pub after_it : terms rest ≡ back
 
 -- what was read is a condition within the limits that the tokens at the front spell
 pub record SpellsCondition (cores : ℕ) (names : List (List ℕ)) (ps : List Piece) (c : Conditioned) : Type 0 where

@@ -11,7 +11,7 @@ use Rattle.litmus_tokens.specs.Front.{name_at}
 use Rattle.litmus_reader.specs.declared.fault.Why.TheVariants.{BadNumber, NoSuchCore, TooLarge}
 use Rattle.litmus_reader.specs.declared.fault.Fault.{Fault}
 use Rattle.litmus_reader.specs.Faults.{there}
-use Rattle.litmus_reader.specs.Keywords.{word_behind}
+use Rattle.litmus_reader.specs.Keywords.{word_after}
 use Rattle.litmus_reader.specs.Locations.{located}
 use Rattle.litmus_reader.specs.Items.{setting_at}
 use Rattle.litmus_reader.specs.Conditions.{claim_in, one_more, truth_at, truth_atom, setting_atom, atom_at, in_condition}
@@ -44,9 +44,9 @@ record NoTruth (ps : List Piece) : Type 0 where
 truth_differs : (ps : List Piece) → truth_at ps ≡ None → NoTruth ps
 unfolding truth_at
 truth_differs ps e =
-    elim (there_is (word_behind (codes "true") ps) (λ rest. Some (true, rest)) (there (word_behind (codes "false") ps) (λ rest. Some (false, rest)) None) None e) [
+    elim (there_is (word_after (codes "true") ps) (λ rest. Some (true, rest)) (there (word_after (codes "false") ps) (λ rest. Some (false, rest)) None) None e) [
       | inl yes_at ↦ let never = yes_at.2 in absurd cc
-      | inr no_true ↦ elim (there_is (word_behind (codes "false") ps) (λ rest. Some (false, rest)) None None no_true.1) [
+      | inr no_true ↦ elim (there_is (word_after (codes "false") ps) (λ rest. Some (false, rest)) None None no_true.1) [
         | inl no_at ↦ let never = no_at.2 in absurd cc
         | inr no_false ↦ record { no_true = word_differs (codes "true") ps no_true.0; no_false = word_differs (codes "false") ps no_false.0 }
       ]
@@ -135,11 +135,11 @@ setting_refuses stop cores atoms names ps rest s few read fits past = by_claim (
         ]
 
 truth_there : (word : List ℕ) (t : Bool) (back : List Term) (ps : List Piece) → IsAtom (name word ∷ []) (truth t) → terms ps ≡ name word ∷ back → (word ≡ codes "true") × (t ≡ true) ⊎ (word ≡ codes "false") × (t ≡ false) → (rest : List Piece) × (truth_at ps ≡ Some (t, rest))
-unfolding truth_at word_behind name_at
+unfolding truth_at word_after name_at
 truth_there word t back ps is e (inl so) =
-    opened (λ ps. (rest : List Piece) × (truth_at ps ≡ Some (t, rest))) ps (name word) back e (λ p rest here behind. (rest, rw (here, so.0, so.1) refl))
+    opened (λ ps. (rest : List Piece) × (truth_at ps ≡ Some (t, rest))) ps (name word) back e (λ p rest here after_it. (rest, rw (here, so.0, so.1) refl))
 truth_there word t back ps is e (inr so) =
-    opened (λ ps. (rest : List Piece) × (truth_at ps ≡ Some (t, rest))) ps (name word) back e (λ p rest here behind. (rest, rw (here, so.0, so.1) refl))
+    opened (λ ps. (rest : List Piece) × (truth_at ps ≡ Some (t, rest))) ps (name word) back e (λ p rest here after_it. (rest, rw (here, so.0, so.1) refl))
 
 many_refused : (stop : Stop) (cores atoms : ℕ) (names : List (List ℕ)) (ps : List Piece) (ts back : List Term) (p : Phrase) → length names ≤ 16 → IsAtom ts p → terms ps ≡ ts ++ back → Fits cores p → ¬ (IsWithin cores atoms names p)
     → atom_at stop cores atoms names ps ≡ Err (fault TooLarge (left_of ps))

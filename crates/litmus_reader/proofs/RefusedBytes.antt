@@ -12,7 +12,7 @@ use Rattle.litmus_reader.specs.declared.fault.Fault.{Fault}
 use Rattle.litmus_reader.specs.Header.{judged, header_at}
 use Rattle.litmus_reader.specs.Information.{quotation_end, closed_quotation, key_value, key_line_end, information_end, begins_initial, braces_within, braces_at}
 use Rattle.litmus_reader.specs.Observed.{square_by, square_within, square_end}
-use Rattle.litmus_reader.specs.GrammarText.{first_line, IsBehindGap, is_quoted, IsInformation, name_in, continues_key}
+use Rattle.litmus_reader.specs.GrammarText.{first_line, IsAfterGap, is_quoted, IsInformation, name_in, continues_key}
 use Rattle.litmus_reader.specs.RefusedBytes as refused
 use Rattle.litmus_reader.specs.RefusedBytes.{IsUnclosed, is_long, IsHeaderFault, PassesInformation, none, more, IsLineFault, IsBracketsFault}
 use Rattle.litmus_reader.proofs.GrammarTokens.{chosen, some_is}
@@ -70,7 +70,7 @@ header_unclosed : (text : List ℕ) (left : ℕ) → IsUnclosed text left → he
 unfolding header_at
 header_unclosed text left e = rw e refl
 
-header_judges : (text at : List ℕ) (f : Fault) → IsBehindGap text at → judged (length at) (name_in (first_line at).0) ≡ Err f → header_at text ≡ Err f
+header_judges : (text at : List ℕ) (f : Fault) → IsAfterGap text at → judged (length at) (name_in (first_line at).0) ≡ Err f → header_at text ≡ Err f
 unfolding header_at
 header_judges text at f gap e = rw (gap, e) refl
 
@@ -120,7 +120,7 @@ not_both (c ∷ cs) fine past =
 past_length : (name : List ℕ) → is_long name ≡ true → 64 < length name
 past_length name long = ltb-true _ _ (both (nat_lt 64 (length name)) (list_all is_printable name) long).0
 
-header_good : (text at name : List ℕ) → IsBehindGap text at → name_in (first_line at).0 ≡ Some name → is_test_name name ≡ true → header_at text ≡ Ok (name, (first_line at).1)
+header_good : (text at name : List ℕ) → IsAfterGap text at → name_in (first_line at).0 ≡ Some name → is_test_name name ≡ true → header_at text ≡ Ok (name, (first_line at).1)
 unfolding header_at judged
 header_good text at name gap is fine = rw (gap, is, fine) refl
 
@@ -160,9 +160,9 @@ header_refused text f e =
 data LineCases (at : List ℕ) : Type 0 where
   nothing : at ≡ [] → LineCases at
   braces : (bs : List ℕ) → at ≡ 123 ∷ bs → LineCases at
-  a_line : (behind : List ℕ) → IsInformation at behind → begins_initial at ≡ false → information_end at ≡ Ok behind → LineCases at
+  a_line : (after_it : List ℕ) → IsInformation at after_it → begins_initial at ≡ false → information_end at ≡ Ok after_it → LineCases at
   open_quotation : (inside : List ℕ) → at ≡ 34 ∷ inside → list_all is_quoted inside ≡ true → information_end at ≡ Err (fault Unclosed (length at)) → LineCases at
-  no_line : (b : ℕ) (bs : List ℕ) → at ≡ b ∷ bs → eqb b 123 ≡ false → eqb b 34 ≡ false → ((behind : List ℕ) → ¬ (IsInformation at behind)) → information_end at ≡ Err (fault BadToken (length at)) → LineCases at
+  no_line : (b : ℕ) (bs : List ℕ) → at ≡ b ∷ bs → eqb b 123 ≡ false → eqb b 34 ≡ false → ((after_it : List ℕ) → ¬ (IsInformation at after_it)) → information_end at ≡ Err (fault BadToken (length at)) → LineCases at
 
 quotation_open : (bytes : List ℕ) → quotation_end bytes ≡ None → list_all is_quoted bytes ≡ true
 unfolding quotation_end
@@ -207,16 +207,16 @@ line_cases [] = nothing refl
 line_cases (b ∷ bs) = by_curly (eqb b 123) refl
   where
     by_read : eqb b 123 ≡ false → eqb b 34 ≡ false → (r : Result (List ℕ) Fault) → information_end (b ∷ bs) ≡ r → LineCases (b ∷ bs)
-    by_read no_curly no_mark (Ok behind) e = let is = information_takes (b ∷ bs) behind e in a_line behind is (no_braces (b ∷ bs) behind is) e
+    by_read no_curly no_mark (Ok after_it) e = let is = information_takes (b ∷ bs) after_it e in a_line after_it is (no_braces (b ∷ bs) after_it is) e
     by_read no_curly no_mark (Err f) e =
-        no_line b bs refl no_curly no_mark (λ behind is. let never = sym e ∙ information_again (b ∷ bs) behind is in cc) (e ∙ ap (λ (y : Fault). Err y) (other_refused b bs f no_mark e))
+        no_line b bs refl no_curly no_mark (λ after_it is. let never = sym e ∙ information_again (b ∷ bs) after_it is in cc) (e ∙ ap (λ (y : Fault). Err y) (other_refused b bs f no_mark e))
 
     by_quotation : eqb b 34 ≡ true → (o : Option (List ℕ)) → quotation_end bs ≡ o → LineCases (b ∷ bs)
-    by_quotation mark (Some behind) e =
+    by_quotation mark (Some after_it) e =
         let is_mark : 34 ≡ b = sym (eqb-true _ _ mark) in
-        let read : information_end (b ∷ bs) ≡ Ok behind = subst (λ (n : ℕ). information_end (n ∷ bs) ≡ Ok behind) is_mark (quotation_reads bs ∙ ap (closed_quotation (length (34 ∷ bs))) e) in
-        let is = information_takes (b ∷ bs) behind read in
-        a_line behind is (no_braces (b ∷ bs) behind is) read
+        let read : information_end (b ∷ bs) ≡ Ok after_it = subst (λ (n : ℕ). information_end (n ∷ bs) ≡ Ok after_it) is_mark (quotation_reads bs ∙ ap (closed_quotation (length (34 ∷ bs))) e) in
+        let is = information_takes (b ∷ bs) after_it read in
+        a_line after_it is (no_braces (b ∷ bs) after_it is) read
     by_quotation mark None e =
         let is_mark : 34 ≡ b = sym (eqb-true _ _ mark) in
         let read : information_end (b ∷ bs) ≡ Err (fault Unclosed (length (b ∷ bs))) =
@@ -233,16 +233,16 @@ line_cases (b ∷ bs) = by_curly (eqb b 123) refl
 
 -- at fault is what stands after some information lines
 pub data IsInformationFault (bytes : List ℕ) : Fault → Type 0 where
-  behind_lines : (rest : List ℕ) (f : Fault) → PassesInformation bytes rest → IsLineFault rest f → IsInformationFault bytes f
+  after_lines : (rest : List ℕ) (f : Fault) → PassesInformation bytes rest → IsLineFault rest f → IsInformationFault bytes f
 
 lines_stop : (bytes rest : List ℕ) → PassesInformation bytes rest → (n : ℕ) → length bytes < n → (m : ℕ) × (length rest < m) × (braces_within n bytes ≡ braces_within m rest)
 unfolding braces_within
 lines_stop _ _ (none bytes) n enough = (n, enough, refl)
-lines_stop _ _ (more bytes at behind rest gap is passes) zero enough = absurd (omega arith)
-lines_stop _ _ (more bytes at behind rest gap is passes) (suc n) enough =
-    let shorter : length behind < n = omega (arith, gap_within None bytes at gap, information_shorter at behind is, enough) in
-    let later = lines_stop behind rest passes n shorter in
-    (later.0, later.1, rw (gap, no_braces at behind is, information_again at behind is) later.2)
+lines_stop _ _ (more bytes at after_it rest gap is passes) zero enough = absurd (omega arith)
+lines_stop _ _ (more bytes at after_it rest gap is passes) (suc n) enough =
+    let shorter : length after_it < n = omega (arith, gap_within None bytes at gap, information_shorter at after_it is, enough) in
+    let later = lines_stop after_it rest passes n shorter in
+    (later.0, later.1, rw (gap, no_braces at after_it is, information_again at after_it is) later.2)
 
 line_refuses : (bytes : List ℕ) (f : Fault) → IsLineFault bytes f → (n : ℕ) → length bytes < n → braces_within n bytes ≡ Err f
 unfolding braces_within begins_initial
@@ -255,49 +255,49 @@ line_refuses bytes _ (refused.no_line b bs gap no_curly no_mark not_a_line) (suc
     rw (gap, no_curly, by_read (information_end (b ∷ bs)) refl) refl
   where
     by_read : (r : Result (List ℕ) Fault) → information_end (b ∷ bs) ≡ r → information_end (b ∷ bs) ≡ Err (fault BadToken (length (b ∷ bs)))
-    by_read (Ok behind) e = absurd (not_a_line behind (information_takes (b ∷ bs) behind e))
+    by_read (Ok after_it) e = absurd (not_a_line after_it (information_takes (b ∷ bs) after_it e))
     by_read (Err f) e = e ∙ ap (λ (y : Fault). Err y) (other_refused b bs f no_mark e)
 
 pub information_refuses : (bytes : List ℕ) (f : Fault) → IsInformationFault bytes f → braces_at bytes ≡ Err f
 unfolding braces_at
-information_refuses bytes _ (behind_lines rest f passes bad) =
+information_refuses bytes _ (after_lines rest f passes bad) =
     let s = lines_stop bytes rest passes (suc (length bytes)) (omega arith) in
     s.2 ∙ line_refuses rest f bad s.0 s.1
 
-onto_line : (bytes at behind : List ℕ) (f : Fault) → IsBehindGap bytes at → IsInformation at behind → IsInformationFault behind f → IsInformationFault bytes f
-onto_line bytes at behind _ gap is (behind_lines rest f passes bad) = behind_lines rest f (more bytes at behind rest gap is passes) bad
+onto_line : (bytes at after_it : List ℕ) (f : Fault) → IsAfterGap bytes at → IsInformation at after_it → IsInformationFault after_it f → IsInformationFault bytes f
+onto_line bytes at after_it _ gap is (after_lines rest f passes bad) = after_lines rest f (more bytes at after_it rest gap is passes) bad
 
-line_step : (n : ℕ) (bytes : List ℕ) (f : Fault) → length bytes < suc n → braces_within (suc n) bytes ≡ Err f → ((behind : List ℕ) → length behind < n → braces_within n behind ≡ Err f → IsInformationFault behind f)
+line_step : (n : ℕ) (bytes : List ℕ) (f : Fault) → length bytes < suc n → braces_within (suc n) bytes ≡ Err f → ((after_it : List ℕ) → length after_it < n → braces_within n after_it ≡ Err f → IsInformationFault after_it f)
     → IsInformationFault bytes f
 unfolding braces_within begins_initial
 line_step n bytes f enough e later = by_gap (gap_cases bytes)
   where
     here : (g : Fault) → braces_within (suc n) bytes ≡ Err g → IsLineFault bytes g → IsInformationFault bytes f
-    here g is bad = behind_lines bytes f (none bytes) (subst (IsLineFault bytes) (err_is g f (sym is ∙ e)) bad)
+    here g is bad = after_lines bytes f (none bytes) (subst (IsLineFault bytes) (err_is g f (sym is ∙ e)) bad)
 
-    by_line : (at : List ℕ) → IsBehindGap bytes at → LineCases at → ((behind : List ℕ) → IsInformation at behind → braces_within n behind ≡ Err f → IsInformationFault behind f) → IsInformationFault bytes f
-    by_line at gap (nothing is) further = let there : IsBehindGap bytes [] = gap ∙ ap (λ (l : List ℕ). Ok l) is in here (fault Unclosed 0) (line_refuses bytes (fault Unclosed 0) (refused.text_ends there) (suc n) enough) (refused.text_ends there)
-    by_line at gap (braces bs is) further = let there : IsBehindGap bytes (123 ∷ bs) = gap ∙ ap (λ (l : List ℕ). Ok l) is in let never = rw there at e in absurd cc
-    by_line at gap (a_line behind is go read) further =
-        let on : braces_within n behind ≡ Err f = rw (gap, go, read) at e in
-        onto_line bytes at behind f gap is (further behind is on)
+    by_line : (at : List ℕ) → IsAfterGap bytes at → LineCases at → ((after_it : List ℕ) → IsInformation at after_it → braces_within n after_it ≡ Err f → IsInformationFault after_it f) → IsInformationFault bytes f
+    by_line at gap (nothing is) further = let there : IsAfterGap bytes [] = gap ∙ ap (λ (l : List ℕ). Ok l) is in here (fault Unclosed 0) (line_refuses bytes (fault Unclosed 0) (refused.text_ends there) (suc n) enough) (refused.text_ends there)
+    by_line at gap (braces bs is) further = let there : IsAfterGap bytes (123 ∷ bs) = gap ∙ ap (λ (l : List ℕ). Ok l) is in let never = rw there at e in absurd cc
+    by_line at gap (a_line after_it is go read) further =
+        let on : braces_within n after_it ≡ Err f = rw (gap, go, read) at e in
+        onto_line bytes at after_it f gap is (further after_it is on)
     by_line at gap (open_quotation inside is all read) further =
-        let there : IsBehindGap bytes (34 ∷ inside) = gap ∙ ap (λ (l : List ℕ). Ok l) is in
+        let there : IsAfterGap bytes (34 ∷ inside) = gap ∙ ap (λ (l : List ℕ). Ok l) is in
         let bad = refused.unclosed_quotation inside there all in
         here (fault Unclosed (length (34 ∷ inside))) (line_refuses bytes (fault Unclosed (length (34 ∷ inside))) bad (suc n) enough) bad
     by_line at gap (no_line b bs is no_curly no_mark not_a_line read) further =
-        let there : IsBehindGap bytes (b ∷ bs) = gap ∙ ap (λ (l : List ℕ). Ok l) is in
-        let bad = refused.no_line b bs there no_curly no_mark (subst (λ (l : List ℕ). (behind : List ℕ) → ¬ (IsInformation l behind)) is not_a_line) in
+        let there : IsAfterGap bytes (b ∷ bs) = gap ∙ ap (λ (l : List ℕ). Ok l) is in
+        let bad = refused.no_line b bs there no_curly no_mark (subst (λ (l : List ℕ). (after_it : List ℕ) → ¬ (IsInformation l after_it)) is not_a_line) in
         here (fault BadToken (length (b ∷ bs))) (line_refuses bytes (fault BadToken (length (b ∷ bs))) bad (suc n) enough) bad
 
     by_gap : GapCases bytes → IsInformationFault bytes f
     by_gap (gap_open left is) = here (fault Unclosed left) (line_refuses bytes (fault Unclosed left) (refused.unclosed_comment left is) (suc n) enough) (refused.unclosed_comment left is)
     by_gap (gap_ends at gap) =
-        by_line at gap (line_cases at) (λ behind is on. later behind (omega (arith, gap_within None bytes at gap, information_shorter at behind is, enough)) on)
+        by_line at gap (line_cases at) (λ after_it is on. later after_it (omega (arith, gap_within None bytes at gap, information_shorter at after_it is, enough)) on)
 
 information_refused_in : (n : ℕ) (bytes : List ℕ) (f : Fault) → length bytes < n → braces_within n bytes ≡ Err f → IsInformationFault bytes f
 information_refused_in zero bytes f enough e = absurd (omega arith)
-information_refused_in (suc n) bytes f enough e = line_step n bytes f enough e (λ behind less h. information_refused_in n behind f less h)
+information_refused_in (suc n) bytes f enough e = line_step n bytes f enough e (λ after_it less h. information_refused_in n after_it f less h)
 
 pub information_refused : (bytes : List ℕ) (f : Fault) → braces_at bytes ≡ Err f → IsInformationFault bytes f
 unfolding braces_at
@@ -317,7 +317,7 @@ pub brackets_refuse : (opener : ℕ) (bytes : List ℕ) (f : Fault) → IsBracke
 unfolding square_end
 brackets_refuse opener bytes f bad = square_refuses opener bytes f bad (suc (length bytes)) (omega arith)
 
-by_first : (n opener : ℕ) (bytes : List ℕ) (f : Fault) (at : List ℕ) → IsBehindGap bytes at → length bytes < suc n → square_by (square_within n opener) opener at ≡ Err f
+by_first : (n opener : ℕ) (bytes : List ℕ) (f : Fault) (at : List ℕ) → IsAfterGap bytes at → length bytes < suc n → square_by (square_within n opener) opener at ≡ Err f
     → ((bs : List ℕ) → length bs < n → square_within n opener bs ≡ Err f → IsBracketsFault opener bs f) → IsBracketsFault opener bytes f
 by_first n opener bytes f [] gap enough e further = subst (IsBracketsFault opener bytes) (err_is (fault Unclosed opener) f e) (refused.text_ends bytes gap)
 by_first n opener bytes f (b ∷ bs) gap enough e further =

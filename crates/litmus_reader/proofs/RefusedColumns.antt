@@ -12,7 +12,7 @@ use Rattle.litmus_reader.specs.declared.fault.Why.TheVariants.{TooLarge}
 use Rattle.litmus_reader.specs.declared.fault.Fault.{Fault}
 use Rattle.litmus_reader.specs.declared.fault.Part.{Part}
 use Rattle.litmus_reader.specs.Faults.{or_unfit}
-use Rattle.litmus_reader.specs.Columns.{core_at, parting_at, columns, in_columns}
+use Rattle.litmus_reader.specs.Columns.{core_at, separator_at, columns, in_columns}
 use Rattle.litmus_reader.specs.Misfits.{ends_column, is_word, begins_with}
 use Rattle.litmus_reader.specs.RefusedTable.{IsColumnsFault, no_name, one_too_many, no_end, further}
 use Rattle.litmus_reader.proofs.GrammarTokens.{symbol_is}
@@ -61,7 +61,7 @@ core_there part core (p ∷ ps) = by_term p.term refl
 -- neither a vertical bar nor a `;`
 record NoEnd (part : Part) (ps : List Piece) : Type 0 where
   pub none : begins_with ends_column (terms ps) ≡ false
-  pub read : or_unfit part ps (parting_at ps) ≡ Err (unfit part ps)
+  pub read : or_unfit part ps (separator_at ps) ≡ Err (unfit part ps)
 
 -- a vertical bar, or a `;`
 record Ended (part : Part) (more : Bool) (ps : List Piece) : Type 0 where
@@ -69,11 +69,11 @@ record Ended (part : Part) (more : Bool) (ps : List Piece) : Type 0 where
   pub rest : List Piece
   pub parts : ps ≡ this ∷ rest
   pub is : more ≡ true → this.term ≡ symbol Bar
-  pub read : or_unfit part ps (parting_at ps) ≡ Ok (more, rest)
+  pub read : or_unfit part ps (separator_at ps) ≡ Ok (more, rest)
   pub there : begins_with ends_column (terms ps) ≡ true
 
 end_there : (part : Part) (ps : List Piece) → NoEnd part ps ⊎ (more : Bool) × Ended part more ps
-unfolding parting_at symbol_at is_symbol
+unfolding separator_at symbol_at is_symbol
 end_there part [] = inl (record { none = refl; read = refl })
 end_there part (p ∷ ps) = by_tests (is_symbol_term Bar p.term) (is_symbol_term Semicolon p.term) refl refl
   where
@@ -89,12 +89,12 @@ unfolding columns
 misses_name stop core ps e zero = rw e refl
 misses_name stop core ps e (suc n) = rw e refl
 
-misses_end : (stop : Stop) (n core : ℕ) (ps rest at : List Piece) → or_unfit (in_columns stop) ps (core_at core ps) ≡ Ok rest → or_unfit (in_columns stop) rest (parting_at rest) ≡ Err (unfit (in_columns stop) at)
+misses_end : (stop : Stop) (n core : ℕ) (ps rest at : List Piece) → or_unfit (in_columns stop) ps (core_at core ps) ≡ Ok rest → or_unfit (in_columns stop) rest (separator_at rest) ≡ Err (unfit (in_columns stop) at)
     → columns stop (suc n) core ps ≡ Err (unfit (in_columns stop) at)
 unfolding columns
 misses_end stop n core ps rest at e h = rw (e, h) refl
 
-one_further : (stop : Stop) (n core : ℕ) (ps rest back : List Piece) (more : Bool) → or_unfit (in_columns stop) ps (core_at core ps) ≡ Ok rest → or_unfit (in_columns stop) rest (parting_at rest) ≡ Ok (more, back)
+one_further : (stop : Stop) (n core : ℕ) (ps rest back : List Piece) (more : Bool) → or_unfit (in_columns stop) ps (core_at core ps) ≡ Ok rest → or_unfit (in_columns stop) rest (separator_at rest) ≡ Ok (more, back)
     → columns stop (suc n) core ps ≡ cond more (columns stop n (core + 1) back) (Ok (core + 1, back))
 unfolding columns
 one_further stop n core ps rest back more e h = rw (e, h) refl
@@ -107,8 +107,8 @@ same_name : (part : Part) (core : ℕ) (this : Piece) (rest : List Piece) → th
 unfolding core_at name_at
 same_name part core this rest is = let same : bytes_eq (core_name core) (core_name core) ≡ true = (bytes_eq-Decides (core_name core) (core_name core)).1 refl in rw (is, same) refl
 
-same_bar : (part : Part) (this : Piece) (rest : List Piece) → this.term ≡ symbol Bar → or_unfit part (this ∷ rest) (parting_at (this ∷ rest)) ≡ Ok (true, rest)
-unfolding parting_at symbol_at is_symbol
+same_bar : (part : Part) (this : Piece) (rest : List Piece) → this.term ≡ symbol Bar → or_unfit part (this ∷ rest) (separator_at (this ∷ rest)) ≡ Ok (true, rest)
+unfolding separator_at symbol_at is_symbol
 same_bar part this rest is = rw is refl
 
 pub columns_refuse : (stop : Stop) (core : ℕ) (ps : List Piece) (f : Fault) → IsColumnsFault stop core ps f → (n : ℕ) → n + core ≡ most_cores → columns stop n core ps ≡ Err f

@@ -24,19 +24,19 @@ use Rattle.litmus_reader.specs.GrammarItems.{IsSetting}
 use Rattle.litmus_reader.specs.GrammarInitial.{Fits, has_core, has_cores}
 use Rattle.litmus_reader.specs.RefusedInitial.{IsCoreFault, no_such_core}
 use Rattle.litmus_reader.proofs.Keeps.{ok_is as keeps_ok}
-use Rattle.litmus_reader.proofs.ItemSteps.{ReadItems, ItemsBehind, items_start, items_end, items_go_on, item_fails}
+use Rattle.litmus_reader.proofs.ItemSteps.{ReadItems, ItemsAfter, items_start, items_end, items_go_on, item_fails}
 use Rattle.litmus_reader.proofs.GrammarTokens.{chosen, there_is, ok_is, ok_pair, bind_ok}
 use Rattle.litmus_reader.proofs.GrammarAtoms.{word_ok}
 use Rattle.litmus_reader.proofs.GrammarEnding.{symbol_found}
 use Rattle.litmus_reader.proofs.GrammarItems.{setting_found, setting_taken}
-use Rattle.litmus_reader.proofs.GrammarBehind.{Leaves, item_leaves}
+use Rattle.litmus_reader.proofs.GrammarAfter.{Leaves, item_leaves}
 use Rattle.litmus_reader.proofs.GrammarInitialJudged.{Holds, unplaced, judged_taken}
 use Rattle.litmus_reader.proofs.GrammarInitialItems.{NoEnd, no_end, nothing, setting_some, length-terms, not_ended}
 use Rattle.litmus_reader.proofs.GrammarInitialSaid.{cores_alone}
 use Rattle.litmus_reader.proofs.GrammarTest.{terms_append, taken_terms}
 use Rattle.litmus_reader.proofs.RefusedMisfits.{err_is}
 use Rattle.litmus_reader.proofs.RefusedPasses.{same_place}
-use Rattle.litmus_reader.proofs.RefusedInitial.{ItemsThen, at_once, behind_empty, behind_item, ended_found, curly_step, item_step, shorter_by}
+use Rattle.litmus_reader.proofs.RefusedInitial.{ItemsThen, at_once, after_empty, after_item, ended_found, curly_step, item_step, shorter_by}
 use Rattle.litmus_reader.proofs.Readings.{AreLast}
 use Rattle.litmus_reader.specs.Places.{fault, left_of, unfit, in_initial}
 use Rattle.litmus_reader.specs.Written.{Setting, of_register, of_location}
@@ -126,8 +126,8 @@ items_grow (suc n) part i j ps rest e =
           ]
     ]
 
-behind_grow : (part : Part) (i j : Initial) (ps rest : List Piece) (total : ReadItems) → ItemsBehind part i ps total → total ≡ Ok (j, rest) → Grown i j
-behind_grow part i j ps rest total b e = items_grow b.count part i j ps rest (b.same ∙ e)
+after_grow : (part : Part) (i j : Initial) (ps rest : List Piece) (total : ReadItems) → ItemsAfter part i ps total → total ≡ Ok (j, rest) → Grown i j
+after_grow part i j ps rest total b e = items_grow b.count part i j ps rest (b.same ∙ e)
 
 -- ---- cores
 
@@ -182,15 +182,15 @@ record Lacks (cores : ℕ) (f : Fault) (before : List Setting) (ps : List Piece)
 
 abbrev Further : ℕ → Fault → Part → ReadItems → List Piece → Type 0
 Further cores f part total ps =
-    (i : Initial) (qs : List Piece) (done : List Setting) → length qs < length ps → Holds done i → Fits done → has_cores cores done ≡ true → ItemsBehind part i qs total → ItemsThen (Lacks cores f) done qs
+    (i : Initial) (qs : List Piece) (done : List Setting) → length qs < length ps → Holds done i → Fits done → has_cores cores done ≡ true → ItemsAfter part i qs total → ItemsThen (Lacks cores f) done qs
 
 has_more : (cores : ℕ) (done : List Setting) (s : Setting) → has_cores cores done ≡ true → has_core cores s ≡ true → has_cores cores (done ++ s ∷ []) ≡ true
 has_more cores done s has one = list_all-append (has_core cores) done (s ∷ []) ∙ rw (has, one) refl
 
-behind_one : (cores : ℕ) (f : Fault) (part : Part) (i : Initial) (ps : List Piece) (x : Initial × List Piece) (total : ReadItems) (j : Initial) (rest : List Piece) (done : List Setting) → Holds done i → Fits done
-    → has_cores cores done ≡ true → (r : ItemRead part i ps x) → has_core cores r.s ≡ true → ItemsBehind part x.0 x.1 total → length x.1 < length ps → AreLast ps x.1 → total ≡ Ok (j, rest)
+after_one : (cores : ℕ) (f : Fault) (part : Part) (i : Initial) (ps : List Piece) (x : Initial × List Piece) (total : ReadItems) (j : Initial) (rest : List Piece) (done : List Setting) → Holds done i → Fits done
+    → has_cores cores done ≡ true → (r : ItemRead part i ps x) → has_core cores r.s ≡ true → ItemsAfter part x.0 x.1 total → length x.1 < length ps → AreLast ps x.1 → total ≡ Ok (j, rest)
     → registers_of cores j.registers ≡ Err f → Further cores f part total ps → ItemsThen (Lacks cores f) done ps
-behind_one cores f part i ps x total j rest done h fits has r there on shorter last e refused further = by_close (symbol_at CloseCurly x.1) refl
+after_one cores f part i ps x total j rest done h fits has r there on shorter last e refused further = by_close (symbol_at CloseCurly x.1) refl
   where
     taken : Holds (done ++ r.s ∷ []) x.0 × Fits (done ++ r.s ∷ [])
     taken = judged_taken (left_of ps) i x.0 done r.s r.judged_is h fits
@@ -206,7 +206,7 @@ behind_one cores f part i ps x total j rest done h fits has r there on shorter l
         let on_further = items_go_on part x.0 x.0 x.1 back total (sym no_curly) (curly_step part x.0 x.1 back some) less on in
         let others = further x.0 back (done ++ r.s ∷ []) (omega (arith, less, shorter)) taken.0 taken.1 more on_further in
         let item : terms last.taken ≡ r.ts = taken_terms ps last.taken x.1 r.ts last.parts r.parts in
-        behind_item (Lacks cores f) done last.taken r.s p.0 back ps (subst (λ (l : List Term). IsSetting l r.s) (sym item) r.is) p.2
+        after_item (Lacks cores f) done last.taken r.s p.0 back ps (subst (λ (l : List Term). IsSetting l r.s) (sym item) r.is) p.2
         (last.parts ∙ ap (λ (l : List Piece). last.taken ++ l) p.1) others
 
     by_close : (o : Option (List Piece)) → symbol_at CloseCurly x.1 ≡ o → ItemsThen (Lacks cores f) done ps
@@ -216,7 +216,7 @@ behind_one cores f part i ps x total j rest done h fits has r there on shorter l
     by_close None missing = by_semicolon missing (symbol_at Semicolon x.1) refl
 
 items_step : (cores : ℕ) (f : Fault) (part : Part) (i : Initial) (ps : List Piece) (total : ReadItems) (j : Initial) (rest : List Piece) (done : List Setting) → Holds done i → Fits done → has_cores cores done ≡ true
-    → ItemsBehind part i ps total → total ≡ Ok (j, rest) → registers_of cores j.registers ≡ Err f → Further cores f part total ps → ItemsThen (Lacks cores f) done ps
+    → ItemsAfter part i ps total → total ≡ Ok (j, rest) → registers_of cores j.registers ≡ Err f → Further cores f part total ps → ItemsThen (Lacks cores f) done ps
 items_step cores f part i ps total j rest done h fits has b e refused further = by_close (symbol_at CloseCurly ps) refl
   where
     by_core : symbol_at CloseCurly ps ≡ None → symbol_at Semicolon ps ≡ None → (x : Initial × List Piece) → item_in part i ps ≡ Ok x → (r : ItemRead part i ps x) → (t : Bool) → has_core cores r.s ≡ t
@@ -227,12 +227,12 @@ items_step cores f part i ps total j rest done h fits has b e refused further = 
         let on = items_go_on part i x.0 ps x.1 total (sym no_curly) (item_step part i ps (Ok x) no_semicolon is) shorter b in
         by_test t there shorter on
       where
-        by_test : (t : Bool) → has_core cores r.s ≡ t → length x.1 < length ps → ItemsBehind part x.0 x.1 total → ItemsThen (Lacks cores f) done ps
+        by_test : (t : Bool) → has_core cores r.s ≡ t → length x.1 < length ps → ItemsAfter part x.0 x.1 total → ItemsThen (Lacks cores f) done ps
         by_test true there shorter on =
             let last = keeps_ok (λ found. Leaves ps found) (item_in part i ps) x (item_leaves part i ps) is in
-            behind_one cores f part i ps x total j rest done h fits has r there on shorter last e refused further
+            after_one cores f part i ps x total j rest done h fits has r there on shorter last e refused further
         by_test false missing shorter on =
-            let grown = behind_grow part x.0 j x.1 rest total on e in
+            let grown = after_grow part x.0 j x.1 rest total on e in
             let same : f ≡ fault NoSuchCore (left_of ps) = err_is f (fault NoSuchCore (left_of ps)) (sym refused ∙ absent_item cores (left_of ps) i x.0 j done r.s h has missing r.judged_is grown) in
             at_once (Lacks cores f) done ps fits (record { s = r.s; ts = r.ts; back = terms x.1; has = has; is = r.is; parts = r.parts; lacks = missing; place = same })
 
@@ -247,7 +247,7 @@ items_step cores f part i ps total j rest done h fits has b e refused further = 
         let p = symbol_found Semicolon ps back some in
         let less = shorter_by ps back p.0 p.1 in
         let on = items_go_on part i i ps back total (sym no_curly) (curly_step part i ps back some) less b in
-        subst (λ (l : List Piece). ItemsThen (Lacks cores f) done l) (sym p.1) (behind_empty (Lacks cores f) done p.0 back p.2 (further i back done less h fits has on))
+        subst (λ (l : List Piece). ItemsThen (Lacks cores f) done l) (sym p.1) (after_empty (Lacks cores f) done p.0 back p.2 (further i back done less h fits has on))
 
     by_close : (o : Option (List Piece)) → symbol_at CloseCurly ps ≡ o → ItemsThen (Lacks cores f) done ps
     by_close (Some back) some =
@@ -256,7 +256,7 @@ items_step cores f part i ps total j rest done h fits has b e refused further = 
     by_close None missing = by_semicolon missing (symbol_at Semicolon ps) refl
 
 items_lack : (k cores : ℕ) (f : Fault) (part : Part) (i : Initial) (ps : List Piece) (total : ReadItems) (j : Initial) (rest : List Piece) (done : List Setting) → length ps ≤ k → Holds done i → Fits done
-    → has_cores cores done ≡ true → ItemsBehind part i ps total → total ≡ Ok (j, rest) → registers_of cores j.registers ≡ Err f → ItemsThen (Lacks cores f) done ps
+    → has_cores cores done ≡ true → ItemsAfter part i ps total → total ≡ Ok (j, rest) → registers_of cores j.registers ≡ Err f → ItemsThen (Lacks cores f) done ps
 items_lack zero cores f part i ps total j rest done enough h fits has b e refused = items_step cores f part i ps total j rest done h fits has b e refused (λ k qs d less m n o p. absurd (omega arith))
 items_lack (suc k) cores f part i ps total j rest done enough h fits has b e refused =
     items_step cores f part i ps total j rest done h fits has b e refused (λ l qs d less hold fit there on. items_lack k cores f part l qs total j rest d (omega arith) hold fit there on e refused)
@@ -282,7 +282,7 @@ setting_same part ts back s t ps rest is e read =
     (ok_pair s t found.rest rest (sym found.is ∙ read)).0
 
 absent_here : (cores : ℕ) (part : Part) (i j : Initial) (ps rest : List Piece) (total : ReadItems) (done : List Setting) (ts back : List Term) (s : Setting) → Holds done i → has_cores cores done ≡ true
-    → IsSetting ts s → terms ps ≡ ts ++ back → has_core cores s ≡ false → ItemsBehind part i ps total → total ≡ Ok (j, rest) → registers_of cores j.registers ≡ Err (fault NoSuchCore (left_of ps))
+    → IsSetting ts s → terms ps ≡ ts ++ back → has_core cores s ≡ false → ItemsAfter part i ps total → total ≡ Ok (j, rest) → registers_of cores j.registers ≡ Err (fault NoSuchCore (left_of ps))
 absent_here cores part i j ps rest total done ts back s h has is e lacks b ok = by_item (item_in part i ps) refl
   where
     plain : NoEnd ps
@@ -296,7 +296,7 @@ absent_here cores part i j ps rest total done ts back s h has is e lacks b ok = 
         let some = setting_some r.ts r.s r.is in
         let shorter : length x.1 < length ps = omega (arith, some, ap length r.parts, length-append r.ts (terms x.1), length-terms ps, length-terms x.1) in
         let on = items_go_on part i x.0 ps x.1 total (sym plain.curly) (item_step part i ps (Ok x) plain.semicolon read) shorter b in
-        absent_item cores (left_of ps) i x.0 j done r.s h has (ap (has_core cores) (sym same) ∙ lacks) r.judged_is (behind_grow part x.0 j x.1 rest total on ok)
+        absent_item cores (left_of ps) i x.0 j done r.s h has (ap (has_core cores) (sym same) ∙ lacks) r.judged_is (after_grow part x.0 j x.1 rest total on ok)
 
 -- the initial state that these tokens begin is opened
 opened_first : (stop : Stop) (opener : Piece) (ps rest : List Piece) (i : Initial) → initial_at stop [] (opener ∷ ps) ≡ Ok (i, rest) → items_at (in_initial opener.left stop) [] ps ≡ Ok (i, rest)
@@ -312,6 +312,6 @@ cores_refuse stop cores _ rest i _ e (no_such_core opener front ps settings ts b
     let part = in_initial opener.left stop in
     let all = front ++ ps in
     let found = ended_found (terms front) settings are part (initial [] [] []) all (items_at part [] all) [] (terms ps) (terms_append front ps) nothing fits (items_start part [] all) in
-    let same : found.rest ≡ ps = same_place all front ps found.rest refl found.last found.behind in
-    let on : ItemsBehind part found.after ps (items_at part [] all) = subst (λ (l : List Piece). ItemsBehind part found.after l (items_at part [] all)) same found.on in
+    let same : found.rest ≡ ps = same_place all front ps found.rest refl found.last found.after_it in
+    let on : ItemsAfter part found.after ps (items_at part [] all) = subst (λ (l : List Piece). ItemsAfter part found.after l (items_at part [] all)) same found.on in
     absent_here cores part found.after i ps rest (items_at part [] all) settings ts back s found.holds has is parts lacks on (opened_first stop opener all rest i e)

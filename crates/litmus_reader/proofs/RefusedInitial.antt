@@ -24,13 +24,13 @@ use Rattle.litmus_reader.specs.GrammarInitial.{empty, given, Fits, value_of, sam
 use Rattle.litmus_reader.specs.Misfits.{ends_setting}
 use Rattle.litmus_reader.specs.RefusedInitial.{AreEnded, none as no_items, more, IsSettingFault, bad_number, one_too_many, twice, IsItemFault, unfit_token, judged as at_fault, IsInitialFault, in_item}
 use Rattle.litmus_reader.proofs.Keeps.{ok_is as keeps_ok}
-use Rattle.litmus_reader.proofs.ItemSteps.{ReadItems, ItemsBehind, items_start, items_end, items_go_on, item_fails}
+use Rattle.litmus_reader.proofs.ItemSteps.{ReadItems, ItemsAfter, items_start, items_end, items_go_on, item_fails}
 use Rattle.litmus_reader.proofs.GrammarTokens.{some_is}
 use Rattle.litmus_reader.proofs.GrammarNames.{place_below, place_none}
 use Rattle.litmus_reader.proofs.GrammarAtoms.{word_is}
 use Rattle.litmus_reader.proofs.GrammarEnding.{symbol_found}
 use Rattle.litmus_reader.proofs.GrammarItems.{setting_found, setting_taken}
-use Rattle.litmus_reader.proofs.GrammarBehind.{all_last, last_further, Leaves, step_leaves, item_leaves}
+use Rattle.litmus_reader.proofs.GrammarAfter.{all_last, last_further, Leaves, step_leaves, item_leaves}
 use Rattle.litmus_reader.proofs.GrammarInitialJudged.{Holds, register_given, location_given, a_word_each, names_in-append, once_more, values_more, judged_found}
 use Rattle.litmus_reader.proofs.GrammarInitialItems.{NoEnd, no_end, nothing, Stepped, item_stepped, semicolon_stepped, at_semicolon, setting_some, length-terms, ItemTaken, item_taken, go_on, not_ended}
 use Rattle.litmus_reader.proofs.GrammarTest.{terms_append, taken_terms}
@@ -154,7 +154,7 @@ item_refuses part i done ps _ (unfit_token at misfits) h fits = (no_ends ps foun
         by_end false end = rw (is, end) (ap (λ (l : List Piece). Err (unfit part l)) (some_is x.1 at (sym (end_missing x.1 end) ∙ sym m ∙ found.1)))
 item_refuses part i done ps _ (at_fault ts back t s why is e ends bad) h fits =
     let found = setting_found part ts (t ∷ back) s is ps e in
-    let end : ends_item found.rest ≡ true = ends_with found.rest t back found.behind ends in
+    let end : ends_item found.rest ≡ true = ends_with found.rest t back found.after_it ends in
     (no_end ts (t ∷ back) s is ps e, rw (found.is, end, judged_refuses (left_of ps) i done s why bad h fits) refl)
 
 pub item_refused : (part : Part) (i : Initial) (done : List Setting) (ps : List Piece) (f : Fault) → ends_item ps ≡ false → item_in part i ps ≡ Err f → Holds done i → Fits done → IsItemFault part done ps f
@@ -188,22 +188,22 @@ item_refused part i done ps f no_ending e h fits = by_setting (setting_at part p
 pub record EndedFound (part : Part) (total : ReadItems) (settings : List Setting) (back : List Term) (ps : List Piece) : Type 0 where
   pub after : Initial
   pub rest : List Piece
-  pub behind : terms rest ≡ back
+  pub after_it : terms rest ≡ back
   pub holds : Holds settings after
-  pub on : ItemsBehind part after rest total
+  pub on : ItemsAfter part after rest total
   pub last : AreLast ps rest
 
-step_last : (part : Part) (i : Initial) (ps : List Piece) (done : List Setting) (behind : List Term) (s : Stepped part i ps done behind) → AreLast ps s.rest
-step_last part i ps done behind s = keeps_ok (λ found. Leaves ps found) (step_in part i ps) (s.after, s.rest) (step_leaves part i ps) s.is
+step_last : (part : Part) (i : Initial) (ps : List Piece) (done : List Setting) (after_it : List Term) (s : Stepped part i ps done after_it) → AreLast ps s.rest
+step_last part i ps done after_it s = keeps_ok (λ found. Leaves ps found) (step_in part i ps) (s.after, s.rest) (step_leaves part i ps) s.is
 
 pub ended_found : (ts : List Term) (settings : List Setting) → AreEnded ts settings → (part : Part) (i : Initial) (ps : List Piece) (total : ReadItems) (done : List Setting) (back : List Term)
-    → terms ps ≡ ts ++ back → Holds done i → Fits (done ++ settings) → ItemsBehind part i ps total → EndedFound part total (done ++ settings) back ps
+    → terms ps ≡ ts ++ back → Holds done i → Fits (done ++ settings) → ItemsAfter part i ps total → EndedFound part total (done ++ settings) back ps
 ended_found _ _ no_items part i ps total done back e h fits b =
-    record { after = i; rest = ps; behind = e; holds = subst (λ (l : List Setting). Holds l i) (sym (append-nil done)) h; on = b; last = all_last ps }
+    record { after = i; rest = ps; after_it = e; holds = subst (λ (l : List Setting). Holds l i) (sym (append-nil done)) h; on = b; last = all_last ps }
 ended_found _ _ (more _ others _ settings empty are) part i ps total done back e h fits b =
     let end = semicolon_stepped part i ps done (others ++ back) e h in
     let f = ended_found others settings are part end.after end.rest total done back end.parts end.holds fits (go_on part i ps done (others ++ back) total end b) in
-    record { after = f.after; rest = f.rest; behind = f.behind; holds = f.holds; on = f.on; last = last_further ps end.rest f.rest (step_last part i ps done (others ++ back) end) f.last }
+    record { after = f.after; rest = f.rest; after_it = f.after_it; holds = f.holds; on = f.on; last = last_further ps end.rest f.rest (step_last part i ps done (others ++ back) end) f.last }
 ended_found _ _ (more _ others _ settings (given ts s is) are) part i ps total done back e h fits b =
     let further = others ++ back in
     let front : terms ps ≡ ts ++ symbol Semicolon ∷ further = e ∙ append_assoc ts (symbol Semicolon ∷ others) back in
@@ -215,7 +215,7 @@ ended_found _ _ (more _ others _ settings (given ts s is) are) part i ps total d
     record {
       after = f.after;
       rest = f.rest;
-      behind = f.behind;
+      after_it = f.after_it;
       holds = subst (λ (l : List Setting). Holds l f.after) all f.holds;
       on = f.on;
       last = last_further ps one.rest f.rest (step_last part i ps (done ++ s ∷ []) (symbol Semicolon ∷ further) one)
@@ -232,9 +232,9 @@ initial_refuses stop _ _ (in_item opener front ps settings f is_open are fits ba
     let part = in_initial opener.left stop in
     let all = front ++ ps in
     let found = ended_found (terms front) settings are part (initial [] [] []) all (items_at part [] all) [] (terms ps) (terms_append front ps) nothing fits (items_start part [] all) in
-    let same : found.rest ≡ ps = same_tokens all front ps found.rest refl found.last found.behind in
+    let same : found.rest ≡ ps = same_tokens all front ps found.rest refl found.last found.after_it in
     let item = item_refuses part found.after settings ps f bad found.holds fits in
-    let on : ItemsBehind part found.after ps (items_at part [] all) = subst (λ (l : List Piece). ItemsBehind part found.after l (items_at part [] all)) same found.on in
+    let on : ItemsAfter part found.after ps (items_at part [] all) = subst (λ (l : List Piece). ItemsAfter part found.after l (items_at part [] all)) same found.on in
     let total : items_at part [] all ≡ Err f = item_fails (errors.Fault f) part found.after ps (items_at part [] all) (sym item.0.curly) (step_refuses part found.after ps f item.0 item.1) on in
     rw is_open total
 
@@ -258,8 +258,8 @@ at_once Is done ps fits is =
     let same = sym (append-nil done) in
     record { front = []; rest = ps; settings = []; parts = refl; are = no_items; fits = subst Fits same fits; is = subst (λ (l : List Setting). Is l ps) same is }
 
-pub behind_empty : (Is : List Setting → List Piece → Type 0) (done : List Setting) (p : Piece) (ps : List Piece) → p.term ≡ symbol Semicolon → ItemsThen Is done ps → ItemsThen Is done (p ∷ ps)
-behind_empty Is done p ps is r = record {
+pub after_empty : (Is : List Setting → List Piece → Type 0) (done : List Setting) (p : Piece) (ps : List Piece) → p.term ≡ symbol Semicolon → ItemsThen Is done ps → ItemsThen Is done (p ∷ ps)
+after_empty Is done p ps is r = record {
   front = p ∷ r.front;
   rest = r.rest;
   settings = r.settings;
@@ -269,9 +269,9 @@ behind_empty Is done p ps is r = record {
   is = r.is;
 }
 
-pub behind_item : (Is : List Setting → List Piece → Type 0) (done : List Setting) (item : List Piece) (s : Setting) (p : Piece) (ps all : List Piece) → IsSetting (terms item) s → p.term ≡ symbol Semicolon
+pub after_item : (Is : List Setting → List Piece → Type 0) (done : List Setting) (item : List Piece) (s : Setting) (p : Piece) (ps all : List Piece) → IsSetting (terms item) s → p.term ≡ symbol Semicolon
     → all ≡ item ++ p ∷ ps → ItemsThen Is (done ++ s ∷ []) ps → ItemsThen Is done all
-behind_item Is done item s p ps all is_item is whole r =
+after_item Is done item s p ps all is_item is whole r =
     let regroup : (done ++ s ∷ []) ++ r.settings ≡ done ++ s ∷ r.settings = append_assoc done (s ∷ []) r.settings in
     let one : AreEnded (terms item ++ symbol Semicolon ∷ terms r.front) (s ∷ r.settings) = more (terms item) (terms r.front) (s ∷ []) r.settings (given (terms item) s is_item) r.are in
     let spelled : terms (item ++ p ∷ r.front) ≡ terms item ++ symbol Semicolon ∷ terms r.front =
@@ -307,11 +307,11 @@ no_end_here ps curly semicolon = by_test (ends_item ps) refl
 -- from further on, after fewer tokens
 abbrev Further : Part → ReadItems → Fault → List Piece → Type 0
 Further part total f ps =
-    (i : Initial) (qs : List Piece) (done : List Setting) → length qs < length ps → Holds done i → Fits done → ItemsBehind part i qs total → ItemsRefused part done qs f
+    (i : Initial) (qs : List Piece) (done : List Setting) → length qs < length ps → Holds done i → Fits done → ItemsAfter part i qs total → ItemsRefused part done qs f
 
-behind_one : (part : Part) (i after : Initial) (ps rest : List Piece) (total : ReadItems) (done : List Setting) (f : Fault) → (t : ItemTaken ps rest done after) → ItemsBehind part after rest total
+after_one : (part : Part) (i after : Initial) (ps rest : List Piece) (total : ReadItems) (done : List Setting) (f : Fault) → (t : ItemTaken ps rest done after) → ItemsAfter part after rest total
     → length rest < length ps → AreLast ps rest → total ≡ Err f → Further part total f ps → ItemsRefused part done ps f
-behind_one part i after ps rest total done f t on shorter last e further = by_close (symbol_at CloseCurly rest) refl
+after_one part i after ps rest total done f t on shorter last e further = by_close (symbol_at CloseCurly rest) refl
   where
     by_semicolon : symbol_at CloseCurly rest ≡ None → (o : Option (List Piece)) → symbol_at Semicolon rest ≡ o → ItemsRefused part done ps f
     by_semicolon no_curly None none = absurd (not_ended rest no_curly none t.ends)
@@ -321,7 +321,7 @@ behind_one part i after ps rest total done f t on shorter last e further = by_cl
         let on_further = items_go_on part after after rest back total (sym no_curly) (curly_step part after rest back some) less on in
         let others = further after back (done ++ t.s ∷ []) (omega (arith, less, shorter)) t.holds t.fits on_further in
         let item : terms last.taken ≡ t.ts = taken_terms ps last.taken rest t.ts last.parts t.parts in
-        behind_item (λ l rest. IsItemFault part l rest f) done last.taken t.s p.0 back ps (subst (λ (l : List Term). IsSetting l t.s) (sym item) t.is) p.2 (last.parts ∙ ap (λ (l : List Piece). last.taken ++ l) p.1) others
+        after_item (λ l rest. IsItemFault part l rest f) done last.taken t.s p.0 back ps (subst (λ (l : List Term). IsSetting l t.s) (sym item) t.is) p.2 (last.parts ∙ ap (λ (l : List Piece). last.taken ++ l) p.1) others
 
     by_close : (o : Option (List Piece)) → symbol_at CloseCurly rest ≡ o → ItemsRefused part done ps f
     by_close (Some back) some = let never = sym (items_end part after rest back total (sym some) on) ∙ e in absurd cc
@@ -332,7 +332,7 @@ setting_long ps rest done after t =
     let some = setting_some t.ts t.s t.is in
     omega (arith, some, ap length t.parts, length-append t.ts (terms rest), length-terms ps, length-terms rest)
 
-items_step : (part : Part) (i : Initial) (ps : List Piece) (total : ReadItems) (done : List Setting) (f : Fault) → Holds done i → Fits done → ItemsBehind part i ps total → total ≡ Err f
+items_step : (part : Part) (i : Initial) (ps : List Piece) (total : ReadItems) (done : List Setting) (f : Fault) → Holds done i → Fits done → ItemsAfter part i ps total → total ≡ Err f
     → Further part total f ps → ItemsRefused part done ps f
 items_step part i ps total done f h fits b e further = by_close (symbol_at CloseCurly ps) refl
   where
@@ -345,7 +345,7 @@ items_step part i ps total done f h fits b e further = by_close (symbol_at Close
         let shorter = setting_long ps x.1 done x.0 t in
         let last = keeps_ok (λ found. Leaves ps found) (item_in part i ps) x (item_leaves part i ps) is in
         let on = items_go_on part i x.0 ps x.1 total (sym no_curly) (item_step part i ps (Ok x) no_semicolon is) shorter b in
-        behind_one part i x.0 ps x.1 total done f t on shorter last e further
+        after_one part i x.0 ps x.1 total done f t on shorter last e further
 
     by_semicolon : symbol_at CloseCurly ps ≡ None → (o : Option (List Piece)) → symbol_at Semicolon ps ≡ o → ItemsRefused part done ps f
     by_semicolon no_curly None none = by_item no_curly none (item_in part i ps) refl
@@ -353,13 +353,13 @@ items_step part i ps total done f h fits b e further = by_close (symbol_at Close
         let p = symbol_found Semicolon ps back some in
         let less = shorter_by ps back p.0 p.1 in
         let on = items_go_on part i i ps back total (sym no_curly) (curly_step part i ps back some) less b in
-        subst (λ (l : List Piece). ItemsRefused part done l f) (sym p.1) (behind_empty (λ l rest. IsItemFault part l rest f) done p.0 back p.2 (further i back done less h fits on))
+        subst (λ (l : List Piece). ItemsRefused part done l f) (sym p.1) (after_empty (λ l rest. IsItemFault part l rest f) done p.0 back p.2 (further i back done less h fits on))
 
     by_close : (o : Option (List Piece)) → symbol_at CloseCurly ps ≡ o → ItemsRefused part done ps f
     by_close (Some back) some = let never = sym (items_end part i ps back total (sym some) b) ∙ e in absurd cc
     by_close None none = by_semicolon none (symbol_at Semicolon ps) refl
 
-items_refused : (k : ℕ) (part : Part) (i : Initial) (ps : List Piece) (total : ReadItems) (done : List Setting) (f : Fault) → length ps ≤ k → Holds done i → Fits done → ItemsBehind part i ps total
+items_refused : (k : ℕ) (part : Part) (i : Initial) (ps : List Piece) (total : ReadItems) (done : List Setting) (f : Fault) → length ps ≤ k → Holds done i → Fits done → ItemsAfter part i ps total
     → total ≡ Err f → ItemsRefused part done ps f
 items_refused zero part i ps total done f enough h fits b e = items_step part i ps total done f h fits b e (λ j qs d less k m n. absurd (omega arith))
 items_refused (suc k) part i ps total done f enough h fits b e =

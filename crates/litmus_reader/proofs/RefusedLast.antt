@@ -13,9 +13,9 @@ use Rattle.tso_model.specs.Limits.{most_open}
 use Rattle.litmus_reader.specs.declared.fault.Why.TheVariants.{BadToken, Unclosed, Trailing}
 use Rattle.litmus_reader.specs.declared.fault.Fault.{Fault}
 use Rattle.litmus_reader.specs.Faults.{◌>>=◌}
-use Rattle.litmus_reader.specs.Keywords.{word_behind}
+use Rattle.litmus_reader.specs.Keywords.{word_after}
 use Rattle.litmus_reader.specs.Conditions.{Claimed, Conditioned, conditioned, with_claim, quantified, not_exists, condition_at, unit_at, proposition_at, in_condition}
-use Rattle.litmus_reader.specs.Reading.{end_at, ending_at, ending_from}
+use Rattle.litmus_reader.specs.Reading.{end_at, ending_at}
 use Rattle.litmus_reader.specs.Grammar.{terms}
 use Rattle.litmus_reader.specs.GrammarConditions.{IsUnit, IsProposition, IsQuantifier, says_exists, says_forall, says_not_exists, condition, IsCondition}
 use Rattle.litmus_reader.specs.GrammarEnding.{MayAsk, nothing, a_condition, IsAskedWithin}
@@ -59,9 +59,9 @@ says_not p r e h = rw (e, h) says_not_exists
 
 condition_cases : (stop : Stop) (cores : ℕ) (names : List (List ℕ)) (ps : List Piece) → ConditionCases stop cores names ps
 unfolding condition_at not_exists
-condition_cases stop cores names ps = by_exists (word_behind (codes "exists") ps) refl
+condition_cases stop cores names ps = by_exists (word_after (codes "exists") ps) refl
   where
-    by_word : word_behind (codes "exists") ps ≡ None → word_behind (codes "forall") ps ≡ None → (rest : List Piece) → symbol_at Tilde ps ≡ Some rest → (o : Option (List Piece)) → word_behind (codes "exists") rest ≡ o
+    by_word : word_after (codes "exists") ps ≡ None → word_after (codes "forall") ps ≡ None → (rest : List Piece) → symbol_at Tilde ps ≡ Some rest → (o : Option (List Piece)) → word_after (codes "exists") rest ≡ o
         → ConditionCases stop cores names ps
     by_word no_word no_forall rest tilde None missing =
         let p = symbol_found Tilde ps rest tilde in
@@ -71,19 +71,19 @@ condition_cases stop cores names ps = by_exists (word_behind (codes "exists") ps
         let r = word_found (codes "exists") rest back some in
         asks (p.0 ∷ r.0 ∷ []) back NotExists (p.1 ∙ ap (λ (l : List Piece). p.0 ∷ l) r.1) (says_not p.0 r.0 p.2 r.2) (rw (no_word, no_forall, tilde, some) refl)
 
-    by_tilde : word_behind (codes "exists") ps ≡ None → word_behind (codes "forall") ps ≡ None → (o : Option (List Piece)) → symbol_at Tilde ps ≡ o → ConditionCases stop cores names ps
+    by_tilde : word_after (codes "exists") ps ≡ None → word_after (codes "forall") ps ≡ None → (o : Option (List Piece)) → symbol_at Tilde ps ≡ o → ConditionCases stop cores names ps
     by_tilde no_word no_forall None missing =
         none (word_differs (codes "exists") ps no_word) (word_differs (codes "forall") ps no_forall) (symbol_missing Tilde ps missing) (rw (no_word, no_forall, missing) refl)
-    by_tilde no_word no_forall (Some rest) tilde = by_word no_word no_forall rest tilde (word_behind (codes "exists") rest) refl
+    by_tilde no_word no_forall (Some rest) tilde = by_word no_word no_forall rest tilde (word_after (codes "exists") rest) refl
 
-    by_forall : word_behind (codes "exists") ps ≡ None → (o : Option (List Piece)) → word_behind (codes "forall") ps ≡ o → ConditionCases stop cores names ps
+    by_forall : word_after (codes "exists") ps ≡ None → (o : Option (List Piece)) → word_after (codes "forall") ps ≡ o → ConditionCases stop cores names ps
     by_forall no_word None missing = by_tilde no_word missing (symbol_at Tilde ps) refl
     by_forall no_word (Some rest) some =
         let p = word_found (codes "forall") ps rest some in
         asks (p.0 ∷ []) rest Forall p.1 (says p.0 (codes "forall") Forall says_forall p.2) (rw (no_word, some) refl)
 
-    by_exists : (o : Option (List Piece)) → word_behind (codes "exists") ps ≡ o → ConditionCases stop cores names ps
-    by_exists None missing = by_forall missing (word_behind (codes "forall") ps) refl
+    by_exists : (o : Option (List Piece)) → word_after (codes "exists") ps ≡ o → ConditionCases stop cores names ps
+    by_exists None missing = by_forall missing (word_after (codes "forall") ps) refl
     by_exists (Some rest) some =
         let p = word_found (codes "exists") ps rest some in
         asks (p.0 ∷ []) rest Exists p.1 (says p.0 (codes "exists") Exists says_exists p.2) (rw some refl)
@@ -101,7 +101,7 @@ quantified_reads stop cores q names ps c e = rw e refl
 -- what stands after a quantifier
 quantifier_reads : (stop : Stop) (cores : ℕ) (names : List (List ℕ)) (front rest : List Piece) (ts : List Term) (q : Quantifier) → IsQuantifier ts q → terms front ≡ ts
     → condition_at stop cores names (front ++ rest) ≡ quantified stop cores q names rest
-unfolding condition_at not_exists word_behind name_at symbol_at is_symbol
+unfolding condition_at not_exists word_after name_at symbol_at is_symbol
 quantifier_reads stop cores names [] rest _ _ says_exists e = absurd cc
 quantifier_reads stop cores names (p ∷ []) rest _ _ says_exists e = let is : p.term ≡ name (codes "exists") = cc in rw is refl
 quantifier_reads stop cores names (p ∷ r ∷ l) rest _ _ says_exists e = absurd cc
@@ -118,7 +118,7 @@ quantifier_reads stop cores names (p ∷ r ∷ t ∷ l) rest _ _ says_not_exists
 
 tilde_cut : (stop : Stop) (cores : ℕ) (names : List (List ℕ)) (p : Piece) (ps : List Piece) → p.term ≡ symbol Tilde → begins_with (is_word (codes "exists")) (terms ps) ≡ false
     → condition_at stop cores names (p ∷ ps) ≡ Err (unfit (in_condition stop) ps)
-unfolding condition_at not_exists word_behind name_at symbol_at is_symbol
+unfolding condition_at not_exists word_after name_at symbol_at is_symbol
 tilde_cut stop cores names p ps is other = let missing = word_missing (codes "exists") ps other in rw (is, missing) refl
 
 quantified_refuses : (stop : Stop) (cores : ℕ) (names : List (List ℕ)) (ps : List Piece) (f : Fault) → length names ≤ 16 → QuantifiedFault stop cores names ps f → condition_at stop cores names ps ≡ Err f
@@ -185,7 +185,7 @@ not_begun stop cores names p ps e =
     rw (word_missing (codes "exists") (p ∷ ps) b.0, word_missing (codes "forall") (p ∷ ps) b.1, a.1) refl
 
 nothing_asked : (stop : Stop) (cores : ℕ) (names : List (List ℕ)) → condition_at stop cores names [] ≡ Ok (conditioned None names [])
-unfolding condition_at word_behind name_at symbol_at
+unfolding condition_at word_after name_at symbol_at
 nothing_asked stop cores names = refl
 
 -- a condition is read up to what stands after it
@@ -195,7 +195,7 @@ asked_reads stop cores names front back ts q phrase is e within no_and no_or =
     let all = front ++ back in
     let f = condition_again stop cores names all ts (terms back) q phrase is within (terms_append front back ∙ ap (λ (l : List Term). l ++ terms back) e) no_and no_or in
     let last = keeps_ok (λ (c : Conditioned). AreLast all c.rest) (condition_at stop cores names all) (condition_by names q phrase f.rest) (condition_leaves stop cores names all) f.is in
-    let same : f.rest ≡ back = same_place all front back f.rest refl last f.behind in
+    let same : f.rest ≡ back = same_place all front back f.rest refl last f.after_it in
     subst (λ (l : List Piece). condition_at stop cores names all ≡ Ok (condition_by names q phrase l)) same f.is
 
 trailing_refuses : (stop : Stop) (cores : ℕ) (names : List (List ℕ)) (front : List Piece) (p : Piece) (ps : List Piece) (c : Option Asked) (ts : List Term) → MayAsk ts c → terms front ≡ ts → IsAskedWithin cores names c
@@ -215,7 +215,7 @@ stopped_refuses stop cores names (p ∷ ps) _ _ f nothing e within bad = absurd 
 stopped_refuses stop cores names ps _ _ f (a_condition ts q phrase is) e within bad =
     ending_stops stop cores names (ps ++ []) (condition_by names q phrase []) f (asked_reads stop cores names ps [] ts q phrase is e within refl refl) bad
 
-pub last_refuses : (stop : Stop) (cores : ℕ) (names : List (List ℕ)) (ps : List Piece) (f : Fault) → length names ≤ 16 → IsLastFault stop cores names ps f → ending_from stop cores names ps None ≡ Err f
+pub last_refuses : (stop : Stop) (cores : ℕ) (names : List (List ℕ)) (ps : List Piece) (f : Fault) → length names ≤ 16 → IsLastFault stop cores names ps f → ending_at stop cores names ps ≡ Err f
 last_refuses stop cores names _ _ few (refused.in_condition ps f bad) = ending_fails stop cores names ps f (condition_refuses stop cores names ps f few bad)
 last_refuses stop cores names _ _ few (refused.trailing front [] c may within other more) =
     stopped_refuses stop cores names front c (terms front) (unfit (part_of Trailing stop) []) may refl within (end_stops stop (λ h. more (refl, h)))
@@ -224,24 +224,24 @@ last_refuses stop cores names _ _ few (refused.trailing front (p ∷ ps) c may w
 -- ---- the other way
 
 -- what stands after what was read
-behind_nothing : (stop : Stop) (cores : ℕ) (names : List (List ℕ)) (ps : List Piece) (f : Fault) → length names ≤ 16 → begins_with (is_word (codes "exists")) (terms ps) ≡ false → begins_with (is_word (codes "forall")) (terms ps) ≡ false
+after_nothing : (stop : Stop) (cores : ℕ) (names : List (List ℕ)) (ps : List Piece) (f : Fault) → length names ≤ 16 → begins_with (is_word (codes "exists")) (terms ps) ≡ false → begins_with (is_word (codes "forall")) (terms ps) ≡ false
     → begins_with (is_symbol_term Tilde) (terms ps) ≡ false → end_at stop ps ≡ Err f → IsLastFault stop cores names ps f
-behind_nothing stop cores names [] f few no_word no_forall no_tilde e =
+after_nothing stop cores names [] f few no_word no_forall no_tilde e =
     let s = stop_refused stop f e in subst (IsLastFault stop cores names []) s.is (refused.trailing [] [] None nothing few refl (λ h. s.other h.1))
-behind_nothing stop cores names (p ∷ ps) f few no_word no_forall no_tilde e =
+after_nothing stop cores names (p ∷ ps) f few no_word no_forall no_tilde e =
     subst (IsLastFault stop cores names (p ∷ ps)) (err_is (fault Trailing p.left) f (sym (trailing_at stop p ps) ∙ e))
     (refused.trailing [] (p ∷ ps) None nothing few (rw (no_word, no_forall, no_tilde) refl) (λ h. let never = h.0 in cc))
 
-behind_asked : (stop : Stop) (cores : ℕ) (names : List (List ℕ)) (front back : List Piece) (q : Quantifier) (phrase : Phrase) (f : Fault) → IsCondition (terms front) q phrase → IsAskedWithin cores names (asked q phrase)
+after_asked : (stop : Stop) (cores : ℕ) (names : List (List ℕ)) (front back : List Piece) (q : Quantifier) (phrase : Phrase) (f : Fault) → IsCondition (terms front) q phrase → IsAskedWithin cores names (asked q phrase)
     → begins_with (is_symbol_term And) (terms back) ≡ false → begins_with (is_symbol_term Or) (terms back) ≡ false → end_at stop back ≡ Err f → IsLastFault stop cores names (front ++ back) f
-behind_asked stop cores names front [] q phrase f is within no_and no_or e =
+after_asked stop cores names front [] q phrase f is within no_and no_or e =
     let s = stop_refused stop f e in
     subst (IsLastFault stop cores names (front ++ [])) s.is (refused.trailing front [] (asked q phrase) (a_condition (terms front) q phrase is) within refl (λ h. s.other h.1))
-behind_asked stop cores names front (p ∷ ps) q phrase f is within no_and no_or e =
+after_asked stop cores names front (p ∷ ps) q phrase f is within no_and no_or e =
     subst (IsLastFault stop cores names (front ++ p ∷ ps)) (err_is (fault Trailing p.left) f (sym (trailing_at stop p ps) ∙ e))
     (refused.trailing front (p ∷ ps) (asked q phrase) (a_condition (terms front) q phrase is) within (rw (no_and, no_or) refl) (λ h. let never = h.0 in cc))
 
-pub last_refused : (stop : Stop) (cores : ℕ) (names : List (List ℕ)) (ps : List Piece) (f : Fault) → length names ≤ 16 → ending_from stop cores names ps None ≡ Err f → IsLastFault stop cores names ps f
+pub last_refused : (stop : Stop) (cores : ℕ) (names : List (List ℕ)) (ps : List Piece) (f : Fault) → length names ≤ 16 → ending_at stop cores names ps ≡ Err f → IsLastFault stop cores names ps f
 last_refused stop cores names ps f few e = by_case (condition_cases stop cores names ps)
   where
     by_read : (front rest : List Piece) (q : Quantifier) → ps ≡ front ++ rest → IsQuantifier (terms front) q → condition_at stop cores names ps ≡ quantified stop cores q names rest → (r : Result Claimed Fault)
@@ -261,7 +261,7 @@ last_refused stop cores names ps f few e = by_case (condition_cases stop cores n
         subst (λ (l : List Term). IsCondition l q t.phrase) (ap (λ (l : List Term). terms front ++ l) (sym taken) ∙ sym (terms_append front last.taken)) (condition (terms front) t.ts q t.phrase is t.is) in
         let split : ps ≡ (front ++ last.taken) ++ c.rest = parts ∙ ap (λ (l : List Piece). front ++ l) last.parts ∙ sym (append_assoc front last.taken c.rest) in
         subst (λ (l : List Piece). IsLastFault stop cores names l f) (sym split)
-        (behind_asked stop cores names (front ++ last.taken) c.rest q t.phrase f whole (within_taken cores (IsProposition (IsUnit most_open)) 0 names rest c few t) ends.no_and ends.no_or end)
+        (after_asked stop cores names (front ++ last.taken) c.rest q t.phrase f whole (within_taken cores (IsProposition (IsUnit most_open)) 0 names rest c few t) ends.no_and ends.no_or end)
 
     by_case : ConditionCases stop cores names ps → IsLastFault stop cores names ps f
     by_case (asks front rest q parts is read) = by_read front rest q parts is read (proposition_at stop cores most_open 0 names rest) refl
@@ -269,4 +269,4 @@ last_refused stop cores names ps f few e = by_case (condition_cases stop cores n
         let same : unfit (in_condition stop) rest ≡ f = err_is (unfit (in_condition stop) rest) f (sym (ending_fails stop cores names ps (unfit (in_condition stop) rest) read) ∙ e) in
         refused.in_condition ps f (subst (λ (l : List Piece). IsConditionFault stop cores names l f) (sym parts) (subst (IsConditionFault stop cores names (p ∷ rest)) same (no_exists p rest is other)))
     by_case (none no_word no_forall no_tilde read) =
-        behind_nothing stop cores names ps f few no_word no_forall no_tilde (ending_reads stop cores names ps (conditioned None names ps) f read e)
+        after_nothing stop cores names ps f few no_word no_forall no_tilde (ending_reads stop cores names ps (conditioned None names ps) f read e)

@@ -10,7 +10,7 @@ use Rattle.litmus_tokens.specs.Pieces.{Piece}
 use Rattle.litmus_tokens.specs.Front.{is_symbol_term, is_symbol, symbol_at, name_at}
 use Rattle.litmus_reader.specs.declared.fault.Why.TheVariants.{TooLarge}
 use Rattle.litmus_reader.specs.declared.fault.Fault.{Fault}
-use Rattle.litmus_reader.specs.Keywords.{word_behind}
+use Rattle.litmus_reader.specs.Keywords.{word_after}
 use Rattle.litmus_reader.specs.Conditions.{Claimed, claimed, atom_at, Proposition, disjunction, negation_at, opens_unit, negated, bracketed, unit_by, unit_at, in_condition}
 use Rattle.litmus_reader.specs.Grammar.{terms}
 use Rattle.litmus_reader.specs.GrammarConditions.{IsProposition, IsUnit, IsAtom, is_negation}
@@ -39,7 +39,7 @@ data UnitCases (ps : List Piece) : Type 0 where
   is_plain : negation_at ps ≡ None → symbol_at OpenRound ps ≡ None → begins_with begins_unit (terms ps) ≡ false → UnitCases ps
 
 unit_cases : (ps : List Piece) → UnitCases ps
-unfolding negation_at symbol_at is_symbol word_behind name_at
+unfolding negation_at symbol_at is_symbol word_after name_at
 unit_cases [] = is_plain refl refl refl
 unit_cases (p ∷ ps) = by_term p.term refl
   where
@@ -102,7 +102,7 @@ bracket_there stop inner atoms names ps rest c read there_it_is = rw (read, ther
 -- ---- refuses
 
 round_opens : (p : Piece) (ps : List Piece) → p.term ≡ symbol OpenRound → (negation_at (p ∷ ps) ≡ None) × (symbol_at OpenRound (p ∷ ps) ≡ Some ps)
-unfolding negation_at symbol_at is_symbol word_behind name_at
+unfolding negation_at symbol_at is_symbol word_after name_at
 round_opens p ps is = (rw is refl, rw is refl)
 
 begun : (p : Piece) (ps : List Piece) → is_negation p.term ≡ true → true ≡ begins_with begins_unit (terms (p ∷ ps))
@@ -122,7 +122,7 @@ deep_refuses stop cores n IsInnerFault refuses atoms names _ _ few (refused.in_a
       | is_opened p rest parts is no_negation at begins ↦ let never = sym begins ∙ no_unit in absurd cc
       | is_plain no_negation no_round begins ↦ plain_unit stop cores (unit_at stop cores n) atoms names ps no_negation no_round ∙ atom_refuses stop cores atoms names ps f few bad
     ]
-deep_refuses stop cores n IsInnerFault refuses atoms names _ _ few (refused.behind_negation p ps f is bad) =
+deep_refuses stop cores n IsInnerFault refuses atoms names _ _ few (refused.after_negation p ps f is bad) =
     elim (unit_cases (p ∷ ps)) [
       | is_negated q rest parts other at begins ↦
           let same : ps ≡ rest = cc in
@@ -141,7 +141,7 @@ deep_refuses stop cores n IsInnerFault refuses atoms names _ _ few (refused.no_b
     let unit = unit_at stop cores n in
     let found = proposition_finds (IsUnit n) cores unit (unit_finds stop cores n) (unit_leaves stop cores n) (terms front) phrase spelled atoms names within (terms at) ((tt, no_and), no_or) (front ++ at) (terms_append front at) in
     let last = last_of (disjunction unit) (disjunction_leaves unit (unit_leaves stop cores n)) atoms names (front ++ at) (given_by atoms names phrase found.rest) found.is in
-    let same : found.rest ≡ at = same_place (front ++ at) front at found.rest refl last found.behind in
+    let same : found.rest ≡ at = same_place (front ++ at) front at found.rest refl last found.after_it in
     let missing : symbol_at CloseRound found.rest ≡ None = ap (symbol_at CloseRound) same ∙ no_symbol CloseRound at no_close in
     opened_unit stop cores unit atoms names (p ∷ front ++ at) (front ++ at) o.0 o.1
     ∙ bracket_missing stop unit atoms names (front ++ at) (given_by atoms names phrase found.rest) found.is missing
@@ -184,7 +184,7 @@ deep_refused stop cores n IsInnerFault inner_refused atoms names ps f few e = by
     by_inner p rest parts is at (Err g) read =
         let same : g ≡ f = err_is g f (sym (fails (unit_at stop cores n atoms names rest) _ g read) ∙ sym (negated_unit stop cores (unit_at stop cores n) atoms names ps rest at) ∙ e) in
         subst (λ (l : List Piece). IsUnitFaultOf stop (IsUnit n) IsInnerFault cores atoms names l f) (sym parts)
-        (refused.behind_negation p rest f is (inner_refused atoms names rest f few (read ∙ ap (λ (y : Fault). Err y) same)))
+        (refused.after_negation p rest f is (inner_refused atoms names rest f few (read ∙ ap (λ (y : Fault). Err y) same)))
 
     by_close : (p : Piece) (rest : List Piece) → ps ≡ p ∷ rest → p.term ≡ symbol OpenRound → bracketed stop (unit_at stop cores n) atoms names rest ≡ Err f → (c : Claimed)
         → disjunction (unit_at stop cores n) atoms names rest ≡ Ok c → (o : Option (List Piece)) → symbol_at CloseRound c.rest ≡ o → IsUnitFaultOf stop (IsUnit n) IsInnerFault cores atoms names ps f

@@ -11,7 +11,7 @@ use Rattle.litmus_reader.specs.GrammarColumns.{IsHeaderRow}
 use Rattle.litmus_reader.specs.GrammarTable.{AreRows, AreWithin, ends_rows}
 use Rattle.litmus_reader.proofs.Columnwise.{entries_within, columns_within}
 use Rattle.litmus_reader.proofs.Placed.{placed_in}
-use Rattle.litmus_reader.proofs.GrammarBehind.{initial_leaves, header_row_leaves, all_rows_leave}
+use Rattle.litmus_reader.proofs.GrammarAfter.{initial_leaves, header_row_leaves, all_rows_leave}
 use Rattle.litmus_reader.proofs.GrammarInitialJudged.{Holds}
 use Rattle.litmus_reader.proofs.GrammarInitialItems.{initial_found, initial_taken}
 use Rattle.litmus_reader.proofs.GrammarInitialSaid.{said}
@@ -38,7 +38,7 @@ pub record InitialRead (stop : Stop) (ps rest : List Piece) (settings : List Set
 pub initial_passes : (stop : Stop) (ps rest : List Piece) (settings : List Setting) → Passes (λ ts. IsInitialState ts settings) ps rest → Fits settings → InitialRead stop ps rest settings
 initial_passes stop ps rest settings p fits =
     let f = initial_found stop ps (terms p.front) (terms rest) settings p.is fits (ap terms p.parts ∙ terms_append p.front rest) in
-    let same : f.reads.rest ≡ rest = same_place ps p.front rest f.reads.rest p.parts (initial_leaves stop [] ps f.reads.rest f.i f.reads.is) f.reads.behind in
+    let same : f.reads.rest ≡ rest = same_place ps p.front rest f.reads.rest p.parts (initial_leaves stop [] ps f.reads.rest f.i f.reads.is) f.reads.after_it in
     record { i = f.i; is = subst (λ (l : List Piece). initial_at stop [] ps ≡ Ok (f.i, l)) same f.reads.is; holds = f.holds; says = said settings f.i f.holds fits }
 
 pub record InitialPassed (ps rest : List Piece) (i : Initial) : Type 0 where
@@ -64,7 +64,7 @@ initial_passed stop ps rest i e =
 pub columns_pass : (stop : Stop) (cores : ℕ) (ps rest : List Piece) → Passes (λ ts. IsHeaderRow ts cores) ps rest → columns_at stop ps ≡ Ok (cores, rest)
 columns_pass stop cores ps rest p =
     let f = header_row_again stop ps (terms p.front) (terms rest) cores p.is (ap terms p.parts ∙ terms_append p.front rest) in
-    let same : f.rest ≡ rest = same_place ps p.front rest f.rest p.parts (header_row_leaves stop ps f.rest cores f.is) f.behind in
+    let same : f.rest ≡ rest = same_place ps p.front rest f.rest p.parts (header_row_leaves stop ps f.rest cores f.is) f.after_it in
     subst (λ (l : List Piece). columns_at stop ps ≡ Ok (cores, l)) same f.is
 
 pub columns_passed : (stop : Stop) (cores : ℕ) (ps rest : List Piece) → columns_at stop ps ≡ Ok (cores, rest) → Passes (λ ts. IsHeaderRow ts cores) ps rest
@@ -78,7 +78,7 @@ pub rows_pass : (stop : Stop) (cores : ℕ) (names : List (List ℕ)) (table : L
     → IsTrue (ends_rows rest) → rows_at stop cores names ps ≡ Ok (rows_by names (placed_in table) rest)
 rows_pass stop cores names table ps rest p within ended =
     let f = rows_again stop cores names ps (terms p.front) (terms rest) table p.is (entries_within names table within) (ap terms p.parts ∙ terms_append p.front rest) (sym (ends_is rest) ∙ ended) in
-    let same : f.rest ≡ rest = same_place ps p.front rest f.rest p.parts (all_rows_leave stop cores names ps (rows_by names (placed_in table) f.rest) f.is) f.behind in
+    let same : f.rest ≡ rest = same_place ps p.front rest f.rest p.parts (all_rows_leave stop cores names ps (rows_by names (placed_in table) f.rest) f.is) f.after_it in
     subst (λ (l : List Piece). rows_at stop cores names ps ≡ Ok (rows_by names (placed_in table) l)) same f.is
 
 pub record RowsPassed (cores : ℕ) (names : List (List ℕ)) (ps : List Piece) (r : Rows) : Type 0 where

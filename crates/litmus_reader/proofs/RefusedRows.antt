@@ -20,10 +20,10 @@ use Rattle.litmus_reader.specs.RefusedTable.{IsRowsFault, in_row, row_of, cells_
 use Rattle.litmus_reader.proofs.PlacedFaults.{IsEntryFault, IsEntriesFault, unclosed, wrong_cells, in_cell}
 use Rattle.litmus_reader.proofs.Columnwise.{entries_within, columns_within, entries_fault, row_fault}
 use Rattle.litmus_reader.proofs.Keeps.{ok_is as keeps_ok}
-use Rattle.litmus_reader.proofs.RowSteps.{RowsBehind, rows_start, rows_end, rows_go_on, row_fails, row_open}
+use Rattle.litmus_reader.proofs.RowSteps.{RowsAfter, rows_start, rows_end, rows_go_on, row_fails, row_open}
 use Rattle.litmus_reader.proofs.GrammarTokens.{ok_is}
 use Rattle.litmus_reader.proofs.GrammarNames.{place_below, place_none}
-use Rattle.litmus_reader.proofs.GrammarBehind.{all_last, last_further, Leaves, row_leaves}
+use Rattle.litmus_reader.proofs.GrammarAfter.{all_last, last_further, Leaves, row_leaves}
 use Rattle.litmus_reader.proofs.GrammarRows.{row_again, row_takes}
 use Rattle.litmus_reader.proofs.GrammarTableEntries.{names_of, instrs_of, Read, read_of, within_first, within_none}
 use Rattle.litmus_reader.proofs.GrammarTable.{row_found, row_taken, row_begins, row_shorter, row_count, as_many, ends_is}
@@ -104,16 +104,16 @@ row_refused stop cores names done ps row rest f h some at e = by_count (number_d
 -- after rows the same reading goes on
 record RowsReached (stop : Stop) (cores : ℕ) (names : List (List ℕ)) (entries : List Placed) (total : Result Rows Fault) (back : List Term) (ps : List Piece) : Type 0 where
   pub rest : List Piece
-  pub behind : terms rest ≡ back
-  pub on : RowsBehind stop cores (instrs_of names entries) (names_of names entries) rest total
+  pub after_it : terms rest ≡ back
+  pub on : RowsAfter stop cores (instrs_of names entries) (names_of names entries) rest total
   pub last : AreLast ps rest
 
 rows_reach : (stop : Stop) (cores : ℕ) (names : List (List ℕ)) (ts : List Term) (table : List (List (Option Shape))) → AreRows cores ts table → (ps : List Piece) (total : Result Rows Fault) (done : List Placed)
-    (back : List Term) → terms ps ≡ ts ++ back → EntriesWithin names (done ++ placed_in table) → RowsBehind stop cores (instrs_of names done) (names_of names done) ps total
+    (back : List Term) → terms ps ≡ ts ++ back → EntriesWithin names (done ++ placed_in table) → RowsAfter stop cores (instrs_of names done) (names_of names done) ps total
     → RowsReached stop cores names (done ++ placed_in table) total back ps
 rows_reach stop cores names _ _ no_rows ps total done back e h b =
     let same : done ≡ done ++ [] = sym (append-nil done) in
-    record { rest = ps; behind = e; on = subst (λ (l : List Placed). RowsBehind stop cores (instrs_of names l) (names_of names l) ps total) same b; last = all_last ps }
+    record { rest = ps; after_it = e; on = subst (λ (l : List Placed). RowsAfter stop cores (instrs_of names l) (names_of names l) ps total) same b; last = all_last ps }
 rows_reach stop cores names _ _ (more_rows ts us cells others is are) ps total done back e h b =
     let front : terms ps ≡ ts ++ (us ++ back) = e ∙ append_assoc ts us back in
     let first = row_again stop cores ps ts (us ++ back) cells is front in
@@ -122,19 +122,19 @@ rows_reach stop cores names _ _ (more_rows ts us cells others is are) ps total d
     let whole : EntriesWithin names ((done ++ one) ++ placed_in others) = subst (λ (l : List Placed). EntriesWithin names l) (sym regroup) h in
     let read = row_found cores (left_of ps) names done first.row cells (row_count cores ts cells is) first.cells_are (within_first names (done ++ one) (placed_in others) whole) in
     let go : ends_rows ps ≡ false = ends_is ps ∙ ap ends_table front ∙ row_begins cores ts cells is (us ++ back) in
-    let shorter = row_shorter cores ts cells ps first.rest is (front ∙ ap (λ (l : List Term). ts ++ l) (sym first.behind)) in
+    let shorter = row_shorter cores ts cells ps first.rest is (front ∙ ap (λ (l : List Term). ts ++ l) (sym first.after_it)) in
     let on = rows_go_on stop cores (left_of ps) (instrs_of names done) (instrs_of names (done ++ one)) (names_of names done) (names_of names (done ++ one)) ps first.row first.rest total go refl first.is read shorter b in
     let last = keeps_ok (λ found. Leaves ps found) (row_at stop ps) (first.row, first.rest) (row_leaves stop ps) first.is in
-    let r = rows_reach stop cores names us others are first.rest total (done ++ one) back first.behind whole on in
+    let r = rows_reach stop cores names us others are first.rest total (done ++ one) back first.after_it whole on in
     record {
       rest = r.rest;
-      behind = r.behind;
-      on = subst (λ (l : List Placed). RowsBehind stop cores (instrs_of names l) (names_of names l) r.rest total) regroup r.on;
+      after_it = r.after_it;
+      on = subst (λ (l : List Placed). RowsAfter stop cores (instrs_of names l) (names_of names l) r.rest total) regroup r.on;
       last = last_further ps first.rest r.rest last r.last;
     }
 
 stopped : (stop : Stop) (cores : ℕ) (names : List (List ℕ)) (done : List Placed) (ps : List Piece) (total : Result Rows Fault) (f : Fault) → ends_rows ps ≡ false → RowRefuses stop cores names done ps f
-    → RowsBehind stop cores (instrs_of names done) (names_of names done) ps total → total ≡ Err f
+    → RowsAfter stop cores (instrs_of names done) (names_of names done) ps total → total ≡ Err f
 stopped stop cores names done ps total f go (at_end e) b = row_open f stop cores (instrs_of names done) (names_of names done) ps total go e b
 stopped stop cores names done ps total f go (in_cells row rest at e) b =
     row_fails (errors.Fault f) stop cores (left_of ps) (instrs_of names done) (names_of names done) ps row rest total go refl at e b
@@ -145,8 +145,8 @@ rows_refuse stop cores names _ _ (in_row front ps table f are within go bad) =
     let all = front ++ ps in
     let total = rows_at stop cores names all in
     let r = rows_reach stop cores names (terms front) table are all total [] (terms ps) (terms_append front ps) (entries_within names table within) (rows_start stop cores names all) in
-    let same : r.rest ≡ ps = same_place all front ps r.rest refl r.last r.behind in
-    let on = subst (λ (l : List Piece). RowsBehind stop cores (instrs_of names (placed_in table)) (names_of names (placed_in table)) l total) same r.on in
+    let same : r.rest ≡ ps = same_place all front ps r.rest refl r.last r.after_it in
+    let on = subst (λ (l : List Piece). RowsAfter stop cores (instrs_of names (placed_in table)) (names_of names (placed_in table)) l total) same r.on in
     stopped stop cores names (placed_in table) ps total f go (row_refuses stop cores names (placed_in table) ps f (entries_fault stop cores names table ps f bad)) on
 
 -- ---- the other way
@@ -178,8 +178,8 @@ row_at_once stop cores names done ps f h go is =
     }
 
 rows_step : (stop : Stop) (cores : ℕ) (names : List (List ℕ)) (done : List Placed) (ps : List Piece) (total : Result Rows Fault) (f : Fault) → EntriesWithin names done
-    → RowsBehind stop cores (instrs_of names done) (names_of names done) ps total → total ≡ Err f
-    → ((d : List Placed) (qs : List Piece) → length qs < length ps → EntriesWithin names d → RowsBehind stop cores (instrs_of names d) (names_of names d) qs total → RowsRefused stop cores names d qs f)
+    → RowsAfter stop cores (instrs_of names done) (names_of names done) ps total → total ≡ Err f
+    → ((d : List Placed) (qs : List Piece) → length qs < length ps → EntriesWithin names d → RowsAfter stop cores (instrs_of names d) (names_of names d) qs total → RowsRefused stop cores names d qs f)
     → RowsRefused stop cores names done ps f
 rows_step stop cores names done ps total f h b e further = by_end (ends_rows ps) refl
   where
@@ -227,7 +227,7 @@ rows_step stop cores names done ps total f h b e further = by_end (ends_rows ps)
     by_end false go = by_semicolon go (list_any (is_symbol Semicolon) ps) refl
 
 rows_refused_in : (k : ℕ) (stop : Stop) (cores : ℕ) (names : List (List ℕ)) (done : List Placed) (ps : List Piece) (total : Result Rows Fault) (f : Fault) → length ps ≤ k → EntriesWithin names done
-    → RowsBehind stop cores (instrs_of names done) (names_of names done) ps total → total ≡ Err f → RowsRefused stop cores names done ps f
+    → RowsAfter stop cores (instrs_of names done) (names_of names done) ps total → total ≡ Err f → RowsRefused stop cores names done ps f
 rows_refused_in zero stop cores names done ps total f enough h b e = rows_step stop cores names done ps total f h b e (λ d qs less k m. absurd (omega arith))
 rows_refused_in (suc k) stop cores names done ps total f enough h b e =
     rows_step stop cores names done ps total f h b e (λ d qs less within on. rows_refused_in k stop cores names d qs total f (omega arith) within on e)

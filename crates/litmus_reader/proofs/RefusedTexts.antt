@@ -31,7 +31,7 @@ use Rattle.litmus_reader.proofs.GrammarInformation.{lines_again, lines_take}
 use Rattle.litmus_reader.proofs.GrammarTest.{sized_found, sized_taken, numbered_few, written}
 use Rattle.litmus_reader.proofs.RefusedMisfits.{err_is, bind_err}
 use Rattle.litmus_reader.proofs.RefusedPasses.{initial_passes, initial_passed, columns_pass, columns_passed, rows_pass, rows_passed}
-use Rattle.litmus_reader.proofs.RefusedBytes.{header_refuses, header_refused, information_refuses, information_refused, IsInformationFault, behind_lines}
+use Rattle.litmus_reader.proofs.RefusedBytes.{header_refuses, header_refused, information_refuses, information_refused, IsInformationFault, after_lines}
 use Rattle.litmus_reader.proofs.RefusedInitial.{initial_refuses, initial_refused}
 use Rattle.litmus_reader.proofs.RefusedColumns.{columns_refuse, columns_refused}
 use Rattle.litmus_reader.proofs.RefusedCores.{cores_refuse, cores_refused}
@@ -60,18 +60,18 @@ body_refuses called braces f (in_rows w rest head fits has bad) =
     let registers : registers_of w.cores i.i.registers ≡ Ok (first_registers w.settings w.cores) = i.says.registers w.cores has in
     let rows : rows_at stop w.cores i.i.names rest ≡ Err f = ap (λ (l : List (List ℕ)). rows_at stop w.cores l rest) i.says.names ∙ rows_refuse stop w.cores (first_names w) rest f bad in
     rw (i.is, columns_pass stop w.cores head.columns rest head.header_row, registers, rows) refl
-body_refuses called braces f (in_ending w behind last head fits has third within ended bad) =
+body_refuses called braces f (in_ending w after_it last head fits has third within ended bad) =
     let stop = (pieces_of braces).1 in
     let i = initial_passes stop (pieces_of braces).0 head.columns w.settings head.initial fits in
     let registers : registers_of w.cores i.i.registers ≡ Ok (first_registers w.settings w.cores) = i.says.registers w.cores has in
     let names = first_names w in
-    let rows : rows_at stop w.cores i.i.names behind ≡ Ok (rows_by names (placed_in w.table) last) =
-    ap (λ (l : List (List ℕ)). rows_at stop w.cores l behind) i.says.names ∙ rows_pass stop w.cores names w.table behind last third within ended in
+    let rows : rows_at stop w.cores i.i.names after_it ≡ Ok (rows_by names (placed_in w.table) last) =
+    ap (λ (l : List (List ℕ)). rows_at stop w.cores l after_it) i.says.names ∙ rows_pass stop w.cores names w.table after_it last third within ended in
     let known = numbered names (locations_of (placed_in w.table)) in
     let same : located_in_rows w ≡ known = ap (λ (l : List (List ℕ)). numbered names l) (sym (named-same w.table)) in
     let tail = subst (λ (l : List (List ℕ)). tail_at braces stop w.cores l last ≡ Err f) same
     (ending_refuses braces stop w.cores (located_in_rows w) last f bad (λ s l e. last_refuses s w.cores (located_in_rows w) l f within.room e)) in
-    rw (i.is, columns_pass stop w.cores head.columns behind head.header_row, registers, rows, tail) refl
+    rw (i.is, columns_pass stop w.cores head.columns after_it head.header_row, registers, rows, tail) refl
 
 -- the tokens from the `{` on begin with it
 record Opened (braces : List ℕ) : Type 0 where
@@ -87,7 +87,7 @@ curly_opens (c ∷ cs) = record { opener = record { left = length (123 ∷ c ∷
 
 braces_open : (bytes braces : List ℕ) → AreInformationLines bytes braces → Opened braces
 braces_open _ _ (none bytes rest gap) = curly_opens rest
-braces_open _ _ (more bytes at behind braces gap is lines) = braces_open behind braces lines
+braces_open _ _ (more bytes at after_it braces gap is lines) = braces_open after_it braces lines
 
 few_names : (w : Written) → Fits w.settings → length (first_names w) ≤ 16
 few_names w fits = let count = numbered_few (names_in w.settings) [] in let most = fits.few in omega (arith, count, most)
@@ -156,16 +156,16 @@ pub text_refuses : (text : List ℕ) (f : Fault) → IsFault text f → reading_
 unfolding reading_of
 text_refuses text _ (too_large past) = rw (sized_large text past) refl
 text_refuses text _ (in_header f small bad) = rw (sized_found text small, header_refuses text f bad) refl
-text_refuses text _ (in_information called behind rest f small header passes bad) = rw (sized_found text small, header_again text called behind header, information_refuses behind f (behind_lines rest f passes bad)) refl
-text_refuses text _ (in_body called behind braces f small header lines bad) =
-    rw (sized_found text small, header_again text called behind header, lines_again behind braces lines) (body_refuses called braces f bad)
+text_refuses text _ (in_information called after_it rest f small header passes bad) = rw (sized_found text small, header_again text called after_it header, information_refuses after_it f (after_lines rest f passes bad)) refl
+text_refuses text _ (in_body called after_it braces f small header lines bad) =
+    rw (sized_found text small, header_again text called after_it header, lines_again after_it braces lines) (body_refuses called braces f bad)
 
 -- the reading after the test of a text's size
 abbrev sized_reading : List ℕ → Result Litmus Fault
 sized_reading bytes = header_at bytes >>= λ header. braces_at header.1 >>= λ braces. body_of header.0 braces (pieces_of braces).1 (pieces_of braces).0
 
-behind_size : (text bytes : List ℕ) (f : Fault) → text ≡ bytes → sized_reading bytes ≡ Err f → sized_reading text ≡ Err f
-behind_size text bytes f same e = subst (λ (l : List ℕ). sized_reading l ≡ Err f) (sym same) e
+after_size : (text bytes : List ℕ) (f : Fault) → text ≡ bytes → sized_reading bytes ≡ Err f → sized_reading text ≡ Err f
+after_size text bytes f same e = subst (λ (l : List ℕ). sized_reading l ≡ Err f) (sym same) e
 
 sized_refused : (text : List ℕ) (f : Fault) → sized text ≡ Err f → (longest_text < length text) × (fault TooLarge (length text) ≡ f)
 sized_refused text f e =
@@ -181,7 +181,7 @@ text_refused text f e =
       | inl bad ↦ let s = sized_refused text f bad in subst (IsFault text) s.1 (too_large s.0)
       | inr s ↦
           let small = sized_taken text s.0 s.1 in
-          let whole = behind_size text s.0 f small.1 s.2 in
+          let whole = after_size text s.0 f small.1 s.2 in
           elim (bind_err (header_at text) _ f whole) [
             | inl bad ↦ in_header f small.0 (header_refused text f bad)
             | inr h ↦
@@ -195,5 +195,5 @@ text_refused text f e =
           ]
     ]
   where
-    in_lines : (called behind : List ℕ) → length text ≤ longest_text → IsHeaderLine text called behind → IsInformationFault behind f → IsFault text f
-    in_lines called behind small header (behind_lines rest _ passes bad) = in_information called behind rest f small header passes bad
+    in_lines : (called after_it : List ℕ) → length text ≤ longest_text → IsHeaderLine text called after_it → IsInformationFault after_it f → IsFault text f
+    in_lines called after_it small header (after_lines rest _ passes bad) = in_information called after_it rest f small header passes bad

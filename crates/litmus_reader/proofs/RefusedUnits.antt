@@ -16,9 +16,9 @@ use Rattle.litmus_reader.specs.Grammar.{terms}
 use Rattle.litmus_reader.specs.GrammarNames.{numbered}
 use Rattle.litmus_reader.specs.GrammarConditions.{AreJoined, IsConjunction, IsUnit, locations_in, atoms_of, IsWithin}
 use Rattle.litmus_reader.proofs.Levels.{IsJoinedFault, first, later, IsPropositionFault}
-use Rattle.litmus_reader.proofs.Chains.{ChainBehind, chain_start, chain_end, chain_go_on, chain_fails, chain_never_starts}
+use Rattle.litmus_reader.proofs.Chains.{ChainAfter, chain_start, chain_end, chain_go_on, chain_fails, chain_never_starts}
 use Rattle.litmus_reader.proofs.GrammarTokens.{there_is, ok_is, bind_ok}
-use Rattle.litmus_reader.proofs.GrammarBehind.{last_further}
+use Rattle.litmus_reader.proofs.GrammarAfter.{last_further}
 use Rattle.litmus_reader.proofs.GrammarLast.{LeavesLast, chain_leaves}
 use Rattle.litmus_reader.proofs.GrammarEnding.{symbol_found}
 use Rattle.litmus_reader.proofs.GrammarPhrases.{Finds, Taken, Takes, Joining, joining_both, joining_either, joined_taken, first_taken, conjunction_takes, ChainAt, chain_found, symbol_there, last_of, Anything, conjunction_finds}
@@ -38,20 +38,20 @@ abbrev pub Refused : Proposition → (ℕ → List (List ℕ) → List Piece →
 Refused unit IsPartFault = (atoms : ℕ) (names : List (List ℕ)) (ps : List Piece) (f : Fault) → length names ≤ 16 → unit atoms names ps ≡ Err f → IsPartFault atoms names ps f
 
 chain_at : (s : Symbol) (join : Claim → Claim → Claim) (unit : Proposition) (atoms : ℕ) (names : List (List ℕ)) (p : Phrase) (back : List Term) (ps rest : List Piece)
-    → (c : ChainAt s join unit atoms names p back ps) → c.rest ≡ rest → ChainBehind s join unit (given_by atoms names p rest) (chain_of s join unit atoms names ps)
+    → (c : ChainAt s join unit atoms names p back ps) → c.rest ≡ rest → ChainAfter s join unit (given_by atoms names p rest) (chain_of s join unit atoms names ps)
 chain_at s join unit atoms names p back ps rest c same =
-    subst (λ (l : List Piece). ChainBehind s join unit (given_by atoms names p l) (chain_of s join unit atoms names ps)) same (record { count = c.count; enough = c.enough; same = sym c.same })
+    subst (λ (l : List Piece). ChainAfter s join unit (given_by atoms names p l) (chain_of s join unit atoms names ps)) same (record { count = c.count; enough = c.enough; same = sym c.same })
 
 joined_refuses : (s : Symbol) (join : Claim → Claim → Claim) (phrases : Phrase → Phrase → Phrase) (IsPart : List Term → Phrase → Type 0) → Joining join phrases
-    → (cores : ℕ) (unit : Proposition) (Behind : List Term → Type 0) → Finds cores unit IsPart Behind → LeavesLast unit → ((l : List Term) → Behind (symbol s ∷ l))
+    → (cores : ℕ) (unit : Proposition) (After : List Term → Type 0) → Finds cores unit IsPart After → LeavesLast unit → ((l : List Term) → After (symbol s ∷ l))
     → (IsPartFault : ℕ → List (List ℕ) → List Piece → Fault → Type 0) → Refuses unit IsPartFault → Refuses (chain_of s join unit) (IsJoinedFault s phrases IsPart IsPartFault cores)
-joined_refuses s join phrases IsPart j cores unit Behind finds leaves parted IsPartFault refuses atoms names _ _ few (first ps f bad) =
+joined_refuses s join phrases IsPart j cores unit After finds leaves separated IsPartFault refuses atoms names _ _ few (first ps f bad) =
     chain_never_starts (errors.Fault f) s join unit atoms names ps (refuses atoms names ps f few bad)
-joined_refuses s join phrases IsPart j cores unit Behind finds leaves parted IsPartFault refuses atoms names _ _ few (later front between ps p f are within is bad) =
+joined_refuses s join phrases IsPart j cores unit After finds leaves separated IsPartFault refuses atoms names _ _ few (later front between ps p f are within is bad) =
     let all = front ++ between ∷ ps in
     let parts : terms all ≡ terms front ++ symbol s ∷ terms ps = terms_append front (between ∷ ps) ∙ ap (λ (t : Term). terms front ++ t ∷ terms ps) is in
-    let c = chain_found s join phrases IsPart j cores unit Behind finds leaves parted (terms front) p are atoms names within (symbol s ∷ terms ps) (parted (terms ps)) all parts in
-    let same : c.rest ≡ between ∷ ps = same_place all front (between ∷ ps) c.rest refl c.last (c.behind ∙ ap (λ (t : Term). t ∷ terms ps) (sym is)) in
+    let c = chain_found s join phrases IsPart j cores unit After finds leaves separated (terms front) p are atoms names within (symbol s ∷ terms ps) (separated (terms ps)) all parts in
+    let same : c.rest ≡ between ∷ ps = same_place all front (between ∷ ps) c.rest refl c.last (c.after_it ∙ ap (λ (t : Term). t ∷ terms ps) (sym is)) in
     let b = chain_at s join unit atoms names p (symbol s ∷ terms ps) all (between ∷ ps) c same in
     chain_fails (errors.Fault f) s join unit (given_by atoms names p (between ∷ ps)) ps (chain_of s join unit atoms names all) (symbol_there s (between ∷ ps) ps between refl is)
     (refuses (atoms + atoms_of p) (numbered names (locations_in p)) ps f within.room bad) b
@@ -66,8 +66,8 @@ within_taken cores Is atoms names ps c few t = record { fits = t.fits; few = ome
 chain_next : (s : Symbol) (join : Claim → Claim → Claim) (phrases : Phrase → Phrase → Phrase) (IsPart : List Term → Phrase → Type 0) → Joining join phrases
     → (cores : ℕ) (unit : Proposition) → Takes cores unit IsPart → LeavesLast unit → (IsPartFault : ℕ → List (List ℕ) → List Piece → Fault → Type 0) → Refused unit IsPartFault
     → (atoms : ℕ) (names : List (List ℕ)) (ps : List Piece) (c : Claimed) (total : Result Claimed Fault) (f : Fault) → length names ≤ 16 → AreLast ps c.rest
-    → Taken cores (AreJoined s phrases IsPart) atoms names ps c → ChainBehind s join unit c total → total ≡ Err f
-    → ((d : Claimed) → length d.rest < length c.rest → AreLast ps d.rest → Taken cores (AreJoined s phrases IsPart) atoms names ps d → ChainBehind s join unit d total
+    → Taken cores (AreJoined s phrases IsPart) atoms names ps c → ChainAfter s join unit c total → total ≡ Err f
+    → ((d : Claimed) → length d.rest < length c.rest → AreLast ps d.rest → Taken cores (AreJoined s phrases IsPart) atoms names ps d → ChainAfter s join unit d total
     → IsJoinedFault s phrases IsPart IsPartFault cores atoms names ps f)
     → IsJoinedFault s phrases IsPart IsPartFault cores atoms names ps f
 chain_next s join phrases IsPart j cores unit takes leaves IsPartFault refused atoms names ps c total f few last t b e further = by_symbol (symbol_at s c.rest) refl
@@ -100,7 +100,7 @@ chain_next s join phrases IsPart j cores unit takes leaves IsPartFault refused a
 chain_refused : (k : ℕ) (s : Symbol) (join : Claim → Claim → Claim) (phrases : Phrase → Phrase → Phrase) (IsPart : List Term → Phrase → Type 0) → Joining join phrases
     → (cores : ℕ) (unit : Proposition) → Takes cores unit IsPart → LeavesLast unit → (IsPartFault : ℕ → List (List ℕ) → List Piece → Fault → Type 0) → Refused unit IsPartFault
     → (atoms : ℕ) (names : List (List ℕ)) (ps : List Piece) (c : Claimed) (total : Result Claimed Fault) (f : Fault) → length names ≤ 16 → length c.rest ≤ k → AreLast ps c.rest
-    → Taken cores (AreJoined s phrases IsPart) atoms names ps c → ChainBehind s join unit c total → total ≡ Err f → IsJoinedFault s phrases IsPart IsPartFault cores atoms names ps f
+    → Taken cores (AreJoined s phrases IsPart) atoms names ps c → ChainAfter s join unit c total → total ≡ Err f → IsJoinedFault s phrases IsPart IsPartFault cores atoms names ps f
 chain_refused zero s join phrases IsPart j cores unit takes leaves IsPartFault refused atoms names ps c total f few enough last t b e =
     chain_next s join phrases IsPart j cores unit takes leaves IsPartFault refused atoms names ps c total f few last t b e (λ d less k l m. absurd (omega arith))
 chain_refused (suc k) s join phrases IsPart j cores unit takes leaves IsPartFault refused atoms names ps c total f few enough last t b e =

@@ -14,12 +14,12 @@ use Rattle.litmus_reader.specs.Places.{left_of}
 use Rattle.litmus_reader.specs.GrammarTable.{ends_rows}
 
 -- the total is what the rest gives, in some number of rows that is enough
-pub record RowsBehind (stop : Stop) (cores : ℕ) (instrs : List CoreInstr) (names : List (List ℕ)) (ps : List Piece) (total : Result Rows Fault) : Type 0 where
+pub record RowsAfter (stop : Stop) (cores : ℕ) (instrs : List CoreInstr) (names : List (List ℕ)) (ps : List Piece) (total : Result Rows Fault) : Type 0 where
   pub count : ℕ
   pub enough : length ps ≤ count
   pub same : rows_within count stop cores instrs names ps ≡ total
 
-pub rows_start : (stop : Stop) (cores : ℕ) (names : List (List ℕ)) (ps : List Piece) → RowsBehind stop cores [] names ps (rows_at stop cores names ps)
+pub rows_start : (stop : Stop) (cores : ℕ) (names : List (List ℕ)) (ps : List Piece) → RowsAfter stop cores [] names ps (rows_at stop cores names ps)
 unfolding rows_at
 rows_start stop cores names ps = record { count = length ps; enough = omega arith; same = refl }
 
@@ -29,7 +29,7 @@ nothing_left [] le = refl
 nothing_left (p ∷ ps) le = absurd (omega arith)
 
 pub rows_end : (stop : Stop) (cores : ℕ) (instrs : List CoreInstr) (names : List (List ℕ)) (ps : List Piece) (total : Result Rows Fault)
-    → ends_rows ps ≡ true → RowsBehind stop cores instrs names ps total → total ≡ Ok (rows instrs names ps)
+    → ends_rows ps ≡ true → RowsAfter stop cores instrs names ps total → total ≡ Ok (rows instrs names ps)
 unfolding rows_within
 rows_end stop cores instrs names ps total ends b = by_count b.count b.same
   where
@@ -46,10 +46,10 @@ step n stop cores instrs names ps row rest more at = rw (more, at) refl
 
 pub rows_go_on : (stop : Stop) (cores left : ℕ) (instrs after : List CoreInstr) (names known : List (List ℕ)) (ps row rest : List Piece) (total : Result Rows Fault)
     → ends_rows ps ≡ false → left ≡ left_of ps → row_at stop ps ≡ Ok (row, rest) → row_in cores left instrs names row ≡ Ok (after, known) → length rest < length ps
-    → RowsBehind stop cores instrs names ps total → RowsBehind stop cores after known rest total
+    → RowsAfter stop cores instrs names ps total → RowsAfter stop cores after known rest total
 rows_go_on stop cores left instrs after names known ps row rest total more place at read shorter b = by_count b.count b.enough b.same
   where
-    by_count : (n : ℕ) → length ps ≤ n → rows_within n stop cores instrs names ps ≡ total → RowsBehind stop cores after known rest total
+    by_count : (n : ℕ) → length ps ≤ n → rows_within n stop cores instrs names ps ≡ total → RowsAfter stop cores after known rest total
     by_count zero enough same = absurd (omega arith)
     by_count (suc n) enough same = record {
       count = n;
@@ -59,7 +59,7 @@ rows_go_on stop cores left instrs after names known ps row rest total more place
 
 pub row_fails : (e : ReadError) (stop : Stop) (cores left : ℕ) (instrs : List CoreInstr) (names : List (List ℕ)) (ps row rest : List Piece) (total : Result Rows Fault)
     → ends_rows ps ≡ false → left ≡ left_of ps → row_at stop ps ≡ Ok (row, rest) → Fails e (row_in cores left instrs names row)
-    → RowsBehind stop cores instrs names ps total → Fails e total
+    → RowsAfter stop cores instrs names ps total → Fails e total
 row_fails errors.NoMemory stop cores left instrs names ps row rest total more place at read b = tt
 row_fails (errors.Fault f) stop cores left instrs names ps row rest total more place at read b = by_count b.count b.enough b.same
   where
@@ -68,7 +68,7 @@ row_fails (errors.Fault f) stop cores left instrs names ps row rest total more p
     by_count (suc n) enough same = sym same ∙ step n stop cores instrs names ps row rest more at ∙ ap (λ (r : Result (List CoreInstr × List (List ℕ)) Fault). r >>= λ read. rows_within n stop cores read.0 read.1 rest) (ap (λ (l : ℕ). row_in cores l instrs names row) (sym place) ∙ read)
 
 pub row_open : (f : Fault) (stop : Stop) (cores : ℕ) (instrs : List CoreInstr) (names : List (List ℕ)) (ps : List Piece) (total : Result Rows Fault)
-    → ends_rows ps ≡ false → row_at stop ps ≡ Err f → RowsBehind stop cores instrs names ps total → total ≡ Err f
+    → ends_rows ps ≡ false → row_at stop ps ≡ Err f → RowsAfter stop cores instrs names ps total → total ≡ Err f
 unfolding rows_within
 row_open f stop cores instrs names ps total more at b = by_count b.count b.enough b.same
   where

@@ -18,7 +18,7 @@ use Rattle.litmus_reader.specs.Faults.{◌>>=◌, or_unfit}
 use Rattle.litmus_reader.specs.Locations.{located}
 use Rattle.litmus_reader.specs.Items.{word_at}
 use Rattle.litmus_reader.specs.Forms.{spelled_in}
-use Rattle.litmus_reader.specs.Columns.{core_at, parting_at, columns, in_columns}
+use Rattle.litmus_reader.specs.Columns.{core_at, separator_at, columns, in_columns}
 use Rattle.litmus_reader.specs.Cells.{instr_of, count_of, or_bad_instruction, cell_in, cells_in}
 use Rattle.litmus_reader.specs.Rows.{row_at, counted, row_in, Rows, rows_within, rows_at, Table, table_at}
 use Rattle.litmus_reader.proofs.Keeps.{Any, ok_any, bind_keeps, cond_keeps}
@@ -43,9 +43,9 @@ unfolding columns
 columns_few stop zero core ps = bind_keeps (λ x. Any x) (FewCores core zero) (or_unfit (in_columns stop) ps (core_at core ps)) _ (ok_any _) (λ rest _. tt)
 columns_few stop (suc n) core ps =
     bind_keeps (λ x. Any x) (FewCores core (suc n)) (or_unfit (in_columns stop) ps (core_at core ps)) _ (ok_any _)
-    (λ rest _. bind_keeps (λ x. Any x) (FewCores core (suc n)) (or_unfit (in_columns stop) rest (parting_at rest)) _ (ok_any _)
-    (λ parting _. cond_keeps (λ (r : Result (ℕ × List Piece) Fault). IfOk r (FewCores core (suc n))) parting.0 _ _
-    (λ _. weaker (columns stop n (core + 1) parting.1) (columns_few stop n (core + 1) parting.1))
+    (λ rest _. bind_keeps (λ x. Any x) (FewCores core (suc n)) (or_unfit (in_columns stop) rest (separator_at rest)) _ (ok_any _)
+    (λ separator _. cond_keeps (λ (r : Result (ℕ × List Piece) Fault). IfOk r (FewCores core (suc n))) separator.0 _ _
+    (λ _. weaker (columns stop n (core + 1) separator.1) (columns_few stop n (core + 1) separator.1))
     (λ _. (omega arith, omega arith))))
   where
     weaker : (r : Result (ℕ × List Piece) Fault) → IfOk r (FewCores (core + 1) n) → IfOk r (FewCores core (suc n))

@@ -21,9 +21,9 @@ use Rattle.litmus_reader.specs.Header.{sized, from_gap, judged, header_at}
 use Rattle.litmus_reader.specs.Information.{braces_at}
 use Rattle.litmus_reader.specs.Initial.{Initial, Given, initial_at}
 use Rattle.litmus_reader.specs.Rows.{Table, table_at}
-use Rattle.litmus_reader.specs.Observed.{observed_end}
+use Rattle.litmus_reader.specs.Observed.{ending_tokens}
 use Rattle.litmus_reader.specs.Conditions.{conditioned, condition_at}
-use Rattle.litmus_reader.specs.Reading.{end_at, ending_at, ending_from, tail_at, test_of, body_of, reading_of}
+use Rattle.litmus_reader.specs.Reading.{end_at, ending_at, tail_at, test_of, body_of, reading_of}
 use Rattle.litmus_reader.proofs.Keeps.{Any, ok_any, bind_keeps, cond_keeps, ok_is}
 use Rattle.litmus_reader.proofs.Named.{IsLocation}
 use Rattle.litmus_reader.proofs.Known.{AreNames}
@@ -99,11 +99,7 @@ ending_keeps stop cores names ps h =
 tail_keeps : (text : List ℕ) (stop : Stop) (cores : ℕ) (names : List (List ℕ)) (ps : List Piece) → AreNames names → IfOk (tail_at text stop cores names ps) (EndingKept cores names)
 unfolding tail_at
 tail_keeps text stop cores names ps h =
-    bind_keeps (λ x. Any x) (EndingKept cores names) (observed_end text stop ps) _ (ok_any _) (λ behind _. either behind)
-  where
-    either : (behind : Option (List ℕ)) → IfOk (ending_from stop cores names ps behind) (EndingKept cores names)
-    either None = ending_keeps stop cores names ps h
-    either (Some bytes) = ending_keeps (pieces_of bytes).1 cores names (pieces_of bytes).0 h
+    bind_keeps (λ x. Any x) (EndingKept cores names) (ending_tokens text stop ps) _ (ok_any _) (λ rest _. ending_keeps rest.1 cores names rest.0 h)
 
 pub names_are_text : (text : List ℕ) (stop : Stop) (start rest : List Piece) (i : Initial) (given : List Given) (t : Table) (condition : Option Condition) (names : List (List ℕ))
     → initial_at stop [] start ≡ Ok (i, rest) → table_at stop given i.names rest ≡ Ok t → tail_at text stop t.cores t.rows.names t.rows.rest ≡ Ok (condition, names) → All (λ name. IsUtf8 name) names

@@ -18,9 +18,9 @@ use Rattle.litmus_reader.specs.Written.{Shape, store_imm, store_reg, load, set_i
 use Rattle.litmus_reader.specs.RefusedTable.{cells_of}
 
 -- the cells after a bar, if there is one
-abbrev pub cells_behind : Option (Bor (List Token)) → List (List Piece)
-cells_behind None = []
-cells_behind (Some behind) = cells_of (pieces behind.now)
+abbrev pub cells_after : Option (Bor (List Token)) → List (List Piece)
+cells_after None = []
+cells_after (Some after) = cells_of (pieces after.now)
 
 -- the instruction of a shape, and the names with its location's
 unfoldable pub instr_of : ℕ → List (List ℕ) → Shape → Result (Instr × List (List ℕ)) Fault
@@ -72,3 +72,7 @@ cells_in core instrs names [] = Ok (instrs, names)
 cells_in core instrs names (c ∷ cs) = do
   read ← cell_in core instrs names c
   cells_in (core + 1) read.0 read.1 cs
+
+-- all cells of a row
+abbrev pub row_cells : List CoreInstr → List (List ℕ) → List Piece → Result (List CoreInstr × List (List ℕ)) Fault
+row_cells instrs names row = cells_in 0 instrs names (cells_of row)

@@ -25,8 +25,8 @@ unfoldable pub core_at : ℕ → List Piece → Option (List Piece)
 core_at core ps = there (name_at ps) (if_core core) None
 
 -- whether another core follows, and what stands after the vertical bar or the `;`
-unfoldable pub parting_at : List Piece → Option (Bool × List Piece)
-parting_at ps = there (symbol_at Bar ps) (λ rest. Some (true, rest)) (there (symbol_at Semicolon ps) (λ rest. Some (false, rest)) None)
+unfoldable pub separator_at : List Piece → Option (Bool × List Piece)
+separator_at ps = there (symbol_at Bar ps) (λ rest. Some (true, rest)) (there (symbol_at Semicolon ps) (λ rest. Some (false, rest)) None)
 
 -- The columns from this core on, of which n may come: how many cores there are, and what stands after the row.
 unfoldable pub columns : Stop → ℕ → ℕ → List Piece → Result (ℕ × List Piece) Fault
@@ -35,8 +35,8 @@ columns stop zero core ps = do
   Err (fault TooLarge (left_of ps))
 columns stop (suc n) core ps = do
   rest ← or_unfit (in_columns stop) ps (core_at core ps)
-  parting ← or_unfit (in_columns stop) rest (parting_at rest)
-  if parting.0 then columns stop n (core + 1) parting.1 else Ok (core + 1, parting.1)
+  separator ← or_unfit (in_columns stop) rest (separator_at rest)
+  if separator.0 then columns stop n (core + 1) separator.1 else Ok (core + 1, separator.1)
 
 -- how many cores the header row has, and what stands after it
 abbrev pub columns_at : Stop → List Piece → Result (ℕ × List Piece) Fault

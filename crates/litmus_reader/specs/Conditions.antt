@@ -1,5 +1,6 @@
 -- The condition. (This project's profile.)
-use Rattle.std.specs.Prelude.{ℕ, zero, suc, ◌+◌, Bool, true, false, List, length, codes, Option, Some, None, Result, Ok, Err, nat_lt, is_some, ◌||◌, if◌then◌else◌}
+use Rattle.std.specs.Prelude.{ℕ, zero, suc, ◌+◌, Bool, true, false, List, length, codes, Option}
+use Rattle.std.specs.Prelude.{Some, None, Result, Ok, Err, nat_lt, is_some, ◌||◌, if◌then◌else◌}
 use Rattle.tso_model.specs.Condition.{Claim, TruthClaim, RegClaim, LocClaim, NotClaim, AndClaim, OrClaim, Condition}
 use Rattle.tso_model.specs.declared.condition.Quantifier.{Quantifier}
 use Rattle.tso_model.specs.declared.condition.Quantifier.TheVariants.{Exists, NotExists, Forall}
@@ -12,7 +13,7 @@ use Rattle.litmus_tokens.specs.Front.{symbol_at}
 use Rattle.litmus_reader.specs.declared.fault.Why.TheVariants.{TooLarge, BadCondition}
 use Rattle.litmus_reader.specs.declared.fault.Fault.{Fault}
 use Rattle.litmus_reader.specs.Faults.{◌>>=◌, or_unfit, there}
-use Rattle.litmus_reader.specs.Keywords.{word_behind}
+use Rattle.litmus_reader.specs.Keywords.{word_after}
 use Rattle.litmus_reader.specs.Locations.{located}
 use Rattle.litmus_reader.specs.Items.{setting_at, word_at, core_of}
 use Rattle.litmus_reader.specs.Places.{fault, left_of, part_of}
@@ -52,8 +53,8 @@ one_more left atoms = if nat_lt atoms most_atoms then Ok (atoms + 1) else Err (f
 -- `true` or `false`
 unfoldable pub truth_at : List Piece → Option (Bool × List Piece)
 truth_at ps =
-    there (word_behind (codes "true") ps) (λ rest. Some (true, rest))
-    (there (word_behind (codes "false") ps) (λ rest. Some (false, rest)) None)
+    there (word_after (codes "true") ps) (λ rest. Some (true, rest))
+    (there (word_after (codes "false") ps) (λ rest. Some (false, rest)) None)
 
 -- an atom that is true or false, after so many others
 abbrev pub truth_atom : ℕ → ℕ → List (List ℕ) → Bool × List Piece → Result Claimed Fault
@@ -110,7 +111,7 @@ disjunction unit = chain_of Or either (conjunction unit)
 
 -- what stands after a `~` or a `not`
 unfoldable pub negation_at : List Piece → Option (List Piece)
-negation_at ps = there (symbol_at Tilde ps) (λ rest. Some rest) (word_behind (codes "not") ps)
+negation_at ps = there (symbol_at Tilde ps) (λ rest. Some rest) (word_after (codes "not") ps)
 
 -- whether a negation or a bracket begins here
 unfoldable pub opens_unit : List Piece → Bool
@@ -141,6 +142,10 @@ unfoldable pub unit_at : Stop → ℕ → ℕ → Proposition
 unit_at stop cores zero atoms names ps = if opens_unit ps then Err (fault TooLarge (left_of ps)) else atom_at stop cores atoms names ps
 unit_at stop cores (suc n) atoms names ps = unit_by stop cores (unit_at stop cores n) atoms names ps
 
+-- units joined by `/\`, in which so many negations and brackets may be open at once
+abbrev pub conjunction_at : Stop → ℕ → ℕ → Proposition
+conjunction_at stop cores opens = conjunction (unit_at stop cores opens)
+
 -- a proposition, in which so many negations and brackets may be open at once
 abbrev pub proposition_at : Stop → ℕ → ℕ → Proposition
 proposition_at stop cores opens = disjunction (unit_at stop cores opens)
@@ -166,13 +171,13 @@ quantified stop cores quantifier names ps = do
 -- `exists` after a `~`
 unfoldable pub not_exists : Stop → ℕ → List (List ℕ) → List Piece → Result Conditioned Fault
 not_exists stop cores names ps = do
-  rest ← or_unfit (in_condition stop) ps (word_behind (codes "exists") ps)
+  rest ← or_unfit (in_condition stop) ps (word_after (codes "exists") ps)
   quantified stop cores NotExists names rest
 
 -- the condition, if there is one: `exists`, `forall` or `~exists`, and a proposition
 unfoldable pub condition_at : Stop → ℕ → List (List ℕ) → List Piece → Result Conditioned Fault
 condition_at stop cores names ps =
-    there (word_behind (codes "exists") ps) (quantified stop cores Exists names)
-    (there (word_behind (codes "forall") ps) (quantified stop cores Forall names)
+    there (word_after (codes "exists") ps) (quantified stop cores Exists names)
+    (there (word_after (codes "forall") ps) (quantified stop cores Forall names)
     (there (symbol_at Tilde ps) (not_exists stop cores names)
     (Ok (conditioned None names ps))))

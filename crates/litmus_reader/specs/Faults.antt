@@ -22,16 +22,11 @@ abbrev pub there : {A B : Type 0} → Option A → (A → B) → B → B
 there (Some x) f other = f x
 there None f other = other
 
--- a result, with what was found seen by `view`
-abbrev pub seen : {X Y : Type 0} → (X → Y) → Result X Fault → Result Y Fault
-seen view (Ok x) = Ok (view x)
-seen view (Err e) = Err e
-
 abbrev pub Fails : {Y : Type 0} → ReadError → Result Y Fault → Type 0
 Fails errors.NoMemory read = Unit {0}
 Fails (errors.Fault f) read = read ≡ Err f
 
--- What a function returned, seen by `view`, is what the reading gives, unless memory ran out.
+-- `view` of what a function returned is what the reading gives, unless memory ran out.
 abbrev pub Gives : {X Y : Type 0} → (X → Y) → Result X ReadError → Result Y Fault → Type 0
 Gives view (Ok x) read = read ≡ Ok (view x)
 Gives view (Err e) read = Fails e read

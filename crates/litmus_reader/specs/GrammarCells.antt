@@ -27,17 +27,17 @@ pub data IsMnemonic (word : List ℕ) : Term → Type 0 where
   spelled : (letters : List ℕ) → IsTrue (same_letters letters word) → IsMnemonic word (name letters)
 
 -- two operands with a comma between them
-abbrev pub parted : List Term → List Term → List Term
-parted first second = first ++ symbol Comma ∷ second
+abbrev pub separated : List Term → List Term → List Term
+separated first second = first ++ symbol Comma ∷ second
 
 -- `XCHG` with a location and a register, in either order
 pub data IsExchange : List Term → Shape → Type 0 where
   -- `XCHG [x],REG`
   memory_first : (m : Term) (a b : List Term) (x : List ℕ) (r : Reg) → IsMnemonic (codes "XCHG") m
-      → IsMemory a x → IsRegister b r → IsExchange (m ∷ parted a b) (xchg x r)
+      → IsMemory a x → IsRegister b r → IsExchange (m ∷ separated a b) (xchg x r)
   -- `XCHG REG,[x]`
   register_first : (m : Term) (a b : List Term) (r : Reg) (x : List ℕ) → IsMnemonic (codes "XCHG") m
-      → IsRegister a r → IsMemory b x → IsExchange (m ∷ parted a b) (xchg x r)
+      → IsRegister a r → IsMemory b x → IsExchange (m ∷ separated a b) (xchg x r)
 
 -- the two operands of `MOV`, and the instruction that they spell
 pub data IsMove (a b : List Term) : Shape → Type 0 where
@@ -58,7 +58,7 @@ pub data IsMove (a b : List Term) : Shape → Type 0 where
 pub data IsCell : List Term → Shape → Type 0 where
   -- `MOV`
   moves : (m : Term) (a b : List Term) (shape : Shape) → IsMnemonic (codes "MOV") m
-      → IsMove a b shape → IsCell (m ∷ parted a b) shape
+      → IsMove a b shape → IsCell (m ∷ separated a b) shape
   -- `MFENCE`
   fences : (m : Term) → IsMnemonic (codes "MFENCE") m → IsCell (m ∷ []) fence
   -- `XCHG`, also without `LOCK` before it
@@ -68,4 +68,4 @@ pub data IsCell : List Term → Shape → Type 0 where
   -- `LOCK XADD [x],REG`
   locks_add : (l m : Term) (a b : List Term) (x : List ℕ) (r : Reg) → IsMnemonic (codes "LOCK") l
       → IsMnemonic (codes "XADD") m → IsMemory a x → IsRegister b r
-      → IsCell (l ∷ m ∷ parted a b) (xadd x r)
+      → IsCell (l ∷ m ∷ separated a b) (xadd x r)

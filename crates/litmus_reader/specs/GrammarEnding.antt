@@ -26,7 +26,7 @@ pub data IsEnding (text : List ℕ) (stop : Stop) : List Piece → Option Asked 
   at_once : (ps : List Piece) (c : Option Asked) → stop ≡ End → MayAsk (terms ps) c
       → IsEnding text stop ps c
   -- after `locations [..]`; any bytes may stand in the brackets, and after them tokens begin anew
-  behind_locations : (w o : Piece) (ps : List Piece) (bytes : List ℕ) (c : Option Asked)
+  after_locations : (w o : Piece) (ps : List Piece) (bytes : List ℕ) (c : Option Asked)
       → w.term ≡ name (codes "locations") → o.term ≡ symbol OpenSquare
       → ClosesBrackets (from_place text o.left) bytes → (pieces_of bytes).1 ≡ End
       → MayAsk (terms (pieces_of bytes).0) c → IsEnding text stop (w ∷ o ∷ ps) c

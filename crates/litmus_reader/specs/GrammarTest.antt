@@ -32,10 +32,10 @@ pub record IsBody (braces : List ℕ) (w : Written) : Type 0 where
 -- a text is a header line, information lines and a body
 pub record IsText (text : List ℕ) (w : Written) : Type 0 where
   pub small : length text ≤ longest_text
-  pub behind : List ℕ
+  pub after : List ℕ
   pub braces : List ℕ
-  pub header : IsHeaderLine text w.name behind
-  pub information : AreInformationLines behind braces
+  pub header : IsHeaderLine text w.name after
+  pub information : AreInformationLines after braces
   pub body : IsBody braces w
 
 -- ---- the test

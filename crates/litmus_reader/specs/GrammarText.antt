@@ -1,14 +1,16 @@
 -- Which bytes spell a header line, information lines, and the brackets of `locations [..]`. White space and comments,
 -- and that they end, are the lexical layer's. (This project's profile.)
-use Rattle.std.specs.Prelude.{◌≡◌, ℕ, Bool, List, [], ◌∷◌, ◌++◌, codes, None, Ok, IsTrue, IsFalse, ◌==◌, not, ◌-◌, false, length, take, drop, nat_eq, Option, Some, ◌&&◌, ◌||◌, if◌then◌else◌}
+use Rattle.std.specs.Prelude.{◌≡◌, ℕ, Bool, List, [], ◌∷◌, ◌++◌, codes, None, Ok, IsTrue, IsFalse}
+use Rattle.std.specs.Prelude.{◌==◌, not, ◌-◌, false, length, take, drop, nat_eq, Option, Some, ◌&&◌}
+use Rattle.std.specs.Prelude.{◌||◌, if◌then◌else◌}
 use Rattle.std.specs.List.{list_all, prefix_len, suffix_len, starts_with, before_first, after_first}
 use Rattle.std.specs.Char.{is_ascii_alphabetic, is_ascii_alphanumeric}
 use Rattle.tso_model.specs.Names.{is_test_name}
 use Rattle.litmus_tokens.specs.Gap.{gap_end}
 
 -- after white space and comments stand these bytes
-abbrev pub IsBehindGap : List ℕ → List ℕ → Type 0
-IsBehindGap bytes at = gap_end None bytes ≡ Ok at
+abbrev pub IsAfterGap : List ℕ → List ℕ → Type 0
+IsAfterGap bytes at = gap_end None bytes ≡ Ok at
 
 -- ---- the header line
 
@@ -24,11 +26,11 @@ is_blank b = (b == 32) || (b == 9)
 abbrev pub is_margin : ℕ → Bool
 is_margin b = is_blank b || (b == 13)
 
-abbrev pub without_margin_behind : List ℕ → List ℕ
-without_margin_behind bytes = take (length bytes - suffix_len is_margin bytes) bytes
+abbrev pub without_last_margin : List ℕ → List ℕ
+without_last_margin bytes = take (length bytes - suffix_len is_margin bytes) bytes
 
 unfoldable pub trimmed : List ℕ → List ℕ
-trimmed bytes = without_margin_behind (drop (prefix_len is_margin bytes) bytes)
+trimmed bytes = without_last_margin (drop (prefix_len is_margin bytes) bytes)
 
 abbrev pub begins_blank : List ℕ → Bool
 begins_blank [] = false
@@ -39,12 +41,12 @@ unfoldable pub name_in : List ℕ → Option (List ℕ)
 name_in line = if starts_with nat_eq line (codes "X86") && begins_blank (drop 3 line) then Some (trimmed (drop 3 line)) else None
 
 -- a text that begins with a header line of this name, and what stands after that line
-pub record IsHeaderLine (text name behind : List ℕ) : Type 0 where
+pub record IsHeaderLine (text name after : List ℕ) : Type 0 where
   pub at : List ℕ
-  pub gap : IsBehindGap text at
+  pub gap : IsAfterGap text at
   pub names : name_in (first_line at).0 ≡ Some name
   pub good : IsTrue (is_test_name name)
-  pub rest : behind ≡ (first_line at).1
+  pub rest : after ≡ (first_line at).1
 
 -- ---- information lines
 
@@ -59,22 +61,22 @@ is_quoted b = not (b == 34)
 -- bytes that begin with a quotation or a key line, and what stands after it
 pub data IsInformation : List ℕ → List ℕ → Type 0 where
   -- `"..."`
-  quotation : (inside behind : List ℕ) → IsTrue (list_all is_quoted inside)
-      → IsInformation (34 ∷ inside ++ 34 ∷ behind) behind
+  quotation : (inside after : List ℕ) → IsTrue (list_all is_quoted inside)
+      → IsInformation (34 ∷ inside ++ 34 ∷ after) after
   -- a letter, then letters, digits, `_`, `-`, spaces and tabs, then `=` and anything to the line's end
   key_line : (b : ℕ) (key bs : List ℕ) → IsTrue (is_ascii_alphabetic b)
       → IsTrue (list_all continues_key key) → IsInformation (b ∷ key ++ 61 ∷ bs) (first_line bs).1
 
 -- bytes that begin with any number of these, and what stands from the `{` after them on
 pub data AreInformationLines : List ℕ → List ℕ → Type 0 where
-  none : (bytes bs : List ℕ) → IsBehindGap bytes (123 ∷ bs) → AreInformationLines bytes (123 ∷ bs)
-  more : (bytes at behind braces : List ℕ) → IsBehindGap bytes at → IsInformation at behind
-      → AreInformationLines behind braces → AreInformationLines bytes braces
+  none : (bytes bs : List ℕ) → IsAfterGap bytes (123 ∷ bs) → AreInformationLines bytes (123 ∷ bs)
+  more : (bytes at after braces : List ℕ) → IsAfterGap bytes at → IsInformation at after
+      → AreInformationLines after braces → AreInformationLines bytes braces
 
 -- ---- `locations [..]`
 
 -- bytes with a `]` outside comments, and what stands after the first
 pub data ClosesBrackets : List ℕ → List ℕ → Type 0 where
-  here : (bytes rest : List ℕ) → IsBehindGap bytes (93 ∷ rest) → ClosesBrackets bytes rest
-  further : (bytes : List ℕ) (b : ℕ) (bs rest : List ℕ) → IsBehindGap bytes (b ∷ bs)
+  here : (bytes rest : List ℕ) → IsAfterGap bytes (93 ∷ rest) → ClosesBrackets bytes rest
+  further : (bytes : List ℕ) (b : ℕ) (bs rest : List ℕ) → IsAfterGap bytes (b ∷ bs)
       → IsFalse (b == 93) → ClosesBrackets bs rest → ClosesBrackets bytes rest

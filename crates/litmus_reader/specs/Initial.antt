@@ -1,5 +1,7 @@
 -- The initial state. (This project's profile.)
-use Rattle.std.specs.Prelude.{ℕ, ◌≡◌, map, ◌-◌, zero, suc, Bool, List, [], ◌∷◌, ◌++◌, length, replicate, Result, Ok, Err, nat_lt, slice_index_or, slice_set, ◌==◌, ◌&&◌, if◌then◌else◌, false, ◌||◌}
+use Rattle.std.specs.Prelude.{ℕ, ◌≡◌, map, ◌-◌, zero, suc, Bool, List, [], ◌∷◌, ◌++◌, length}
+use Rattle.std.specs.Prelude.{replicate, Result, Ok, Err, nat_lt, slice_index_or, slice_set, ◌==◌}
+use Rattle.std.specs.Prelude.{◌&&◌, if◌then◌else◌, false, ◌||◌}
 use Rattle.std.specs.List.{list_any}
 use Rattle.std.specs.Str.{bytes_eq}
 use denote.Ref.{Bor}

@@ -9,5 +9,5 @@ abbrev pub if_word : List ℕ → List ℕ × List Piece → Option (List Piece)
 if_word word found = if bytes_eq found.0 word then Some found.1 else None
 
 -- what stands after this word, if it is at the front
-unfoldable pub word_behind : List ℕ → List Piece → Option (List Piece)
-word_behind word ps = there (name_at ps) (if_word word) None
+unfoldable pub word_after : List ℕ → List Piece → Option (List Piece)
+word_after word ps = there (name_at ps) (if_word word) None

@@ -14,7 +14,9 @@ pub mod Operands
 pub mod Forms
 pub mod Cells
 pub mod Rows
+pub mod Returned
 pub mod Observed
+pub mod Remaining
 pub mod Conditions
 pub mod Reading
 pub mod Grammar

@@ -53,9 +53,9 @@ if_last first (second, p ∷ ps) = None
 abbrev pub second_of : Place → List Piece → Option (Place × Place)
 second_of first ps = there (operand_at ps) (if_last first) None
 
-abbrev pub behind_first : Place × List Piece → Option (Place × Place)
-behind_first found = there (symbol_at Comma found.1) (second_of found.0) None
+abbrev pub after_operand : Place × List Piece → Option (Place × Place)
+after_operand found = there (symbol_at Comma found.1) (second_of found.0) None
 
 -- two operands with a comma between them, and nothing more
 unfoldable pub two_operands : List Piece → Option (Place × Place)
-two_operands ps = there (operand_at ps) behind_first None
+two_operands ps = there (operand_at ps) after_operand None

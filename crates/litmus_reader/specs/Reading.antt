@@ -16,7 +16,7 @@ use Rattle.litmus_reader.specs.Header.{sized, header_at}
 use Rattle.litmus_reader.specs.Information.{braces_at}
 use Rattle.litmus_reader.specs.Initial.{words_of, initial_at}
 use Rattle.litmus_reader.specs.Rows.{table_at}
-use Rattle.litmus_reader.specs.Observed.{observed_end}
+use Rattle.litmus_reader.specs.Observed.{ending_tokens}
 use Rattle.litmus_reader.specs.Conditions.{condition_at}
 use Rattle.litmus_reader.specs.Places.{fault}
 
@@ -54,16 +54,11 @@ ending_at stop cores names ps = do
   end ← end_at stop c.rest
   Ok (c.condition, c.names)
 
--- the condition and the end, after `locations [..]` if bytes after it are given
-abbrev pub ending_from : Stop → ℕ → List (List ℕ) → List Piece → Option (List ℕ) → Result (Option Condition × List (List ℕ)) Fault
-ending_from stop cores names ps None = ending_at stop cores names ps
-ending_from stop cores names ps (Some bytes) = ending_at (pieces_of bytes).1 cores names (pieces_of bytes).0
-
 -- what stands after the rows
 unfoldable pub tail_at : List ℕ → Stop → ℕ → List (List ℕ) → List Piece → Result (Option Condition × List (List ℕ)) Fault
 tail_at text stop cores names ps = do
-  behind ← observed_end text stop ps
-  ending_from stop cores names ps behind
+  rest ← ending_tokens text stop ps
+  ending_at rest.1 cores names rest.0
 
 -- the initial state, the table and what stands after it; the tokens are those of this end of the text
 unfoldable pub body_of : List ℕ → List ℕ → Stop → List Piece → Result Litmus Fault

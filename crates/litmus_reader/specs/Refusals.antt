@@ -40,6 +40,6 @@ pub data IsFault (text : List ℕ) : Fault → Type 0 where
   in_header : (f : Fault) → length text ≤ longest_text → IsHeaderFault text f → IsFault text f
   in_information : (x bs cs : List ℕ) (f : Fault) → length text ≤ longest_text
       → IsHeaderLine text x bs → PassesInformation bs cs → IsLineFault cs f → IsFault text f
-  in_body : (name behind braces : List ℕ) (f : Fault) → length text ≤ longest_text
-      → IsHeaderLine text name behind → AreInformationLines behind braces
+  in_body : (name after braces : List ℕ) (f : Fault) → length text ≤ longest_text
+      → IsHeaderLine text name after → AreInformationLines after braces
       → IsBodyFault braces (pieces_of braces).1 (pieces_of braces).0 f → IsFault text f

@@ -7,7 +7,7 @@ use Rattle.litmus_tokens.specs.declared.token.Stop.TheVariants as stops
 use Rattle.litmus_tokens.specs.Gap.{gap_end}
 use Rattle.litmus_reader.specs.declared.fault.Why.TheVariants.{NoHeader, Unclosed, BadToken, TooLarge}
 use Rattle.litmus_reader.specs.declared.fault.Fault.{Fault}
-use Rattle.litmus_reader.specs.GrammarText.{IsBehindGap, first_line, name_in, is_quoted, IsInformation}
+use Rattle.litmus_reader.specs.GrammarText.{IsAfterGap, first_line, name_in, is_quoted, IsInformation}
 use Rattle.litmus_reader.specs.Places.{fault}
 
 -- after white space and comments a comment begins at this place that doesn't end
@@ -23,10 +23,10 @@ is_long name = nat_lt longest_test_name (length name) && list_all is_printable n
 pub data IsHeaderFault (text : List ℕ) : Fault → Type 0 where
   unclosed_comment : (left : ℕ) → IsUnclosed text left → IsHeaderFault text (fault Unclosed left)
   -- at the first byte that isn't white space
-  long_name : (at x : List ℕ) → IsBehindGap text at → name_in (first_line at).0 ≡ Some x
+  long_name : (at x : List ℕ) → IsAfterGap text at → name_in (first_line at).0 ≡ Some x
       → IsTrue (is_long x) → IsHeaderFault text (fault TooLarge (length at))
   -- else there is no name, or none that a test may have
-  no_name : (at : List ℕ) → IsBehindGap text at
+  no_name : (at : List ℕ) → IsAfterGap text at
       → ((x : List ℕ) → name_in (first_line at).0 ≡ Some x → IsFalse (is_test_name x || is_long x))
       → IsHeaderFault text (fault NoHeader (length at))
 
@@ -35,18 +35,18 @@ pub data IsHeaderFault (text : List ℕ) : Fault → Type 0 where
 -- bytes that begin with any number of information lines, and what stands after these
 pub data PassesInformation : List ℕ → List ℕ → Type 0 where
   none : (bytes : List ℕ) → PassesInformation bytes bytes
-  more : (bytes at behind rest : List ℕ) → IsBehindGap bytes at → IsInformation at behind
-      → PassesInformation behind rest → PassesInformation bytes rest
+  more : (bytes at after rest : List ℕ) → IsAfterGap bytes at → IsInformation at after
+      → PassesInformation after rest → PassesInformation bytes rest
 
 -- where the next information line, or the `{`, has to stand
 pub data IsLineFault (bytes : List ℕ) : Fault → Type 0 where
   unclosed_comment : (left : ℕ) → IsUnclosed bytes left → IsLineFault bytes (fault Unclosed left)
-  text_ends : IsBehindGap bytes [] → IsLineFault bytes (fault Unclosed 0)
-  unclosed_quotation : (bs : List ℕ) → IsBehindGap bytes (34 ∷ bs) → IsTrue (list_all is_quoted bs)
+  text_ends : IsAfterGap bytes [] → IsLineFault bytes (fault Unclosed 0)
+  unclosed_quotation : (bs : List ℕ) → IsAfterGap bytes (34 ∷ bs) → IsTrue (list_all is_quoted bs)
       → IsLineFault bytes (fault Unclosed (length (34 ∷ bs)))
   -- neither `{` nor a quotation nor a key line
-  no_line : (b : ℕ) (bs : List ℕ) → IsBehindGap bytes (b ∷ bs) → IsFalse (b == 123)
-      → IsFalse (b == 34) → ((behind : List ℕ) → ¬ (IsInformation (b ∷ bs) behind))
+  no_line : (b : ℕ) (bs : List ℕ) → IsAfterGap bytes (b ∷ bs) → IsFalse (b == 123)
+      → IsFalse (b == 34) → ((after : List ℕ) → ¬ (IsInformation (b ∷ bs) after))
       → IsLineFault bytes (fault BadToken (length (b ∷ bs)))
 
 -- ---- `locations [..]`
@@ -55,6 +55,6 @@ pub data IsLineFault (bytes : List ℕ) : Fault → Type 0 where
 pub data IsBracketsFault (opener : ℕ) : List ℕ → Fault → Type 0 where
   unclosed_comment : (bytes : List ℕ) (left : ℕ) → IsUnclosed bytes left
       → IsBracketsFault opener bytes (fault Unclosed left)
-  text_ends : (bs : List ℕ) → IsBehindGap bs [] → IsBracketsFault opener bs (fault Unclosed opener)
-  further : (bytes : List ℕ) (b : ℕ) (bs : List ℕ) (f : Fault) → IsBehindGap bytes (b ∷ bs)
+  text_ends : (bs : List ℕ) → IsAfterGap bs [] → IsBracketsFault opener bs (fault Unclosed opener)
+  further : (bytes : List ℕ) (b : ℕ) (bs : List ℕ) (f : Fault) → IsAfterGap bytes (b ∷ bs)
       → IsFalse (b == 93) → IsBracketsFault opener bs f → IsBracketsFault opener bytes f

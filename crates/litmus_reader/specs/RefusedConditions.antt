@@ -12,7 +12,9 @@ use Rattle.litmus_reader.specs.declared.fault.Fault.{Fault}
 use Rattle.litmus_reader.specs.Grammar.{terms}
 use Rattle.litmus_reader.specs.GrammarNames.{numbered, Names}
 use Rattle.litmus_reader.specs.GrammarInitial.{value_of, has_core}
-use Rattle.litmus_reader.specs.GrammarConditions.{IsAtom, IsProposition, IsUnit, locations_in, atoms_of, Fits, IsWithin, IsQuantifier, IsCondition, is_negation}
+use Rattle.litmus_reader.specs.GrammarConditions.{IsAtom, IsProposition, IsUnit, locations_in}
+use Rattle.litmus_reader.specs.GrammarConditions.{atoms_of, Fits, IsWithin, IsQuantifier}
+use Rattle.litmus_reader.specs.GrammarConditions.{IsCondition, is_negation}
 use Rattle.litmus_reader.specs.Misfits.{Misfits, begins_with, is_word}
 use Rattle.litmus_reader.specs.Places.{fault, left_of, unfit, part_of}
 use Rattle.litmus_reader.specs.Written.{Setting, Phrase, atom}

@@ -1,20 +1,20 @@
 -- The names of refusals, as they are printed. (This project's profile.)
 use Rattle.std.specs.Prelude.{ℕ, List, codes}
 use Rattle.litmus_reader.specs.declared.fault.Why.{Why}
-use Rattle.litmus_reader.specs.declared.fault.Why.TheVariants.{NoHeader, Unclosed, BadToken, BadInit, BadHeaderRow, WrongCells, BadInstruction, BadNumber, TwiceInit, NoSuchCore, TooLarge, BadCondition, Trailing, NoMemory}
+use Rattle.litmus_reader.specs.declared.fault.Why.TheVariants as whys
 
 abbrev pub name_of : Why → List ℕ
-name_of NoHeader = codes "NoHeader"
-name_of Unclosed = codes "Unclosed"
-name_of BadToken = codes "BadToken"
-name_of BadInit = codes "BadInit"
-name_of BadHeaderRow = codes "BadHeaderRow"
-name_of WrongCells = codes "WrongCells"
-name_of BadInstruction = codes "BadInstruction"
-name_of BadNumber = codes "BadNumber"
-name_of TwiceInit = codes "TwiceInit"
-name_of NoSuchCore = codes "NoSuchCore"
-name_of TooLarge = codes "TooLarge"
-name_of BadCondition = codes "BadCondition"
-name_of Trailing = codes "Trailing"
-name_of NoMemory = codes "NoMemory"
+name_of whys.NoHeader = codes "NoHeader"
+name_of whys.Unclosed = codes "Unclosed"
+name_of whys.BadToken = codes "BadToken"
+name_of whys.BadInit = codes "BadInit"
+name_of whys.BadHeaderRow = codes "BadHeaderRow"
+name_of whys.WrongCells = codes "WrongCells"
+name_of whys.BadInstruction = codes "BadInstruction"
+name_of whys.BadNumber = codes "BadNumber"
+name_of whys.TwiceInit = codes "TwiceInit"
+name_of whys.NoSuchCore = codes "NoSuchCore"
+name_of whys.TooLarge = codes "TooLarge"
+name_of whys.BadCondition = codes "BadCondition"
+name_of whys.Trailing = codes "Trailing"
+name_of whys.NoMemory = codes "NoMemory"

@@ -3,11 +3,11 @@
 ghost use Rattle.std.specs.Prelude.{◌≡◌, ◌<◌, ◌∷◌, length, position, IfSome};
 ghost use Rattle.litmus_tokens.specs.Pieces.{piece_of, pieces};
 ghost use Rattle.litmus_tokens.specs.Front as front;
-ghost use Rattle.litmus_reader.specs.Faults.{Gives};
+ghost use Rattle.litmus_reader.specs.Returned.{GivesNamed, GivesCells};
 ghost use Rattle.litmus_reader.specs.Locations.{texts};
 ghost use Rattle.litmus_reader.specs.Forms.{shape_of};
 ghost use Rattle.litmus_reader.specs.Cells as spec;
-ghost use Rattle.litmus_reader.specs.Cells.{cells_behind};
+ghost use Rattle.litmus_reader.specs.Cells.{cells_after};
 ghost use Rattle.litmus_reader.specs.RefusedTable.{cells_of};
 
 use crate::fault::{Fault, ReadError, Why};
@@ -35,7 +35,7 @@ fn instr_of<'a>(
     left: usize,
     form: Form<'a>,
 ) -> Result<Instr, ReadError>
-    ensures { Gives (λ i. (i, texts names.new.keys)) result (spec.instr_of left (texts names.old.keys) (shape_of form.entry)) }
+    ensures { GivesNamed (λ i. i) result names.new.keys (spec.instr_of left (texts names.old.keys) (shape_of form.entry)) }
 {
     match form {
         Form::StoreImm(name, digits) => {
@@ -84,7 +84,7 @@ pub fn read_cell<'a>(
     names: &mut IndexSet<&'a [u8]>,
     cell: &[Token<'a>],
 ) -> Result<(), ReadError>
-    ensures { Gives (λ _. (instrs.new.items, texts names.new.keys)) result (spec.cell_in core instrs.old.items (texts names.old.keys) (pieces cell.now)) }
+    ensures { GivesCells (spec.cell_in core) instrs.old.items names.old.keys cell.now result instrs.new.items names.new.keys }
 {
     let Some(first) = cell.first() else {
         return Ok(());
@@ -116,8 +116,8 @@ pub fn place_of(symbol: Symbol, tokens: &[Token<'_>]) -> Option<usize>
 
 /// The first cell of a row, and what stands after its bar, if it has one.
 fn first_cell<'a, 'b>(row: &'b [Token<'a>]) -> (&'b [Token<'a>], Option<&'b [Token<'a>]>)
-    ensures cells { cells_of (pieces row.now) ≡ pieces result.0.now ∷ cells_behind result.1 }
-    ensures shorter { IfSome result.1 (λ behind. length behind.now < length row.now) }
+    ensures cells { cells_of (pieces row.now) ≡ pieces result.0.now ∷ cells_after result.1 }
+    ensures shorter { IfSome result.1 (λ after. length after.now < length row.now) }
 {
     match place_of(Symbol::Bar, row) {
         Some(bar) => (&row[..bar], Some(&row[bar + 1..])),
@@ -131,15 +131,15 @@ pub fn read_cells<'a>(
     names: &mut IndexSet<&'a [u8]>,
     row: &[Token<'a>],
 ) -> Result<(), ReadError>
-    ensures { Gives (λ _. (instrs.new.items, texts names.new.keys)) result (spec.cells_in 0 instrs.old.items (texts names.old.keys) (cells_of (pieces row.now))) }
+    ensures { GivesCells spec.row_cells instrs.old.items names.old.keys row.now result instrs.new.items names.new.keys }
 {
     let mut core = 0;
     let mut left = Some(row);
     'cells: while let Some(cells) = left {
-        let (cell, behind) = first_cell(cells);
+        let (cell, after) = first_cell(cells);
         read_cell(core, instrs, names, cell)?;
         core += 1;
-        left = behind;
+        left = after;
     }
     Ok(())
 }

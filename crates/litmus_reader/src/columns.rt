@@ -4,7 +4,7 @@ ghost use Rattle.std.specs.Prelude.{◌≡◌, ◌≤◌, ◌-◌, IfOk};
 ghost use Rattle.std.specs.Option.{option_map};
 ghost use Rattle.tso_model.specs.Limits.{most_cores};
 ghost use Rattle.litmus_tokens.specs.Pieces.{pieces};
-ghost use Rattle.litmus_reader.specs.Faults.{seen};
+ghost use Rattle.litmus_tokens.specs.Mapped.{mapped};
 ghost use Rattle.litmus_reader.specs.Columns as spec;
 
 use crate::fault::{Fault, Part, Why, at_stop, left_of};
@@ -39,9 +39,9 @@ fn after_core<'a, 'b>(core: usize, tokens: &'b [Token<'a>]) -> Option<&'b [Token
 }
 
 /// Whether another core follows, and what stands after the vertical bar or the `;`.
-#[tactic(auto, unfolding(crate::specs::Columns::parting_at))]
-fn after_parting<'a, 'b>(tokens: &'b [Token<'a>]) -> Option<(bool, &'b [Token<'a>])>
-    ensures { option_map (λ x. (x.0, pieces x.1.now)) result ≡ spec.parting_at (pieces tokens.now) }
+#[tactic(auto, unfolding(crate::specs::Columns::separator_at))]
+fn after_separator<'a, 'b>(tokens: &'b [Token<'a>]) -> Option<(bool, &'b [Token<'a>])>
+    ensures { option_map (λ x. (x.0, pieces x.1.now)) result ≡ spec.separator_at (pieces tokens.now) }
 {
     if let Some(rest) = after_symbol(Symbol::Bar, tokens) {
         return Some((true, rest));
@@ -60,7 +60,7 @@ fn columns_from<'a, 'b>(
     tokens: &'b [Token<'a>],
 ) -> Result<(usize, &'b [Token<'a>]), Fault>
     requires { core ≤ most_cores }
-    ensures value { seen (λ x. (x.0, pieces x.1.now)) result ≡ spec.columns stop (most_cores - core) core (pieces tokens.now) }
+    ensures value { mapped (λ x. (x.0, pieces x.1.now)) result ≡ spec.columns stop (most_cores - core) core (pieces tokens.now) }
     ensures cores { IfOk result (λ x. x.0 ≤ most_cores) }
 {
     let part = in_columns(stop);
@@ -71,7 +71,7 @@ fn columns_from<'a, 'b>(
             left: left_of(tokens),
         });
     }
-    let (more, rest) = part.expect(rest, after_parting(rest))?;
+    let (more, rest) = part.expect(rest, after_separator(rest))?;
     if more {
         columns_from(stop, core + 1, rest)
     } else {
@@ -86,7 +86,7 @@ pub fn columns_at<'a, 'b>(
     stop: Stop,
     tokens: &'b [Token<'a>],
 ) -> Result<(usize, &'b [Token<'a>]), Fault>
-    ensures value { seen (λ x. (x.0, pieces x.1.now)) result ≡ spec.columns_at stop (pieces tokens.now) }
+    ensures value { mapped (λ x. (x.0, pieces x.1.now)) result ≡ spec.columns_at stop (pieces tokens.now) }
     ensures cores { IfOk result (λ x. x.0 ≤ most_cores) }
 {
     columns_from(stop, 0, tokens)

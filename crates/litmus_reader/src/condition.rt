@@ -5,11 +5,12 @@ ghost use Rattle.std.specs.Option.{option_map};
 ghost use Rattle.tso_model.specs.Limits.{most_cores};
 ghost use Rattle.tso_model.specs.Condition.{claim_of, condition_of, NotClaim};
 ghost use Rattle.litmus_tokens.specs.Pieces.{pieces};
-ghost use Rattle.litmus_reader.specs.Faults.{seen, Gives};
+ghost use Rattle.litmus_reader.specs.Faults.{Gives};
+ghost use Rattle.litmus_tokens.specs.Mapped.{mapped};
 ghost use Rattle.litmus_reader.specs.Locations.{texts};
 ghost use Rattle.litmus_reader.specs.Items.{setting_of};
 ghost use Rattle.litmus_reader.specs.Conditions as spec;
-ghost use Rattle.litmus_reader.specs.Conditions.{claimed, conditioned};
+ghost use Rattle.litmus_reader.specs.Returned.{GivesNamed, GivesClaim, GivesCondition};
 
 use crate::fault::{Fault, Part, ReadError, Why, at_stop, left_of};
 use crate::item::{Item, core_of, item_at, word_at};
@@ -46,7 +47,7 @@ fn prop_of<'a>(
     item: Item<'a>,
 ) -> Result<Prop, ReadError>
     requires { cores ≤ most_cores }
-    ensures { Gives (λ p. (claim_of p, texts names.new.keys)) result (spec.claim_in cores left (texts names.old.keys) (setting_of item.entry)) }
+    ensures { GivesNamed (λ p. claim_of p) result names.new.keys (spec.claim_in cores left (texts names.old.keys) (setting_of item.entry)) }
 {
     match item {
         Item::Register(digits, reg, value) => {
@@ -64,7 +65,7 @@ fn prop_of<'a>(
 
 /// Counts one atom more; `TooLarge` at `left` for one too many.
 fn count_atom(left: usize, atoms: &mut usize) -> Result<(), Fault>
-    ensures { seen (λ _. atoms.new) result ≡ spec.one_more left atoms.old }
+    ensures { mapped (λ _. atoms.new) result ≡ spec.one_more left atoms.old }
 {
     if *atoms >= MAX_ATOMS {
         return Err(Fault {
@@ -99,7 +100,7 @@ fn setting_atom<'a, 'b>(
     tokens: &'b [Token<'a>],
 ) -> Result<(Prop, &'b [Token<'a>]), ReadError>
     requires { cores ≤ most_cores }
-    ensures value { Gives (λ x. claimed (claim_of x.0) atoms.new (texts names.new.keys) (pieces x.1.now)) result (spec.setting_atom stop cores atoms.old (texts names.old.keys) (pieces tokens.now)) }
+    ensures value { GivesClaim (spec.setting_atom stop cores) atoms.old names.old.keys tokens.now result atoms.new names.new.keys }
     ensures shorter { IfOk result (λ x. length x.1.now < length tokens.now) }
 {
     let left = left_of(tokens);
@@ -122,7 +123,7 @@ fn atom_at<'a, 'b>(
     tokens: &'b [Token<'a>],
 ) -> Result<(Prop, &'b [Token<'a>]), ReadError>
     requires { cores ≤ most_cores }
-    ensures value { Gives (λ x. claimed (claim_of x.0) atoms.new (texts names.new.keys) (pieces x.1.now)) result (spec.atom_at stop cores atoms.old (texts names.old.keys) (pieces tokens.now)) }
+    ensures value { GivesClaim (spec.atom_at stop cores) atoms.old names.old.keys tokens.now result atoms.new names.new.keys }
     ensures shorter { IfOk result (λ x. length x.1.now < length tokens.now) }
 {
     if let Some((truth, rest)) = truth_at(tokens) {
@@ -189,7 +190,7 @@ fn unit_at<'a, 'b>(
     tokens: &'b [Token<'a>],
 ) -> Result<(Prop, &'b [Token<'a>]), ReadError>
     requires { cores ≤ most_cores }
-    ensures value { Gives (λ x. claimed (claim_of x.0) atoms.new (texts names.new.keys) (pieces x.1.now)) result (spec.unit_at stop cores opens atoms.old (texts names.old.keys) (pieces tokens.now)) }
+    ensures value { GivesClaim (spec.unit_at stop cores opens) atoms.old names.old.keys tokens.now result atoms.new names.new.keys }
     ensures shorter { IfOk result (λ x. length x.1.now < length tokens.now) }
 {
     if opens == 0 {
@@ -225,12 +226,12 @@ fn conjunction_at<'a, 'b>(
     tokens: &'b [Token<'a>],
 ) -> Result<(Prop, &'b [Token<'a>]), ReadError>
     requires { cores ≤ most_cores }
-    ensures value { Gives (λ x. claimed (claim_of x.0) atoms.new (texts names.new.keys) (pieces x.1.now)) result (spec.conjunction (spec.unit_at stop cores opens) atoms.old (texts names.old.keys) (pieces tokens.now)) }
+    ensures value { GivesClaim (spec.conjunction_at stop cores opens) atoms.old names.old.keys tokens.now result atoms.new names.new.keys }
     ensures shorter { IfOk result (λ x. length x.1.now < length tokens.now) }
 {
     let (mut prop, mut rest) = unit_at(alloc, stop, cores, opens, atoms, names, tokens)?;
-    while let Some(behind) = after_symbol(Symbol::And, rest) {
-        let (unit, after) = unit_at(alloc, stop, cores, opens, atoms, names, behind)?;
+    while let Some(next) = after_symbol(Symbol::And, rest) {
+        let (unit, after) = unit_at(alloc, stop, cores, opens, atoms, names, next)?;
         prop = and(alloc, prop, unit)?;
         rest = after;
     }
@@ -249,12 +250,12 @@ fn proposition_at<'a, 'b>(
     tokens: &'b [Token<'a>],
 ) -> Result<(Prop, &'b [Token<'a>]), ReadError>
     requires { cores ≤ most_cores }
-    ensures value { Gives (λ x. claimed (claim_of x.0) atoms.new (texts names.new.keys) (pieces x.1.now)) result (spec.proposition_at stop cores opens atoms.old (texts names.old.keys) (pieces tokens.now)) }
+    ensures value { GivesClaim (spec.proposition_at stop cores opens) atoms.old names.old.keys tokens.now result atoms.new names.new.keys }
     ensures shorter { IfOk result (λ x. length x.1.now < length tokens.now) }
 {
     let (mut prop, mut rest) = conjunction_at(alloc, stop, cores, opens, atoms, names, tokens)?;
-    while let Some(behind) = after_symbol(Symbol::Or, rest) {
-        let (conjunction, after) = conjunction_at(alloc, stop, cores, opens, atoms, names, behind)?;
+    while let Some(next) = after_symbol(Symbol::Or, rest) {
+        let (conjunction, after) = conjunction_at(alloc, stop, cores, opens, atoms, names, next)?;
         prop = or(alloc, prop, conjunction)?;
         rest = after;
     }
@@ -272,7 +273,7 @@ fn quantified<'a, 'b>(
     tokens: &'b [Token<'a>],
 ) -> Result<(Option<Cond>, &'b [Token<'a>]), ReadError>
     requires { cores ≤ most_cores }
-    ensures { Gives (λ x. conditioned (option_map condition_of x.0) (texts names.new.keys) (pieces x.1.now)) result (spec.quantified stop cores quantifier (texts names.old.keys) (pieces tokens.now)) }
+    ensures { GivesCondition result names.new.keys (spec.quantified stop cores quantifier (texts names.old.keys) (pieces tokens.now)) }
 {
     let mut atoms = 0;
     let (prop, rest) = proposition_at(alloc, stop, cores, MAX_OPEN, &mut atoms, names, tokens)?;
@@ -291,7 +292,7 @@ pub fn condition_at<'a, 'b>(
     tokens: &'b [Token<'a>],
 ) -> Result<(Option<Cond>, &'b [Token<'a>]), ReadError>
     requires { cores ≤ most_cores }
-    ensures { Gives (λ x. conditioned (option_map condition_of x.0) (texts names.new.keys) (pieces x.1.now)) result (spec.condition_at stop cores (texts names.old.keys) (pieces tokens.now)) }
+    ensures { GivesCondition result names.new.keys (spec.condition_at stop cores (texts names.old.keys) (pieces tokens.now)) }
 {
     if let Some(rest) = after_word(b"exists", tokens) {
         return quantified(alloc, stop, cores, Quantifier::Exists, names, rest);

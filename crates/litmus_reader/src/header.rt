@@ -7,7 +7,7 @@ ghost use Rattle.tso_model.specs.Limits.{longest_test_name};
 ghost use Rattle.tso_model.specs.Names as names;
 ghost use Rattle.litmus_tokens.specs.Gap.{gap_end};
 ghost use Rattle.litmus_reader.specs.Header as header;
-ghost use Rattle.litmus_reader.specs.Faults.{seen};
+ghost use Rattle.litmus_tokens.specs.Mapped.{mapped};
 ghost use Rattle.litmus_reader.specs.GrammarText as grammar;
 
 use crate::fault::{Fault, Why, at_stop};
@@ -17,7 +17,7 @@ use tso_model::names::is_test_name;
 
 /// The text, if it isn't too large.
 pub fn sized(text: &[u8]) -> Result<&[u8], Fault>
-    ensures { seen (λ x. x.now) result ≡ header.sized text.now }
+    ensures { mapped (λ x. x.now) result ≡ header.sized text.now }
 {
     if text.len() > MAX_TEXT {
         return Err(Fault {
@@ -29,8 +29,8 @@ pub fn sized(text: &[u8]) -> Result<&[u8], Fault>
 }
 
 /// What stands after white space and comments; `Unclosed` at a comment that doesn't end.
-pub fn behind_gap(bytes: &[u8]) -> Result<&[u8], Fault>
-    ensures value { seen (λ x. x.now) result ≡ header.from_gap (gap_end None bytes.now) }
+pub fn past_gap(bytes: &[u8]) -> Result<&[u8], Fault>
+    ensures value { mapped (λ x. x.now) result ≡ header.from_gap (gap_end None bytes.now) }
     ensures within { IfOk result (λ x. length x.now ≤ length bytes.now) }
 {
     match after_gap(bytes) {
@@ -64,7 +64,7 @@ fn margin_in_front(bytes: &[u8]) -> usize
     bytes.iter().take_while(|b| is_margin(**b)).count()
 }
 
-fn margin_behind(bytes: &[u8]) -> usize
+fn margin_at_end(bytes: &[u8]) -> usize
     ensures value { result ≡ suffix_len grammar.is_margin bytes.now }
     ensures within { result ≤ length bytes.now }
 {
@@ -77,7 +77,7 @@ fn trimmed(bytes: &[u8]) -> &[u8]
     ensures { result.now ≡ grammar.trimmed bytes.now }
 {
     let (_, rest) = bytes.split_at(margin_in_front(bytes));
-    let (front, _) = rest.split_at(rest.len() - margin_behind(rest));
+    let (front, _) = rest.split_at(rest.len() - margin_at_end(rest));
     front
 }
 
@@ -143,7 +143,7 @@ fn is_long_name(name: &[u8]) -> bool
 
 #[tactic(auto, unfolding(crate::specs::Header::judged))]
 fn judged<'a>(left: usize, name: Option<&'a [u8]>) -> Result<&'a [u8], Fault>
-    ensures { seen (λ x. x.now) result ≡ header.judged left (option_map (λ x. x.now) name.entry) }
+    ensures { mapped (λ x. x.now) result ≡ header.judged left (option_map (λ x. x.now) name.entry) }
 {
     let Some(name) = name else {
         return Err(Fault {
@@ -172,9 +172,9 @@ fn judged<'a>(left: usize, name: Option<&'a [u8]>) -> Result<&'a [u8], Fault>
 /// space; `Unclosed` at a comment before it that doesn't end.
 #[tactic(auto, unfolding(crate::specs::Header::header_at))]
 pub fn header_at(text: &[u8]) -> Result<(&[u8], &[u8]), Fault>
-    ensures { seen (λ x. (x.0.now, x.1.now)) result ≡ header.header_at text.now }
+    ensures { mapped (λ x. (x.0.now, x.1.now)) result ≡ header.header_at text.now }
 {
-    let at = behind_gap(text)?;
+    let at = past_gap(text)?;
     let (line, rest) = first_line(at);
     let name = judged(at.len(), name_in(line))?;
     Ok((name, rest))

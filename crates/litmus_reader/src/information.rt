@@ -3,12 +3,12 @@
 ghost use Rattle.std.specs.Prelude.{◌≡◌, ◌≤◌, ◌<◌, length, IfOk, IfSome};
 ghost use Rattle.std.specs.Option.{option_map};
 ghost use Rattle.std.specs.List.{prefix_len};
-ghost use Rattle.litmus_reader.specs.Faults.{seen};
+ghost use Rattle.litmus_tokens.specs.Mapped.{mapped};
 ghost use Rattle.litmus_reader.specs.Information as spec;
 ghost use Rattle.litmus_reader.specs.GrammarText as grammar;
 
 use crate::fault::{Fault, Why};
-use crate::header::{behind_gap, first_line};
+use crate::header::{first_line, past_gap};
 
 /// What stands after the next quotation mark.
 #[tactic(auto, unfolding(crate::specs::Information::quotation_end))]
@@ -42,14 +42,14 @@ fn key_len(bytes: &[u8]) -> usize
 
 /// What stands after the key line that begins here; `BadToken` at a key without its `=`.
 fn after_key_line(bytes: &[u8]) -> Result<&[u8], Fault>
-    ensures value { seen (λ x. x.now) result ≡ spec.key_line_end bytes.now }
+    ensures value { mapped (λ x. x.now) result ≡ spec.key_line_end bytes.now }
     ensures shorter { IfOk result (λ x. length x.now < length bytes.now) }
 {
     let (_, rest) = bytes.split_at(key_len(bytes));
     match rest.split_first() {
         Some((b'=', value)) => {
-            let (_, behind) = first_line(value);
-            Ok(behind)
+            let (_, after) = first_line(value);
+            Ok(after)
         }
         _ => Err(Fault {
             why: Why::BadToken,
@@ -64,7 +64,7 @@ fn after_key_line(bytes: &[u8]) -> Result<&[u8], Fault>
 /// without its `=` and at anything else.
 #[tactic(auto, unfolding(crate::specs::Information::information_end))]
 fn after_information(bytes: &[u8]) -> Result<&[u8], Fault>
-    ensures value { seen (λ x. x.now) result ≡ spec.information_end bytes.now }
+    ensures value { mapped (λ x. x.now) result ≡ spec.information_end bytes.now }
     ensures shorter { IfOk result (λ x. length x.now < length bytes.now) }
 {
     let left = bytes.len();
@@ -108,11 +108,11 @@ fn begins_initial(bytes: &[u8]) -> bool
 /// that doesn't end is `Unclosed` too.
 #[tactic(auto, using(crate::proofs::Informed::braces_start, crate::proofs::Informed::braces_further))]
 pub fn braces_at(bytes: &[u8]) -> Result<&[u8], Fault>
-    ensures { seen (λ x. x.now) result ≡ spec.braces_at bytes.now }
+    ensures { mapped (λ x. x.now) result ≡ spec.braces_at bytes.now }
 {
     let mut rest = bytes;
     loop {
-        let at = behind_gap(rest)?;
+        let at = past_gap(rest)?;
         if begins_initial(at) {
             return Ok(at);
         }

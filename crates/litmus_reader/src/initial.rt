@@ -4,11 +4,13 @@ ghost use Rattle.litmus_tokens.specs.Pieces.{pieces};
 ghost use Rattle.std.specs.Prelude.{◌≡◌, ◌≤◌, ◌<◌, ◌++◌, ◌∷◌, [], false, length, map, replicate, IfOk, OnOk};
 ghost use Rattle.std.specs.List.{list_any};
 ghost use Rattle.tso_model.specs.Limits.{most_cores};
-ghost use Rattle.litmus_reader.specs.Faults.{seen, Gives};
+ghost use Rattle.litmus_reader.specs.Faults.{Gives};
+ghost use Rattle.litmus_tokens.specs.Mapped.{mapped};
 ghost use Rattle.litmus_reader.specs.Locations.{texts};
 ghost use Rattle.litmus_reader.specs.Items.{setting_of};
 ghost use Rattle.litmus_reader.specs.Initial as spec;
-ghost use Rattle.litmus_reader.specs.Initial.{given_of, initial, KnowsGiven};
+ghost use Rattle.litmus_reader.specs.Initial.{given_of, KnowsGiven};
+ghost use Rattle.litmus_reader.specs.Returned.{GivesJudged, GivesItem, GivesInitial, so_far};
 ghost use Rattle.litmus_reader.specs.Places as places;
 
 use crate::fault::{Fault, Part, ReadError, Why, at_stop, left_of};
@@ -94,7 +96,7 @@ fn note_register<'a>(state: &mut Initial<'a>, word: RegisterWord<'a>) -> Result<
 /// Notes an item whose first token stands at `left`.
 ///
 /// `BadNumber`, then `TooLarge` for a location too many, then `TwiceInit`, all at `left`.
-#[tactic(auto, using(crate::proofs::InitialLists::judged_twice, crate::proofs::InitialLists::judged_new), unfolding(crate::specs::Initial::judged))]
+#[tactic(auto, using(crate::proofs::Listed::judged_twice, crate::proofs::Listed::judged_new), unfolding(crate::specs::Initial::judged))]
 fn note_item<'a>(
     left: usize,
     state: &mut Initial<'a>,
@@ -103,7 +105,7 @@ fn note_item<'a>(
 ) -> Result<(), ReadError>
     requires { KnowsGiven state.old }
     ensures knows { OnOk result (KnowsGiven state.new) }
-    ensures value { Gives (λ _. initial (texts names.new.keys) state.new.words.items (map given_of state.new.registers.items)) result (spec.judged left (initial (texts names.old.keys) state.old.words.items (map given_of state.old.registers.items)) (setting_of item.entry)) }
+    ensures value { GivesJudged left (setting_of item.entry) names.old.keys state.old result names.new.keys state.new }
 {
     let twice = Fault {
         why: Why::TwiceInit,
@@ -157,7 +159,7 @@ fn read_item<'a, 'b>(
 ) -> Result<&'b [Token<'a>], ReadError>
     requires { KnowsGiven state.old }
     ensures knows { OnOk result (KnowsGiven state.new) }
-    ensures value { Gives (λ rest. (initial (texts names.new.keys) state.new.words.items (map given_of state.new.registers.items), pieces rest.now)) result (spec.item_in part (initial (texts names.old.keys) state.old.words.items (map given_of state.old.registers.items)) (pieces tokens.now)) }
+    ensures value { GivesItem result names.new.keys state.new (spec.item_in part (so_far names.old.keys state.old) (pieces tokens.now)) }
     ensures shorter { IfOk result (λ rest. length rest.now < length tokens.now) }
 {
     let (item, rest) = item_at(part, tokens)?;
@@ -178,7 +180,7 @@ fn read_step<'a, 'b>(
 ) -> Result<&'b [Token<'a>], ReadError>
     requires { KnowsGiven state.old }
     ensures knows { OnOk result (KnowsGiven state.new) }
-    ensures value { Gives (λ rest. (initial (texts names.new.keys) state.new.words.items (map given_of state.new.registers.items), pieces rest.now)) result (spec.step_in part (initial (texts names.old.keys) state.old.words.items (map given_of state.old.registers.items)) (pieces tokens.now)) }
+    ensures value { GivesItem result names.new.keys state.new (spec.step_in part (so_far names.old.keys state.old) (pieces tokens.now)) }
     ensures shorter { IfOk result (λ rest. length rest.now < length tokens.now) }
 {
     if let Some(rest) = after_symbol(Symbol::Semicolon, tokens) {
@@ -189,7 +191,7 @@ fn read_step<'a, 'b>(
 
 /// What stands after the `{` at the front.
 fn after_opening<'a, 'b>(stop: Stop, tokens: &'b [Token<'a>]) -> Result<&'b [Token<'a>], Fault>
-    ensures { seen (λ x. pieces x.now) result ≡ spec.opened_at stop (pieces tokens.now) }
+    ensures { mapped (λ x. pieces x.now) result ≡ spec.opened_at stop (pieces tokens.now) }
 {
     before_initial(stop).expect(tokens, after_symbol(Symbol::OpenCurly, tokens))
 }
@@ -206,7 +208,7 @@ pub fn read_initial<'a, 'b>(
     names: &mut IndexSet<&'a [u8]>,
     tokens: &'b [Token<'a>],
 ) -> Result<(Initial<'a>, &'b [Token<'a>]), ReadError>
-    ensures { Gives (λ x. (initial (texts names.new.keys) x.0.words.items (map given_of x.0.registers.items), pieces x.1.now)) result (spec.initial_at stop (texts names.old.keys) (pieces tokens.now)) }
+    ensures { GivesInitial result names.new.keys (spec.initial_at stop (texts names.old.keys) (pieces tokens.now)) }
 {
     let part = in_initial(left_of(tokens), stop);
     let mut rest = after_opening(stop, tokens)?;
@@ -216,8 +218,8 @@ pub fn read_initial<'a, 'b>(
         given: IndexSet::new(alloc),
     };
     'items: loop {
-        if let Some(behind) = after_symbol(Symbol::CloseCurly, rest) {
-            return Ok((state, behind));
+        if let Some(after) = after_symbol(Symbol::CloseCurly, rest) {
+            return Ok((state, after));
         }
         rest = read_step(part, &mut state, names, rest)?;
     }

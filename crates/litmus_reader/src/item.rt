@@ -5,7 +5,7 @@ ghost use Rattle.std.specs.Option.{option_map};
 ghost use Rattle.tso_model.specs.Limits.{most_cores};
 ghost use Rattle.decimals.specs.Decimals.{decimal_value};
 ghost use Rattle.litmus_tokens.specs.Pieces.{pieces};
-ghost use Rattle.litmus_reader.specs.Faults.{seen};
+ghost use Rattle.litmus_tokens.specs.Mapped.{mapped};
 ghost use Rattle.litmus_reader.specs.Items as spec;
 ghost use Rattle.litmus_reader.specs.Items.{setting_of};
 
@@ -53,7 +53,7 @@ fn value_at<'a, 'b>(
     part: Part,
     tokens: &'b [Token<'a>],
 ) -> Result<(&'a [u8], &'b [Token<'a>]), Fault>
-    ensures value { seen (λ x. (decimal_value x.0.now, pieces x.1.now)) result ≡ spec.value_at part (pieces tokens.now) }
+    ensures value { mapped (λ x. (decimal_value x.0.now, pieces x.1.now)) result ≡ spec.value_at part (pieces tokens.now) }
     ensures shorter { IfOk result (λ x. length x.1.now < length tokens.now) }
 {
     let rest = part.expect(tokens, after_symbol(Symbol::Equals, tokens))?;
@@ -66,7 +66,7 @@ fn register_item<'a, 'b>(
     core: &'a [u8],
     tokens: &'b [Token<'a>],
 ) -> Result<(Item<'a>, &'b [Token<'a>]), Fault>
-    ensures value { seen (λ x. (setting_of x.0, pieces x.1.now)) result ≡ spec.register_setting part core.now (pieces tokens.now) }
+    ensures value { mapped (λ x. (setting_of x.0, pieces x.1.now)) result ≡ spec.register_setting part core.now (pieces tokens.now) }
     ensures shorter { IfOk result (λ x. length x.1.now < length tokens.now) }
 {
     let rest = part.expect(tokens, after_symbol(Symbol::Colon, tokens))?;
@@ -80,7 +80,7 @@ fn square_item<'a, 'b>(
     part: Part,
     tokens: &'b [Token<'a>],
 ) -> Result<(Item<'a>, &'b [Token<'a>]), Fault>
-    ensures value { seen (λ x. (setting_of x.0, pieces x.1.now)) result ≡ spec.square_setting part (pieces tokens.now) }
+    ensures value { mapped (λ x. (setting_of x.0, pieces x.1.now)) result ≡ spec.square_setting part (pieces tokens.now) }
     ensures shorter { IfOk result (λ x. length x.1.now < length tokens.now) }
 {
     let (name, rest) = part.expect(tokens, location_at(tokens))?;
@@ -94,7 +94,7 @@ fn plain_item<'a, 'b>(
     part: Part,
     tokens: &'b [Token<'a>],
 ) -> Result<(Item<'a>, &'b [Token<'a>]), Fault>
-    ensures value { seen (λ x. (setting_of x.0, pieces x.1.now)) result ≡ spec.plain_setting part (pieces tokens.now) }
+    ensures value { mapped (λ x. (setting_of x.0, pieces x.1.now)) result ≡ spec.plain_setting part (pieces tokens.now) }
     ensures shorter { IfOk result (λ x. length x.1.now < length tokens.now) }
 {
     let (name, rest) = part.expect(tokens, location_at(tokens))?;
@@ -110,7 +110,7 @@ pub fn item_at<'a, 'b>(
     part: Part,
     tokens: &'b [Token<'a>],
 ) -> Result<(Item<'a>, &'b [Token<'a>]), Fault>
-    ensures value { seen (λ x. (setting_of x.0, pieces x.1.now)) result ≡ spec.setting_at part (pieces tokens.now) }
+    ensures value { mapped (λ x. (setting_of x.0, pieces x.1.now)) result ≡ spec.setting_at part (pieces tokens.now) }
     ensures shorter { IfOk result (λ x. length x.1.now < length tokens.now) }
 {
     if let Some((core, rest)) = number_at(tokens) {
@@ -138,7 +138,7 @@ pub fn word_at(left: usize, digits: &[u8]) -> Result<u32, Fault>
 /// A core of the test; `NoSuchCore` at `left` for any other, of whatever size.
 pub fn core_of(cores: usize, left: usize, digits: &[u8]) -> Result<Core, Fault>
     requires { cores ≤ most_cores }
-    ensures { seen (λ core. core.0) result ≡ spec.core_of cores left digits.now }
+    ensures { mapped (λ core. core.0) result ≡ spec.core_of cores left digits.now }
 {
     match word(digits) {
         Some(core) if (core as usize) < cores => Ok(Core(core as u8)),

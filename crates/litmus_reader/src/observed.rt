@@ -3,17 +3,29 @@
 ghost use Rattle.std.specs.Prelude.{◌≡◌, codes};
 ghost use Rattle.std.specs.Option.{option_map};
 ghost use Rattle.litmus_tokens.specs.Pieces.{pieces};
-ghost use Rattle.litmus_reader.specs.Faults.{seen};
+ghost use Rattle.litmus_tokens.specs.Mapped.{mapped};
 ghost use Rattle.litmus_reader.specs.Observed as spec;
+ghost use Rattle.litmus_reader.specs.Remaining as remaining;
+ghost use Rattle.litmus_reader.specs.Remaining.{HasTokens, tokens_in};
 ghost use Rattle.litmus_reader.specs.Places as places;
 
+use crate::cell::place_of;
 use crate::fault::{Fault, Part, Why, at_stop, left_of};
-use crate::header::behind_gap;
+use crate::header::past_gap;
 use crate::keyword::after_word;
 use litmus_tokens::{Stop, Symbol, Token, after_symbol};
 
-fn behind_word(stop: Stop) -> Part
-    ensures { result ≡ spec.behind_word stop }
+/// What stands after `locations [..]`.
+#[derive(Clone, Copy)]
+pub enum Remaining<'a, 'b> {
+    /// Tokens that there are already.
+    Tokens(&'b [Token<'a>]),
+    /// Bytes of which no tokens were made: the tokens stopped in the brackets.
+    Bytes(&'a [u8]),
+}
+
+fn in_observed(stop: Stop) -> Part
+    ensures { result ≡ spec.in_observed stop }
 {
     let end = Fault {
         why: Why::BadToken,
@@ -28,11 +40,11 @@ fn behind_word(stop: Stop) -> Part
 /// What stands after the next `]`, comments passed over; without it, `Unclosed` at `left`.
 #[tactic(auto, using(crate::proofs::Squares::square_start, crate::proofs::Squares::square_further))]
 fn after_square(left: usize, bytes: &[u8]) -> Result<&[u8], Fault>
-    ensures { seen (λ x. x.now) result ≡ spec.square_end left bytes.now }
+    ensures { mapped (λ x. x.now) result ≡ spec.square_end left bytes.now }
 {
     let mut rest = bytes;
     loop {
-        let at = behind_gap(rest)?;
+        let at = past_gap(rest)?;
         let Some((first, after)) = at.split_first() else {
             return Err(Fault {
                 why: Why::Unclosed,
@@ -53,30 +65,74 @@ fn from_place(text: &[u8], left: usize) -> &[u8]
     rest
 }
 
-#[tactic(auto, unfolding(crate::specs::Observed::brackets_end))]
-fn after_brackets<'a>(text: &'a [u8], stop: Stop, tokens: &[Token<'_>]) -> Result<&'a [u8], Fault>
-    ensures { seen (λ x. x.now) result ≡ spec.brackets_end text.now stop (pieces tokens.now) }
+/// The tokens after the next `]`.
+#[tactic(auto, using(crate::proofs::Closings::closing_there, crate::proofs::Closings::closing_missing))]
+fn after_closing<'a, 'b>(tokens: &'b [Token<'a>]) -> Option<&'b [Token<'a>]>
+    ensures { option_map (λ x. pieces x.now) result ≡ remaining.after_closing (pieces tokens.now) }
 {
-    behind_word(stop).expect(tokens, after_symbol(Symbol::OpenSquare, tokens))?;
-    let left = left_of(tokens);
-    after_square(left, from_place(text, left))
+    match place_of(Symbol::CloseSquare, tokens) {
+        Some(end) => Some(&tokens[end + 1..]),
+        None => None,
+    }
 }
 
-/// The bytes after `locations [..]`, if it stands here; the tokens are ones of this text's end.
+/// What stands after the `]` of brackets in which the tokens stop.
+fn past_stop(text: &[u8], left: usize, stop: Stop) -> Result<&[u8], Fault>
+    ensures { mapped (λ x. x.now) result ≡ remaining.past_stop text.now left stop }
+{
+    match stop {
+        Stop::BadToken(place) => after_square(left, from_place(text, place)),
+        _ => {
+            let unclosed = Fault {
+                why: Why::Unclosed,
+                left,
+            };
+            Err(at_stop(unclosed, stop))
+        }
+    }
+}
+
+/// The tokens in the brackets that have to begin here.
+fn after_opening<'a, 'b>(stop: Stop, tokens: &'b [Token<'a>]) -> Result<&'b [Token<'a>], Fault>
+    ensures { mapped (λ x. pieces x.now) result ≡ spec.opened_at stop (pieces tokens.now) }
+{
+    in_observed(stop).expect(tokens, after_symbol(Symbol::OpenSquare, tokens))
+}
+
+/// What stands after the brackets that have to begin here, by the next `]` among the tokens if there is
+/// one.
+fn after_brackets<'a, 'b>(
+    text: &'a [u8],
+    stop: Stop,
+    tokens: &'b [Token<'a>],
+) -> Result<Remaining<'a, 'b>, Fault>
+    requires { HasTokens text.now (pieces tokens.now) stop }
+    ensures { mapped (tokens_in stop) result ≡ spec.brackets_tokens text.now stop (pieces tokens.now) }
+{
+    let inside = after_opening(stop, tokens)?;
+    if let Some(rest) = after_closing(inside) {
+        return Ok(Remaining::Tokens(rest));
+    }
+    let bytes = past_stop(text, left_of(tokens), stop)?;
+    Ok(Remaining::Bytes(bytes))
+}
+
+/// What stands after `locations [..]`, if it stands here, and else from here on; the tokens are ones
+/// of this text's end.
 ///
 /// `BadToken` where no `[` stands after the word, `Unclosed` at a `[` that doesn't end and at a
 /// comment that doesn't.
-#[tactic(auto, unfolding(crate::specs::Observed::observed_end))]
-pub fn after_observed<'a>(
+#[tactic(auto, unfolding(crate::specs::Observed::ending_tokens))]
+pub fn after_observed<'a, 'b>(
     text: &'a [u8],
     stop: Stop,
-    tokens: &[Token<'_>],
-) -> Result<Option<&'a [u8]>, Fault>
-    ensures { seen (λ x. option_map (λ bytes. bytes.now) x) result ≡ spec.observed_end text.now stop (pieces tokens.now) }
+    tokens: &'b [Token<'a>],
+) -> Result<Remaining<'a, 'b>, Fault>
+    requires { HasTokens text.now (pieces tokens.now) stop }
+    ensures { mapped (tokens_in stop) result ≡ spec.ending_tokens text.now stop (pieces tokens.now) }
 {
     let Some(rest) = after_word(b"locations", tokens) else {
-        return Ok(None);
+        return Ok(Remaining::Tokens(tokens));
     };
-    let behind = after_brackets(text, stop, rest)?;
-    Ok(Some(behind))
+    after_brackets(text, stop, rest)
 }

@@ -1,14 +1,12 @@
 //! The parts of a test, made of what was read.
 
 ghost use Rattle.std.specs.Prelude.{◌≡◌, IfOk, All, map, replicate, string_bytes};
-ghost use Rattle.std.specs.Option.{option_map};
 ghost use Rattle.std.specs.Str.{IsUtf8};
-ghost use Rattle.tso_model.specs.Condition.{condition_of};
-ghost use Rattle.tso_model.specs.LitmusParts.{litmus_of};
 ghost use Rattle.tso_model.specs.Names as names;
 ghost use Rattle.litmus_reader.specs.Locations.{texts};
 ghost use Rattle.litmus_reader.specs.Initial as initial;
 ghost use Rattle.litmus_reader.specs.Reading as spec;
+ghost use Rattle.litmus_reader.specs.Returned.{AreParts, asked_of};
 
 use crate::cell::CoreInstr;
 use std::alloc::{AllocError, Global};
@@ -88,7 +86,7 @@ pub fn parts_of(
 ) -> Result<TestParts, NoMemory>
     requires name { IsUtf8 name.now }
     requires names { All (λ name. IsUtf8 name) (texts names.now) }
-    ensures { IfOk result (λ parts. litmus_of parts ≡ spec.test_of name.now (texts names.now) words.items registers.items instrs.now (option_map condition_of cond)) }
+    ensures { AreParts result (spec.test_of name.now (texts names.now) words.items registers.items instrs.now (asked_of cond)) }
 {
     let cores = registers.len();
     Ok(TestParts {

@@ -11,10 +11,13 @@ ghost use Rattle.litmus_reader.specs.Refusals.{IsFault};
 ghost use Rattle.tso_model.specs.Condition.{condition_of};
 ghost use Rattle.tso_model.specs.LitmusParts.{litmus_of};
 ghost use Rattle.litmus_tokens.specs.Pieces.{pieces};
-ghost use Rattle.litmus_reader.specs.Faults.{seen, Gives};
+ghost use Rattle.litmus_reader.specs.Faults.{Gives};
+ghost use Rattle.litmus_tokens.specs.Mapped.{mapped};
 ghost use Rattle.litmus_reader.specs.Locations.{texts};
 ghost use Rattle.litmus_reader.specs.Reading as spec;
 ghost use Rattle.litmus_reader.specs.Reading.{refusal};
+ghost use Rattle.litmus_reader.specs.Remaining.{HasTokens};
+ghost use Rattle.litmus_reader.specs.Returned.{GivesEnding, IsUnlessMemory};
 ghost use Rattle.litmus_reader.specs.Spelling.{SpellsTest, IsRefused};
 
 use crate::condition::condition_at;
@@ -23,7 +26,7 @@ use crate::header::{header_at, sized};
 use crate::information::braces_at;
 use crate::initial::read_initial;
 use crate::laws::{texts_are_read_as_they_are_spelled, texts_are_refused_as_they_are_read};
-use crate::observed::after_observed;
+use crate::observed::{Remaining, after_observed};
 use crate::parts::parts_of;
 use crate::row::read_table;
 use indexmap::IndexSet;
@@ -65,7 +68,7 @@ fn ending_at<'a>(
     tokens: &[Token<'a>],
 ) -> Result<Option<Cond>, ReadError>
     requires { cores ≤ most_cores }
-    ensures { Gives (λ cond. (option_map condition_of cond, texts names.new.keys)) result (spec.ending_at stop cores (texts names.old.keys) (pieces tokens.now)) }
+    ensures { GivesEnding result names.new.keys (spec.ending_at stop cores (texts names.old.keys) (pieces tokens.now)) }
 {
     let (cond, rest) = condition_at(alloc, stop, cores, names, tokens)?;
     end_at(stop, rest)?;
@@ -73,7 +76,7 @@ fn ending_at<'a>(
 }
 
 /// What stands after the rows: `locations [..]`, the condition and the end. The tokens are ones of
-/// this text's end.
+/// this text's end, and are not made anew.
 #[tactic(auto, unfolding(crate::specs::Reading::tail_at))]
 fn tail_at<'a>(
     alloc: Global,
@@ -83,15 +86,16 @@ fn tail_at<'a>(
     names: &mut IndexSet<&'a [u8]>,
     tokens: &[Token<'a>],
 ) -> Result<Option<Cond>, ReadError>
-    requires { cores ≤ most_cores }
-    ensures { Gives (λ cond. (option_map condition_of cond, texts names.new.keys)) result (spec.tail_at text.now stop cores (texts names.old.keys) (pieces tokens.now)) }
+    requires cores { cores ≤ most_cores }
+    requires tokens { HasTokens text.now (pieces tokens.now) stop }
+    ensures { GivesEnding result names.new.keys (spec.tail_at text.now stop cores (texts names.old.keys) (pieces tokens.now)) }
 {
     match after_observed(text, stop, tokens)? {
-        Some(behind) => {
-            let tokens = tokens_of(alloc, behind)?;
+        Remaining::Tokens(rest) => ending_at(alloc, stop, cores, names, rest),
+        Remaining::Bytes(bytes) => {
+            let tokens = tokens_of(alloc, bytes)?;
             ending_at(alloc, tokens.stop, cores, names, &tokens.items)
         }
-        None => ending_at(alloc, stop, cores, names, tokens),
     }
 }
 
@@ -104,7 +108,8 @@ fn body_of<'a>(
     stop: Stop,
     tokens: &[Token<'a>],
 ) -> Result<TestParts, ReadError>
-    requires { IsUtf8 name.now }
+    requires name { IsUtf8 name.now }
+    requires tokens { HasTokens text.now (pieces tokens.now) stop }
     ensures { Gives (λ parts. litmus_of parts) result (spec.body_of name.now text.now stop (pieces tokens.now)) }
 {
     let mut names = IndexSet::new(alloc);
@@ -124,7 +129,7 @@ fn body_of<'a>(
 }
 
 /// The parts of the test that the text spells.
-#[tactic(auto, using(crate::proofs::Within::name_is_text), unfolding(crate::specs::Reading::reading_of))]
+#[tactic(auto, using(crate::proofs::Within::name_is_text, crate::proofs::Lexed::all_tokens), unfolding(crate::specs::Reading::reading_of))]
 fn read_parts(alloc: Global, text: &[u8]) -> Result<TestParts, ReadError>
     ensures { Gives (λ parts. litmus_of parts) result (spec.reading_of text.now) }
 {
@@ -177,7 +182,7 @@ fn read_whole(alloc: Global, text: &[u8]) -> Result<Test, TextFault>
     ensures found { IfOk result (λ test. spec.reading_of text.now ≡ Ok test) }
     ensures only { (t : Litmus) → spec.reading_of text.now ≡ Ok t → MatchResult result (λ test. test ≡ t) (λ f. f.why ≡ Why.NoMemory) }
     ensures refused { IfErr result (λ f. f.why ≢ Why.NoMemory → spec.refusal_of text.now ≡ Some f) }
-    ensures refuses { (fault : TextFault) → spec.refusal_of text.now ≡ Some fault → MatchResult result (λ _. ⊥) (λ f. f.why ≢ Why.NoMemory → f ≡ fault) }
+    ensures refuses { (fault : TextFault) → spec.refusal_of text.now ≡ Some fault → MatchResult result (λ _. ⊥) (IsUnlessMemory fault) }
     ensures no_memory { IfErr result (λ f. f.why ≡ Why.NoMemory → f.line ≡ 0) }
 {
     texts_are_read_as_they_are_spelled();

@@ -4,11 +4,11 @@ ghost use Rattle.std.specs.Prelude.{◌≡◌, ◌<◌, ◌≤◌, length, map, 
 ghost use Rattle.tso_model.specs.Limits.{most_cores};
 ghost use Rattle.litmus_tokens.specs.Pieces.{pieces};
 ghost use Rattle.litmus_tokens.specs.Terms.{term_of};
-ghost use Rattle.litmus_reader.specs.Faults.{seen, Gives};
+ghost use Rattle.litmus_tokens.specs.Mapped.{mapped};
 ghost use Rattle.litmus_reader.specs.Locations.{texts};
 ghost use Rattle.litmus_reader.specs.Initial.{given_of};
 ghost use Rattle.litmus_reader.specs.Rows as spec;
-ghost use Rattle.litmus_reader.specs.Rows.{rows, table};
+ghost use Rattle.litmus_reader.specs.Returned.{GivesCells, GivesTable};
 ghost use Rattle.litmus_reader.specs.Places.{left_of};
 ghost use Rattle.litmus_reader.specs.RefusedTable as refused;
 ghost use Rattle.litmus_reader.specs.GrammarTable as grammar;
@@ -27,7 +27,7 @@ fn row_at<'a, 'b>(
     stop: Stop,
     tokens: &'b [Token<'a>],
 ) -> Result<(&'b [Token<'a>], &'b [Token<'a>]), Fault>
-    ensures value { seen (λ x. (pieces x.0.now, pieces x.1.now)) result ≡ spec.row_at stop (pieces tokens.now) }
+    ensures value { mapped (λ x. (pieces x.0.now, pieces x.1.now)) result ≡ spec.row_at stop (pieces tokens.now) }
     ensures shorter { IfOk result (λ x. length x.1.now < length tokens.now) }
 {
     match place_of(Symbol::Semicolon, tokens) {
@@ -61,7 +61,7 @@ fn read_row<'a>(
     names: &mut IndexSet<&'a [u8]>,
     row: &[Token<'a>],
 ) -> Result<(), ReadError>
-    ensures { Gives (λ _. (instrs.new.items, texts names.new.keys)) result (spec.row_in cores left instrs.old.items (texts names.old.keys) (pieces row.now)) }
+    ensures { GivesCells (spec.row_in cores left) instrs.old.items names.old.keys row.now result instrs.new.items names.new.keys }
 {
     if cell_count(row) != cores {
         return Err(ReadError::Fault(Fault {
@@ -118,7 +118,7 @@ pub fn read_table<'a, 'b>(
     names: &mut IndexSet<&'a [u8]>,
     tokens: &'b [Token<'a>],
 ) -> Result<(Table, &'b [Token<'a>]), ReadError>
-    ensures value { Gives (λ x. table x.0.cores x.0.registers.items (rows x.0.instrs.items (texts names.new.keys) (pieces x.1.now))) result (spec.table_at stop (map given_of given.now) (texts names.old.keys) (pieces tokens.now)) }
+    ensures value { GivesTable (spec.table_at stop (map given_of given.now)) names.old.keys tokens.now result names.new.keys }
     ensures cores { IfOk result (λ x. x.0.cores ≤ most_cores) }
 {
     let (cores, mut rest) = columns_at(stop, tokens)?;
@@ -126,9 +126,9 @@ pub fn read_table<'a, 'b>(
     let mut instrs = Vec::new(alloc);
     'rows: while !ends_rows(rest) {
         let left = left_of(rest);
-        let (row, behind) = row_at(stop, rest)?;
+        let (row, after) = row_at(stop, rest)?;
         read_row(cores, left, &mut instrs, names, row)?;
-        rest = behind;
+        rest = after;
     }
     let table = Table {
         cores,

@@ -14,12 +14,12 @@ abbrev pub before : List Piece → List Piece × Stop → List Piece × Stop
 before front more = (front ++ more.0, more.1)
 
 -- the total is what is there, and then what the rest gives, in some number of steps that is enough
-abbrev pub behind : List Piece → List ℕ → List Piece × Stop → Type 0
-behind front rest total = (n : ℕ) × (length rest ≤ n) × (before front (pieces_within n rest) ≡ total)
+abbrev pub goes_on : List Piece → List ℕ → List Piece × Stop → Type 0
+goes_on front rest total = (n : ℕ) × (length rest ≤ n) × (before front (pieces_within n rest) ≡ total)
 
-pub behind_start : (bytes : List ℕ) → behind [] bytes (pieces_of bytes)
+pub goes_on_start : (bytes : List ℕ) → goes_on [] bytes (pieces_of bytes)
 unfolding pieces_of
-behind_start bytes = (length bytes, omega arith, refl)
+goes_on_start bytes = (length bytes, omega arith, refl)
 
 nothing_there : (rest : List ℕ) → length rest ≤ 0 → piece_at rest ≡ Err End
 unfolding piece_at gap_end term_at
@@ -33,17 +33,17 @@ prefix_len_some p (b ∷ bs) long first = rw first (omega arith)
 pub begins_in_name : (b : ℕ) → begins_name b ≡ true → continues_name b ≡ true
 begins_in_name b first = grind (arith, nat_tests)
 
-pub behind_step : (front : List Piece) (rest after : List ℕ) (p : Piece) (total : List Piece × Stop) → Ok (p, after) ≡ piece_at rest → length after < length rest → behind front rest total → behind (front ++ p ∷ []) after total
+pub goes_on_step : (front : List Piece) (rest after : List ℕ) (p : Piece) (total : List Piece × Stop) → Ok (p, after) ≡ piece_at rest → length after < length rest → goes_on front rest total → goes_on (front ++ p ∷ []) after total
 unfolding pieces_within
-behind_step front rest after p total read shorter (zero, enough, same) = absurd (omega arith)
-behind_step front rest after p total read shorter (suc n, enough, same) =
+goes_on_step front rest after p total read shorter (zero, enough, same) = absurd (omega arith)
+goes_on_step front rest after p total read shorter (suc n, enough, same) =
     (n, omega arith, ap (λ (l : List Piece). (l, (pieces_within n after).1)) (append_assoc front (p ∷ []) (pieces_within n after).0) ∙ rw (← read, pieces_within) at same)
 
-pub behind_stop : (front : List Piece) (rest : List ℕ) (stop : Stop) (total : List Piece × Stop) → Err stop ≡ piece_at rest → behind front rest total → (front, stop) ≡ total
+pub goes_on_to_stop : (front : List Piece) (rest : List ℕ) (stop : Stop) (total : List Piece × Stop) → Err stop ≡ piece_at rest → goes_on front rest total → (front, stop) ≡ total
 unfolding pieces_within
-behind_stop front rest stop total read (zero, enough, same) =
+goes_on_to_stop front rest stop total read (zero, enough, same) =
     let none : piece_at rest ≡ Err End = nothing_there rest enough in
     let at_end : stop ≡ End = cc in
     rw at_end (ap (λ (l : List Piece). (l, End)) (sym (append-nil front)) ∙ same)
-behind_stop front rest stop total read (suc n, enough, same) =
+goes_on_to_stop front rest stop total read (suc n, enough, same) =
     ap (λ (l : List Piece). (l, stop)) (sym (append-nil front)) ∙ rw (← read, pieces_within) at same

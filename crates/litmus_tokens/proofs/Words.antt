@@ -1,5 +1,5 @@
 -- The number that digits say, where a word has room for it.
-use Rattle.std.proofs.Common.{◌≡◌, ◌-◌, ◌^◌, ◌<◌, ◌≤◌, true, false, ltb, leb, List, ℕ, Some, None, refl, arith}
+use Rattle.std.proofs.Common.{◌≡◌, ◌^◌, ltb, leb, List, ℕ, refl, arith}
 use Rattle.std.proofs.lemmas.Bool.Decides.{nat_tests}
 use Rattle.decimals.specs.Decimals.{decimal_value, number_up_to}
 use Rattle.litmus_tokens.specs.Terms.{word_of}

@@ -1,13 +1,9 @@
 -- White space and comments. (This project's profile.)
-use Rattle.std.specs.Prelude.{◌≡◌, ◌<◌, ℕ, Bool, List, [], ◌∷◌, length, Option, Some, None, Result, Ok, Err, ◌==◌, ◌&&◌, ◌||◌, if◌then◌else◌}
+use Rattle.std.specs.Prelude.{◌≡◌, ◌<◌, ℕ, Bool, List, [], ◌∷◌, length, Option, Some, None, Result}
+use Rattle.std.specs.Prelude.{Ok, Err, ◌==◌, ◌&&◌, ◌||◌, if◌then◌else◌}
 use denote.Ref.{Bor}
 use Rattle.litmus_tokens.specs.declared.token.Stop.{Stop}
 use Rattle.litmus_tokens.specs.declared.token.Stop.TheVariants.{Unclosed}
-
--- a result, with what was found seen by `view`
-abbrev pub seen : {X Y : Type 0} → (X → Y) → Result X Stop → Result Y Stop
-seen view (Ok x) = Ok (view x)
-seen view (Err e) = Err e
 
 -- space, tab, LF and CR
 unfoldable pub is_space : ℕ → Bool

@@ -1,3 +1,4 @@
+pub mod Mapped
 pub mod Gap
 pub mod Terms
 pub mod SymbolSteps

@@ -1,7 +1,8 @@
 -- A symbol by its first byte and its second, as the lexer looks for it.
 use Rattle.std.specs.Prelude.{ℕ, List, [], ◌∷◌, Option, Some, None, ◌==◌, ◌&&◌, if◌then◌else◌}
 use Rattle.litmus_tokens.specs.declared.token.Symbol.{Symbol}
-use Rattle.litmus_tokens.specs.declared.token.Symbol.TheVariants.{Equals, Semicolon, Colon, OpenSquare, CloseSquare, OpenCurly, CloseCurly, Bar, Comma, Dollar, Tilde, OpenRound, CloseRound, And, Or}
+use Rattle.litmus_tokens.specs.declared.token.Symbol.TheVariants.{Equals, Semicolon, Colon, OpenSquare, CloseSquare, OpenCurly, CloseCurly}
+use Rattle.litmus_tokens.specs.declared.token.Symbol.TheVariants.{Bar, Comma, Dollar, Tilde, OpenRound, CloseRound, And, Or}
 
 -- a symbol of one byte
 unfoldable pub single : ℕ → Option Symbol

@@ -3,7 +3,8 @@
 ghost use Rattle.std.specs.Prelude.{◌≡◌, ◌≤◌, ◌<◌, length, None, IfOk, IfSome};
 ghost use Rattle.std.specs.Option.{option_map};
 ghost use Rattle.litmus_tokens.specs.Gap as gap;
-ghost use Rattle.litmus_tokens.specs.Gap.{gap_end, comment_end, seen, Steps};
+ghost use Rattle.litmus_tokens.specs.Gap.{gap_end, comment_end, Steps};
+ghost use Rattle.litmus_tokens.specs.Mapped.{mapped};
 
 use crate::token::Stop;
 
@@ -31,7 +32,7 @@ fn after_comment(bytes: &[u8]) -> Option<&[u8]>
 }
 
 /// What stands after one byte of white space or one comment; `None` where neither is there.
-#[tactic(auto, using(crate::proofs::Gaps::gap_after_space, crate::proofs::Gaps::gap_inside, crate::proofs::Gaps::gap_unclosed), unfolding(crate::specs::Gap::gap_end))]
+#[tactic(auto, using(crate::proofs::Gaps::gap_after_space), unfolding(crate::specs::Gap::gap_end))]
 fn after_one(bytes: &[u8]) -> Result<Option<&[u8]>, Stop>
     ensures { Steps result bytes.now (gap_end None bytes.now) }
 {
@@ -55,7 +56,7 @@ fn after_one(bytes: &[u8]) -> Result<Option<&[u8]>, Stop>
 
 /// What stands after white space and comments. The only stop is a comment that doesn't end.
 pub fn after_gap(bytes: &[u8]) -> Result<&[u8], Stop>
-    ensures value { seen (λ x. x.now) result ≡ gap_end None bytes.now }
+    ensures value { mapped (λ x. x.now) result ≡ gap_end None bytes.now }
     ensures within { IfOk result (λ x. length x.now ≤ length bytes.now) }
 {
     let mut rest = bytes;

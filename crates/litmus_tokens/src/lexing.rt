@@ -6,7 +6,7 @@ ghost use Rattle.std.specs.List.{prefix_len};
 ghost use Rattle.std.specs.Char as char;
 ghost use Rattle.tso_model.specs.Limits.{longest_name};
 ghost use Rattle.tso_model.specs.Names as names;
-ghost use Rattle.litmus_tokens.specs.Gap.{seen};
+ghost use Rattle.litmus_tokens.specs.Mapped.{mapped};
 ghost use Rattle.litmus_tokens.specs.Terms as terms;
 ghost use Rattle.litmus_tokens.specs.SymbolSteps as steps;
 ghost use Rattle.decimals.specs.Decimals.{decimal_value};
@@ -115,7 +115,7 @@ fn symbol_of(bytes: &[u8]) -> Option<(Symbol, &[u8])>
 /// The token at the very front, and what stands after it.
 #[tactic(auto, using(crate::proofs::Pieces::begins_in_name), unfolding(crate::specs::Terms::term_at))]
 fn lexeme_at(bytes: &[u8]) -> Result<(Lexeme<'_>, &[u8]), Stop>
-    ensures value { seen (λ x. (term_of x.0, x.1.now)) result ≡ terms.term_at bytes.now }
+    ensures value { mapped (λ x. (term_of x.0, x.1.now)) result ≡ terms.term_at bytes.now }
     ensures shorter { IfOk result (λ x. length x.1.now < length bytes.now) }
 {
     let Some(first) = bytes.first() else {
@@ -141,7 +141,7 @@ fn lexeme_at(bytes: &[u8]) -> Result<(Lexeme<'_>, &[u8]), Stop>
 /// The next token after white space and comments, and what stands after it.
 #[tactic(auto, unfolding(crate::specs::Pieces::piece_at))]
 fn token_at(bytes: &[u8]) -> Result<(Token<'_>, &[u8]), Stop>
-    ensures value { seen (λ x. (piece_of x.0, x.1.now)) result ≡ spec.piece_at bytes.now }
+    ensures value { mapped (λ x. (piece_of x.0, x.1.now)) result ≡ spec.piece_at bytes.now }
     ensures shorter { IfOk result (λ x. length x.1.now < length bytes.now) }
 {
     let rest = after_gap(bytes)?;

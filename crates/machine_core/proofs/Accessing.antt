@@ -13,7 +13,7 @@ use Rattle.tso_model.specs.declared.execution.Entry.{Entry}
 use Rattle.tso_model.specs.declared.choice.Choice.{Choice}
 use Rattle.tso_model.specs.declared.choice.Choice.TheVariants.{Step, Drain}
 use Rattle.tso_model.specs.declared.choice.Outcome.TheVariants.{Committed}
-use Rattle.machine_core.proofs.Draining.{drain_with, locked_with}
+use Rattle.basic_laws.proofs.WithPending.{drain_with, locked_with}
 
 pub record CommitsAtOnce (f : Effect) : Type 0 where
   pub outcome : f.outcome ≡ Committed

@@ -25,7 +25,7 @@ use Rattle.machine_core.proofs.CountBounds.{effect-advances}
 use Rattle.machine_core.proofs.CountsOnBus.{AdvancesOn, advances-acts, advances-frees, advances-reads, advances-writes, advances-rests}
 use Rattle.machine_core.proofs.Accessing.{commits-at-once}
 use Rattle.machine_core.proofs.LastWrites.{no-load, no-store}
-use Rattle.machine_core.proofs.Draining.{locked_with}
+use Rattle.basic_laws.proofs.WithPending.{locked_with}
 
 -- of the two entries of a locked instruction, the store part uses no cache
 last-unused : (c : Caches) (before : List Entry) (core : ℕ) (s : CoreState) (loc : Loc) (reg : Reg) (word value : ℕ) (pending : List Entry)

@@ -13,7 +13,7 @@ use Rattle.snoop_bus.specs.Bus.{Bus, cores_of}
 use Rattle.snoop_bus.specs.Accesses.{new_bus}
 use Rattle.machine_core.proofs.Overwriting.{written}
 use Rattle.machine_core.specs.declared.processor.Processor.{Processor}
-use Rattle.machine_core.specs.Cores.{core_states, core_state, state_of, restarted}
+use Rattle.machine_core.specs.Cores.{core_states, core_state, state_of, at_start}
 use Rattle.machine_core.specs.declared.counts.Counts.{Counts}
 use Rattle.machine_core.specs.Statistics.{no_counts, no_statistics}
 use Rattle.machine_core.specs.Caches.{caches_of}
@@ -23,7 +23,7 @@ use Rattle.machine_core.proofs.CoreLemmas.{IsCore-new}
 
 -- a core that has gone back, with its first registers
 abbrev pub begun : List (List ℕ) → ℕ → Processor → Processor
-begun registers core p = restarted (slice_index_or registers core []) p
+begun registers core p = at_start (slice_index_or registers core []) p
 
 pub started-begun : (registers : List (List ℕ)) (k : ℕ) (ps : List Processor) (programs : List (List Instr)) → length ps ≡ length programs
     → core_states k (written (begun registers) k (length ps) ps) ≡ started k programs registers

@@ -3,11 +3,10 @@ use Rattle.std.proofs.Common.{◌≡◌, ◌||◌, ◌==◌, ℕ, Bool, true, fa
 use Rattle.std.specs.Option.{option_map}
 use Rattle.std.specs.List.{last_or, list_any}
 use Rattle.tso_model.specs.ProgramOrder.{writes_to}
-use Rattle.tso_model.specs.FlatMachine.{CoreState, fenced, locked, drain_of}
+use Rattle.tso_model.specs.FlatMachine.{CoreState}
 use Rattle.tso_model.specs.declared.register.Reg.{Reg}
 use Rattle.tso_model.specs.declared.instruction.Loc.{Loc}
 use Rattle.tso_model.specs.declared.action.Update.{Update}
-use Rattle.tso_model.specs.declared.action.Action.TheVariants.{Lock}
 use Rattle.tso_model.specs.declared.execution.Entry.{Entry}
 use Rattle.store_buffer.specs.declared.Pending.{Pending}
 use Rattle.store_buffer.specs.Newest.{newest_for}
@@ -17,10 +16,10 @@ use Rattle.snoop_bus.specs.Accesses.{LoadsAt, WritesAt}
 use Rattle.machine_core.specs.declared.processor.Processor.{Processor}
 use Rattle.machine_core.specs.declared.cache_use.CacheUse.{CacheUse}
 use Rattle.machine_core.specs.declared.cache_use.CacheUse.TheVariants.{Unused, Forwarded, Through}
-use Rattle.machine_core.specs.Cores.{store_of, core_state, pending_in, action_by, drain_by}
-use Rattle.machine_core.specs.Caches.{Caches, caches_of, not_through, load_behind, write_by, use_of}
+use Rattle.machine_core.specs.Cores.{store_of, core_state, pending_in, lock_by, drain_by}
+use Rattle.machine_core.specs.Caches.{Caches, caches_of, not_through, load_after, write_by, use_of}
 use Rattle.machine_core.specs.Performed.{HasUsed}
-use Rattle.machine_core.proofs.Draining.{drain_with, fenced_with, locked_with}
+use Rattle.basic_laws.proofs.WithPending.{drain_with, fenced_with, locked_with}
 
 or_true : (b : Bool) → true ≡ (b || true)
 or_true true = refl
@@ -43,11 +42,11 @@ answered core loc value items h = sym (found-stores core loc None items) ∙ ap 
 pub unanswered : (core loc : ℕ) (items : List Pending) → None ≡ newest_for loc items → list_any (writes_to loc) (map (store_of core) items) ≡ false
 unanswered core loc items h = sym (found-stores core loc None items) ∙ ap is_some (sym h)
 
-pub forwards : (b : Bus) (pending : List Entry) (core loc : ℕ) → list_any (writes_to loc) pending ≡ true → HasUsed (load_behind (caches_of b) pending core loc) b Forwarded
+pub forwards : (b : Bus) (pending : List Entry) (core loc : ℕ) → list_any (writes_to loc) pending ≡ true → HasUsed (load_after (caches_of b) pending core loc) b Forwarded
 forwards b pending core loc h = rw h (record { how_is = refl; caches = refl })
 
 pub loads : (old new : Bus) (pending : List Entry) (core loc word : ℕ) (access : Access) → list_any (writes_to loc) pending ≡ false
-    → LoadsAt old new core loc word access → IsSameMachine old new → HasUsed (load_behind (caches_of old) pending core loc) new (Through access)
+    → LoadsAt old new core loc word access → IsSameMachine old new → HasUsed (load_after (caches_of old) pending core loc) new (Through access)
 loads old new pending core loc word access h done machine =
     rw h (record { how_is = ap Through done.access_is; caches = rw (machine.rows, machine.shape, done.contents, done.held.awaited_is) refl })
 
@@ -75,7 +74,7 @@ locked-uses c pending core s loc reg word value (p ∷ ps) h = absurd (let z : �
 
 pub locks : (core : ℕ) (p : Processor) (old new : Bus) (loc : Loc) (reg : Reg) (update : Update) (word : ℕ) (access : Access) → p.stores.items ≡ []
     → WritesAt old new core loc.0 word access → IsSameMachine old new
-    → HasUsed (use_of (caches_of old) (pending_in core p) (action_by p core (words_of old) (Lock loc reg update)).commits) new (Through access)
+    → HasUsed (use_of (caches_of old) (pending_in core p) (lock_by loc reg update core p (words_of old)).commits) new (Through access)
 locks core p old new loc reg update word access h done machine =
     subst (λ u. HasUsed u new (Through access)) (sym (locked-uses (caches_of old) (pending_in core p) core (core_state core p) loc reg _ _ p.stores.items h))
     (writes old new core loc.0 word access done machine)
@@ -86,6 +85,6 @@ drained-uses c pending core s [] store h = absurd (let z : ⊥ = cc in z)
 drained-uses c pending core s (p ∷ ps) store h = let e : store ≡ p = cc in ap (λ q. write_by c core q.loc.0) (sym e)
 
 pub drains : (core : ℕ) (p : Processor) (old new : Bus) (store : Pending) (how : CacheUse) → Some store ≡ slice_get p.stores.items 0
-    → HasUsed (write_by (caches_of old) core store.loc.0) new how → HasUsed (use_of (caches_of old) (pending_in core p) (drain_by p core).commits) new how
+    → HasUsed (write_by (caches_of old) core store.loc.0) new how → HasUsed (use_of (caches_of old) (pending_in core p) (drain_by core p (words_of old)).commits) new how
 drains core p old new store how h used =
     subst (λ u. HasUsed u new how) (sym (drained-uses (caches_of old) (pending_in core p) core (core_state core p) p.stores.items store h)) used

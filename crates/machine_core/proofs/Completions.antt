@@ -11,7 +11,7 @@ use Rattle.tso_model.specs.declared.choice.Choice.{Choice}
 use Rattle.tso_model.specs.declared.choice.Choice.TheVariants.{Drain}
 use Rattle.tso_model.specs.declared.choice.Outcome.TheVariants.{Committed}
 use Rattle.split_laws.specs.Holders.{HolderFits}
-use Rattle.snoop_bus.specs.Bus.{holder_of}
+use Rattle.snoop_bus.specs.Bus.{words_of, holder_of}
 use Rattle.machine_core.specs.declared.processor.Processor.{Processor}
 use Rattle.machine_core.specs.declared.cache_use.CacheUse.TheVariants.{Unused}
 use Rattle.machine_core.specs.declared.parts.Parts.{Parts}
@@ -47,12 +47,12 @@ completes-drain t depth state choice [] = refl
 completes-drain t depth state choice (p ∷ ps) = refl
 
 pub completes_in-drain : {P : Type 0} (t : Litmus) (m : Parts P) (core : Core) (p : Processor) → core.0 < length m.processors.items → p ≡ slice_index_or m.processors.items core.0 p
-    → completes_in t m (Drain core) ≡ acts (drain_by p core.0) Free
+    → completes_in t m (Drain core) ≡ acts (drain_by core.0 p (words_of m.bus)) Free
 completes_in-drain t m core p h q =
     ap (completes t m.config.depth (state_in m).flat (Drain core)) (access_of-drain t m core p h q)
     ∙ completes-drain t m.config.depth (state_in m).flat (Drain core) (pending_in core.0 p) ∙ ap (λ f. acts f Free) (effect_in-drain t m core p h q)
 
 pub drain-commits : {P : Type 0} (t : Litmus) (m : Parts P) (core : Core) (p : Processor) → core.0 < length m.processors.items → p ≡ slice_index_or m.processors.items core.0 p
-    → access_of t m.config.depth (state_in m).flat (Drain core) ≢ NoAccess → (drain_by p core.0).outcome ≡ Committed
+    → access_of t m.config.depth (state_in m).flat (Drain core) ≢ NoAccess → (drain_by core.0 p (words_of m.bus)).outcome ≡ Committed
 drain-commits t m core p h q some =
     ap (λ f. f.outcome) (sym (effect_in-drain t m core p h q)) ∙ (commits-at-once t m.config.depth (state_in m).flat (Drain core) some).outcome

@@ -5,21 +5,20 @@ use Rattle.std.specs.Option.{option_map}
 use Rattle.std.specs.List.{last_or}
 use Rattle.tso_model.specs.ProgramOrder.{writes_to}
 use Rattle.tso_model.specs.Execution.{last_value}
-use Rattle.tso_model.specs.FlatMachine.{is_none_pending, CoreState, stalled, fenced, locked, drain_of, started, idle}
+use Rattle.tso_model.specs.FlatMachine.{is_none_pending, CoreState, stalled, started, idle}
 use Rattle.tso_model.specs.Runs.{is_done, all_done}
 use Rattle.tso_model.specs.declared.register.Reg.{Reg}
 use Rattle.tso_model.specs.declared.instruction.Loc.{Loc}
 use Rattle.tso_model.specs.declared.instruction.Instr.{Instr}
 use Rattle.tso_model.specs.declared.action.Update.{Update}
-use Rattle.tso_model.specs.declared.action.Action.TheVariants.{Lock}
 use Rattle.tso_model.specs.declared.choice.Stall.TheVariants as stall
 use Rattle.store_buffer.specs.declared.Pending.{Pending}
 use Rattle.store_buffer.specs.Newest.{newest_for}
 use Rattle.machine_core.specs.declared.processor.Processor.{Processor}
 use Rattle.store_buffer.specs.Stores.{stores}
-use Rattle.machine_core.specs.Cores.{store_of, core_state, core_states, action_by}
+use Rattle.machine_core.specs.Cores.{store_of, core_state, core_states, lock_by}
 use Rattle.machine_core.specs.Kept.{IsCore}
-use Rattle.machine_core.proofs.Draining.{drain_with, fenced_with, locked_with}
+use Rattle.basic_laws.proofs.WithPending.{drain_with, fenced_with, locked_with}
 
 -- what a load sees, in the buffer and among the pending stores
 last_value-stores : (core loc word : ℕ) (o : Option Pending) (items : List Pending)
@@ -67,7 +66,7 @@ locked-waits core s loc reg word value [] h = absurd (h refl)
 locked-waits core s loc reg word value (p ∷ ps) h = refl
 
 pub lock-waits : (core : ℕ) (p : Processor) (words : List ℕ) (loc : Loc) (reg : Reg) (update : Update) (b : Bool) → (p.stores.items ≡ [] → IsTrue b) → b ≡ false
-    → stalled stall.Lock (core_state core p) ≡ action_by p core words (Lock loc reg update)
+    → stalled stall.Lock (core_state core p) ≡ lock_by loc reg update core p words
 lock-waits core p words loc reg update b f h = sym (locked-waits core (core_state core p) loc reg _ _ p.stores.items (holds_some b p.stores.items f h))
 
 pub drain_of-nothing : (core : ℕ) (s : CoreState) (items : List Pending) → slice_get items 0 ≡ None → drain_with s (map (store_of core) items) ≡ stalled stall.Empty s

@@ -33,10 +33,10 @@ use Rattle.snoop_bus.specs.CacheContents.{TagSets, loaded_in, written_in, write_
 use Rattle.machine_core.specs.declared.counts.Counts.{Counts}
 use Rattle.machine_core.specs.declared.cache_use.CacheUse.{CacheUse}
 use Rattle.machine_core.specs.declared.cache_use.CacheUse.TheVariants.{Unused, Forwarded, Through}
-use Rattle.machine_core.specs.Caches.{Caches, not_through, load_by, write_by, load_behind, use_by_kind, use_of}
+use Rattle.machine_core.specs.Caches.{Caches, not_through, load_by, write_by, load_after, use_by_kind, use_of}
 use Rattle.machine_core.specs.Statistics.{no_counts, with_access, with_write_back, with_forward, with_flush, at_core, flush_counted, counted}
 use Rattle.machine_core.specs.Kept.{IsIssued, IsAtMost, IsAmong, IsFlusherAmong, done_by}
-use Rattle.machine_core.proofs.Draining.{drain_with, fenced_with, locked_with}
+use Rattle.basic_laws.proofs.WithPending.{drain_with, fenced_with, locked_with}
 
 -- one count more
 stays : {a n : ℕ} → a ≤ n → a ≤ n + 1
@@ -221,13 +221,13 @@ load_by-among c core loc = load-among (table_of c.rows) core _ c.contents _
 write_by-among : (c : Caches) (core loc : ℕ) → IsFlusherAmong (length c.contents) (write_by c core loc).how
 write_by-among c core loc = write-among (table_of c.rows) core _ c.contents _
 
-load_behind-among : (c : Caches) (pending : List Entry) (core loc : ℕ) → IsFlusherAmong (length c.contents) (load_behind c pending core loc).how
-load_behind-among c pending core loc =
+load_after-among : (c : Caches) (pending : List Entry) (core loc : ℕ) → IsFlusherAmong (length c.contents) (load_after c pending core loc).how
+load_after-among c pending core loc =
     elim (list_any (writes_to loc) pending) as (λ b. IsFlusherAmong (length c.contents) (if b then not_through Forwarded c else load_by c core loc).how)
     [ true ↦ tt | false ↦ load_by-among c core loc ]
 
 use_by_kind-among : (c : Caches) (pending : List Entry) (e : Entry) (k : Kind) → IsFlusherAmong (length c.contents) (use_by_kind c pending e k).how
-use_by_kind-among c pending e R = load_behind-among c pending e.core.0 e.loc.0
+use_by_kind-among c pending e R = load_after-among c pending e.core.0 e.loc.0
 use_by_kind-among c pending e W = write_by-among c e.core.0 e.loc.0
 use_by_kind-among c pending e F = tt
 use_by_kind-among c pending e LR = write_by-among c e.core.0 e.loc.0

@@ -29,7 +29,7 @@ use Rattle.machine_core.specs.Split.{writes_last_in, use_by, IsLock, WritesAs}
 use Rattle.machine_core.proofs.Finishing.{free-awaits}
 use Rattle.machine_core.proofs.Performing.{core_of-state_in}
 use Rattle.machine_core.proofs.StepCompletions.{IsNext, access-next, effect-next}
-use Rattle.machine_core.proofs.Draining.{locked_with}
+use Rattle.basic_laws.proofs.WithPending.{locked_with}
 
 pub has-read : {P : Type 0} (t : Litmus) (m : Parts P) (e : Entry) → HolderFits Split t m.config.depth (state_in m).flat (state_in m).holder → (state_in m).holder ≡ HeldBetween e
     → HasRead t m.config.depth (state_in m).flat e

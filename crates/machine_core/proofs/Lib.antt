@@ -1,6 +1,6 @@
 pub mod Overwriting
-pub mod Draining
 pub mod CacheUses
+pub mod ActedLemmas
 pub mod Storing
 pub mod Acting
 pub mod Splitting

@@ -1,5 +1,5 @@
 -- A choice on the parts of a machine, from what its core did.
-use Rattle.std.proofs.Common.{◌≡◌, ◌<◌, ℕ, ◌++◌, None, Some, Result, Ok, Err, IfOk, OnOk, length, slice_get, slice_set, slice_index_or, length-set, refl, sym, ap, ◌∙◌, subst, append-nil, All}
+use Rattle.std.proofs.Common.{◌≡◌, ◌<◌, ℕ, ◌++◌, None, Some, Result, Ok, Err, IfOk, length, slice_get, slice_set, slice_index_or, length-set, refl, sym, ap, ◌∙◌, subst, All}
 use Rattle.std.proofs.lemmas.List.Elements.{All-set}
 use Rattle.tso_model.specs.Litmus.{Litmus}
 use Rattle.tso_model.specs.FlatMachine.{Effect, stalled, step_of, drain_of, chosen, memory_after, program_of, core_of}
@@ -11,26 +11,26 @@ use Rattle.tso_model.specs.declared.out_of_memory.NoMemory.{NoMemory}
 use Rattle.tso_model.specs.declared.choice.Choice.{Choice}
 use Rattle.tso_model.specs.declared.choice.Choice.TheVariants.{Step, Drain}
 use Rattle.tso_model.specs.declared.choice.Outcome.{Outcome}
-use Rattle.tso_model.specs.declared.choice.Outcome.TheVariants.{Stalled}
 use Rattle.tso_model.specs.declared.choice.Stall.TheVariants as stall
-use Rattle.snoop_bus.specs.Bus.{Bus, words_of, cores_of}
+use Rattle.snoop_bus.specs.Bus.{words_of, cores_of}
 use Rattle.machine_core.specs.declared.processor.Processor.{Processor}
-use Rattle.machine_core.specs.declared.cache_use.CacheUse.{CacheUse}
-use Rattle.machine_core.specs.declared.cache_use.CacheUse.TheVariants.{Unused}
 use Rattle.machine_core.specs.declared.parts.Parts.{Parts}
 use Rattle.machine_core.specs.Cores.{core_state, core_states, pending_in, step_by, drain_by}
 use Rattle.machine_core.specs.Caches.{caches_of, use_of}
-use Rattle.machine_core.specs.Kept.{IsCore, FitsTest, state_in}
-use Rattle.machine_core.specs.Performed.{HasUsed, Performs, flat_effect_in, flat_use_in}
+use Rattle.machine_core.specs.Kept.{IsCore, PartsFitTest, state_in}
+use Rattle.machine_core.specs.Performed.{Answer, HasUsed, Performs, flat_effect_in}
+use Rattle.machine_core.specs.Acted.{HasActed}
+use Rattle.machine_core.specs.Split.{use_by}
+use Rattle.machine_core.specs.Made.{HasMade, whole_effect_in}
 use Rattle.machine_core.proofs.CoreLemmas.{core_states-get_or, core_states-set}
-use Rattle.machine_core.proofs.CacheUses.{rests}
+use Rattle.machine_core.proofs.Splitting.{use-acts}
 
 -- the core that a choice names, as the flat machine has it
 pub core_of-state_in : {P : Type 0} (m : Parts P) (i : ℕ) (p : Processor) → i < length m.processors.items → p ≡ slice_index_or m.processors.items i p → core_of (state_in m).flat i ≡ core_state i p
 core_of-state_in m i p h q = core_states-get_or m.processors.items i p h ∙ ap (core_state i) (sym q)
 
 pub effect_in-step : {P : Type 0} (t : Litmus) (m : Parts P) (core : Core) (p : Processor) (instr : Instr) → core.0 < length m.processors.items → p ≡ slice_index_or m.processors.items core.0 p
-    → p.stores.depth ≡ m.config.depth → slice_get (program_of t core.0) p.place ≡ Some instr → flat_effect_in t m (Step core) ≡ step_by p core.0 (words_of m.bus) instr
+    → p.stores.depth ≡ m.config.depth → slice_get (program_of t core.0) p.place ≡ Some instr → flat_effect_in t m (Step core) ≡ step_by instr core.0 p (words_of m.bus)
 effect_in-step t m core p instr h q d g =
     ap (λ s. step_of m.config.depth (words_of m.bus) core.0 (slice_get (program_of t core.0) s.place) s) (core_of-state_in m core.0 p h q)
     ∙ ap (λ found. step_of m.config.depth (words_of m.bus) core.0 found (core_state core.0 p)) g
@@ -43,7 +43,7 @@ effect_in-done t m core p h q g =
     ∙ ap (λ found. step_of m.config.depth (words_of m.bus) core.0 found (core_state core.0 p)) g
 
 pub effect_in-drain : {P : Type 0} (t : Litmus) (m : Parts P) (core : Core) (p : Processor) → core.0 < length m.processors.items → p ≡ slice_index_or m.processors.items core.0 p
-    → flat_effect_in t m (Drain core) ≡ drain_by p core.0
+    → flat_effect_in t m (Drain core) ≡ drain_by core.0 p (words_of m.bus)
 effect_in-drain t m core p h q = ap (λ s. drain_of s) (core_of-state_in m core.0 p h q)
 
 -- the access that it makes
@@ -81,45 +81,25 @@ Performs-by m new choice o p f g e processors after memory commits holder outcom
     } in
     subst (λ h. Performs m new choice h o) (sym e) all
 
-pub IfOk-Performs : {P : Type 0} (r : Result (Outcome × CacheUse) NoMemory) (t : Litmus) (m new : Parts P) (choice : Choice) (p : Processor) (f : Effect)
-    → flat_effect_in t m choice ≡ f → new.processors.items ≡ slice_set m.processors.items (chosen choice) p → (state_in new).holder ≡ (state_in m).holder
-    → IfOk r (λ x. x.0 ≡ f.outcome) → OnOk r (core_state (chosen choice) p ≡ f.after)
-    → OnOk r (words_of new.bus ≡ memory_after f.commits (words_of m.bus)) → OnOk r (new.commits.entries ≡ m.commits.entries ++ f.commits)
-    → IfOk r (λ x. Performs m new choice (acts (flat_effect_in t m choice) (state_in m).holder) x.0)
-IfOk-Performs (Ok x) t m new choice p f e processors holder outcome after words commits =
-    Performs-by m new choice x.0 p (acts (flat_effect_in t m choice) (state_in m).holder) (acts f (state_in m).holder) (ap (λ g. acts g (state_in m).holder) e) processors after words commits holder outcome
-IfOk-Performs (Err x) t m new choice p f e processors holder outcome after words commits = tt
-
--- what its core had to do with the caches is what the choice had
-pub IfOk-HasUsed : {P : Type 0} (r : Result (Outcome × CacheUse) NoMemory) (t : Litmus) (m : Parts P) (bus : Bus) (choice : Choice) (p : Processor) (f : Effect)
-    → flat_effect_in t m choice ≡ f → chosen choice < length m.processors.items → p ≡ slice_index_or m.processors.items (chosen choice) p
-    → IfOk r (λ x. HasUsed (use_of (caches_of m.bus) (pending_in (chosen choice) p) f.commits) bus x.1) → IfOk r (λ x. HasUsed (flat_use_in t m choice) bus x.1)
-IfOk-HasUsed r t m bus choice p f e h q used =
-    let same : flat_use_in t m choice ≡ use_of (caches_of m.bus) (pending_in (chosen choice) p) f.commits =
-    ap (λ s. use_of (caches_of m.bus) s.pending (flat_effect_in t m choice).commits) (core_of-state_in m (chosen choice) p h q)
+pub IfOk-Makes : {P : Type 0} (r : Result Answer NoMemory) (t : Litmus) (m new : Parts P) (choice : Choice) (p q : Processor) (f : Effect) → flat_effect_in t m choice ≡ f
+    → chosen choice < length m.processors.items → p ≡ slice_index_or m.processors.items (chosen choice) p
+    → new.processors.items ≡ slice_set m.processors.items (chosen choice) q → (state_in new).holder ≡ (state_in m).holder
+    → IfOk r (HasActed (chosen choice) p q m.bus new.bus m.commits new.commits f) → IfOk r (HasMade t m new choice (whole_effect_in t m choice))
+IfOk-Makes (Ok x) t m new choice p q f e h at processors holder acted =
+    let used : use_by t m choice (whole_effect_in t m choice) ≡ use_of (caches_of m.bus) (pending_in (chosen choice) p) f.commits =
+    use-acts t m choice ∙ ap (λ s. use_of (caches_of m.bus) s.pending (flat_effect_in t m choice).commits) (core_of-state_in m (chosen choice) p h at)
     ∙ ap (λ g. use_of (caches_of m.bus) (pending_in (chosen choice) p) g.commits) e in
-    subst (λ u. IfOk r (λ x. HasUsed u bus x.1)) (sym same) used
-
--- at the end of a program nothing is used
-pub HasUsed-done : {P : Type 0} (t : Litmus) (m : Parts P) (bus : Bus) (core : Core) (p : Processor) → core.0 < length m.processors.items → p ≡ slice_index_or m.processors.items core.0 p
-    → slice_get (program_of t core.0) p.place ≡ None → bus ≡ m.bus → HasUsed (flat_use_in t m (Step core)) bus Unused
-HasUsed-done t m bus core p h q g same =
-    subst (λ b. HasUsed (flat_use_in t m (Step core)) b Unused) (sym same)
-    (rests m.bus (core_of (state_in m).flat core.0).pending (flat_effect_in t m (Step core)).commits (ap (λ f. f.commits) (effect_in-done t m core p h q g)))
-
--- at the end of a program a step stalls
-pub Performs-done : {P : Type 0} (t : Litmus) (m new : Parts P) (core : Core) (p : Processor) → core.0 < length m.processors.items → p ≡ slice_index_or m.processors.items core.0 p
-    → slice_get (program_of t core.0) p.place ≡ None → new.processors.items ≡ slice_set m.processors.items core.0 p → words_of new.bus ≡ words_of m.bus
-    → new.commits.entries ≡ m.commits.entries → (state_in new).holder ≡ (state_in m).holder
-    → Performs m new (Step core) (acts (flat_effect_in t m (Step core)) (state_in m).holder) (Stalled stall.Done)
-Performs-done t m new core p h q g processors memory commits holder =
-    Performs-by m new (Step core) (Stalled stall.Done) p (acts (flat_effect_in t m (Step core)) (state_in m).holder) (acts (stalled stall.Done (core_state core.0 p)) (state_in m).holder)
-    (ap (λ f. acts f (state_in m).holder) (effect_in-done t m core p h q g)) processors refl memory (commits ∙ sym (append-nil m.commits.entries)) holder refl
+    record {
+      ok = Performs-by m new choice x.0 q (whole_effect_in t m choice) (acts f (state_in m).holder) (ap (λ g. acts g (state_in m).holder) e)
+          processors acted.after acted.words acted.commits holder acted.outcome;
+      caches = subst (λ u. HasUsed u new.bus x.1) (sym used) acted.caches;
+    }
+IfOk-Makes (Err x) t m new choice p q f e h at processors holder acted = tt
 
 -- the parts still fit the test when one core and memory have changed
-pub FitsTest-next : {P : Type 0} (t : Litmus) (m new : Parts P) (i : ℕ) (p : Processor) → FitsTest t m → new.config ≡ m.config → new.processors.items ≡ slice_set m.processors.items i p
-    → cores_of new.bus ≡ cores_of m.bus → length (words_of new.bus) ≡ length (words_of m.bus) → p.stores.depth ≡ m.config.depth → All (λ s. s.loc.0 < length (words_of m.bus)) p.stores.items → FitsTest t new
-FitsTest-next t m new i p fits config processors on_bus size depth known = record {
+pub PartsFitTest-next : {P : Type 0} (t : Litmus) (m new : Parts P) (i : ℕ) (p : Processor) → PartsFitTest t m → new.config ≡ m.config → new.processors.items ≡ slice_set m.processors.items i p
+    → cores_of new.bus ≡ cores_of m.bus → length (words_of new.bus) ≡ length (words_of m.bus) → p.stores.depth ≡ m.config.depth → All (λ s. s.loc.0 < length (words_of m.bus)) p.stores.items → PartsFitTest t new
+PartsFitTest-next t m new i p fits config processors on_bus size depth known = record {
   cores = ap length processors ∙ length-set m.processors.items i p ∙ fits.cores;
   on_bus = on_bus ∙ fits.on_bus;
   words = size ∙ fits.words;
@@ -131,8 +111,8 @@ FitsTest-next t m new i p fits config processors on_bus size depth known = recor
       (subst (λ c. All (IsCore c.depth (length (words_of m.bus))) (slice_set m.processors.items i p)) (sym config) old));
 }
 
-pub within-cores : {P : Type 0} (t : Litmus) (m : Parts P) (i : ℕ) → FitsTest t m → i < length t.programs → i < length m.processors.items
+pub within-cores : {P : Type 0} (t : Litmus) (m : Parts P) (i : ℕ) → PartsFitTest t m → i < length t.programs → i < length m.processors.items
 within-cores t m i fits h = subst (λ n. i < n) (sym fits.cores) h
 
-pub IsCore-at : {P : Type 0} (t : Litmus) (m : Parts P) (i : ℕ) (p : Processor) → FitsTest t m → i < length t.programs → p ≡ slice_index_or m.processors.items i p → IsCore m.config.depth (length (words_of m.bus)) p
+pub IsCore-at : {P : Type 0} (t : Litmus) (m : Parts P) (i : ℕ) (p : Processor) → PartsFitTest t m → i < length t.programs → p ≡ slice_index_or m.processors.items i p → IsCore m.config.depth (length (words_of m.bus)) p
 IsCore-at t m i p fits h q = subst (IsCore m.config.depth (length (words_of m.bus))) (sym q) (fits.each i p (within-cores t m i fits h))

@@ -21,13 +21,13 @@ use Rattle.snoop_bus.specs.Accesses.{AsksFor}
 use Rattle.snoop_bus.specs.Held as bus
 use Rattle.snoop_bus.specs.declared.holding.Holder as bus_holder
 use Rattle.snoop_bus.specs.declared.holding.Stage.TheVariants.{Locked}
-use Rattle.machine_core.specs.declared.cache_use.CacheUse.{CacheUse}
 use Rattle.machine_core.specs.declared.cache_use.CacheUse.TheVariants.{Unused}
 use Rattle.machine_core.specs.declared.parts.Parts.{Parts}
 use Rattle.machine_core.specs.Caches.{Caches, Used, caches_of, at_access, ask_by, not_through, hits_by, is_awaited, used_between, use_of}
-use Rattle.machine_core.specs.Kept.{FitsTest, IsHeldAs, held_as, held_for, core_in, state_in}
-use Rattle.machine_core.specs.Performed.{HasUsed, MayAct, Performs, attempt_in, flat_effect_in, flat_use_in}
+use Rattle.machine_core.specs.Kept.{PartsFitTest, IsHeldAs, held_as, held_for, core_in, state_in}
+use Rattle.machine_core.specs.Performed.{Answer, HasUsed, MayAct, Performs, attempt_in, flat_effect_in}
 use Rattle.machine_core.specs.Split.{IsOther, begins_in, use_by}
+use Rattle.machine_core.specs.Made.{HasMade, IsUndone, whole_effect_in}
 
 -- whether it needs the bus
 abbrev pub needs_in : {P : Type 0} → Litmus → Parts P → Choice → Bool
@@ -39,6 +39,10 @@ begins-acts t m choice h = rw h refl
 pub begins-asks : {P : Type 0} (t : Litmus) (m : Parts P) (choice : Choice) → needs_in t m choice ≡ true
     → begins_in t m choice ≡ asks (core_of (state_in m).flat (chosen choice)) choice (state_in m).holder
 begins-asks t m choice h = rw h refl
+
+-- how a choice that is made at once uses the caches
+abbrev pub flat_use_in : {P : Type 0} → Litmus → Parts P → Choice → Used
+flat_use_in t m choice = use_of (caches_of m.bus) (core_of (state_in m).flat (chosen choice)).pending (flat_effect_in t m choice).commits
 
 -- where the same is awaited before it and after it, a choice uses the caches as on the flat machine
 pub used-same : (b : Bool) (c : Caches) (core : ℕ) (what : Access) (pending commits : List Entry) → used_between b b c core what pending commits ≡ use_of c pending commits
@@ -67,19 +71,19 @@ held-kept t depth state choice Free other fits waits = refl
 held-kept t depth state choice (HeldBy asked) other fits waits = ap (held_for (core_in asked)) (waits asked choice fits other)
 held-kept t depth state choice (HeldBetween e) other fits waits = refl
 
-pub held-next : {P : Type 0} (r : Result (Outcome × CacheUse) NoMemory) (t : Litmus) (m new : Parts P) (choice : Choice) → IsHeldAs t m → IsOther (state_in m).holder choice
+pub held-next : {P : Type 0} (r : Result Answer NoMemory) (t : Litmus) (m new : Parts P) (choice : Choice) → IsHeldAs t m → IsOther (state_in m).holder choice
     → HolderFits Split t m.config.depth (state_in m).flat (state_in m).holder
     → ((a b : Choice) → access_of t m.config.depth (state_in m).flat a ≢ NoAccess → same_choice a b ≡ false
     → access_of t m.config.depth (after_choice t m.config.depth (state_in m).flat b) a ≡ access_of t m.config.depth (state_in m).flat a)
-    → new.config ≡ m.config → holder_of new.bus ≡ holder_of m.bus → IfOk r (λ x. Performs m new choice (acts (flat_effect_in t m choice) (state_in m).holder) x.0)
-    → OnErr r (state_in new ≡ state_in m) → IsHeldAs t new
+    → new.config ≡ m.config → holder_of new.bus ≡ holder_of m.bus → IfOk r (HasMade t m new choice (whole_effect_in t m choice))
+    → OnErr r (IsUndone m new) → IsHeldAs t new
 held-next (Ok x) t m new choice held other fits waits config same done err =
-    let flat : (state_in new).flat ≡ after_choice t m.config.depth (state_in m).flat choice = done.flat in
+    let flat : (state_in new).flat ≡ after_choice t m.config.depth (state_in m).flat choice = done.ok.flat in
     same ∙ held ∙ sym (held-kept t m.config.depth (state_in m).flat choice (state_in m).holder other fits waits)
-    ∙ ap (λ s. held_as t m.config.depth s (state_in m).holder) (sym flat) ∙ ap (λ h. held_as t m.config.depth (state_in new).flat h) (sym done.holder)
+    ∙ ap (λ s. held_as t m.config.depth s (state_in m).holder) (sym flat) ∙ ap (λ h. held_as t m.config.depth (state_in new).flat h) (sym done.ok.holder)
     ∙ ap (λ c. held_as t c.depth (state_in new).flat (state_in new).holder) (sym config)
 held-next (Err x) t m new choice held other fits waits config same done err =
-    same ∙ held ∙ ap (λ (s : BusState). held_as t m.config.depth s.flat s.holder) (sym err) ∙ ap (λ c. held_as t c.depth (state_in new).flat (state_in new).holder) (sym config)
+    same ∙ held ∙ ap (λ (s : BusState). held_as t m.config.depth s.flat s.holder) (sym err.state) ∙ ap (λ c. held_as t c.depth (state_in new).flat (state_in new).holder) (sym config)
 
 -- the caches' answer fits
 pub answer-fits : (t : Litmus) (depth : ℕ) (state : State) (a : Attempt) (b : Bus) (holder : Holder) → holder_of b ≡ held_as t depth state holder
@@ -166,8 +170,8 @@ pub held-ask : (t : Litmus) (depth : ℕ) (old new : State) (choice : Choice) (c
 held-ask t depth old new choice core access b i a s h =
     h ∙ ap (λ k. held_for k access) i ∙ ap (held_for (core_in choice)) (a ∙ ap (λ st. access_of t depth st choice) (sym s))
 
-pub fits-ask : {P : Type 0} (t : Litmus) (m new : Parts P) → FitsTest t m → new.config ≡ m.config → new.processors.items ≡ m.processors.items → words_of new.bus ≡ words_of m.bus
-    → cores_of new.bus ≡ cores_of m.bus → FitsTest t new
+pub fits-ask : {P : Type 0} (t : Litmus) (m new : Parts P) → PartsFitTest t m → new.config ≡ m.config → new.processors.items ≡ m.processors.items → words_of new.bus ≡ words_of m.bus
+    → cores_of new.bus ≡ cores_of m.bus → PartsFitTest t new
 fits-ask t m new fits config processors words cores = record {
   cores = ap length processors ∙ fits.cores;
   on_bus = cores ∙ fits.on_bus;

@@ -26,7 +26,7 @@ use Rattle.snoop_bus.specs.Bus.{words_of}
 use Rattle.machine_core.specs.declared.processor.Processor.{Processor}
 use Rattle.machine_core.specs.declared.parts.Parts.{Parts}
 use Rattle.machine_core.specs.Cores.{core_state, pending_in, action_by}
-use Rattle.machine_core.specs.Kept.{FitsTest, state_in}
+use Rattle.machine_core.specs.Kept.{PartsFitTest, state_in}
 use Rattle.machine_core.specs.Performed.{flat_effect_in}
 use Rattle.machine_core.specs.Split.{completes_in}
 use Rattle.machine_core.proofs.Performing.{core_of-state_in, effect_in-step, access_of-step, access_of-done, IsCore-at, within-cores}
@@ -51,7 +51,7 @@ pub record IsNext {P : Type 0} (t : Litmus) (m : Parts P) (core : Core) (p : Pro
   pub got : slice_get (program_of t core.0) p.place ≡ Some instr
   pub action_is : action_of instr ≡ a
 
-pub is-next : {P : Type 0} (t : Litmus) (m : Parts P) (core : Core) (p : Processor) (program : List Instr) (found : Option Instr) (instr : Instr) (action a : Action) → FitsTest t m → core.0 < length t.programs
+pub is-next : {P : Type 0} (t : Litmus) (m : Parts P) (core : Core) (p : Processor) (program : List Instr) (found : Option Instr) (instr : Instr) (action a : Action) → PartsFitTest t m → core.0 < length t.programs
     → p ≡ slice_index_or m.processors.items core.0 p → program ≡ program_of t core.0 → found ≡ slice_get program p.place → found ≡ Some instr → action ≡ action_of instr → action ≡ a
     → IsNext t m core p a
 is-next t m core p program found instr action a fits h q programs finds some does is = record {
@@ -67,9 +67,9 @@ pub access-next : {P : Type 0} (t : Litmus) (m : Parts P) (core : Core) (p : Pro
 access-next t m core p a next =
     access_of-step t m core p next.instr next.within next.core_is next.depth_is next.got ∙ ap (λ action. access_by p.stores.depth action (pending_in core.0 p)) next.action_is
 
-pub effect-next : {P : Type 0} (t : Litmus) (m : Parts P) (core : Core) (p : Processor) (a : Action) → IsNext t m core p a → flat_effect_in t m (Step core) ≡ action_by p core.0 (words_of m.bus) a
+pub effect-next : {P : Type 0} (t : Litmus) (m : Parts P) (core : Core) (p : Processor) (a : Action) → IsNext t m core p a → flat_effect_in t m (Step core) ≡ action_by a core.0 p (words_of m.bus)
 effect-next t m core p a next =
-    effect_in-step t m core p next.instr next.within next.core_is next.depth_is next.got ∙ ap (λ action. action_by p core.0 (words_of m.bus) action) next.action_is
+    effect_in-step t m core p next.instr next.within next.core_is next.depth_is next.got ∙ ap (λ action. action_by action core.0 p (words_of m.bus)) next.action_is
 
 -- a move and a fence make no access
 no-access : (depth : ℕ) (a : Action) (pending : List Entry) → ((reg : Reg) × (operand : Operand) × (a ≡ Move reg operand)) ⊎ (a ≡ Fence) → access_by depth a pending ≡ NoAccess

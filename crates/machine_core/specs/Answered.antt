@@ -4,12 +4,12 @@ use Rattle.std.specs.Prelude.{ℕ, List, [], ◌∷◌}
 use Rattle.tso_model.specs.Litmus.{Litmus}
 use Rattle.tso_model.specs.FlatMachine.{start}
 use Rattle.tso_model.specs.SplitMachine.{Attempt}
-use Rattle.tso_model.specs.EitherBus.{BusState, unheld, after_on}
+use Rattle.tso_model.specs.EitherBus.{BusState, unheld}
 use Rattle.tso_model.specs.declared.bus.Bus.{Bus}
 use Rattle.tso_model.specs.declared.choice.Choice.{Choice}
 use Rattle.protocol_tables.specs.Tables.{Table}
 use Rattle.snoop_bus.specs.Geometry.{Geometry}
-use Rattle.machine_core.specs.Caches.{Caches, attempt_of, use_on}
+use Rattle.machine_core.specs.Caches.{Caches, attempt_of, use_on, state_after_on}
 use Rattle.machine_core.specs.Statistics.{no_statistics}
 
 -- from a state on, with these caches
@@ -17,7 +17,7 @@ abbrev pub answered_from : Bus → Litmus → ℕ → BusState → Caches → Li
 answered_from bus t depth state c [] = []
 answered_from bus t depth state c (choice ∷ rest) =
     attempt_of t depth state.flat c choice
-    ∷ answered_from bus t depth (after_on bus t depth state (attempt_of t depth state.flat c choice)) (use_on bus t depth state choice c).caches rest
+    ∷ answered_from bus t depth (state_after_on bus t depth state c choice) (use_on bus t depth state choice c).caches rest
 
 -- from the beginning of the test on, with empty caches of this shape
 abbrev pub answered : Bus → Table → Geometry → Litmus → ℕ → List Choice → List Attempt

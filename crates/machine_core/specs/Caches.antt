@@ -8,7 +8,7 @@ use Rattle.tso_model.specs.ProgramOrder.{writes_to}
 use Rattle.tso_model.specs.FlatMachine.{State, chosen, core_of}
 use Rattle.tso_model.specs.Access.{Access, NoAccess, Reads, Writes, Locks, access_of}
 use Rattle.tso_model.specs.SplitMachine.{Holder, Free, HeldBy, HeldBetween, Attempt, BusEffect}
-use Rattle.tso_model.specs.EitherBus.{BusState, effect_on}
+use Rattle.tso_model.specs.EitherBus.{BusState, effect_on, after_on}
 use Rattle.tso_model.specs.declared.bus.Bus as kind
 use Rattle.tso_model.specs.declared.instruction.Loc.{Loc}
 use Rattle.tso_model.specs.declared.execution.Entry.{Entry}
@@ -59,6 +59,13 @@ write_by c core loc = through c c.awaited (written (table_of c.rows) core (loc /
 abbrev pub would_hit : Caches → ℕ → ℕ → Bool → Bool
 would_hit c core loc write = hits (table_of c.rows) core (loc / c.shape.words) write c.contents
 
+-- what is so of an access at a location, a read or a write access, and what where there is none
+abbrev pub at_access : {A : Type 0} → A → (Loc → Bool → A) → Access → A
+at_access none at NoAccess = none
+at_access none at (Reads loc) = at loc false
+at_access none at (Writes loc) = at loc true
+at_access none at (Locks loc) = at loc true
+
 -- the first half of such an access on a split bus: the other caches see what is asked for, and that is awaited; it is no
 -- access yet
 abbrev pub asked_with : Caches → Asked → Caches
@@ -68,16 +75,23 @@ abbrev pub ask_by : Caches → ℕ → ℕ → Bool → Used
 ask_by c core loc write =
     not_through Unused (asked_with c (asking (table_of c.rows) (request_for write) core (loc / c.shape.words) c.contents))
 
+-- of an action that may make no access
+abbrev pub asking_by : Caches → ℕ → Access → Used
+asking_by c core what = at_access (not_through Unused c) (λ loc write. ask_by c core loc.0 write) what
+
 -- the second half: what was awaited comes, and the access is made
 abbrev pub completion_by : Caches → ℕ → ℕ → Used
 completion_by c core loc = through c None (completed (table_of c.rows) core (loc / c.shape.words) c.awaited c.contents)
 
+abbrev pub completing_by : Caches → ℕ → Access → Used
+completing_by c core what = at_access (not_through Unused c) (λ loc write. completion_by c core loc.0) what
+
 -- a load is answered by the core's own pending stores where one of them is to its location
-abbrev pub load_behind : Caches → List Entry → ℕ → ℕ → Used
-load_behind c pending core loc = if list_any (writes_to loc) pending then not_through Forwarded c else load_by c core loc
+abbrev pub load_after : Caches → List Entry → ℕ → ℕ → Used
+load_after c pending core loc = if list_any (writes_to loc) pending then not_through Forwarded c else load_by c core loc
 
 abbrev pub use_by_kind : Caches → List Entry → Entry → Kind → Used
-use_by_kind c pending e R = load_behind c pending e.core.0 e.loc.0
+use_by_kind c pending e R = load_after c pending e.core.0 e.loc.0
 use_by_kind c pending e W = write_by c e.core.0 e.loc.0
 use_by_kind c pending e F = not_through Unused c
 use_by_kind c pending e LR = write_by c e.core.0 e.loc.0
@@ -88,13 +102,6 @@ use_by_kind c pending e LW = not_through Unused c
 abbrev pub use_of : Caches → List Entry → List Entry → Used
 use_of c pending [] = not_through Unused c
 use_of c pending (e ∷ es) = use_by_kind c pending e e.kind
-
--- what is so of an access at a location, a read or a write access, and what where there is none
-abbrev pub at_access : {A : Type 0} → A → (Loc → Bool → A) → Access → A
-at_access none at NoAccess = none
-at_access none at (Reads loc) = at loc false
-at_access none at (Writes loc) = at loc true
-at_access none at (Locks loc) = at loc true
 
 -- whether a core's access is a hit
 abbrev pub hits_by : Caches → ℕ → Access → Bool
@@ -114,8 +121,8 @@ is_awaited (HeldBetween e) = false
 -- before it and whether one is awaited after it: where the waiting begins the access is asked for, where it ends the access
 -- is completed, and all else that is committed is one whole access
 abbrev pub used_between : Bool → Bool → Caches → ℕ → Access → List Entry → List Entry → Used
-used_between false true c core what pending commits = at_access (not_through Unused c) (λ loc write. ask_by c core loc.0 write) what
-used_between true false c core what pending commits = at_access (not_through Unused c) (λ loc write. completion_by c core loc.0) what
+used_between false true c core what pending commits = asking_by c core what
+used_between true false c core what pending commits = completing_by c core what
 used_between false false c core what pending commits = use_of c pending commits
 used_between true true c core what pending commits = use_of c pending commits
 
@@ -127,4 +134,9 @@ use_with t depth state choice f c =
 
 -- what a choice has to do with the caches on this bus
 abbrev pub use_on : kind.Bus → Litmus → ℕ → BusState → Choice → Caches → Used
-use_on bus t depth state choice c = use_with t depth state choice (effect_on bus t depth state (attempt_of t depth state.flat c choice)) c
+use_on bus t depth state choice c =
+    use_with t depth state choice (effect_on bus t depth state (attempt_of t depth state.flat c choice)) c
+
+-- the state after a choice with these caches
+abbrev pub state_after_on : kind.Bus → Litmus → ℕ → BusState → Caches → Choice → BusState
+state_after_on bus t depth state c choice = after_on bus t depth state (attempt_of t depth state.flat c choice)

@@ -24,14 +24,14 @@ use Rattle.machine_core.specs.declared.holding.Holding.{Holding}
 use Rattle.machine_core.specs.declared.holding.Holding.TheVariants as holding
 use Rattle.machine_core.specs.declared.memory_access.MemoryAccess.{MemoryAccess}
 use Rattle.machine_core.specs.declared.memory_access.MemoryAccess.TheVariants.{Nothing, Read, Write, Lock}
-use Rattle.machine_core.specs.Cores.{state_of}
+use Rattle.machine_core.specs.Cores.{AreKnown, state_of}
 use Rattle.machine_core.specs.Caches.{caches_of, at_access}
 use Rattle.machine_core.specs.Statistics.{Statistics}
 
 -- a core's buffer has this depth, 0 where there is none, and holds stores to one of so many locations
 pub record IsCore (depth locations : ℕ) (p : Processor) : Type 0 where
   pub depth_is : p.stores.depth ≡ depth
-  pub known : All (λ s. s.loc.0 < locations) p.stores.items
+  pub known : AreKnown locations p.stores
 
 -- how many of a core's instructions it is done with: those that it has issued and that wait in no buffer
 abbrev pub done_by : CoreState → ℕ
@@ -89,7 +89,7 @@ pub record IsTallied (t : Litmus) (state : BusState) (s : Statistics) : Type 0 w
   pub sender : IsSenderAmong (length t.programs) s.caches.awaited
 
 -- the parts of a machine of this test: its cores, all on one bus, and a word for each location
-pub record FitsTest {P : Type 0} (t : Litmus) (m : Parts P) : Type 0 where
+pub record PartsFitTest {P : Type 0} (t : Litmus) (m : Parts P) : Type 0 where
   pub cores : length m.processors.items ≡ length t.programs
   pub on_bus : cores_of m.bus ≡ length t.programs
   pub words : length (words_of m.bus) ≡ length t.locations

@@ -7,7 +7,10 @@ pub mod Buffers
 pub mod Cores
 pub mod Kept
 pub mod Performed
+pub mod Acted
 pub mod Split
+pub mod Made
+pub mod Machine
 pub mod WorkedCounts
 pub use Rattle.tso_model.specs.FlatMachine
 pub use Rattle.tso_model.specs.Runs

@@ -5,14 +5,14 @@ use Rattle.tso_model.specs.Litmus.{Litmus}
 use Rattle.tso_model.specs.FlatMachine.{start}
 use Rattle.tso_model.specs.Runs.{has_ended}
 use Rattle.tso_model.specs.SplitMachine.{Attempt, BusEffect}
-use Rattle.tso_model.specs.EitherBus.{BusState, unheld, effect_on, after_on, HitFits}
+use Rattle.tso_model.specs.EitherBus.{BusState, unheld, effect_on, HitFits}
 use Rattle.tso_model.specs.declared.bus.Bus.{Bus}
 use Rattle.tso_model.specs.declared.execution.Entry.{Entry}
 use Rattle.tso_model.specs.declared.choice.Choice.{Choice}
 use Rattle.protocol_tables.specs.Tables.{Table}
 use Rattle.snoop_bus.specs.Rows.{table_of}
 use Rattle.machine_core.specs.Configuration.{Configuration}
-use Rattle.machine_core.specs.Caches.{attempt_of}
+use Rattle.machine_core.specs.Caches.{attempt_of, state_after_on}
 use Rattle.machine_core.specs.Statistics.{Statistics, no_statistics, statistics_after}
 
 -- a machine: its test, the kind of its bus, the depth of its store buffers, the flat machine's state with who holds the bus,
@@ -68,14 +68,14 @@ machine_after m choice = record {
   test = m.test;
   bus = m.bus;
   depth = m.depth;
-  state = after_on m.bus m.test m.depth m.state (attempt_on m choice);
+  state = state_after_on m.bus m.test m.depth m.state m.statistics.caches choice;
   commits = m.commits ++ (effect_by m choice).effect.commits;
   statistics = statistics_after m.bus m.test m.depth m.state choice m.statistics;
   failed = m.failed;
 }
 
 -- the machine was refused memory: its state, who holds the bus, what was committed and the statistics are as they were
-pub record IsRefused (old new : Running) : Type 0 where
+pub record HasFailed (old new : Running) : Type 0 where
   pub test : new.test ≡ old.test
   pub bus : new.bus ≡ old.bus
   pub depth : new.depth ≡ old.depth

@@ -1,10 +1,11 @@
 -- The statistics of a run: what the accesses of each core's cache were. (Primer, chapters 2, 6 and 7, for hits, misses and
 -- upgrades; that an access on a split bus is counted at its completion is this project's profile.)
-use Rattle.std.specs.Prelude.{ℕ, ◌+◌, Bool, true, false, if◌then◌else◌, List, [], ◌∷◌, length, replicate, slice_set, slice_index_or, Option, Some, None}
+use Rattle.std.specs.Prelude.{ℕ, ◌+◌, Bool, true, false, if◌then◌else◌, Option, Some, None}
+use Rattle.std.specs.Prelude.{List, [], ◌∷◌, length, replicate, slice_set, slice_index_or}
 use Rattle.tso_model.specs.Litmus.{Litmus}
 use Rattle.tso_model.specs.FlatMachine.{chosen, start}
 use Rattle.tso_model.specs.Runs.{has_ended}
-use Rattle.tso_model.specs.EitherBus.{BusState, unheld, after_on}
+use Rattle.tso_model.specs.EitherBus.{BusState, unheld}
 use Rattle.tso_model.specs.declared.bus.Bus.{Bus}
 use Rattle.tso_model.specs.declared.instruction.Core.{Core}
 use Rattle.tso_model.specs.declared.choice.Choice.{Choice}
@@ -16,7 +17,7 @@ use Rattle.snoop_bus.specs.Accesses.{new_bus}
 use Rattle.machine_core.specs.declared.counts.Counts.{Counts}
 use Rattle.machine_core.specs.declared.cache_use.CacheUse.{CacheUse}
 use Rattle.machine_core.specs.declared.cache_use.CacheUse.TheVariants.{Unused, Forwarded, Through}
-use Rattle.machine_core.specs.Caches.{Caches, Used, caches_of, attempt_of, use_on}
+use Rattle.machine_core.specs.Caches.{Caches, Used, caches_of, use_on, state_after_on}
 
 abbrev pub counts : ℕ → ℕ → ℕ → ℕ → ℕ → ℕ → Counts
 counts hits misses upgrades forwards write_backs flushes =
@@ -76,7 +77,7 @@ statistics_from bus t depth state [] s = s
 statistics_from bus t depth state (c ∷ cs) s =
     if has_ended t state.flat
     then s
-    else statistics_from bus t depth (after_on bus t depth state (attempt_of t depth state.flat s.caches c)) cs (statistics_after bus t depth state c s)
+    else statistics_from bus t depth (state_after_on bus t depth state s.caches c) cs (statistics_after bus t depth state c s)
 
 -- at the beginning the caches are empty, nothing is awaited and nothing is counted
 abbrev pub no_statistics : Table → Geometry → Litmus → Statistics

@@ -65,8 +65,8 @@ two_stores = record {
 }
 
 -- the load comes between the two stores
-abbrev pub two_stores_choices : List Choice
-two_stores_choices = step 0 ∷ (drain 0 ∷ (step 1 ∷ (step 0 ∷ (drain 0 ∷ []))))
+abbrev pub between : List Choice
+between = step 0 ∷ (drain 0 ∷ (step 1 ∷ (step 0 ∷ (drain 0 ∷ []))))
 
 abbrev pub loc_z : Loc
 loc_z = record { 0 = 2 }
@@ -109,10 +109,16 @@ added_beside program = record {
 }
 
 -- beside a load of x, which waits until the addition is whole
+abbrev pub beside_load : Litmus
+beside_load = added_beside (Load Eax loc_x ∷ [])
+
 abbrev pub load_waits : List Choice
 load_waits = step 0 ∷ (step 0 ∷ (step 1 ∷ (step 0 ∷ (step 1 ∷ (step 1 ∷ [])))))
 
 -- beside two loads of y, the second of which hits between the two parts of the addition
+abbrev pub beside_two_loads : Litmus
+beside_two_loads = added_beside (Load Eax loc_y ∷ (Load Ebx loc_y ∷ []))
+
 abbrev pub load_between : List Choice
 load_between = step 1 ∷ (step 1 ∷ (step 0 ∷ (step 0 ∷ (step 1 ∷ (step 0 ∷ [])))))
 

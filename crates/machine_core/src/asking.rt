@@ -1,24 +1,19 @@
 //! What a choice does on a split bus: the holder's next choice completes what it asked for; any other
 //! asks for the bus, waits for it, or acts at once where it doesn't need it.
-ghost use Rattle.std.specs.Prelude.{◌≡◌, ◌≢◌, ℕ, ◌<◌, true, false, IsOk, IfOk, OnErr, Some, None, All, filter, length};
+ghost use Rattle.std.specs.Prelude.{◌≡◌, ℕ, ◌<◌, true, IfOk, OnErr, Some, filter, length};
 ghost use Rattle.tso_model.specs.Litmus.{KnownLocation};
 ghost use Rattle.tso_model.specs.FlatMachine.{chosen};
-ghost use Rattle.tso_model.specs.Access.{Writes, access_of, step_access, store_access, load_access, locked_access, drain_access};
+ghost use Rattle.tso_model.specs.Access.{access_of, step_access, store_access, load_access, locked_access, drain_access};
 ghost use Rattle.tso_model.specs.ProgramOrder.{writes_to};
 ghost use Rattle.tso_model.specs.SplitMachine.{needs_bus, same_choice};
-ghost use Rattle.tso_model.specs.EitherBus.{HitFits};
-ghost use Rattle.tso_model.specs.declared.execution.Entry.{Entry};
 ghost use Rattle.tso_model.specs.declared.bus.Bus.TheVariants as Bus;
-ghost use Rattle.split_laws.specs.Holders.{HolderFits};
 ghost use Rattle.snoop_bus.specs.Bus.{words_of, cores_of, holder_of, IsFree};
-ghost use Rattle.snoop_bus.specs.Held.{holder};
-ghost use Rattle.snoop_bus.specs.declared.holding.Stage.TheVariants.{Locked};
-ghost use Rattle.machine_core.specs.declared.cache_use.CacheUse.TheVariants.{Unused};
-ghost use Rattle.machine_core.specs.Cores.{pending_in};
-ghost use Rattle.machine_core.specs.Caches.{caches_of, hits_by, at_access, ask_by, not_through};
-ghost use Rattle.machine_core.specs.Kept.{FitsTest, IsHeldAs, access_in, held_for, state_in};
-ghost use Rattle.machine_core.specs.Performed.{HasUsed, Performs, attempt_in};
-ghost use Rattle.machine_core.specs.Split.{split_effect_in, begins_in, use_by, IsAccessAmong, IsOther};
+ghost use Rattle.machine_core.specs.Cores.{AreKnown, pending_in};
+ghost use Rattle.machine_core.specs.Caches.{caches_of, hits_by, asking_by};
+ghost use Rattle.machine_core.specs.Kept.{PartsFitTest, access_in, held_for, state_in};
+ghost use Rattle.machine_core.specs.Acted.{SucceedsUnlessCommitting};
+ghost use Rattle.machine_core.specs.Split.{split_effect_in, begins_in, IsAccessAmong, IsOther};
+ghost use Rattle.machine_core.specs.Made.{AreConsistent, AreOfTest, AnswerFitsIn, LeavesLocked, Makes, IsUndone, KeepsParts};
 
 use crate::cache_use::CacheUse;
 use crate::completing::{complete, write_last};
@@ -38,21 +33,14 @@ pub fn act_on_split<P: Protocol>(
     choice: Choice,
 ) -> Result<(Outcome, CacheUse), NoMemory>
     requires core { chosen choice < length test.now.programs }
-    requires fits { FitsTest test.now parts.old }
-    requires held { IsHeldAs test.now parts.old }
-    requires holder { HolderFits Bus.Split test.now parts.old.config.depth (state_in parts.old).flat (state_in parts.old).holder }
+    requires consistent { AreConsistent Bus.Split test.now parts.old }
 
-    ensures ok { IfOk result (λ r. Performs parts.old parts.new choice (split_effect_in test.now parts.old choice) r.0) }
-    ensures caches { IfOk result (λ r. HasUsed (use_by test.now parts.old choice (split_effect_in test.now parts.old choice)) parts.new.bus r.1) }
-    ensures succeeds { (split_effect_in test.now parts.old choice).effect.outcome ≢ Outcome.Committed → IsOk result }
-    ensures answer { HitFits test.now parts.old.config.depth (state_in parts.old).flat (attempt_in test.now parts.old choice) (state_in parts.old).holder }
-    ensures err_state { OnErr result (state_in parts.new ≡ state_in parts.old) }
-    ensures err_commits { OnErr result (parts.new.commits.entries ≡ parts.old.commits.entries) }
-    ensures err_bus { OnErr result (parts.new.bus ≡ parts.old.bus) }
-    ensures config { parts.new.config ≡ parts.old.config }
-    ensures counts { parts.new.counts.items ≡ parts.old.counts.items }
-    ensures fits { FitsTest test.now parts.new }
-    ensures held { IsHeldAs test.now parts.new }
+    ensures makes { IfOk result (Makes split_effect_in test.now parts.old parts.new choice) }
+    ensures succeeds { SucceedsUnlessCommitting result (split_effect_in test.now parts.old choice).effect }
+    ensures answer { AnswerFitsIn test.now parts.old choice }
+    ensures err { OnErr result (IsUndone parts.old parts.new) }
+    ensures keeps { KeepsParts parts.old parts.new }
+    ensures of_test { AreOfTest test.now parts.new }
 {
     match parts.holding {
         Holding::Free => begin(parts, test, choice),
@@ -86,22 +74,15 @@ fn begin<P: Protocol>(
     choice: Choice,
 ) -> Result<(Outcome, CacheUse), NoMemory>
     requires core { chosen choice < length test.now.programs }
-    requires fits { FitsTest test.now parts.old }
-    requires held { IsHeldAs test.now parts.old }
-    requires holder { HolderFits Bus.Split test.now parts.old.config.depth (state_in parts.old).flat (state_in parts.old).holder }
+    requires consistent { AreConsistent Bus.Split test.now parts.old }
     requires other { IsOther (state_in parts.old).holder choice }
 
-    ensures ok { IfOk result (λ r. Performs parts.old parts.new choice (begins_in test.now parts.old choice) r.0) }
-    ensures caches { IfOk result (λ r. HasUsed (use_by test.now parts.old choice (begins_in test.now parts.old choice)) parts.new.bus r.1) }
-    ensures succeeds { (begins_in test.now parts.old choice).effect.outcome ≢ Outcome.Committed → IsOk result }
-    ensures answer { HitFits test.now parts.old.config.depth (state_in parts.old).flat (attempt_in test.now parts.old choice) (state_in parts.old).holder }
-    ensures err_state { OnErr result (state_in parts.new ≡ state_in parts.old) }
-    ensures err_commits { OnErr result (parts.new.commits.entries ≡ parts.old.commits.entries) }
-    ensures err_bus { OnErr result (parts.new.bus ≡ parts.old.bus) }
-    ensures config { parts.new.config ≡ parts.old.config }
-    ensures counts { parts.new.counts.items ≡ parts.old.counts.items }
-    ensures fits { FitsTest test.now parts.new }
-    ensures held { IsHeldAs test.now parts.new }
+    ensures makes { IfOk result (Makes begins_in test.now parts.old parts.new choice) }
+    ensures succeeds { SucceedsUnlessCommitting result (begins_in test.now parts.old choice).effect }
+    ensures answer { AnswerFitsIn test.now parts.old choice }
+    ensures err { OnErr result (IsUndone parts.old parts.new) }
+    ensures keeps { KeepsParts parts.old parts.new }
+    ensures of_test { AreOfTest test.now parts.new }
 {
     accesses_wait();
     let core = core_of(choice);
@@ -126,7 +107,7 @@ fn needs_bus<P: Protocol>(bus: &SnoopBus<P>, core: Core, access: MemoryAccess) -
     ensures value { result ≡ needs_bus (access_in access) (hits_by (caches_of bus.now) core.0 (access_in access)) }
 
     // Between the two parts of a locked instruction no write of another core to its location hits.
-    ensures taken { (e : Entry) (loc : Loc) → holder_of bus.now ≡ Some (holder e.core e.loc Locked) → access_in access ≡ Writes loc → hits_by (caches_of bus.now) core.0 (access_in access) ≡ true → core.0 ≢ e.core.0 → loc.0 ≢ e.loc.0 }
+    ensures taken { LeavesLocked bus.now core.0 (access_in access) }
 {
     match access {
         MemoryAccess::Nothing => false,
@@ -143,7 +124,7 @@ fn ask<P: Protocol>(bus: &mut SnoopBus<P>, core: Core, access: MemoryAccess)
     requires free { IsFree bus.old }
     requires needs { needs_bus (access_in access) (hits_by (caches_of bus.old) core.0 (access_in access)) ≡ true }
     ensures words { words_of bus.new ≡ words_of bus.old }
-    ensures caches { caches_of bus.new ≡ (at_access (not_through Unused (caches_of bus.old)) (λ loc write. ask_by (caches_of bus.old) core.0 loc.0 write) (access_in access)).caches }
+    ensures caches { caches_of bus.new ≡ (asking_by (caches_of bus.old) core.0 (access_in access)).caches }
     ensures holder { holder_of bus.new ≡ held_for core (access_in access) }
     ensures cores { cores_of bus.new ≡ cores_of bus.old }
 {
@@ -157,7 +138,7 @@ fn ask<P: Protocol>(bus: &mut SnoopBus<P>, core: Core, access: MemoryAccess)
 /// The access that a choice makes.
 pub fn access_of<P: Protocol>(parts: &Parts<P>, test: &Test, choice: Choice) -> MemoryAccess
     requires core { chosen choice < length test.now.programs }
-    requires fits { FitsTest test.now parts.now }
+    requires fits { PartsFitTest test.now parts.now }
     ensures value { access_in result ≡ access_of test.now parts.now.config.depth (state_in parts.now).flat choice }
     ensures known { IsAccessAmong (length (words_of parts.now.bus)) (access_in result) }
 {
@@ -224,7 +205,7 @@ fn locked_access(processor: &Processor, loc: Loc) -> MemoryAccess
 /// A drain writes the oldest buffered store.
 fn drain_access(processor: &Processor) -> MemoryAccess
     ensures value { (core : ℕ) → access_in result ≡ drain_access (pending_in core processor.now) }
-    ensures known { (locations : ℕ) → All (λ s. s.loc.0 < locations) processor.now.stores.items → IsAccessAmong locations (access_in result) }
+    ensures known { (locations : ℕ) → AreKnown locations processor.now.stores → IsAccessAmong locations (access_in result) }
 {
     match processor.stores.oldest() {
         None => MemoryAccess::Nothing,

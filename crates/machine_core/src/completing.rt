@@ -1,24 +1,25 @@
 //! The holder's next choice on a split bus: it completes the access that it asked for, and frees the bus; of
 //! a locked instruction the load part comes first, and the store part at the choice after it.
 
-ghost use Rattle.std.specs.Prelude.{◌≡◌, ◌≢◌, ℕ, ◌<◌, ◌++◌, ◌∷◌, [], IsOk, IfOk, OnOk, OnErr, Some, All, length, slice_index, slice_set};
+ghost use Rattle.std.specs.Prelude.{◌≡◌, ◌≢◌, ℕ, ◌<◌, IfOk, OnOk, OnErr, Some, length};
 ghost use Rattle.tso_model.specs.Limits.{most_instructions};
 ghost use Rattle.tso_model.specs.Thread.{entry, with_value};
-ghost use Rattle.tso_model.specs.FlatMachine.{chosen, memory_after};
+ghost use Rattle.tso_model.specs.FlatMachine.{chosen};
 ghost use Rattle.tso_model.specs.FlatMachine as flat;
-ghost use Rattle.tso_model.specs.Access.{NoAccess, drain_access};
+ghost use Rattle.tso_model.specs.Access.{NoAccess, Reads, Writes, drain_access};
 ghost use Rattle.tso_model.specs.SplitMachine.{HeldBy, HeldBetween};
-ghost use Rattle.tso_model.specs.declared.execution.Kind.TheVariants.{R, W, LR};
+ghost use Rattle.tso_model.specs.declared.execution.Kind.TheVariants.{R, LR};
 ghost use Rattle.tso_model.specs.declared.bus.Bus.TheVariants as Bus;
-ghost use Rattle.split_laws.specs.Holders.{HolderFits};
-ghost use Rattle.snoop_bus.specs.Bus.{words_of, cores_of, holder_of, IsFree};
+ghost use Rattle.snoop_bus.specs.Bus.{words_of, cores_of, holder_of};
 ghost use Rattle.snoop_bus.specs.Held.{holder};
 ghost use Rattle.snoop_bus.specs.declared.holding.Stage.TheVariants as Stage;
-ghost use Rattle.machine_core.specs.Cores.{core_state, pending_in, advanced, drain_by};
-ghost use Rattle.machine_core.specs.Caches.{caches_of, at_access, not_through, completion_by};
-ghost use Rattle.machine_core.specs.Kept.{FitsTest, IsHeldAs, held_for, state_in};
-ghost use Rattle.machine_core.specs.Performed.{HasUsed, Performs};
-ghost use Rattle.machine_core.specs.Split.{completes_in, writes_last_in, use_by, IsLock, WritesAs};
+ghost use Rattle.machine_core.specs.Cores.{AreKnown, core_state, pending_in, word_at, at_next};
+ghost use Rattle.machine_core.specs.Caches.{caches_of, completion_by};
+ghost use Rattle.machine_core.specs.Kept.{held_for, state_in};
+ghost use Rattle.machine_core.specs.Performed.{HasUsed};
+ghost use Rattle.machine_core.specs.Acted.{Completes, IsStored, IsDrained, Notes, AreUnchanged, HasSameSizes};
+ghost use Rattle.machine_core.specs.Split.{completes_in, writes_last_in, IsLock, WritesAs};
+ghost use Rattle.machine_core.specs.Made.{AreConsistent, AreOfTest, HasMade, Makes, IsUndone, KeepsParts};
 
 use crate::cache_use::CacheUse;
 use crate::holding::Holding;
@@ -38,21 +39,14 @@ pub fn complete<P: Protocol>(
     choice: Choice,
 ) -> Result<(Outcome, CacheUse), NoMemory>
     requires core { chosen choice < length test.now.programs }
-    requires fits { FitsTest test.now parts.old }
-    requires held { IsHeldAs test.now parts.old }
-    requires holder { HolderFits Bus.Split test.now parts.old.config.depth (state_in parts.old).flat (state_in parts.old).holder }
+    requires consistent { AreConsistent Bus.Split test.now parts.old }
     requires asked { (state_in parts.old).holder ≡ HeldBy choice }
 
-    ensures ok { IfOk result (λ r. Performs parts.old parts.new choice (completes_in test.now parts.old choice) r.0) }
-    ensures caches { IfOk result (λ r. HasUsed (use_by test.now parts.old choice (completes_in test.now parts.old choice)) parts.new.bus r.1) }
+    ensures makes { IfOk result (Makes completes_in test.now parts.old parts.new choice) }
     ensures commits_at_once { (completes_in test.now parts.old choice).effect.outcome ≡ Outcome.Committed }
-    ensures err_state { OnErr result (state_in parts.new ≡ state_in parts.old) }
-    ensures err_commits { OnErr result (parts.new.commits.entries ≡ parts.old.commits.entries) }
-    ensures err_bus { OnErr result (parts.new.bus ≡ parts.old.bus) }
-    ensures config { parts.new.config ≡ parts.old.config }
-    ensures counts { parts.new.counts.items ≡ parts.old.counts.items }
-    ensures fits { FitsTest test.now parts.new }
-    ensures held { IsHeldAs test.now parts.new }
+    ensures err { OnErr result (IsUndone parts.old parts.new) }
+    ensures keeps { KeepsParts parts.old parts.new }
+    ensures of_test { AreOfTest test.now parts.new }
 {
     match choice {
         Choice::Step(core) => complete_step(parts, test, core),
@@ -67,21 +61,14 @@ fn complete_step<P: Protocol>(
     core: Core,
 ) -> Result<(Outcome, CacheUse), NoMemory>
     requires core { chosen (Choice.Step core) < length test.now.programs }
-    requires fits { FitsTest test.now parts.old }
-    requires held { IsHeldAs test.now parts.old }
-    requires holder { HolderFits Bus.Split test.now parts.old.config.depth (state_in parts.old).flat (state_in parts.old).holder }
+    requires consistent { AreConsistent Bus.Split test.now parts.old }
     requires asked { (state_in parts.old).holder ≡ HeldBy (Choice.Step core) }
 
-    ensures ok { IfOk result (λ r. Performs parts.old parts.new (Choice.Step core) (completes_in test.now parts.old (Choice.Step core)) r.0) }
-    ensures caches { IfOk result (λ r. HasUsed (use_by test.now parts.old (Choice.Step core) (completes_in test.now parts.old (Choice.Step core))) parts.new.bus r.1) }
+    ensures makes { IfOk result (Makes completes_in test.now parts.old parts.new (Choice.Step core)) }
     ensures commits_at_once { (completes_in test.now parts.old (Choice.Step core)).effect.outcome ≡ Outcome.Committed }
-    ensures err_state { OnErr result (state_in parts.new ≡ state_in parts.old) }
-    ensures err_commits { OnErr result (parts.new.commits.entries ≡ parts.old.commits.entries) }
-    ensures err_bus { OnErr result (parts.new.bus ≡ parts.old.bus) }
-    ensures config { parts.new.config ≡ parts.old.config }
-    ensures counts { parts.new.counts.items ≡ parts.old.counts.items }
-    ensures fits { FitsTest test.now parts.new }
-    ensures held { IsHeldAs test.now parts.new }
+    ensures err { OnErr result (IsUndone parts.old parts.new) }
+    ensures keeps { KeepsParts parts.old parts.new }
+    ensures of_test { AreOfTest test.now parts.new }
 {
     let processor = &mut parts.processors[core.0 as usize];
     let instr = instruction_at(test.program(core), processor.place).unwrap();
@@ -128,21 +115,14 @@ fn complete_drain<P: Protocol>(
     core: Core,
 ) -> Result<(Outcome, CacheUse), NoMemory>
     requires core { chosen (Choice.Drain core) < length test.now.programs }
-    requires fits { FitsTest test.now parts.old }
-    requires held { IsHeldAs test.now parts.old }
-    requires holder { HolderFits Bus.Split test.now parts.old.config.depth (state_in parts.old).flat (state_in parts.old).holder }
+    requires consistent { AreConsistent Bus.Split test.now parts.old }
     requires asked { (state_in parts.old).holder ≡ HeldBy (Choice.Drain core) }
 
-    ensures ok { IfOk result (λ r. Performs parts.old parts.new (Choice.Drain core) (completes_in test.now parts.old (Choice.Drain core)) r.0) }
-    ensures caches { IfOk result (λ r. HasUsed (use_by test.now parts.old (Choice.Drain core) (completes_in test.now parts.old (Choice.Drain core))) parts.new.bus r.1) }
+    ensures makes { IfOk result (Makes completes_in test.now parts.old parts.new (Choice.Drain core)) }
     ensures commits_at_once { (completes_in test.now parts.old (Choice.Drain core)).effect.outcome ≡ Outcome.Committed }
-    ensures err_state { OnErr result (state_in parts.new ≡ state_in parts.old) }
-    ensures err_commits { OnErr result (parts.new.commits.entries ≡ parts.old.commits.entries) }
-    ensures err_bus { OnErr result (parts.new.bus ≡ parts.old.bus) }
-    ensures config { parts.new.config ≡ parts.old.config }
-    ensures counts { parts.new.counts.items ≡ parts.old.counts.items }
-    ensures fits { FitsTest test.now parts.new }
-    ensures held { IsHeldAs test.now parts.new }
+    ensures err { OnErr result (IsUndone parts.old parts.new) }
+    ensures keeps { KeepsParts parts.old parts.new }
+    ensures of_test { AreOfTest test.now parts.new }
 {
     let processor = &mut parts.processors[core.0 as usize];
     let access = store_oldest(processor, core, &mut parts.bus, &mut parts.commits)?;
@@ -162,16 +142,13 @@ fn load<P: Protocol>(
     requires place { processor.old.place < most_instructions }
     requires asked { holder_of bus.old ≡ Some (holder core loc Stage.Load) }
 
-    ensures after { OnOk result (processor.new ≡ advanced processor.old (with_value processor.old.registers reg (slice_index (words_of bus.old) loc.0))) }
-    ensures commits { OnOk result (commits.new.entries ≡ commits.old.entries ++ entry core.0 processor.old.place R loc (slice_index (words_of bus.old) loc.0) ∷ []) }
+    ensures after { OnOk result (processor.new ≡ at_next processor.old (with_value processor.old.registers reg (word_at bus.old loc))) }
+    ensures commits { OnOk result (Notes commits.old commits.new (entry core.0 processor.old.place R loc (word_at bus.old loc))) }
     ensures words { words_of bus.new ≡ words_of bus.old }
-    ensures caches { IfOk result (λ access. HasUsed (completion_by (caches_of bus.old) core.0 loc.0) bus.new (CacheUse.Through access)) }
-    ensures free { OnOk result (IsFree bus.new) }
+    ensures completes { IfOk result (Completes core.0 (Reads loc) bus.old bus.new) }
 
-    ensures err_core { OnErr result (processor.new ≡ processor.old) }
-    ensures err_bus { OnErr result (bus.new ≡ bus.old) }
-    ensures err_commits { OnErr result (commits.new.entries ≡ commits.old.entries) }
-    ensures cores { cores_of bus.new ≡ cores_of bus.old }
+    ensures err { OnErr result (AreUnchanged processor.old processor.new bus.old bus.new commits.old commits.new) }
+    ensures sizes { HasSameSizes bus.old bus.new }
 {
     commits.make_room(1)?;
     let (value, access) = bus.complete_load(core, loc)?;
@@ -199,17 +176,12 @@ fn store<P: Protocol>(
     requires asked { holder_of bus.old ≡ Some (holder core loc Stage.Write) }
 
     ensures after { OnOk result (core_state core.0 processor.new ≡ flat.advanced (core_state core.0 processor.old)) }
-    ensures commits { OnOk result (commits.new.entries ≡ commits.old.entries ++ entry core.0 processor.old.place W loc value ∷ []) }
-    ensures words { OnOk result (words_of bus.new ≡ slice_set (words_of bus.old) loc.0 value) }
-    ensures caches { IfOk result (λ access. HasUsed (completion_by (caches_of bus.old) core.0 loc.0) bus.new (CacheUse.Through access)) }
-    ensures free { OnOk result (IsFree bus.new) }
-    ensures count { length (words_of bus.new) ≡ length (words_of bus.old) }
+    ensures stored { OnOk result (IsStored core.0 processor.old.place loc value bus.old bus.new commits.old commits.new) }
+    ensures completes { IfOk result (Completes core.0 (Writes loc) bus.old bus.new) }
     ensures stores { processor.new.stores ≡ processor.old.stores }
 
-    ensures err_core { OnErr result (processor.new ≡ processor.old) }
-    ensures err_bus { OnErr result (bus.new ≡ bus.old) }
-    ensures err_commits { OnErr result (commits.new.entries ≡ commits.old.entries) }
-    ensures cores { cores_of bus.new ≡ cores_of bus.old }
+    ensures err { OnErr result (AreUnchanged processor.old processor.new bus.old bus.new commits.old commits.new) }
+    ensures sizes { HasSameSizes bus.old bus.new }
 {
     let access = write(core, processor.place, loc, value, bus, commits)?;
     processor.place += 1;
@@ -226,19 +198,13 @@ fn store_oldest<P: Protocol>(
     requires asked { held_for core (drain_access (pending_in core.0 processor.old)) ≡ holder_of bus.old }
     requires some { drain_access (pending_in core.0 processor.old) ≢ NoAccess }
 
-    ensures after { OnOk result (core_state core.0 processor.new ≡ (drain_by processor.old core.0).after) }
-    ensures commits { OnOk result (commits.new.entries ≡ commits.old.entries ++ (drain_by processor.old core.0).commits) }
-    ensures words { OnOk result (words_of bus.new ≡ memory_after (drain_by processor.old core.0).commits (words_of bus.old)) }
-    ensures caches { IfOk result (λ access. HasUsed (at_access (not_through CacheUse.Unused (caches_of bus.old)) (λ loc write. completion_by (caches_of bus.old) core.0 loc.0) (drain_access (pending_in core.0 processor.old))) bus.new (CacheUse.Through access)) }
-    ensures free { OnOk result (IsFree bus.new) }
-    ensures count { length (words_of bus.new) ≡ length (words_of bus.old) }
+    ensures drained { OnOk result (IsDrained core.0 processor.old processor.new bus.old bus.new commits.old commits.new) }
+    ensures completes { IfOk result (Completes core.0 (drain_access (pending_in core.0 processor.old)) bus.old bus.new) }
     ensures depth { processor.new.stores.depth ≡ processor.old.stores.depth }
-    ensures stores { (locations : ℕ) → All (λ s. s.loc.0 < locations) processor.old.stores.items → All (λ s. s.loc.0 < locations) processor.new.stores.items }
+    ensures stores { (locations : ℕ) → AreKnown locations processor.old.stores → AreKnown locations processor.new.stores }
 
-    ensures err_core { OnErr result (processor.new ≡ processor.old) }
-    ensures err_bus { OnErr result (bus.new ≡ bus.old) }
-    ensures err_commits { OnErr result (commits.new.entries ≡ commits.old.entries) }
-    ensures cores { cores_of bus.new ≡ cores_of bus.old }
+    ensures err { OnErr result (AreUnchanged processor.old processor.new bus.old bus.new commits.old commits.new) }
+    ensures sizes { HasSameSizes bus.old bus.new }
 {
     let store = processor.stores.oldest().unwrap();
     let access = write(core, store.place, store.loc, store.value, bus, commits)?;
@@ -259,15 +225,12 @@ fn write<P: Protocol>(
 ) -> Result<Access, NoMemory>
     requires asked { holder_of bus.old ≡ Some (holder core loc Stage.Write) }
 
-    ensures words { OnOk result (words_of bus.new ≡ slice_set (words_of bus.old) loc.0 value) }
-    ensures commits { OnOk result (commits.new.entries ≡ commits.old.entries ++ entry core.0 place W loc value ∷ []) }
-    ensures caches { IfOk result (λ access. HasUsed (completion_by (caches_of bus.old) core.0 loc.0) bus.new (CacheUse.Through access)) }
-    ensures free { OnOk result (IsFree bus.new) }
-    ensures count { length (words_of bus.new) ≡ length (words_of bus.old) }
+    ensures stored { OnOk result (IsStored core.0 place loc value bus.old bus.new commits.old commits.new) }
+    ensures completes { IfOk result (Completes core.0 (Writes loc) bus.old bus.new) }
 
     ensures err_bus { OnErr result (bus.new ≡ bus.old) }
     ensures err_commits { OnErr result (commits.new.entries ≡ commits.old.entries) }
-    ensures cores { cores_of bus.new ≡ cores_of bus.old }
+    ensures sizes { HasSameSizes bus.old bus.new }
 {
     commits.make_room(1)?;
     let access = bus.complete_store(core, loc, value)?;
@@ -291,8 +254,8 @@ fn read_first<P: Protocol>(
 ) -> Result<(Entry, Access), NoMemory>
     requires asked { holder_of bus.old ≡ Some (holder core loc Stage.Write) }
 
-    ensures entry { IfOk result (λ r. r.0 ≡ entry core.0 place LR loc (slice_index (words_of bus.old) loc.0)) }
-    ensures commits { OnOk result (commits.new.entries ≡ commits.old.entries ++ entry core.0 place LR loc (slice_index (words_of bus.old) loc.0) ∷ []) }
+    ensures entry { IfOk result (λ r. r.0 ≡ entry core.0 place LR loc (word_at bus.old loc)) }
+    ensures commits { OnOk result (Notes commits.old commits.new (entry core.0 place LR loc (word_at bus.old loc))) }
     ensures words { words_of bus.new ≡ words_of bus.old }
     ensures caches { IfOk result (λ r. HasUsed (completion_by (caches_of bus.old) core.0 loc.0) bus.new (CacheUse.Through r.1)) }
     ensures held { OnOk result (holder_of bus.new ≡ Some (holder core loc Stage.Locked)) }
@@ -323,21 +286,14 @@ pub fn write_last<P: Protocol>(
     read: Entry,
 ) -> Result<(Outcome, CacheUse), NoMemory>
     requires core { chosen (Choice.Step read.core) < length test.now.programs }
-    requires fits { FitsTest test.now parts.old }
-    requires held { IsHeldAs test.now parts.old }
-    requires holder { HolderFits Bus.Split test.now parts.old.config.depth (state_in parts.old).flat (state_in parts.old).holder }
+    requires consistent { AreConsistent Bus.Split test.now parts.old }
     requires between { (state_in parts.old).holder ≡ HeldBetween read }
 
-    ensures ok { IfOk result (λ r. Performs parts.old parts.new (Choice.Step read.core) (writes_last_in test.now parts.old read) r.0) }
-    ensures caches { IfOk result (λ r. HasUsed (use_by test.now parts.old (Choice.Step read.core) (writes_last_in test.now parts.old read)) parts.new.bus r.1) }
+    ensures makes { IfOk result (HasMade test.now parts.old parts.new (Choice.Step read.core) (writes_last_in test.now parts.old read)) }
     ensures commits_at_once { (writes_last_in test.now parts.old read).effect.outcome ≡ Outcome.Committed }
-    ensures err_state { OnErr result (state_in parts.new ≡ state_in parts.old) }
-    ensures err_commits { OnErr result (parts.new.commits.entries ≡ parts.old.commits.entries) }
-    ensures err_bus { OnErr result (parts.new.bus ≡ parts.old.bus) }
-    ensures config { parts.new.config ≡ parts.old.config }
-    ensures counts { parts.new.counts.items ≡ parts.old.counts.items }
-    ensures fits { FitsTest test.now parts.new }
-    ensures held { IsHeldAs test.now parts.new }
+    ensures err { OnErr result (IsUndone parts.old parts.new) }
+    ensures keeps { KeepsParts parts.old parts.new }
+    ensures of_test { AreOfTest test.now parts.new }
 {
     let core = read.core;
     let processor = &mut parts.processors[core.0 as usize];

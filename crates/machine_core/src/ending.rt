@@ -1,7 +1,7 @@
 //! The final state of a test that has ended.
 ghost use Rattle.std.specs.Prelude.{◌≡◌, IfOk, map};
 ghost use Rattle.snoop_bus.specs.Bus.{words_of, IsFree, IsSameMachine};
-ghost use Rattle.machine_core.specs.Kept.{FitsTest};
+ghost use Rattle.machine_core.specs.Kept.{PartsFitTest};
 
 use crate::parts::{Parts, memory_of, registers_of};
 use protocol_tables::Protocol;
@@ -25,12 +25,12 @@ pub fn final_state<P: Protocol>(
     parts: &mut Parts<P>,
     test: &Test,
 ) -> Result<FinalState, NoMemory>
-    requires fits { FitsTest test.now parts.old }
+    requires fits { PartsFitTest test.now parts.old }
     requires free { IsFree parts.old.bus }
 
     ensures registers { IfOk result (λ f. f.registers.items ≡ map (λ p. p.registers) parts.old.processors.items) }
     ensures memory { IfOk result (λ f. f.memory.items ≡ words_of parts.old.bus) }
-    ensures fits { FitsTest test.now parts.new }
+    ensures fits { PartsFitTest test.now parts.new }
     ensures machine { IsSameMachine parts.old.bus parts.new.bus }
     ensures config { parts.new.config ≡ parts.old.config }
     ensures counts { parts.new.counts.items ≡ parts.old.counts.items }

@@ -1,15 +1,13 @@
 //! A locked instruction made whole: its word is read and written at one choice, with nothing between.
-ghost use Rattle.std.specs.Prelude.{◌≡◌, ◌≢◌, ◌<◌, ◌≤◌, ◌++◌, ◌∷◌, ◌⊎◌, true, [], Some, IsTrue, IsOk, IfOk, OnOk, OnErr, length, slice_get};
+ghost use Rattle.std.specs.Prelude.{◌≡◌, ◌<◌, ◌≤◌, ◌++◌, ◌⊎◌, true, Some, IsTrue, IsOk, IfOk, OnOk, OnErr, length, slice_get};
 ghost use Rattle.tso_model.specs.Limits.{most_instructions};
-ghost use Rattle.tso_model.specs.Thread.{entry, updated};
-ghost use Rattle.tso_model.specs.FlatMachine.{memory_after};
-ghost use Rattle.tso_model.specs.declared.execution.Kind.TheVariants.{LR, LW};
+ghost use Rattle.tso_model.specs.Thread.{updated};
 ghost use Rattle.tso_model.specs.Access.{locked_access};
-ghost use Rattle.snoop_bus.specs.Bus.{words_of, cores_of, holder_of, IsFree, IsSameMachine};
+ghost use Rattle.snoop_bus.specs.Bus.{words_of, cores_of, IsFree, IsSameMachine};
 ghost use Rattle.snoop_bus.specs.Accesses.{WritesAt, would_hit};
-ghost use Rattle.machine_core.specs.Cores.{core_state, pending_in, action_by};
-ghost use Rattle.machine_core.specs.Performed.{HasUsed, MayAct};
-ghost use Rattle.machine_core.specs.Caches.{caches_of, use_of};
+ghost use Rattle.machine_core.specs.Cores.{pending_in, lock_by, both_parts};
+ghost use Rattle.machine_core.specs.Performed.{MayAccess};
+ghost use Rattle.machine_core.specs.Acted.{Acts, SucceedsUnlessCommitting, AreUnchanged, KeepsBus};
 
 use crate::cache_use::CacheUse;
 use crate::processor::{Processor, advance};
@@ -30,23 +28,12 @@ pub fn read_and_write<P: Protocol>(
     commits: &mut Commits,
 ) -> Result<(Outcome, CacheUse), NoMemory>
     requires place { processor.old.place < most_instructions }
-    requires core { core.0 < cores_of bus.old }
-    requires free { MayAct bus.old core.0 (locked_access loc (pending_in core.0 processor.old)) }
-    requires known { loc.0 < length (words_of bus.old) }
+    requires access { MayAccess bus.old core.0 loc (locked_access loc (pending_in core.0 processor.old)) }
 
-    ensures outcome { IfOk result (λ r. r.0 ≡ (action_by processor.old core.0 (words_of bus.old) (Action.Lock loc reg update)).outcome) }
-    ensures after { OnOk result (core_state core.0 processor.new ≡ (action_by processor.old core.0 (words_of bus.old) (Action.Lock loc reg update)).after) }
-    ensures words { OnOk result (words_of bus.new ≡ memory_after (action_by processor.old core.0 (words_of bus.old) (Action.Lock loc reg update)).commits (words_of bus.old)) }
-    ensures commits { OnOk result (commits.new.entries ≡ commits.old.entries ++ (action_by processor.old core.0 (words_of bus.old) (Action.Lock loc reg update)).commits) }
-    ensures caches { IfOk result (λ r. HasUsed (use_of (caches_of bus.old) (pending_in core.0 processor.old) (action_by processor.old core.0 (words_of bus.old) (Action.Lock loc reg update)).commits) bus.new r.1) }
-    ensures succeeds { (action_by processor.old core.0 (words_of bus.old) (Action.Lock loc reg update)).outcome ≢ Outcome.Committed → IsOk result }
-
-    ensures err_core { OnErr result (processor.new ≡ processor.old) }
-    ensures err_bus { OnErr result (bus.new ≡ bus.old) }
-    ensures err_commits { OnErr result (commits.new.entries ≡ commits.old.entries) }
-    ensures cores { cores_of bus.new ≡ cores_of bus.old }
-    ensures holder { holder_of bus.new ≡ holder_of bus.old }
-    ensures count { length (words_of bus.new) ≡ length (words_of bus.old) }
+    ensures acts { IfOk result (Acts (lock_by loc reg update) core.0 processor.old processor.new bus.old bus.new commits.old commits.new) }
+    ensures succeeds { SucceedsUnlessCommitting result (lock_by loc reg update core.0 processor.old (words_of bus.old)) }
+    ensures err { OnErr result (AreUnchanged processor.old processor.new bus.old bus.new commits.old commits.new) }
+    ensures keeps { KeepsBus bus.old bus.new }
     ensures stores { processor.new.stores ≡ processor.old.stores }
 {
     if !processor.stores.is_empty() {
@@ -104,7 +91,7 @@ fn note_locked(
     word: u32,
     value: u32,
 ) -> Result<(), NoMemory>
-    ensures ok { OnOk result (commits.new.entries ≡ commits.old.entries ++ entry core.0 place LR loc word ∷ (entry core.0 place LW loc value ∷ [])) }
+    ensures ok { OnOk result (commits.new.entries ≡ commits.old.entries ++ both_parts core.0 place loc word value) }
     ensures succeeds { 2 ≤ commits.old.room → IsOk result }
 {
     commits.note(Entry {

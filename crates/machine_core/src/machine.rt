@@ -3,7 +3,7 @@
 ghost use Rattle.std.specs.Prelude.{◌≡◌, ◌≢◌, ◌<◌, true, false, IsTrue, IsOk, IsErr, IfOk, OnOk, OnErr, length, map};
 ghost use Rattle.tso_model.specs.FlatMachine.{chosen};
 ghost use Rattle.tso_model.specs.Together.{put_together};
-ghost use Rattle.machine_core.specs.Running.{new_machine, effect_by, machine_after, AnswerFits, IsRefused, is_ended, restarted};
+ghost use Rattle.machine_core.specs.Running.{new_machine, effect_by, machine_after, AnswerFits, HasFailed, is_ended, restarted};
 
 use crate::config::Config;
 use crate::counts::Counts;
@@ -53,12 +53,11 @@ impl<'a, P: Protocol> Model for Machine<'a, P> {
 
     ghost coded = { Prim.hlevel (codes, claim_code) };
 
-    ghost use Rattle.split_laws.specs.BusChoices.{IsPossibleOn};
-    ghost use Rattle.machine_core.specs.Kept.{FitsTest, IsHeldAs, IsTallied, state_in, statistics_in};
+    ghost use Rattle.machine_core.specs.Machine.{running_of, IsMachine};
 
-    ghost view = { λ m. record { test = m.test.now; bus = m.parts.config.bus; depth = m.parts.config.depth; state = state_in m.parts; commits = m.parts.commits.entries; statistics = statistics_in m.parts; failed = m.failed } };
+    ghost view = { λ m. running_of m.test.now m.parts m.failed };
 
-    ghost invariant = { λ m. FitsTest m.test.now m.parts × IsHeldAs m.test.now m.parts × IsPossibleOn m.parts.config.bus m.test.now m.parts.config.depth m.parts.commits.entries (state_in m.parts) × IsTallied m.test.now (state_in m.parts) (statistics_in m.parts) };
+    ghost invariant = { λ m. IsMachine m.test.now m.parts };
 }
 
 impl<'a, P: Protocol> Machine<'a, P> {
@@ -97,7 +96,7 @@ impl<'a, P: Protocol> Machine<'a, P> {
 
         // Only a choice that commits takes memory, and a machine that was refused it stays so.
         ensures succeeds { self.old.failed ≡ false → (effect_by self.old choice).effect.outcome ≢ Outcome.Committed → IsOk result }
-        ensures refused { OnErr result (IsRefused self.old self.new) }
+        ensures refused { OnErr result (HasFailed self.old self.new) }
         ensures stays_refused { self.old.failed ≡ true → IsErr result }
     {
         attempts_lead_from_state_to_state();

@@ -1,19 +1,18 @@
 //! What a machine consists of, and what a choice does to it.
 
-ghost use Rattle.std.specs.Prelude.{◌≡◌, ◌≢◌, ℕ, ◌<◌, ◌≤◌, [], true, false, IsOk, IfOk, OnOk, OnErr, All, length, map, replicate, slice_get, take};
+ghost use Rattle.std.specs.Prelude.{◌≡◌, ℕ, ◌<◌, ◌≤◌, IfOk, OnOk, OnErr, All, length, map, replicate, slice_get, take};
 ghost use Rattle.tso_model.specs.Limits.{most_depth};
-ghost use Rattle.tso_model.specs.FlatMachine.{chosen, started, start};
-ghost use Rattle.tso_model.specs.Access.{access_of};
-ghost use Rattle.tso_model.specs.SplitMachine.{acts};
-ghost use Rattle.tso_model.specs.EitherBus.{unheld, HitFits};
+ghost use Rattle.tso_model.specs.FlatMachine.{chosen, started};
 ghost use Rattle.tso_model.specs.Runs.{all_done};
-ghost use Rattle.split_laws.specs.Holders.{HolderFits};
 ghost use Rattle.snoop_bus.specs.Bus.{words_of, holder_of};
 ghost use Rattle.snoop_bus.specs.Accesses.{memory_words_of};
 ghost use Rattle.machine_core.specs.Cores.{core_states};
-ghost use Rattle.machine_core.specs.Statistics.{no_counts, no_statistics, statistics_after};
-ghost use Rattle.machine_core.specs.Kept.{IsCore, FitsTest, IsHeldAs, IsTallied, core_in, state_in, statistics_in};
-ghost use Rattle.machine_core.specs.Performed.{HasUsed, MayAct, Performs, attempt_in, effect_in, use_in, flat_effect_in, flat_use_in};
+ghost use Rattle.machine_core.specs.Statistics.{no_counts, no_statistics};
+ghost use Rattle.machine_core.specs.Kept.{IsCore, PartsFitTest, IsTallied, core_in, state_in, statistics_in};
+ghost use Rattle.machine_core.specs.Performed.{Performs, MayActIn, effect_in, flat_effect_in};
+ghost use Rattle.machine_core.specs.Acted.{SucceedsUnlessCommitting};
+ghost use Rattle.machine_core.specs.Made.{AreAtStart, AreConsistent, AreOfTest, AnswerFitsIn};
+ghost use Rattle.machine_core.specs.Made.{whole_effect_in, Makes, IsUndone, KeepsParts, statistics_next};
 
 use crate::asking::act_on_split;
 use crate::cache_use::CacheUse;
@@ -48,13 +47,9 @@ pub fn begin<P: Protocol>(
     test: &Test,
     config: Config,
 ) -> Result<Parts<P>, NoMemory>
-    ensures fits { IfOk result (FitsTest test.now) }
-    ensures held { IfOk result (IsHeldAs test.now) }
-    ensures state { IfOk result (λ parts. state_in parts ≡ unheld (start test.now)) }
-    ensures commits { IfOk result (λ parts. parts.commits.entries ≡ []) }
+    ensures begun { IfOk result (AreAtStart test.now) }
     ensures config { IfOk result (λ parts. parts.config ≡ config) }
     ensures statistics { IfOk result (λ parts. statistics_in parts ≡ no_statistics (P.table protocol) config.shape test.now) }
-    ensures tallied { IfOk result (λ parts. IsTallied test.now (state_in parts) (statistics_in parts)) }
 {
     let processors = processors_of(alloc, test, config.depth())?;
     let bus = SnoopBus::new(
@@ -116,21 +111,18 @@ pub fn perform<P: Protocol>(
     choice: Choice,
 ) -> Result<Outcome, NoMemory>
     requires core { chosen choice < length test.now.programs }
-    requires fits { FitsTest test.now parts.old }
-    requires held { IsHeldAs test.now parts.old }
-    requires holder { HolderFits parts.old.config.bus test.now parts.old.config.depth (state_in parts.old).flat (state_in parts.old).holder }
+    requires consistent { AreConsistent parts.old.config.bus test.now parts.old }
     requires tallied { IsTallied test.now (state_in parts.old) (statistics_in parts.old) }
 
     ensures ok { IfOk result (Performs parts.old parts.new choice (effect_in test.now parts.old choice)) }
-    ensures answer { HitFits test.now parts.old.config.depth (state_in parts.old).flat (attempt_in test.now parts.old choice) (state_in parts.old).holder }
-    ensures statistics { OnOk result (statistics_in parts.new ≡ statistics_after parts.old.config.bus test.now parts.old.config.depth (state_in parts.old) choice (statistics_in parts.old)) }
-    ensures succeeds { (effect_in test.now parts.old choice).effect.outcome ≢ Outcome.Committed → IsOk result }
+    ensures answer { AnswerFitsIn test.now parts.old choice }
+    ensures statistics { OnOk result (statistics_in parts.new ≡ statistics_next test.now parts.old choice) }
+    ensures succeeds { SucceedsUnlessCommitting result (effect_in test.now parts.old choice).effect }
     ensures err_state { OnErr result (state_in parts.new ≡ state_in parts.old) }
     ensures err_commits { OnErr result (parts.new.commits.entries ≡ parts.old.commits.entries) }
     ensures err_statistics { OnErr result (statistics_in parts.new ≡ statistics_in parts.old) }
     ensures config { parts.new.config ≡ parts.old.config }
-    ensures fits { FitsTest test.now parts.new }
-    ensures held { IsHeldAs test.now parts.new }
+    ensures of_test { AreOfTest test.now parts.new }
     ensures tallied { IsTallied test.now (state_in parts.new) (statistics_in parts.new) }
 {
     let (outcome, cache_use) = act_on_bus(parts, test, choice)?;
@@ -155,21 +147,14 @@ fn act_on_bus<P: Protocol>(
     choice: Choice,
 ) -> Result<(Outcome, CacheUse), NoMemory>
     requires core { chosen choice < length test.now.programs }
-    requires fits { FitsTest test.now parts.old }
-    requires held { IsHeldAs test.now parts.old }
-    requires holder { HolderFits parts.old.config.bus test.now parts.old.config.depth (state_in parts.old).flat (state_in parts.old).holder }
+    requires consistent { AreConsistent parts.old.config.bus test.now parts.old }
 
-    ensures ok { IfOk result (λ r. Performs parts.old parts.new choice (effect_in test.now parts.old choice) r.0) }
-    ensures answer { HitFits test.now parts.old.config.depth (state_in parts.old).flat (attempt_in test.now parts.old choice) (state_in parts.old).holder }
-    ensures caches { IfOk result (λ r. HasUsed (use_in test.now parts.old choice) parts.new.bus r.1) }
-    ensures succeeds { (effect_in test.now parts.old choice).effect.outcome ≢ Outcome.Committed → IsOk result }
-    ensures err_state { OnErr result (state_in parts.new ≡ state_in parts.old) }
-    ensures err_commits { OnErr result (parts.new.commits.entries ≡ parts.old.commits.entries) }
-    ensures err_bus { OnErr result (parts.new.bus ≡ parts.old.bus) }
-    ensures config { parts.new.config ≡ parts.old.config }
-    ensures counts { parts.new.counts.items ≡ parts.old.counts.items }
-    ensures fits { FitsTest test.now parts.new }
-    ensures held { IsHeldAs test.now parts.new }
+    ensures makes { IfOk result (Makes effect_in test.now parts.old parts.new choice) }
+    ensures answer { AnswerFitsIn test.now parts.old choice }
+    ensures succeeds { SucceedsUnlessCommitting result (effect_in test.now parts.old choice).effect }
+    ensures err { OnErr result (IsUndone parts.old parts.new) }
+    ensures keeps { KeepsParts parts.old parts.new }
+    ensures of_test { AreOfTest test.now parts.new }
 {
     match parts.config.bus() {
         Bus::Atomic => act(parts, test, choice),
@@ -184,19 +169,15 @@ pub fn act<P: Protocol>(
     choice: Choice,
 ) -> Result<(Outcome, CacheUse), NoMemory>
     requires core { chosen choice < length test.now.programs }
-    requires fits { FitsTest test.now parts.old }
-    requires free { MayAct parts.old.bus (chosen choice) (access_of test.now parts.old.config.depth (state_in parts.old).flat choice) }
+    requires fits { PartsFitTest test.now parts.old }
+    requires free { MayActIn test.now parts.old choice }
 
-    ensures ok { IfOk result (λ r. Performs parts.old parts.new choice (acts (flat_effect_in test.now parts.old choice) (state_in parts.old).holder) r.0) }
-    ensures caches { IfOk result (λ r. HasUsed (flat_use_in test.now parts.old choice) parts.new.bus r.1) }
-    ensures succeeds { (flat_effect_in test.now parts.old choice).outcome ≢ Outcome.Committed → IsOk result }
-    ensures err_state { OnErr result (state_in parts.new ≡ state_in parts.old) }
-    ensures err_commits { OnErr result (parts.new.commits.entries ≡ parts.old.commits.entries) }
-    ensures err_bus { OnErr result (parts.new.bus ≡ parts.old.bus) }
-    ensures config { parts.new.config ≡ parts.old.config }
-    ensures counts { parts.new.counts.items ≡ parts.old.counts.items }
+    ensures makes { IfOk result (Makes whole_effect_in test.now parts.old parts.new choice) }
+    ensures succeeds { SucceedsUnlessCommitting result (flat_effect_in test.now parts.old choice) }
+    ensures err { OnErr result (IsUndone parts.old parts.new) }
+    ensures keeps { KeepsParts parts.old parts.new }
     ensures holder { holder_of parts.new.bus ≡ holder_of parts.old.bus }
-    ensures fits { FitsTest test.now parts.new }
+    ensures fits { PartsFitTest test.now parts.new }
 {
     match choice {
         Choice::Step(core) => step(parts, test, core),
@@ -211,19 +192,15 @@ fn step<P: Protocol>(
     core: Core,
 ) -> Result<(Outcome, CacheUse), NoMemory>
     requires core { core.0 < length test.now.programs }
-    requires fits { FitsTest test.now parts.old }
-    requires free { MayAct parts.old.bus core.0 (access_of test.now parts.old.config.depth (state_in parts.old).flat (Choice.Step core)) }
+    requires fits { PartsFitTest test.now parts.old }
+    requires free { MayActIn test.now parts.old (Choice.Step core) }
 
-    ensures ok { IfOk result (λ r. Performs parts.old parts.new (Choice.Step core) (acts (flat_effect_in test.now parts.old (Choice.Step core)) (state_in parts.old).holder) r.0) }
-    ensures caches { IfOk result (λ r. HasUsed (flat_use_in test.now parts.old (Choice.Step core)) parts.new.bus r.1) }
-    ensures succeeds { (flat_effect_in test.now parts.old (Choice.Step core)).outcome ≢ Outcome.Committed → IsOk result }
-    ensures err_state { OnErr result (state_in parts.new ≡ state_in parts.old) }
-    ensures err_commits { OnErr result (parts.new.commits.entries ≡ parts.old.commits.entries) }
-    ensures err_bus { OnErr result (parts.new.bus ≡ parts.old.bus) }
-    ensures config { parts.new.config ≡ parts.old.config }
-    ensures counts { parts.new.counts.items ≡ parts.old.counts.items }
+    ensures makes { IfOk result (Makes whole_effect_in test.now parts.old parts.new (Choice.Step core)) }
+    ensures succeeds { SucceedsUnlessCommitting result (flat_effect_in test.now parts.old (Choice.Step core)) }
+    ensures err { OnErr result (IsUndone parts.old parts.new) }
+    ensures keeps { KeepsParts parts.old parts.new }
     ensures holder { holder_of parts.new.bus ≡ holder_of parts.old.bus }
-    ensures fits { FitsTest test.now parts.new }
+    ensures fits { PartsFitTest test.now parts.new }
 {
     let program = test.program(core);
     let processor = &mut parts.processors[core.0 as usize];
@@ -247,19 +224,15 @@ fn drain<P: Protocol>(
     core: Core,
 ) -> Result<(Outcome, CacheUse), NoMemory>
     requires core { core.0 < length test.now.programs }
-    requires fits { FitsTest test.now parts.old }
-    requires free { MayAct parts.old.bus core.0 (access_of test.now parts.old.config.depth (state_in parts.old).flat (Choice.Drain core)) }
+    requires fits { PartsFitTest test.now parts.old }
+    requires free { MayActIn test.now parts.old (Choice.Drain core) }
 
-    ensures ok { IfOk result (λ r. Performs parts.old parts.new (Choice.Drain core) (acts (flat_effect_in test.now parts.old (Choice.Drain core)) (state_in parts.old).holder) r.0) }
-    ensures caches { IfOk result (λ r. HasUsed (flat_use_in test.now parts.old (Choice.Drain core)) parts.new.bus r.1) }
-    ensures succeeds { (flat_effect_in test.now parts.old (Choice.Drain core)).outcome ≢ Outcome.Committed → IsOk result }
-    ensures err_state { OnErr result (state_in parts.new ≡ state_in parts.old) }
-    ensures err_commits { OnErr result (parts.new.commits.entries ≡ parts.old.commits.entries) }
-    ensures err_bus { OnErr result (parts.new.bus ≡ parts.old.bus) }
-    ensures config { parts.new.config ≡ parts.old.config }
-    ensures counts { parts.new.counts.items ≡ parts.old.counts.items }
+    ensures makes { IfOk result (Makes whole_effect_in test.now parts.old parts.new (Choice.Drain core)) }
+    ensures succeeds { SucceedsUnlessCommitting result (flat_effect_in test.now parts.old (Choice.Drain core)) }
+    ensures err { OnErr result (IsUndone parts.old parts.new) }
+    ensures keeps { KeepsParts parts.old parts.new }
     ensures holder { holder_of parts.new.bus ≡ holder_of parts.old.bus }
-    ensures fits { FitsTest test.now parts.new }
+    ensures fits { PartsFitTest test.now parts.new }
 {
     let processor = &mut parts.processors[core.0 as usize];
     drain_core(processor, core, &mut parts.bus, &mut parts.commits)

@@ -8,7 +8,7 @@ use std::marker::Model;
 use store_buffer::{Pending, StoreBuffer};
 use tso_model::{Loc, NoMemory};
 
-/// The stores that a core has issued and memory has not seen yet, in a buffer. A machine of depth 0
+/// The stores that a core has issued and that have not reached memory, in a buffer. A machine of depth 0
 /// makes no buffer, and nothing is ever pending there.
 #[derive(Drop)]
 pub struct PendingStores {

@@ -1,18 +1,18 @@
 //! A core, its steps and its drains.
 
-ghost use Rattle.std.specs.Prelude.{◌≡◌, ◌≢◌, ℕ, ◌<◌, Some, ◌≤◌, ◌++◌, ◌∷◌, List, [], IsOk, IfOk, OnOk, OnErr, All, length, map, filter, slice_index, slice_set};
+ghost use Rattle.std.specs.Prelude.{◌≡◌, ℕ, ◌<◌, List, [], IfOk, OnOk, OnErr, length, filter};
 ghost use Rattle.tso_model.specs.Limits.{most_instructions};
+ghost use Rattle.tso_model.specs.Actions.{action_of};
 ghost use Rattle.tso_model.specs.Litmus.{KnownLocation};
 ghost use Rattle.tso_model.specs.ProgramOrder.{writes_to};
-ghost use Rattle.tso_model.specs.Execution.{last_value};
-ghost use Rattle.tso_model.specs.Thread.{entry, value_in, with_value};
-ghost use Rattle.tso_model.specs.FlatMachine.{memory_after};
-ghost use Rattle.tso_model.specs.Access.{Writes, step_access, store_access, load_access, drain_access};
-ghost use Rattle.tso_model.specs.declared.execution.Kind.TheVariants.{W};
+ghost use Rattle.tso_model.specs.Thread.{value_in, with_value};
+ghost use Rattle.tso_model.specs.Access.{Writes, store_access, load_access, drain_access};
 ghost use Rattle.snoop_bus.specs.Bus.{Bus, words_of, cores_of, holder_of};
-ghost use Rattle.machine_core.specs.Cores.{store_of, core_state, pending_in, advanced, action_by, store_by, fence_by, step_by, drain_by};
-ghost use Rattle.machine_core.specs.Performed.{HasUsed, MayAct};
-ghost use Rattle.machine_core.specs.Caches.{caches_of, load_behind, write_by, use_of};
+ghost use Rattle.machine_core.specs.Cores.{entries_in, pending_in, seen_by, AreKnown, at_next, own_access};
+ghost use Rattle.machine_core.specs.Cores.{load_by, store_by, fence_by, step_by, drain_by};
+ghost use Rattle.machine_core.specs.Performed.{HasUsed, MayAccess, MayAct};
+ghost use Rattle.machine_core.specs.Caches.{caches_of, load_after, write_by};
+ghost use Rattle.machine_core.specs.Acted.{Acts, Waits, IsStored, SucceedsUnlessCommitting, AreUnchanged, KeepsBus};
 
 use crate::cache_use::CacheUse;
 use crate::locked::read_and_write;
@@ -23,8 +23,8 @@ use snoop_bus::{Access, SnoopBus};
 use store_buffer::Pending;
 use tso_model::{Action, Core, Entry, Instr, Kind, Loc, NoMemory, Outcome, Reg, Stall};
 
-/// A core: the place in its program, its registers, and the stores that it has issued and memory has
-/// not seen yet.
+/// A core: the place in its program, its registers, and the stores that it has issued and that
+/// have not reached memory.
 #[derive(Drop)]
 pub struct Processor {
     pub place: u8,
@@ -34,7 +34,7 @@ pub struct Processor {
 
 impl Processor {
     ghost use Rattle.tso_model.specs.Runs.{is_done};
-    ghost use Rattle.machine_core.specs.Cores.{core_state, restarted};
+    ghost use Rattle.machine_core.specs.Cores.{core_state, at_start};
 
     /// The value of a register.
     pub fn register(&self, reg: Reg) -> u32
@@ -45,7 +45,7 @@ impl Processor {
 
     /// The core goes back before its first instruction, with these registers and nothing pending.
     pub fn restart(&mut self, registers: [u32; 6])
-        ensures { self.new ≡ restarted registers self.old }
+        ensures { self.new ≡ at_start registers self.old }
     {
         self.place = 0;
         self.registers = registers;
@@ -72,25 +72,16 @@ pub fn step<P: Protocol>(
 ) -> Result<(Outcome, CacheUse), NoMemory>
     requires place { processor.old.place < most_instructions }
     requires core { core.0 < cores_of bus.old }
-    requires free { MayAct bus.old core.0 (step_access processor.old.stores.depth (Some instr) (pending_in core.0 processor.old)) }
+    requires free { MayAct bus.old core.0 (own_access (action_of instr) core.0 processor.old) }
     requires known { KnownLocation (length (words_of bus.old)) instr }
-    requires stores { All (λ s. s.loc.0 < length (words_of bus.old)) processor.old.stores.items }
+    requires stores { AreKnown (length (words_of bus.old)) processor.old.stores }
 
-    ensures outcome { IfOk result (λ r. r.0 ≡ (step_by processor.old core.0 (words_of bus.old) instr).outcome) }
-    ensures after { OnOk result (core_state core.0 processor.new ≡ (step_by processor.old core.0 (words_of bus.old) instr).after) }
-    ensures words { OnOk result (words_of bus.new ≡ memory_after (step_by processor.old core.0 (words_of bus.old) instr).commits (words_of bus.old)) }
-    ensures commits { OnOk result (commits.new.entries ≡ commits.old.entries ++ (step_by processor.old core.0 (words_of bus.old) instr).commits) }
-    ensures caches { IfOk result (λ r. HasUsed (use_of (caches_of bus.old) (pending_in core.0 processor.old) (step_by processor.old core.0 (words_of bus.old) instr).commits) bus.new r.1) }
-    ensures succeeds { (step_by processor.old core.0 (words_of bus.old) instr).outcome ≢ Outcome.Committed → IsOk result }
-
-    ensures err_core { OnErr result (processor.new ≡ processor.old) }
-    ensures err_bus { OnErr result (bus.new ≡ bus.old) }
-    ensures err_commits { OnErr result (commits.new.entries ≡ commits.old.entries) }
-    ensures cores { cores_of bus.new ≡ cores_of bus.old }
-    ensures holder { holder_of bus.new ≡ holder_of bus.old }
-    ensures count { length (words_of bus.new) ≡ length (words_of bus.old) }
+    ensures acts { IfOk result (Acts (step_by instr) core.0 processor.old processor.new bus.old bus.new commits.old commits.new) }
+    ensures succeeds { SucceedsUnlessCommitting result (step_by instr core.0 processor.old (words_of bus.old)) }
+    ensures err { OnErr result (AreUnchanged processor.old processor.new bus.old bus.new commits.old commits.new) }
+    ensures keeps { KeepsBus bus.old bus.new }
     ensures depth { processor.new.stores.depth ≡ processor.old.stores.depth }
-    ensures stores { All (λ s. s.loc.0 < length (words_of bus.old)) processor.new.stores.items }
+    ensures stores { AreKnown (length (words_of bus.old)) processor.new.stores }
 {
     match instr.action() {
         Action::Store(loc, operand) => {
@@ -119,25 +110,14 @@ fn store<P: Protocol>(
     commits: &mut Commits,
 ) -> Result<(Outcome, CacheUse), NoMemory>
     requires place { processor.old.place < most_instructions }
-    requires core { core.0 < cores_of bus.old }
-    requires free { MayAct bus.old core.0 (store_access processor.old.stores.depth loc) }
-    requires known { loc.0 < length (words_of bus.old) }
+    requires access { MayAccess bus.old core.0 loc (store_access processor.old.stores.depth loc) }
 
-    ensures outcome { IfOk result (λ r. r.0 ≡ (store_by processor.old core.0 loc value).outcome) }
-    ensures after { OnOk result (core_state core.0 processor.new ≡ (store_by processor.old core.0 loc value).after) }
-    ensures words { OnOk result (words_of bus.new ≡ memory_after (store_by processor.old core.0 loc value).commits (words_of bus.old)) }
-    ensures commits { OnOk result (commits.new.entries ≡ commits.old.entries ++ (store_by processor.old core.0 loc value).commits) }
-    ensures caches { IfOk result (λ r. HasUsed (use_of (caches_of bus.old) (pending_in core.0 processor.old) (store_by processor.old core.0 loc value).commits) bus.new r.1) }
-    ensures succeeds { (store_by processor.old core.0 loc value).outcome ≢ Outcome.Committed → IsOk result }
-
-    ensures err_core { OnErr result (processor.new ≡ processor.old) }
-    ensures err_bus { OnErr result (bus.new ≡ bus.old) }
-    ensures err_commits { OnErr result (commits.new.entries ≡ commits.old.entries) }
-    ensures cores { cores_of bus.new ≡ cores_of bus.old }
-    ensures holder { holder_of bus.new ≡ holder_of bus.old }
-    ensures count { length (words_of bus.new) ≡ length (words_of bus.old) }
+    ensures acts { IfOk result (Acts (store_by loc value) core.0 processor.old processor.new bus.old bus.new commits.old commits.new) }
+    ensures succeeds { SucceedsUnlessCommitting result (store_by loc value core.0 processor.old (words_of bus.old)) }
+    ensures err { OnErr result (AreUnchanged processor.old processor.new bus.old bus.new commits.old commits.new) }
+    ensures keeps { KeepsBus bus.old bus.new }
     ensures depth { processor.new.stores.depth ≡ processor.old.stores.depth }
-    ensures stores { (n : ℕ) → loc.0 < n → All (λ s. s.loc.0 < n) processor.old.stores.items → All (λ s. s.loc.0 < n) processor.new.stores.items }
+    ensures stores { (n : ℕ) → loc.0 < n → AreKnown n processor.old.stores → AreKnown n processor.new.stores }
 {
     if processor.stores.are_buffered() {
         return Ok((buffer(processor, loc, value), CacheUse::Unused));
@@ -151,11 +131,9 @@ fn store<P: Protocol>(
 fn buffer(processor: &mut Processor, loc: Loc, value: u32) -> Outcome
     requires place { processor.old.place < most_instructions }
     requires depth { 0 < processor.old.stores.depth }
-    ensures outcome { (core : ℕ) → result ≡ (store_by processor.old core loc value).outcome }
-    ensures after { (core : ℕ) → core_state core processor.new ≡ (store_by processor.old core loc value).after }
-    ensures commits { (core : ℕ) → (store_by processor.old core loc value).commits ≡ [] }
+    ensures waits { (core : ℕ) (memory : List ℕ) → Waits core processor.new (store_by loc value core processor.old memory) result }
     ensures depth { processor.new.stores.depth ≡ processor.old.stores.depth }
-    ensures stores { (n : ℕ) → loc.0 < n → All (λ s. s.loc.0 < n) processor.old.stores.items → All (λ s. s.loc.0 < n) processor.new.stores.items }
+    ensures stores { (n : ℕ) → loc.0 < n → AreKnown n processor.old.stores → AreKnown n processor.new.stores }
 {
     match processor.stores.put(Pending {
         place: processor.place,
@@ -180,21 +158,11 @@ fn load<P: Protocol>(
     commits: &mut Commits,
 ) -> Result<(Outcome, CacheUse), NoMemory>
     requires place { processor.old.place < most_instructions }
-    requires core { core.0 < cores_of bus.old }
-    requires free { MayAct bus.old core.0 (load_access loc (filter (writes_to loc.0) (pending_in core.0 processor.old))) }
-    requires known { loc.0 < length (words_of bus.old) }
+    requires access { MayAccess bus.old core.0 loc (own_access (Action.Load reg loc) core.0 processor.old) }
 
-    ensures outcome { IfOk result (λ r. r.0 ≡ Outcome.Committed) }
-    ensures after { OnOk result (core_state core.0 processor.new ≡ (action_by processor.old core.0 (words_of bus.old) (Action.Load reg loc)).after) }
-    ensures words { words_of bus.new ≡ words_of bus.old }
-    ensures commits { OnOk result (commits.new.entries ≡ commits.old.entries ++ (action_by processor.old core.0 (words_of bus.old) (Action.Load reg loc)).commits) }
-    ensures caches { IfOk result (λ r. HasUsed (use_of (caches_of bus.old) (pending_in core.0 processor.old) (action_by processor.old core.0 (words_of bus.old) (Action.Load reg loc)).commits) bus.new r.1) }
-
-    ensures err_core { OnErr result (processor.new ≡ processor.old) }
-    ensures err_bus { OnErr result (bus.new ≡ bus.old) }
-    ensures err_commits { OnErr result (commits.new.entries ≡ commits.old.entries) }
-    ensures cores { cores_of bus.new ≡ cores_of bus.old }
-    ensures holder { holder_of bus.new ≡ holder_of bus.old }
+    ensures acts { IfOk result (Acts (load_by reg loc) core.0 processor.old processor.new bus.old bus.new commits.old commits.new) }
+    ensures err { OnErr result (AreUnchanged processor.old processor.new bus.old bus.new commits.old commits.new) }
+    ensures keeps { KeepsBus bus.old bus.new }
     ensures stores { processor.new.stores ≡ processor.old.stores }
 {
     commits.make_room(1)?;
@@ -217,13 +185,11 @@ fn see<P: Protocol>(
     loc: Loc,
     bus: &mut SnoopBus<P>,
 ) -> Result<(u32, CacheUse), NoMemory>
-    requires core { core.0 < cores_of bus.old }
-    requires free { MayAct bus.old core.0 (load_access loc (filter (writes_to loc.0) (map (store_of core.0) stores.now.items))) }
-    requires known { loc.0 < length (words_of bus.old) }
+    requires access { MayAccess bus.old core.0 loc (load_access loc (filter (writes_to loc.0) (entries_in core.0 stores.now))) }
 
-    ensures value { IfOk result (λ r. r.0 ≡ last_value (filter (writes_to loc.0) (map (store_of core.0) stores.now.items)) (slice_index (words_of bus.old) loc.0)) }
+    ensures value { IfOk result (λ r. r.0 ≡ seen_by core.0 stores.now (words_of bus.old) loc) }
     ensures words { words_of bus.new ≡ words_of bus.old }
-    ensures caches { IfOk result (λ r. HasUsed (load_behind (caches_of bus.old) (map (store_of core.0) stores.now.items) core.0 loc.0) bus.new r.1) }
+    ensures caches { IfOk result (λ r. HasUsed (load_after (caches_of bus.old) (entries_in core.0 stores.now) core.0 loc.0) bus.new r.1) }
     ensures cores { cores_of bus.new ≡ cores_of bus.old }
     ensures holder { holder_of bus.new ≡ holder_of bus.old }
     ensures err { OnErr result (bus.new ≡ bus.old) }
@@ -241,7 +207,7 @@ fn see<P: Protocol>(
 fn set(processor: &mut Processor, reg: Reg, value: u32) -> Outcome
     requires { processor.old.place < most_instructions }
     ensures outcome { result ≡ Outcome.Moved }
-    ensures after { processor.new ≡ advanced processor.old (with_value processor.old.registers reg value) }
+    ensures after { processor.new ≡ at_next processor.old (with_value processor.old.registers reg value) }
 {
     advance(processor, reg, value);
     Outcome::Moved
@@ -254,14 +220,9 @@ fn fence(
     commits: &mut Commits,
 ) -> Result<(Outcome, CacheUse), NoMemory>
     requires { processor.old.place < most_instructions }
-    ensures outcome { IfOk result (λ r. r.0 ≡ (fence_by processor.old core.0).outcome) }
-    ensures after { OnOk result (core_state core.0 processor.new ≡ (fence_by processor.old core.0).after) }
-    ensures commits { OnOk result (commits.new.entries ≡ commits.old.entries ++ (fence_by processor.old core.0).commits) }
-    ensures caches { (bus : Bus) → IfOk result (λ r. HasUsed (use_of (caches_of bus) (pending_in core.0 processor.old) (fence_by processor.old core.0).commits) bus r.1) }
-    ensures memory { (memory : List ℕ) → OnOk result (memory ≡ memory_after (fence_by processor.old core.0).commits memory) }
-    ensures succeeds { (fence_by processor.old core.0).outcome ≢ Outcome.Committed → IsOk result }
-    ensures err_core { OnErr result (processor.new ≡ processor.old) }
-    ensures err_commits { OnErr result (commits.new.entries ≡ commits.old.entries) }
+    ensures acts { (bus : Bus) → IfOk result (Acts fence_by core.0 processor.old processor.new bus bus commits.old commits.new) }
+    ensures succeeds { SucceedsUnlessCommitting result (fence_by core.0 processor.old []) }
+    ensures err { (bus : Bus) → OnErr result (AreUnchanged processor.old processor.new bus bus commits.old commits.new) }
     ensures stores { processor.new.stores ≡ processor.old.stores }
 {
     if !processor.stores.is_empty() {
@@ -281,7 +242,7 @@ fn fence(
 /// The core goes on to its next instruction, with this value in the register.
 pub fn advance(processor: &mut Processor, reg: Reg, value: u32)
     requires { processor.old.place < most_instructions }
-    ensures { processor.new ≡ advanced processor.old (with_value processor.old.registers reg value) }
+    ensures { processor.new ≡ at_next processor.old (with_value processor.old.registers reg value) }
 {
     processor.registers[reg.index()] = value;
     processor.place += 1;
@@ -298,23 +259,14 @@ pub fn drain<P: Protocol>(
 ) -> Result<(Outcome, CacheUse), NoMemory>
     requires core { core.0 < cores_of bus.old }
     requires free { MayAct bus.old core.0 (drain_access (pending_in core.0 processor.old)) }
-    requires stores { All (λ s. s.loc.0 < length (words_of bus.old)) processor.old.stores.items }
+    requires stores { AreKnown (length (words_of bus.old)) processor.old.stores }
 
-    ensures outcome { IfOk result (λ r. r.0 ≡ (drain_by processor.old core.0).outcome) }
-    ensures after { OnOk result (core_state core.0 processor.new ≡ (drain_by processor.old core.0).after) }
-    ensures words { OnOk result (words_of bus.new ≡ memory_after (drain_by processor.old core.0).commits (words_of bus.old)) }
-    ensures commits { OnOk result (commits.new.entries ≡ commits.old.entries ++ (drain_by processor.old core.0).commits) }
-    ensures caches { IfOk result (λ r. HasUsed (use_of (caches_of bus.old) (pending_in core.0 processor.old) (drain_by processor.old core.0).commits) bus.new r.1) }
-    ensures succeeds { (drain_by processor.old core.0).outcome ≢ Outcome.Committed → IsOk result }
-
-    ensures err_core { OnErr result (processor.new ≡ processor.old) }
-    ensures err_bus { OnErr result (bus.new ≡ bus.old) }
-    ensures err_commits { OnErr result (commits.new.entries ≡ commits.old.entries) }
-    ensures cores { cores_of bus.new ≡ cores_of bus.old }
-    ensures holder { holder_of bus.new ≡ holder_of bus.old }
-    ensures count { length (words_of bus.new) ≡ length (words_of bus.old) }
+    ensures acts { IfOk result (Acts drain_by core.0 processor.old processor.new bus.old bus.new commits.old commits.new) }
+    ensures succeeds { SucceedsUnlessCommitting result (drain_by core.0 processor.old (words_of bus.old)) }
+    ensures err { OnErr result (AreUnchanged processor.old processor.new bus.old bus.new commits.old commits.new) }
+    ensures keeps { KeepsBus bus.old bus.new }
     ensures depth { processor.new.stores.depth ≡ processor.old.stores.depth }
-    ensures stores { All (λ s. s.loc.0 < length (words_of bus.old)) processor.new.stores.items }
+    ensures stores { AreKnown (length (words_of bus.old)) processor.new.stores }
 {
     match processor.stores.oldest() {
         None => Ok((Outcome::Stalled(Stall::Empty), CacheUse::Unused)),
@@ -338,19 +290,14 @@ fn write<P: Protocol>(
     bus: &mut SnoopBus<P>,
     commits: &mut Commits,
 ) -> Result<Access, NoMemory>
-    requires core { core.0 < cores_of bus.old }
-    requires free { MayAct bus.old core.0 (Writes loc) }
-    requires known { loc.0 < length (words_of bus.old) }
+    requires access { MayAccess bus.old core.0 loc (Writes loc) }
 
-    ensures words { OnOk result (words_of bus.new ≡ slice_set (words_of bus.old) loc.0 value) }
-    ensures commits { OnOk result (commits.new.entries ≡ commits.old.entries ++ entry core.0 place W loc value ∷ []) }
+    ensures stored { OnOk result (IsStored core.0 place loc value bus.old bus.new commits.old commits.new) }
     ensures caches { IfOk result (λ access. HasUsed (write_by (caches_of bus.old) core.0 loc.0) bus.new (CacheUse.Through access)) }
 
     ensures err_bus { OnErr result (bus.new ≡ bus.old) }
     ensures err_commits { OnErr result (commits.new.entries ≡ commits.old.entries) }
-    ensures cores { cores_of bus.new ≡ cores_of bus.old }
-    ensures holder { holder_of bus.new ≡ holder_of bus.old }
-    ensures count { length (words_of bus.new) ≡ length (words_of bus.old) }
+    ensures keeps { KeepsBus bus.old bus.new }
 {
     commits.make_room(1)?;
     let access = bus.store(core, loc, value)?;

@@ -1,12 +1,12 @@
 //! A machine that goes back to the beginning of its test, in the room that it has.
-ghost use Rattle.std.specs.Prelude.{◌≡◌, ℕ, [], IfOk, All, length, map, replicate};
+ghost use Rattle.std.specs.Prelude.{◌≡◌, ℕ, All, length, map, replicate};
 ghost use Rattle.tso_model.specs.Litmus.{IsTest};
-ghost use Rattle.tso_model.specs.FlatMachine.{start, started};
-ghost use Rattle.tso_model.specs.EitherBus.{unheld};
+ghost use Rattle.tso_model.specs.FlatMachine.{started};
 ghost use Rattle.snoop_bus.specs.Rows.{table_of};
 ghost use Rattle.machine_core.specs.Cores.{core_states};
 ghost use Rattle.machine_core.specs.Statistics.{no_counts, no_statistics};
-ghost use Rattle.machine_core.specs.Kept.{IsCore, FitsTest, IsHeldAs, IsTallied, state_in, statistics_in};
+ghost use Rattle.machine_core.specs.Kept.{IsCore, PartsFitTest, statistics_in};
+ghost use Rattle.machine_core.specs.Made.{AreAtStart};
 
 use crate::counts::Counts;
 use crate::holding::Holding;
@@ -17,17 +17,13 @@ use tso_model::{Core, Test};
 
 /// The parts go back to the beginning of the test.
 pub fn restart<P: Protocol>(parts: &mut Parts<P>, test: &Test)
-    requires fits { FitsTest test.now parts.old }
+    requires fits { PartsFitTest test.now parts.old }
     requires test { IsTest test.now }
     requires counts { length parts.old.counts.items ≡ length test.now.programs }
 
-    ensures fits { FitsTest test.now parts.new }
-    ensures held { IsHeldAs test.now parts.new }
-    ensures state { state_in parts.new ≡ unheld (start test.now) }
-    ensures commits { parts.new.commits.entries ≡ [] }
+    ensures begun { AreAtStart test.now parts.new }
     ensures config { parts.new.config ≡ parts.old.config }
     ensures statistics { statistics_in parts.new ≡ no_statistics (table_of parts.old.bus.rows) parts.old.bus.shape test.now }
-    ensures tallied { IsTallied test.now (state_in parts.new) (statistics_in parts.new) }
 {
     restart_cores(&mut parts.processors, test);
     parts.bus.restart(test.initial_words());

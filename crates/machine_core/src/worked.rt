@@ -1,13 +1,14 @@
 //! Worked runs, for what their accesses come to. The body is empty: the clauses are what is stated.
 ghost use Rattle.std.specs.Prelude.{◌≡◌, [], ◌∷◌};
 ghost use Rattle.tso_model.specs.Examples.{sb, sb_choices, n6};
-ghost use Rattle.tso_model.specs.Examples.{loc_x, loc_y};
 ghost use Rattle.tso_model.specs.declared.bus.Bus.TheVariants.{Atomic, Split};
-ghost use Rattle.tso_model.specs.declared.register.Reg.TheVariants.{Eax, Ebx};
-ghost use Rattle.tso_model.specs.declared.instruction.Instr.TheVariants.{Load};
 ghost use Rattle.protocol_tables.specs.Tables.{msi, mesi, moesi};
 ghost use Rattle.machine_core.specs.Statistics.{counts, counts_of};
-ghost use Rattle.machine_core.specs.WorkedCounts.{two_lines, one_line, missed, in_turn, sb_steps, own_store_first, load_store, load_store_choices, load_store_steps, two_stores, two_stores_choices, five_loads, five_loads_choices, sb_asks, sb_waits, added_beside, load_waits, load_between, store_exchange, store_exchange_choices};
+ghost use Rattle.machine_core.specs.WorkedCounts.{two_lines, one_line, missed, in_turn, sb_steps, own_store_first};
+ghost use Rattle.machine_core.specs.WorkedCounts.{load_store, load_store_choices, load_store_steps, two_stores, between};
+ghost use Rattle.machine_core.specs.WorkedCounts.{five_loads, five_loads_choices, sb_asks, sb_waits};
+ghost use Rattle.machine_core.specs.WorkedCounts.{beside_load, load_waits, beside_two_loads, load_between};
+ghost use Rattle.machine_core.specs.WorkedCounts.{store_exchange, store_exchange_choices};
 
 /// Counts of worked runs: hits, misses, upgrades, forwards, write-backs and flushes, in this order.
 pub fn worked_counts()
@@ -26,8 +27,8 @@ pub fn worked_counts()
 
     // A modified copy that another core loads and that then gives way: MOESI keeps it owned and writes it back, MESI
     // has sent it to memory at the load.
-    ensures an_owned_victim_is_written_back { counts_of Atomic moesi one_line two_stores 4 two_stores_choices ≡ counts 0 2 0 0 1 0 ∷ (missed 1 ∷ []) }
-    ensures a_shared_victim_is_not { counts_of Atomic mesi one_line two_stores 4 two_stores_choices ≡ counts 0 2 0 0 0 1 ∷ (missed 1 ∷ []) }
+    ensures an_owned_victim_is_written_back { counts_of Atomic moesi one_line two_stores 4 between ≡ counts 0 2 0 0 1 0 ∷ (missed 1 ∷ []) }
+    ensures a_shared_victim_is_not { counts_of Atomic mesi one_line two_stores 4 between ≡ counts 0 2 0 0 0 1 ∷ (missed 1 ∷ []) }
 
     // The line that was used longest ago gives way: a hit keeps its line.
     ensures a_touched_line_stays { counts_of Atomic msi two_lines five_loads 4 five_loads_choices ≡ counts 2 3 0 0 0 0 ∷ [] }
@@ -39,8 +40,8 @@ pub fn worked_counts()
     // On a split bus an access is counted when it is completed, and not when it is asked for.
     ensures each_misses_twice_on_a_split_bus { counts_of Split msi two_lines sb 4 sb_asks ≡ missed 2 ∷ (missed 2 ∷ []) }
     ensures an_ask_is_not_counted { counts_of Split msi two_lines sb 4 sb_waits ≡ missed 0 ∷ (missed 0 ∷ []) }
-    ensures a_waiting_load_flushes { counts_of Split msi two_lines (added_beside (Load Eax loc_x ∷ [])) 4 load_waits ≡ counts 0 1 0 0 0 1 ∷ (missed 1 ∷ []) }
-    ensures a_load_hits_between { counts_of Split msi two_lines (added_beside (Load Eax loc_y ∷ (Load Ebx loc_y ∷ []))) 4 load_between ≡ missed 1 ∷ (counts 1 1 0 0 0 0 ∷ []) }
+    ensures a_waiting_load_flushes { counts_of Split msi two_lines beside_load 4 load_waits ≡ counts 0 1 0 0 0 1 ∷ (missed 1 ∷ []) }
+    ensures a_load_hits_between { counts_of Split msi two_lines beside_two_loads 4 load_between ≡ missed 1 ∷ (counts 1 1 0 0 0 0 ∷ []) }
 
     // A locked instruction on a line that its core may write counts one hit.
     ensures an_exchange_hits_once { counts_of Split msi two_lines store_exchange 4 store_exchange_choices ≡ counts 1 1 0 0 0 0 ∷ [] }

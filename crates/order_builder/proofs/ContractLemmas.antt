@@ -9,16 +9,12 @@ use Rattle.order_builder.specs.PrintedOrder.{IsLocationFor, HasLocation}
 use Rattle.std.proofs.lemmas.List.Elements.{All-weaker}
 use Rattle.tso_model.specs.declared.execution.Kind.{Kind}
 use Rattle.tso_model.specs.declared.execution.Kind.TheVariants.{R, W, F, LR, LW}
-use Rattle.order_builder.specs.Reading.{order_of, order_start, entries_in, Gives}
+use Rattle.order_builder.specs.Reading.{order_of, order_start, entries_in, entries_of, Gives}
 use Rattle.order_builder.specs.Lines.{lines_of}
 use Rattle.order_builder.specs.declared.fault.OrderFault.{OrderFault}
 use Rattle.order_builder.specs.declared.fault.OrderFault.TheVariants.{NoOrder, BadLine, BadCount, NoMemory}
 use Rattle.order_builder.proofs.SpellingLaws.{spelled_from_read, read_from_spelled}
 use Rattle.order_builder.proofs.FaultLaws.{order_fault_found, order_fault_again}
-
--- the entries of an execution
-abbrev pub entries_of : Execution → List Entry
-entries_of execution = execution.order.items
 
 pub is_found : (t : Litmus) (text : List ℕ) (r : Result Execution OrderFault) → length text < 2 ^ 64 → Gives entries_of r (order_of t text) → IfOk r (λ execution. SpellsOrder t text (entries_of execution))
 is_found t text (Ok execution) small given = spelled_from_read t text (entries_of execution) small given
@@ -39,10 +35,10 @@ pub is_only_fault : (t : Litmus) (text : List ℕ) (r : Result Execution OrderFa
     → (fault : OrderFault) → HasFault t text fault → Gives entries_of r (Err fault)
 is_only_fault t text r test given fault has = subst (Gives entries_of r) (order_fault_again t text fault test has) given
 
-pub read_behind : (t : Litmus) (text rest : List ℕ) (start : ℕ) (r : Result Execution OrderFault) → Some (start, lines_of rest) ≡ order_start 0 (lines_of text)
+pub read_after : (t : Litmus) (text rest : List ℕ) (start : ℕ) (r : Result Execution OrderFault) → Some (start, lines_of rest) ≡ order_start 0 (lines_of text)
     → Gives entries_of r (entries_in t start 0 (lines_of rest)) → Gives entries_of r (order_of t text)
 unfolding order_of
-read_behind t text rest start r at given = rw (← at) given
+read_after t text rest start r at given = rw (← at) given
 
 pub read_nowhere : (t : Litmus) (text : List ℕ) → None ≡ order_start 0 (lines_of text) → order_of t text ≡ Err NoOrder
 unfolding order_of

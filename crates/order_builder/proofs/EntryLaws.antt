@@ -21,17 +21,17 @@ use Rattle.order_builder.proofs.NameLaws.{lacks_from_all, lacks-decimal, lacks-n
 
 -- ---- parts of an entry
 
--- what stands behind a text at the front
-behind-again : (front rest : List ℕ) → without_prefix front (front ++ rest) ≡ Some rest
+-- what stands after a text at the front
+after-again : (front rest : List ℕ) → without_prefix front (front ++ rest) ≡ Some rest
 unfolding without_prefix
-behind-again front rest =
+after-again front rest =
     let head : take (length front) (front ++ rest) ≡ front = take_at front rest (length front) refl in
     let tail : drop (length front) (front ++ rest) ≡ rest = drop_at front rest (length front) refl in
     rw (head, tail, bytes_eq-same front) refl
 
-behind-found : (front text rest : List ℕ) → without_prefix front text ≡ Some rest → text ≡ front ++ rest
+after-found : (front text rest : List ℕ) → without_prefix front text ≡ Some rest → text ≡ front ++ rest
 unfolding without_prefix
-behind-found front text rest e =
+after-found front text rest e =
     elim (chosen (bytes_eq (take (length front) text) front) (Some (drop (length front) text)) None (Some rest) e) [
       | inl hit ↦
           let head : take (length front) text ≡ front = same_bytes _ _ hit.0 in
@@ -69,7 +69,7 @@ lacks-place byte core place misses letter colon c p =
 place_again : (core place : ℕ) → core < 256 → place < 256 → place_in (printed_place core place) ≡ Some (core, place)
 unfolding place_in
 place_again core place c p =
-    let front : without_prefix (codes "P") (printed_place core place) ≡ Some (decimal core ++ 58 ∷ decimal place) = behind-again (codes "P") (decimal core ++ 58 ∷ decimal place) in
+    let front : without_prefix (codes "P") (printed_place core place) ≡ Some (decimal core ++ 58 ∷ decimal place) = after-again (codes "P") (decimal core ++ 58 ∷ decimal place) in
     let cut : split_once 58 (decimal core ++ 58 ∷ decimal place) ≡ Some (decimal core, decimal place) = split_once-at 58 (decimal core) (decimal place) (lacks-decimal 58 core refl (omega arith)) in
     rw (front, cut, number_again 255 core (omega arith) (omega arith), number_again 255 place (omega arith) (omega arith)) refl
 
@@ -85,7 +85,7 @@ place_found text at e =
     let cut = split_once-Some 58 a.0 b.0.0 b.0.1 b.1 in
     let same : (c.0, d.0) ≡ at = cc in
     let text-is : text ≡ printed_place c.0 d.0 =
-    behind-found (codes "P") text a.0 a.1 ∙ ap (λ (l : List ℕ). codes "P" ++ l) (rejoined 58 a.0 b.0.0 b.0.1 (decimal c.0) (decimal d.0) cut.0 core.0 place.0) in
+    after-found (codes "P") text a.0 a.1 ∙ ap (λ (l : List ℕ). codes "P" ++ l) (rejoined 58 a.0 b.0.0 b.0.1 (decimal c.0) (decimal d.0) cut.0 core.0 place.0) in
     subst (λ (q : ℕ × ℕ). (text ≡ printed_place q.0 q.1) × (q.0 < 256) × (q.1 < 256)) same (text-is, omega (arith, core.1), omega (arith, place.1))
 
 -- ---- `x=v`
@@ -193,7 +193,7 @@ printed_word_is t F loc value is = absurd is
 printed_word_is t LR loc value is = refl
 printed_word_is t LW loc value is = refl
 
--- an entry with this core and place, printed with what stands behind them
+-- an entry with this core and place, printed with what stands after them
 record IsActionOf (t : Litmus) (at : ℕ × ℕ) (text : List ℕ) (e : Entry) : Type 0 where
   core : at.0 ≡ e.core.0
   place : at.1 ≡ e.place
@@ -262,7 +262,7 @@ no_end_in_entry t e = refl
 pub end_again : (digits : List ℕ) → is_number digits ≡ true → end_in (codes "Endorder " ++ digits) ≡ Some digits
 unfolding end_in
 end_again digits is =
-    let front : without_prefix (codes "Endorder ") (codes "Endorder " ++ digits) ≡ Some digits = behind-again (codes "Endorder ") digits in
+    let front : without_prefix (codes "Endorder ") (codes "Endorder " ++ digits) ≡ Some digits = after-again (codes "Endorder ") digits in
     rw (front, is) refl
 
 pub end_found : (line digits : List ℕ) → end_in line ≡ Some digits → (line ≡ codes "Endorder " ++ digits) × (is_number digits ≡ true)
@@ -272,6 +272,6 @@ end_found line digits e =
     elim (chosen (is_number a.0) (Some a.0) None (Some digits) a.2) [
       | inl hit ↦
           let same : a.0 ≡ digits = cc in
-          (behind-found (codes "Endorder ") line a.0 a.1 ∙ ap (λ (l : List ℕ). codes "Endorder " ++ l) same, subst (λ (l : List ℕ). is_number l ≡ true) same hit.0)
+          (after-found (codes "Endorder ") line a.0 a.1 ∙ ap (λ (l : List ℕ). codes "Endorder " ++ l) same, subst (λ (l : List ℕ). is_number l ≡ true) same hit.0)
       | inr miss ↦ absurd cc
     ]

@@ -22,8 +22,8 @@ use Rattle.order_builder.proofs.SpellingLaws.{start_again, none_again, StartsAt,
 pub record BadLineAfter (t : Litmus) (start count : ℕ) (lines : List (List ℕ)) (number : ℕ) : Type 0 where
   pub order : List Entry
   pub line : List ℕ
-  pub behind : List (List ℕ)
-  pub whole : lines ≡ map (printed_entry t) order ++ (line ∷ behind)
+  pub after : List (List ℕ)
+  pub whole : lines ≡ map (printed_entry t) order ++ (line ∷ after)
   pub entries : IsOrderFor t order
   pub no_entry : IsNoEntry t line
   pub no_end : IsNoEnd line
@@ -48,7 +48,7 @@ fault_further t start count line lines e NoOrder is line-is more = more
 fault_further t start count line lines e (BadLine number) is line-is more = record {
   order = e ∷ more.order;
   line = more.line;
-  behind = more.behind;
+  after = more.after;
   whole = rw (line-is, more.whole) refl;
   entries = All-cons (IsEntryFor t) e more.order is more.entries;
   no_entry = more.no_entry;
@@ -106,7 +106,7 @@ fault_found t start count (line ∷ lines) fault test e =
             (record {
               order = [];
               line = line;
-              behind = lines;
+              after = lines;
               whole = refl;
               entries = All-nil (IsEntryFor t);
               no_entry = not_entry t line test no_entry;
@@ -116,13 +116,13 @@ fault_found t start count (line ∷ lines) fault test e =
       ]
     ]
 
-fault_behind : (t : Litmus) (text : List ℕ) (start : ℕ × List (List ℕ)) (fault : OrderFault) → StartsAt (lines_of text) 0 start → FaultAfter t start.0 0 start.1 fault → HasFault t text fault
-fault_behind t text start NoOrder at more = absurd more
-fault_behind t text start (BadLine number) at more = record {
+fault_after : (t : Litmus) (text : List ℕ) (start : ℕ × List (List ℕ)) (fault : OrderFault) → StartsAt (lines_of text) 0 start → FaultAfter t start.0 0 start.1 fault → HasFault t text fault
+fault_after t text start NoOrder at more = absurd more
+fault_after t text start (BadLine number) at more = record {
   before = at.before;
   order = more.order;
   line = more.line;
-  behind = more.behind;
+  after = more.after;
   begins = record { lines = at.whole ∙ ap (λ (l : List (List ℕ)). at.before ++ (codes "Order" ∷ l)) more.whole; first = at.others; entries = more.entries };
   no_entry = more.no_entry;
   no_end = more.no_end;
@@ -131,7 +131,7 @@ fault_behind t text start (BadLine number) at more = record {
       let first : start.0 ≡ 0 + length at.before + 1 = at.number in
       omega (arith, numbered, first);
 }
-fault_behind t text start BadCount at more =
+fault_after t text start BadCount at more =
     let count : 0 + length more.order ≡ length more.order = omega arith in
     record {
       before = at.before;
@@ -140,14 +140,14 @@ fault_behind t text start BadCount at more =
       begins = record { lines = at.whole ∙ ap (λ (l : List (List ℕ)). at.before ++ (codes "Order" ∷ l)) more.whole; first = at.others; entries = more.entries };
       no_count = subst (λ (k : ℕ). HasNoCount k more.rest) count more.no_count;
     }
-fault_behind t text start NoMemory at more = absurd more
+fault_after t text start NoMemory at more = absurd more
 
 pub order_fault_found : (t : Litmus) (text : List ℕ) (fault : OrderFault) → IsTest t → order_of t text ≡ Err fault → HasFault t text fault
 unfolding order_of
 order_fault_found t text fault test e =
     elim (two_ways (order_start 0 (lines_of text))) [
       | inl start ↦
-          fault_behind t text start.0 fault (start_found (lines_of text) 0 start.0 start.1)
+          fault_after t text start.0 fault (start_found (lines_of text) 0 start.0 start.1)
           (fault_found t start.0.0 0 start.0.1 fault test (rw start.1 at e))
       | inr none ↦
           let bad : Err NoOrder ≡ Err fault = rw none at e in
@@ -181,9 +181,9 @@ no_end_read line none =
       | inr read ↦ read
     ]
 
-bad_line_read : (t : Litmus) (start count : ℕ) (line : List ℕ) (behind : List (List ℕ)) → IsNoEntry t line → IsNoEnd line → entries_in t start count (line ∷ behind) ≡ Err (BadLine (start + count + 1))
+bad_line_read : (t : Litmus) (start count : ℕ) (line : List ℕ) (after : List (List ℕ)) → IsNoEntry t line → IsNoEnd line → entries_in t start count (line ∷ after) ≡ Err (BadLine (start + count + 1))
 unfolding entries_in
-bad_line_read t start count line behind no_entry no_end = rw (no_end_read line no_end, no_entry_read t line no_entry) refl
+bad_line_read t start count line after no_entry no_end = rw (no_end_read line no_end, no_entry_read t line no_entry) refl
 
 bad_count_read : (t : Litmus) (start count : ℕ) (rest : List (List ℕ)) → HasNoCount count rest → entries_in t start count rest ≡ Err BadCount
 unfolding entries_in
@@ -199,8 +199,8 @@ unfolding order_of
 order_fault_again t text NoOrder test has = rw (none_again (lines_of text) 0 has) refl
 order_fault_again t text (BadLine number) test has =
     let place : length has.before + 1 + length has.order + 1 ≡ number = let numbered : number ≡ length has.before + length has.order + 2 = has.numbered in omega (arith, numbered) in
-    begun t text has.before has.order (has.line ∷ has.behind) test has.begins
-    ∙ ap (after_entries has.order) (bad_line_read t (length has.before + 1) (length has.order) has.line has.behind has.no_entry has.no_end)
+    begun t text has.before has.order (has.line ∷ has.after) test has.begins
+    ∙ ap (after_entries has.order) (bad_line_read t (length has.before + 1) (length has.order) has.line has.after has.no_entry has.no_end)
     ∙ after-Err has.order (BadLine (length has.before + 1 + length has.order + 1)) ∙ ap (λ (k : ℕ). Err (BadLine k)) place
 order_fault_again t text BadCount test has =
     begun t text has.before has.order has.rest test has.begins

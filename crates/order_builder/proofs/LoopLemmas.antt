@@ -23,38 +23,38 @@ regroup front e (Ok es) = ap (λ (l : List Entry). Ok l) (sym (append_assoc fron
 regroup front e (Err fault) = refl
 
 -- an entry's line
-pub goes_on : (t : Litmus) (start : ℕ) (front : List Entry) (rest line behind : List ℕ) (e : Entry) (total : Result (List Entry) OrderFault)
-    → lines_of rest ≡ line ∷ lines_of behind → None ≡ end_in line → Some e ≡ entry_in t line
+pub goes_on : (t : Litmus) (start : ℕ) (front : List Entry) (rest line after : List ℕ) (e : Entry) (total : Result (List Entry) OrderFault)
+    → lines_of rest ≡ line ∷ lines_of after → None ≡ end_in line → Some e ≡ entry_in t line
     → with_front front (entries_in t start (length front) (lines_of rest)) ≡ total
-    → with_front (front ++ e ∷ []) (entries_in t start (length (front ++ e ∷ [])) (lines_of behind)) ≡ total
+    → with_front (front ++ e ∷ []) (entries_in t start (length (front ++ e ∷ [])) (lines_of after)) ≡ total
 unfolding entries_in
-goes_on t start front rest line behind e total lines no_end entry so_far =
+goes_on t start front rest line after e total lines no_end entry so_far =
     let more : length (front ++ e ∷ []) ≡ length front + 1 = length-append front (e ∷ []) in
-    let one : with_front front (entries_in t start (length front) (lines_of rest)) ≡ with_front front (onto e (entries_in t start (length front + 1) (lines_of behind))) =
+    let one : with_front front (entries_in t start (length front) (lines_of rest)) ≡ with_front front (onto e (entries_in t start (length front + 1) (lines_of after))) =
     rw (lines, ← no_end, ← entry) refl in
-    rw more (sym (regroup front e (entries_in t start (length front + 1) (lines_of behind))) ∙ sym one ∙ so_far)
+    rw more (sym (regroup front e (entries_in t start (length front + 1) (lines_of after))) ∙ sym one ∙ so_far)
 
-pub ends_bad : (t : Litmus) (start n : ℕ) (front : List Entry) (rest line behind : List ℕ) (total : Result (List Entry) OrderFault)
-    → lines_of rest ≡ line ∷ lines_of behind → None ≡ end_in line → None ≡ entry_in t line
+pub ends_bad : (t : Litmus) (start n : ℕ) (front : List Entry) (rest line after : List ℕ) (total : Result (List Entry) OrderFault)
+    → lines_of rest ≡ line ∷ lines_of after → None ≡ end_in line → None ≡ entry_in t line
     → with_front front (entries_in t start (length front) (lines_of rest)) ≡ total → n ≡ length front → total ≡ Err (BadLine (start + n + 1))
 unfolding entries_in
-ends_bad t start n front rest line behind total lines no_end no_entry so_far n-is =
+ends_bad t start n front rest line after total lines no_end no_entry so_far n-is =
     let one : with_front front (entries_in t start (length front) (lines_of rest)) ≡ Err (BadLine (start + length front + 1)) = rw (lines, ← no_end, ← no_entry) refl in
     rw n-is (sym so_far ∙ one)
 
-pub ends_good : (t : Litmus) (start n : ℕ) (front : List Entry) (rest line behind digits : List ℕ) (total : Result (List Entry) OrderFault)
-    → lines_of rest ≡ line ∷ lines_of behind → Some digits ≡ end_in line → true ≡ eqb (decimal_value digits) n
+pub ends_good : (t : Litmus) (start n : ℕ) (front : List Entry) (rest line after digits : List ℕ) (total : Result (List Entry) OrderFault)
+    → lines_of rest ≡ line ∷ lines_of after → Some digits ≡ end_in line → true ≡ eqb (decimal_value digits) n
     → with_front front (entries_in t start (length front) (lines_of rest)) ≡ total → n ≡ length front → total ≡ Ok front
 unfolding entries_in
-ends_good t start n front rest line behind digits total lines end count so_far n-is =
+ends_good t start n front rest line after digits total lines end count so_far n-is =
     let one : with_front front (entries_in t start (length front) (lines_of rest)) ≡ Ok front = rw (lines, ← end, ← n-is, ← count) (ap (λ (l : List Entry). Ok l) (append-nil front)) in
     sym so_far ∙ one
 
-pub ends_miscounted : (t : Litmus) (start n : ℕ) (front : List Entry) (rest line behind digits : List ℕ) (total : Result (List Entry) OrderFault)
-    → lines_of rest ≡ line ∷ lines_of behind → Some digits ≡ end_in line → false ≡ eqb (decimal_value digits) n
+pub ends_miscounted : (t : Litmus) (start n : ℕ) (front : List Entry) (rest line after digits : List ℕ) (total : Result (List Entry) OrderFault)
+    → lines_of rest ≡ line ∷ lines_of after → Some digits ≡ end_in line → false ≡ eqb (decimal_value digits) n
     → with_front front (entries_in t start (length front) (lines_of rest)) ≡ total → n ≡ length front → total ≡ Err BadCount
 unfolding entries_in
-ends_miscounted t start n front rest line behind digits total lines end count so_far n-is =
+ends_miscounted t start n front rest line after digits total lines end count so_far n-is =
     let one : with_front front (entries_in t start (length front) (lines_of rest)) ≡ Err BadCount = rw (lines, ← end, ← n-is, ← count) refl in
     sym so_far ∙ one
 

@@ -28,7 +28,7 @@ IsStorePart-from_test x y h =
 own : (x e : Entry) (es : List Entry) → e.core.0 ≡ x.core.0 → is_answered x (e ∷ es) ≡ is_at x.core.0 x.place LW e
 own x e es h = rw (same-core e.core.0 x.core.0 h) refl
 
--- what is put together behind a load part answers it as before
+-- what is put together after a load part answers it as before
 answered-put : (x e : Entry) (es : List Entry) → e.core.0 ≢ x.core.0 → is_answered x (put_before e es) ≡ is_answered x es
 answered-put x e [] h = skipped x e [] h
 answered-put x e (y ∷ ys) h =
@@ -58,14 +58,14 @@ answered-together x (e ∷ es) h = by_core (e.core.0 == x.core.0) refl (answered
         let c = isn't_core e.core.0 x.core.0 q in
         by_kind (same_kind e.kind LR) c (rest (sym (skipped x e es c) ∙ h))
 
--- what stands directly behind a load part
+-- what stands directly after a load part
 abbrev Next : Entry → List Entry → Type 0
 Next x es = (y : Entry) × (slice_get es 0 ≡ Some y) × IsStorePart x y
 
--- what another load part finds behind it, it still finds where this one is put in elsewhere
-behind : (x y : Entry) (es : List Entry) → y.core.0 ≢ x.core.0 → Next y es → Next y (put_before x es)
-behind x y [] c next = absurd (let s = next.1 in let z : ⊥ = cc in z)
-behind x y (e ∷ es) c next =
+-- what another load part finds after it, it still finds where this one is put in elsewhere
+after : (x y : Entry) (es : List Entry) → y.core.0 ≢ x.core.0 → Next y es → Next y (put_before x es)
+after x y [] c next = absurd (let s = next.1 in let z : ⊥ = cc in z)
+after x y (e ∷ es) c next =
     let same : e ≡ next.0 = (let s = next.1 in let z : e ≡ next.0 = cc in z) in
     let other : is_at x.core.0 x.place LW e ≡ false = elsewhere x e (λ s. c (sym next.2.core ∙ ap (λ (u : Entry). u.core.0) (sym same) ∙ s)) in
     (next.0, (let z : slice_get (put_before x (e ∷ es)) 0 ≡ Some e = rw other refl in z ∙ ap Some same), next.2)
@@ -90,13 +90,13 @@ KeepsPairs-put x (y ∷ ys) k a keeps = by_part (is_at x.core.0 x.place LW y) re
         let s : y ≡ z = cc in
         let next : Next z ys = keeps zero z g l in
         let c = (later (y.core.0 == x.core.0) refl q).0 in
-        behind x z ys (λ e. c (ap (λ (u : Entry). u.core.0) s ∙ e)) next
+        after x z ys (λ e. c (ap (λ (u : Entry). u.core.0) s ∙ e)) next
     by_part false q go (suc i) z g l = go (later (y.core.0 == x.core.0) refl q).1 rest i z g l
 
-KeepsPairs-behind : (e : Entry) (es : List Entry) → same_kind e.kind LR ≡ false → KeepsPairs es → KeepsPairs (e ∷ es)
-KeepsPairs-behind e es q keeps zero x g k =
+KeepsPairs-after : (e : Entry) (es : List Entry) → same_kind e.kind LR ≡ false → KeepsPairs es → KeepsPairs (e ∷ es)
+KeepsPairs-after e es q keeps zero x g k =
     absurd (let s : e ≡ x = cc in let z : false ≡ true = sym q ∙ (ap (λ (u : Entry). same_kind u.kind LR) s ∙ ap (λ u. same_kind u LR) k) in let w : ⊥ = cc in w)
-KeepsPairs-behind e es q keeps (suc i) x g k = keeps i x g k
+KeepsPairs-after e es q keeps (suc i) x g k = keeps i x g k
 
 KeepsPairs-together : (es : List Entry) → are_answered es ≡ true → KeepsPairs (put_together es)
 KeepsPairs-together [] h = λ i x g k. absurd (let z : ⊥ = cc in z)
@@ -107,7 +107,7 @@ KeepsPairs-together (e ∷ es) h = by_kind (same_kind e.kind LR) refl h (KeepsPa
     by_kind true q a rest =
         KeepsPairs-put e (put_together es) (load_kind e.kind q) (answered-together e es (and_first (is_answered e es) (are_answered es) a))
         (rest (and_second (is_answered e es) (are_answered es) a))
-    by_kind false q a rest = KeepsPairs-behind e (put_together es) q (rest a)
+    by_kind false q a rest = KeepsPairs-after e (put_together es) q (rest a)
 
 pub KeepsPairs-paired : (es : List Entry) → IsPaired es → KeepsPairs (put_together es)
 KeepsPairs-paired es h = KeepsPairs-together es h

@@ -152,7 +152,7 @@ printed_spells t order front rest text test are others text-is =
     let graphic : AreGraphic (order_lines t order) = (graphic_first, graphic-entries t order (length order) test are) in
     record {
       before = map strip_carriage_return front;
-      behind = lines_of rest;
+      after = lines_of rest;
       lines =
           ap lines_of text-is ∙ lines_of-before front (printed_order t order ++ rest) others
           ∙ ap (λ (l : List (List ℕ)). map strip_carriage_return front ++ l) (lines_of-graphic (order_lines t order) rest graphic);

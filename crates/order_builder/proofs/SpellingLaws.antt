@@ -81,7 +81,7 @@ none_found (line ∷ lines) n e =
 
 -- ---- entries
 
--- entries, and then what the lines behind them give
+-- entries, and then what the lines after them give
 abbrev pub after_entries : List Entry → Result (List Entry) OrderFault → Result (List Entry) OrderFault
 after_entries [] read = read
 after_entries (e ∷ es) read = onto e (after_entries es read)
@@ -104,10 +104,10 @@ pub after-Err : (order : List Entry) (fault : OrderFault) → after_entries orde
 after-Err [] fault = refl
 after-Err (e ∷ es) fault = ap (onto e) (after-Err es fault)
 
--- the end behind so many entries
-end_again' : (t : Litmus) (start count : ℕ) (behind : List (List ℕ)) → count < 2 ^ 64 → entries_in t start count (printed_end count ∷ behind) ≡ Ok []
+-- the end after so many entries
+end_again' : (t : Litmus) (start count : ℕ) (after : List (List ℕ)) → count < 2 ^ 64 → entries_in t start count (printed_end count ∷ after) ≡ Ok []
 unfolding entries_in
-end_again' t start count behind small =
+end_again' t start count after small =
     let end : end_in (printed_end count) ≡ Some (decimal count) = end_again (decimal count) (is_number-decimal count small) in
     let equal : eqb (decimal_value (decimal count)) count ≡ true = rw (value-decimal count small) (grind (arith, nat_tests)) in
     rw (end, equal) refl
@@ -115,19 +115,19 @@ end_again' t start count behind small =
 pub order_again : (t : Litmus) (text : List ℕ) (order : List Entry) → IsTest t → length order < 2 ^ 64 → SpellsOrder t text order → order_of t text ≡ Ok order
 unfolding order_of
 order_again t text order test small spells =
-    let lines : lines_of text ≡ spells.before ++ (codes "Order" ∷ (map (printed_entry t) order ++ (printed_end (length order) ∷ spells.behind))) =
-    spells.lines ∙ ap (λ (l : List (List ℕ)). spells.before ++ (codes "Order" ∷ l)) (append_assoc (map (printed_entry t) order) (printed_end (length order) ∷ []) spells.behind) in
-    let starts = start_again spells.before 0 (map (printed_entry t) order ++ (printed_end (length order) ∷ spells.behind)) spells.first in
+    let lines : lines_of text ≡ spells.before ++ (codes "Order" ∷ (map (printed_entry t) order ++ (printed_end (length order) ∷ spells.after))) =
+    spells.lines ∙ ap (λ (l : List (List ℕ)). spells.before ++ (codes "Order" ∷ l)) (append_assoc (map (printed_entry t) order) (printed_end (length order) ∷ []) spells.after) in
+    let starts = start_again spells.before 0 (map (printed_entry t) order ++ (printed_end (length order) ∷ spells.after)) spells.first in
     let start = 0 + length spells.before + 1 in
-    let read = entries_again t start 0 order (printed_end (length order) ∷ spells.behind) test spells.entries in
+    let read = entries_again t start 0 order (printed_end (length order) ∷ spells.after) test spells.entries in
     let count : 0 + length order ≡ length order = omega arith in
-    let last : entries_in t start (0 + length order) (printed_end (length order) ∷ spells.behind) ≡ Ok [] = rw count (end_again' t start (length order) spells.behind small) in
+    let last : entries_in t start (0 + length order) (printed_end (length order) ∷ spells.after) ≡ Ok [] = rw count (end_again' t start (length order) spells.after small) in
     rw (lines, starts) (read ∙ ap (after_entries order) last ∙ after-Ok order)
 
--- what is read of some lines behind so many entries
+-- what is read of some lines after so many entries
 record EndsAfter (t : Litmus) (count : ℕ) (lines : List (List ℕ)) (order : List Entry) : Type 0 where
-  behind : List (List ℕ)
-  whole : lines ≡ map (printed_entry t) order ++ (printed_end (count + length order) ∷ behind)
+  after : List (List ℕ)
+  whole : lines ≡ map (printed_entry t) order ++ (printed_end (count + length order) ∷ after)
   entries : IsOrderFor t order
 
 onto-Ok : (e : Entry) (read : Result (List Entry) OrderFault) (order : List Entry) → onto e read ≡ Ok order → (es : List Entry) × (read ≡ Ok es) × (e ∷ es ≡ order)
@@ -149,8 +149,8 @@ one_more : (t : Litmus) (count : ℕ) (line : List ℕ) (lines : List (List ℕ)
 one_more t count line lines e es is line-is more =
     let place : count + 1 + length es ≡ count + suc (length es) = omega arith in
     record {
-      behind = more.behind;
-      whole = rw (line-is, more.whole) (ap (λ (k : ℕ). printed_entry t e ∷ (map (printed_entry t) es ++ (printed_end k ∷ more.behind))) place);
+      after = more.after;
+      whole = rw (line-is, more.whole) (ap (λ (k : ℕ). printed_entry t e ∷ (map (printed_entry t) es ++ (printed_end k ∷ more.after))) place);
       entries = All-cons (IsEntryFor t) e es is more.entries;
     }
 
@@ -160,7 +160,7 @@ end_here t count line digits lines small e equal =
     let digits-is : decimal (decimal_value digits) ≡ digits = decimal-value digits end.1 (omega (arith, equal)) in
     let place : decimal_value digits ≡ count + 0 = omega (arith, equal) in
     record {
-      behind = lines;
+      after = lines;
       whole = ap (λ (l : List ℕ). l ∷ lines) (end.0 ∙ ap (λ (l : List ℕ). codes "Endorder " ++ l) (sym digits-is) ∙ ap printed_end place);
       entries = All-nil (IsEntryFor t);
     }
@@ -197,14 +197,14 @@ order_found t text order small e =
           let read : entries_in t start.0.0 0 start.0.1 ≡ Ok order = rw start.1 at e in
           let ends = entries_found t start.0.0 0 start.0.1 order (omega (arith, small)) read in
           let count : 0 + length order ≡ length order = omega arith in
-          let tail : start.0.1 ≡ map (printed_entry t) order ++ (printed_end (length order) ∷ ends.behind) =
-          ends.whole ∙ ap (λ (k : ℕ). map (printed_entry t) order ++ (printed_end k ∷ ends.behind)) count in
+          let tail : start.0.1 ≡ map (printed_entry t) order ++ (printed_end (length order) ∷ ends.after) =
+          ends.whole ∙ ap (λ (k : ℕ). map (printed_entry t) order ++ (printed_end k ∷ ends.after)) count in
           record {
             before = at.before;
-            behind = ends.behind;
+            after = ends.after;
             lines =
                 at.whole
-                ∙ ap (λ (l : List (List ℕ)). at.before ++ (codes "Order" ∷ l)) (tail ∙ sym (append_assoc (map (printed_entry t) order) (printed_end (length order) ∷ []) ends.behind));
+                ∙ ap (λ (l : List (List ℕ)). at.before ++ (codes "Order" ∷ l)) (tail ∙ sym (append_assoc (map (printed_entry t) order) (printed_end (length order) ∷ []) ends.after));
             first = at.others;
             entries = ends.entries;
           }
@@ -247,9 +247,9 @@ order_length t text order small e =
 
 spelled_length : (t : Litmus) (text : List ℕ) (order : List Entry) → length text < 2 ^ 64 → SpellsOrder t text order → length order < 2 ^ 64
 spelled_length t text order small spells =
-    let whole : length (lines_of text) ≡ length spells.before + length (order_lines t order ++ spells.behind) =
-    ap (λ (l : List (List ℕ)). length l) spells.lines ∙ length-append spells.before (order_lines t order ++ spells.behind) in
-    let last : length (order_lines t order ++ spells.behind) ≡ length (order_lines t order) + length spells.behind = length-append (order_lines t order) spells.behind in
+    let whole : length (lines_of text) ≡ length spells.before + length (order_lines t order ++ spells.after) =
+    ap (λ (l : List (List ℕ)). length l) spells.lines ∙ length-append spells.before (order_lines t order ++ spells.after) in
+    let last : length (order_lines t order ++ spells.after) ≡ length (order_lines t order) + length spells.after = length-append (order_lines t order) spells.after in
     let entries : length (map (printed_entry t) order ++ (printed_end (length order) ∷ [])) ≡ length (map (printed_entry t) order) + 1 = length-append (map (printed_entry t) order) (printed_end (length order) ∷ []) in
     let count : length (map (printed_entry t) order) ≡ length order = length-map order (printed_entry t) in
     omega (arith, small, whole, last, entries, count, lines_of-length text)

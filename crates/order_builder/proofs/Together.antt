@@ -54,7 +54,7 @@ passes x e ys h = rw h refl
 stops : (x e : Entry) (ys : List Entry) → is_at x.core.0 x.place LW e ≡ true → put_before x (e ∷ ys) ≡ x ∷ (e ∷ ys)
 stops x e ys h = rw h refl
 
--- what answers a load part behind an entry of another core answers it before that too; one of its own core is its store part
+-- what answers a load part after an entry of another core answers it before that too; one of its own core is its store part
 pub skipped : (x e : Entry) (es : List Entry) → e.core.0 ≢ x.core.0 → is_answered x (e ∷ es) ≡ is_answered x es
 skipped x e es h = rw (other-core e.core.0 x.core.0 h) refl
 

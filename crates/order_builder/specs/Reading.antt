@@ -1,10 +1,12 @@
 -- An order as it is read from the lines of a text, or the first fault in their order. (This project's profile.)
-use Rattle.std.specs.Prelude.{ℕ, ◌+◌, ◌-◌, ◌^◌, ◌==◌, ◌≡◌, List, [], ◌∷◌, length, take, drop, Option, Some, None, Result, Ok, Err, codes, if◌then◌else◌}
+use Rattle.std.specs.Prelude.{ℕ, ◌+◌, ◌-◌, ◌^◌, ◌==◌, ◌≡◌, List, [], ◌∷◌, length, take, drop}
+use Rattle.std.specs.Prelude.{Option, Some, None, Result, Ok, Err, codes, if◌then◌else◌}
 use Rattle.std.specs.List.{position}
 use Rattle.std.specs.Option.{option_map}
 use Rattle.std.specs.Str.{bytes_eq}
 use Rattle.tso_model.specs.Litmus.{Litmus}
 use Rattle.tso_model.specs.declared.execution.Entry.{Entry}
+use Rattle.tso_model.specs.declared.execution.Execution.{Execution}
 use Rattle.tso_model.specs.declared.execution.Kind.{Kind}
 use Rattle.tso_model.specs.declared.execution.Kind.TheVariants.{R, W, F, LR, LW}
 use Rattle.order_builder.specs.Lines.{lines_of}
@@ -97,9 +99,9 @@ onto e (Err fault) = Err fault
 
 -- what a line gives: the end, an entry before what the lines after it give, or a fault
 abbrev pub line_gives : ℕ → ℕ → Option (List ℕ) → Option Entry → Result (List Entry) OrderFault → Result (List Entry) OrderFault
-line_gives number count (Some digits) entry behind = if decimal_value digits == count then Ok [] else Err BadCount
-line_gives number count None (Some e) behind = onto e behind
-line_gives number count None None behind = Err (BadLine number)
+line_gives number count (Some digits) entry after = if decimal_value digits == count then Ok [] else Err BadCount
+line_gives number count None (Some e) after = onto e after
+line_gives number count None None after = Err (BadLine number)
 
 -- the entries of these lines, which stand after so many lines up to `Order`, and then after so many entries
 unfoldable pub entries_in : Litmus → ℕ → ℕ → List (List ℕ) → Result (List Entry) OrderFault
@@ -133,3 +135,7 @@ Fails BadCount read = read ≡ Err BadCount
 abbrev pub Gives : {X : Type 0} → (X → List Entry) → Result X OrderFault → Result (List Entry) OrderFault → Type 0
 Gives view (Ok x) read = read ≡ Ok (view x)
 Gives view (Err fault) read = Fails fault read
+
+-- the entries of an order, in their order
+abbrev pub entries_of : Execution → List Entry
+entries_of execution = execution.order.items

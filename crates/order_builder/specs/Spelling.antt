@@ -40,8 +40,8 @@ pub record IsBefore (line : List ℕ) : Type 0 where
 -- none of which is `Order`
 pub record SpellsOrder (t : Litmus) (text : List ℕ) (order : List Entry) : Type 0 where
   pub before : List (List ℕ)
-  pub behind : List (List ℕ)
-  pub lines : lines_of text ≡ before ++ (order_lines t order ++ behind)
+  pub after : List (List ℕ)
+  pub lines : lines_of text ≡ before ++ (order_lines t order ++ after)
   pub first : All IsOther before
   pub entries : IsOrderFor t order
 
@@ -64,8 +64,8 @@ pub record HasBadLine (t : Litmus) (text : List ℕ) (number : ℕ) : Type 0 whe
   pub before : List (List ℕ)
   pub order : List Entry
   pub line : List ℕ
-  pub behind : List (List ℕ)
-  pub begins : BeginsOrder t text before order (line ∷ behind)
+  pub after : List (List ℕ)
+  pub begins : BeginsOrder t text before order (line ∷ after)
   pub no_entry : IsNoEntry t line
   pub no_end : IsNoEnd line
   pub numbered : number ≡ length before + length order + 2

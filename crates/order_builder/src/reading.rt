@@ -10,7 +10,7 @@ ghost use Rattle.tso_model.specs.declared.execution.Entry.{Entry};
 ghost use Rattle.order_builder.specs.Spelling.{SpellsOrder, HasFault};
 ghost use Rattle.order_builder.specs.declared.fault.OrderFault.{OrderFault};
 ghost use Rattle.order_builder.specs.declared.fault.OrderFault.TheVariants.{NoMemory};
-ghost use Rattle.order_builder.specs.Reading.{entries_in, order_start, Gives};
+ghost use Rattle.order_builder.specs.Reading.{entries_in, entries_of, order_start, Gives};
 
 use crate::entries::{end_in, entry_in};
 use crate::fault::OrderFault;
@@ -28,12 +28,12 @@ use tso_model::{Execution, Test};
 /// allocator refused a growth.
 pub fn read_order(alloc: Global, test: &Test, text: &[u8]) -> Result<Execution, OrderFault>
     // What is read is spelled so, and what is spelled so is read, unless memory runs out.
-    ensures found { IfOk result (λ execution. SpellsOrder test.now text.now execution.order.items) }
-    ensures only { (order : List Entry) → SpellsOrder test.now text.now order → Gives (λ execution. execution.order.items) result (Ok order) }
+    ensures found { IfOk result (λ execution. SpellsOrder test.now text.now (entries_of execution)) }
+    ensures only { (order : List Entry) → SpellsOrder test.now text.now order → Gives entries_of result (Ok order) }
 
     // A fault that is answered is the text's, and the text's is answered, unless memory runs out.
     ensures fault { IfErr result (λ fault. fault ≢ NoMemory → HasFault test.now text.now fault) }
-    ensures only_fault { (fault : OrderFault) → HasFault test.now text.now fault → Gives (λ execution. execution.order.items) result (Err fault) }
+    ensures only_fault { (fault : OrderFault) → HasFault test.now text.now fault → Gives entries_of result (Err fault) }
 {
     // A test keeps its limits, on which the names of its locations rest.
     let _locations = test.locations();
@@ -51,12 +51,12 @@ fn after_order_line(text: &[u8]) -> Option<(&[u8], usize)>
 {
     let mut rest = text;
     let mut lines = 0;
-    while let Some((line, behind)) = next_line(rest) {
+    while let Some((line, after)) = next_line(rest) {
         lines += 1;
         if line == b"Order".as_slice() {
-            return Some((behind, lines));
+            return Some((after, lines));
         }
-        rest = behind;
+        rest = after;
     }
     None
 }
@@ -69,11 +69,11 @@ fn read_entries(
     start: usize,
 ) -> Result<Execution, OrderFault>
     requires { start + length text.now < 2 ^ 64 }
-    ensures { Gives (λ execution. execution.order.items) result (entries_in test.now start 0 (lines_of text.now)) }
+    ensures { Gives entries_of result (entries_in test.now start 0 (lines_of text.now)) }
 {
     let mut order = Vec::new(alloc);
     let mut rest = text;
-    while let Some((line, behind)) = next_line(rest) {
+    while let Some((line, after)) = next_line(rest) {
         if let Some(digits) = end_in(line) {
             if number_is(digits, order.len() as u64) {
                 return Ok(Execution { order });
@@ -84,7 +84,7 @@ fn read_entries(
             Some(entry) => order.push(entry)?,
             None => return Err(OrderFault::BadLine(start + order.len() + 1)),
         }
-        rest = behind;
+        rest = after;
     }
     Err(OrderFault::BadCount)
 }

@@ -3,7 +3,9 @@
 ghost use Rattle.std.specs.Prelude.{◌≡◌, ◌++◌, Some, IfOk, OnOk, codes, string_bytes};
 ghost use Rattle.protocol_tables.specs.Names.{protocol_name};
 ghost use Rattle.protocol_tables.specs.Tables.{table_of, by_kind};
-ghost use Rattle.protocol_tables.specs.PrintedTable.{letter, yes_or_no, printed_write, printed_evict, printed_snoop, row, row_if_reached, rows, reaches, is_owned, is_exclusive, strongest_first, name_line, fill_line, printed_table};
+ghost use Rattle.protocol_tables.specs.PrintedTable.{letter, yes_or_no, printed_write, printed_evict, printed_snoop};
+ghost use Rattle.protocol_tables.specs.PrintedTable.{row, row_if_reached, rows, reaches, is_owned, is_exclusive, strongest_first};
+ghost use Rattle.protocol_tables.specs.PrintedTable.{name_line, fill_line, printed_table};
 
 use crate::kind::ProtocolKind;
 use crate::protocol::Protocol;

@@ -2,7 +2,8 @@
 
 ghost use Rattle.std.specs.Prelude.{◌≡◌, List, ℕ};
 ghost use Rattle.protocol_tables.specs.Tables.{Table};
-ghost use Rattle.protocol_tables.specs.Laws.{FillsExclusiveOnlyAlone, GivesUp, Shares, CleansByMemory, Supplies, WritesInPlace, WritesBackDirty};
+ghost use Rattle.protocol_tables.specs.Laws.{FillsExclusiveOnlyAlone, GivesUp, Shares, CleansByMemory, Supplies};
+ghost use Rattle.protocol_tables.specs.Laws.{WritesInPlace, WritesBackDirty};
 
 use crate::state::{Snoop, State};
 

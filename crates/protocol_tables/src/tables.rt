@@ -2,9 +2,11 @@
 
 ghost use Rattle.std.specs.Prelude.{◌≡◌, true, false};
 ghost use Rattle.std.proofs.Common.{rules};
-ghost use Rattle.protocol_tables.specs.declared.kind.ProtocolKind.TheVariants.{Msi as KindMsi, Mesi as KindMesi, Moesi as KindMoesi, Mosi as KindMosi};
+ghost use Rattle.protocol_tables.specs.declared.kind.ProtocolKind.TheVariants.{Msi as KindMsi, Mesi as KindMesi};
+ghost use Rattle.protocol_tables.specs.declared.kind.ProtocolKind.TheVariants.{Moesi as KindMoesi, Mosi as KindMosi};
 ghost use Rattle.protocol_tables.specs.Names.{protocol_name};
-ghost use Rattle.protocol_tables.specs.Tables.{msi, mesi, moesi, mosi, snoop, filled_by_company, get_s_sending, get_s_owning, get_m, write, write_back};
+ghost use Rattle.protocol_tables.specs.Tables.{msi, mesi, moesi, mosi};
+ghost use Rattle.protocol_tables.specs.Tables.{snoop, filled_by_company, get_s_sending, get_s_owning, get_m, write, write_back};
 
 use crate::kind::ProtocolKind;
 use crate::protocol::Protocol;

@@ -9,7 +9,8 @@ use Rattle.relational_model.specs.Events.{IsIn, IsEarlier, at_once, onward}
 use Rattle.relational_model.specs.Candidates.{Candidate, events}
 use Rattle.relational_model.specs.Relations.{IsBefore}
 use Rattle.relational_model.specs.Model.{ArePair, IsAllowed, is_locked, is_locked_kind, po_loc, fr, write_before_write, co}
-use Rattle.relational_model.proofs.Ranks.{rank, part_of, before-rank, rank-before}
+use Rattle.basic_laws.specs.Ranks.{rank, part_of}
+use Rattle.relational_model.proofs.Ranks.{before-rank, rank-before}
 use Rattle.relational_model.proofs.KindFacts.{write-is-no-read, kept-with-locked}
 use Rattle.relational_model.proofs.Sources.{one-way}
 use Rattle.relational_model.proofs.Uniproc.{writes-at}

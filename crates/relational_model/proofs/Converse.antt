@@ -10,7 +10,7 @@ use Rattle.relational_model.specs.Candidates.{Candidate, events}
 use Rattle.relational_model.specs.CandidatesOfOrders.{IsOfAnExecution}
 use Rattle.relational_model.specs.Model.{ArePair, IsAllowed}
 use Rattle.relational_model.proofs.Lists.{in-case, in-first, in-later, in-append}
-use Rattle.relational_model.proofs.Ranks.{part_of}
+use Rattle.basic_laws.specs.Ranks.{part_of}
 use Rattle.relational_model.proofs.Sizes.{Once, once-filter, no-more}
 use Rattle.relational_model.proofs.Decisions.{Decision, kinds, Goes}
 use Rattle.relational_model.proofs.Sorting.{GoesForward, Row, in-a-row}

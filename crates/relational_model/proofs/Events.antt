@@ -12,7 +12,7 @@ use Rattle.tso_model.specs.declared.execution.Entry.{Entry}
 use Rattle.tso_model.specs.declared.execution.Kind.TheVariants.{R, W, LR, LW}
 use Rattle.relational_model.specs.Events.{IsIn}
 use Rattle.relational_model.specs.Candidates.{Candidate, IsCandidate, events_from, events}
-use Rattle.relational_model.proofs.Ranks.{part_of}
+use Rattle.basic_laws.specs.Ranks.{part_of}
 use Rattle.relational_model.proofs.Lists.{Cut, cut, in-case, in-none, in-first, in-later, in-append, in-left, in-right, in-filter}
 use Rattle.relational_model.proofs.Same.{here-by, from-place, same-of}
 use Rattle.relational_model.proofs.Sizes.{Once, once-filter, length-middle}

@@ -13,7 +13,8 @@ use Rattle.relational_model.specs.CandidatesOfOrders.{last_in}
 use Rattle.relational_model.specs.Relations.{is_access, share_location, ReadsFrom, IsBefore, StandsAfter, FromReads}
 use Rattle.relational_model.specs.Model.{IsAllowed, po_loc, rf, fr}
 use Rattle.relational_model.proofs.Lists.{in-case, in-none, in-first, in-later, in-filter, filter-in, in-right, Precedes, to-precedes, from-precedes, precedes-second, last-is-in, last-none, last-last}
-use Rattle.relational_model.proofs.Ranks.{rank, part_of, rank-before}
+use Rattle.basic_laws.specs.Ranks.{rank, part_of}
+use Rattle.relational_model.proofs.Ranks.{rank-before}
 use Rattle.relational_model.proofs.KindFacts.{same-number, number-same, write-is-no-read}
 use Rattle.relational_model.proofs.Sources.{StandOnce, Counts, never-back, one-way, counts-in, in-counts, counting-earlier}
 use Rattle.relational_model.proofs.Sizes.{Once}

@@ -1,41 +1,10 @@
--- Program order as an order of numbers.
-use Rattle.std.proofs.Common.{◌≡◌, ◌<◌, ℕ, ◌+◌, true, false, not, ◌==◌, ◌&&◌, ◌||◌, nat_lt, arith, ap, sym, ◌∙◌}
+-- What program order keeps, as an order of numbers.
+use Rattle.std.proofs.Common.{◌≡◌, ◌<◌, ℕ, true, ◌==◌, ◌&&◌, nat_lt, arith, sym, ◌∙◌}
 use Rattle.std.proofs.lemmas.Bool.Decides.{nat_tests}
-use Rattle.tso_model.specs.ProgramOrder.{same_kind, is_before}
+use Rattle.tso_model.specs.ProgramOrder.{is_before}
 use Rattle.tso_model.specs.declared.execution.Entry.{Entry}
-use Rattle.tso_model.specs.declared.execution.Kind.{Kind}
-use Rattle.tso_model.specs.declared.execution.Kind.TheVariants.{LW}
-
--- of the two parts of a locked instruction the store is the later
-abbrev pub part_of : Kind → ℕ
-part_of LW = 1
-part_of _ = 0
-
--- entries of one core stand in their program as these numbers do
-abbrev pub rank : Entry → ℕ
-rank e = e.place + e.place + part_of e.kind
-
-together : (p q : ℕ) → (nat_lt p q || ((p == q) && false)) ≡ nat_lt (p + p + 0) (q + q + 0)
-together p q = grind (arith, nat_tests)
-
-both-later : (p q : ℕ) → (nat_lt p q || ((p == q) && false)) ≡ nat_lt (p + p + 1) (q + q + 1)
-both-later p q = grind (arith, nat_tests)
-
-first-later : (p q : ℕ) → (nat_lt p q || ((p == q) && false)) ≡ nat_lt (p + p + 1) (q + q + 0)
-first-later p q = grind (arith, nat_tests)
-
-second-later : (p q : ℕ) → (nat_lt p q || ((p == q) && true)) ≡ nat_lt (p + p + 0) (q + q + 1)
-second-later p q = grind (arith, nat_tests)
-
-kinds-rank : (j k : Kind) (p q : ℕ)
-    → (nat_lt p q || ((p == q) && (same_kind k LW && not (same_kind j LW)))) ≡ nat_lt (p + p + part_of j) (q + q + part_of k)
-kinds-rank LW LW p q = both-later p q
-kinds-rank LW _ p q = first-later p q
-kinds-rank _ LW p q = second-later p q
-kinds-rank _ _ p q = together p q
-
-by-rank : (x y : Entry) → is_before x y ≡ ((x.core.0 == y.core.0) && nat_lt (rank x) (rank y))
-by-rank x y = ap (λ b. (x.core.0 == y.core.0) && b) (kinds-rank x.kind y.kind x.place y.place)
+use Rattle.basic_laws.specs.Ranks.{rank}
+use Rattle.basic_laws.proofs.Ranks.{by-rank}
 
 both : (a b c d : ℕ) → ((a == b) && nat_lt c d) ≡ true → (a ≡ b) × (c < d)
 both a b c d h = (grind (arith, nat_tests), grind (arith, nat_tests))

@@ -10,7 +10,7 @@ use Rattle.tso_model.specs.declared.action.Action.TheVariants.{Store, Load, Move
 use Rattle.tso_model.specs.declared.execution.Entry.{Entry}
 use Rattle.tso_model.specs.declared.execution.Kind.TheVariants.{R, W, LR, LW}
 use Rattle.relational_model.specs.Events.{IsIn}
-use Rattle.relational_model.proofs.Ranks.{part_of}
+use Rattle.basic_laws.specs.Ranks.{part_of}
 use Rattle.relational_model.proofs.Lists.{in-case, in-none, in-append}
 
 -- the one entry of a list

@@ -7,7 +7,8 @@ use Rattle.relational_model.specs.Events.{IsIn, LeadsTo, at_once, onward}
 use Rattle.relational_model.specs.Candidates.{Candidate}
 use Rattle.relational_model.specs.Model.{ArePair, is_locked, is_locked_kind}
 use Rattle.relational_model.proofs.Lists.{in-case, in-none, in-first, in-later, in-append, in-left, in-right, in-filter, filter-in}
-use Rattle.relational_model.proofs.Ranks.{part_of, rank-before}
+use Rattle.basic_laws.specs.Ranks.{part_of}
+use Rattle.relational_model.proofs.Ranks.{rank-before}
 use Rattle.relational_model.proofs.KindFacts.{kept-with-locked}
 use Rattle.relational_model.proofs.Decisions.{Decision, both, either, carried, number, kinds, Goes, goes}
 use Rattle.relational_model.proofs.Sorting.{Decided}

@@ -8,7 +8,8 @@ use Rattle.relational_model.specs.Events.{IsIn, IsEarlier, LeadsTo, at_once, onw
 use Rattle.relational_model.specs.Candidates.{Candidate, events}
 use Rattle.relational_model.specs.Relations.{is_access, share_location, StandsAfter}
 use Rattle.relational_model.specs.Model.{IsBeforeOnLocation, po_loc, rf, co, fr}
-use Rattle.relational_model.proofs.Ranks.{rank, before-rank, before-trans}
+use Rattle.basic_laws.specs.Ranks.{rank}
+use Rattle.relational_model.proofs.Ranks.{before-rank, before-trans}
 use Rattle.relational_model.proofs.KindFacts.{write-is-no-read, before-write-kept, read-kept-before, and-both, or-either, same-number, number-same}
 use Rattle.relational_model.proofs.Sources.{Known, Counts, earlier-trans, source-counts, source-last, source-none, coherence-in, coherence-earlier, event-in}
 use Rattle.relational_model.proofs.Forward.{kept, after-in, starts-in}

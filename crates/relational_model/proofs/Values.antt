@@ -14,7 +14,7 @@ use Rattle.relational_model.specs.Events.{IsIn}
 use Rattle.relational_model.specs.Candidates.{Candidate, Returns, events_from, events}
 use Rattle.relational_model.specs.CandidatesOfOrders.{last_in, IsCandidateOf}
 use Rattle.relational_model.proofs.Lists.{in-case, in-none, in-first, in-left, in-right}
-use Rattle.relational_model.proofs.Ranks.{part_of}
+use Rattle.basic_laws.specs.Ranks.{part_of}
 use Rattle.relational_model.proofs.KindFacts.{same-number}
 use Rattle.relational_model.proofs.Allowed.{value-none, value-some}
 use Rattle.relational_model.proofs.Found.{at-itself, apart-three, equal-kinds}

@@ -24,7 +24,10 @@ ghost use Rattle.relational_model.specs.Candidates.{Candidate};
 ghost use Rattle.relational_model.specs.Model.{IsAllowed, IsForbidden};
 ghost use Rattle.relational_model.specs.CandidatesOfOrders.{IsCandidateOf, LeaveTheSame, IsOfAnExecution};
 ghost use Rattle.relational_model.specs.CandidatesOfRuns.{IsCandidateOfRun};
-ghost use Rattle.relational_model.specs.WorkedCandidates.{sb_candidate, n6_candidate, fenced, fenced_candidate, exchanged, exchanged_candidate, passing, passing_candidate, buffering, buffering_candidate, independent, independent_candidate, opposite_registers, between, between_candidate};
+ghost use Rattle.relational_model.specs.WorkedCandidates.{sb_candidate, n6_candidate, fenced, fenced_candidate};
+ghost use Rattle.relational_model.specs.WorkedCandidates.{exchanged, exchanged_candidate, passing, passing_candidate};
+ghost use Rattle.relational_model.specs.WorkedCandidates.{buffering, buffering_candidate, between, between_candidate};
+ghost use Rattle.relational_model.specs.WorkedCandidates.{independent, independent_candidate, opposite_registers};
 
 use tso_laws::{
     ended_runs_are_executions, runs_reach_exactly_the_executions,

@@ -44,11 +44,11 @@ no-word-more : (b : ℕ) (bs : List ℕ) → is_space b ≡ true → word_in (b 
 no-word-more b bs is = rw is refl
 
 -- what is cut after the first part
-abbrev parts_behind : List ℕ → List (List ℕ)
-parts_behind [] = []
-parts_behind (b ∷ bs) = slice_split is_space bs
+abbrev parts_after : List ℕ → List (List ℕ)
+parts_after [] = []
+parts_after (b ∷ bs) = slice_split is_space bs
 
-first_part : (text : List ℕ) → slice_split is_space text ≡ word_in text ∷ parts_behind (past_word text)
+first_part : (text : List ℕ) → slice_split is_space text ≡ word_in text ∷ parts_after (past_word text)
 first_part [] = refl
 first_part (b ∷ bs) =
     elim (either (is_space b)) [
@@ -56,12 +56,12 @@ first_part (b ∷ bs) =
       | inr is ↦ rw (word-past b bs is, word-more b bs is, is) (ap (onto_first b) (first_part bs))
     ]
 
-words_behind : (text : List ℕ) → filter is_some (parts_behind (past_word text)) ≡ words_of (past_word text)
-words_behind [] = refl
-words_behind (b ∷ bs) =
+words_after : (text : List ℕ) → filter is_some (parts_after (past_word text)) ≡ words_of (past_word text)
+words_after [] = refl
+words_after (b ∷ bs) =
     elim (either (is_space b)) [
       | inl is ↦ rw (no-word-past b bs is, is) refl
-      | inr is ↦ rw (word-past b bs is) (words_behind bs)
+      | inr is ↦ rw (word-past b bs is) (words_after bs)
     ]
 
 some-first : (b : ℕ) (bs : List ℕ) → is_some (b ∷ bs) ≡ true
@@ -71,7 +71,7 @@ some-first b bs = grind (arith, nat_tests)
 word-first : (b : ℕ) (bs : List ℕ) → is_space b ≡ false → words_of (b ∷ bs) ≡ word_in (b ∷ bs) ∷ words_of (past_word (b ∷ bs))
 word-first b bs is =
     ap (λ (parts : List (List ℕ)). filter is_some parts) (first_part (b ∷ bs))
-    ∙ rw (word-past b bs is, word-more b bs is, some-first b (word_in bs)) (ap (λ (ws : List (List ℕ)). (b ∷ word_in bs) ∷ ws) (words_behind bs))
+    ∙ rw (word-past b bs is, word-more b bs is, some-first b (word_in bs)) (ap (λ (ws : List (List ℕ)). (b ∷ word_in bs) ∷ ws) (words_after bs))
 
 space-first : (b : ℕ) (bs : List ℕ) → is_space b ≡ true → words_of (b ∷ bs) ≡ words_of bs
 space-first b bs is = rw is refl

@@ -69,10 +69,10 @@ pub seeded_there : (room number : ℕ) (ws us vs : List (List ℕ)) (seed count 
     → is_numeral count ≡ true → Some m ≡ number_up_to room count → seeded_of room number ws ≡ Ok (Seeded n m)
 seeded_there room number ws us vs seed count n m first second some good is = seeded_is room number ws us vs seed count first second ∙ rw (← some, good, ← is) refl
 
-pub behind_two : (ws us vs : List (List ℕ)) (seed count : List ℕ) → ws ≡ seed ∷ us → us ≡ count ∷ vs → vs ≡ drop 2 ws
-behind_two ws us vs seed count first second = rw (first, second) refl
+pub after_two : (ws us vs : List (List ℕ)) (seed count : List ℕ) → ws ≡ seed ∷ us → us ≡ count ∷ vs → vs ≡ drop 2 ws
+after_two ws us vs seed count first second = rw (first, second) refl
 
 -- each way that a word is read, and the words after `seed`
 pub ruleset one_word = (one_none, one_bad_letter, one_bad_digits, one_no_core, one_full, one_there)
 
-pub ruleset seed_words = (seeded_none, seeded_short, behind_two, seeded_bad_seed, seeded_bad_count, seeded_too_many, seeded_there)
+pub ruleset seed_words = (seeded_none, seeded_short, after_two, seeded_bad_seed, seeded_bad_count, seeded_too_many, seeded_there)

@@ -28,19 +28,19 @@ pub record WentOn (cores : ℕ) (words : List (List ℕ)) (to : ℕ) (left : Lis
 pub went_on : (cores room number at : ℕ) (words rest left : List (List ℕ)) (word : List ℕ) (choices : List Choice) (item : Item) → 0 < cores → length choices ≤ most_choices
     → room ≡ most_choices - length choices → drop at words ≡ word ∷ rest → item_of cores room number word rest ≡ Ok item → left ≡ drop (words_in item - 1) rest → AreItems cores (take at words) choices
     → WentOn cores words (at + words_in item) left (choices ++ made_of cores item)
-went_on cores room number at words rest left word choices item some few room_is here is behind items =
+went_on cores room number at words rest left word choices item some few room_is here is after items =
     let read : Fits cores room (word ∷ rest) item = subst (IsRead cores (length choices) room number (word ∷ rest)) is (item_read cores (length choices) room number word rest some (omega arith)) in
     record {
       items = subst (λ (ws : List (List ℕ)). AreItems cores ws (choices ++ made_of cores item)) (sym (take-add at (words_in item) words))
           (one_more cores (take at words) choices items (take (words_in item) (drop at words)) (made_of cores item)
           (subst (λ (ws : List (List ℕ)). IsItem cores (take (words_in item) ws) (made_of cores item)) (sym here) read.is_item));
       few = omega (arith, length-append choices (made_of cores item), read.room_left);
-      to_come = sym (drop-drop (words_in item) at words) ∙ ap (λ (ws : List (List ℕ)). drop (words_in item) ws) here ∙ behind_first item ∙ sym behind;
+      to_come = sym (drop-drop (words_in item) at words) ∙ ap (λ (ws : List (List ℕ)). drop (words_in item) ws) here ∙ after_first item ∙ sym after;
     }
   where
-    behind_first : (item : Item) → drop (words_in item) (word ∷ rest) ≡ drop (words_in item - 1) rest
-    behind_first (One choice) = refl
-    behind_first (Seeded seed count) = refl
+    after_first : (item : Item) → drop (words_in item) (word ∷ rest) ≡ drop (words_in item - 1) rest
+    after_first (One choice) = refl
+    after_first (Seeded seed count) = refl
 
 -- where an item was at fault, so are the words
 pub refused_at : (cores room at : ℕ) (words rest : List (List ℕ)) (word : List ℕ) (choices : List Choice) (fault : ChoiceFault) → 0 < cores → length choices ≤ most_choices

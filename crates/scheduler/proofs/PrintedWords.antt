@@ -17,7 +17,7 @@ use Rattle.scheduler.specs.Limits.{most_choices}
 use Rattle.decimals.specs.Decimals.{decimal_from, decimal_value}
 use Rattle.scheduler.specs.Words.{is_space, is_numeral, words_of}
 use Rattle.scheduler.specs.Grammar.{IsChoiceWord, step, drain, one, AreItems, none, more, SpellsChoices}
-use Rattle.scheduler.specs.Printed.{printed_choice, printed_behind, printed_choices}
+use Rattle.scheduler.specs.Printed.{printed_choice, printed_after, printed_choices}
 
 -- ---- numbers
 
@@ -93,27 +93,27 @@ no-words (b ∷ bs) blank =
 abbrev AreSmall : List Choice → Type 0
 AreSmall cs = CoresExist (2 ^ 64) cs
 
-words-behind : (word : List ℕ) (cs : List Choice) (white : List ℕ) → IsSolid word → 0 < length word → AreSmall cs → list_all is_space white ≡ true
-    → words_of (word ++ (printed_behind cs ++ white)) ≡ word ∷ map printed_choice cs
+words-after : (word : List ℕ) (cs : List Choice) (white : List ℕ) → IsSolid word → 0 < length word → AreSmall cs → list_all is_space white ≡ true
+    → words_of (word ++ (printed_after cs ++ white)) ≡ word ∷ map printed_choice cs
 unfolding is_space
-words-behind word [] [] solid some small blank =
+words-after word [] [] solid some small blank =
     ap (λ (t : List ℕ). words_of t) (append-nil word) ∙ ap (λ (ws : List (List ℕ)). filter is_some_word ws) (slice_split_none is_space word solid) ∙ kept word [] some
-words-behind word [] (b ∷ bs) solid some small blank =
+words-after word [] (b ∷ bs) solid some small blank =
     let parts = and_parts _ _ blank in
     ap (λ (ws : List (List ℕ)). filter is_some_word ws) (slice_split_at is_space word b bs solid parts.0) ∙ kept word (slice_split is_space bs) some
     ∙ ap (λ (ws : List (List ℕ)). word ∷ ws) (no-words bs parts.1)
-words-behind word (c ∷ cs) white solid some small blank =
-    let rest : List ℕ = (printed_choice c ++ printed_behind cs) ++ white in
+words-after word (c ∷ cs) white solid some small blank =
+    let rest : List ℕ = (printed_choice c ++ printed_after cs) ++ white in
     ap (λ (ws : List (List ℕ)). filter is_some_word ws) (slice_split_at is_space word 32 rest solid refl) ∙ kept word (slice_split is_space rest) some
     ∙ ap (λ (ws : List (List ℕ)). word ∷ ws)
-    (ap (λ (t : List ℕ). words_of t) (append_assoc (printed_choice c) (printed_behind cs) white)
-    ∙ words-behind (printed_choice c) cs white (choice-is-solid c small.0) (some-byte c) small.1 blank)
+    (ap (λ (t : List ℕ). words_of t) (append_assoc (printed_choice c) (printed_after cs) white)
+    ∙ words-after (printed_choice c) cs white (choice-is-solid c small.0) (some-byte c) small.1 blank)
 
 words-are : (cs : List Choice) (white : List ℕ) → AreSmall cs → list_all is_space white ≡ true → words_of (printed_choices cs ++ white) ≡ map printed_choice cs
 words-are [] white small blank = no-words white blank
 words-are (c ∷ cs) white small blank =
-    ap (λ (t : List ℕ). words_of t) (append_assoc (printed_choice c) (printed_behind cs) white)
-    ∙ words-behind (printed_choice c) cs white (choice-is-solid c small.0) (some-byte c) small.1 blank
+    ap (λ (t : List ℕ). words_of t) (append_assoc (printed_choice c) (printed_after cs) white)
+    ∙ words-after (printed_choice c) cs white (choice-is-solid c small.0) (some-byte c) small.1 blank
 
 -- ---- and the choices
 

@@ -10,11 +10,11 @@ printed_choice (Step core) = decimal core.0 ++ codes "s"
 printed_choice (Drain core) = decimal core.0 ++ codes "d"
 
 -- choices after others, each after a space
-abbrev pub printed_behind : List Choice → List ℕ
-printed_behind [] = []
-printed_behind (c ∷ cs) = 32 ∷ (printed_choice c ++ printed_behind cs)
+abbrev pub printed_after : List Choice → List ℕ
+printed_after [] = []
+printed_after (c ∷ cs) = 32 ∷ (printed_choice c ++ printed_after cs)
 
 -- choices in their order, with single spaces between them: `0s 1d`
 abbrev pub printed_choices : List Choice → List ℕ
 printed_choices [] = []
-printed_choices (c ∷ cs) = printed_choice c ++ printed_behind cs
+printed_choices (c ∷ cs) = printed_choice c ++ printed_after cs

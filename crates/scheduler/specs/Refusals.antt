@@ -41,12 +41,13 @@ pub record AreRefused (cores : ℕ) (words : List (List ℕ)) (fault : ChoiceFau
   pub at_fault : IsFault cores (length choices) (length front + 1) back fault
 
 -- a text gets a refusal in a test with so many cores
-abbrev pub IsRefused : ℕ → List ℕ → ChoiceFault → Type 0
-IsRefused cores text fault = AreRefused cores (words_of text) fault
+abbrev pub IsRefusedAsChoices : ℕ → List ℕ → ChoiceFault → Type 0
+IsRefusedAsChoices cores text fault = AreRefused cores (words_of text) fault
 
 -- a text spells one list of choices or gets one refusal, and never both
 pub record IsDecided (cores : ℕ) (text : List ℕ) : Type 0 where
   pub one_list : (choices others : List Choice) → SpellsChoices cores text choices → SpellsChoices cores text others → choices ≡ others
-  pub one_refusal : (fault other : ChoiceFault) → IsRefused cores text fault → IsRefused cores text other → fault ≡ other
-  pub never_both : (choices : List Choice) (fault : ChoiceFault) → SpellsChoices cores text choices → IsRefused cores text fault → ⊥
-  pub always : ((choices : List Choice) × SpellsChoices cores text choices) ⊎ ((fault : ChoiceFault) × IsRefused cores text fault)
+  pub one_refusal : (fault other : ChoiceFault) → IsRefusedAsChoices cores text fault → IsRefusedAsChoices cores text other → fault ≡ other
+  pub never_both : (choices : List Choice) (fault : ChoiceFault)
+      → SpellsChoices cores text choices → IsRefusedAsChoices cores text fault → ⊥
+  pub always : ((choices : List Choice) × SpellsChoices cores text choices) ⊎ ((fault : ChoiceFault) × IsRefusedAsChoices cores text fault)

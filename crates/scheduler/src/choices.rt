@@ -3,7 +3,7 @@
 ghost use Rattle.std.specs.Prelude.{◌≡◌, ◌≢◌, ◌<◌, List, IfOk, IfErr, MatchResult};
 ghost use Rattle.scheduler.specs.Limits.{most_choices};
 ghost use Rattle.scheduler.specs.Grammar.{WordsSpell, SpellsChoices};
-ghost use Rattle.scheduler.specs.Refusals.{AreRefused, IsRefused};
+ghost use Rattle.scheduler.specs.Refusals.{AreRefused, IsRefusedAsChoices};
 ghost use Rattle.scheduler.specs.Words.{words_of};
 ghost use Rattle.scheduler.specs.declared.fault.ChoiceFault.{ChoiceFault};
 ghost use Rattle.tso_model.specs.declared.choice.Choice.{Choice};
@@ -25,7 +25,7 @@ pub fn limits_are_as_defined()
 fn choices_of(alloc: Global, cores: u8, text: &[u8]) -> Result<Vec<Choice>, ChoiceFault>
     requires { 0 < cores }
     ensures found { IfOk result (λ v. SpellsChoices cores text.now v.items) }
-    ensures refused { IfErr result (λ f. f ≢ ChoiceFault.NoMemory → IsRefused cores text.now f) }
+    ensures refused { IfErr result (λ f. f ≢ ChoiceFault.NoMemory → IsRefusedAsChoices cores text.now f) }
 {
     let mut choices = Vec::new(alloc);
     let mut text = text;
@@ -61,8 +61,8 @@ pub fn read_choices(alloc: Global, cores: u8, text: &[u8]) -> Result<Vec<Choice>
         → MatchResult result (λ v. v.items ≡ choices) (λ f. f ≡ ChoiceFault.NoMemory) }
 
     // A refusal is the one that the text gets, and a text that gets one is answered with it.
-    ensures refused { IfErr result (λ f. f ≢ ChoiceFault.NoMemory → IsRefused cores text.now f) }
-    ensures refuses { (fault : ChoiceFault) → IsRefused cores text.now fault
+    ensures refused { IfErr result (λ f. f ≢ ChoiceFault.NoMemory → IsRefusedAsChoices cores text.now f) }
+    ensures refuses { (fault : ChoiceFault) → IsRefusedAsChoices cores text.now fault
         → MatchResult result (λ _. ⊥) (λ f. f ≢ ChoiceFault.NoMemory → f ≡ fault) }
 {
     choices_of(alloc, cores, text)

@@ -1,7 +1,7 @@
 //! Choices as they are printed: `0s 1d`.
 
 ghost use Rattle.std.specs.Prelude.{◌≡◌, ◌++◌, IfOk, OnOk, string_bytes};
-ghost use Rattle.scheduler.specs.Printed.{printed_choice, printed_behind, printed_choices};
+ghost use Rattle.scheduler.specs.Printed.{printed_choice, printed_after, printed_choices};
 
 use std::alloc::Global;
 use tso_model::{Choice, NoMemory};
@@ -23,7 +23,7 @@ pub fn choices_text(alloc: Global, choices: &[Choice]) -> Result<String, NoMemor
 
 /// The choices that come after another, each after a space.
 fn write_after(text: &mut String, choices: &[Choice]) -> Result<(), NoMemory>
-    ensures { OnOk result (string_bytes text.new ≡ string_bytes text.old ++ printed_behind choices.now) }
+    ensures { OnOk result (string_bytes text.new ≡ string_bytes text.old ++ printed_after choices.now) }
 {
     for choice in choices {
         text.push(' ')?;

@@ -10,13 +10,14 @@ use Rattle.cache_set.specs.Copy.{copy_with, with_state, with_word}
 use Rattle.snoop_bus.specs.Lines.{Words}
 use Rattle.snoop_bus.specs.Coherent.{state_of}
 use Rattle.snoop_bus.specs.Copies.{Sets, copy_at, cache_of, ways_of}
-use Rattle.snoop_bus.specs.Bus.{seen, AllCoherent}
-use Rattle.snoop_bus.specs.Requests.{ChangesCopy, KeepsWords, SetsWord}
+use Rattle.snoop_bus.specs.Bus.{current_words, AllCoherent}
+use Rattle.snoop_bus.specs.Requests.{ChangesCopy}
+use Rattle.snoop_bus.specs.Accessing.{KeepsWords, SetsWord}
 use Rattle.snoop_bus.specs.declared.holding.Transaction.{Transaction}
 use Rattle.snoop_bus.specs.declared.holding.Stage.TheVariants.{Write}
 use Rattle.snoop_bus.specs.Held.{counting, AskedOf, Awaits}
 use Rattle.snoop_bus.proofs.Numbers.{differ, itself}
-use Rattle.snoop_bus.proofs.SeenLemmas.{same-coherent, same-seen}
+use Rattle.snoop_bus.proofs.CurrentWords.{same-coherent, same-seen}
 use Rattle.snoop_bus.proofs.HeldLemmas.{counting-at, ways-counting}
 use Rattle.snoop_bus.proofs.WriteLemmas.{hit_owned, write_owned}
 use Rattle.snoop_bus.proofs.OwnLemmas.{Owned, owned-coherent, owned-seen}
@@ -24,7 +25,7 @@ use Rattle.snoop_bus.proofs.HitLemmas.{same_words}
 
 -- what the core has once it completed
 abbrev pub Acquired : List Sets → List Sets → List Words → ℕ → ℕ → Type 0
-Acquired d0 c2 m core line = (copy_at c2 core line ≡ Some (copy_with M (seen d0 m line))) × KeepsWords d0 c2 m m
+Acquired d0 c2 m core line = (copy_at c2 core line ≡ Some (copy_with M (current_words d0 m line))) × KeepsWords d0 c2 m m
 
 pub hit_acquired : (c0 c2 : List Sets) (m : List Words) (core line : ℕ) → AllCoherent c0 m → line < length m → in_place (state_of (copy_at c0 core line)) ≡ Some M →
     ChangesCopy core line (option_map (with_state M) (copy_at c0 core line)) c0 c2 → ways_of c2 ≡ ways_of c0 → Acquired c0 c2 m core line
@@ -33,12 +34,12 @@ hit_acquired c0 c2 m core line h within writes to ways = by_copy (copy_at c0 cor
     by_copy : (o : Option Line) → copy_at c0 core line ≡ o → in_place (state_of o) ≡ Some M → Acquired c0 c2 m core line
     by_copy None e w = cc
     by_copy (Some copy) e w =
-        let own : Owned c0 c2 m core line (seen c0 m line) = hit_owned c0 c2 m core line copy M h within e w to in
-        (own.here, record { coherent = owned-coherent c0 c2 m core line (seen c0 m line) own; words = same_words c0 c2 m core line own; ways = ways })
+        let own : Owned c0 c2 m core line (current_words c0 m line) = hit_owned c0 c2 m core line copy M h within e w to in
+        (own.here, record { coherent = owned-coherent c0 c2 m core line (current_words c0 m line) own; words = same_words c0 c2 m core line own; ways = ways })
 
 -- the word that the bus keeps is the one that is seen
 pub kept_words : (c0 : List Sets) (m : List Words) (core line : ℕ) (copy : Line) → AllCoherent (counting core line copy c0) m → core < length c0 → 0 < length (cache_of c0 core) → line < length m →
-    copy.words ≡ seen (counting core line copy c0) m line
+    copy.words ≡ current_words (counting core line copy c0) m line
 kept_words c0 m core line copy h within some line_in =
     (h.each line line_in).same core copy (rw (itself core, itself line) at (counting-at c0 core line copy core line within some))
 
@@ -51,7 +52,7 @@ kept_m x own h = by_transient x.transient refl h.1
     by_transient SmD e a = a.1
 
 pub own_acquired : (c0 c2 : List Sets) (m0 : List Words) (core line : ℕ) (x : Transaction) → AllCoherent (counting core line x.copy c0) m0 → core < length c0 → 0 < length (cache_of c0 core) → line < length m0 →
-    x.copy.state ≡ M → copy_at c2 core line ≡ Some x.copy → copy_at c2 core line ≡ Some (copy_with M (seen (counting core line x.copy c0) m0 line))
+    x.copy.state ≡ M → copy_at c2 core line ≡ Some x.copy → copy_at c2 core line ≡ Some (copy_with M (current_words (counting core line x.copy c0) m0 line))
 own_acquired c0 c2 m0 core line x h within some line_in state own = own ∙ rw (← kept_words c0 m0 core line x.copy h within some line_in, ← state) refl
 
 pub upgrade_acquired : (c0 c2 : List Sets) (m : List Words) (core line : ℕ) (x : Transaction) → AllCoherent (counting core line x.copy c0) m → core < length c0 → 0 < length (cache_of c0 core) → line < length m →
@@ -76,8 +77,8 @@ upgrade_acquired c0 c2 m core line x h within some line_in asked to ways = (
     here = rw (itself core, itself line) at (to core line) ∙ now
 
 -- a word is written to the copy that the core has then
-pub completed_written : (d0 c1 c2 : List Sets) (m0 m1 : List Words) (core line place value : ℕ) (old : Words) → line < length m0 → place < length (seen d0 m0 line) → length m1 ≡ length m0 →
-    copy_at c1 core line ≡ Some (copy_with M old) → old ≡ seen d0 m0 line → KeepsWords d0 c1 m0 m1 →
+pub completed_written : (d0 c1 c2 : List Sets) (m0 m1 : List Words) (core line place value : ℕ) (old : Words) → line < length m0 → place < length (current_words d0 m0 line) → length m1 ≡ length m0 →
+    copy_at c1 core line ≡ Some (copy_with M old) → old ≡ current_words d0 m0 line → KeepsWords d0 c1 m0 m1 →
     ChangesCopy core line (option_map (with_word place value) (copy_at c1 core line)) c1 c2 → SetsWord line place value d0 c2 m0 m1
 completed_written d0 c1 c2 m0 m1 core line place value old within place_in size here is keeps to = record {
   coherent = owned-coherent c1 c2 m1 core line (slice_set old place value) own;
@@ -89,22 +90,22 @@ completed_written d0 c1 c2 m0 m1 core line place value old within place_in size 
     own = write_owned c1 c2 m1 core line place value old keeps.coherent (rw size within) here to
 
     by_line : (k : ℕ) → k < length m0 → (k ≡ line) ⊎ (k ≢ line) →
-        (if nat_eq k line then slice_set old place value else seen c1 m1 k) ≡ (if nat_eq k line then slice_set (seen d0 m0 line) place value else seen d0 m0 k)
+        (if nat_eq k line then slice_set old place value else current_words c1 m1 k) ≡ (if nat_eq k line then slice_set (current_words d0 m0 line) place value else current_words d0 m0 k)
     by_line k b (inl p) = let e : nat_eq k line ≡ true = rw p (itself line) in rw e (ap (λ (w : Words). slice_set w place value) is)
     by_line k b (inr p) = let e : nat_eq k line ≡ false = differ k line p in rw e (keeps.words k b)
 
 -- a word is written to a copy in M
-pub locked_written : (c0 c2 : List Sets) (m : List Words) (core line place value : ℕ) → AllCoherent c0 m → line < length m → place < length (seen c0 m line) → state_of (copy_at c0 core line) ≡ M →
+pub locked_written : (c0 c2 : List Sets) (m : List Words) (core line place value : ℕ) → AllCoherent c0 m → line < length m → place < length (current_words c0 m line) → state_of (copy_at c0 core line) ≡ M →
     ChangesCopy core line (option_map (with_word place value) (copy_at c0 core line)) c0 c2 → SetsWord line place value c0 c2 m m
 locked_written c0 c2 m core line place value h within place_in state to = by_copy (copy_at c0 core line) refl state
   where
     by_copy : (o : Option Line) → copy_at c0 core line ≡ o → state_of o ≡ M → SetsWord line place value c0 c2 m m
     by_copy None e s = cc
     by_copy (Some copy) e s =
-        let is : copy.words ≡ seen c0 m line = (h.each line within).same core copy e in
+        let is : copy.words ≡ current_words c0 m line = (h.each line within).same core copy e in
         let own : Owned c0 c2 m core line (slice_set copy.words place value) = write_owned c0 c2 m core line place value copy.words h within (e ∙ rw (← s) refl) to in
         record {
           coherent = owned-coherent c0 c2 m core line (slice_set copy.words place value) own;
           place_in = place_in;
-          lines = λ k b. owned-seen c0 c2 m core line (slice_set copy.words place value) own k b ∙ ap (λ (w : Words). if nat_eq k line then slice_set w place value else seen c0 m k) is;
+          lines = λ k b. owned-seen c0 c2 m core line (slice_set copy.words place value) own k b ∙ ap (λ (w : Words). if nat_eq k line then slice_set w place value else current_words c0 m k) is;
         }

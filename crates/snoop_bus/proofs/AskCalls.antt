@@ -12,13 +12,12 @@ use Rattle.snoop_bus.specs.Rows.{rows_of, table_of}
 use Rattle.snoop_bus.specs.CacheContents.{TagSets}
 use Rattle.snoop_bus.specs.Copies.{Sets, tags_of}
 use Rattle.snoop_bus.specs.Held.{counted, held_by, stage_for}
-use Rattle.snoop_bus.specs.Bus.{seen}
-use Rattle.snoop_bus.specs.Requests.{KeepsWords}
+use Rattle.snoop_bus.specs.Bus.{current_words, bus_with}
+use Rattle.snoop_bus.specs.Accessing.{KeepsWords}
 use Rattle.snoop_bus.specs.Asks.{awaiting, transacting, asked_for, request_for, transaction_of, asking, asked_caches, asked_memory, awaited_in}
 use Rattle.snoop_bus.specs.Accesses.{AsksFor}
 use Rattle.snoop_bus.proofs.RowLemmas.{table_of-rows}
 use Rattle.snoop_bus.proofs.WordLemmas.{words-same}
-use Rattle.snoop_bus.proofs.CallLemmas.{bus}
 
 -- what a transaction awaits goes by the lines and states alone
 awaited-for : (t : Table) (request : Request) (core line : ℕ) (words : Words) (caches : List TagSets) →
@@ -41,16 +40,16 @@ module _ (t : Table) (shape : Geometry) (locations : ℕ) (c0 c2 : List Sets) (m
   pub record AskSteps (write : Bool) (h : Held) : Type 0 where
     pub some_word : 0 < shape.words
     pub enough : locations ≤ length m0 * shape.words
-    pub exact : h ≡ held_by core loc (stage_for write) line (transaction_of t (request_for write) core.0 line (seen c0 m0 line) (tags_of c0))
+    pub exact : h ≡ held_by core loc (stage_for write) line (transaction_of t (request_for write) core.0 line (current_words c0 m0 line) (tags_of c0))
     pub tags : tags_of c2 ≡ asked_caches t (request_for write) core.0 line (tags_of c0)
     pub memory : m2 ≡ asked_memory t (request_for write) line c0 m0
     pub words : KeepsWords c0 (counted (Some h) c2) m0 m2
 
-  pub ask_done : (write : Bool) (h : Held) → AskSteps write h → AsksFor (bus t shape locations c0 m0 None) (bus t shape locations c2 m2 (Some h)) core loc write
+  pub ask_done : (write : Bool) (h : Held) → AskSteps write h → AsksFor (bus_with t shape locations c0 m0 None) (bus_with t shape locations c2 m2 (Some h)) core loc write
   ask_done write h s = record {
-    words = words-same shape.words locations (length m0) (seen c0 m0) (seen (counted (Some h) c2) m2) s.some_word s.enough s.words.words;
+    words = words-same shape.words locations (length m0) (current_words c0 m0) (current_words (counted (Some h) c2) m2) s.some_word s.enough s.words.words;
     holder_is = rw s.exact refl;
-    awaited_is = ap (λ (x : Held). awaited_in x.transaction) s.exact ∙ awaited-for t (request_for write) core.0 line (seen c0 m0 line) (tags_of c0)
+    awaited_is = ap (λ (x : Held). awaited_in x.transaction) s.exact ∙ awaited-for t (request_for write) core.0 line (current_words c0 m0 line) (tags_of c0)
         ∙ ap (λ (u : Table). (asking u (request_for write) core.0 line (tags_of c0)).awaited) back;
     contents = s.tags ∙ ap (λ (u : Table). (asking u (request_for write) core.0 line (tags_of c0)).caches) back;
     memory = s.memory ∙ ap (λ (u : Table). asked_memory u (request_for write) line c0 m0) back;

@@ -13,8 +13,9 @@ use Rattle.cache_set.specs.Copy.{copy_with}
 use Rattle.snoop_bus.specs.Lines.{Words, line_in}
 use Rattle.snoop_bus.specs.CacheContents.{flusher_from}
 use Rattle.snoop_bus.specs.Copies.{Sets, in_set, copy_in, copy_at, cache_of, tags_of, ways_of}
-use Rattle.snoop_bus.specs.Bus.{seen, AllCoherent}
-use Rattle.snoop_bus.specs.Requests.{LeftByOthers, Supplied, KeepsWords}
+use Rattle.snoop_bus.specs.Bus.{current_words, AllCoherent}
+use Rattle.snoop_bus.specs.Requests.{LeftByOthers, Supplied}
+use Rattle.snoop_bus.specs.Accessing.{KeepsWords}
 use Rattle.snoop_bus.specs.Held.{with_copy, counting}
 use Rattle.snoop_bus.specs.Asks.{transacting, asked_memory}
 use Rattle.snoop_bus.proofs.NewLemmas.{same_cores}
@@ -62,10 +63,10 @@ module _ (t : Table) (fills : FillsExclusiveOnlyAlone t.filled) (shares : Shares
       memory = h.memory;
     }
 
-    pub load_ask-transaction : record { transient = IsD; copy = copy_with x w; flushed = f } ≡ transacting t GetS line (seen c0 m0 line) (tags_of c0) IsD
+    pub load_ask-transaction : record { transient = IsD; copy = copy_with x w; flushed = f } ≡ transacting t GetS line (current_words c0 m0 line) (tags_of c0) IsD
     unfolding transacting
     load_ask-transaction =
-        let words : w ≡ seen c0 m0 line = words_are t fills shares cleans supplies back c0 (counting core line (copy_with x w) c1) m0 m1 core line w x nobody own f false asked_basis in
+        let words : w ≡ current_words c0 m0 line = words_are t fills shares cleans supplies back c0 (counting core line (copy_with x w) c1) m0 m1 core line w x nobody own f false asked_basis in
         let state = state_is t fills shares cleans supplies back c0 (counting core line (copy_with x w) c1) m0 m1 core line w x nobody own f false asked_basis in
         rw (h.flusher, state, words) refl
 
@@ -111,10 +112,10 @@ module _ (t : Table) (gives : GivesUp t.on_get_m) (supplies : Supplies t.on_get_
       memory = refl;
     }
 
-    pub write_ask-transaction : record { transient = ImD; copy = copy_with M w; flushed = None } ≡ transacting t GetM line (seen c0 m line) (tags_of c0) ImD
+    pub write_ask-transaction : record { transient = ImD; copy = copy_with M w; flushed = None } ≡ transacting t GetM line (current_words c0 m line) (tags_of c0) ImD
     unfolding transacting
     write_ask-transaction =
-        let words : w ≡ seen c0 m line = write_words_are t gives supplies back c0 (counting core line (copy_with M w) c1) m m core line w nobody written_own false write_basis in
+        let words : w ≡ current_words c0 m line = write_words_are t gives supplies back c0 (counting core line (copy_with M w) c1) m m core line w nobody written_own false write_basis in
         rw words refl
 
     pub write_ask-words : KeepsWords c0 (counting core line (copy_with M w) c1) m m

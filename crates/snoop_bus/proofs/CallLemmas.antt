@@ -1,5 +1,5 @@
 -- What the calls of a bus do, in the bus's own words, from what they do to its caches and memory.
-use Rattle.std.proofs.Common.{◌≡◌, ◌⊎◌, inl, inr, ℕ, ◌<◌, ◌≤◌, ◌*◌, ◌/◌, ◌%◌, Bool, IsTrue, Option, Some, None, IsSome, Result, Ok, Err, IsOk, IfOk, OnErr, List, length, slice_get, refl, sym, ap, ◌∙◌}
+use Rattle.std.proofs.Common.{◌≡◌, ◌⊎◌, inl, inr, ℕ, ◌<◌, ◌≤◌, ◌*◌, ◌/◌, ◌%◌, Bool, IsTrue, Option, Some, None, IsSome, Result, Ok, Err, IsOk, IfOk, OnErr, List, length, refl, sym, ap, ◌∙◌}
 use Rattle.protocol_tables.specs.Tables.{Table}
 use Rattle.cache_set.specs.declared.Line.{Line}
 use Rattle.snoop_bus.specs.declared.access.Access.{Access}
@@ -11,36 +11,47 @@ use Rattle.snoop_bus.specs.CacheContents.{Accessed, loaded, written}
 use Rattle.snoop_bus.specs.Copies.{Sets, copy_at, tags_of}
 use Rattle.snoop_bus.specs.declared.holding.Held.{Held}
 use Rattle.snoop_bus.specs.Held.{counted}
-use Rattle.snoop_bus.specs.Bus.{Bus, words_of, seen, IsFree}
-use Rattle.snoop_bus.specs.Accesses.{load_of, write_of, would_hit, LoadsAt, WritesAt, KeepsHolder, IsRefused}
+use Rattle.snoop_bus.specs.Bus.{Bus, bus_with, current_words, program_words, IsBus}
+use Rattle.snoop_bus.specs.Accesses.{load_of, write_of, MayGoOn, IsCurrentWord, LoadsAt, WritesAt, KeepsHolder, IsOutOfMemory}
 use Rattle.snoop_bus.specs.MemoryAfter.{loaded_memory, written_memory}
-use Rattle.snoop_bus.specs.Requests.{KeepsWords, Loads, Writes}
+use Rattle.snoop_bus.specs.Accessing.{IsReady, KeepsWords, Loads, Writes, IsUnchanged}
 use Rattle.snoop_bus.proofs.RowLemmas.{table_of-rows}
 use Rattle.snoop_bus.specs.Asks.{hits}
 use Rattle.snoop_bus.proofs.HolderLemmas.{free-held}
 use Rattle.snoop_bus.proofs.AccessLemmas.{loaded-miss, written-miss}
-use Rattle.snoop_bus.proofs.WordLemmas.{length-words, words-get, words-same, words-set}
-
-abbrev pub bus : Table → Geometry → ℕ → List Sets → List Words → Option Held → Bus
-bus t shape locations caches memory held = record { rows = rows_of t; shape = shape; locations = locations; caches = caches; memory = memory; held = held }
+use Rattle.snoop_bus.proofs.WordLemmas.{length-words, line_below, words-get, words-same, words-set}
 
 -- a location that has a word has a line
-pub loc_in : (words n : ℕ) (caches : List Sets) (memory : List Words) (loc : ℕ) → loc < length (words_in words (seen caches memory) n) → loc < n
-loc_in words n caches memory loc b = rw (length-words words (seen caches memory) n) at b
+pub loc_in : (words n : ℕ) (caches : List Sets) (memory : List Words) (loc : ℕ) → loc < length (words_in words (current_words caches memory) n) → loc < n
+loc_in words n caches memory loc b = rw (length-words words (current_words caches memory) n) at b
+
+-- a core's access to a location of the bus
+pub bus_ready : (shape : Geometry) (locations : ℕ) (caches : List Sets) (memory : List Words) (held : Option Held) (core loc : ℕ) →
+    IsBus shape locations caches memory held → core < length caches →
+    loc < length (program_words shape locations (counted held caches) memory) → IsReady held core (loc / shape.words) caches memory
+bus_ready shape locations caches memory held core loc h core_in word_in = record {
+  coherent = h.coherent;
+  awaited = h.awaited;
+  core_in = core_in;
+  few_cores = h.few_cores;
+  line_in =
+      line_below shape.words locations (length memory) loc h.some_word h.enough_lines
+      (loc_in shape.words locations (counted held caches) memory loc word_in);
+}
 
 -- what may go on: nobody holds the bus, or the access is a hit
 pub free_or_hit : (t : Table) (shape : Geometry) (locations : ℕ) (caches : List Sets) (memory : List Words) (held : Option Held) (core loc : ℕ) (write : Bool) →
-    (IsFree (bus t shape locations caches memory held)) ⊎ IsTrue (would_hit (bus t shape locations caches memory held) core loc write) →
+    MayGoOn (bus_with t shape locations caches memory held) core loc write →
     (held ≡ None) ⊎ IsTrue (hits t core (loc / shape.words) write (tags_of caches))
 free_or_hit t shape locations caches memory held core loc write (inl e) = inl (free-held held e)
 free_or_hit t shape locations caches memory held core loc write (inr e) = inr (rw (table_of-rows t) at e)
 
 module _ (t : Table) (shape : Geometry) (locations : ℕ) (c0 c2 : List Sets) (m0 m2 : List Words) (held : Option Held) (core loc : ℕ) where
   abbrev before : Bus
-  before = bus t shape locations c0 m0 held
+  before = bus_with t shape locations c0 m0 held
 
   abbrev after : Bus
-  after = bus t shape locations c2 m2 held
+  after = bus_with t shape locations c2 m2 held
 
   same_holder : KeepsHolder before after
   same_holder = record { holder_is = refl; awaited_is = refl }
@@ -52,8 +63,8 @@ module _ (t : Table) (shape : Geometry) (locations : ℕ) (c0 c2 : List Sets) (m
       IfOk r (λ r. Loads t held core (loc / shape.words) (loc % shape.words) c0 c2 m0 m2 r.0 r.1) → KeepsWords (counted held c0) (counted held c2) m0 m2 → IfOk r (λ r. LoadsAt before after core loc r.0 r.1)
   load_done (Err e) some enough within h keeps = tt
   load_done (Ok x) some enough within h keeps = record {
-    word_is = words-get shape.words (seen (counted held c0) m0) locations loc within ∙ ap (λ (w : ℕ). Some w) (sym h.word_is);
-    words = words-same shape.words locations (length m0) (seen (counted held c0) m0) (seen (counted held c2) m2) some enough keeps.words;
+    word_is = words-get shape.words (current_words (counted held c0) m0) locations loc within ∙ ap (λ (w : ℕ). Some w) (sym h.word_is);
+    words = words-same shape.words locations (length m0) (current_words (counted held c0) m0) (current_words (counted held c2) m2) some enough keeps.words;
     access_is = h.access_is ∙ ap (λ (u : Table). (loaded u core (loc / shape.words) (tags_of c0)).access) back;
     contents = h.tags ∙ ap (λ (u : Table). (loaded u core (loc / shape.words) (tags_of c0)).caches) back;
     memory = h.memory ∙ ap (λ (u : Table). loaded_memory u core (loc / shape.words) c0 m0) back;
@@ -62,16 +73,16 @@ module _ (t : Table) (shape : Geometry) (locations : ℕ) (c0 c2 : List Sets) (m
 
   -- the word that was there
   pub write_word : {E : Type 0} (new : ℕ → ℕ) (r : Result (ℕ × Access) E) → loc < locations → IfOk r (λ r. Writes t held core (loc / shape.words) (loc % shape.words) (new r.0) c0 c2 m0 m2 r.0 r.1) →
-      IfOk r (λ r. slice_get (words_of before) loc ≡ Some r.0)
+      IfOk r (λ r. IsCurrentWord before loc r.0)
   write_word new (Err e) within h = tt
-  write_word new (Ok x) within h = words-get shape.words (seen (counted held c0) m0) locations loc within ∙ ap (λ (w : ℕ). Some w) (sym h.word_is)
+  write_word new (Ok x) within h = words-get shape.words (current_words (counted held c0) m0) locations loc within ∙ ap (λ (w : ℕ). Some w) (sym h.word_is)
 
   -- the word that is written may rest on the one that was there
   pub write_done : {E : Type 0} (new : ℕ → ℕ) (r : Result (ℕ × Access) E) → 0 < shape.words → locations ≤ length m0 * shape.words → loc < locations →
       IfOk r (λ r. Writes t held core (loc / shape.words) (loc % shape.words) (new r.0) c0 c2 m0 m2 r.0 r.1) → IfOk r (λ r. WritesAt before after core loc (new r.0) r.1)
   write_done new (Err e) some enough within h = tt
   write_done new (Ok x) some enough within h = record {
-    words = words-set shape.words locations (length m0) (seen (counted held c0) m0) (seen (counted held c2) m2) loc (new x.0) some enough within h.place_in h.lines;
+    words = words-set shape.words locations (length m0) (current_words (counted held c0) m0) (current_words (counted held c2) m2) loc (new x.0) some enough within h.place_in h.lines;
     access_is = h.access_is ∙ ap (λ (u : Table). (written u core (loc / shape.words) (tags_of c0)).access) back;
     contents = h.tags ∙ ap (λ (u : Table). (written u core (loc / shape.words) (tags_of c0)).caches) back;
     memory = h.memory ∙ ap (λ (u : Table). written_memory u core (loc / shape.words) c0 m0) back;
@@ -81,19 +92,19 @@ module _ (t : Table) (shape : Geometry) (locations : ℕ) (c0 c2 : List Sets) (m
   same_bus : c2 ≡ c0 → m2 ≡ m0 → after ≡ before
   same_bus p q = rw (p, q) refl
 
-  pub load_refused : {V E : Type 0} (r : Result V E) → (IsSome (copy_at c0 core (loc / shape.words)) → IsOk r) → OnErr r (c2 ≡ c0) → OnErr r (m2 ≡ m0) →
-      OnErr r (IsRefused before after (load_of before core loc).access)
-  load_refused (Ok x) succeeds caches memory = tt
-  load_refused (Err e) succeeds caches memory = record { miss = by_copy (copy_at c0 core (loc / shape.words)) refl; same = same_bus caches memory }
+  pub load_refused : {V E : Type 0} (r : Result V E) → (IsSome (copy_at c0 core (loc / shape.words)) → IsOk r) → OnErr r (IsUnchanged c0 c2 m0 m2) →
+      OnErr r (IsOutOfMemory before after (load_of before core loc).access)
+  load_refused (Ok x) succeeds unchanged = tt
+  load_refused (Err e) succeeds unchanged = record { miss = by_copy (copy_at c0 core (loc / shape.words)) refl; same = same_bus unchanged.caches unchanged.memory }
     where
       by_copy : (o : Option Line) → copy_at c0 core (loc / shape.words) ≡ o → (load_of before core loc).access.kind ≡ Miss
       by_copy None absent = ap (λ (a : Accessed). a.access.kind) (loaded-miss (table_of (rows_of t)) c0 core (loc / shape.words) absent)
       by_copy (Some copy) found = let here : IsSome (copy_at c0 core (loc / shape.words)) = rw found refl in let no = succeeds here in cc
 
-  pub write_refused : {V E : Type 0} (r : Result V E) → (IsSome (copy_at c0 core (loc / shape.words)) → IsOk r) → OnErr r (c2 ≡ c0) → OnErr r (m2 ≡ m0) →
-      OnErr r (IsRefused before after (write_of before core loc).access)
-  write_refused (Ok x) succeeds caches memory = tt
-  write_refused (Err e) succeeds caches memory = record { miss = by_copy (copy_at c0 core (loc / shape.words)) refl; same = same_bus caches memory }
+  pub write_refused : {V E : Type 0} (r : Result V E) → (IsSome (copy_at c0 core (loc / shape.words)) → IsOk r) → OnErr r (IsUnchanged c0 c2 m0 m2) →
+      OnErr r (IsOutOfMemory before after (write_of before core loc).access)
+  write_refused (Ok x) succeeds unchanged = tt
+  write_refused (Err e) succeeds unchanged = record { miss = by_copy (copy_at c0 core (loc / shape.words)) refl; same = same_bus unchanged.caches unchanged.memory }
     where
       by_copy : (o : Option Line) → copy_at c0 core (loc / shape.words) ≡ o → (write_of before core loc).access.kind ≡ Miss
       by_copy None absent = ap (λ (a : Accessed). a.access.kind) (written-miss (table_of (rows_of t)) c0 core (loc / shape.words) absent)
@@ -101,5 +112,5 @@ module _ (t : Table) (shape : Geometry) (locations : ℕ) (c0 c2 : List Sets) (m
 
 -- once memory has each line that is seen, its own words are the words that are seen
 pub settled_words : (words locations : ℕ) (c0 : List Sets) (m0 m2 : List Words) → 0 < words → locations ≤ length m0 * words →
-    ((k : ℕ) → k < length m0 → line_in m2 k ≡ seen c0 m0 k) → words_in words (line_in m2) locations ≡ words_in words (seen c0 m0) locations
-settled_words words locations c0 m0 m2 some enough same = words-same words locations (length m0) (seen c0 m0) (line_in m2) some enough same
+    ((k : ℕ) → k < length m0 → line_in m2 k ≡ current_words c0 m0 k) → words_in words (line_in m2) locations ≡ words_in words (current_words c0 m0) locations
+settled_words words locations c0 m0 m2 some enough same = words-same words locations (length m0) (current_words c0 m0) (line_in m2) some enough same

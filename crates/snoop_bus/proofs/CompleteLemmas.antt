@@ -10,15 +10,15 @@ use Rattle.cache_set.specs.Contents.{after_fill}
 use Rattle.snoop_bus.specs.Lines.{Words, line_in}
 use Rattle.snoop_bus.specs.Coherent.{Coherent}
 use Rattle.snoop_bus.specs.Copies.{Sets, copy_in, copy_at, cache_of}
-use Rattle.snoop_bus.specs.Bus.{seen, AllCoherent}
-use Rattle.snoop_bus.specs.Requests.{KeepsWords}
+use Rattle.snoop_bus.specs.Bus.{current_words, AllCoherent}
+use Rattle.snoop_bus.specs.Accessing.{KeepsWords}
 use Rattle.snoop_bus.specs.MemoryAfter.{written_back}
 use Rattle.snoop_bus.specs.Held.{counting}
 use Rattle.snoop_bus.proofs.Numbers.{differ, itself, inside}
 use Rattle.snoop_bus.proofs.Coherence.{drop-coherent}
-use Rattle.snoop_bus.proofs.SeenLemmas.{copy_at-set, seen_is, coherent_along, all_coherent}
+use Rattle.snoop_bus.proofs.CurrentWords.{copy_at-set, seen_is, coherent_along, all_coherent}
 use Rattle.snoop_bus.proofs.UseLemmas.{ways-set_cache}
-use Rattle.snoop_bus.proofs.MissLemmas.{left_behind, length-written_back, written_back-other, written_back-here}
+use Rattle.snoop_bus.proofs.MissLemmas.{left_after, length-written_back, written_back-other, written_back-here}
 use Rattle.snoop_bus.proofs.HeldLemmas.{counting-at, ways-counting}
 
 module _ (t : Table) (law : WritesBackDirty t.evicts_dirty) (d0 c2 : List Sets) (m0 m2 : List Words) (core : ℕ) (v : Option Victim) where
@@ -26,7 +26,7 @@ module _ (t : Table) (law : WritesBackDirty t.evicts_dirty) (d0 c2 : List Sets) 
   pub record Left : Type 0 where
     pub coherent : AllCoherent d0 m0
     pub was_here : IfSome v (λ y. copy_at d0 core y.line ≡ Some y.content)
-    pub own : (k : ℕ) → copy_at c2 core k ≡ left_behind v k (copy_at d0 core k)
+    pub own : (k : ℕ) → copy_at c2 core k ≡ left_after v k (copy_at d0 core k)
     pub others : (i k : ℕ) → i ≢ core → copy_at c2 i k ≡ copy_at d0 i k
     pub memory : m2 ≡ written_back t v m0
 
@@ -41,31 +41,31 @@ module _ (t : Table) (law : WritesBackDirty t.evicts_dirty) (d0 c2 : List Sets) 
     ]
 
     -- a line that did not leave is as it was
-    stays : (k : ℕ) → k < length m0 → ((o : Option Line) → left_behind v k o ≡ o) → line_in m2 k ≡ line_in m0 k → Coherent (seen d0 m0 k) (line_in m2 k) (λ i. copy_at c2 i k)
-    stays k b e same = subst (λ (n : Words). Coherent (seen d0 m0 k) n (λ i. copy_at c2 i k)) (sym same)
-        (coherent_along (seen d0 m0 k) (line_in m0 k) (λ i. copy_at d0 i k) (λ i. copy_at c2 i k) each (h.coherent.each k b))
+    stays : (k : ℕ) → k < length m0 → ((o : Option Line) → left_after v k o ≡ o) → line_in m2 k ≡ line_in m0 k → Coherent (current_words d0 m0 k) (line_in m2 k) (λ i. copy_at c2 i k)
+    stays k b e same = subst (λ (n : Words). Coherent (current_words d0 m0 k) n (λ i. copy_at c2 i k)) (sym same)
+        (coherent_along (current_words d0 m0 k) (line_in m0 k) (λ i. copy_at d0 i k) (λ i. copy_at c2 i k) each (h.coherent.each k b))
       where
         each : (i : ℕ) → copy_at c2 i k ≡ copy_at d0 i k
         each i = elim (cases_eq i core) [ inl p ↦ rw p (h.own k ∙ e (copy_at d0 core k)) | inr p ↦ h.others i k p ]
 
     -- the line that left
-    leaves_line : (y : Victim) → v ≡ Some y → Coherent (seen d0 m0 y.line) (line_in m2 y.line) (λ i. copy_at c2 i y.line)
+    leaves_line : (y : Victim) → v ≡ Some y → Coherent (current_words d0 m0 y.line) (line_in m2 y.line) (λ i. copy_at c2 i y.line)
     leaves_line y e =
-        let was : Coherent (seen d0 m0 y.line) (line_in m0 y.line) (λ i. copy_at d0 i y.line) = h.coherent.each y.line (below y e) in
+        let was : Coherent (current_words d0 m0 y.line) (line_in m0 y.line) (λ i. copy_at d0 i y.line) = h.coherent.each y.line (below y e) in
         let held : copy_at d0 core y.line ≡ Some y.content = had y e in
         let to = written_back-here t law y m0 (below y e) in
         let memory : m2 ≡ written_back t (Some y) m0 = rw e at h.memory in
-        drop-coherent (seen d0 m0 y.line) (line_in m0 y.line) (line_in m2 y.line) core (λ i. copy_at d0 i y.line) (λ i. copy_at c2 i y.line) was
+        drop-coherent (current_words d0 m0 y.line) (line_in m0 y.line) (line_in m2 y.line) core (λ i. copy_at d0 i y.line) (λ i. copy_at c2 i y.line) was
         (record { here = gone; others = λ i p. h.others i y.line p })
         (rw memory (elim to [ inl a ↦ inl (a ∙ was.same core y.content held) | inr a ↦ inr (a.0, rw held a.1) ]))
       where
         gone : copy_at c2 core y.line ≡ None
         gone = h.own y.line ∙ (let f : nat_eq y.line y.line ≡ true = itself y.line in rw (e, f) refl)
 
-    each_line : (k : ℕ) → k < length m0 → Coherent (seen d0 m0 k) (line_in m2 k) (λ i. copy_at c2 i k)
+    each_line : (k : ℕ) → k < length m0 → Coherent (current_words d0 m0 k) (line_in m2 k) (λ i. copy_at c2 i k)
     each_line k b = by_victim v refl
       where
-        by_victim : (o : Option Victim) → v ≡ o → Coherent (seen d0 m0 k) (line_in m2 k) (λ i. copy_at c2 i k)
+        by_victim : (o : Option Victim) → v ≡ o → Coherent (current_words d0 m0 k) (line_in m2 k) (λ i. copy_at c2 i k)
         by_victim None e = stays k b (λ o. rw e refl) (ap (λ (m : List Words). line_in m k) h.memory ∙ rw e refl)
         by_victim (Some y) e = elim (cases_eq k y.line) [
           | inl q ↦ rw q (leaves_line y e)
@@ -77,9 +77,9 @@ module _ (t : Table) (law : WritesBackDirty t.evicts_dirty) (d0 c2 : List Sets) 
     size = ap length h.memory ∙ length-written_back t v m0
 
     pub left-coherent : AllCoherent c2 m2
-    left-coherent = all_coherent c2 m2 (λ k. seen d0 m0 k) (λ k b. each_line k (rw size at b)) (λ k i b. none k i (rw size at b))
+    left-coherent = all_coherent c2 m2 (λ k. current_words d0 m0 k) (λ k b. each_line k (rw size at b)) (λ k i b. none k i (rw size at b))
       where
-        gone : (o : Option Victim) (k : ℕ) → left_behind o k None ≡ None
+        gone : (o : Option Victim) (k : ℕ) → left_after o k None ≡ None
         gone None k = refl
         gone (Some y) k = let n : Option Line = None in elim (nat_eq k y.line) as (λ t. cond t n n ≡ n) [ true ↦ refl | false ↦ refl ]
 
@@ -89,8 +89,8 @@ module _ (t : Table) (law : WritesBackDirty t.evicts_dirty) (d0 c2 : List Sets) 
           | inr p ↦ h.others i k p ∙ h.coherent.within k i b
         ]
 
-    pub left-seen : (k : ℕ) → k < length m0 → seen c2 m2 k ≡ seen d0 m0 k
-    left-seen k b = seen_is c2 m2 k (seen d0 m0 k) (each_line k b)
+    pub left-seen : (k : ℕ) → k < length m0 → current_words c2 m2 k ≡ current_words d0 m0 k
+    left-seen k b = seen_is c2 m2 k (current_words d0 m0 k) (each_line k b)
 
 module _ (t : Table) (law : WritesBackDirty t.evicts_dirty) (c0 : List Sets) (m0 m2 : List Words) (core line : ℕ) (copy : Line) (v : Option Victim) (own : Sets) where
   -- the steps of a fill
@@ -135,7 +135,7 @@ module _ (t : Table) (law : WritesBackDirty t.evicts_dirty) (c0 : List Sets) (m0
             let n : nat_eq y.line line ≡ false = differ y.line line (not_line y e) in
             rw n at (counts_own y.line) ∙ f
 
-        own_left : (o : Option Victim) → v ≡ o → (k : ℕ) → after_fill line copy o k (copy_at c0 core k) ≡ left_behind o k (copy_at d0 core k)
+        own_left : (o : Option Victim) → v ≡ o → (k : ℕ) → after_fill line copy o k (copy_at c0 core k) ≡ left_after o k (copy_at d0 core k)
         own_left None e k = sym (counts_own k)
         own_left (Some y) e k = rw (counts_own k) (by_line (cases_eq k line))
           where

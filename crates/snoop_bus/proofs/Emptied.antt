@@ -12,7 +12,7 @@ use Rattle.snoop_bus.specs.Geometry.{Geometry}
 use Rattle.snoop_bus.specs.Rows.{rows_of}
 use Rattle.snoop_bus.specs.Lines.{Words, words_in, lines_of_words}
 use Rattle.snoop_bus.specs.Copies.{Sets, emptied, ways_of, AtHome}
-use Rattle.snoop_bus.specs.Bus.{Bus, IsBus, words_of, seen, empty_caches}
+use Rattle.snoop_bus.specs.Bus.{Bus, IsBus, words_of, current_words, empty_caches}
 use Rattle.snoop_bus.specs.Accesses.{new_bus}
 use Rattle.snoop_bus.specs.declared.holding.Held.{Held}
 use Rattle.snoop_bus.proofs.NewLemmas.{map-replicate, new-bus, new-words}
@@ -39,7 +39,7 @@ count-words b = length-map-range_with_len _ 0 b.locations
 -- these caches and this memory are those of a new bus
 pub record IsNew (t : Table) (shape : Geometry) (locations cores : ℕ) (caches : List Sets) (memory : List Words) (init : List ℕ) : Type 0 where
   pub bus : IsBus shape locations caches memory None
-  pub words : words_in shape.words (seen caches memory) locations ≡ init
+  pub words : words_in shape.words (current_words caches memory) locations ≡ init
   pub exact : record { rows = rows_of t; shape = shape; locations = locations; caches = caches; memory = memory; held = None } ≡ new_bus t cores shape init
 
 pub begins-anew : (t : Table) (shape : Geometry) (locations : ℕ) (c0 c2 : List Sets) (m0 m2 : List Words) (h : Option Held) (init : List ℕ) → IsBus shape locations c0 m0 h → shape.words ≤ most_words

@@ -12,7 +12,7 @@ use Rattle.snoop_bus.specs.Copies.{Sets, set_at, in_set, copy_in, copy_at, cache
 use Rattle.snoop_bus.specs.Held.{with_copy, counting}
 use Rattle.snoop_bus.specs.Requests.{left_by, LeftByOthers, ChangesCopy}
 use Rattle.snoop_bus.proofs.Numbers.{differ, itself}
-use Rattle.snoop_bus.proofs.SeenLemmas.{copy_at-set}
+use Rattle.snoop_bus.proofs.CurrentWords.{copy_at-set}
 use Rattle.snoop_bus.proofs.UseLemmas.{ways-set_cache}
 
 -- what is found in a core's sets once the copy counts

@@ -16,13 +16,14 @@ use Rattle.snoop_bus.specs.CacheContents.{Accessed, used_by, requested, written_
 use Rattle.snoop_bus.specs.Lines.{Words}
 use Rattle.snoop_bus.specs.Coherent.{state_of}
 use Rattle.snoop_bus.specs.Copies.{Sets, in_set, copy_in, copy_at, cache_of, tags_of, ways_of}
-use Rattle.snoop_bus.specs.Bus.{seen, AllCoherent}
-use Rattle.snoop_bus.specs.Requests.{KeepsWords, Loads, Acquires, ChangesCopy, LeftByOthers}
+use Rattle.snoop_bus.specs.Bus.{current_words, AllCoherent}
+use Rattle.snoop_bus.specs.Requests.{ChangesCopy, LeftByOthers}
+use Rattle.snoop_bus.specs.Accessing.{KeepsWords, Loads, Acquires}
 use Rattle.snoop_bus.specs.declared.holding.Held.{Held}
 use Rattle.snoop_bus.specs.Held.{counted, IsHeld}
 use Rattle.snoop_bus.proofs.BesideLemmas.{own_word, held-same, held-placed, counted-same, counted-changes, placed-counts, ways-counted}
 use Rattle.snoop_bus.proofs.Numbers.{differ, itself}
-use Rattle.snoop_bus.proofs.SeenLemmas.{same_copies, same-coherent, same-seen}
+use Rattle.snoop_bus.proofs.CurrentWords.{same_copies, same-coherent, same-seen}
 use Rattle.snoop_bus.proofs.UseLemmas.{tags-touched, ways-set_cache}
 use Rattle.snoop_bus.proofs.AccessLemmas.{loaded-hit, written-here}
 use Rattle.snoop_bus.proofs.OwnLemmas.{Owned, owned-coherent, owned-seen}
@@ -61,10 +62,10 @@ load_hit t held c0 m core line place copy new h awaited core_in line_in found ex
     counts = counted-same held c0 (slice_set c0 core new) m awaited still (same_copies c0 core new core_in copies)
 
 -- where a core has the line in M with the word that it had, all words are seen as they were
-pub same_words : (c0 c2 : List Sets) (m : List Words) (core line : ℕ) → Owned c0 c2 m core line (seen c0 m line) → (k : ℕ) → k < length m → seen c2 m k ≡ seen c0 m k
-same_words c0 c2 m core line h k b = owned-seen c0 c2 m core line (seen c0 m line) h k b ∙ by_line (cases_eq k line)
+pub same_words : (c0 c2 : List Sets) (m : List Words) (core line : ℕ) → Owned c0 c2 m core line (current_words c0 m line) → (k : ℕ) → k < length m → current_words c2 m k ≡ current_words c0 m k
+same_words c0 c2 m core line h k b = owned-seen c0 c2 m core line (current_words c0 m line) h k b ∙ by_line (cases_eq k line)
   where
-    by_line : (k ≡ line) ⊎ (k ≢ line) → (if nat_eq k line then seen c0 m line else seen c0 m k) ≡ seen c0 m k
+    by_line : (k ≡ line) ⊎ (k ≢ line) → (if nat_eq k line then current_words c0 m line else current_words c0 m k) ≡ current_words c0 m k
     by_line (inl p) = let e : nat_eq k line ≡ true = rw p (itself line) in rw e (rw p refl)
     by_line (inr p) = let e : nat_eq k line ≡ false = differ k line p in rw e refl
 
@@ -81,7 +82,7 @@ write_hit t law held c0 c2 m core line copy next h awaited line_in found writes 
     memory = rw found refl;
   },
   record {
-    coherent = owned-coherent (counted held c0) (counted held c2) m core line (seen (counted held c0) m line) own;
+    coherent = owned-coherent (counted held c0) (counted held c2) m core line (current_words (counted held c0) m line) own;
     words = same_words (counted held c0) (counted held c2) m core line own;
     ways = ways-counted held c2 ∙ ways ∙ sym (ways-counted held c0);
   },
@@ -106,7 +107,7 @@ write_hit t law held c0 c2 m core line copy next h awaited line_in found writes 
     changes : ChangesCopy core line (option_map (with_state next) (copy_at (counted held c0) core line)) (counted held c0) (counted held c2)
     changes = rw (placed-counts held c0 m core line awaited placed) (counted-changes held c0 c2 m core line (option_map (with_state next) (copy_at c0 core line)) awaited still placed to)
 
-    own : Owned (counted held c0) (counted held c2) m core line (seen (counted held c0) m line)
+    own : Owned (counted held c0) (counted held c2) m core line (current_words (counted held c0) m line)
     own = hit_owned (counted held c0) (counted held c2) m core line copy next h line_in counts in_state changes
 
     kind : written t core line (tags_of c0) ≡ written_in t core line (tags_of c0) (Some next)
@@ -118,8 +119,8 @@ pub write_upgrade : (t : Table) → GivesUp t.on_get_m → (c0 c1 c2 : List Sets
     tags_of c1 ≡ requested t.on_get_m core line (tags_of c0) → tags_of c2 ≡ used_by core line M (tags_of c1) → ways_of c1 ≡ ways_of c0 → ways_of c2 ≡ ways_of c1 →
     Acquires t None core line c0 c2 m m copy.words (quiet_access Upgrade) × KeepsWords c0 c2 m m
 write_upgrade t law c0 c1 c2 m core line copy h line_in found writes left to tags1 tags2 ways1 ways2 =
-    let words : copy.words ≡ seen c0 m line = (h.each line line_in).same core copy found in
-    let own : Owned c0 c2 m core line (seen c0 m line) = upgrade_owned t.on_get_m law c0 c1 c2 m core line copy h line_in found left to in
+    let words : copy.words ≡ current_words c0 m line = (h.each line line_in).same core copy found in
+    let own : Owned c0 c2 m core line (current_words c0 m line) = upgrade_owned t.on_get_m law c0 c1 c2 m core line copy h line_in found left to in
     let kind : written t core line (tags_of c0) ≡ written_in t core line (tags_of c0) None = written-here t c0 core line copy found ∙ ap (written_in t core line (tags_of c0)) writes in (
       record {
         words_are = words;
@@ -129,7 +130,7 @@ write_upgrade t law c0 c1 c2 m core line copy h line_in found writes left to tag
         memory = rw found refl;
       },
       record {
-        coherent = owned-coherent c0 c2 m core line (seen c0 m line) own;
+        coherent = owned-coherent c0 c2 m core line (current_words c0 m line) own;
         words = same_words c0 c2 m core line own;
         ways = ways2 ∙ ways1;
       },

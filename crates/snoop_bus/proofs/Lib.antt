@@ -1,8 +1,7 @@
-pub mod Overwriting
 pub mod Numbers
 pub mod RowLemmas
 pub mod Coherence
-pub mod SeenLemmas
+pub mod CurrentWords
 pub mod TagLemmas
 pub mod CacheTags
 pub mod UseLemmas

@@ -1,8 +1,10 @@
 -- Each line has its words of the list of words, and 0 at every other place: what keeps that.
 use Rattle.std.proofs.lemmas.Bool.{cases_eq, cases_lt}
 use Rattle.std.proofs.lemmas.Bool.Decides.{nat_tests}
-use Rattle.std.proofs.lemmas.List.{ext_get_or, get_or-set_same, get_or-set_other, length-set}
-use Rattle.std.proofs.lemmas.List.FromFn.{length-map-range_with_len, get_or-map-range_with_len}
+use Rattle.std.proofs.lemmas.List.{ext_get_or, get_or-set_same, get_or-set_other, length-set, set_at, drop_more}
+use Rattle.std.proofs.lemmas.List.FromFn.{length-map-range_with_len, get_or-map-range_with_len, map-range_with_len_more}
+use Rattle.std.specs.List.{range_with_len}
+use Rattle.std.proofs.Common.{[], ◌∷◌, ◌++◌, map, drop, append_assoc}
 use Rattle.std.proofs.lemmas.Nat.{div-add-mod', div-mul-add, mod-mul-add, mod_below}
 use Rattle.std.proofs.Common.{arith, ◌≡◌, ◌≢◌, ◌⊎◌, inl, inr, ℕ, ◌+◌, ◌*◌, ◌/◌, ◌%◌, ◌<◌, ◌≤◌, true, false, nat_eq, nat_lt, List, length, refl, sym, ap, ◌∙◌, slice_index, slice_index_or, slice_set, if◌then◌else◌}
 use Rattle.cache_set.specs.Limits.{most_words}
@@ -96,3 +98,14 @@ lines-set words n size l0 l2 loc value some enough within place set was k b =
     by_line (inr p) =
         let no : nat_eq k (loc / words) ≡ false = differ k (loc / words) p in
         (rw no at (set k b)) ∙ was k b ∙ sym (line-away words (words_in words l0 n) loc value some there k p)
+
+-- one line more comes in the place of the one that was there
+pub put-next : {A : Type 0} (f : ℕ → A) (n : ℕ) (xs ys : List A) (d : A) → n < length xs → ys ≡ map f (range_with_len 0 n) ++ drop n xs →
+    slice_set ys n (f n) ≡ map f (range_with_len 0 (n + 1)) ++ drop (n + 1) xs
+put-next f n xs ys d within so_far =
+    let front = map f (range_with_len 0 n) in
+    let parts : ys ≡ front ++ slice_index_or xs n d ∷ drop (n + 1) xs = so_far ∙ ap (λ l. front ++ l) (drop_more xs n d within) in
+    ap (λ l. slice_set l n (f n)) parts
+    ∙ set_at front _ _ (f n) n (length-map-range_with_len f 0 n)
+    ∙ sym (append_assoc front (f n ∷ []) _)
+    ∙ ap (λ l. l ++ drop (n + 1) xs) (sym (map-range_with_len_more f 0 n n (omega arith)))

@@ -18,8 +18,9 @@ use Rattle.snoop_bus.specs.declared.access.AccessKind.TheVariants.{Miss}
 use Rattle.snoop_bus.specs.declared.access.Access.{Access}
 use Rattle.snoop_bus.specs.CacheContents.{Accessed, is_held, flusher_from, dirty_in, requested, filled_by, writes_back, loaded}
 use Rattle.snoop_bus.specs.Copies.{Sets, in_set, copy_in, copy_at, cache_of, tags_of, ways_of}
-use Rattle.snoop_bus.specs.Bus.{seen, AllCoherent}
-use Rattle.snoop_bus.specs.Requests.{left_by, LeftByOthers, Supplied, KeepsWords, Loads}
+use Rattle.snoop_bus.specs.Bus.{current_words, AllCoherent}
+use Rattle.snoop_bus.specs.Requests.{left_by, LeftByOthers, Supplied}
+use Rattle.snoop_bus.specs.Accessing.{KeepsWords, Loads}
 use Rattle.snoop_bus.specs.MemoryAfter.{written_back, flushed, sent_words, victim_at, loaded_memory}
 use Rattle.snoop_bus.proofs.CacheTags.{is_held-copies}
 use Rattle.snoop_bus.proofs.UseLemmas.{ways-set_cache, tags-filled}
@@ -57,8 +58,8 @@ module _ (t : Table) (fills : FillsExclusiveOnlyAlone t.filled) (shares : Shares
     pub memory : m2 ≡ (if is_some f then slice_set (written_back t v m0) line w else written_back t v m0)
 
   module _ (h : Basis) where
-    pub words_are : w ≡ seen c0 m0 line
-    words_are = found_words t.on_get_s supplies c0 line (line_in m0 line) w (seen c0 m0 line) h.words (h.coherent.each line h.within)
+    pub words_are : w ≡ current_words c0 m0 line
+    words_are = found_words t.on_get_s supplies c0 line (line_in m0 line) w (current_words c0 m0 line) h.words (h.coherent.each line h.within)
 
     pub state_is : x ≡ t.filled (is_held line (tags_of c0))
     state_is = h.state ∙ ap t.filled (is_held-copies line c0)
@@ -113,7 +114,7 @@ module _ (t : Table) (fills : FillsExclusiveOnlyAlone t.filled) (shares : Shares
     pub memory_is : m2 ≡ flushed line (sent_words t.on_get_s line c0) (written_back t v m0)
     memory_is = elim flushing [ inl p ↦ p.1 | inr p ↦ p.1 ]
 
-    at_line : Coherent (seen c0 m0 line) (line_in m2 line) (λ i. copy_at c2 i line)
+    at_line : Coherent (current_words c0 m0 line) (line_in m2 line) (λ i. copy_at c2 i line)
     at_line =
         let may = fill_shares t.filled fills t.on_get_s shares c0 line x state_is in
         let shared : Coherent w (line_in m2 line) (λ i. left_by t.on_get_s (copy_at c0 i line)) =
@@ -125,7 +126,7 @@ module _ (t : Table) (fills : FillsExclusiveOnlyAlone t.filled) (shares : Shares
     pub coherent_after : AllCoherent c2 m2
     coherent_after = missed-coherent t back t.on_get_s c0 c2 m0 m2 core line w x v own missed at_line
 
-    pub seen_after : (k : ℕ) → k < length m0 → seen c2 m2 k ≡ seen c0 m0 k
+    pub seen_after : (k : ℕ) → k < length m0 → current_words c2 m2 k ≡ current_words c0 m0 k
     seen_after = missed-seen t back t.on_get_s c0 c2 m0 m2 core line w x v own missed at_line
 
   -- the steps of a load that misses

@@ -15,12 +15,12 @@ use Rattle.snoop_bus.specs.Geometry.{Geometry}
 use Rattle.snoop_bus.specs.Lines.{Words, line_in, word_at, words_in, place_of, line_of_words, lines_of_words}
 use Rattle.snoop_bus.specs.Coherent.{Coherent}
 use Rattle.snoop_bus.specs.Copies.{Sets, copy_in, copy_at, cache_of, ways_of}
-use Rattle.snoop_bus.specs.Bus.{seen, AllCoherent, HasWholeLines, IsBus, empty_caches}
-use Rattle.snoop_bus.proofs.SeenLemmas.{seen_is, all_coherent}
+use Rattle.snoop_bus.specs.Bus.{current_words, AllCoherent, HasWholeLines, IsBus, empty_caches}
+use Rattle.snoop_bus.proofs.CurrentWords.{seen_is, all_coherent}
 use Rattle.snoop_bus.specs.declared.access.Access.{Access}
 use Rattle.snoop_bus.specs.declared.holding.Held.{Held}
 use Rattle.snoop_bus.specs.Held.{counted, IsHeld, IsPlaced}
-use Rattle.snoop_bus.specs.Requests.{KeepsWords, SetsWord, Writes}
+use Rattle.snoop_bus.specs.Accessing.{KeepsWords, SetsWord, Writes, IsUnchanged}
 use Rattle.snoop_bus.proofs.LineLemmas.{lines-same, lines-set}
 use Rattle.snoop_bus.proofs.WordLemmas.{words-same, line_below}
 
@@ -73,10 +73,10 @@ lines-of_words words lines init some few enough = sym (fill_by_all (word_at word
         sym (ap (λ (w : Words). slice_index w (i % words)) line ∙ place ∙ rw (yes, div-add-mod' i words) refl)
 
 pub new-words : (words lines cores : ℕ) (shape : Geometry) (init : List ℕ) → 0 < words → words ≤ most_words → length init ≤ lines * words →
-    words_in words (seen (empty_caches cores shape) (lines_of_words words init lines)) (length init) ≡ init
+    words_in words (current_words (empty_caches cores shape) (lines_of_words words init lines)) (length init) ≡ init
 new-words words lines cores shape init some few enough =
     let memory : List Words = lines_of_words words init lines in
-    words-same words (length init) (length memory) (line_in memory) (seen (empty_caches cores shape) memory) some
+    words-same words (length init) (length memory) (line_in memory) (current_words (empty_caches cores shape) memory) some
     (rw (length-map-range_with_len (line_of_words words init) 0 lines) enough)
     (λ k b. seen_is (empty_caches cores shape) memory k (line_in memory k) (new-line cores shape (line_in memory k) k))
     ∙ lines-of_words words lines init some few enough
@@ -145,21 +145,21 @@ bus-after shape locations c0 c2 m0 m2 h0 h2 h size coherent ways lines awaited p
 pub bus-kept : (shape : Geometry) (locations : ℕ) (c0 c2 : List Sets) (m0 m2 : List Words) (h0 h2 : Option Held) → IsBus shape locations c0 m0 h0 → length m2 ≡ length m0 → KeepsWords (counted h0 c0) (counted h2 c2) m0 m2 →
     ways_of c2 ≡ ways_of c0 → IfSome h2 (IsHeld c2 m2) → IfSome h2 (IsPlaced shape locations) → IsBus shape locations c2 m2 h2
 bus-kept shape locations c0 c2 m0 m2 h0 h2 h size keeps ways awaited placed = bus-after shape locations c0 c2 m0 m2 h0 h2 h size keeps.coherent ways
-    (λ k b. lines-same shape.words locations (length m0) (seen (counted h0 c0) m0) (seen (counted h2 c2) m2) h.some_word h.enough_lines keeps.words h.lines k (rw size at b)) awaited placed
+    (λ k b. lines-same shape.words locations (length m0) (current_words (counted h0 c0) m0) (current_words (counted h2 c2) m2) h.some_word h.enough_lines keeps.words h.lines k (rw size at b)) awaited placed
 
 -- a bus once a word was written, where nobody holds it then
 pub bus-set : (shape : Geometry) (locations : ℕ) (c0 c2 : List Sets) (m0 m2 : List Words) (h0 : Option Held) (loc value : ℕ) → IsBus shape locations c0 m0 h0 → length m2 ≡ length m0 → loc < locations →
     SetsWord (loc / shape.words) (loc % shape.words) value (counted h0 c0) c2 m0 m2 → ways_of c2 ≡ ways_of c0 → IsBus shape locations c2 m2 None
 bus-set shape locations c0 c2 m0 m2 h0 loc value h size within sets ways = bus-after shape locations c0 c2 m0 m2 h0 None h size sets.coherent ways
-    (λ k b. lines-set shape.words locations (length m0) (seen (counted h0 c0) m0) (seen c2 m2) loc value h.some_word h.enough_lines within sets.place_in sets.lines h.lines k (rw size at b)) tt tt
+    (λ k b. lines-set shape.words locations (length m0) (current_words (counted h0 c0) m0) (current_words c2 m2) loc value h.some_word h.enough_lines within sets.place_in sets.lines h.lines k (rw size at b)) tt tt
 
 -- a bus once a write access was made, or was refused
 pub bus-written : {E : Type 0} (t : Table) (held : Option Held) (new : ℕ → ℕ) (r : Result (ℕ × Access) E) (shape : Geometry) (locations : ℕ) (c0 c2 : List Sets) (m0 m2 : List Words) (core loc : ℕ) →
     IsBus shape locations c0 m0 held → length m2 ≡ length m0 → loc < locations → AllCoherent (counted held c2) m2 → IfSome held (IsHeld c2 m2) → ways_of c2 ≡ ways_of c0 →
-    IfOk r (λ r. Writes t held core (loc / shape.words) (loc % shape.words) (new r.0) c0 c2 m0 m2 r.0 r.1) → OnErr r (c2 ≡ c0) → OnErr r (m2 ≡ m0) → IsBus shape locations c2 m2 held
-bus-written t held new (Ok x) shape locations c0 c2 m0 m2 core loc h size within coherent awaited ways writes caches memory = bus-after shape locations c0 c2 m0 m2 held held h size coherent ways
-    (λ k b. lines-set shape.words locations (length m0) (seen (counted held c0) m0) (seen (counted held c2) m2) loc (new x.0) h.some_word h.enough_lines within writes.place_in writes.lines h.lines k (rw size at b)) awaited h.placed
-bus-written t held new (Err e) shape locations c0 c2 m0 m2 core loc h size within coherent awaited ways writes caches memory = rw (caches, memory) h
+    IfOk r (λ r. Writes t held core (loc / shape.words) (loc % shape.words) (new r.0) c0 c2 m0 m2 r.0 r.1) → OnErr r (IsUnchanged c0 c2 m0 m2) → IsBus shape locations c2 m2 held
+bus-written t held new (Ok x) shape locations c0 c2 m0 m2 core loc h size within coherent awaited ways writes unchanged = bus-after shape locations c0 c2 m0 m2 held held h size coherent ways
+    (λ k b. lines-set shape.words locations (length m0) (current_words (counted held c0) m0) (current_words (counted held c2) m2) loc (new x.0) h.some_word h.enough_lines within writes.place_in writes.lines h.lines k (rw size at b)) awaited h.placed
+bus-written t held new (Err e) shape locations c0 c2 m0 m2 core loc h size within coherent awaited ways writes unchanged = rw (unchanged.caches, unchanged.memory) h
 
 -- each core has as many sets as the shape says
 pub cache-sets : (shape : Geometry) (locations : ℕ) (caches : List Sets) (memory : List Words) (held : Option Held) (core : ℕ) → IsBus shape locations caches memory held → core < length caches → length (cache_of caches core) ≡ shape.sets

@@ -16,8 +16,9 @@ use Rattle.snoop_bus.specs.Lines.{Words}
 use Rattle.snoop_bus.specs.Coherent.{state_of}
 use Rattle.snoop_bus.specs.CacheContents.{TagSets, requested}
 use Rattle.snoop_bus.specs.Copies.{Sets, copy_at, cache_of, tags_of, ways_of}
-use Rattle.snoop_bus.specs.Bus.{seen, AllCoherent}
-use Rattle.snoop_bus.specs.Requests.{LeftByOthers, ChangesCopy, KeepsWords}
+use Rattle.snoop_bus.specs.Bus.{current_words, AllCoherent}
+use Rattle.snoop_bus.specs.Requests.{LeftByOthers, ChangesCopy}
+use Rattle.snoop_bus.specs.Accessing.{KeepsWords}
 use Rattle.snoop_bus.specs.declared.holding.Held.{Held}
 use Rattle.snoop_bus.specs.declared.holding.Transaction.{Transaction}
 use Rattle.snoop_bus.specs.declared.holding.Stage.{Stage}
@@ -68,10 +69,10 @@ module _ (t : Table) (gives : GivesUp t.on_get_m) (c0 c1 : List Sets) (m : List 
     valid : copy.state ≢ I
     valid = (h.coherent.each line h.within).valid core copy h.found
 
-    words : copy.words ≡ seen c0 m line
+    words : copy.words ≡ current_words c0 m line
     words = (h.coherent.each line h.within).same core copy h.found
 
-    pub upgrade_ask-transaction : Some (record { transient = x; copy = copy_with M copy.words; flushed = None }) ≡ transaction_of t GetM core line (seen c0 m line) (tags_of c0)
+    pub upgrade_ask-transaction : Some (record { transient = x; copy = copy_with M copy.words; flushed = None }) ≡ transaction_of t GetM core line (current_words c0 m line) (tags_of c0)
     unfolding transacting
     upgrade_ask-transaction = rw (asked_by-found c0 core line copy h.found, h.asks, words) refl
 
@@ -83,7 +84,7 @@ module _ (t : Table) (gives : GivesUp t.on_get_m) (c0 c1 : List Sets) (m : List 
 
     pub upgrade_ask-words : KeepsWords c0 (counting core line (copy_with M copy.words) c1) m m
     upgrade_ask-words = record {
-      coherent = owned-coherent c0 (counting core line (copy_with M copy.words) c1) m core line (seen c0 m line) owned;
+      coherent = owned-coherent c0 (counting core line (copy_with M copy.words) c1) m core line (current_words c0 m line) owned;
       words = same_words c0 (counting core line (copy_with M copy.words) c1) m core line owned;
       ways = ways-counting c1 core line (copy_with M copy.words) ∙ h.ways;
     }
@@ -91,7 +92,7 @@ module _ (t : Table) (gives : GivesUp t.on_get_m) (c0 c1 : List Sets) (m : List 
         changes : ChangesCopy core line (option_map (with_state M) (copy_at c1 core line)) c1 (counting core line (copy_with M copy.words) c1)
         changes = rw still (counting-changes core line (copy_with M copy.words) c1 (rw (same_cores c0 c1 h.ways) h.core_in) (same_sets c0 c1 core h.ways h.some_set))
 
-        owned : Owned c0 (counting core line (copy_with M copy.words) c1) m core line (seen c0 m line)
+        owned : Owned c0 (counting core line (copy_with M copy.words) c1) m core line (current_words c0 m line)
         owned = upgrade_owned t.on_get_m gives c0 c1 (counting core line (copy_with M copy.words) c1) m core line copy h.coherent h.within h.found h.left changes
 
 -- a load asks where there is no copy
@@ -99,8 +100,8 @@ pub load_asks : (caches : List Sets) (core line : ℕ) → copy_at caches core l
 load_asks caches core line absent = ap (λ (o : Option State). transient_of (or_invalid o) GetS) (tag_here caches core line ∙ ap (option_map (λ copy. copy.state)) absent)
 
 pub load_ask-exact : (t : Table) (caches : List Sets) (m : List Words) (core : Core) (loc : Loc) (line : ℕ) (write : Bool) (x : Transaction) → write ≡ false → copy_at caches core.0 line ≡ None →
-    x ≡ transacting t GetS line (seen caches m line) (tags_of caches) IsD →
-    held_by core loc Load line (Some x) ≡ held_by core loc (stage_for write) line (transaction_of t (request_for write) core.0 line (seen caches m line) (tags_of caches))
+    x ≡ transacting t GetS line (current_words caches m line) (tags_of caches) IsD →
+    held_by core loc Load line (Some x) ≡ held_by core loc (stage_for write) line (transaction_of t (request_for write) core.0 line (current_words caches m line) (tags_of caches))
 load_ask-exact t caches m core loc line write x e absent is = rw (e, load_asks caches core.0 line absent, is) refl
 
 pub load_ask-tags : (t : Table) (caches : List Sets) (core line : ℕ) (write : Bool) (new : List TagSets) → write ≡ false → copy_at caches core line ≡ None →

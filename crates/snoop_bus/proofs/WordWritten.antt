@@ -7,8 +7,9 @@ use Rattle.cache_set.specs.Copy.{copy_with, with_word}
 use Rattle.snoop_bus.specs.declared.access.Access.{Access}
 use Rattle.snoop_bus.specs.Lines.{Words}
 use Rattle.snoop_bus.specs.Copies.{Sets, copy_at, tags_of, ways_of}
-use Rattle.snoop_bus.specs.Bus.{seen, AllCoherent}
-use Rattle.snoop_bus.specs.Requests.{KeepsWords, Acquires, Writes, ChangesCopy}
+use Rattle.snoop_bus.specs.Bus.{current_words, AllCoherent}
+use Rattle.snoop_bus.specs.Requests.{ChangesCopy}
+use Rattle.snoop_bus.specs.Accessing.{KeepsWords, Acquires, Writes}
 use Rattle.protocol_tables.specs.Laws.{in_place}
 use Rattle.snoop_bus.specs.Coherent.{state_of}
 use Rattle.snoop_bus.specs.declared.holding.Held.{Held}
@@ -53,6 +54,6 @@ word_written t held c0 c1 c2 m0 m1 core line place value old access within place
     own = write_owned (counted held c1) (counted held c2) m1 core line place value old keeps.coherent (rw size within) (placed-counts held c1 m1 core line awaited placed ∙ a.own) changes
 
     by_line : (k : ℕ) → k < length m0 → (k ≡ line) ⊎ (k ≢ line) →
-        (if nat_eq k line then slice_set old place value else seen (counted held c1) m1 k) ≡ (if nat_eq k line then slice_set (seen (counted held c0) m0 line) place value else seen (counted held c0) m0 k)
+        (if nat_eq k line then slice_set old place value else current_words (counted held c1) m1 k) ≡ (if nat_eq k line then slice_set (current_words (counted held c0) m0 line) place value else current_words (counted held c0) m0 k)
     by_line k b (inl p) = let e : nat_eq k line ≡ true = rw p (itself line) in rw e (ap (λ (w : Words). slice_set w place value) a.words_are)
     by_line k b (inr p) = let e : nat_eq k line ≡ false = differ k line p in rw e (keeps.words k b)

@@ -9,7 +9,7 @@ use Rattle.cache_set.specs.Copy.{copy_with, with_state, with_word}
 use Rattle.snoop_bus.specs.Lines.{Words, line_in}
 use Rattle.snoop_bus.specs.Coherent.{Coherent}
 use Rattle.snoop_bus.specs.Copies.{Sets, copy_at}
-use Rattle.snoop_bus.specs.Bus.{seen, AllCoherent}
+use Rattle.snoop_bus.specs.Bus.{current_words, AllCoherent}
 use Rattle.snoop_bus.specs.Requests.{copy_if, left_by, LeftByOthers, ChangesCopy}
 use Rattle.snoop_bus.proofs.Numbers.{differ, itself}
 use Rattle.snoop_bus.proofs.Coherence.{alone}
@@ -44,27 +44,27 @@ other_line core line o c0 c2 h i k d = let e : nat_eq k line ≡ false = differ 
 -- a write hit: the copy was in M or E, so no other core has one
 pub hit_owned : (c0 c2 : List Sets) (m : List Words) (core line : ℕ) (copy : Line) (next : State) → AllCoherent c0 m → line < length m →
     copy_at c0 core line ≡ Some copy → in_place copy.state ≡ Some next → ChangesCopy core line (option_map (with_state next) (copy_at c0 core line)) c0 c2 →
-    Owned c0 c2 m core line (seen c0 m line)
+    Owned c0 c2 m core line (current_words c0 m line)
 hit_owned c0 c2 m core line copy next h within here writes to =
-    let was : Coherent (seen c0 m line) (line_in m line) (λ i. copy_at c0 i line) = h.each line within in
-    let words : copy.words ≡ seen c0 m line = was.same core copy here in
+    let was : Coherent (current_words c0 m line) (line_in m line) (λ i. copy_at c0 i line) = h.each line within in
+    let words : copy.words ≡ current_words c0 m line = was.same core copy here in
     let to_m : next ≡ M = written_m copy.state next writes in
     record {
       coherent = h;
       within = within;
       here = here_now core line (option_map (with_state next) (copy_at c0 core line)) c0 c2 to ∙ rw (here, to_m, words) refl;
       alone = λ i d. other_core core line (option_map (with_state next) (copy_at c0 core line)) c0 c2 to i line d
-          ∙ alone (seen c0 m line) (line_in m line) core (λ i. copy_at c0 i line) copy was here (rw to_m at writes) i d;
+          ∙ alone (current_words c0 m line) (line_in m line) core (λ i. copy_at c0 i line) copy was here (rw to_m at writes) i d;
       elsewhere = λ i k d. other_line core line (option_map (with_state next) (copy_at c0 core line)) c0 c2 to i k d;
     }
 
 -- an upgrade: the others gave their copies up
 pub upgrade_owned : (on : State → Snoop) → GivesUp on → (c0 c1 c2 : List Sets) (m : List Words) (core line : ℕ) (copy : Line) → AllCoherent c0 m → line < length m →
     copy_at c0 core line ≡ Some copy → LeftByOthers on core line c0 c1 → ChangesCopy core line (option_map (with_state M) (copy_at c1 core line)) c1 c2 →
-    Owned c0 c2 m core line (seen c0 m line)
+    Owned c0 c2 m core line (current_words c0 m line)
 upgrade_owned on law c0 c1 c2 m core line copy h within here left to =
-    let was : Coherent (seen c0 m line) (line_in m line) (λ i. copy_at c0 i line) = h.each line within in
-    let words : copy.words ≡ seen c0 m line = was.same core copy here in
+    let was : Coherent (current_words c0 m line) (line_in m line) (λ i. copy_at c0 i line) = h.each line within in
+    let words : copy.words ≡ current_words c0 m line = was.same core copy here in
     record {
       coherent = h;
       within = within;
@@ -90,12 +90,12 @@ upgrade_owned on law c0 c1 c2 m core line copy h within here left to =
 pub write_owned : (c0 c2 : List Sets) (m : List Words) (core line place value : ℕ) (old : Words) → AllCoherent c0 m → line < length m →
     copy_at c0 core line ≡ Some (copy_with M old) → ChangesCopy core line (option_map (with_word place value) (copy_at c0 core line)) c0 c2 → Owned c0 c2 m core line (slice_set old place value)
 write_owned c0 c2 m core line place value old h within here to =
-    let was : Coherent (seen c0 m line) (line_in m line) (λ i. copy_at c0 i line) = h.each line within in
+    let was : Coherent (current_words c0 m line) (line_in m line) (λ i. copy_at c0 i line) = h.each line within in
     record {
       coherent = h;
       within = within;
       here = here_now core line (option_map (with_word place value) (copy_at c0 core line)) c0 c2 to ∙ rw here refl;
       alone = λ i d. other_core core line (option_map (with_word place value) (copy_at c0 core line)) c0 c2 to i line d
-          ∙ alone (seen c0 m line) (line_in m line) core (λ i. copy_at c0 i line) (copy_with M old) was here refl i d;
+          ∙ alone (current_words c0 m line) (line_in m line) core (λ i. copy_at c0 i line) (copy_with M old) was here refl i d;
       elsewhere = λ i k d. other_line core line (option_map (with_word place value) (copy_at c0 core line)) c0 c2 to i k d;
     }

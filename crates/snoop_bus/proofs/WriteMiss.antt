@@ -12,8 +12,9 @@ use Rattle.snoop_bus.specs.Lines.{Words, line_in}
 use Rattle.snoop_bus.specs.Coherent.{Coherent}
 use Rattle.snoop_bus.specs.CacheContents.{Accessed, dirty_in, requested, written}
 use Rattle.snoop_bus.specs.Copies.{Sets, in_set, copy_in, copy_at, cache_of, tags_of, ways_of}
-use Rattle.snoop_bus.specs.Bus.{seen, AllCoherent}
-use Rattle.snoop_bus.specs.Requests.{LeftByOthers, Supplied, KeepsWords, Acquires}
+use Rattle.snoop_bus.specs.Bus.{current_words, AllCoherent}
+use Rattle.snoop_bus.specs.Requests.{LeftByOthers, Supplied}
+use Rattle.snoop_bus.specs.Accessing.{KeepsWords, Acquires}
 use Rattle.snoop_bus.specs.MemoryAfter.{written_back, victim_at, written_memory}
 use Rattle.snoop_bus.proofs.UseLemmas.{ways-set_cache, tags-filled}
 use Rattle.snoop_bus.proofs.AccessLemmas.{written-miss, writes_back-tags}
@@ -40,8 +41,8 @@ module _ (t : Table) (gives : GivesUp t.on_get_m) (supplies : Supplies t.on_get_
     pub memory : m2 ≡ written_back t v m0
 
   module _ (h : Basis) where
-    pub words_are : w ≡ seen c0 m0 line
-    words_are = found_words t.on_get_m supplies c0 line (line_in m0 line) w (seen c0 m0 line) h.words (h.coherent.each line h.within)
+    pub words_are : w ≡ current_words c0 m0 line
+    words_are = found_words t.on_get_m supplies c0 line (line_in m0 line) w (current_words c0 m0 line) h.words (h.coherent.each line h.within)
 
     missed : Missed t back t.on_get_m c0 c2 m0 m2 core line w M v own
     missed = record {
@@ -59,7 +60,7 @@ module _ (t : Table) (gives : GivesUp t.on_get_m) (supplies : Supplies t.on_get_
     pub owns : copy_at c2 core line ≡ Some (copy_with M w)
     owns = own_line t back t.on_get_m c0 c2 m0 m2 core line w M v own missed
 
-    at_line : Coherent (seen c0 m0 line) (line_in m2 line) (λ i. copy_at c2 i line)
+    at_line : Coherent (current_words c0 m0 line) (line_in m2 line) (λ i. copy_at c2 i line)
     at_line = subst (λ (u : Words). Coherent u (line_in m2 line) (λ i. copy_at c2 i line)) words_are
         (write-coherent w (line_in m2 line) core (λ i. copy_at c2 i line) owns
         (λ i d. others_line t back t.on_get_m c0 c2 m0 m2 core line w M v own missed i d ∙ gives_up t.on_get_m gives (copy_at c0 i line)))
@@ -67,7 +68,7 @@ module _ (t : Table) (gives : GivesUp t.on_get_m) (supplies : Supplies t.on_get_
     pub coherent_after : AllCoherent c2 m2
     coherent_after = missed-coherent t back t.on_get_m c0 c2 m0 m2 core line w M v own missed at_line
 
-    pub seen_after : (k : ℕ) → k < length m0 → seen c2 m2 k ≡ seen c0 m0 k
+    pub seen_after : (k : ℕ) → k < length m0 → current_words c2 m2 k ≡ current_words c0 m0 k
     seen_after = missed-seen t back t.on_get_m c0 c2 m0 m2 core line w M v own missed at_line
 
   -- the steps of a write access that misses

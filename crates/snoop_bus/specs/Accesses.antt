@@ -1,6 +1,7 @@
 -- What each call makes of a bus, in words of the bus's own: whoever stands above it needs no others. (Primer,
 -- chapters 2, 6 and 7; which line gives way, and which copies are sent to memory, is this project's profile.)
-use Rattle.std.specs.Prelude.{◌≡◌, ℕ, ◌/◌, Bool, List, [], length, slice_get, slice_set, slice_index_or, Option, Some, None}
+use Rattle.std.specs.Prelude.{◌≡◌, ◌≢◌, ◌⊎◌, ℕ, ◌/◌, Bool, false, IsTrue, Option, Some, None}
+use Rattle.std.specs.Prelude.{List, [], length, slice_get, slice_set, slice_index_or}
 use Rattle.std.specs.Int.{div_ceil}
 use Rattle.tso_model.specs.declared.instruction.Core.{Core}
 use Rattle.tso_model.specs.declared.instruction.Loc.{Loc}
@@ -8,26 +9,26 @@ use Rattle.protocol_tables.specs.Tables.{Table}
 use Rattle.cache_set.specs.Contents.{Contents, contents}
 use Rattle.snoop_bus.specs.declared.access.Access.{Access}
 use Rattle.snoop_bus.specs.declared.access.AccessKind.TheVariants.{Miss}
+use Rattle.snoop_bus.specs.declared.holding.Holder.{Holder}
+use Rattle.snoop_bus.specs.declared.holding.Stage.TheVariants.{Load}
 use Rattle.snoop_bus.specs.Geometry.{Geometry}
-use Rattle.snoop_bus.specs.Rows.{rows_of, table_of}
+use Rattle.snoop_bus.specs.Rows.{table_of}
 use Rattle.snoop_bus.specs.Lines.{Words, line_in, words_in, lines_of_words}
 use Rattle.snoop_bus.specs.CacheContents.{TagSets, Accessed, loaded, written, settled}
 use Rattle.snoop_bus.specs.Copies.{cache_of, tags_of}
-use Rattle.snoop_bus.specs.Bus.{Bus, words_of, holder_of, empty_caches}
+use Rattle.snoop_bus.specs.Bus.{Bus, bus_with, words_of, holder_of, IsFree, empty_caches}
 use Rattle.snoop_bus.specs.MemoryAfter.{loaded_memory, written_memory}
 use Rattle.snoop_bus.specs.Held.{transaction_in, holder, stage_for}
 use Rattle.snoop_bus.specs.Asks.{Awaited, Asked, hits, request_for, asking, asked_memory, awaited_in, completed, completed_memory}
 
+-- memory with these words: as many lines as they need
+abbrev pub lines_with : Geometry → List ℕ → List Words
+lines_with shape init = lines_of_words shape.words init (div_ceil (length init) shape.words)
+
 -- a bus for so many cores, with empty caches of this shape, and these words in memory; nobody holds it
 abbrev pub new_bus : Table → ℕ → Geometry → List ℕ → Bus
-new_bus table cores shape init = record {
-  rows = rows_of table;
-  shape = shape;
-  locations = length init;
-  caches = empty_caches cores shape;
-  memory = lines_of_words shape.words init (div_ceil (length init) shape.words);
-  held = None;
-}
+new_bus table cores shape init =
+    bus_with table shape (length init) (empty_caches cores shape) (lines_with shape init) None
 
 -- the lines and states of all caches, core by core and set by set, the most recently used first
 abbrev pub contents_of : Bus → List TagSets
@@ -67,6 +68,18 @@ memory_after_write b core loc = written_memory (table_of b.rows) core (line_of b
 abbrev pub would_hit : Bus → ℕ → ℕ → Bool → Bool
 would_hit b core loc write = hits (table_of b.rows) core (line_of b loc) write (contents_of b)
 
+-- a core's access to the line for which another core's write access holds the bus doesn't hit
+abbrev pub KeepsOut : Bus → Core → Loc → Bool → Holder → Type 0
+KeepsOut b core loc hit h = line_of b h.loc.0 ≡ line_of b loc.0 → h.stage ≢ Load → h.core ≢ core → hit ≡ false
+
+-- an access that may be made whole: nobody holds the bus, or it hits
+abbrev pub MayGoOn : Bus → ℕ → ℕ → Bool → Type 0
+MayGoOn b core loc write = IsFree b ⊎ IsTrue (would_hit b core loc write)
+
+-- the word that a program sees at a location
+abbrev pub IsCurrentWord : Bus → ℕ → ℕ → Type 0
+IsCurrentWord b loc word = slice_get (words_of b) loc ≡ Some word
+
 -- what the action that holds the bus awaits: nothing where it asked for a write access that hits
 abbrev pub awaited_of : Bus → Option Awaited
 awaited_of b = awaited_in (transaction_in b.held)
@@ -97,7 +110,7 @@ pub record KeepsHolder (old new : Bus) : Type 0 where
 -- a core's load at a location answered this word and was this access: the word is the one that is seen, no word
 -- that is seen changes, and contents and memory are those after the load
 pub record LoadsAt (old new : Bus) (core loc word : ℕ) (access : Access) : Type 0 where
-  pub word_is : slice_get (words_of old) loc ≡ Some word
+  pub word_is : IsCurrentWord old loc word
   pub words : words_of new ≡ words_of old
   pub access_is : access ≡ (load_of old core loc).access
   pub contents : contents_of new ≡ (load_of old core loc).caches
@@ -128,7 +141,7 @@ pub record CompletesAt (old new : Bus) (core loc : ℕ) (access : Access) : Type
   pub contents : contents_of new ≡ (completion_of old core loc).caches
   pub memory : memory_of new ≡ memory_after_completion old core loc
 
--- an access was refused memory: it was a miss, since no other takes any, and nothing has changed
-pub record IsRefused (old new : Bus) (refused : Access) : Type 0 where
+-- an access was out of memory: it was a miss, since no other takes any, and nothing has changed
+pub record IsOutOfMemory (old new : Bus) (refused : Access) : Type 0 where
   pub miss : refused.kind ≡ Miss
   pub same : new ≡ old

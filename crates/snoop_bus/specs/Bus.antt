@@ -6,7 +6,8 @@ use Rattle.cache_set.specs.Contents.{contents}
 use Rattle.tso_model.specs.Limits.{most_locations}
 use Rattle.snoop_bus.specs.Limits.{most_bus_cores}
 use Rattle.snoop_bus.specs.Geometry.{Geometry}
-use Rattle.snoop_bus.specs.Rows.{Rows}
+use Rattle.protocol_tables.specs.Tables.{Table}
+use Rattle.snoop_bus.specs.Rows.{Rows, rows_of}
 use Rattle.snoop_bus.specs.Lines.{Words, line_in, words_in, line_of_words}
 use Rattle.snoop_bus.specs.Copies.{Sets, copy_in, copy_at, ways_of}
 use Rattle.snoop_bus.specs.Coherent.{Coherent}
@@ -24,22 +25,31 @@ pub record Bus : Type 0 where
   pub memory : List Words
   pub held : Option Held
 
+-- the bus of a protocol with this table
+abbrev pub bus_with : Table → Geometry → ℕ → List Sets → List Words → Option Held → Bus
+bus_with t shape locations caches memory held =
+    record { rows = rows_of t; shape = shape; locations = locations; caches = caches; memory = memory; held = held }
+
 -- the words of a line in the first core's cache that has a copy
 abbrev pub words_among : List Sets → ℕ → Option Words
 words_among [] line = None
 words_among (sets ∷ caches) line = option_or (option_map (λ copy. copy.words) (copy_in sets line)) (words_among caches line)
 
--- the words of a line that are seen: a copy's where there is one, else memory's
-abbrev pub seen : List Sets → List Words → ℕ → Words
-seen caches memory line = unwrap_or (words_among caches line) (line_in memory line)
+-- the current words of a line: a copy's where there is one, else memory's
+abbrev pub current_words : List Sets → List Words → ℕ → Words
+current_words caches memory line = unwrap_or (words_among caches line) (line_in memory line)
+
+-- the words that a program sees, one for each of so many locations
+abbrev pub program_words : Geometry → ℕ → List Sets → List Words → List ℕ
+program_words shape locations caches memory = words_in shape.words (current_words caches memory) locations
 
 -- the copies that count: those of the caches, and the words that the bus keeps as its holder's
 abbrev pub counted_copies : Bus → List Sets
 counted_copies b = counted b.held b.caches
 
--- the words that a program sees, one for each location: a copy's where there is one, else memory's
+-- the words that a program sees of a bus, one for each location
 abbrev pub words_of : Bus → List ℕ
-words_of b = words_in b.shape.words (seen (counted_copies b) b.memory) b.locations
+words_of b = program_words b.shape b.locations (counted_copies b) b.memory
 
 -- whose action holds the bus, if one does; and that nobody does
 abbrev pub holder_of : Bus → Option Holder
@@ -50,13 +60,13 @@ IsFree b = holder_of b ≡ None
 
 -- every line is coherent, and no cache has a line past memory
 pub record AllCoherent (caches : List Sets) (memory : List Words) : Type 0 where
-  pub each : (line : ℕ) → line < length memory → Coherent (seen caches memory line) (line_in memory line) (λ i. copy_at caches i line)
+  pub each : (k : ℕ) → k < length memory → Coherent (current_words caches memory k) (line_in memory k) (λ i. copy_at caches i k)
   pub within : (line i : ℕ) → length memory ≤ line → copy_at caches i line ≡ None
 
--- each line that is seen has its words of the list of words, and 0 at every other place
+-- each line has its words of the list of words that a program sees, and 0 at every other place
 abbrev pub HasWholeLines : Geometry → ℕ → List Sets → List Words → Type 0
 HasWholeLines shape locations caches memory =
-    (line : ℕ) → line < length memory → seen caches memory line ≡ line_of_words shape.words (words_in shape.words (seen caches memory) locations) line
+    (k : ℕ) → k < length memory → current_words caches memory k ≡ line_of_words shape.words (program_words shape locations caches memory) k
 
 -- what holds of every bus: the copies that count are coherent, the holder's own copy is as its action has left it, each
 -- cache of the bus's shape, cores and locations within their limits, and a line for each location

@@ -11,5 +11,7 @@ pub mod Bus
 pub mod MemoryAfter
 pub mod Requests
 pub mod Asks
+pub mod Accessing
+pub mod Completing
 pub mod Accesses
 pub mod Finding

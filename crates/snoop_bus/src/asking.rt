@@ -1,13 +1,11 @@
 //! The first half of an access that needs the bus: the other caches see the request, and the bus keeps
 //! the words for the core's line.
-ghost use Rattle.std.specs.Prelude.{◌≡◌, ◌<◌, ◌≤◌, Some, None, false, length};
-ghost use Rattle.snoop_bus.specs.Limits.{most_bus_cores};
-ghost use Rattle.snoop_bus.specs.Asks.{hits, request_for, transacting, transaction_of, asked_caches, asked_memory};
-ghost use Rattle.snoop_bus.specs.Held.{Awaits, IsHeld, held_by, stage_for, counting, counted_in, counted};
+ghost use Rattle.std.specs.Prelude.{◌≡◌, ◌<◌, Some, None, false, length};
+ghost use Rattle.snoop_bus.specs.Asks.{hits, request_for, transacting_at, transaction_at, held_after_ask, asked_caches, asked_memory};
+ghost use Rattle.snoop_bus.specs.Held.{Awaits, IsHeld, counting, counted_in, counted};
 ghost use Rattle.snoop_bus.specs.CacheContents.{requested};
 ghost use Rattle.snoop_bus.specs.Copies.{cache_of, copy_at, tags_of, ways_of};
-ghost use Rattle.snoop_bus.specs.Bus.{AllCoherent, seen};
-ghost use Rattle.snoop_bus.specs.Requests.{KeepsWords};
+ghost use Rattle.snoop_bus.specs.Accessing.{IsReady, KeepsWords};
 ghost use Rattle.snoop_bus.specs.declared.holding.Stage.TheVariants.{Write};
 ghost use Rattle.protocol_tables.specs.declared.asking.Request.TheVariants.{GetS, GetM};
 ghost use Rattle.protocol_tables.specs.declared.asking.Transient.TheVariants.{IsD, ImD};
@@ -41,13 +39,10 @@ pub fn ask<P: Protocol>(
     line: u8,
     write: bool,
 ) -> Held
-    requires coherent { AllCoherent caches.old memory.old }
-    requires core { core.0 < length caches.old }
-    requires few { length caches.old ≤ most_bus_cores }
-    requires line { line < length memory.old }
+    requires ready { IsReady None core.0 line caches.old memory.old }
     requires misses { write ≡ false → copy_at caches.old core.0 line ≡ None }
 
-    ensures exact { result ≡ held_by core loc (stage_for write) line (transaction_of (P.table protocol.now) (request_for write) core.0 line (seen caches.old memory.old line) (tags_of caches.old)) }
+    ensures exact { result ≡ held_after_ask (P.table protocol.now) core loc line write caches.old memory.old }
     ensures awaited { IsHeld caches.new memory.new result }
     ensures tags { tags_of caches.new ≡ asked_caches (P.table protocol.now) (request_for write) core.0 line (tags_of caches.old) }
     ensures memory { memory.new ≡ asked_memory (P.table protocol.now) (request_for write) line caches.old memory.old }
@@ -92,14 +87,11 @@ pub fn ask_load<P: Protocol>(
     core: usize,
     line: u8,
 ) -> Transaction
-    requires coherent { AllCoherent caches.old memory.old }
-    requires core { core < length caches.old }
-    requires few { length caches.old ≤ most_bus_cores }
+    requires ready { IsReady None core line caches.old memory.old }
     requires some_set { 0 < length (cache_of caches.old core) }
-    requires line { line < length memory.old }
     requires absent { copy_at caches.old core line ≡ None }
 
-    ensures transaction { result ≡ transacting (P.table protocol.now) GetS line (seen caches.old memory.old line) (tags_of caches.old) IsD }
+    ensures transaction { result ≡ transacting_at (P.table protocol.now) GetS line caches.old memory.old IsD }
     ensures tags { tags_of caches.new ≡ requested (P.table protocol.now).on_get_s core line (tags_of caches.old) }
     ensures memory { memory.new ≡ asked_memory (P.table protocol.now) GetS line caches.old memory.old }
     ensures own { copy_at caches.new core line ≡ None }
@@ -126,13 +118,10 @@ pub fn ask_write<P: Protocol>(
     core: usize,
     line: u8,
 ) -> Option<Transaction>
-    requires coherent { AllCoherent caches.old memory.now }
-    requires core { core < length caches.old }
-    requires few { length caches.old ≤ most_bus_cores }
+    requires ready { IsReady None core line caches.old memory.now }
     requires some_set { 0 < length (cache_of caches.old core) }
-    requires line { line < length memory.now }
 
-    ensures transaction { result ≡ transaction_of (P.table protocol.now) GetM core line (seen caches.old memory.now line) (tags_of caches.old) }
+    ensures transaction { result ≡ transaction_at (P.table protocol.now) GetM core line caches.old memory.now }
     ensures tags { tags_of caches.new ≡ asked_caches (P.table protocol.now) GetM core line (tags_of caches.old) }
     ensures awaits { Awaits Write result (copy_at caches.new core line) }
     ensures words { KeepsWords caches.old (counted_in core line result caches.new) memory.now memory.now }
@@ -165,14 +154,11 @@ fn ask_write_miss<P: Protocol>(
     core: usize,
     line: u8,
 ) -> Transaction
-    requires coherent { AllCoherent caches.old memory.now }
-    requires core { core < length caches.old }
-    requires few { length caches.old ≤ most_bus_cores }
+    requires ready { IsReady None core line caches.old memory.now }
     requires some_set { 0 < length (cache_of caches.old core) }
-    requires line { line < length memory.now }
     requires absent { copy_at caches.old core line ≡ None }
 
-    ensures transaction { result ≡ transacting (P.table protocol.now) GetM line (seen caches.old memory.now line) (tags_of caches.old) ImD }
+    ensures transaction { result ≡ transacting_at (P.table protocol.now) GetM line caches.old memory.now ImD }
     ensures tags { tags_of caches.new ≡ requested (P.table protocol.now).on_get_m core line (tags_of caches.old) }
     ensures own { copy_at caches.new core line ≡ None }
     ensures words { KeepsWords caches.old (counting core line result.copy caches.new) memory.now memory.now }

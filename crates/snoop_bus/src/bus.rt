@@ -1,11 +1,14 @@
 //! The caches of all cores on one bus, and the calls of it.
 
-ghost use Rattle.std.specs.Prelude.{◌≡◌, ◌≢◌, ◌⊎◌, ◌+◌, ◌%◌, ◌^◌, ◌<◌, ◌≤◌, true, false, IsTrue, Some, IfSome, IfOk, OnOk, OnErr, length, slice_get, slice_set};
+ghost use Rattle.std.specs.Prelude.{◌≡◌, ◌+◌, ◌%◌, ◌^◌, ◌<◌, ◌≤◌, true, false};
+ghost use Rattle.std.specs.Prelude.{Some, IfSome, IfOk, OnOk, OnErr, length, slice_get, slice_set};
 ghost use Rattle.tso_model.specs.Limits.{most_locations};
 ghost use Rattle.snoop_bus.specs.Limits.{most_bus_cores};
 ghost use Rattle.snoop_bus.specs.Bus.{words_of, holder_of, IsFree, cores_of, IsCoherent, HasLines, IsSameMachine};
 ghost use Rattle.snoop_bus.specs.Held.{holder};
-ghost use Rattle.snoop_bus.specs.Accesses.{new_bus, contents_of, contents_settled, copies_of, memory_of, memory_words_of, line_of, load_of, write_of, would_hit, awaited_of, completion_of, LoadsAt, WritesAt, AsksFor, CompletesAt, IsRefused};
+ghost use Rattle.snoop_bus.specs.Accesses.{new_bus, contents_of, contents_settled, copies_of, memory_of, memory_words_of};
+ghost use Rattle.snoop_bus.specs.Accesses.{load_of, write_of, would_hit, awaited_of, completion_of};
+ghost use Rattle.snoop_bus.specs.Accesses.{MayGoOn, IsCurrentWord, LoadsAt, WritesAt, KeepsOut, AsksFor, CompletesAt, IsOutOfMemory};
 
 use crate::access::Access;
 use crate::asking::{ask, hits};
@@ -50,12 +53,11 @@ pub struct SnoopBus<P: Protocol> {
 }
 
 impl<P: Protocol> Model for SnoopBus<P> {
-    ghost use Rattle.snoop_bus.specs.Rows.{rows_of};
-    ghost use Rattle.snoop_bus.specs.Bus.{Bus, IsBus};
+    ghost use Rattle.snoop_bus.specs.Bus.{Bus, bus_with, IsBus};
 
     ghost Value = { Bus };
 
-    ghost view = { λ b. record { rows = rows_of (P.table b.protocol); shape = b.shape; locations = b.locations; caches = b.caches.items; memory = b.memory.items; held = b.held } };
+    ghost view = { λ b. bus_with (P.table b.protocol) b.shape b.locations b.caches.items b.memory.items b.held };
 
     ghost invariant = { λ b. IsBus b.shape b.locations b.caches.items b.memory.items b.held };
 }
@@ -102,10 +104,10 @@ impl<P: Protocol> SnoopBus<P> {
     pub fn load(&mut self, core: Core, loc: Loc) -> Result<(u32, Access), NoMemory>
         requires core { core.0 < cores_of self.old }
         requires loc { loc.0 < length (words_of self.old) }
-        requires free { IsFree self.old ⊎ IsTrue (would_hit self.old core.0 loc.0 false) }
+        requires free { MayGoOn self.old core.0 loc.0 false }
 
         ensures done { IfOk result (λ r. LoadsAt self.old self.new core.0 loc.0 r.0 r.1) }
-        ensures refused { OnErr result (IsRefused self.old self.new (load_of self.old core.0 loc.0).access) }
+        ensures refused { OnErr result (IsOutOfMemory self.old self.new (load_of self.old core.0 loc.0).access) }
         ensures coherent { IsCoherent self.new }
         ensures machine { IsSameMachine self.old self.new }
     {
@@ -128,10 +130,10 @@ impl<P: Protocol> SnoopBus<P> {
     pub fn store(&mut self, core: Core, loc: Loc, value: u32) -> Result<Access, NoMemory>
         requires core { core.0 < cores_of self.old }
         requires loc { loc.0 < length (words_of self.old) }
-        requires free { IsFree self.old ⊎ IsTrue (would_hit self.old core.0 loc.0 true) }
+        requires free { MayGoOn self.old core.0 loc.0 true }
 
         ensures done { IfOk result (λ access. WritesAt self.old self.new core.0 loc.0 value access) }
-        ensures refused { OnErr result (IsRefused self.old self.new (write_of self.old core.0 loc.0).access) }
+        ensures refused { OnErr result (IsOutOfMemory self.old self.new (write_of self.old core.0 loc.0).access) }
         ensures coherent { IsCoherent self.new }
         ensures machine { IsSameMachine self.old self.new }
     {
@@ -145,11 +147,11 @@ impl<P: Protocol> SnoopBus<P> {
     pub fn swap(&mut self, core: Core, loc: Loc, value: u32) -> Result<(u32, Access), NoMemory>
         requires core { core.0 < cores_of self.old }
         requires loc { loc.0 < length (words_of self.old) }
-        requires free { IsFree self.old ⊎ IsTrue (would_hit self.old core.0 loc.0 true) }
+        requires free { MayGoOn self.old core.0 loc.0 true }
 
-        ensures word { IfOk result (λ r. slice_get (words_of self.old) loc.0 ≡ Some r.0) }
+        ensures word { IfOk result (λ r. IsCurrentWord self.old loc.0 r.0) }
         ensures done { IfOk result (λ r. WritesAt self.old self.new core.0 loc.0 value r.1) }
-        ensures refused { OnErr result (IsRefused self.old self.new (write_of self.old core.0 loc.0).access) }
+        ensures refused { OnErr result (IsOutOfMemory self.old self.new (write_of self.old core.0 loc.0).access) }
         ensures coherent { IsCoherent self.new }
         ensures machine { IsSameMachine self.old self.new }
     {
@@ -174,11 +176,11 @@ impl<P: Protocol> SnoopBus<P> {
     pub fn add(&mut self, core: Core, loc: Loc, value: u32) -> Result<(u32, Access), NoMemory>
         requires core { core.0 < cores_of self.old }
         requires loc { loc.0 < length (words_of self.old) }
-        requires free { IsFree self.old ⊎ IsTrue (would_hit self.old core.0 loc.0 true) }
+        requires free { MayGoOn self.old core.0 loc.0 true }
 
-        ensures word { IfOk result (λ r. slice_get (words_of self.old) loc.0 ≡ Some r.0) }
+        ensures word { IfOk result (λ r. IsCurrentWord self.old loc.0 r.0) }
         ensures done { IfOk result (λ r. WritesAt self.old self.new core.0 loc.0 ((r.0 + value) % 2 ^ 32) r.1) }
-        ensures refused { OnErr result (IsRefused self.old self.new (write_of self.old core.0 loc.0).access) }
+        ensures refused { OnErr result (IsOutOfMemory self.old self.new (write_of self.old core.0 loc.0).access) }
         ensures coherent { IsCoherent self.new }
         ensures machine { IsSameMachine self.old self.new }
     {
@@ -201,7 +203,7 @@ impl<P: Protocol> SnoopBus<P> {
     pub fn would_hit(&self, core: Core, loc: Loc, write: bool) -> bool
         requires core { core.0 < cores_of self.now }
         ensures value { result ≡ would_hit self.now core.0 loc.0 write }
-        ensures taken { IfSome (holder_of self.now) (λ h. line_of self.now h.loc.0 ≡ line_of self.now loc.0 → h.stage ≢ Stage.Load → h.core ≢ core → result ≡ false) }
+        ensures taken { IfSome (holder_of self.now) (KeepsOut self.now core loc result) }
     {
         hits(
             &self.caches,
@@ -244,11 +246,11 @@ impl<P: Protocol> SnoopBus<P> {
     pub fn complete_load(&mut self, core: Core, loc: Loc) -> Result<(u32, Access), NoMemory>
         requires holds { holder_of self.old ≡ Some (holder core loc Stage.Load) }
 
-        ensures word { IfOk result (λ r. slice_get (words_of self.old) loc.0 ≡ Some r.0) }
+        ensures word { IfOk result (λ r. IsCurrentWord self.old loc.0 r.0) }
         ensures words { words_of self.new ≡ words_of self.old }
         ensures done { IfOk result (λ r. CompletesAt self.old self.new core.0 loc.0 r.1) }
         ensures free { OnOk result (IsFree self.new) }
-        ensures refused { OnErr result (IsRefused self.old self.new (completion_of self.old core.0 loc.0).access) }
+        ensures refused { OnErr result (IsOutOfMemory self.old self.new (completion_of self.old core.0 loc.0).access) }
         ensures coherent { IsCoherent self.new }
         ensures machine { IsSameMachine self.old self.new }
     {
@@ -277,7 +279,7 @@ impl<P: Protocol> SnoopBus<P> {
         ensures words { OnOk result (words_of self.new ≡ slice_set (words_of self.old) loc.0 value) }
         ensures done { IfOk result (λ access. CompletesAt self.old self.new core.0 loc.0 access) }
         ensures free { OnOk result (IsFree self.new) }
-        ensures refused { OnErr result (IsRefused self.old self.new (completion_of self.old core.0 loc.0).access) }
+        ensures refused { OnErr result (IsOutOfMemory self.old self.new (completion_of self.old core.0 loc.0).access) }
         ensures coherent { IsCoherent self.new }
         ensures machine { IsSameMachine self.old self.new }
     {
@@ -304,12 +306,12 @@ impl<P: Protocol> SnoopBus<P> {
     pub fn complete_read(&mut self, core: Core, loc: Loc) -> Result<(u32, Access), NoMemory>
         requires holds { holder_of self.old ≡ Some (holder core loc Stage.Write) }
 
-        ensures word { IfOk result (λ r. slice_get (words_of self.old) loc.0 ≡ Some r.0) }
+        ensures word { IfOk result (λ r. IsCurrentWord self.old loc.0 r.0) }
         ensures words { words_of self.new ≡ words_of self.old }
         ensures done { IfOk result (λ r. CompletesAt self.old self.new core.0 loc.0 r.1) }
         ensures holds { OnOk result (holder_of self.new ≡ Some (holder core loc Stage.Locked)) }
         ensures awaited { OnOk result (awaited_of self.new ≡ None) }
-        ensures refused { OnErr result (IsRefused self.old self.new (completion_of self.old core.0 loc.0).access) }
+        ensures refused { OnErr result (IsOutOfMemory self.old self.new (completion_of self.old core.0 loc.0).access) }
         ensures coherent { IsCoherent self.new }
         ensures machine { IsSameMachine self.old self.new }
     {

@@ -1,10 +1,11 @@
 //! The whole cache of one core. Each step says what it makes of the sets (`exact`), what is then found
 //! at each line (`copies`), and that the room in each set stays (`ways`).
-ghost use Rattle.std.specs.Prelude.{◌≡◌, ◌≢◌, ◌<◌, ℕ, [], Some, None, IsSome, IfOk, IfSome, OnErr, length, map, replicate, slice_index_or, option_copied, option_map, nat_eq, if◌then◌else◌};
+ghost use Rattle.std.specs.Prelude.{◌≡◌, ◌≢◌, ◌<◌, ℕ, [], Some, None, IsSome, IfOk, IfSome, OnErr};
+ghost use Rattle.std.specs.Prelude.{length, map, replicate, slice_index_or, option_copied, option_map};
 ghost use Rattle.cache_set.specs.Limits.{most_words};
-ghost use Rattle.cache_set.specs.Contents.{contents, IsCacheSet, to_front, with_new, victim_of, with_changed, without, after_fill};
+ghost use Rattle.cache_set.specs.Contents.{contents, IsCacheSet, to_front, with_new, victim_of, with_changed, without};
 ghost use Rattle.cache_set.specs.Copy.{copy_with, with_state, with_word};
-ghost use Rattle.snoop_bus.specs.Copies.{set_at, in_set, copy_in, emptied, AtHome};
+ghost use Rattle.snoop_bus.specs.Copies.{set_at, in_set, copy_in, emptied, ways_in, AtHome, OnlyAt, IsAfterFill};
 
 use crate::shape::Shape;
 use cache_set::{CacheSet, Line, MAX_WORDS, Victim};
@@ -78,7 +79,7 @@ impl Cache {
         ensures exact { self.new ≡ in_set line (to_front line) self.old }
         ensures valid { IsCacheSet (set_at self.new line) }
         ensures copies { (k : ℕ) → copy_in self.new k ≡ copy_in self.old k }
-        ensures ways { map (λ s. s.ways) self.new ≡ map (λ s. s.ways) self.old }
+        ensures ways { ways_in self.new ≡ ways_in self.old }
     {
         let at = usize::from(line) % self.sets.len();
         let set = &mut self.sets[at];
@@ -98,10 +99,10 @@ impl Cache {
         requires valid { state ≢ State.I }
         ensures exact { IfOk result (λ _. self.new ≡ in_set line (with_new line (copy_with state words)) self.old) }
         ensures victim { IfOk result (λ v. v ≡ victim_of (set_at self.old line)) }
-        ensures copies { IfOk result (λ v. (k : ℕ) → copy_in self.new k ≡ after_fill line (copy_with state words) v k (copy_in self.old k)) }
+        ensures copies { IfOk result (IsAfterFill line (copy_with state words) self.old self.new) }
         ensures was_here { IfOk result (λ v. IfSome v (λ x. copy_in self.old x.line ≡ Some x.content)) }
         ensures err { OnErr result (self.new ≡ self.old) }
-        ensures ways { map (λ s. s.ways) self.new ≡ map (λ s. s.ways) self.old }
+        ensures ways { ways_in self.new ≡ ways_in self.old }
     {
         let at = usize::from(line) % self.sets.len();
         let set = &mut self.sets[at];
@@ -113,8 +114,8 @@ impl Cache {
         requires present { IsSome (copy_in self.old line) }
         requires valid { state ≢ State.I }
         ensures exact { self.new ≡ in_set line (with_changed (with_state state) line) self.old }
-        ensures copies { (k : ℕ) → copy_in self.new k ≡ (if nat_eq k line then option_map (with_state state) (copy_in self.old k) else copy_in self.old k) }
-        ensures ways { map (λ s. s.ways) self.new ≡ map (λ s. s.ways) self.old }
+        ensures copies { OnlyAt line (option_map (with_state state)) self.old self.new }
+        ensures ways { ways_in self.new ≡ ways_in self.old }
     {
         let at = usize::from(line) % self.sets.len();
         let set = &mut self.sets[at];
@@ -126,8 +127,8 @@ impl Cache {
         requires present { IsSome (copy_in self.old line) }
         requires place { place < most_words }
         ensures exact { self.new ≡ in_set line (with_changed (with_word place value) line) self.old }
-        ensures copies { (k : ℕ) → copy_in self.new k ≡ (if nat_eq k line then option_map (with_word place value) (copy_in self.old k) else copy_in self.old k) }
-        ensures ways { map (λ s. s.ways) self.new ≡ map (λ s. s.ways) self.old }
+        ensures copies { OnlyAt line (option_map (with_word place value)) self.old self.new }
+        ensures ways { ways_in self.new ≡ ways_in self.old }
     {
         let at = usize::from(line) % self.sets.len();
         let set = &mut self.sets[at];
@@ -138,8 +139,8 @@ impl Cache {
     pub fn drop_line(&mut self, line: u8)
         requires { IsSome (copy_in self.old line) }
         ensures exact { self.new ≡ in_set line (without line) self.old }
-        ensures copies { (k : ℕ) → copy_in self.new k ≡ (if nat_eq k line then None else copy_in self.old k) }
-        ensures ways { map (λ s. s.ways) self.new ≡ map (λ s. s.ways) self.old }
+        ensures copies { OnlyAt line (λ _. None) self.old self.new }
+        ensures ways { ways_in self.new ≡ ways_in self.old }
     {
         let at = usize::from(line) % self.sets.len();
         let set = &mut self.sets[at];

@@ -6,11 +6,11 @@ ghost use Rattle.snoop_bus.specs.declared.holding.Stage.TheVariants.{Load, Write
 ghost use Rattle.protocol_tables.specs.declared.state.State.TheVariants.{M};
 ghost use Rattle.snoop_bus.specs.CacheContents.{writes_back, filled_by};
 ghost use Rattle.snoop_bus.specs.MemoryAfter.{written_back, victim_at};
-ghost use Rattle.snoop_bus.specs.Asks.{awaited_in, completed, completed_memory};
-ghost use Rattle.snoop_bus.specs.Held.{Awaits, counting, counted_in};
+ghost use Rattle.snoop_bus.specs.Completing.{IsAwaited, Completes, words_due, completion_at};
+ghost use Rattle.snoop_bus.specs.Held.{counting, counted_in};
 ghost use Rattle.snoop_bus.specs.Copies.{cache_of, copy_at, tags_of, ways_of};
-ghost use Rattle.snoop_bus.specs.Bus.{AllCoherent, seen};
-ghost use Rattle.snoop_bus.specs.Requests.{KeepsWords, SetsWord};
+ghost use Rattle.snoop_bus.specs.Bus.{AllCoherent};
+ghost use Rattle.snoop_bus.specs.Accessing.{KeepsWords, SetsWord, IsUnchanged};
 ghost use Rattle.snoop_bus.specs.Coherent.{state_of};
 ghost use Rattle.snoop_bus.specs.declared.access.AccessKind.TheVariants.{Miss};
 
@@ -48,8 +48,7 @@ pub fn fill_asked<P: Protocol>(
     ensures words { OnOk result (KeepsWords (counting core line copy caches.old) caches.new memory.old memory.new) }
     ensures ways { ways_of caches.new ≡ ways_of caches.old }
 
-    ensures err_caches { OnErr result (caches.new ≡ caches.old) }
-    ensures err_memory { OnErr result (memory.new ≡ memory.old) }
+    ensures refused { OnErr result (IsUnchanged caches.old caches.new memory.old memory.new) }
 {
     let cache = &mut caches[core];
     let victim = cache.fill(line, copy.state, copy.words)?;
@@ -68,23 +67,16 @@ pub fn acquire_asked<P: Protocol>(
     line: u8,
     transaction: Option<Transaction>,
 ) -> Result<([u32; MAX_WORDS], Access), NoMemory>
-    requires coherent { AllCoherent (counted_in core line transaction caches.old) memory.old }
-    requires core { core < length caches.old }
-    requires some_set { 0 < length (cache_of caches.old core) }
-    requires line { line < length memory.old }
-    requires awaits { Awaits Write transaction (copy_at caches.old core line) }
+    requires awaited { IsAwaited Write transaction core line caches.old memory.old }
 
-    ensures found { IfOk result (λ r. r.0 ≡ seen (counted_in core line transaction caches.old) memory.old line) }
-    ensures access { IfOk result (λ r. r.1 ≡ (completed (P.table protocol.now) core line (awaited_in transaction) (tags_of caches.old)).access) }
-    ensures tags { OnOk result (tags_of caches.new ≡ (completed (P.table protocol.now) core line (awaited_in transaction) (tags_of caches.old)).caches) }
-    ensures memory { OnOk result (memory.new ≡ completed_memory (P.table protocol.now) core line (awaited_in transaction) caches.old memory.old) }
-    ensures own { OnOk result (copy_at caches.new core line ≡ Some (copy_with M (seen (counted_in core line transaction caches.old) memory.old line))) }
+    ensures found { IfOk result (λ r. r.0 ≡ words_due transaction core line caches.old memory.old) }
+    ensures ok { IfOk result (λ r. Completes (P.table protocol.now) transaction core line caches.old caches.new memory.old memory.new r.1) }
+    ensures own { OnOk result (copy_at caches.new core line ≡ Some (copy_with M (words_due transaction core line caches.old memory.old))) }
     ensures words { OnOk result (KeepsWords (counted_in core line transaction caches.old) caches.new memory.old memory.new) }
     ensures ways { ways_of caches.new ≡ ways_of caches.old }
 
-    ensures succeeds { (completed (P.table protocol.now) core line (awaited_in transaction) (tags_of caches.old)).access.kind ≢ Miss → IsOk result }
-    ensures err_caches { OnErr result (caches.new ≡ caches.old) }
-    ensures err_memory { OnErr result (memory.new ≡ memory.old) }
+    ensures succeeds { (completion_at (P.table protocol.now) transaction core line caches.old).access.kind ≢ Miss → IsOk result }
+    ensures refused { OnErr result (IsUnchanged caches.old caches.new memory.old memory.new) }
 {
     match transaction {
         None => {
@@ -132,22 +124,15 @@ pub fn complete_load<P: Protocol>(
     place: u8,
     transaction: Option<Transaction>,
 ) -> Result<(u32, Access), NoMemory>
-    requires coherent { AllCoherent (counted_in core line transaction caches.old) memory.old }
-    requires core { core < length caches.old }
-    requires some_set { 0 < length (cache_of caches.old core) }
-    requires line { line < length memory.old }
+    requires awaited { IsAwaited Load transaction core line caches.old memory.old }
     requires place { place < most_words }
-    requires awaits { Awaits Load transaction (copy_at caches.old core line) }
 
-    ensures word { IfOk result (λ r. r.0 ≡ slice_index (seen (counted_in core line transaction caches.old) memory.old line) place) }
-    ensures access { IfOk result (λ r. r.1 ≡ (completed (P.table protocol.now) core line (awaited_in transaction) (tags_of caches.old)).access) }
-    ensures tags { OnOk result (tags_of caches.new ≡ (completed (P.table protocol.now) core line (awaited_in transaction) (tags_of caches.old)).caches) }
-    ensures memory { OnOk result (memory.new ≡ completed_memory (P.table protocol.now) core line (awaited_in transaction) caches.old memory.old) }
+    ensures word { IfOk result (λ r. r.0 ≡ slice_index (words_due transaction core line caches.old memory.old) place) }
+    ensures ok { IfOk result (λ r. Completes (P.table protocol.now) transaction core line caches.old caches.new memory.old memory.new r.1) }
     ensures words { OnOk result (KeepsWords (counted_in core line transaction caches.old) caches.new memory.old memory.new) }
     ensures ways { ways_of caches.new ≡ ways_of caches.old }
 
-    ensures err_caches { OnErr result (caches.new ≡ caches.old) }
-    ensures err_memory { OnErr result (memory.new ≡ memory.old) }
+    ensures refused { OnErr result (IsUnchanged caches.old caches.new memory.old memory.new) }
 {
     let transaction = transaction.unwrap();
     let wrote_back = fill_asked(caches, memory, protocol, core, line, transaction.copy)?;
@@ -172,22 +157,15 @@ pub fn complete_store<P: Protocol>(
     transaction: Option<Transaction>,
     value: u32,
 ) -> Result<Access, NoMemory>
-    requires coherent { AllCoherent (counted_in core line transaction caches.old) memory.old }
-    requires core { core < length caches.old }
-    requires some_set { 0 < length (cache_of caches.old core) }
-    requires line { line < length memory.old }
+    requires awaited { IsAwaited Write transaction core line caches.old memory.old }
     requires place { place < most_words }
-    requires awaits { Awaits Write transaction (copy_at caches.old core line) }
 
-    ensures access { IfOk result (λ a. a ≡ (completed (P.table protocol.now) core line (awaited_in transaction) (tags_of caches.old)).access) }
-    ensures tags { OnOk result (tags_of caches.new ≡ (completed (P.table protocol.now) core line (awaited_in transaction) (tags_of caches.old)).caches) }
-    ensures memory { OnOk result (memory.new ≡ completed_memory (P.table protocol.now) core line (awaited_in transaction) caches.old memory.old) }
+    ensures ok { IfOk result (Completes (P.table protocol.now) transaction core line caches.old caches.new memory.old memory.new) }
     ensures words { OnOk result (SetsWord line place value (counted_in core line transaction caches.old) caches.new memory.old memory.new) }
     ensures ways { ways_of caches.new ≡ ways_of caches.old }
 
-    ensures succeeds { (completed (P.table protocol.now) core line (awaited_in transaction) (tags_of caches.old)).access.kind ≢ Miss → IsOk result }
-    ensures err_caches { OnErr result (caches.new ≡ caches.old) }
-    ensures err_memory { OnErr result (memory.new ≡ memory.old) }
+    ensures succeeds { (completion_at (P.table protocol.now) transaction core line caches.old).access.kind ≢ Miss → IsOk result }
+    ensures refused { OnErr result (IsUnchanged caches.old caches.new memory.old memory.new) }
 {
     let (_, access) = acquire_asked(caches, memory, protocol, core, line, transaction)?;
     write(caches, core, line, place, value);
@@ -207,24 +185,17 @@ pub fn complete_read<P: Protocol>(
     place: u8,
     transaction: Option<Transaction>,
 ) -> Result<(u32, Access), NoMemory>
-    requires coherent { AllCoherent (counted_in core line transaction caches.old) memory.old }
-    requires core { core < length caches.old }
-    requires some_set { 0 < length (cache_of caches.old core) }
-    requires line { line < length memory.old }
+    requires awaited { IsAwaited Write transaction core line caches.old memory.old }
     requires place { place < most_words }
-    requires awaits { Awaits Write transaction (copy_at caches.old core line) }
 
-    ensures word { IfOk result (λ r. r.0 ≡ slice_index (seen (counted_in core line transaction caches.old) memory.old line) place) }
-    ensures access { IfOk result (λ r. r.1 ≡ (completed (P.table protocol.now) core line (awaited_in transaction) (tags_of caches.old)).access) }
-    ensures tags { OnOk result (tags_of caches.new ≡ (completed (P.table protocol.now) core line (awaited_in transaction) (tags_of caches.old)).caches) }
-    ensures memory { OnOk result (memory.new ≡ completed_memory (P.table protocol.now) core line (awaited_in transaction) caches.old memory.old) }
+    ensures word { IfOk result (λ r. r.0 ≡ slice_index (words_due transaction core line caches.old memory.old) place) }
+    ensures ok { IfOk result (λ r. Completes (P.table protocol.now) transaction core line caches.old caches.new memory.old memory.new r.1) }
     ensures own { OnOk result (state_of (copy_at caches.new core line) ≡ M) }
     ensures words { OnOk result (KeepsWords (counted_in core line transaction caches.old) caches.new memory.old memory.new) }
     ensures ways { ways_of caches.new ≡ ways_of caches.old }
 
-    ensures succeeds { (completed (P.table protocol.now) core line (awaited_in transaction) (tags_of caches.old)).access.kind ≢ Miss → IsOk result }
-    ensures err_caches { OnErr result (caches.new ≡ caches.old) }
-    ensures err_memory { OnErr result (memory.new ≡ memory.old) }
+    ensures succeeds { (completion_at (P.table protocol.now) transaction core line caches.old).access.kind ≢ Miss → IsOk result }
+    ensures refused { OnErr result (IsUnchanged caches.old caches.new memory.old memory.new) }
 {
     let (words, access) = acquire_asked(caches, memory, protocol, core, line, transaction)?;
     Ok((words[usize::from(place)], access))

@@ -1,12 +1,11 @@
 //! One walk over the caches for a line that a core asks for: who has it, whose words it gets, and whose
 //! copy is sent to memory.
-ghost use Rattle.std.specs.Prelude.{◌≡◌, ◌<◌, ◌≤◌, ℕ, None, length, slice_index_or, is_some, option_map, unwrap_or};
+ghost use Rattle.std.specs.Prelude.{◌≡◌, ◌<◌, ◌≤◌, ℕ, None, length, slice_index_or, is_some};
 ghost use Rattle.std.specs.List.{list_any};
 ghost use Rattle.snoop_bus.specs.Limits.{most_bus_cores};
-ghost use Rattle.snoop_bus.specs.Lines.{Words};
 ghost use Rattle.snoop_bus.specs.CacheContents.{flusher_from};
-ghost use Rattle.snoop_bus.specs.Copies.{copy_in, copy_at, tags_of};
-ghost use Rattle.snoop_bus.specs.Requests.{asked, Supplied};
+ghost use Rattle.snoop_bus.specs.Copies.{copy_in, tags_of, state_at};
+ghost use Rattle.snoop_bus.specs.Requests.{asked, HasSupplied};
 ghost use Rattle.snoop_bus.specs.Finding.{nothing_found, noting};
 
 use crate::bus::MAX_CORES;
@@ -71,10 +70,10 @@ impl Found {
 /// Looks for the line once in each cache.
 pub fn find<P: Protocol>(caches: &[Cache], protocol: &P, request: Request, line: u8) -> Found
     requires few { length caches.now ≤ most_bus_cores }
-    ensures words { (memory : Words) → Supplied (asked (P.table protocol.now) request) caches.now line memory (unwrap_or result.words memory) }
+    ensures words { HasSupplied (asked (P.table protocol.now) request) caches.now line result.words }
     ensures shared { result.shared ≡ list_any (λ sets. is_some (copy_in sets line)) caches.now }
     ensures flushed { result.flushed ≡ flusher_from 0 (asked (P.table protocol.now) request) line (tags_of caches.now) }
-    ensures states { (i : ℕ) → slice_index_or result.states i None ≡ option_map (λ copy. copy.state) (copy_at caches.now i line) }
+    ensures states { (i : ℕ) → slice_index_or result.states i None ≡ state_at caches.now i line }
 {
     let mut found = Found::nothing();
     for core in 0..caches.len() {

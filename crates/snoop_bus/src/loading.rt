@@ -1,12 +1,10 @@
 //! Loads.
 
-ghost use Rattle.std.specs.Prelude.{◌≡◌, ◌<◌, ◌≤◌, ◌⊎◌, None, IsSome, IfSome, IsOk, IfOk, OnErr, length};
+ghost use Rattle.std.specs.Prelude.{◌≡◌, ◌<◌, ◌⊎◌, None, IsSome, IfSome, IsOk, IfOk, OnErr};
 ghost use Rattle.cache_set.specs.Limits.{most_words};
-ghost use Rattle.snoop_bus.specs.Limits.{most_bus_cores};
 ghost use Rattle.snoop_bus.specs.Copies.{copy_at, ways_of};
 ghost use Rattle.snoop_bus.specs.Held.{counted, IsHeld};
-ghost use Rattle.snoop_bus.specs.Bus.{AllCoherent};
-ghost use Rattle.snoop_bus.specs.Requests.{Loads, KeepsWords};
+ghost use Rattle.snoop_bus.specs.Accessing.{IsReady, Loads, KeepsWords, IsUnchanged};
 
 use crate::access::{Access, AccessKind};
 use crate::cache::Cache;
@@ -29,11 +27,7 @@ pub fn load<P: Protocol>(
     line: u8,
     place: u8,
 ) -> Result<(u32, Access), NoMemory>
-    requires coherent { AllCoherent (counted held caches.old) memory.old }
-    requires awaited { IfSome held (IsHeld caches.old memory.old) }
-    requires core { core < length caches.old }
-    requires few { length caches.old ≤ most_bus_cores }
-    requires line { line < length memory.old }
+    requires ready { IsReady held core line caches.old memory.old }
     requires place { place < most_words }
     requires free { (held ≡ None) ⊎ IsSome (copy_at caches.old core line) }
 
@@ -43,8 +37,7 @@ pub fn load<P: Protocol>(
     ensures ways { ways_of caches.new ≡ ways_of caches.old }
 
     ensures succeeds { IsSome (copy_at caches.old core line) → IsOk result }
-    ensures err_caches { OnErr result (caches.new ≡ caches.old) }
-    ensures err_memory { OnErr result (memory.new ≡ memory.old) }
+    ensures refused { OnErr result (IsUnchanged caches.old caches.new memory.old memory.new) }
 {
     if let Some(copy) = caches[core].look(line).copied() {
         let cache = &mut caches[core];
@@ -68,18 +61,14 @@ fn load_miss<P: Protocol>(
     line: u8,
     place: u8,
 ) -> Result<(u32, Access), NoMemory>
-    requires coherent { AllCoherent caches.old memory.old }
-    requires core { core < length caches.old }
-    requires few { length caches.old ≤ most_bus_cores }
-    requires line { line < length memory.old }
+    requires ready { IsReady None core line caches.old memory.old }
     requires place { place < most_words }
     requires absent { copy_at caches.old core line ≡ None }
 
     ensures ok { IfOk result (λ r. Loads (P.table protocol.now) None core line place caches.old caches.new memory.old memory.new r.0 r.1) }
     ensures words { KeepsWords caches.old caches.new memory.old memory.new }
 
-    ensures err_caches { OnErr result (caches.new ≡ caches.old) }
-    ensures err_memory { OnErr result (memory.new ≡ memory.old) }
+    ensures refused { OnErr result (IsUnchanged caches.old caches.new memory.old memory.new) }
 {
     let found = find(caches, protocol, Request::GetS, line);
     let words = found.words.unwrap_or(memory[usize::from(line)]);

@@ -1,9 +1,10 @@
 //! What the other caches make of a core's request for a line, and what memory gets.
-ghost use Rattle.std.specs.Prelude.{◌≡◌, ◌≢◌, ◌<◌, ◌≤◌, ℕ, None, IfSome, length, map, slice_set, slice_index_or, is_some, option_map, nat_eq, not, ◌&&◌, if◌then◌else◌};
+ghost use Rattle.std.specs.Prelude.{◌≡◌, ◌≢◌, ◌<◌, ◌≤◌, ℕ, None, IfSome, length};
+ghost use Rattle.std.specs.Prelude.{slice_set, slice_index_or, is_some, option_map, if◌then◌else◌};
 ghost use Rattle.snoop_bus.specs.Limits.{most_bus_cores};
 ghost use Rattle.snoop_bus.specs.CacheContents.{requested, dirty_in};
-ghost use Rattle.snoop_bus.specs.Copies.{copy_in, copy_at, cache_of, tags_of, ways_of};
-ghost use Rattle.snoop_bus.specs.Requests.{asked, answered, left_by, LeftByOthers};
+ghost use Rattle.snoop_bus.specs.Copies.{tags_of, ways_of, ways_in, state_in, state_at, OnlyAt};
+ghost use Rattle.snoop_bus.specs.Requests.{asked, answered, left_by, SeenAt, LeftAt, LeftByOthers};
 ghost use Rattle.snoop_bus.specs.MemoryAfter.{written_back};
 
 use crate::bus::MAX_CORES;
@@ -30,10 +31,10 @@ fn snoop_one<P: Protocol>(
     line: u8,
     state: Option<State>,
 )
-    requires state { state ≡ option_map (λ copy. copy.state) (copy_in cache.old line) }
+    requires state { state ≡ state_in cache.old line }
     ensures exact { cache.new ≡ answered (asked (P.table protocol.now) request) line cache.old }
-    ensures copies { (k : ℕ) → copy_in cache.new k ≡ (if nat_eq k line then left_by (asked (P.table protocol.now) request) (copy_in cache.old k) else copy_in cache.old k) }
-    ensures ways { map (λ s. s.ways) cache.new ≡ map (λ s. s.ways) cache.old }
+    ensures copies { OnlyAt line (left_by (asked (P.table protocol.now) request)) cache.old cache.new }
+    ensures ways { ways_in cache.new ≡ ways_in cache.old }
 {
     if let Some(state) = state {
         let next = answer(protocol, request, state).next;
@@ -56,9 +57,9 @@ fn snoop_at<P: Protocol>(
     state: Option<State>,
 )
     requires other { other < length caches.old }
-    requires state { other ≢ core → state ≡ option_map (λ copy. copy.state) (copy_at caches.old other line) }
-    ensures seen { (i : ℕ) → cache_of caches.new i ≡ (if nat_eq i other && not (nat_eq i core) then answered (asked (P.table protocol.now) request) line (cache_of caches.old i) else cache_of caches.old i) }
-    ensures copies { (i k : ℕ) → copy_at caches.new i k ≡ (if nat_eq i other && (not (nat_eq i core) && nat_eq k line) then left_by (asked (P.table protocol.now) request) (copy_at caches.old i k) else copy_at caches.old i k) }
+    requires state { other ≢ core → state ≡ state_at caches.old other line }
+    ensures seen { SeenAt other (asked (P.table protocol.now) request) core line caches.old caches.new }
+    ensures copies { LeftAt other (asked (P.table protocol.now) request) core line caches.old caches.new }
     ensures ways { ways_of caches.new ≡ ways_of caches.old }
 {
     if other == core {
@@ -79,7 +80,7 @@ pub fn snoop_others<P: Protocol>(
     states: &[Option<State>; MAX_CORES as usize],
 )
     requires few { length caches.old ≤ most_bus_cores }
-    requires states { (i : ℕ) → i ≢ core → slice_index_or states.now i None ≡ option_map (λ copy. copy.state) (copy_at caches.old i line) }
+    requires states { (i : ℕ) → i ≢ core → slice_index_or states.now i None ≡ state_at caches.old i line }
     ensures tags { tags_of caches.new ≡ requested (asked (P.table protocol.now) request) core line (tags_of caches.old) }
     ensures copies { LeftByOthers (asked (P.table protocol.now) request) core line caches.old caches.new }
     ensures ways { ways_of caches.new ≡ ways_of caches.old }

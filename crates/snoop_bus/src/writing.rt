@@ -1,15 +1,14 @@
 //! Stores and locked accesses: what writes a word of a line.
 
-ghost use Rattle.std.specs.Prelude.{◌≡◌, ◌≢◌, ◌⊎◌, ◌+◌, ◌%◌, ◌^◌, ◌<◌, ◌≤◌, true, IsTrue, None, IsSome, IfSome, IsOk, IfOk, OnErr, length, option_map};
+ghost use Rattle.std.specs.Prelude.{◌≡◌, ◌≢◌, ◌<◌, None, IsSome, IfSome, IsOk, IfOk, OnErr, length, option_map};
 ghost use Rattle.cache_set.specs.Limits.{most_words};
-ghost use Rattle.snoop_bus.specs.Limits.{most_bus_cores};
 ghost use Rattle.cache_set.specs.Copy.{with_state, with_word};
 ghost use Rattle.snoop_bus.specs.CacheContents.{used_by};
 ghost use Rattle.snoop_bus.specs.Copies.{copy_at, tags_of, ways_of};
-ghost use Rattle.snoop_bus.specs.Asks.{hits};
 ghost use Rattle.snoop_bus.specs.Held.{counted, IsHeld};
 ghost use Rattle.snoop_bus.specs.Bus.{AllCoherent};
-ghost use Rattle.snoop_bus.specs.Requests.{Acquires, Writes, KeepsWords, ChangesCopy};
+ghost use Rattle.snoop_bus.specs.Requests.{ChangesCopy};
+ghost use Rattle.snoop_bus.specs.Accessing.{IsReady, MayWrite, Acquires, Swaps, Adds, KeepsWords, IsUnchanged};
 
 use crate::access::{Access, AccessKind};
 use crate::cache::Cache;
@@ -33,22 +32,17 @@ pub fn swap<P: Protocol>(
     place: u8,
     value: u32,
 ) -> Result<(u32, Access), NoMemory>
-    requires coherent { AllCoherent (counted held caches.old) memory.old }
-    requires awaited { IfSome held (IsHeld caches.old memory.old) }
-    requires core { core < length caches.old }
-    requires few { length caches.old ≤ most_bus_cores }
-    requires line { line < length memory.old }
+    requires ready { IsReady held core line caches.old memory.old }
     requires place { place < most_words }
-    requires free { (held ≡ None) ⊎ IsTrue (hits (P.table protocol.now) core line true (tags_of caches.old)) }
+    requires free { MayWrite (P.table protocol.now) held core line (tags_of caches.old) }
 
-    ensures ok { IfOk result (λ r. Writes (P.table protocol.now) held core line place value caches.old caches.new memory.old memory.new r.0 r.1) }
+    ensures ok { IfOk result (Swaps (P.table protocol.now) held core line place value caches.old caches.new memory.old memory.new) }
     ensures coherent { AllCoherent (counted held caches.new) memory.new }
     ensures awaited { IfSome held (IsHeld caches.new memory.new) }
     ensures ways { ways_of caches.new ≡ ways_of caches.old }
 
     ensures succeeds { IsSome (copy_at caches.old core line) → IsOk result }
-    ensures err_caches { OnErr result (caches.new ≡ caches.old) }
-    ensures err_memory { OnErr result (memory.new ≡ memory.old) }
+    ensures refused { OnErr result (IsUnchanged caches.old caches.new memory.old memory.new) }
 {
     let (words, access) = acquire(caches, memory, protocol, held, core, line)?;
     write(caches, core, line, place, value);
@@ -68,22 +62,17 @@ pub fn add<P: Protocol>(
     place: u8,
     value: u32,
 ) -> Result<(u32, Access), NoMemory>
-    requires coherent { AllCoherent (counted held caches.old) memory.old }
-    requires awaited { IfSome held (IsHeld caches.old memory.old) }
-    requires core { core < length caches.old }
-    requires few { length caches.old ≤ most_bus_cores }
-    requires line { line < length memory.old }
+    requires ready { IsReady held core line caches.old memory.old }
     requires place { place < most_words }
-    requires free { (held ≡ None) ⊎ IsTrue (hits (P.table protocol.now) core line true (tags_of caches.old)) }
+    requires free { MayWrite (P.table protocol.now) held core line (tags_of caches.old) }
 
-    ensures ok { IfOk result (λ r. Writes (P.table protocol.now) held core line place ((r.0 + value) % 2 ^ 32) caches.old caches.new memory.old memory.new r.0 r.1) }
+    ensures ok { IfOk result (Adds (P.table protocol.now) held core line place value caches.old caches.new memory.old memory.new) }
     ensures coherent { AllCoherent (counted held caches.new) memory.new }
     ensures awaited { IfSome held (IsHeld caches.new memory.new) }
     ensures ways { ways_of caches.new ≡ ways_of caches.old }
 
     ensures succeeds { IsSome (copy_at caches.old core line) → IsOk result }
-    ensures err_caches { OnErr result (caches.new ≡ caches.old) }
-    ensures err_memory { OnErr result (memory.new ≡ memory.old) }
+    ensures refused { OnErr result (IsUnchanged caches.old caches.new memory.old memory.new) }
 {
     let (words, access) = acquire(caches, memory, protocol, held, core, line)?;
     let word = words[usize::from(place)];
@@ -103,12 +92,8 @@ fn acquire<P: Protocol>(
     core: usize,
     line: u8,
 ) -> Result<([u32; MAX_WORDS], Access), NoMemory>
-    requires coherent { AllCoherent (counted held caches.old) memory.old }
-    requires awaited { IfSome held (IsHeld caches.old memory.old) }
-    requires core { core < length caches.old }
-    requires few { length caches.old ≤ most_bus_cores }
-    requires line { line < length memory.old }
-    requires free { (held ≡ None) ⊎ IsTrue (hits (P.table protocol.now) core line true (tags_of caches.old)) }
+    requires ready { IsReady held core line caches.old memory.old }
+    requires free { MayWrite (P.table protocol.now) held core line (tags_of caches.old) }
 
     ensures ok { IfOk result (λ r. Acquires (P.table protocol.now) held core line caches.old caches.new memory.old memory.new r.0 r.1) }
     ensures words { KeepsWords (counted held caches.old) (counted held caches.new) memory.old memory.new }
@@ -116,8 +101,7 @@ fn acquire<P: Protocol>(
     ensures ways { ways_of caches.new ≡ ways_of caches.old }
 
     ensures succeeds { IsSome (copy_at caches.old core line) → IsOk result }
-    ensures err_caches { OnErr result (caches.new ≡ caches.old) }
-    ensures err_memory { OnErr result (memory.new ≡ memory.old) }
+    ensures refused { OnErr result (IsUnchanged caches.old caches.new memory.old memory.new) }
 {
     if let Some(copy) = caches[core].look(line).copied() {
         let words = copy.words;
@@ -159,17 +143,13 @@ fn write_miss<P: Protocol>(
     core: usize,
     line: u8,
 ) -> Result<([u32; MAX_WORDS], Access), NoMemory>
-    requires coherent { AllCoherent caches.old memory.old }
-    requires core { core < length caches.old }
-    requires few { length caches.old ≤ most_bus_cores }
-    requires line { line < length memory.old }
+    requires ready { IsReady None core line caches.old memory.old }
     requires absent { copy_at caches.old core line ≡ None }
 
     ensures ok { IfOk result (λ r. Acquires (P.table protocol.now) None core line caches.old caches.new memory.old memory.new r.0 r.1) }
     ensures words { KeepsWords caches.old caches.new memory.old memory.new }
 
-    ensures err_caches { OnErr result (caches.new ≡ caches.old) }
-    ensures err_memory { OnErr result (memory.new ≡ memory.old) }
+    ensures refused { OnErr result (IsUnchanged caches.old caches.new memory.old memory.new) }
 {
     let found = find(caches, protocol, Request::GetM, line);
     let words = found.words.unwrap_or(memory[usize::from(line)]);

@@ -11,7 +11,8 @@ use Rattle.tso_model.specs.Runs.{is_done, all_done, has_ended}
 use Rattle.tso_model.specs.declared.instruction.Instr.{Instr}
 use Rattle.tso_model.specs.declared.execution.Entry.{Entry}
 use Rattle.tso_model.specs.declared.choice.Outcome.{Outcome}
-use Rattle.split_laws.proofs.Basics.{decide, lt-or, test-true, and-left, and-right, Each}
+use Rattle.basic_laws.proofs.Basics.{decide, lt-or, test-true, and-left, and-right}
+use Rattle.basic_laws.proofs.Lists.{Each}
 
 -- after an effect of a core, each core is as before, or is that one
 pub core-cases : (state : State) (c k : ℕ) (f : Effect) → ((k ≡ c) × (c < length state.cores) × (core_of (applied state c f) k ≡ f.after)) ⊎ (core_of (applied state c f) k ≡ core_of state k)

@@ -23,11 +23,11 @@ use Rattle.tso_laws.specs.Choices.{state_after, commits_of}
 use Rattle.split_laws.specs.BusChoices.{state_on, commits_on}
 use Rattle.split_laws.specs.Holders.{HasRead, HolderFits}
 use Rattle.split_laws.specs.BusRuns.{waiting}
-use Rattle.split_laws.proofs.Basics.{decide, test-true}
+use Rattle.basic_laws.proofs.Basics.{decide, test-true}
 use Rattle.split_laws.proofs.Cores.{quiet, quiet-same}
 use Rattle.split_laws.proofs.Steps.{drain-no-lock, choice-plain, choice-pair, Pairs}
 use Rattle.split_laws.proofs.Waiting.{AllStores, choice-stores, access-kept, same-part, reading-kept, reader-writes-nothing, reader-commits-nothing}
-use Rattle.split_laws.proofs.Moving.{moved, moved-plain, Parts, moved-pair, together-pair, Behind, GoesOn, plain-on, load-on, store-on, pair-on}
+use Rattle.split_laws.proofs.Moving.{moved, moved-plain, Parts, moved-pair, together-pair, IsToCome, GoesOn, plain-on, load-on, store-on, pair-on}
 
 -- the same action is the same choice
 pub same-is : (a b : Choice) → same_choice a b ≡ true → a ≡ b
@@ -323,12 +323,12 @@ pub record Follows (bus : Bus) (t : Litmus) (depth : ℕ) (begin : BusState) (co
   pub choices : List Choice
   pub now : state_after t depth begin.flat choices ≡ end.flat
   pub committed : moved begin.holder (put_together commits) ≡ commits_of t depth begin.flat choices ++ waiting end.holder
-  pub behind : Behind begin.holder end.holder commits
+  pub to_come : IsToCome begin.holder end.holder commits
   pub stores : AllStores end.flat
   pub holds : HolderFits bus t depth end.flat end.holder
 
 rests : (bus : Bus) (t : Litmus) (depth : ℕ) (state : BusState) → AllStores state.flat → HolderFits bus t depth state.flat state.holder → Follows bus t depth state [] state
-rests bus t depth state stores fits = record { choices = []; now = refl; committed = go state.holder; behind = record { answered = λ e q. q; paired = tt }; stores = stores; holds = fits }
+rests bus t depth state stores fits = record { choices = []; now = refl; committed = go state.holder; to_come = record { answered = λ e q. q; paired = tt }; stores = stores; holds = fits }
   where
     go : (holder : Holder) → moved holder [] ≡ waiting holder
     go Free = refl
@@ -347,7 +347,7 @@ follows-on bus t depth state a commits end g h =
           ∙ sym (append_assoc (commits_of t depth state.flat g.choices) (commits_of t depth next h.choices) (waiting end.holder))
           ∙ ap (λ z. (commits_of t depth state.flat g.choices ++ commits_of t depth z h.choices) ++ waiting end.holder) (sym g.now)
           ∙ ap (λ z. z ++ waiting end.holder) (sym (commits-append t depth state.flat g.choices h.choices));
-      behind = g.goes_on commits end.holder h.behind;
+      to_come = g.goes_on commits end.holder h.to_come;
       stores = h.stores;
       holds = h.holds;
     }

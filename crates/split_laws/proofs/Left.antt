@@ -14,8 +14,9 @@ use Rattle.tso_model.specs.declared.choice.Choice.TheVariants.{Step, Drain}
 use Rattle.tso_model.specs.declared.choice.Stall.{Stall}
 use Rattle.tso_model.specs.declared.choice.Stall.TheVariants as stall
 use Rattle.tso_laws.specs.Counting.{instructions}
-use Rattle.split_laws.proofs.Draining.{drain_with}
-use Rattle.split_laws.proofs.Basics.{lt-or, drop-at}
+use Rattle.basic_laws.proofs.WithPending.{drain_with}
+use Rattle.basic_laws.proofs.Basics.{lt-or}
+use Rattle.basic_laws.proofs.Lists.{drop-at}
 use Rattle.split_laws.proofs.Cores.{no-program, no-core}
 use Rattle.split_laws.proofs.Steps.{put, StepForm, stalls, buffers, makes, pairs, step-form}
 

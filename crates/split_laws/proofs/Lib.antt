@@ -1,5 +1,3 @@
-pub mod Draining
-pub mod Basics
 pub mod Cores
 pub mod Steps
 pub mod Waiting

@@ -8,7 +8,8 @@ use Rattle.tso_model.specs.Together.{put_before, put_together}
 use Rattle.tso_model.specs.declared.execution.Entry.{Entry}
 use Rattle.tso_model.specs.declared.execution.Kind.TheVariants.{LR, LW}
 use Rattle.split_laws.specs.Between.{IsAnswered, ArePaired}
-use Rattle.split_laws.proofs.Basics.{decide, test-true, Each}
+use Rattle.basic_laws.proofs.Basics.{decide, test-true}
+use Rattle.basic_laws.proofs.Lists.{Each}
 use Rattle.split_laws.proofs.Steps.{IsPlain}
 
 -- what is to come, with the load part that waits put before its store part
@@ -58,13 +59,13 @@ together-pair x y ys p = let k : same_kind x.kind LR ≡ true = rw p.load refl i
 -- ---- between the two parts
 
 -- what is to come after a holder
-pub record Behind (holder next : Holder) (ys : List Entry) : Type 0 where
+pub record IsToCome (holder next : Holder) (ys : List Entry) : Type 0 where
   pub answered : (e : Entry) → holder ≡ HeldBetween e → IsAnswered e ys next
   pub paired : ArePaired ys next
 
 -- with these entries in front the rest goes on from that holder, and not from this one
 abbrev pub GoesOn : Holder → Holder → List Entry → Type 0
-GoesOn holder next xs = (ys : List Entry) (end : Holder) → Behind next end ys → Behind holder end (xs ++ ys)
+GoesOn holder next xs = (ys : List Entry) (end : Holder) → IsToCome next end ys → IsToCome holder end (xs ++ ys)
 
 kind-not : (e : Entry) → same_kind e.kind LR ≡ false → e.kind ≢ LR
 kind-not e h q = let z : same_kind e.kind LR ≡ true = rw q refl in cc

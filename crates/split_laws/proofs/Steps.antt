@@ -21,8 +21,8 @@ use Rattle.tso_model.specs.declared.choice.Choice.TheVariants.{Step, Drain}
 use Rattle.tso_model.specs.declared.choice.Stall.{Stall}
 use Rattle.tso_model.specs.declared.choice.Stall.TheVariants as stall
 use Rattle.tso_model.specs.declared.choice.Outcome.TheVariants.{Committed, Buffered}
-use Rattle.split_laws.proofs.Draining.{drain_with, fenced_with, locked_with}
-use Rattle.split_laws.proofs.Basics.{Each}
+use Rattle.basic_laws.proofs.WithPending.{drain_with, fenced_with, locked_with}
+use Rattle.basic_laws.proofs.Lists.{Each}
 
 -- a plain store of this core, as all that it has pending is
 pub record IsStore (core : ℕ) (e : Entry) : Type 0 where

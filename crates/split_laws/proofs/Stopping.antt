@@ -192,7 +192,7 @@ possible-so-far bus t d commits state p =
       flat_commits = _;
       possible = record { choices = f.choices; commits_are = refl; state_is = f.now };
       together = sym f.committed;
-      pairs = f.behind.paired;
+      pairs = f.to_come.paired;
       holder = f.holds;
     })
 

@@ -14,9 +14,10 @@ use Rattle.tso_model.specs.declared.action.Action.TheVariants.{Store, Load, Move
 use Rattle.tso_model.specs.declared.execution.Entry.{Entry}
 use Rattle.tso_model.specs.declared.choice.Choice.{Choice}
 use Rattle.tso_model.specs.declared.choice.Choice.TheVariants.{Step, Drain}
-use Rattle.split_laws.proofs.Draining.{drain_with}
+use Rattle.basic_laws.proofs.WithPending.{drain_with}
 use Rattle.split_laws.specs.Holders.{HasRead}
-use Rattle.split_laws.proofs.Basics.{test-true, Each, each-append, each-map}
+use Rattle.basic_laws.proofs.Basics.{test-true}
+use Rattle.basic_laws.proofs.Lists.{Each, each-append, each-map}
 use Rattle.split_laws.proofs.Cores.{core-cases, memory-kept, starts-idle}
 use Rattle.split_laws.proofs.Steps.{IsStore, IsPlain, StepForm, stalls, buffers, makes, pairs, step-form, choice-plain, choice-pair}
 

@@ -16,12 +16,12 @@ use Rattle.snoop_bus.specs.Geometry.{IsWithinLimits as IsShape}
 use Rattle.machine_core.specs.Configuration.{Configuration, IsWithinLimits}
 use Rattle.tso_report.specs.Report.{report}
 use Rattle.tso_report.specs.Shown.{Shown}
-use Rattle.tso_cli.specs.Answers.{counts_under, run_text, IsRunAnswer, IsAnswerTo, IsInputAnswer, IsAnswer, too_large, refused, answered, ran}
+use Rattle.tso_cli.specs.Answers.{run_text, IsRunAnswer, IsAnswerTo, IsInputAnswer, IsAnswer, too_large, refused, answered, ran}
 use Rattle.tso_cli.specs.Limits.{IsTaskWithinLimits}
 use Rattle.command_line.specs.Limits.{IsWithinLimits as IsSettingsWithinLimits}
 use Rattle.tso_cli.specs.Parts.{parts_of}
 use Rattle.tso_cli.specs.Headline.{PrintsExecution, PrintsEachRun, HeadlineOf, InputHeadline, Headline}
-use Rattle.tso_cli.specs.Runs.{run_by, run_under, AnswersFitBy, AnswersFit}
+use Rattle.tso_cli.specs.Runs.{run_by, run_under, AnswersFitBy, AnswersFit, counts_under}
 use Rattle.tso_cli.specs.RunTexts.{report_in}
 use Rattle.tso_cli.specs.Simulation.{shown_of}
 use Rattle.tso_cli.specs.declared.task.Task.{Task}
@@ -30,7 +30,8 @@ use Rattle.command_line.specs.declared.settings.Settings.{Settings}
 use Rattle.command_line.specs.declared.settings.Settings.TheVariants as settings
 use Rattle.tso_cli.specs.declared.answer.Status.{Status}
 use Rattle.tso_cli.proofs.CheckLemmas.{check-means, run-spells}
-use Rattle.tso_cli.proofs.OneAnswer.{Texts, short_rest}
+use Rattle.tso_cli.specs.ReadOneWay.{AreReadOneWay}
+use Rattle.tso_cli.proofs.OneAnswer.{short_rest}
 use Rattle.tso_cli.proofs.SweepLemmas.{sweep-means}
 use Rattle.tso_cli.proofs.WitnessLemmas.{Reaching, witness-means}
 
@@ -99,7 +100,7 @@ report-spells t kind c false choices out laws test within fit is ended plain =
     run-spells t kind c (run_under t kind c choices) (shown_of t (counts_under t kind c choices) (run_under t kind c choices)) out test depth within.1 laws.report_spells laws.fits
     (laws.executions (table_of kind) c t choices test fit ended) refl (rw ended at is) (laws.words (table_of kind) c t choices test fit ended).values
 
-answer-means : (task : Task) (t : Litmus) (text out : List ℕ) (status : Status) → Texts → Runs → Reaching → IsTaskWithinLimits task → IsTest t → length text < 2 ^ 64
+answer-means : (task : Task) (t : Litmus) (text out : List ℕ) (status : Status) → AreReadOneWay → Runs → Reaching → IsTaskWithinLimits task → IsTest t → length text < 2 ^ 64
     → IsAnswerTo task t text out status → HeadlineOf task t text out
 answer-means (tasks.Run kind c json) t text out status texts runs reaching within test short is =
     run-means t kind c json text out status (texts.decided (length t.programs) text test.some_core) (λ choices. runs.executions (table_of kind) c t choices test)
@@ -112,7 +113,7 @@ answer-means tasks.Check t text out status texts runs reaching within test short
 answer-means (tasks.Witness depth) t text out status texts runs reaching within test short is =
     witness-means t depth text out status texts reaching test within short is
 
-pub input-means : (task : Task) (input out : List ℕ) (status : Status) → Texts → Runs → Reaching → IsTaskWithinLimits task
+pub input-means : (task : Task) (input out : List ℕ) (status : Status) → AreReadOneWay → Runs → Reaching → IsTaskWithinLimits task
     → IsInputAnswer task input out status → InputHeadline task input out
 input-means task input _ _ texts runs reaching within (too_large large) = record { within = λ small. absurd (omega arith); above = λ _. refl }
 input-means task input _ _ texts runs reaching within (refused fault small is) = record {
@@ -131,12 +132,12 @@ input-means task input _ _ texts runs reaching within (answered t out status sma
   above = λ large. absurd (omega arith);
 }
 
-known-means : (task : Task) (known : Option (List ℕ)) (out : List ℕ) (status : Status) → Texts → Runs → Reaching → IsTaskWithinLimits task
+known-means : (task : Task) (known : Option (List ℕ)) (out : List ℕ) (status : Status) → AreReadOneWay → Runs → Reaching → IsTaskWithinLimits task
     → IfSome known (λ input. IsInputAnswer task input out status) → IfSome known (λ input. InputHeadline task input out)
 known-means task None out status texts runs reaching within is = tt
 known-means task (Some input) out status texts runs reaching within is = input-means task input out status texts runs reaching within is
 
-pub command-means : (s : Settings) (known : Option (List ℕ)) (out : List ℕ) (status : Status) → Texts → Runs → Reaching → IsSettingsWithinLimits s
+pub command-means : (s : Settings) (known : Option (List ℕ)) (out : List ℕ) (status : Status) → AreReadOneWay → Runs → Reaching → IsSettingsWithinLimits s
     → IsAnswer s known out status → Headline s known out
 command-means (settings.Run kind c json) known out status texts runs reaching within is = known-means (tasks.Run kind c json) known out status texts runs reaching within is
 command-means (settings.Sweep kind c plan) known out status texts runs reaching within is = known-means (tasks.Sweep kind c plan) known out status texts runs reaching within is

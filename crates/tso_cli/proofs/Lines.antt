@@ -3,7 +3,7 @@ use Rattle.std.proofs.Common.{◌≡◌, ◌==◌, ◌≢◌, ◌≤◌, ◌<◌
 use Rattle.std.proofs.lemmas.Bool.Decides.{nat_tests}
 use Rattle.std.proofs.Math.Seq.{take-add}
 use Rattle.std.proofs.lemmas.List.{drop-drop, nil_from_length}
-use Rattle.tso_cli.specs.Parts.{line_length, behind_divider, Parts, with_byte, parts_from, parts_of}
+use Rattle.tso_cli.specs.Parts.{line_length, after_divider, Parts, with_byte, parts_from, parts_of}
 
 pub line_within : (text : List ℕ) → line_length text ≤ length text
 unfolding line_length
@@ -41,7 +41,9 @@ pub line_past : (text : List ℕ) (at : ℕ) → length text ≤ at → line_len
 unfolding line_length
 line_past text at past = let nothing : drop at text ≡ [] = nil_from_length (drop at text) (omega (arith, length-drop at text)) in rw nothing refl
 
--- within a line nothing is parted
+pub ruleset line_lengths = (line_more, line_ends, line_past, line_within, line_some)
+
+-- within a line nothing is separated
 within-line : (text : List ℕ) → ((parts_from false text).test ≡ take (line_length text) text ++ (parts_of (drop (line_length text) text)).test) × ((parts_from false text).rest ≡ (parts_of (drop (line_length text) text)).rest)
 unfolding line_length
 within-line [] = (refl, refl)
@@ -53,7 +55,7 @@ within-line (c ∷ cs) = by_feed (c == 10) (within-line cs)
     by_feed true h = (refl, refl)
     by_feed false h = (ap (λ (ds : List ℕ). c ∷ ds) h.0, h.1)
 
-no-divider : (text : List ℕ) → behind_divider text ≡ None → parts_of text ≡ parts_from false text
+no-divider : (text : List ℕ) → after_divider text ≡ None → parts_of text ≡ parts_from false text
 no-divider [] none = refl
 no-divider (c ∷ cs) none = rw none refl
 
@@ -62,7 +64,7 @@ pub record PassedLine (input : List ℕ) (to : ℕ) : Type 0 where
   pub test : (parts_of input).test ≡ take to input ++ (parts_of (drop to input)).test
   pub rest : (parts_of input).rest ≡ (parts_of (drop to input)).rest
 
-pub past-line : (input lines : List ℕ) (at k : ℕ) → at ≤ length input → lines ≡ drop at input → behind_divider lines ≡ None → k ≡ line_length lines
+pub past-line : (input lines : List ℕ) (at k : ℕ) → at ≤ length input → lines ≡ drop at input → after_divider lines ≡ None → k ≡ line_length lines
     → (parts_of input).test ≡ take at input ++ (parts_of (drop at input)).test → (parts_of input).rest ≡ (parts_of (drop at input)).rest → PassedLine input (at + k)
 past-line input lines at k le is none long test rest = rw long (rw is (
     let more = within-line (drop at input) in

@@ -2,42 +2,23 @@
 use Rattle.std.proofs.Common.{◌≡◌, ◌≤◌, ◌<◌, ◌^◌, ℕ, Bool, List, length, Some, refl, sym, ◌∙◌, ap, subst, arith}
 use Rattle.tso_model.specs.Litmus.{Litmus, IsTest}
 use Rattle.tso_model.specs.declared.execution.Entry.{Entry}
-use Rattle.litmus_reader.specs.Spelling.{SpellsTest, IsRefused as IsRefusedTest}
-use Rattle.litmus_reader.specs.declared.fault.TextFault.{TextFault}
 use Rattle.scheduler.specs.Refusals.{IsDecided}
-use Rattle.order_builder.specs.Spelling.{HasFault}
-use Rattle.order_builder.specs.declared.fault.OrderFault.{OrderFault}
 use Rattle.protocol_tables.specs.declared.kind.ProtocolKind.{ProtocolKind}
 use Rattle.machine_core.specs.Configuration.{Configuration}
 use Rattle.tso_cli.specs.Parts.{parts_of}
-use Rattle.tso_cli.specs.Runs.{run_under}
+use Rattle.tso_cli.specs.Runs.{run_under, counts_under}
 use Rattle.tso_cli.specs.Lines.{test_refusal, choices_refusal}
 use Rattle.tso_cli.specs.CheckLines.{order_refusal, invalid_line}
-use Rattle.tso_cli.specs.Answers.{counts_under, run_text, run_status, IsRunAnswer, IsJudgement, IsCheckAnswer, IsAnswerTo, IsInputAnswer, IsAnswer, too_large, refused, answered, ran, judged, valid, invalid}
+use Rattle.tso_cli.specs.Answers.{run_text, run_status, IsRunAnswer, IsJudgement, IsCheckAnswer, IsAnswerTo, IsInputAnswer, IsAnswer, too_large, refused, answered, ran, judged, valid, invalid}
 use Rattle.tso_cli.specs.Witness.{IsWitness, IsWitnessAnswer, reached, too_small, invalid, refused, judged}
 use Rattle.tso_cli.specs.declared.task.Task.{Task}
 use Rattle.tso_cli.specs.declared.task.Task.TheVariants as tasks
 use Rattle.command_line.specs.declared.settings.Settings.{Settings}
 use Rattle.command_line.specs.declared.settings.Settings.TheVariants as settings
 use Rattle.tso_cli.specs.declared.answer.Status.{Status}
-use Rattle.tso_cli.proofs.CheckLemmas.{IsReal, IsOne, IsOnce, IsNeverBoth}
+use Rattle.tso_cli.specs.ReadOneWay.{AreReadOneWay}
+use Rattle.tso_cli.proofs.CheckLemmas.{IsReal, IsOne}
 use Rattle.tso_cli.proofs.PartLemmas.{rest_within}
-
--- what the crates below say of the texts
-abbrev pub IsOneFault : Type 0
-IsOneFault = (t : Litmus) (text : List ℕ) (fault other : OrderFault) → IsTest t → HasFault t text fault → HasFault t text other → fault ≡ other
-
-pub record Texts : Type 0 where
-  pub one_test : (text : List ℕ) (t other : Litmus) → SpellsTest text t → SpellsTest text other → t ≡ other
-  pub refused_or_not : (text : List ℕ) (t : Litmus) (fault : TextFault) → SpellsTest text t → IsRefusedTest text fault → ⊥
-  pub one_refusal : (text : List ℕ) (fault other : TextFault) → IsRefusedTest text fault → IsRefusedTest text other → fault ≡ other
-  pub test : (text : List ℕ) (t : Litmus) → SpellsTest text t → IsTest t
-  pub decided : (cores : ℕ) (text : List ℕ) → 0 < cores → IsDecided cores text
-  pub once : IsOnce
-  pub never_both : IsNeverBoth
-  pub one_fault : IsOneFault
-  pub one : IsOne
-  pub real : IsReal
 
 abbrev pub Same : List ℕ → List ℕ → Status → Status → Type 0
 Same out other status again = (out ≡ other) × (status ≡ again)
@@ -58,7 +39,7 @@ one_judgement t order _ _ _ _ real one (valid is) (invalid b first) = absurd (re
 one_judgement t order _ _ _ _ real one (invalid b first) (valid is) = absurd (real t order b first is)
 one_judgement t order _ _ _ _ real one (invalid b first) (invalid c other) = (ap (invalid_line t) (one t order b c first other), refl)
 
-one_check_answer : (t : Litmus) (text out other : List ℕ) (status again : Status) → Texts → IsTest t → length text < 2 ^ 64
+one_check_answer : (t : Litmus) (text out other : List ℕ) (status again : Status) → AreReadOneWay → IsTest t → length text < 2 ^ 64
     → IsCheckAnswer t text out status → IsCheckAnswer t text other again → Same out other status again
 one_check_answer t text _ _ _ _ law test short (refused f h) (refused g k) = (ap order_refusal (law.one_fault t text f g test h k), refl)
 one_check_answer t text _ _ _ _ law test short (refused f h) (judged order out status spelled is) = absurd (law.never_both t text order f test short spelled h)
@@ -78,7 +59,7 @@ one_witness t depth order _ _ _ _ real one (invalid b first) (reached is enough)
 one_witness t depth order _ _ _ _ real one (invalid b first) (too_small is less) = absurd (real t order b first is)
 one_witness t depth order _ _ _ _ real one (invalid b first) (invalid c other) = (ap (invalid_line t) (one t order b c first other), refl)
 
-one_witness_answer : (t : Litmus) (depth : ℕ) (text out other : List ℕ) (status again : Status) → Texts → IsTest t → length text < 2 ^ 64
+one_witness_answer : (t : Litmus) (depth : ℕ) (text out other : List ℕ) (status again : Status) → AreReadOneWay → IsTest t → length text < 2 ^ 64
     → IsWitnessAnswer t depth text out status → IsWitnessAnswer t depth text other again → Same out other status again
 one_witness_answer t depth text _ _ _ _ law test short (refused f h) (refused g k) = (ap order_refusal (law.one_fault t text f g test h k), refl)
 one_witness_answer t depth text _ _ _ _ law test short (refused f h) (judged order out status spelled is) = absurd (law.never_both t text order f test short spelled h)
@@ -86,7 +67,7 @@ one_witness_answer t depth text _ _ _ _ law test short (judged order out status 
 one_witness_answer t depth text _ _ _ _ law test short (judged order out status spelled is) (judged order2 out2 status2 spelled2 is2) =
     one_witness t depth order2 out out2 status status2 law.real law.one (subst (λ o. IsWitness t depth o out status) (law.once t text order order2 test short spelled spelled2) is) is2
 
-one_answer_to : (task : Task) (t : Litmus) (text out other : List ℕ) (status again : Status) → Texts → IsTest t → length text < 2 ^ 64
+one_answer_to : (task : Task) (t : Litmus) (text out other : List ℕ) (status again : Status) → AreReadOneWay → IsTest t → length text < 2 ^ 64
     → IsAnswerTo task t text out status → IsAnswerTo task t text other again → Same out other status again
 one_answer_to (tasks.Run kind c json) t text out other status again law test short is too = one_run_answer t kind c json text out other status again (law.decided (length t.programs) text test.some_core) is too
 one_answer_to (tasks.Sweep kind c plan) t text out other status again law test short is too = (is.text ∙ sym too.text, is.status_is ∙ sym too.status_is)
@@ -96,7 +77,7 @@ one_answer_to (tasks.Witness depth) t text out other status again law test short
 pub short_rest : (input : List ℕ) → length input ≤ 1048576 → length (parts_of input).rest < 2 ^ 64
 short_rest input small = let within = rest_within input in omega arith
 
-pub one_input_answer : (task : Task) (input out other : List ℕ) (status again : Status) → Texts
+pub one_input_answer : (task : Task) (input out other : List ℕ) (status again : Status) → AreReadOneWay
     → IsInputAnswer task input out status → IsInputAnswer task input other again → Same out other status again
 one_input_answer task input _ _ _ _ law (too_large l) (too_large m) = (refl, refl)
 one_input_answer task input _ _ _ _ law (too_large l) (refused f small h) = absurd (omega arith)
@@ -110,7 +91,7 @@ one_input_answer task input _ _ _ _ law (answered t out status small spelled is)
     one_answer_to task t2 (parts_of input).rest out out2 status status2 law (law.test _ t2 spelled2) (short_rest input small)
     (subst (λ t. IsAnswerTo task t (parts_of input).rest out status) (law.one_test _ t t2 spelled spelled2) is) is2
 
-pub one_answer : (s : Settings) (input out other : List ℕ) (status again : Status) → Texts
+pub one_answer : (s : Settings) (input out other : List ℕ) (status again : Status) → AreReadOneWay
     → IsAnswer s (Some input) out status → IsAnswer s (Some input) other again → Same out other status again
 one_answer (settings.Run kind c json) input out other status again law is too = one_input_answer (tasks.Run kind c json) input out other status again law is too
 one_answer (settings.Sweep kind c plan) input out other status again law is too = one_input_answer (tasks.Sweep kind c plan) input out other status again law is too

@@ -28,9 +28,9 @@ use Rattle.tso_report.specs.Shown.{Shown}
 use Rattle.tso_report.specs.Limits.{longest_report, IsSmall}
 use Rattle.tso_cli.specs.Parts.{Parts, parts_of, joined}
 use Rattle.tso_cli.specs.CheckLines.{valid_line}
-use Rattle.tso_cli.specs.Runs.{run_by, run_under, AnswersFit}
+use Rattle.tso_cli.specs.Runs.{run_by, run_under, AnswersFit, counts_under}
 use Rattle.tso_cli.specs.Simulation.{shown_of}
-use Rattle.tso_cli.specs.Answers.{counts_under, run_text, run_status, IsRunAnswer, IsCheckAnswer, IsInputAnswer, too_large, refused, answered, ran}
+use Rattle.tso_cli.specs.Answers.{run_text, run_status, IsRunAnswer, IsCheckAnswer, IsInputAnswer, too_large, refused, answered, ran}
 use Rattle.tso_cli.specs.declared.task.Task.TheVariants as tasks
 use Rattle.tso_cli.specs.declared.answer.Status.{Status}
 use Rattle.tso_cli.specs.declared.answer.Status.TheVariants.{Good, Unended}
@@ -38,7 +38,7 @@ use Rattle.tso_cli.proofs.BusLemmas.{attempts_in, length-in, run-is}
 use Rattle.tso_cli.proofs.SimulationLemmas.{RunLaws}
 use Rattle.tso_cli.proofs.CountLemmas.{counts-each, counts-few}
 use Rattle.tso_cli.proofs.CheckLemmas.{order-for, valid-answer}
-use Rattle.tso_cli.proofs.OneAnswer.{Texts}
+use Rattle.tso_cli.specs.ReadOneWay.{AreReadOneWay}
 use Rattle.tso_cli.proofs.HeadlineLemmas.{Runs, report-spells}
 
 -- ---- how much a run leaves
@@ -159,31 +159,31 @@ input-ended kind c input _ _ good (too_large large) = absurd (let no : ⊥ = cc 
 input-ended kind c input _ _ good (refused fault small is) = absurd (let no : ⊥ = cc in no)
 input-ended kind c input _ _ good (answered t out status small spelled is) = run-ended t kind c input out status spelled good is
 
-checked : (test out input answer : List ℕ) (status : Status) (t : Litmus) (order : List Entry) → Texts → input ≡ joined test out
+checked : (test out input answer : List ℕ) (status : Status) (t : Litmus) (order : List Entry) → AreReadOneWay → input ≡ joined test out
     → parts_of (joined test out) ≡ record { test = test; rest = out } → length out ≤ longest_report → SpellsTest test t → SpellsOrder t out order → IsTsoExecution t order
     → IsInputAnswer tasks.Check input answer status → (answer ≡ valid_line) × (status ≡ Good)
-checked test out input _ _ t order laws same parted short spelled spells execution (too_large large) =
+checked test out input _ _ t order laws same separated short spelled spells execution (too_large large) =
     let size : length test ≤ 65536 = spelled.is.small in
     absurd (omega (arith, ap (λ (l : List ℕ). length l) same, length-append test (codes "====\n" ++ out), length-append (codes "====\n") out))
-checked test out input _ _ t order laws same parted short spelled spells execution (refused fault small is) =
-    let first : (parts_of input).test ≡ test = ap (λ i. (parts_of i).test) same ∙ ap (λ (p : Parts). p.test) parted in
+checked test out input _ _ t order laws same separated short spelled spells execution (refused fault small is) =
+    let first : (parts_of input).test ≡ test = ap (λ i. (parts_of i).test) same ∙ ap (λ (p : Parts). p.test) separated in
     absurd (laws.refused_or_not test t fault spelled (subst (λ text. IsRefusedTest text fault) first is))
-checked test out input _ _ t order laws same parted short spelled spells execution (answered other answer status small too is) =
-    let first : (parts_of input).test ≡ test = ap (λ i. (parts_of i).test) same ∙ ap (λ (p : Parts). p.test) parted in
-    let second : (parts_of input).rest ≡ out = ap (λ i. (parts_of i).rest) same ∙ ap (λ (p : Parts). p.rest) parted in
+checked test out input _ _ t order laws same separated short spelled spells execution (answered other answer status small too is) =
+    let first : (parts_of input).test ≡ test = ap (λ i. (parts_of i).test) same ∙ ap (λ (p : Parts). p.test) separated in
+    let second : (parts_of input).rest ≡ out = ap (λ i. (parts_of i).rest) same ∙ ap (λ (p : Parts). p.rest) separated in
     let one : other ≡ t = laws.one_test test other t (subst (λ text. SpellsTest text other) first too) spelled in
     valid-answer t out order answer status laws.real laws.once laws.never_both (laws.test test t spelled) (omega arith) spells execution
     (subst (λ (u : Litmus). IsCheckAnswer u out answer status) one (subst (λ text. IsCheckAnswer other text answer status) second is))
 
-pub rechecked : (kind : ProtocolKind) (c : Configuration) (input out answer : List ℕ) (status : Status) → Texts → Runs → RunLaws
+pub rechecked : (kind : ProtocolKind) (c : Configuration) (input out answer : List ℕ) (status : Status) → AreReadOneWay → Runs → RunLaws
     → ((t : Litmus) (kind : ProtocolKind) (c : Configuration) (s : Shown) → IsTest t → IsWithinLimits c → IsSmall t s → length (report t kind c s) ≤ longest_report)
     → IsWithinLimits c → parts_of (joined (parts_of input).test out) ≡ record { test = (parts_of input).test; rest = out }
     → IsInputAnswer (tasks.Run kind c false) input out Good → IsInputAnswer tasks.Check (joined (parts_of input).test out) answer status → (answer ≡ valid_line) × (status ≡ Good)
-rechecked kind c input out answer status texts runs laws short within parted is answered_so =
+rechecked kind c input out answer status texts runs laws short within separated is answered_so =
     let e = input-ended kind c input out Good refl is in
     let test = texts.test (parts_of input).test e.t e.spelled in
     let printed : out ≡ report e.t kind c (shown_of e.t (counts_under e.t kind c e.choices) (run_under e.t kind c e.choices)) = rw e.ended at e.is in
     let size : length out ≤ longest_report =
     subst (λ (o : List ℕ). length o ≤ longest_report) (sym printed) (short e.t kind c (shown_of e.t (counts_under e.t kind c e.choices) (run_under e.t kind c e.choices)) test within (small-run e.t kind c e.choices runs laws test e.few e.fit e.ended)) in
-    checked (parts_of input).test out (joined (parts_of input).test out) answer status e.t (run_under e.t kind c e.choices).commits texts refl parted size e.spelled
+    checked (parts_of input).test out (joined (parts_of input).test out) answer status e.t (run_under e.t kind c e.choices).commits texts refl separated size e.spelled
     (report-spells e.t kind c false e.choices out runs test within e.fit e.is e.ended refl) (runs.executions (table_of kind) c e.t e.choices test e.fit e.ended).order answered_so

@@ -14,22 +14,22 @@ use Rattle.tso_laws.specs.Along.{choices_along, LeadTo}
 use Rattle.tso_laws.specs.Depth.{needed}
 use Rattle.litmus_reader.specs.Spelling.{SpellsTest, IsRefused as IsRefusedTest}
 use Rattle.scheduler.specs.Grammar.{SpellsChoices}
-use Rattle.scheduler.specs.Printed.{printed_choice, printed_behind, printed_choices}
+use Rattle.scheduler.specs.Printed.{printed_choice, printed_after, printed_choices}
 use Rattle.order_builder.specs.Spelling.{SpellsOrder}
 use Rattle.protocol_tables.specs.Tables.{table_of}
 use Rattle.protocol_tables.specs.declared.kind.ProtocolKind.{ProtocolKind}
 use Rattle.machine_core.specs.Configuration.{Configuration, IsWithinLimits}
 use Rattle.tso_cli.specs.Parts.{Parts, parts_of, joined}
-use Rattle.tso_cli.specs.Runs.{run_under}
+use Rattle.tso_cli.specs.Runs.{run_under, counts_under}
 use Rattle.tso_cli.specs.RunTexts.{report_in}
 use Rattle.tso_cli.specs.Simulation.{shown_of}
 use Rattle.tso_cli.specs.Witness.{choices_line, IsWitness, IsWitnessAnswer, ReportsOrder, reached, too_small, invalid, refused, judged}
-use Rattle.tso_cli.specs.Answers.{counts_under, IsRunAnswer, IsInputAnswer, too_large, refused, answered, ran}
+use Rattle.tso_cli.specs.Answers.{IsRunAnswer, IsInputAnswer, too_large, refused, answered, ran}
 use Rattle.tso_cli.specs.declared.task.Task.TheVariants as tasks
 use Rattle.tso_cli.specs.declared.answer.Status.{Status}
 use Rattle.tso_cli.specs.declared.answer.Status.TheVariants.{Good}
 use Rattle.tso_cli.proofs.BusLemmas.{atomic-run}
-use Rattle.tso_cli.proofs.OneAnswer.{Texts}
+use Rattle.tso_cli.specs.ReadOneWay.{AreReadOneWay}
 use Rattle.tso_cli.proofs.WitnessLemmas.{Reaching, choices-few, line-spells}
 
 -- ---- the line of choices is short
@@ -38,21 +38,21 @@ choice-short : (c : Choice) → chosen c < 8 → length (printed_choice c) ≤ 5
 choice-short (Step core) small = let digits = length-decimal-le 1 core.0 (omega arith) (omega arith) (omega arith) in omega (arith, length-append (decimal core.0) (codes "s"))
 choice-short (Drain core) small = let digits = length-decimal-le 1 core.0 (omega arith) (omega arith) (omega arith) in omega (arith, length-append (decimal core.0) (codes "d"))
 
-behind-short : (cores : ℕ) (cs : List Choice) → cores ≤ 8 → CoresExist cores cs → length (printed_behind cs) ≤ 6 * length cs
-behind-short cores [] few there = omega arith
-behind-short cores (c ∷ cs) few there =
+after-short : (cores : ℕ) (cs : List Choice) → cores ≤ 8 → CoresExist cores cs → length (printed_after cs) ≤ 6 * length cs
+after-short cores [] few there = omega arith
+after-short cores (c ∷ cs) few there =
     let below : chosen c < 8 = let b = there.0 in omega (arith, b, few) in
     let first = choice-short c below in
-    let others = behind-short cores cs few there.1 in
-    omega (arith, length-append (printed_choice c) (printed_behind cs))
+    let others = after-short cores cs few there.1 in
+    omega (arith, length-append (printed_choice c) (printed_after cs))
 
 choices-short : (cores : ℕ) (cs : List Choice) → cores ≤ 8 → CoresExist cores cs → length (printed_choices cs) ≤ 6 * length cs
 choices-short cores [] few there = omega arith
 choices-short cores (c ∷ cs) few there =
     let below : chosen c < 8 = let b = there.0 in omega (arith, b, few) in
     let first = choice-short c below in
-    let others = behind-short cores cs few there.1 in
-    omega (arith, length-append (printed_choice c) (printed_behind cs))
+    let others = after-short cores cs few there.1 in
+    omega (arith, length-append (printed_choice c) (printed_after cs))
 
 line-short : (t : Litmus) (depth : ℕ) (choices : List Choice) (order : List Entry) → Reaching → IsTest t → LeadTo t depth choices order
     → length (choices_line choices) ≤ 4000
@@ -96,7 +96,7 @@ abbrev Replays : ProtocolKind → Configuration → Bool → Litmus → List Ent
 Replays kind c json t order answer status =
     (answer ≡ report_in json t kind c (shown_of t (counts_under t kind c (choices_along t order)) (run t c.depth (choices_along t order)))) × (status ≡ Good)
 
-replays : (kind : ProtocolKind) (c : Configuration) (json : Bool) (t : Litmus) (order : List Entry) (out answer : List ℕ) (status : Status) → Texts → IsTest t
+replays : (kind : ProtocolKind) (c : Configuration) (json : Bool) (t : Litmus) (order : List Entry) (out answer : List ℕ) (status : Status) → AreReadOneWay → IsTest t
     → SpellsChoices (length t.programs) out (choices_along t order) → c.bus ≡ Atomic → (run t c.depth (choices_along t order)).ended ≡ true
     → IsRunAnswer t kind c json out answer status → Replays kind c json t order answer status
 replays kind c json t order out _ _ laws test spells atomic ended (refused fault h) =
@@ -107,28 +107,28 @@ replays kind c json t order out _ _ laws test spells atomic ended (ran choices r
     atomic-run (table_of kind) c t choices atomic ∙ ap (λ (cs : List Choice). run t c.depth cs) same in
     rw (flat, same, ended) (refl, refl)
 
-replayed-joined : (kind : ProtocolKind) (c : Configuration) (json : Bool) (test out input answer : List ℕ) (status : Status) (t : Litmus) (order : List Entry) → Texts
+replayed-joined : (kind : ProtocolKind) (c : Configuration) (json : Bool) (test out input answer : List ℕ) (status : Status) (t : Litmus) (order : List Entry) → AreReadOneWay
     → input ≡ joined test out → parts_of (joined test out) ≡ record { test = test; rest = out } → length out ≤ 4000 → SpellsTest test t
     → SpellsChoices (length t.programs) out (choices_along t order) → c.bus ≡ Atomic → (run t c.depth (choices_along t order)).ended ≡ true
     → IsInputAnswer (tasks.Run kind c json) input answer status → Replays kind c json t order answer status
-replayed-joined kind c json test out input _ _ t order laws same parted short spelled spells atomic ended (too_large large) =
+replayed-joined kind c json test out input _ _ t order laws same separated short spelled spells atomic ended (too_large large) =
     let size : length test ≤ 65536 = spelled.is.small in
     absurd (omega (arith, ap (λ (l : List ℕ). length l) same, length-append test (codes "====\n" ++ out), length-append (codes "====\n") out))
-replayed-joined kind c json test out input _ _ t order laws same parted short spelled spells atomic ended (refused fault small is) =
-    let first : (parts_of input).test ≡ test = ap (λ i. (parts_of i).test) same ∙ ap (λ (p : Parts). p.test) parted in
+replayed-joined kind c json test out input _ _ t order laws same separated short spelled spells atomic ended (refused fault small is) =
+    let first : (parts_of input).test ≡ test = ap (λ i. (parts_of i).test) same ∙ ap (λ (p : Parts). p.test) separated in
     absurd (laws.refused_or_not test t fault spelled (subst (λ text. IsRefusedTest text fault) first is))
-replayed-joined kind c json test out input _ _ t order laws same parted short spelled spells atomic ended (answered other answer status small too is) =
-    let first : (parts_of input).test ≡ test = ap (λ i. (parts_of i).test) same ∙ ap (λ (p : Parts). p.test) parted in
-    let second : (parts_of input).rest ≡ out = ap (λ i. (parts_of i).rest) same ∙ ap (λ (p : Parts). p.rest) parted in
+replayed-joined kind c json test out input _ _ t order laws same separated short spelled spells atomic ended (answered other answer status small too is) =
+    let first : (parts_of input).test ≡ test = ap (λ i. (parts_of i).test) same ∙ ap (λ (p : Parts). p.test) separated in
+    let second : (parts_of input).rest ≡ out = ap (λ i. (parts_of i).rest) same ∙ ap (λ (p : Parts). p.rest) separated in
     let one : other ≡ t = laws.one_test test other t (subst (λ text. SpellsTest text other) first too) spelled in
     replays kind c json t order out answer status laws (laws.test test t spelled) spells atomic ended
     (subst (λ (u : Litmus). IsRunAnswer u kind c json out answer status) one (subst (λ text. IsRunAnswer other kind c json text answer status) second is))
 
-pub replayed : (kind : ProtocolKind) (c : Configuration) (json : Bool) (input out answer : List ℕ) (status : Status) → Texts → Reaching → c.bus ≡ Atomic → IsWithinLimits c
+pub replayed : (kind : ProtocolKind) (c : Configuration) (json : Bool) (input out answer : List ℕ) (status : Status) → AreReadOneWay → Reaching → c.bus ≡ Atomic → IsWithinLimits c
     → parts_of (joined (parts_of input).test out) ≡ record { test = (parts_of input).test; rest = out }
     → IsInputAnswer (tasks.Witness c.depth) input out Good → IsInputAnswer (tasks.Run kind c json) (joined (parts_of input).test out) answer status
     → ReportsOrder kind c json (parts_of input) answer × (status ≡ Good)
-replayed kind c json input out answer status texts reaching atomic within parted is answered_so =
+replayed kind c json input out answer status texts reaching atomic within separated is answered_so =
     let f = found c.depth input out Good refl is in
     let test = texts.test (parts_of input).test f.t f.test_spelled in
     let choices : List Choice = choices_along f.t f.order in
@@ -136,7 +136,7 @@ replayed kind c json input out answer status texts reaching atomic within parted
     let spells : SpellsChoices (length f.t.programs) out choices =
     subst (λ text. SpellsChoices (length f.t.programs) text choices) (sym f.is) (line-spells f.t c.depth choices f.order reaching test lead) in
     let short : length out ≤ 4000 = subst (λ (text : List ℕ). length text ≤ 4000) (sym f.is) (line-short f.t c.depth choices f.order reaching test lead) in
-    let answers = replayed-joined kind c json (parts_of input).test out (joined (parts_of input).test out) answer status f.t f.order texts refl parted short f.test_spelled spells atomic lead.ended answered_so in (
+    let answers = replayed-joined kind c json (parts_of input).test out (joined (parts_of input).test out) answer status f.t f.order texts refl separated short f.test_spelled spells atomic lead.ended answered_so in (
       record {
         t = f.t;
         order = f.order;

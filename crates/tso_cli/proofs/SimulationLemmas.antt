@@ -4,7 +4,7 @@ use Rattle.std.specs.Option.{option_map}
 use Rattle.tso_model.specs.Litmus.{Litmus}
 use Rattle.tso_model.specs.Execution.{StandsIn, KeepsAllOrder}
 use Rattle.tso_model.specs.Condition.{Condition, truth_of}
-use Rattle.tso_model.specs.FlatMachine.{State}
+use Rattle.tso_model.specs.FlatMachine.{State, registers_in}
 use Rattle.tso_model.specs.Runs as flat
 use Rattle.tso_model.specs.Runs.{Run, has_ended}
 use Rattle.tso_model.specs.SplitMachine.{Attempt}
@@ -31,7 +31,7 @@ use Rattle.tso_report.specs.Shown.{Shown}
 use Rattle.tso_cli.specs.Runs.{run_by, AnswersFitBy}
 use Rattle.tso_cli.specs.declared.simulation.Ending.{Ending}
 use Rattle.tso_cli.specs.declared.simulation.Ending.TheVariants.{Ended, Unfinished}
-use Rattle.tso_cli.specs.Simulation.{Drives, shown_of, verdict, registers_in, IsEndingOf, IsCounted, HasAllOrder, HasEnded, drains}
+use Rattle.tso_cli.specs.Simulation.{Drives, shown_of, verdict, IsEndingOf, IsCounted, HasAllOrder, HasEnded, drains}
 use Rattle.tso_cli.proofs.BusLemmas.{AtomicRuns, attempts_in, bus_run, choices-in, length-in, run-is, atomic-run}
 
 -- what the laws of either bus say of runs

@@ -4,6 +4,7 @@ use Rattle.std.proofs.lemmas.Bool.Decides.{nat_tests}
 use Rattle.std.specs.Prelude.{bytes_eq, sum}
 use Rattle.std.specs.Option.{option_map}
 use Rattle.std.specs.Map.{values_of}
+use Rattle.tso_model.specs.FlatMachine.{registers_in}
 use Rattle.tso_model.specs.Litmus.{Litmus}
 use Rattle.tso_model.specs.Execution.{IsTsoExecution, KeepsAllOrder}
 use Rattle.tso_model.specs.Condition.{Condition, truth_of}
@@ -19,7 +20,7 @@ use Rattle.tso_report.specs.Report.{head}
 use Rattle.tso_report.specs.Tally.{RunCounts, with_state, with_verdict, values_in, count_of, runs_in, tally_text}
 use Rattle.command_line.specs.Plan.{Plan}
 use Rattle.tso_cli.specs.Runs.{run_under, AnswersFit}
-use Rattle.tso_cli.specs.Simulation.{registers_in, verdict}
+use Rattle.tso_cli.specs.Simulation.{verdict}
 use Rattle.tso_cli.specs.Sweep.{choices_of, seeded_run, with_one_run, counts_from, sweep_counts, sweep_lines, AnswersFitFrom, IsSweepAnswer}
 use Rattle.tso_cli.specs.Headline.{has_values, has_truth, seeds_from, PrintsSweep}
 use Rattle.tso_cli.specs.declared.answer.Status.{Status}

@@ -3,7 +3,7 @@ use Rattle.std.proofs.Common.{◌≡◌, ℕ, Bool, true, false, if◌then◌els
 use Rattle.std.specs.List.{list_any}
 use Rattle.tso_model.specs.Litmus.{Litmus}
 use Rattle.tso_model.specs.ProgramOrder.{writes_to}
-use Rattle.tso_model.specs.FlatMachine.{State, chosen, core_of}
+use Rattle.tso_model.specs.FlatMachine.{State, chosen, core_of, registers_in}
 use Rattle.tso_model.specs.Runs.{Run, has_ended}
 use Rattle.tso_model.specs.Access.{Access, NoAccess, Reads, Writes, Locks, access_of}
 use Rattle.tso_model.specs.EitherBus.{BusState, effect_on, after_on}
@@ -25,8 +25,8 @@ use Rattle.machine_core.specs.Configuration.{Configuration}
 use Rattle.machine_core.specs.Statistics.{Statistics, statistics_from, statistics_after}
 use Rattle.machine_core.specs.Running.{Running, new_machine, restarted, is_ended}
 use Rattle.tso_report.specs.Tally.{RunCounts, with_state, with_verdict, with_unfinished, values_in}
-use Rattle.tso_cli.specs.Runs.{run_by, run_under, run_on_machine, AnswersFit, AnswersFitBy, AnswersFitOn}
-use Rattle.tso_cli.specs.Simulation.{Drives, registers_in, verdict}
+use Rattle.tso_cli.specs.Runs.{run_by, run_under, machine_run, AnswersFit, AnswersFitBy, AnswersFitOn}
+use Rattle.tso_cli.specs.Simulation.{Drives, verdict}
 use Rattle.tso_cli.specs.Sweep.{with_one_run}
 use Rattle.tso_cli.proofs.BusLemmas.{bus_run, run-is}
 use Rattle.tso_cli.proofs.SimulationLemmas.{RunLaws, IsDriven, from-new, ended-as-driven}
@@ -126,7 +126,7 @@ by-rows : (b : Bus) (table : Table) (config : Configuration) (t : Litmus) (choic
 by-rows Atomic table config t choices = refl
 by-rows Split table config t choices = refl
 
-pub run-on-new : (table : Table) (config : Configuration) (t : Litmus) (choices : List Choice) → run_on_machine (new_machine table config t) choices ≡ run_by config.bus table config t choices
+pub run-on-new : (table : Table) (config : Configuration) (t : Litmus) (choices : List Choice) → machine_run (new_machine table config t) choices ≡ run_by config.bus table config t choices
 run-on-new table config t choices = by-rows config.bus table config t choices
 
 fit-on-new : (table : Table) (config : Configuration) (t : Litmus) (choices : List Choice) → AnswersFitOn (new_machine table config t) choices → AnswersFitBy table config t choices
@@ -138,8 +138,8 @@ beginning-new table config t m new = new ∙ sym (ap restarted new)
 
 -- of a machine that is like a new one, on which a protocol's table stands
 module _ (table : Table) (config : Configuration) (t : Litmus) (kind : ProtocolKind) (m : Running) (choices : List Choice) (new : m ≡ new_machine table config t) (is : table ≡ table_of_kind kind) where
-  pub run-is-under : run_on_machine m choices ≡ run_under t kind config choices
-  run-is-under = ap (λ (o : Running). run_on_machine o choices) new ∙ run-on-new table config t choices ∙ ap (λ (u : Table). run_by config.bus u config t choices) is
+  pub run-is-under : machine_run m choices ≡ run_under t kind config choices
+  run-is-under = ap (λ (o : Running). machine_run o choices) new ∙ run-on-new table config t choices ∙ ap (λ (u : Table). run_by config.bus u config t choices) is
 
   pub fits-under : AnswersFitOn m choices → AnswersFit t kind config choices
   fits-under fit = subst (λ (u : Table). AnswersFitBy u config t choices) is (fit-on-new table config t choices (subst (λ (o : Running). AnswersFitOn o choices) new fit))

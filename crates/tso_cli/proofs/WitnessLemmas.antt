@@ -27,7 +27,7 @@ use Rattle.tso_cli.specs.declared.simulation.Ending.TheVariants.{Ended, Unfinish
 use Rattle.tso_cli.specs.declared.answer.Status.{Status}
 use Rattle.tso_cli.specs.declared.answer.Status.TheVariants.{Good}
 use Rattle.tso_cli.proofs.CheckLemmas.{IsReal}
-use Rattle.tso_cli.proofs.OneAnswer.{Texts}
+use Rattle.tso_cli.specs.ReadOneWay.{AreReadOneWay}
 
 -- what the crates below say of choices that reach an order
 pub record Reaching : Type 0 where
@@ -98,7 +98,7 @@ order-means t depth order _ _ laws test within (too_small is less) =
     unreached is (λ choices. laws.never t depth order choices test (let least = within.0 in omega arith) less) refl
 order-means t depth order _ _ laws test within (invalid b first) = broken b first refl
 
-pub witness-means : (t : Litmus) (depth : ℕ) (text out : List ℕ) (status : Status) → Texts → Reaching → IsTest t → IsDepth depth → length text < 2 ^ 64
+pub witness-means : (t : Litmus) (depth : ℕ) (text out : List ℕ) (status : Status) → AreReadOneWay → Reaching → IsTest t → IsDepth depth → length text < 2 ^ 64
     → IsWitnessAnswer t depth text out status → WitnessesEachOrder t depth text out
 witness-means t depth text _ _ texts laws test within short (refused fault has) = record {
   every_order = λ order spelled. absurd (texts.never_both t text order fault test short spelled has);

@@ -1,5 +1,5 @@
 -- The answer to an input: what is written, and the status. (This project's profile.)
-use Rattle.std.specs.Prelude.{ℕ, ◌+◌, ◌<◌, ◌≤◌, ◌≡◌, Bool, if◌then◌else◌, List, length, Option, IfSome}
+use Rattle.std.specs.Prelude.{ℕ, ◌+◌, ◌<◌, ◌≤◌, ◌≡◌, Bool, if◌then◌else◌, List, length, Option, IfSome, string_bytes}
 use Rattle.tso_model.specs.Litmus.{Litmus}
 use Rattle.tso_model.specs.Execution.{IsTsoExecution}
 use Rattle.tso_model.specs.Runs.{Run}
@@ -8,7 +8,7 @@ use Rattle.tso_model.specs.declared.choice.Choice.{Choice}
 use Rattle.litmus_reader.specs.Spelling.{SpellsTest, IsRefused as IsRefusedTest}
 use Rattle.litmus_reader.specs.declared.fault.TextFault.{TextFault}
 use Rattle.scheduler.specs.Grammar.{SpellsChoices}
-use Rattle.scheduler.specs.Refusals.{IsRefused as AreRefusedChoices}
+use Rattle.scheduler.specs.Refusals.{IsRefusedAsChoices}
 use Rattle.scheduler.specs.declared.fault.ChoiceFault.{ChoiceFault}
 use Rattle.order_builder.specs.Spelling.{SpellsOrder, HasFault}
 use Rattle.order_builder.specs.declared.fault.OrderFault.{OrderFault}
@@ -19,13 +19,12 @@ use Rattle.protocol_tables.specs.Tables.{table_of}
 use Rattle.protocol_tables.specs.PrintedTable.{printed_table}
 use Rattle.protocol_tables.specs.declared.kind.ProtocolKind.{ProtocolKind}
 use Rattle.machine_core.specs.Configuration.{Configuration}
-use Rattle.machine_core.specs.Statistics.{counts_of}
 use Rattle.machine_core.specs.declared.counts.Counts.{Counts}
 use Rattle.tso_cli.specs.Limits.{longest_input}
 use Rattle.tso_cli.specs.Parts.{parts_of}
 use Rattle.tso_cli.specs.Lines.{input_refusal, test_refusal, choices_refusal}
 use Rattle.tso_cli.specs.RunTexts.{report_in, unfinished_in}
-use Rattle.tso_cli.specs.Runs.{run_under, AnswersFit}
+use Rattle.tso_cli.specs.Runs.{run_under, counts_under, AnswersFit}
 use Rattle.tso_cli.specs.Sweep.{IsSweepAnswer}
 use Rattle.tso_cli.specs.CheckLines.{order_refusal, valid_line, invalid_line}
 use Rattle.tso_cli.specs.Witness.{IsWitnessAnswer}
@@ -34,12 +33,14 @@ use Rattle.tso_cli.specs.declared.task.Task.{Task}
 use Rattle.tso_cli.specs.declared.task.Task.TheVariants as tasks
 use Rattle.command_line.specs.declared.settings.Settings.{Settings}
 use Rattle.command_line.specs.declared.settings.Settings.TheVariants as settings
+use Rattle.tso_cli.specs.declared.answer.Answer.{Answer}
 use Rattle.tso_cli.specs.declared.answer.Status.{Status}
 use Rattle.tso_cli.specs.declared.answer.Status.TheVariants.{Good, Refused, Unended, Invalid}
 
--- the counts of each core's accesses in a test's run
-abbrev pub counts_under : Litmus → ProtocolKind → Configuration → List Choice → List Counts
-counts_under t kind c choices = counts_of c.bus (table_of kind) c.shape t c.depth choices
+-- an answer has these bytes, and this status
+pub record Says (answer : Answer) (out : List ℕ) (how : Status) : Type 0 where
+  pub text : string_bytes answer.text ≡ out
+  pub status : answer.status ≡ how
 
 -- what is written of a run with these counts: the report where it ended, else how far it came
 abbrev pub run_text : Litmus → ProtocolKind → Configuration → Bool → List Counts → Run → List ℕ
@@ -48,13 +49,24 @@ run_text t kind c json counts r = if r.ended then report_in json t kind c (shown
 abbrev pub run_status : Run → Status
 run_status r = if r.ended then Good else Unended
 
+-- the same of a test's run under choices
+abbrev pub text_under : Litmus → ProtocolKind → Configuration → Bool → List Choice → List ℕ
+text_under t kind c json choices = run_text t kind c json (counts_under t kind c choices) (run_under t kind c choices)
+
+abbrev pub status_under : Litmus → ProtocolKind → Configuration → List Choice → Status
+status_under t kind c choices = run_status (run_under t kind c choices)
+
+-- an answer is that of this run
+abbrev pub SaysRun : Litmus → ProtocolKind → Configuration → Bool → List Choice → Answer → Type 0
+SaysRun t kind c json choices answer = Says answer (text_under t kind c json choices) (status_under t kind c choices)
+
 -- the answer of `run` to a test and the text of its choices, plain or as JSON; a refusal is the same line either way;
 -- along a run the caches answered as caches may
 pub data IsRunAnswer (t : Litmus) (kind : ProtocolKind) (c : Configuration) (json : Bool) (text : List ℕ) : List ℕ → Status → Type 0 where
-  refused : (fault : ChoiceFault) → AreRefusedChoices (length t.programs) text fault
+  refused : (fault : ChoiceFault) → IsRefusedAsChoices (length t.programs) text fault
       → IsRunAnswer t kind c json text (choices_refusal fault) Refused
   ran : (choices : List Choice) → SpellsChoices (length t.programs) text choices → AnswersFit t kind c choices
-      → IsRunAnswer t kind c json text (run_text t kind c json (counts_under t kind c choices) (run_under t kind c choices)) (run_status (run_under t kind c choices))
+      → IsRunAnswer t kind c json text (text_under t kind c json choices) (status_under t kind c choices)
 
 -- the answer of `check` to a test and an order of it
 pub data IsJudgement (t : Litmus) (order : List Entry) : List ℕ → Status → Type 0 where
@@ -87,13 +99,16 @@ pub record IsTableAnswer (kind : ProtocolKind) (out : List ℕ) (status : Status
   pub text : out ≡ printed_table (protocol_name kind) (table_of kind)
   pub status_is : status ≡ Good
 
--- the answer of a command to the bytes that its reader has, where they are known; `tables` reads none, and answers
--- the same to every reader
+-- the answer to the bytes that a reader has, where they are known
+abbrev pub IsReadAnswer : Task → Option (List ℕ) → List ℕ → Status → Type 0
+IsReadAnswer task known out status = IfSome known (λ input. IsInputAnswer task input out status)
+
+-- the answer of a command to these bytes; `tables` reads none, and answers the same to every reader
 abbrev pub IsAnswer : Settings → Option (List ℕ) → List ℕ → Status → Type 0
-IsAnswer (settings.Run kind config json) known out status = IfSome known (λ input. IsInputAnswer (tasks.Run kind config json) input out status)
-IsAnswer (settings.Sweep kind config plan) known out status = IfSome known (λ input. IsInputAnswer (tasks.Sweep kind config plan) input out status)
-IsAnswer settings.Check known out status = IfSome known (λ input. IsInputAnswer tasks.Check input out status)
-IsAnswer (settings.Witness depth) known out status = IfSome known (λ input. IsInputAnswer (tasks.Witness depth) input out status)
+IsAnswer (settings.Run kind config json) known out status = IsReadAnswer (tasks.Run kind config json) known out status
+IsAnswer (settings.Sweep kind config plan) known out status = IsReadAnswer (tasks.Sweep kind config plan) known out status
+IsAnswer settings.Check known out status = IsReadAnswer tasks.Check known out status
+IsAnswer (settings.Witness depth) known out status = IsReadAnswer (tasks.Witness depth) known out status
 IsAnswer (settings.Tables kind) known out status = IsTableAnswer kind out status
 
 -- how many bytes are read, at most: one more than an input may have shows that it has too many

@@ -2,13 +2,15 @@
 use Rattle.std.specs.Prelude.{ℕ, List, [], ◌++◌, slice_index_or, codes}
 use Rattle.std.specs.Fmt.{decimal}
 use Rattle.tso_model.specs.Litmus.{Litmus}
+use Rattle.tso_model.specs.declared.execution.Entry.{Entry}
 use Rattle.tso_model.specs.declared.execution.Kind.{Kind}
 use Rattle.tso_model.specs.declared.execution.Kind.TheVariants.{F}
 use Rattle.order_builder.specs.PrintedOrder.{letters_of, printed_entry, HasLocation, IsLocationFor}
 use Rattle.order_builder.specs.declared.fault.OrderFault.{OrderFault}
 use Rattle.order_builder.specs.declared.fault.OrderFault.TheVariants as orders
 use Rattle.axiom_checker.specs.declared.breach.Breach.{Breach}
-use Rattle.axiom_checker.specs.declared.breach.Breach.TheVariants.{Extra, Twice, Missing, WrongValue, ProgramOrder, NotAdjacent, ReadValue, NoMemory}
+use Rattle.axiom_checker.specs.declared.breach.Breach.TheVariants.{Extra, Twice, Missing, WrongValue, ProgramOrder}
+use Rattle.axiom_checker.specs.declared.breach.Breach.TheVariants.{NotAdjacent, ReadValue, NoMemory}
 use Rattle.tso_report.specs.Report.{line}
 
 -- why an order is refused; being out of memory is no refusal and has no line
@@ -28,15 +30,23 @@ abbrev pub missing_action : Litmus → ℕ → ℕ → Kind → ℕ → List ℕ
 missing_action t core place kind loc =
     codes "P" ++ (decimal core ++ (codes ":" ++ (decimal place ++ (codes " " ++ (letters_of kind ++ missing_access t kind loc)))))
 
+-- an entry, and the value that it should have
+abbrev pub entry_with_due : Litmus → Entry → ℕ → List ℕ
+entry_with_due t x due = printed_entry t x ++ (codes " due=" ++ decimal due)
+
+-- an entry, and one that it stands after
+abbrev pub entry_after : Litmus → Entry → Entry → List ℕ
+entry_after t x y = printed_entry t x ++ (codes " after " ++ printed_entry t y)
+
 -- the axiom that is broken, and by what
 abbrev pub breach_text : Litmus → Breach → List ℕ
 breach_text t (Extra x) = codes "C1 extra " ++ printed_entry t x
 breach_text t (Twice x) = codes "C1 twice " ++ printed_entry t x
 breach_text t (Missing core place kind loc) = codes "C1 missing " ++ missing_action t core.0 place kind loc.0
-breach_text t (WrongValue x due) = codes "C2 " ++ (printed_entry t x ++ (codes " due=" ++ decimal due))
-breach_text t (ProgramOrder x y) = codes "C3 " ++ (printed_entry t x ++ (codes " after " ++ printed_entry t y))
+breach_text t (WrongValue x due) = codes "C2 " ++ entry_with_due t x due
+breach_text t (ProgramOrder x y) = codes "C3 " ++ entry_after t x y
 breach_text t (NotAdjacent x) = codes "C4 " ++ printed_entry t x
-breach_text t (ReadValue x due) = codes "C5 " ++ (printed_entry t x ++ (codes " due=" ++ decimal due))
+breach_text t (ReadValue x due) = codes "C5 " ++ entry_with_due t x due
 breach_text t NoMemory = []
 
 -- `Check valid`

@@ -1,6 +1,7 @@
 -- The headline: what is printed is a TSO execution of the test, with what it leaves; every other text is refused.
 -- (Primer, chapter 4, for the axioms; x86-TSO, section 3, for fences and locked instructions.)
-use Rattle.std.specs.Prelude.{ℕ, zero, suc, ◌+◌, ◌<◌, ◌≤◌, ◌≡◌, ◌≢◌, ◌↔◌, Bool, true, false, not, if◌then◌else◌, List, length, bytes_eq, All, Option, Some, None, IfSome, is_none}
+use Rattle.std.specs.Prelude.{ℕ, zero, suc, ◌+◌, ◌<◌, ◌≤◌, ◌≡◌, ◌≢◌, ◌↔◌, Bool, true, false, not, if◌then◌else◌}
+use Rattle.std.specs.Prelude.{List, length, bytes_eq, All, Option, Some, None, IfSome, is_none}
 use Rattle.tso_model.specs.Litmus.{Litmus}
 use Rattle.tso_model.specs.Execution.{IsWhole, KeepsProgramOrder, KeepsAllOrder, KeepsPairs, HasReadValues, IsTsoExecution}
 use Rattle.tso_model.specs.FinalState.{final_words, final_registers}
@@ -45,7 +46,8 @@ use Rattle.command_line.specs.declared.settings.Settings.TheVariants as settings
 -- condition's truth in them; its order is what the machine committed under these very choices (on the split bus with each
 -- locked instruction's load part put directly before its store part); and a plain report can be read again, as the text of
 -- that order
-pub record PrintsExecution (t : Litmus) (kind : ProtocolKind) (c : Configuration) (json : Bool) (choices : List Choice) (out : List ℕ) : Type 0 where
+pub record PrintsExecution (t : Litmus) (kind : ProtocolKind) (c : Configuration) (json : Bool) (choices : List Choice) (out : List ℕ)
+    : Type 0 where
   pub shown : Shown
   pub printed : out ≡ report_in json t kind c shown
   pub exactly_once : IsWhole t shown.order
@@ -70,8 +72,7 @@ PrintsEachRun t kind c json text out =
 -- the order that the machine commits under the choices of a seed, where they end the test
 abbrev pub seeded_order : Litmus → ProtocolKind → Configuration → Plan → ℕ → Option (List Entry)
 seeded_order t kind c plan seed =
-    let r = seeded_run t kind c plan.length seed in
-    (if r.ended then Some r.commits else None)
+    let r = seeded_run t kind c plan.length seed in (if r.ended then Some r.commits else None)
 
 -- whether the final state of such an order has these values (`bytes_eq` compares two lists number by number)
 abbrev pub has_values : Litmus → List ℕ → Option (List Entry) → Bool
@@ -135,7 +136,8 @@ pub data WitnessesOrder (t : Litmus) (depth : ℕ) (order : List Entry) (out : L
 -- for every order that the text spells; every other text is refused
 pub record WitnessesEachOrder (t : Litmus) (depth : ℕ) (text out : List ℕ) : Type 0 where
   pub every_order : (order : List Entry) → SpellsOrder t text order → WitnessesOrder t depth order out
-  pub every_other : ((order : List Entry) → ¬ (SpellsOrder t text order)) → (fault : OrderFault) × HasFault t text fault × (out ≡ order_refusal fault)
+  pub every_other : ((order : List Entry) → ¬ (SpellsOrder t text order))
+      → (fault : OrderFault) × HasFault t text fault × (out ≡ order_refusal fault)
 
 -- what the headline says of a test and the second part of its input
 abbrev pub HeadlineOf : Task → Litmus → List ℕ → List ℕ → Type 0
@@ -155,14 +157,14 @@ pub record InputHeadline (task : Task) (input out : List ℕ) : Type 0 where
   pub within : length input ≤ longest_input → PartsHeadline task (parts_of input) out
   pub above : longest_input < length input → out ≡ input_refusal
 
--- the table of the protocol is printed
-abbrev pub PrintsTable : ProtocolKind → List ℕ → Type 0
-PrintsTable kind out = out ≡ printed_table (protocol_name kind) (table_of kind)
+-- of the bytes that a reader has, where they are known
+abbrev pub ReadHeadline : Task → Option (List ℕ) → List ℕ → Type 0
+ReadHeadline task known out = IfSome known (λ input. InputHeadline task input out)
 
--- of the bytes that the reader has, where they are known; `tables` reads none, and prints the same for every reader
+-- of the bytes that the reader has; `tables` reads none, and prints the protocol's table for every reader
 abbrev pub Headline : Settings → Option (List ℕ) → List ℕ → Type 0
-Headline (settings.Run kind config json) known out = IfSome known (λ input. InputHeadline (tasks.Run kind config json) input out)
-Headline (settings.Sweep kind config plan) known out = IfSome known (λ input. InputHeadline (tasks.Sweep kind config plan) input out)
-Headline settings.Check known out = IfSome known (λ input. InputHeadline tasks.Check input out)
-Headline (settings.Witness depth) known out = IfSome known (λ input. InputHeadline (tasks.Witness depth) input out)
-Headline (settings.Tables kind) known out = PrintsTable kind out
+Headline (settings.Run kind config json) known out = ReadHeadline (tasks.Run kind config json) known out
+Headline (settings.Sweep kind config plan) known out = ReadHeadline (tasks.Sweep kind config plan) known out
+Headline settings.Check known out = ReadHeadline tasks.Check known out
+Headline (settings.Witness depth) known out = ReadHeadline (tasks.Witness depth) known out
+Headline (settings.Tables kind) known out = out ≡ printed_table (protocol_name kind) (table_of kind)

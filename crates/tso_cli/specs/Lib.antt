@@ -10,4 +10,5 @@ pub mod CheckLines
 pub mod Witness
 pub mod Answers
 pub mod Headline
+pub mod ReadOneWay
 pub mod Hints

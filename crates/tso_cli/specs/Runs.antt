@@ -1,6 +1,6 @@
 -- The run of a test under choices, on a machine of a protocol and a configuration. (Primer, chapter 4, for the two parts of
 -- a locked instruction, which stand together in the order; the rest is this project's profile.)
-use Rattle.std.specs.Prelude.{List}
+use Rattle.std.specs.Prelude.{◌≡◌, true, List}
 use Rattle.tso_model.specs.Litmus.{Litmus}
 use Rattle.tso_model.specs.FlatMachine.{start}
 use Rattle.tso_model.specs.Runs.{Run, run}
@@ -14,6 +14,8 @@ use Rattle.protocol_tables.specs.declared.kind.ProtocolKind.{ProtocolKind}
 use Rattle.machine_core.specs.Answered.{answered}
 use Rattle.machine_core.specs.Configuration.{Configuration}
 use Rattle.machine_core.specs.Running.{Running, table_in, configuration_of}
+use Rattle.machine_core.specs.Statistics.{counts_of}
+use Rattle.machine_core.specs.declared.counts.Counts.{Counts}
 
 -- on the atomic bus, the flat machine's run: neither the protocol nor the caches have a part in it. On the split bus, the
 -- split machine's run with the caches' answers whether an access hits, each locked instruction's load part put directly
@@ -25,6 +27,17 @@ run_by Split table c t choices = together (run_on Split t c.depth (answered Spli
 abbrev pub run_under : Litmus → ProtocolKind → Configuration → List Choice → Run
 run_under t kind c choices = run_by c.bus (table_of kind) c t choices
 
+-- the test has ended then
+abbrev pub EndsBy : Table → Configuration → Litmus → List Choice → Type 0
+EndsBy table c t choices = (run_by c.bus table c t choices).ended ≡ true
+
+-- the counts of each core's accesses along the run
+abbrev pub counts_by : Table → Configuration → Litmus → List Choice → List Counts
+counts_by table c t choices = counts_of c.bus table c.shape t c.depth choices
+
+abbrev pub counts_under : Litmus → ProtocolKind → Configuration → List Choice → List Counts
+counts_under t kind c choices = counts_by (table_of kind) c t choices
+
 -- the answers along the run are such as caches may give: between the two parts of a locked instruction no write of another
 -- core to its location hits. On the atomic bus this is so of all answers.
 abbrev pub AnswersFitBy : Table → Configuration → Litmus → List Choice → Type 0
@@ -34,8 +47,8 @@ abbrev pub AnswersFit : Litmus → ProtocolKind → Configuration → List Choic
 AnswersFit t kind c choices = AnswersFitBy (table_of kind) c t choices
 
 -- the same of a machine at the beginning of its test
-abbrev pub run_on_machine : Running → List Choice → Run
-run_on_machine m choices = run_by m.bus (table_in m) (configuration_of m) m.test choices
+abbrev pub machine_run : Running → List Choice → Run
+machine_run m choices = run_by m.bus (table_in m) (configuration_of m) m.test choices
 
 abbrev pub AnswersFitOn : Running → List Choice → Type 0
 AnswersFitOn m choices = AnswersFitBy (table_in m) (configuration_of m) m.test choices

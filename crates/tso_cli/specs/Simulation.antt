@@ -1,15 +1,16 @@
 -- What a simulation answers: the machine's run, as a report shows it. (This project's profile.)
-use Rattle.std.specs.Prelude.{ℕ, zero, suc, ◌+◌, ◌≡◌, Bool, true, false, List, ◌++◌, map, Option}
+use Rattle.std.specs.Prelude.{ℕ, zero, suc, ◌+◌, ◌≡◌, Bool, true, false, List, length, ◌++◌, Option}
 use Rattle.std.specs.Option.{option_map}
 use Rattle.tso_model.specs.Litmus.{Litmus}
 use Rattle.tso_model.specs.Condition.{truth_of}
 use Rattle.tso_model.specs.Execution.{KeepsAllOrder}
-use Rattle.tso_model.specs.FlatMachine.{State}
+use Rattle.tso_model.specs.FlatMachine.{registers_in}
 use Rattle.tso_model.specs.Runs.{Run}
 use Rattle.tso_model.specs.EitherBus.{BusRun, run_on_from, HitsFit}
 use Rattle.tso_model.specs.SplitMachine.{Attempt}
 use Rattle.tso_model.specs.declared.choice.Choice.{Choice}
 use Rattle.tso_laws.specs.Counting.{instructions, stores}
+use Rattle.tso_laws.specs.Rounds.{CanBeCutIntoRounds}
 use Rattle.split_laws.specs.BusRuns.{left_by}
 use Rattle.machine_core.specs.declared.counts.Counts.{Counts}
 use Rattle.machine_core.specs.Statistics.{statistics_from}
@@ -18,9 +19,6 @@ use Rattle.machine_core.specs.Running.{Running}
 use Rattle.tso_report.specs.Shown.{Shown, shown, IsOf}
 use Rattle.tso_cli.specs.declared.simulation.Ending.{Ending}
 use Rattle.tso_cli.specs.declared.simulation.Ending.TheVariants.{Ended, Unfinished}
-
-abbrev pub registers_in : State → List (List ℕ)
-registers_in state = map (λ core. core.registers) state.cores
 
 -- the truth of the test's condition in a state, if it has one
 abbrev pub verdict : Litmus → List (List ℕ) → List ℕ → Option Bool
@@ -67,6 +65,10 @@ pub record Drives (old new : Running) (choices : List Choice) (uses stalls : ℕ
   pub used : uses ≡ (run_of old choices).run.used
   pub stalled : stalls ≡ (run_of old choices).run.stalled
   pub answers : HaveFittingAnswers old choices
+
+-- the choices can be cut into so many rounds of the test's cores, in each of which every core has its turn
+abbrev pub HasRounds : Litmus → ℕ → List Choice → Type 0
+HasRounds t rounds choices = CanBeCutIntoRounds (length t.programs) rounds choices
 
 -- a run that ended gives these counts, core by core
 abbrev pub HasCounts : List Counts → Ending → Type 0

@@ -1,16 +1,18 @@
 -- The answer of `sweep`: what is counted of the runs under many seeds. (This project's profile.)
 use Rattle.std.specs.Prelude.{ℕ, zero, suc, ◌+◌, ◌<◌, ◌≡◌, ◌==◌, if◌then◌else◌, List, ◌++◌, length}
 use Rattle.tso_model.specs.Litmus.{Litmus}
+use Rattle.tso_model.specs.FlatMachine.{registers_in}
 use Rattle.tso_model.specs.Runs.{Run}
 use Rattle.tso_model.specs.declared.choice.Choice.{Choice}
 use Rattle.scheduler.specs.Seeds.{seeded_choices}
+use Rattle.protocol_tables.specs.Tables.{Table, table_of}
 use Rattle.protocol_tables.specs.declared.kind.ProtocolKind.{ProtocolKind}
 use Rattle.machine_core.specs.Configuration.{Configuration}
 use Rattle.tso_report.specs.Report.{head}
 use Rattle.tso_report.specs.Tally.{RunCounts, nothing_counted, with_state, with_verdict, with_unfinished, values_in, tally_text}
 use Rattle.command_line.specs.Plan.{Plan}
 use Rattle.tso_cli.specs.Runs.{run_under, AnswersFit}
-use Rattle.tso_cli.specs.Simulation.{registers_in, verdict}
+use Rattle.tso_cli.specs.Simulation.{verdict}
 use Rattle.tso_cli.specs.declared.answer.Status.{Status}
 use Rattle.tso_cli.specs.declared.answer.Status.TheVariants.{Good, Unended}
 
@@ -31,7 +33,8 @@ with_one_run t r c =
 -- what is counted of the runs of so many seeds: `from`, `from + 1`, and so on
 abbrev pub counts_from : Litmus → ProtocolKind → Configuration → ℕ → ℕ → ℕ → RunCounts
 counts_from t kind c count from zero = nothing_counted
-counts_from t kind c count from (suc seeds) = with_one_run t (seeded_run t kind c count (from + seeds)) (counts_from t kind c count from seeds)
+counts_from t kind c count from (suc seeds) =
+    with_one_run t (seeded_run t kind c count (from + seeds)) (counts_from t kind c count from seeds)
 
 -- what is counted of a sweep; on the atomic bus neither the protocol nor the shape of the caches has a part in it
 abbrev pub sweep_counts : Litmus → ProtocolKind → Configuration → Plan → RunCounts
@@ -40,6 +43,14 @@ sweep_counts t kind c plan = counts_from t kind c plan.length plan.from plan.see
 -- in the run of each of so many seeds the answers are such as caches may give
 abbrev pub AnswersFitFrom : Litmus → ProtocolKind → Configuration → ℕ → ℕ → ℕ → Type 0
 AnswersFitFrom t kind c count from seeds = (n : ℕ) → n < seeds → AnswersFit t kind c (choices_of t count (from + n))
+
+-- in the run of each seed of a plan they are
+abbrev pub SweepAnswersFit : Litmus → ProtocolKind → Configuration → Plan → Type 0
+SweepAnswersFit t kind c plan = AnswersFitFrom t kind c plan.length plan.from plan.seeds
+
+-- of each protocol that has this table
+abbrev pub EachKindWith : Table → (ProtocolKind → Type 0) → Type 0
+EachKindWith table P = (kind : ProtocolKind) → table ≡ table_of kind → P kind
 
 -- the lines of a sweep in which this was counted
 abbrev pub sweep_lines : Litmus → ProtocolKind → Configuration → Plan → RunCounts → List ℕ
@@ -50,7 +61,8 @@ abbrev pub sweep_status : RunCounts → Status
 sweep_status counts = if counts.unfinished == 0 then Good else Unended
 
 -- the answer of `sweep` to a test
-pub record IsSweepAnswer (t : Litmus) (kind : ProtocolKind) (c : Configuration) (plan : Plan) (out : List ℕ) (status : Status) : Type 0 where
+pub record IsSweepAnswer (t : Litmus) (kind : ProtocolKind) (c : Configuration) (plan : Plan) (out : List ℕ) (status : Status)
+    : Type 0 where
   pub text : out ≡ sweep_lines t kind c plan (sweep_counts t kind c plan)
   pub status_is : status ≡ sweep_status (sweep_counts t kind c plan)
-  pub answers : AnswersFitFrom t kind c plan.length plan.from plan.seeds
+  pub answers : SweepAnswersFit t kind c plan

@@ -2,6 +2,7 @@
 use Rattle.std.specs.Prelude.{ℕ, ◌≡◌, ◌<◌, ◌≤◌, Bool, List}
 use Rattle.tso_model.specs.Litmus.{Litmus}
 use Rattle.tso_model.specs.Execution.{IsTsoExecution}
+use Rattle.tso_model.specs.Runs.{run}
 use Rattle.tso_model.specs.declared.execution.Entry.{Entry}
 use Rattle.tso_model.specs.declared.choice.Choice.{Choice}
 use Rattle.tso_laws.specs.Along.{choices_along}
@@ -20,6 +21,7 @@ use Rattle.tso_cli.specs.Parts.{Parts}
 use Rattle.tso_cli.specs.Lines.{depth_line}
 use Rattle.tso_cli.specs.RunTexts.{report_in}
 use Rattle.tso_cli.specs.CheckLines.{order_refusal, invalid_line}
+use Rattle.tso_cli.specs.Simulation.{IsEndingOf}
 use Rattle.tso_cli.specs.declared.simulation.Ending.{Ending}
 use Rattle.tso_cli.specs.declared.simulation.Ending.TheVariants.{Ended, Unfinished}
 use Rattle.tso_cli.specs.declared.answer.Status.{Status}
@@ -40,6 +42,10 @@ pub data IsWitnessAnswer (t : Litmus) (depth : ℕ) (text : List ℕ) : List ℕ
   refused : (fault : OrderFault) → HasFault t text fault → IsWitnessAnswer t depth text (order_refusal fault) Refused
   judged : (order : List Entry) (out : List ℕ) (status : Status) → SpellsOrder t text order → IsWitness t depth order out status
       → IsWitnessAnswer t depth text out status
+
+-- the answer of a simulation is that of the run under the choices along an order
+abbrev pub IsEndingAlong : Litmus → ℕ → List Entry → Ending → Type 0
+IsEndingAlong t depth order ending = IsEndingOf t (run t depth (choices_along t order)) ending
 
 -- a simulation has ended with this very order; none of its choices stalled, and none was left over
 abbrev pub HasEndedWith : List Entry → Ending → Type 0

@@ -1,7 +1,7 @@
 //! The answer to an input: its size first, then the test, then the second part.
 
-ghost use Rattle.std.specs.Prelude.{◌≡◌, ◌≢◌, IfOk, OnOk, string_bytes};
-ghost use Rattle.tso_cli.specs.Answers.{IsTableAnswer, IsAnswerTo, IsInputAnswer};
+ghost use Rattle.std.specs.Prelude.{◌≢◌, IfOk, OnOk, string_bytes};
+ghost use Rattle.tso_cli.specs.Answers.{Says, IsTableAnswer, IsAnswerTo, IsInputAnswer};
 ghost use Rattle.tso_cli.specs.Headline.{InputHeadline};
 ghost use Rattle.tso_cli.specs.Limits.{IsTaskWithinLimits, HasTaskDepth};
 ghost use Rattle.tso_cli.specs.Lines.{test_refusal, input_refusal};
@@ -40,8 +40,7 @@ pub struct Answer {
 }
 
 fn refused_test(alloc: Global, fault: TextFault) -> Result<Answer, NoMemory>
-    ensures text { IfOk result (λ a. string_bytes a.text ≡ test_refusal fault) }
-    ensures status { IfOk result (λ a. a.status ≡ Status.Refused) }
+    ensures says { IfOk result (λ a. Says a (test_refusal fault) Status.Refused) }
     ensures real { OnOk result (fault.why ≢ Why.NoMemory) }
 {
     if fault.why == Why::NoMemory {
@@ -57,8 +56,7 @@ fn refused_test(alloc: Global, fault: TextFault) -> Result<Answer, NoMemory>
 }
 
 fn refused_input(alloc: Global) -> Result<Answer, NoMemory>
-    ensures text { IfOk result (λ a. string_bytes a.text ≡ input_refusal) }
-    ensures status { IfOk result (λ a. a.status ≡ Status.Refused) }
+    ensures { IfOk result (λ a. Says a input_refusal Status.Refused) }
 {
     let text = String::from_str(alloc, "Refused input TooLarge\n")?;
     Ok(Answer {
@@ -89,6 +87,7 @@ fn know_limits(task: &Task)
 {
     match task {
         Task::Run { config, .. } => {
+            // What the call ensures is that the configuration is within its limits: it is made for this alone.
             let _known = config.depth();
         }
         Task::Sweep { config, plan, .. } => {

@@ -1,11 +1,11 @@
 //! The answer of `check`, and the text of a breach.
 
 ghost use Rattle.std.specs.Prelude.{◌≡◌, ◌≢◌, ◌++◌, IfOk, OnOk, string_bytes, codes};
-ghost use Rattle.std.specs.Fmt.{decimal};
 ghost use Rattle.order_builder.specs.PrintedOrder.{printed_entry, HasLocation, IsLocationFor};
 ghost use Rattle.order_builder.specs.Spelling.{IsOrderFor};
-ghost use Rattle.tso_cli.specs.Answers.{IsCheckAnswer, IsJudgement};
-ghost use Rattle.tso_cli.specs.CheckLines.{order_refusal, missing_action, missing_access, breach_text, valid_line, invalid_line, CanBeNamed};
+ghost use Rattle.tso_cli.specs.Answers.{Says, IsCheckAnswer, IsJudgement};
+ghost use Rattle.tso_cli.specs.CheckLines.{order_refusal, missing_action, missing_access, entry_with_due, entry_after};
+ghost use Rattle.tso_cli.specs.CheckLines.{breach_text, valid_line, invalid_line, CanBeNamed};
 
 use crate::answer::{Answer, Status};
 use axiom_checker::{Breach, check_order};
@@ -28,8 +28,7 @@ pub fn check_answer(alloc: Global, test: &Test, text: &[u8]) -> Result<Answer, N
 }
 
 pub(crate) fn refused_order(alloc: Global, fault: OrderFault) -> Result<Answer, NoMemory>
-    ensures text { IfOk result (λ a. string_bytes a.text ≡ order_refusal fault) }
-    ensures status { IfOk result (λ a. a.status ≡ Status.Refused) }
+    ensures says { IfOk result (λ a. Says a (order_refusal fault) Status.Refused) }
     ensures real { OnOk result (fault ≢ OrderFault.NoMemory) }
 {
     let text = match fault {
@@ -50,6 +49,7 @@ fn judgement(alloc: Global, test: &Test, execution: &Execution) -> Result<Answer
 {
     order_can_be_printed();
     made_entries_fit_the_test();
+    // What the call ensures is that the test is within the limits: it is made for this alone.
     let _known = test.cores();
     match check_order(alloc, test, execution) {
         Ok(()) => valid(alloc),
@@ -58,8 +58,7 @@ fn judgement(alloc: Global, test: &Test, execution: &Execution) -> Result<Answer
 }
 
 fn valid(alloc: Global) -> Result<Answer, NoMemory>
-    ensures text { IfOk result (λ a. string_bytes a.text ≡ valid_line) }
-    ensures status { IfOk result (λ a. a.status ≡ Status.Good) }
+    ensures { IfOk result (λ a. Says a valid_line Status.Good) }
 {
     let text = String::from_str(alloc, "Check valid\n")?;
     Ok(Answer {
@@ -70,8 +69,7 @@ fn valid(alloc: Global) -> Result<Answer, NoMemory>
 
 pub(crate) fn invalid(alloc: Global, test: &Test, breach: Breach) -> Result<Answer, NoMemory>
     requires { CanBeNamed test.now breach }
-    ensures text { IfOk result (λ a. string_bytes a.text ≡ invalid_line test.now breach) }
-    ensures status { IfOk result (λ a. a.status ≡ Status.Invalid) }
+    ensures says { IfOk result (λ a. Says a (invalid_line test.now breach) Status.Invalid) }
     ensures real { OnOk result (breach ≢ Breach.NoMemory) }
 {
     let breach = breach_text(alloc, test, breach)?;
@@ -116,7 +114,7 @@ fn with_due(
     due: u32,
 ) -> Result<String, NoMemory>
     requires { HasLocation test.now entry.now }
-    ensures { IfOk result (λ text. string_bytes text ≡ before.now ++ (printed_entry test.now entry.now ++ (codes " due=" ++ decimal due))) }
+    ensures { IfOk result (λ text. string_bytes text ≡ before.now ++ entry_with_due test.now entry.now due) }
 {
     let entry = entry_text(alloc, test, entry)?;
     let text = format!(in alloc; "{before}{entry} due={due}")?;
@@ -131,7 +129,7 @@ fn two_entries(
 ) -> Result<String, NoMemory>
     requires first { HasLocation test.now first.now }
     requires second { HasLocation test.now second.now }
-    ensures { IfOk result (λ text. string_bytes text ≡ codes "C3 " ++ (printed_entry test.now first.now ++ (codes " after " ++ printed_entry test.now second.now))) }
+    ensures { IfOk result (λ text. string_bytes text ≡ codes "C3 " ++ entry_after test.now first.now second.now) }
 {
     let first = entry_text(alloc, test, first)?;
     let second = entry_text(alloc, test, second)?;

@@ -1,13 +1,12 @@
 //! A command from its streams' bytes to its status.
 
-ghost use Rattle.std.specs.Prelude.{◌≡◌, ◌+◌, ◌-◌, ◌^◌, ◌<◌, ◌≤◌, ◌↔◌, ◌⊎◌, IfOk, IfSome, Err, MatchResult, string_bytes};
+ghost use Rattle.std.specs.Prelude.{◌≡◌, ◌+◌, ◌-◌, ◌^◌, ◌<◌, ◌≤◌, ◌↔◌, ◌⊎◌, IfOk, Err, string_bytes};
 ghost use Rattle.std.specs.Io.KnownBytes.{Keeps};
-ghost use Rattle.tso_cli.specs.Streams.{Writes, WritesBeginning, ConsumesAtMost};
-ghost use Rattle.tso_cli.specs.Answers.{IsAnswer, IsInputAnswer, most_read};
-ghost use Rattle.tso_cli.specs.Headline.{Headline, InputHeadline};
+ghost use Rattle.tso_cli.specs.Streams.{Writes, WritesAnswer, WritesBeginning, ConsumesAtMost, CountsReadFaults};
+ghost use Rattle.tso_cli.specs.Answers.{IsAnswer, IsReadAnswer, most_read};
+ghost use Rattle.tso_cli.specs.Headline.{Headline, ReadHeadline};
 ghost use Rattle.tso_cli.specs.Limits.{longest_input, HasTaskDepth};
 ghost use Rattle.command_line.specs.Limits.{HasDepth};
-ghost use Rattle.tso_cli.specs.declared.answer.Status.{Status};
 
 use crate::answer::{Answer, Status, answer_to, table_answer};
 use crate::counted::Counted;
@@ -36,15 +35,16 @@ pub fn run_command<R: Read, W: Write>(
     requires writer { writer.old.1 < 2 ^ 32 - 1 }
 
     // What is written is the answer to the bytes that the reader has, with its status.
-    ensures exact { IfOk result (λ status. Writes (W.contents writer.old.0) (W.contents writer.new.0) (λ out. IsAnswer settings.now (R.remaining reader.old.0) out status)) }
-    ensures headline { IfOk result (λ _. Writes (W.contents writer.old.0) (W.contents writer.new.0) (Headline settings.now (R.remaining reader.old.0))) }
+    ensures exact { IfOk result (WritesAnswer W.contents writer.old.0 writer.new.0 (IsAnswer settings.now (R.remaining reader.old.0))) }
+    ensures headline { IfOk result (λ _. Writes W.contents writer.old.0 writer.new.0 (Headline settings.now (R.remaining reader.old.0))) }
 
     // Faults come from the devices, and are told.
     ensures device { (result ≡ Err RunFault.Device) ↔ ((reader.old.1 < reader.new.1) ⊎ (writer.old.1 < writer.new.1)) }
     ensures once { reader.new.1 + writer.new.1 ≤ reader.old.1 + writer.old.1 + 1 }
     ensures no_memory { result ≡ Err RunFault.NoMemory → Keeps (W.contents writer.old.0) (W.contents writer.new.0) }
     ensures reader_fault { reader.old.1 < reader.new.1 → Keeps (W.contents writer.old.0) (W.contents writer.new.0) }
-    ensures writer_fault { writer.old.1 < writer.new.1 → (status : Status) × WritesBeginning (W.contents writer.old.0) (W.contents writer.new.0) (λ out. IsAnswer settings.now (R.remaining reader.old.0) out status) }
+    ensures writer_fault { writer.old.1 < writer.new.1
+        → WritesBeginning W.contents writer.old.0 writer.new.0 (IsAnswer settings.now (R.remaining reader.old.0)) }
 
     ensures most { ConsumesAtMost (R.remaining reader.old.0) (R.remaining reader.new.0) (most_read settings.now) }
 {
@@ -64,7 +64,7 @@ fn answer_from<R: Read>(
     ensures exact { IfOk result (λ a. IsAnswer settings.now (R.remaining reader.old.0) (string_bytes a.text) a.status) }
     ensures headline { IfOk result (λ a. Headline settings.now (R.remaining reader.old.0) (string_bytes a.text)) }
     ensures most { ConsumesAtMost (R.remaining reader.old.0) (R.remaining reader.new.0) (most_read settings.now) }
-    ensures faults { MatchResult result (λ _. reader.new.1 ≡ reader.old.1) (λ e. (e ≡ RunFault.Device → reader.new.1 ≡ reader.old.1 + 1) × (e ≡ RunFault.NoMemory → reader.new.1 ≡ reader.old.1)) }
+    ensures faults { CountsReadFaults result reader.old.1 reader.new.1 }
 {
     match settings {
         Settings::Run {
@@ -108,10 +108,10 @@ fn answer_read<R: Read>(
 ) -> Result<Answer, RunFault>
     requires depth { HasTaskDepth task.now }
     requires reader { reader.old.1 < 2 ^ 32 - 1 }
-    ensures exact { IfOk result (λ a. IfSome (R.remaining reader.old.0) (λ input. IsInputAnswer task.now input (string_bytes a.text) a.status)) }
-    ensures headline { IfOk result (λ a. IfSome (R.remaining reader.old.0) (λ input. InputHeadline task.now input (string_bytes a.text))) }
+    ensures exact { IfOk result (λ a. IsReadAnswer task.now (R.remaining reader.old.0) (string_bytes a.text) a.status) }
+    ensures headline { IfOk result (λ a. ReadHeadline task.now (R.remaining reader.old.0) (string_bytes a.text)) }
     ensures most { ConsumesAtMost (R.remaining reader.old.0) (R.remaining reader.new.0) (longest_input + 1) }
-    ensures faults { MatchResult result (λ _. reader.new.1 ≡ reader.old.1) (λ e. (e ≡ RunFault.Device → reader.new.1 ≡ reader.old.1 + 1) × (e ≡ RunFault.NoMemory → reader.new.1 ≡ reader.old.1)) }
+    ensures faults { CountsReadFaults result reader.old.1 reader.new.1 }
 {
     let input = read_input(alloc, reader)?;
     Ok(answer_to(alloc, task, &input)?)

@@ -1,9 +1,9 @@
 //! Streams that count which of their calls failed.
 
-ghost use Rattle.std.specs.Prelude.{◌≡◌, ℕ, ◌+◌, ◌-◌, ◌^◌, ◌<◌, ◌≤◌, min, length, is_ok, if◌then◌else◌, take, MatchResult, ◌==◌, ◌&&◌, nat_lt};
+ghost use Rattle.std.specs.Prelude.{◌≡◌, ℕ, ◌-◌, ◌<◌};
 ghost use Rattle.std.specs.Io.KnownBytes.{ReadConsumes, WriteAppends, Keeps};
 ghost use Rattle.std.specs.Io.{ReadsAtMost, WritesAtMost};
-ghost use Rattle.tso_cli.specs.Streams.{counts_error, raised};
+ghost use Rattle.tso_cli.specs.Streams.{counts_error, CountsWrite};
 
 use std::io;
 use std::io::{Read, Write};
@@ -70,7 +70,7 @@ impl<W: Write> Write for Counted<W> {
     fn write(&mut self, buf: &[u8]) -> io::Result<usize>
         ensures bound { WritesAtMost result buf.now }
         ensures bytes { WriteAppends (W.contents self.old.0) (W.contents self.new.0) result buf.now }
-        ensures failures { MatchResult result (λ n. self.new.1 ≡ (if ((n == 0) && nat_lt 0 (length buf.now)) then raised self.old.1 else self.old.1)) (λ _. self.new.1 ≡ raised self.old.1) }
+        ensures failures { CountsWrite result buf.now self.old.1 self.new.1 }
     {
         let result = self.inner.write(buf);
         match &result {

@@ -57,8 +57,8 @@ fn refused(alloc: Global, asked: Option<Asked>, input: &[u8]) -> Result<String, 
     }
     let parts = parts_of(input);
     let is_divided = parts.test.len() < input.len();
-    let behind = if is_divided { Some(parts.rest) } else { None };
-    refusal_hint(alloc, asked, parts.test, behind)
+    let after = if is_divided { Some(parts.rest) } else { None };
+    refusal_hint(alloc, asked, parts.test, after)
 }
 
 fn unended(alloc: Global, asked: Option<Asked>, input: &[u8]) -> Result<String, NoMemory>

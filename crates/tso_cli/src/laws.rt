@@ -1,6 +1,6 @@
 //! Laws of the commands. Each is the contract of a function that does nothing: who calls it knows it.
 
-ghost use Rattle.std.specs.Prelude.{◌≡◌, ◌<◌, ◌≤◌, ◌^◌, ℕ, Bool, true, false, List, Option, Some, length};
+ghost use Rattle.std.specs.Prelude.{◌≡◌, ◌<◌, ◌≤◌, ◌^◌, ℕ, Bool, false, List, Option, Some, length};
 ghost use Rattle.tso_model.specs.Limits.{most_depth};
 ghost use Rattle.tso_model.specs.Litmus.{Litmus, IsTest};
 ghost use Rattle.tso_model.specs.Execution.{IsTsoExecution, KeepsAllOrder};
@@ -19,11 +19,12 @@ ghost use Rattle.tso_cli.specs.Answers.{IsCheckAnswer, IsInputAnswer, IsAnswer};
 ghost use Rattle.tso_cli.specs.CheckLines.{valid_line};
 ghost use Rattle.tso_cli.specs.Headline.{PrintsExecution, InputHeadline, Headline};
 ghost use Rattle.tso_cli.specs.Limits.{IsTaskWithinLimits};
+ghost use Rattle.tso_cli.specs.ReadOneWay.{AreReadOneWay};
 ghost use Rattle.command_line.specs.Limits.{IsWithinLimits};
-ghost use Rattle.tso_cli.specs.Parts.{parts_of, joined, HasNoDivider, EndsInFeed};
-ghost use Rattle.tso_cli.specs.Runs.{run_by, AnswersFitBy};
+ghost use Rattle.tso_cli.specs.Parts.{parts_of, joined, IsJoinable};
+ghost use Rattle.tso_cli.specs.Runs.{run_by, AnswersFitBy, EndsBy};
 ghost use Rattle.tso_cli.specs.Simulation.{IsEndingOf};
-ghost use Rattle.tso_cli.specs.Witness.{choices_line, IsWitness, HasEndedWith, ReportsOrder};
+ghost use Rattle.tso_cli.specs.Witness.{choices_line, IsWitness, IsEndingAlong, HasEndedWith, ReportsOrder};
 ghost use Rattle.tso_cli.specs.declared.simulation.Ending.{Ending};
 ghost use Rattle.tso_cli.specs.declared.answer.Status.{Status};
 ghost use Rattle.tso_cli.specs.declared.answer.Status.TheVariants.{Good};
@@ -51,14 +52,15 @@ use tso_report::laws::{report_spells_its_order, reports_are_short};
 /// answers of all caches fit.
 pub fn ended_runs_of_machines_are_executions()
     ensures executions { (table : Table) (c : Configuration) (t : Litmus) (choices : List Choice)
-        → IsTest t → AnswersFitBy table c t choices → (run_by c.bus table c t choices).ended ≡ true → IsExecution t (run_by c.bus table c t choices) }
+        → IsTest t → AnswersFitBy table c t choices → EndsBy table c t choices → IsExecution t (run_by c.bus table c t choices) }
     ensures words { (table : Table) (c : Configuration) (t : Litmus) (choices : List Choice)
-        → IsTest t → AnswersFitBy table c t choices → (run_by c.bus table c t choices).ended ≡ true
+        → IsTest t → AnswersFitBy table c t choices → EndsBy table c t choices
         → HoldsWords (run_by c.bus table c t choices).commits (run_by c.bus table c t choices).state }
     ensures unbuffered { (table : Table) (c : Configuration) (t : Litmus) (choices : List Choice)
-        → c.depth ≡ 0 → IsTest t → AnswersFitBy table c t choices → (run_by c.bus table c t choices).ended ≡ true
+        → c.depth ≡ 0 → IsTest t → AnswersFitBy table c t choices → EndsBy table c t choices
         → KeepsAllOrder (run_by c.bus table c t choices).commits }
-    ensures atomic { (table : Table) (c : Configuration) (t : Litmus) (choices : List Choice) → c.bus ≡ Atomic → AnswersFitBy table c t choices }
+    ensures atomic { (table : Table) (c : Configuration) (t : Litmus) (choices : List Choice)
+        → c.bus ≡ Atomic → AnswersFitBy table c t choices }
 {
     atomic_runs_are_flat_runs();
     runs_on_either_bus_are_flat_runs();
@@ -68,6 +70,17 @@ pub fn ended_runs_of_machines_are_executions()
     values_are_words();
 }
 
+/// What the crates below say of texts and orders: each is read in one way.
+fn texts_are_read_one_way()
+    ensures { AreReadOneWay }
+{
+    test_is_spelled_once();
+    texts_are_decided();
+    order_is_spelled_once();
+    first_breach_is_one();
+    first_breach_is_real();
+}
+
 /// There is one answer to an input: the same bytes, and the same status.
 pub fn inputs_have_one_answer()
     ensures tasks { (task : Task) (input out other : List ℕ) (status again : Status)
@@ -75,11 +88,7 @@ pub fn inputs_have_one_answer()
     ensures commands { (s : Settings) (input out other : List ℕ) (status again : Status)
         → IsAnswer s (Some input) out status → IsAnswer s (Some input) other again → (out ≡ other) × (status ≡ again) }
 {
-    test_is_spelled_once();
-    texts_are_decided();
-    order_is_spelled_once();
-    first_breach_is_one();
-    first_breach_is_real();
+    texts_are_read_one_way();
 }
 
 /// The headline holds of each answer that is made within the limits.
@@ -89,11 +98,7 @@ pub fn answers_meet_the_headline()
     ensures commands { (s : Settings) (known : Option (List ℕ)) (out : List ℕ) (status : Status)
         → IsWithinLimits s → IsAnswer s known out status → Headline s known out }
 {
-    test_is_spelled_once();
-    texts_are_decided();
-    order_is_spelled_once();
-    first_breach_is_one();
-    first_breach_is_real();
+    texts_are_read_one_way();
     ended_runs_of_machines_are_executions();
     whole_orders_have_each_entry_once();
     report_spells_its_order();
@@ -105,8 +110,8 @@ pub fn answers_meet_the_headline()
 
 /// A first part that ends in a line feed and has no dividing line, put before a dividing line and a
 /// second part, is separated from it again.
-pub fn joined_parts_are_parted()
-    ensures { (test rest : List ℕ) → EndsInFeed test → HasNoDivider test → parts_of (joined test rest) ≡ record { test = test; rest = rest } }
+pub fn joined_parts_are_separated()
+    ensures { (test rest : List ℕ) → IsJoinable test → parts_of (joined test rest) ≡ record { test = test; rest = rest } }
 {}
 
 /// What `run` prints of a run that ended, but for JSON, handed to `check` with the same test, is answered `Check
@@ -117,23 +122,19 @@ pub fn printed_runs_are_valid()
         → IsTest t → length out < 2 ^ 64 → PrintsExecution t kind c false choices out → IsCheckAnswer t out answer status
         → (answer ≡ valid_line) × (status ≡ Good) }
     ensures inputs { (kind : ProtocolKind) (c : Configuration) (input out answer : List ℕ) (status : Status)
-        → IsWithinLimits (Settings.Run kind c false) → EndsInFeed (parts_of input).test → HasNoDivider (parts_of input).test
+        → IsWithinLimits (Settings.Run kind c false) → IsJoinable (parts_of input).test
         → IsAnswer (Settings.Run kind c false) (Some input) out Good
         → IsAnswer Settings.Check (Some (joined (parts_of input).test out)) answer status
         → (answer ≡ valid_line) × (status ≡ Good) }
 {
-    test_is_spelled_once();
-    texts_are_decided();
-    order_is_spelled_once();
-    first_breach_is_one();
-    first_breach_is_real();
+    texts_are_read_one_way();
     atomic_runs_are_flat_runs();
     runs_on_either_bus_stop_where_they_end();
     ended_runs_of_machines_are_executions();
     whole_orders_have_each_entry_once();
     report_spells_its_order();
     reports_are_short();
-    joined_parts_are_parted();
+    joined_parts_are_separated();
 }
 
 /// Where choices lead to an order, what `simulate` answers under them on the atomic bus has ended with
@@ -143,7 +144,7 @@ pub fn led_simulations_end()
     ensures led { (t : Litmus) (depth : ℕ) (choices : List Choice) (order : List Entry) (ending : Ending)
         → LeadTo t depth choices order → IsEndingOf t (run t depth choices) ending → HasEndedWith order ending }
     ensures along { (t : Litmus) (depth : ℕ) (order : List Entry) (ending : Ending)
-        → IsTest t → IsTsoExecution t order → needed order ≤ depth → IsEndingOf t (run t depth (choices_along t order)) ending → HasEndedWith order ending }
+        → IsTest t → IsTsoExecution t order → needed order ≤ depth → IsEndingAlong t depth order ending → HasEndedWith order ending }
 {
     every_execution_is_reached();
 }
@@ -164,19 +165,15 @@ pub fn greatest_depth_is_enough()
 /// none was left over.
 pub fn witnesses_reach_their_orders()
     ensures { (kind : ProtocolKind) (c : Configuration) (json : Bool) (input out answer : List ℕ) (status : Status)
-        → c.bus ≡ Atomic → IsWithinLimits (Settings.Run kind c json) → EndsInFeed (parts_of input).test → HasNoDivider (parts_of input).test
+        → c.bus ≡ Atomic → IsWithinLimits (Settings.Run kind c json) → IsJoinable (parts_of input).test
         → IsAnswer (Settings.Witness c.depth) (Some input) out Good
         → IsAnswer (Settings.Run kind c json) (Some (joined (parts_of input).test out)) answer status
         → ReportsOrder kind c json (parts_of input) answer × (status ≡ Good) }
 {
-    test_is_spelled_once();
-    texts_are_decided();
-    order_is_spelled_once();
-    first_breach_is_one();
-    first_breach_is_real();
+    texts_are_read_one_way();
     every_execution_is_reached();
     smaller_depths_never_reach();
     runs_are_counted();
     printed_choices_are_spelled();
-    joined_parts_are_parted();
+    joined_parts_are_separated();
 }

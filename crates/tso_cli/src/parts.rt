@@ -11,7 +11,7 @@ pub struct Parts<'a> {
     pub rest: &'a [u8],
 }
 
-/// Parts an input at its first line that is `====`; one carriage return before the line's end is
+/// Separates an input at its first line that is `====`; one carriage return before the line's end is
 /// dropped. The line is in neither part. Where there is none, the second part is empty.
 pub fn parts_of(input: &[u8]) -> Parts<'_>
     ensures test { result.test.now ≡ (words.parts_of input.now).test }
@@ -21,7 +21,7 @@ pub fn parts_of(input: &[u8]) -> Parts<'_>
     let mut at = 0;
     while at < input.len() {
         let (test, lines) = input.split_at(at);
-        if let Some(rest) = behind_divider(lines) {
+        if let Some(rest) = after_divider(lines) {
             return Parts { test, rest };
         }
         at += line_length(lines);
@@ -33,7 +33,7 @@ pub fn parts_of(input: &[u8]) -> Parts<'_>
 }
 
 /// How many bytes the first line of a text has, its line feed included.
-#[tactic(auto, using(crate::proofs::Lines::line_more, crate::proofs::Lines::line_ends, crate::proofs::Lines::line_past, crate::proofs::Lines::line_within, crate::proofs::Lines::line_some))]
+#[tactic(auto, using(crate::proofs::Lines::line_lengths))]
 fn line_length(text: &[u8]) -> usize
     ensures exact { result ≡ words.line_length text.now }
     ensures within { result ≤ length text.now }
@@ -47,28 +47,28 @@ fn line_length(text: &[u8]) -> usize
     text.len()
 }
 
-fn behind_divider(text: &[u8]) -> Option<&[u8]>
-    ensures { option_map (λ rest. rest.now) result ≡ words.behind_divider text.now }
+fn after_divider(text: &[u8]) -> Option<&[u8]>
+    ensures { option_map (λ rest. rest.now) result ≡ words.after_divider text.now }
 {
     if text.starts_with(b"====".as_slice()) {
-        behind_end(&text[4..])
+        after_end(&text[4..])
     } else {
         None
     }
 }
 
-fn behind_end(text: &[u8]) -> Option<&[u8]>
-    ensures { option_map (λ rest. rest.now) result ≡ words.behind_end text.now }
+fn after_end(text: &[u8]) -> Option<&[u8]>
+    ensures { option_map (λ rest. rest.now) result ≡ words.after_end text.now }
 {
     match text.split_first() {
         None => Some(text),
-        Some((b'\r', rest)) => behind_feed(rest),
-        Some(_) => behind_feed(text),
+        Some((b'\r', rest)) => after_feed(rest),
+        Some(_) => after_feed(text),
     }
 }
 
-fn behind_feed(text: &[u8]) -> Option<&[u8]>
-    ensures { option_map (λ rest. rest.now) result ≡ words.behind_feed text.now }
+fn after_feed(text: &[u8]) -> Option<&[u8]>
+    ensures { option_map (λ rest. rest.now) result ≡ words.after_feed text.now }
 {
     match text.split_first() {
         None => Some(text),

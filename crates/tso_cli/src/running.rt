@@ -3,9 +3,9 @@
 ghost use Rattle.std.specs.Prelude.{◌≡◌, ◌≢◌, IfOk, OnOk, length, string_bytes};
 ghost use Rattle.tso_model.specs.Runs.{CoresExist};
 ghost use Rattle.tso_report.specs.Shown.{shown, IsOf};
-ghost use Rattle.tso_cli.specs.Answers.{counts_under, run_text, run_status, IsRunAnswer};
+ghost use Rattle.tso_cli.specs.Answers.{Says, SaysRun, IsRunAnswer};
 ghost use Rattle.tso_cli.specs.Lines.{choices_refusal};
-ghost use Rattle.tso_cli.specs.Runs.{run_under, AnswersFit};
+ghost use Rattle.tso_cli.specs.Runs.{AnswersFit};
 ghost use Rattle.tso_cli.specs.RunTexts.{report_in, unfinished_in};
 
 use crate::answer::{Answer, Status};
@@ -38,8 +38,7 @@ pub fn run_answer(
 }
 
 fn refused_choices(alloc: Global, fault: ChoiceFault) -> Result<Answer, NoMemory>
-    ensures text { IfOk result (λ a. string_bytes a.text ≡ choices_refusal fault) }
-    ensures status { IfOk result (λ a. a.status ≡ Status.Refused) }
+    ensures says { IfOk result (λ a. Says a (choices_refusal fault) Status.Refused) }
     ensures real { OnOk result (fault ≢ ChoiceFault.NoMemory) }
 {
     let text = match fault {
@@ -65,8 +64,7 @@ fn run_under(
     choices: &[Choice],
 ) -> Result<Answer, NoMemory>
     requires { CoresExist (length test.now.programs) choices.now }
-    ensures text { IfOk result (λ a. string_bytes a.text ≡ run_text test.now protocol config json (counts_under test.now protocol config choices.now) (run_under test.now protocol config choices.now)) }
-    ensures status { IfOk result (λ a. a.status ≡ run_status (run_under test.now protocol config choices.now)) }
+    ensures says { IfOk result (SaysRun test.now protocol config json choices.now) }
     ensures answers { OnOk result (AnswersFit test.now protocol config choices.now) }
 {
     match simulate(alloc, test, protocol, config, choices) {
@@ -101,8 +99,7 @@ fn report_in(
 }
 
 fn unfinished(alloc: Global, json: bool, used: usize, stalled: usize) -> Result<Answer, NoMemory>
-    ensures text { IfOk result (λ a. string_bytes a.text ≡ unfinished_in json used stalled) }
-    ensures status { IfOk result (λ a. a.status ≡ Status.Unended) }
+    ensures { IfOk result (λ a. Says a (unfinished_in json used stalled) Status.Unended) }
 {
     let text = unfinished_in(alloc, json, used, stalled)?;
     Ok(Answer {

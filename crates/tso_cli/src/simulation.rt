@@ -2,12 +2,9 @@
 
 ghost use Rattle.std.specs.Prelude.{◌≡◌, ◌+◌, ◌*◌, false, IfOk, OnOk, length};
 ghost use Rattle.tso_model.specs.Runs.{CoresExist};
-ghost use Rattle.tso_cli.specs.Runs.{run_by, run_under, AnswersFit, AnswersFitBy};
-ghost use Rattle.tso_cli.specs.Simulation.{IsEndingOf, FitsEnding, HasCounts, IsCounted, HasAllOrder, HasEnded, Drives, verdict};
-ghost use Rattle.protocol_tables.specs.Tables.{table_of};
-ghost use Rattle.machine_core.specs.Statistics.{counts_of};
+ghost use Rattle.tso_cli.specs.Runs.{run_by, run_under, counts_by, counts_under, AnswersFit, AnswersFitBy};
+ghost use Rattle.tso_cli.specs.Simulation.{IsEndingOf, FitsEnding, HasCounts, IsCounted, HasAllOrder, HasRounds, HasEnded, Drives, verdict};
 ghost use Rattle.split_laws.specs.BusChoices.{IsPossibleOn};
-ghost use Rattle.tso_laws.specs.Rounds.{CanBeCutIntoRounds};
 ghost use Rattle.tso_laws.specs.Counting.{instructions, longest};
 
 use crate::laws::ended_runs_of_machines_are_executions;
@@ -70,7 +67,7 @@ pub fn simulate(
     ensures answers { OnOk result (AnswersFit test.now protocol config choices.now) }
 
     // The counts go by the protocol's table and the shape of the caches too.
-    ensures counts { IfOk result (HasCounts (counts_of config.bus (table_of protocol) config.shape test.now config.depth choices.now)) }
+    ensures counts { IfOk result (HasCounts (counts_under test.now protocol config choices.now)) }
 
     // On the atomic bus an ended run took each instruction once, and drained each plain store once that was buffered.
     ensures counting { config.bus ≡ Bus.Atomic → IfOk result (IsCounted test.now config.depth) }
@@ -79,14 +76,15 @@ pub fn simulate(
     ensures unbuffered { config.depth ≡ 0 → IfOk result HasAllOrder }
 
     // Enough fair rounds end the test: on the atomic bus fewer than on either.
-    ensures fair { config.bus ≡ Bus.Atomic → CanBeCutIntoRounds (length test.now.programs) (2 * longest test.now.programs) choices.now → IfOk result HasEnded }
-    ensures fair_on_either_bus { CanBeCutIntoRounds (length test.now.programs) (3 * instructions test.now.programs) choices.now → IfOk result HasEnded }
+    ensures fair { config.bus ≡ Bus.Atomic → HasRounds test.now (2 * longest test.now.programs) choices.now → IfOk result HasEnded }
+    ensures fair_on_either_bus { HasRounds test.now (3 * instructions test.now.programs) choices.now → IfOk result HasEnded }
 {
     runs_are_counted();
     fair_rounds_end();
     fair_rounds_end_on_either_bus();
     atomic_runs_are_flat_runs();
     ended_runs_of_machines_are_executions();
+    // What the call ensures is that the test is within the limits: it is made for this alone.
     let _known = test.cores();
     run_with(alloc, test, protocol, config, Listed::new(choices))
 }
@@ -102,7 +100,7 @@ fn run_with<C: Choices>(
     ensures ending { IfOk result (IsEndingOf test.now (run_under test.now protocol config (C.coming choices))) }
     ensures fits { IfOk result (FitsEnding test.now) }
     ensures answers { OnOk result (AnswersFit test.now protocol config (C.coming choices)) }
-    ensures counts { IfOk result (HasCounts (counts_of config.bus (table_of protocol) config.shape test.now config.depth (C.coming choices))) }
+    ensures counts { IfOk result (HasCounts (counts_under test.now protocol config (C.coming choices))) }
 {
     match protocol {
         ProtocolKind::Msi => run_to_the_end(alloc, test, Msi, config, choices),
@@ -123,7 +121,7 @@ fn run_to_the_end<P: Protocol, C: Choices>(
     ensures ending { IfOk result (IsEndingOf test.now (run_by config.bus (P.table protocol) config test.now (C.coming choices))) }
     ensures fits { IfOk result (FitsEnding test.now) }
     ensures answers { OnOk result (AnswersFitBy (P.table protocol) config test.now (C.coming choices)) }
-    ensures counts { IfOk result (HasCounts (counts_of config.bus (P.table protocol) config.shape test.now config.depth (C.coming choices))) }
+    ensures counts { IfOk result (HasCounts (counts_by (P.table protocol) config test.now (C.coming choices))) }
 {
     attempts_lead_from_state_to_state();
     atomic_runs_are_flat_runs();
@@ -176,6 +174,7 @@ pub(crate) fn drive<P: Protocol, C: Choices>(
     attempts_lead_from_state_to_state();
     what_holds_so_far_on_either_bus();
     runs_on_either_bus_stop_where_they_end();
+    // What this call ensures is that the choices are no more than a `usize` counts.
     let _known = choices.left();
     let mut used = 0;
     let mut stalled = 0;

@@ -1,9 +1,9 @@
 //! Reading an input, and writing an answer.
 
-ghost use Rattle.std.specs.Prelude.{◌≡◌, ℕ, ◌+◌, ◌-◌, ◌^◌, ◌<◌, ◌≤◌, length, IfOk, OnOk, MatchResult};
+ghost use Rattle.std.specs.Prelude.{◌≡◌, ℕ, ◌+◌, ◌-◌, ◌^◌, ◌<◌, ◌≤◌, length, IfOk, OnOk};
 ghost use Rattle.std.specs.Io.KnownBytes.{Consumes, Appends, IsAtEnd};
 ghost use Rattle.tso_cli.specs.Limits.{longest_input};
-ghost use Rattle.tso_cli.specs.Streams.{AppendsBeginning, ConsumesAtMost};
+ghost use Rattle.tso_cli.specs.Streams.{AppendsBeginning, ConsumesAtMost, CountsReadFaults, CountsWriteFaults};
 
 use crate::counted::Counted;
 use std::alloc::{AllocError, AllocFailed, Global};
@@ -76,7 +76,7 @@ pub fn read_input<R: Read>(alloc: Global, reader: &mut Counted<R>) -> Result<Vec
     ensures end { IfOk result (λ v. length v.items < longest_input + 1 → IsAtEnd (R.remaining reader.new.0)) }
     ensures most { ConsumesAtMost (R.remaining reader.old.0) (R.remaining reader.new.0) (longest_input + 1) }
 
-    ensures faults { MatchResult result (λ _. reader.new.1 ≡ reader.old.1) (λ e. (e ≡ RunFault.Device → reader.new.1 ≡ reader.old.1 + 1) × (e ≡ RunFault.NoMemory → reader.new.1 ≡ reader.old.1)) }
+    ensures faults { CountsReadFaults result reader.old.1 reader.new.1 }
 {
     let mut input = Vec::new(alloc);
     let mut chunk = [0u8; 4096];
@@ -98,7 +98,7 @@ pub fn write_output<W: Write>(writer: &mut Counted<W>, bytes: &[u8]) -> Result<(
     ensures ok { OnOk result (Appends (W.contents writer.old.0) (W.contents writer.new.0) bytes.now) }
     ensures beginning { AppendsBeginning (W.contents writer.old.0) (W.contents writer.new.0) bytes.now }
 
-    ensures faults { MatchResult result (λ _. writer.new.1 ≡ writer.old.1) (λ e. (e ≡ RunFault.Device) × (writer.new.1 ≡ writer.old.1 + 1)) }
+    ensures faults { CountsWriteFaults result writer.old.1 writer.new.1 }
 {
     let mut at = 0;
     while at < bytes.len() {

@@ -2,11 +2,10 @@
 
 ghost use Rattle.std.specs.Prelude.{◌≡◌, ◌<◌, ◌-◌, ◌^◌, ◌==◌, if◌then◌else◌, IfOk, OnOk, length, string_bytes};
 ghost use Rattle.tso_model.specs.Runs.{CoresExist};
-ghost use Rattle.protocol_tables.specs.Tables.{table_of};
 ghost use Rattle.machine_core.specs.Running.{restarted};
 ghost use Rattle.tso_report.specs.Tally.{runs_in};
-ghost use Rattle.tso_cli.specs.Runs.{run_on_machine, AnswersFitOn};
-ghost use Rattle.tso_cli.specs.Sweep.{with_one_run, sweep_counts, AnswersFitFrom, IsSweepAnswer};
+ghost use Rattle.tso_cli.specs.Runs.{machine_run, AnswersFitOn};
+ghost use Rattle.tso_cli.specs.Sweep.{with_one_run, sweep_counts, SweepAnswersFit, EachKindWith, IsSweepAnswer};
 
 use crate::answer::{Answer, Status};
 use crate::simulation::{drive, verdict_of};
@@ -73,7 +72,7 @@ fn sweep<'a>(
     ensures test { IfOk result (λ s. s.tally.test ≡ test.now) }
     ensures counts { IfOk result (λ s. s.tally.counts ≡ sweep_counts test.now protocol config plan) }
     ensures ended { IfOk result (λ s. s.all_ended ≡ (s.tally.counts.unfinished == 0)) }
-    ensures answers { OnOk result (AnswersFitFrom test.now protocol config plan.length plan.from plan.seeds) }
+    ensures answers { OnOk result (SweepAnswersFit test.now protocol config plan) }
 {
     match protocol {
         ProtocolKind::Msi => sweep_on(alloc, test, Msi, config, plan),
@@ -92,9 +91,9 @@ fn sweep_on<'a, P: Protocol>(
     plan: SweepPlan,
 ) -> Result<Swept<'a>, NoMemory>
     ensures test { IfOk result (λ s. s.tally.test ≡ test.now) }
-    ensures counts { (kind : ProtocolKind) → P.table protocol ≡ table_of kind → IfOk result (λ s. s.tally.counts ≡ sweep_counts test.now kind config plan) }
+    ensures counts { EachKindWith (P.table protocol) (λ kind. IfOk result (λ s. s.tally.counts ≡ sweep_counts test.now kind config plan)) }
     ensures ended { IfOk result (λ s. s.all_ended ≡ (s.tally.counts.unfinished == 0)) }
-    ensures answers { (kind : ProtocolKind) → P.table protocol ≡ table_of kind → OnOk result (AnswersFitFrom test.now kind config plan.length plan.from plan.seeds) }
+    ensures answers { EachKindWith (P.table protocol) (λ kind. OnOk result (SweepAnswersFit test.now kind config plan)) }
 {
     let mut tally = Tally::new(alloc, test)?;
     let mut machine = Machine::new(alloc, protocol, test, config)?;
@@ -123,8 +122,8 @@ fn count_run<P: Protocol, C: Choices>(
     requires cores { CoresExist (length test.now.programs) (C.coming choices) }
     requires room { runs_in tally.old.counts < 2 ^ 32 - 1 }
 
-    ensures ended { IfOk result (λ b. b ≡ (run_on_machine machine.old (C.coming choices)).ended) }
-    ensures counts { OnOk result (tally.new.counts ≡ with_one_run test.now (run_on_machine machine.old (C.coming choices)) tally.old.counts) }
+    ensures ended { IfOk result (λ b. b ≡ (machine_run machine.old (C.coming choices)).ended) }
+    ensures counts { OnOk result (tally.new.counts ≡ with_one_run test.now (machine_run machine.old (C.coming choices)) tally.old.counts) }
     ensures test { tally.new.test ≡ tally.old.test }
     ensures answers { OnOk result (AnswersFitOn machine.old (C.coming choices)) }
     ensures again { OnOk result (machine.new ≡ machine.old) }
@@ -132,6 +131,7 @@ fn count_run<P: Protocol, C: Choices>(
     attempts_lead_from_state_to_state();
     atomic_runs_are_flat_runs();
     runs_on_either_bus_stop_where_they_end();
+    // What the call ensures is that the test is within the limits: it is made for this alone.
     let _known = test.cores();
     let mut choices = choices;
     drive(machine, &mut choices)?;

@@ -1,10 +1,11 @@
 //! The answer of `witness`.
 
-ghost use Rattle.std.specs.Prelude.{◌≡◌, ◌≤◌, IfOk, string_bytes};
+ghost use Rattle.std.specs.Prelude.{IfOk, string_bytes};
 ghost use Rattle.tso_model.specs.Execution.{IsTsoExecution};
 ghost use Rattle.tso_model.specs.declared.choice.Choice.{Choice};
 ghost use Rattle.order_builder.specs.Spelling.{IsOrderFor};
 ghost use Rattle.command_line.specs.Limits.{IsDepth};
+ghost use Rattle.tso_cli.specs.Answers.{Says};
 ghost use Rattle.tso_cli.specs.Lines.{depth_line};
 ghost use Rattle.tso_cli.specs.Witness.{choices_line, IsWitness, IsWitnessAnswer};
 
@@ -49,6 +50,7 @@ fn witnessed(
 {
     order_can_be_printed();
     made_entries_fit_the_test();
+    // What the call ensures is that the test is within the limits: it is made for this alone.
     let _known = test.cores();
     match check_order(alloc, test, execution) {
         Ok(()) => reached(alloc, test, depth, execution),
@@ -69,8 +71,7 @@ fn reached(alloc: Global, test: &Test, depth: u8, execution: &Execution) -> Resu
 }
 
 fn found(alloc: Global, choices: &[Choice]) -> Result<Answer, NoMemory>
-    ensures text { IfOk result (λ a. string_bytes a.text ≡ choices_line choices.now) }
-    ensures status { IfOk result (λ a. a.status ≡ Status.Good) }
+    ensures { IfOk result (λ a. Says a (choices_line choices.now) Status.Good) }
 {
     let choices = choices_text(alloc, choices)?;
     let text = format!(in alloc; "{choices}\n")?;
@@ -81,8 +82,7 @@ fn found(alloc: Global, choices: &[Choice]) -> Result<Answer, NoMemory>
 }
 
 fn too_small(alloc: Global, needed: u8) -> Result<Answer, NoMemory>
-    ensures text { IfOk result (λ a. string_bytes a.text ≡ depth_line needed) }
-    ensures status { IfOk result (λ a. a.status ≡ Status.Invalid) }
+    ensures { IfOk result (λ a. Says a (depth_line needed) Status.Invalid) }
 {
     let text = format!(in alloc; "Depth needed={needed}\n")?;
     Ok(Answer {

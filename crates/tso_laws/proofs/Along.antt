@@ -3,17 +3,18 @@ use Rattle.std.proofs.Common.{max, ◌≡◌, ◌≢◌, ◌<◌, ◌≤◌, ℕ
 use Rattle.std.proofs.Math.ListN.{length-set}
 use Rattle.tso_model.specs.Litmus.{Litmus}
 use Rattle.tso_model.specs.ProgramOrder.{is_store, is_load}
-use Rattle.tso_laws.proofs.Ranks.{rank, is_store_kind}
+use Rattle.basic_laws.specs.Ranks.{rank}
+use Rattle.basic_laws.proofs.Ranks.{is_store_kind}
 use Rattle.tso_model.specs.Execution.{made_by, read_values}
 use Rattle.tso_model.specs.declared.execution.Entry.{Entry}
 use Rattle.tso_model.specs.declared.instruction.Instr.{Instr}
 use Rattle.tso_model.specs.declared.choice.Choice.{Choice}
-use Rattle.tso_laws.proofs.Basics.{decide, lt-or, max-first, max-second, and-left, and-right}
+use Rattle.basic_laws.proofs.Basics.{decide, lt-or, max-first, max-second, and-left, and-right}
 use Rattle.tso_laws.specs.Choices.{state_after, commits_of}
 use Rattle.tso_model.specs.FlatMachine.{core_of, CoreState, State, idle, program_of, effect_of, chosen, after_choice, start, step}
 use Rattle.tso_model.specs.Runs.{CoresExist, is_done, all_done, has_ended, run_from, stall_count}
 use Rattle.tso_laws.specs.Along.{steps, drained, choices_for, places_after, last_steps, choices_from, beginnings, choices_along, LeadTo}
-use Rattle.tso_laws.proofs.Lists.{Member, drop_end}
+use Rattle.basic_laws.proofs.Lists.{Member, drop-end}
 use Rattle.tso_laws.proofs.Sees.{Queued}
 use Rattle.tso_laws.proofs.Holds.{left, trace}
 use Rattle.tso_laws.proofs.World.{world-start}
@@ -144,7 +145,7 @@ leads-append d t done back state xs ys a c h = record {
 
 done-all : (d : ℕ) (t : Litmus) (order front : List Entry) (state : State) → Stands d t order front [] state → ((k : ℕ) → k < length t.programs → (core_of state k).place ≡ length (program_of t k)) → has_ended t state ≡ true
 done-all d t order front state st f = all-done t.programs state.cores (λ k l. let i : k < length t.programs = (let n = st.world.size in omega arith) in
-    done-now d (program_of t k) (core_of state k) (rw (f k i, drop_end (program_of t k) (length (program_of t k)) refl, st.waits k i) (omega arith)) (st.within k i))
+    done-now d (program_of t k) (core_of state k) (rw (f k i, drop-end (program_of t k) (length (program_of t k)) refl, st.waits k i) (omega arith)) (st.within k i))
 
 -- the moves that are left at the end
 finals : (d : ℕ) (t : Litmus) (order front : List Entry) (ps : List (List Instr)) (c : ℕ) (state : State) (places : List ℕ) → Good d t order → Stands d t order front [] state

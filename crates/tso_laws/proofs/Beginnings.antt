@@ -3,7 +3,7 @@ use Rattle.std.proofs.Common.{◌≡◌, ◌≤◌, ◌<◌, ℕ, ◌+◌, suc, 
 use Rattle.std.proofs.lemmas.Option.{slice_get_within, get_or_from_slice_get}
 use Rattle.tso_model.specs.Litmus.{Litmus}
 use Rattle.tso_model.specs.Execution.{KeepsAllOrder}
-use Rattle.tso_laws.proofs.Basics.{and-right}
+use Rattle.basic_laws.proofs.Basics.{and-right}
 use Rattle.tso_laws.proofs.Folds.{needed-is, HasEnded, HasLocations}
 use Rattle.tso_model.specs.declared.instruction.Instr.{Instr}
 use Rattle.tso_model.specs.declared.choice.Choice.{Choice}

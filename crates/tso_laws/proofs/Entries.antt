@@ -2,14 +2,14 @@
 use Rattle.std.proofs.Common.{◌≡◌, ◌<◌, ◌≤◌, ℕ, suc, List, [], ◌∷◌, ◌++◌, Bool, true, false, length, slice_index, arith, sym, ◌∙◌, append_assoc, refl, subst, ◌==◌, ◌&&◌, if◌then◌else◌}
 use Rattle.std.proofs.lemmas.Bool.Decides.{nat_tests}
 use Rattle.tso_model.specs.ProgramOrder.{same_kind, is_write, is_read, is_before, may_be_passed, writes_to, is_store, is_load}
-use Rattle.tso_laws.proofs.Ranks.{is_write_kind, is_read_kind}
+use Rattle.basic_laws.proofs.Ranks.{is_write_kind, is_read_kind}
 use Rattle.tso_model.specs.Execution.{read_value, is_at}
-use Rattle.tso_laws.proofs.Basics.{and-true}
+use Rattle.basic_laws.proofs.Basics.{and-true}
 use Rattle.tso_laws.proofs.Folds.{last_word, last_own, passed}
 use Rattle.tso_model.specs.declared.execution.Entry.{Entry}
 use Rattle.tso_model.specs.declared.execution.Kind.{Kind}
 use Rattle.tso_model.specs.declared.execution.Kind.TheVariants.{R, W, F, LR, LW}
-use Rattle.tso_laws.proofs.Lists.{Each, each-insert, each-left, append-nil}
+use Rattle.basic_laws.proofs.Lists.{Each, each-insert, each-left, append-nil}
 
 -- where y stands after x in the order, and before it in the program of core c, y is a store and x a load
 abbrev pub Fine : ℕ → ℕ → Entry → Entry → Type 0
@@ -83,10 +83,10 @@ count-insert-other c [] ys e h = rw h refl
 count-insert-other c (x ∷ xs) ys e h = rw (count-insert-other c xs ys e h) refl
 
 -- the value read at a place that the front has not come to is that of the entry
-pub read_value-behind : (c place : ℕ) (kind : Kind) (xs ys : List Entry) (e : Entry) → Each (λ x. x.core.0 ≡ c → x.place < place) xs → is_at c place kind e ≡ true → read_value c place kind (xs ++ (e ∷ ys)) ≡ e.value
-read_value-behind c place kind [] ys e h r = rw r refl
-read_value-behind c place kind (x ∷ xs) ys e h r =
-    let n : is_at c place kind x ≡ false = other c place kind x h.0 in rw n (read_value-behind c place kind xs ys e h.1 r)
+pub read_value-after : (c place : ℕ) (kind : Kind) (xs ys : List Entry) (e : Entry) → Each (λ x. x.core.0 ≡ c → x.place < place) xs → is_at c place kind e ≡ true → read_value c place kind (xs ++ (e ∷ ys)) ≡ e.value
+read_value-after c place kind [] ys e h r = rw r refl
+read_value-after c place kind (x ∷ xs) ys e h r =
+    let n : is_at c place kind x ≡ false = other c place kind x h.0 in rw n (read_value-after c place kind xs ys e h.1 r)
   where
     other : (c place : ℕ) (kind : Kind) (x : Entry) → (x.core.0 ≡ c → x.place < place) → is_at c place kind x ≡ false
     other c place kind x h = go x.core.0 x.place (same_kind x.kind kind) h

@@ -5,14 +5,14 @@ use Rattle.std.proofs.lemmas.Bool.Decides.{nat_tests}
 use Rattle.tso_model.specs.Litmus.{Litmus}
 use Rattle.tso_model.specs.ProgramOrder.{is_read, is_before, may_be_passed, is_load, is_store}
 use Rattle.tso_model.specs.Execution.{made_by, made_from, made, IsTsoExecution, IsStorePart, KeepsPairs, KeepsProgramOrder, KeepsAllOrder}
-use Rattle.tso_laws.proofs.Basics.{test-false, le-cases, lt-by, max-within, not-itself}
+use Rattle.basic_laws.proofs.Basics.{test-false, le-cases, lt-by, max-within, not-itself}
 use Rattle.tso_laws.proofs.Folds.{last_word, last_own, passed, asks, needs, HasEnded, word-is, due-is}
 use Rattle.tso_model.specs.FinalState.{registers_of, registers_from, final_registers, words_from, word_after}
 use Rattle.tso_model.specs.declared.execution.Entry.{Entry}
 use Rattle.tso_model.specs.declared.instruction.Instr.{Instr}
 use Rattle.tso_model.specs.FlatMachine.{core_of, CoreState, State, idle, program_of}
 use Rattle.tso_model.specs.declared.execution.Kind.TheVariants.{LR}
-use Rattle.tso_laws.proofs.Lists.{Each, each-append, each-at, each-right, Member, member-at, drop_end, append-nil}
+use Rattle.basic_laws.proofs.Lists.{Each, each-append, each-at, each-right, Member, member-at, drop-end, append-nil}
 use Rattle.tso_laws.proofs.Entries.{ordered-left, few-left, Fine, Ordered, Few, DueIn, count}
 use Rattle.tso_laws.proofs.Sees.{Sees}
 use Rattle.tso_laws.proofs.Holds.{Holds, left, trace, IsMemory, Paired}
@@ -25,7 +25,7 @@ pub record Ended (d : ℕ) (t : Litmus) (order : List Entry) (k : ℕ) : Type 0 
   pub members : Each (λ e. Member e order) (made_by k (program_of t k) (slice_index_or t.registers k []) order)
 
 nothing_left : (k : ℕ) (program : List Instr) (s : CoreState) (order : List Entry) → length program ≡ s.place → left k program s order ≡ []
-nothing_left k program s order h = rw (drop_end program s.place h) refl
+nothing_left k program s order h = rw (drop-end program s.place h) refl
 
 ended : (d : ℕ) (t : Litmus) (order : List Entry) (k : ℕ) (s : CoreState) → Holds d k (program_of t k) (slice_index_or t.registers k []) t.words order s
     → length (program_of t k) ≡ s.place → s.pending ≡ [] → Ended d t order k

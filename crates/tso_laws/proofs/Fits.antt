@@ -11,7 +11,7 @@ use Rattle.tso_model.specs.declared.action.Action.TheVariants.{Store, Load, Move
 use Rattle.tso_model.specs.declared.execution.Entry.{Entry}
 use Rattle.tso_model.specs.declared.execution.Kind.TheVariants.{F}
 use Rattle.tso_laws.specs.Entries.{FitsTest}
-use Rattle.tso_laws.proofs.Lists.{Each, each-append, Member}
+use Rattle.basic_laws.proofs.Lists.{Each, each-append, Member}
 use Rattle.tso_laws.proofs.Folds.{HasLocations}
 use Rattle.tso_laws.proofs.Held.{each-of}
 use Rattle.tso_laws.proofs.Goes.{first_of}

@@ -4,7 +4,7 @@ use Rattle.std.proofs.lemmas.Bool.Decides.{nat_tests}
 use Rattle.std.specs.Prelude.{filter}
 use Rattle.tso_model.specs.Litmus.{Litmus, KnownLocation}
 use Rattle.tso_model.specs.ProgramOrder.{is_store, is_load, is_read, is_before, writes_to}
-use Rattle.tso_laws.proofs.Ranks.{is_store_kind, is_load_kind}
+use Rattle.basic_laws.proofs.Ranks.{is_store_kind, is_load_kind}
 use Rattle.tso_model.specs.Execution.{last_value, counting}
 use Rattle.tso_model.specs.FlatMachine.{CoreState, State, Effect, program_of}
 use Rattle.tso_model.specs.declared.instruction.Instr.{Instr}
@@ -12,7 +12,7 @@ use Rattle.tso_model.specs.declared.execution.Entry.{Entry}
 use Rattle.tso_model.specs.declared.execution.Kind.{Kind}
 use Rattle.tso_model.specs.declared.execution.Kind.TheVariants.{R, W, F, LR, LW}
 use Rattle.tso_model.specs.declared.choice.Outcome.TheVariants.{Buffered}
-use Rattle.tso_laws.proofs.Basics.{and-true, and-false}
+use Rattle.basic_laws.proofs.Basics.{and-true, and-false}
 use Rattle.tso_laws.specs.Depth.{asked, stores_before, most_passed, one_for_stores, needed}
 
 -- the word of a location after these entries

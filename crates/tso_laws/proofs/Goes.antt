@@ -5,7 +5,7 @@ use Rattle.std.proofs.lemmas.Bool.Decides.{nat_tests}
 use Rattle.tso_model.specs.Actions.{action_of}
 use Rattle.tso_model.specs.Thread.{entries_by, entries_of}
 use Rattle.tso_model.specs.Litmus.{Litmus}
-use Rattle.tso_laws.proofs.Basics.{decide}
+use Rattle.basic_laws.proofs.Basics.{decide}
 use Rattle.tso_laws.proofs.Folds.{needs, HasDueValues, HasLocations}
 use Rattle.tso_model.specs.ProgramOrder.{is_store}
 use Rattle.tso_model.specs.Execution.{made_by}
@@ -17,7 +17,7 @@ use Rattle.tso_model.specs.declared.choice.Choice.{Choice}
 use Rattle.tso_model.specs.FlatMachine.{core_of, State, idle, program_of, effect_of, chosen, after_choice}
 use Rattle.tso_laws.specs.Choices.{state_after, commits_of}
 use Rattle.tso_model.specs.Runs.{stall_count}
-use Rattle.tso_laws.proofs.Lists.{Each, each-map, each-append, Member, append-nil}
+use Rattle.basic_laws.proofs.Lists.{Each, each-map, each-append, Member, append-nil}
 use Rattle.tso_laws.proofs.Entries.{Ordered}
 use Rattle.tso_laws.proofs.Holds.{Holds, Paired}
 use Rattle.tso_laws.proofs.World.{World, world-choose}

@@ -2,13 +2,14 @@
 use Rattle.std.proofs.Common.{◌≡◌, ◌≢◌, ◌<◌, ◌≤◌, ℕ, ◌+◌, suc, List, [], ◌∷◌, ◌++◌, Bool, true, false, length, arith, ap, sym, ◌∙◌, refl, ◌⊎◌, inl, inr, subst, ◌==◌, ◌&&◌, nat_lt, if◌then◌else◌, ◌||◌}
 use Rattle.std.proofs.lemmas.Bool.Decides.{nat_tests}
 use Rattle.tso_model.specs.ProgramOrder.{is_before, writes_to, is_store}
-use Rattle.tso_laws.proofs.Ranks.{rank, part_of, is_store_kind, by-rank}
-use Rattle.tso_laws.proofs.Basics.{and-true, and-false}
+use Rattle.basic_laws.specs.Ranks.{rank, part_of}
+use Rattle.basic_laws.proofs.Ranks.{is_store_kind, by-rank}
+use Rattle.basic_laws.proofs.Basics.{and-true, and-false}
 use Rattle.tso_laws.proofs.Folds.{passes, last_word, last_own, passed}
 use Rattle.tso_model.specs.declared.execution.Entry.{Entry}
 use Rattle.tso_model.specs.declared.execution.Kind.{Kind}
 use Rattle.tso_model.specs.declared.execution.Kind.TheVariants.{R, W, F, LR, LW}
-use Rattle.tso_laws.proofs.Lists.{Each, Member}
+use Rattle.basic_laws.proofs.Lists.{Each, Member}
 use Rattle.tso_laws.proofs.Entries.{Fine, Ordered}
 
 pub member-left : {A : Type 0} (e : A) (xs ys : List A) → Member e xs → Member e (xs ++ ys)
@@ -102,8 +103,8 @@ is_store-kind e h = go e.kind h
     go LW h = absurd (let z : ⊥ = cc in z)
 
 -- stores of a core after one of its stores stand after it in the program
-store-behind : (d k : ℕ) (x y : Entry) → Fine d k x y → Apart x y → x.core.0 ≡ k → is_store x ≡ true → y.core.0 ≡ k → is_store y ≡ true → x.place < y.place
-store-behind d k x y f a p w q u =
+store-after : (d k : ℕ) (x y : Entry) → Fine d k x y → Apart x y → x.core.0 ≡ k → is_store x ≡ true → y.core.0 ≡ k → is_store y ≡ true → x.place < y.place
+store-after d k x y f a p w q u =
     go (is_before y x) refl
   where
     go : (t : Bool) → is_before y x ≡ t → x.place < y.place
@@ -117,12 +118,12 @@ held-more d k n [] e o u m c p w = absurd m
 held-more d k n (y ∷ ys) e o u (inl q) c p w =
     let a : is_held k (n + 1) y ≡ true = some-test (is_store y) y.core.0 k y.place (n + 1) (ap (λ z. z.core.0) (sym q) ∙ c) (ap is_store (sym q) ∙ w) (let r = ap (λ z. z.place) q in omega arith) in
     let b : is_held k n y ≡ false = none-test (is_store y) y.core.0 k y.place n (λ f g. let r = ap (λ z. z.place) q in omega arith) in
-    rw (a, b, held-none k (n + 1) ys (λ x i f g. let l = behind x i f g in omega arith), held-none k n ys (λ x i f g. let l = behind x i f g in omega arith)) (ap (λ z. z ∷ []) (sym q))
+    rw (a, b, held-none k (n + 1) ys (λ x i f g. let l = later x i f g in omega arith), held-none k n ys (λ x i f g. let l = later x i f g in omega arith)) (ap (λ z. z ∷ []) (sym q))
   where
-    behind : (x : Entry) → Member x ys → x.core.0 ≡ k → is_store x ≡ true → n < x.place
-    behind x i f g =
+    later : (x : Entry) → Member x ys → x.core.0 ≡ k → is_store x ≡ true → n < x.place
+    later x i f g =
         let r = ap (λ z. z.place) q in
-        let l = store-behind d k y x (each-of (λ z. Fine d k y z) x ys o.0 i) (each-of (Apart y) x ys u.0 i) (ap (λ z. z.core.0) (sym q) ∙ c) (ap is_store (sym q) ∙ w) f g in omega arith
+        let l = store-after d k y x (each-of (λ z. Fine d k y z) x ys o.0 i) (each-of (Apart y) x ys u.0 i) (ap (λ z. z.core.0) (sym q) ∙ c) (ap is_store (sym q) ∙ w) f g in omega arith
 held-more d k n (y ∷ ys) e o u (inr m) c p w =
     let s = same-test (is_store y) y.core.0 k y.place n (λ f g h. each-of (Apart y) e ys u.0 m (f ∙ sym c) (let a = store-rank y g in let b = store-rank e w in omega arith)) in
     let h = held-more d k n ys e o.1 u.1 m c p w in

@@ -7,7 +7,8 @@ use Rattle.tso_model.specs.Actions.{action_of, location_of}
 use Rattle.tso_model.specs.Thread.{entry, fence, value_in, with_value, value_of, updated}
 use Rattle.tso_model.specs.ProgramOrder.{is_write}
 use Rattle.tso_laws.proofs.Draining.{waits-or-acts, drains}
-use Rattle.tso_laws.proofs.Ranks.{is_write_kind, rank}
+use Rattle.basic_laws.proofs.Ranks.{is_write_kind}
+use Rattle.basic_laws.specs.Ranks.{rank}
 use Rattle.tso_model.specs.Execution.{IsStorePart, is_at, read_value, made_by}
 use Rattle.tso_model.specs.FinalState.{registers_of}
 use Rattle.tso_model.specs.FlatMachine.{CoreState, effect_by, step_of, drain_of, stalled, stored, advanced, advanced_with, load_value, fenced, locked}
@@ -19,11 +20,11 @@ use Rattle.tso_model.specs.declared.action.Action.TheVariants.{Store, Load, Move
 use Rattle.tso_model.specs.declared.execution.Entry.{Entry}
 use Rattle.tso_model.specs.declared.execution.Kind.TheVariants.{R, W, LR, LW}
 use Rattle.tso_model.specs.declared.choice.Stall.TheVariants as stall
-use Rattle.tso_laws.proofs.Lists.{Each, each-map, each-append, each-left, append-nil}
+use Rattle.basic_laws.proofs.Lists.{Each, each-map, each-append, each-left, append-nil}
 use Rattle.tso_laws.proofs.Folds.{last_word, word-is, put}
 use Rattle.tso_laws.proofs.Threads.{makes, leaves, makes-split, makes-next, leaves-next}
-use Rattle.tso_laws.proofs.Entries.{read_value-behind}
-use Rattle.tso_laws.proofs.Sees.{Sees, Behind, Queued, sees-other, sees-load, sees-store, sees-last, sees-later}
+use Rattle.tso_laws.proofs.Entries.{read_value-after}
+use Rattle.tso_laws.proofs.Sees.{Sees, Precedes, Queued, sees-other, sees-load, sees-store, sees-last, sees-later}
 
 -- what is left of a core's program, under the order's own read values
 abbrev pub left : ℕ → List Instr → CoreState → List Entry → List Entry
@@ -71,8 +72,8 @@ holds-other d c program first words commits s e h n = record {
 store_rank : (e : Entry) → e.kind ≡ W → rank e ≡ e.place + e.place
 store_rank e w = rw w (omega arith)
 
-behind_place : (c place : ℕ) (xs : List Entry) → Each (Behind c (place + place)) xs → Each (λ x. x.core.0 ≡ c → x.place < place) xs
-behind_place c place xs h = each-map (Behind c (place + place)) (λ x. x.core.0 ≡ c → x.place < place) xs (λ x f k. let l = f k in omega (arith, l)) h
+preceding_place : (c place : ℕ) (xs : List Entry) → Each (Precedes c (place + place)) xs → Each (λ x. x.core.0 ≡ c → x.place < place) xs
+preceding_place c place xs h = each-map (Precedes c (place + place)) (λ x. x.core.0 ≡ c → x.place < place) xs (λ x f k. let l = f k in omega (arith, l)) h
 
 -- the instruction at the core's place makes these entries and leaves these registers
 pub record Issues (c : ℕ) (s : CoreState) (i : Instr) (order es : List Entry) (next : List ℕ) : Type 0 where
@@ -138,7 +139,7 @@ holds-load d c program first words memory commits s i loc reg h at m l next =
     let v : ℕ = load_value memory s loc.0 in
     let e : Entry = entry c s.place R loc v in
     let read : (X : List Entry) → read_value c s.place R (commits ++ (e ∷ X)) ≡ v = λ X.
-    read_value-behind c s.place R commits X e (behind_place c s.place commits (each-left (Behind c (s.place + s.place)) commits s.pending h.sees.behind)) (reads c s.place loc v) in
+    read_value-after c s.place R commits X e (preceding_place c s.place commits (each-left (Precedes c (s.place + s.place)) commits s.pending h.sees.preceding)) (reads c s.place loc v) in
     record {
       done = h.done ++ (e ∷ []);
       sees = sees-load d c (s.place + s.place) ((s.place + 1) + (s.place + 1)) words h.done commits s.pending e h.sees h.queued h.fits refl (omega arith) (omega arith) refl
@@ -248,7 +249,7 @@ holds-locked d c program first words memory commits s i loc reg w h at m l next 
         let both : Sees d c ((s.place + 1) + (s.place + 1)) words ((h.done ++ (a ∷ [])) ++ (b ∷ [])) ((commits ++ (a ∷ [])) ++ (b ∷ [])) =
         sees-store d c (s.place + s.place + 1) ((s.place + 1) + (s.place + 1)) words (h.done ++ (a ∷ [])) (commits ++ (a ∷ [])) b read refl (omega arith) (omega arith) refl in
         let value : (X : List Entry) → read_value c s.place LR (commits ++ (a ∷ (b ∷ X))) ≡ v = λ X.
-        read_value-behind c s.place LR commits (b ∷ X) a (behind_place c s.place commits before.behind) (reads c s.place loc v) in
+        read_value-after c s.place LR commits (b ∷ X) a (preceding_place c s.place commits before.preceding) (reads c s.place loc v) in
         record {
           done = h.done ++ (a ∷ (b ∷ []));
           sees = subst (λ z. Sees d c ((s.place + 1) + (s.place + 1)) words z ((commits ++ (a ∷ (b ∷ []))) ++ s.pending)) (append_assoc h.done (a ∷ []) (b ∷ []))

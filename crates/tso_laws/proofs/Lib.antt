@@ -1,7 +1,4 @@
-pub mod Ranks
 pub mod Draining
-pub mod Basics
-pub mod Lists
 pub mod Folds
 pub mod Entries
 pub mod Sees

@@ -4,11 +4,11 @@ use Rattle.std.proofs.lemmas.Bool.Decides.{nat_tests}
 use Rattle.tso_model.specs.Actions.{action_of}
 use Rattle.tso_model.specs.Thread.{entries_by, entries_of}
 use Rattle.tso_model.specs.Litmus.{Litmus}
-use Rattle.tso_laws.proofs.Basics.{max-left, max-right, max-within, load-kind}
+use Rattle.basic_laws.proofs.Basics.{max-left, max-right, max-within, load-kind}
 use Rattle.tso_laws.specs.Depth.{needed}
 use Rattle.tso_laws.specs.Counting.{store_count, stores_in, most_stores}
 use Rattle.tso_model.specs.ProgramOrder.{is_store, is_load}
-use Rattle.tso_laws.proofs.Ranks.{rank}
+use Rattle.basic_laws.specs.Ranks.{rank}
 use Rattle.tso_laws.proofs.Folds.{needed-is, passed, asks, needs}
 use Rattle.tso_model.specs.Execution.{read_values, made_by, IsTsoExecution}
 use Rattle.tso_model.specs.declared.execution.Entry.{Entry}
@@ -16,7 +16,7 @@ use Rattle.tso_model.specs.declared.instruction.Instr.{Instr}
 use Rattle.tso_model.specs.declared.action.Action.{Action}
 use Rattle.tso_model.specs.declared.action.Action.TheVariants.{Store, Load, Move, Fence, Lock}
 use Rattle.tso_model.specs.FlatMachine.{program_of}
-use Rattle.tso_laws.proofs.Lists.{Member}
+use Rattle.basic_laws.proofs.Lists.{Member}
 use Rattle.tso_laws.proofs.Held.{member-left, member-right, member-split, each-of, Distinct, Apart, is_held, held, held-passed}
 use Rattle.tso_laws.proofs.Goes.{first_of}
 use Rattle.tso_laws.proofs.Whole.{cut-at, length-middle, each-from, Own, whole-own}

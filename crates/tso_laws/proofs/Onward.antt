@@ -4,10 +4,11 @@ use Rattle.std.proofs.lemmas.Option.{slice_get-get_or}
 use Rattle.tso_model.specs.Actions.{action_of}
 use Rattle.tso_model.specs.Thread.{entry, value_in, with_value, value_of, updated, entries_by, entries_of}
 use Rattle.tso_model.specs.Litmus.{Litmus}
-use Rattle.tso_laws.proofs.Basics.{le-by, max-left, max-right, and-false, part-small, load-kind, before, core-before}
+use Rattle.basic_laws.proofs.Basics.{le-by, max-left, max-right, and-false, part-small, load-kind, before, core-before}
 use Rattle.tso_laws.proofs.Folds.{needs, asks, passed, passes, last_word, last_own, word-is}
 use Rattle.tso_model.specs.ProgramOrder.{is_write, is_before, may_be_passed, is_store, is_load}
-use Rattle.tso_laws.proofs.Ranks.{is_read_kind, rank, is_store_kind, is_load_kind}
+use Rattle.basic_laws.proofs.Ranks.{is_read_kind, is_store_kind, is_load_kind}
+use Rattle.basic_laws.specs.Ranks.{rank}
 use Rattle.tso_model.specs.Execution.{read_value, read_values}
 use Rattle.tso_model.specs.declared.execution.Entry.{Entry}
 use Rattle.tso_model.specs.declared.instruction.Loc.{Loc}
@@ -20,7 +21,7 @@ use Rattle.tso_model.specs.declared.action.Action.{Action}
 use Rattle.tso_model.specs.declared.action.Action.TheVariants.{Store, Load, Move, Fence, Lock}
 use Rattle.tso_model.specs.FlatMachine.{core_of, CoreState, State, program_of, advanced, advanced_with, loaded, load_value, fenced, locked, effect_of, after_choice, step, drain}
 use Rattle.tso_laws.specs.Along.{drained}
-use Rattle.tso_laws.proofs.Lists.{Each, each-map, each-append, Member, drop_at}
+use Rattle.basic_laws.proofs.Lists.{Each, each-map, each-append, Member, drop-at}
 use Rattle.tso_laws.proofs.Entries.{Fine}
 use Rattle.tso_laws.proofs.Draining.{acts-when}
 use Rattle.tso_model.specs.declared.choice.Stall.TheVariants as stall
@@ -63,10 +64,10 @@ only-stores d t order front back state x g st l e (inl q) c p = absurd (let r = 
 only-stores d t order front back state x g st l e (inr m) c p = passes-store e.kind x.kind (fine-at d t order front back state x e g st l m (place-before e x c p))
 
 -- only a load has own stores after it that stand before it in the program
-behind-all : (d : ℕ) (t : Litmus) (order front back : List Entry) (state : State) (x e : Entry) → Good d t order → Stands d t order front (x ∷ back) state → x.core.0 < length t.programs
+after-all : (d : ℕ) (t : Litmus) (order front back : List Entry) (state : State) (x e : Entry) → Good d t order → Stands d t order front (x ∷ back) state → x.core.0 < length t.programs
     → is_load x ≡ false → Member e (x ∷ back) → e.core.0 ≡ x.core.0 → x.place ≤ e.place
-behind-all d t order front back state x e g st l n (inl q) c = let r = ap (λ z. z.place) q in omega arith
-behind-all d t order front back state x e g st l n (inr m) c =
+after-all d t order front back state x e g st l n (inl q) c = let r = ap (λ z. z.place) q in omega arith
+after-all d t order front back state x e g st l n (inr m) c =
     le-by (λ p. let h = passes-load e.kind x.kind (fine-at d t order front back state x e g st l m (place-before e x c p)) in let z : ⊥ = cc in z)
 
 needed-right : (xs ys : List Entry) → needs ys ≤ needs (xs ++ ys)
@@ -76,7 +77,7 @@ needed-right (x ∷ xs) ys = let h = needed-right xs ys in let l = max-right (as
 pub held-fits : (d : ℕ) (t : Litmus) (order front back : List Entry) (state : State) (x : Entry) → Good d t order → Stands d t order front (x ∷ back) state → x.core.0 < length t.programs
     → (b : Bool) → is_load x ≡ b → length (held x.core.0 x.place (x ∷ back)) ≤ d
 held-fits d t order front back state x g st l false q =
-    rw (held-none x.core.0 x.place (x ∷ back) (λ e m c w. behind-all d t order front back state x e g st l q m c)) (omega arith)
+    rw (held-none x.core.0 x.place (x ∷ back) (λ e m c w. after-all d t order front back state x e g st l q m c)) (omega arith)
 held-fits d t order front back state x g st l true q =
     let r = load-kind x.kind q in
     let s : is_store x ≡ false = ap is_store_kind r in
@@ -118,7 +119,7 @@ store-onward d t order front back state x e g st l p u q registers reads eq w =
     let is = only (at-place d t order front (x ∷ back) state k g st l (e ∷ []) q registers reads eq x (x-in-order d t order front back state x x st (inl refl)) refl (sym p)) in
     let v : is_store x ≡ true = ap is_store is ∙ w in
     let f : OnlyStores k (s.place + 1) (x ∷ back) = λ y m c n. by_place y m c n in
-    let empty : held k s.place (x ∷ back) ≡ [] = held-none k s.place (x ∷ back) (λ y m c z. let h = behind-all d t order front back state x y g st l (not-load x.kind v) m c in omega arith) in
+    let empty : held k s.place (x ∷ back) ≡ [] = held-none k s.place (x ∷ back) (λ y m c z. let h = after-all d t order front back state x y g st l (not-load x.kind v) m c in omega arith) in
     let more = held-more 1 k s.place (x ∷ back) x (back-ordered d t order front (x ∷ back) state k g st l) (back-distinct d t order front (x ∷ back) state g st) (inl refl) refl (sym p) v in
     let one : held k (s.place + 1) (x ∷ back) ≡ x ∷ [] = more ∙ ap (λ z. z ++ (x ∷ [])) empty in
     let deep : 1 ≤ d = (let a : asks x back ≡ 1 = rw (not-load x.kind v, v) refl in let b = max-left (asks x back) (needs back) in
@@ -197,7 +198,7 @@ load-onward d t order front back state x reg loc rv g st l p u known q registers
 none-waits : (d : ℕ) (t : Litmus) (order front back : List Entry) (state : State) (x : Entry) → Good d t order → Stands d t order front (x ∷ back) state → x.core.0 < length t.programs
     → (core_of state x.core.0).place ≡ x.place → is_load x ≡ false → (core_of state x.core.0).pending ≡ []
 none-waits d t order front back state x g st l p n =
-    st.waits x.core.0 l ∙ held-none x.core.0 (core_of state x.core.0).place (x ∷ back) (λ y m c w. let h = behind-all d t order front back state x y g st l n m c in omega arith)
+    st.waits x.core.0 l ∙ held-none x.core.0 (core_of state x.core.0).place (x ∷ back) (λ y m c w. let h = after-all d t order front back state x y g st l n m c in omega arith)
 
 -- nor after it, where its instruction makes no store
 none-after : (d : ℕ) (t : Litmus) (order front back : List Entry) (state : State) (x : Entry) (new rest : List Entry) → Good d t order → Stands d t order front (x ∷ back) state → x.core.0 < length t.programs
@@ -206,7 +207,7 @@ none-after : (d : ℕ) (t : Litmus) (order front back : List Entry) (state : Sta
     → Each (λ e. is_store e ≡ false) new → ((y : Entry) → Member y rest → Member y back) → held x.core.0 (x.place + 1) rest ≡ []
 none-after d t order front back state x new rest g st l p n q registers reads eq k f =
     held-none x.core.0 (x.place + 1) rest (λ y m c w.
-    let h = behind-all d t order front back state x y g st l n (inr (f y m)) c in
+    let h = after-all d t order front back state x y g st l n (inr (f y m)) c in
     let o = other-held d t order front back state x new g st l q registers reads eq k y (inr (f y m)) c w in
     above x.place y.place h (λ z. o (sym z ∙ sym p)))
   where
@@ -320,21 +321,21 @@ by-instruction d t order front back state x g st l p u i e = by_action (action_o
     by_action : (a : Action) → action_of i ≡ a → Onward d t order front x back state
     by_action (Store loc operand) is =
         let k : ℕ = x.core.0 in let s : CoreState = core_of state k in let q : List Instr = drop (s.place + 1) (program_of t k) in
-        inl (store-onward d t order front back state x (entry k s.place W loc (value_of s.registers operand)) g st l p u q s.registers (read_values k (s.place + 1) q order) (rw (drop_at (program_of t k) s.place i e, is) refl) refl)
+        inl (store-onward d t order front back state x (entry k s.place W loc (value_of s.registers operand)) g st l p u q s.registers (read_values k (s.place + 1) q order) (rw (drop-at (program_of t k) s.place i e, is) refl) refl)
     by_action (Load reg loc) is =
         let k : ℕ = x.core.0 in let s : CoreState = core_of state k in let q : List Instr = drop (s.place + 1) (program_of t k) in
         let v : ℕ = read_value k s.place R order in
-        inl (load-onward d t order front back state x reg loc v g st l p u (rw is at (g.known k s.place i e)) q (with_value s.registers reg v) (read_values k (s.place + 1) q order) (rw (drop_at (program_of t k) s.place i e, is) refl) (rw (e, is) refl))
+        inl (load-onward d t order front back state x reg loc v g st l p u (rw is at (g.known k s.place i e)) q (with_value s.registers reg v) (read_values k (s.place + 1) q order) (rw (drop-at (program_of t k) s.place i e, is) refl) (rw (e, is) refl))
     by_action (Move reg operand) is =
         let k : ℕ = x.core.0 in let s : CoreState = core_of state k in let q : List Instr = drop (s.place + 1) (program_of t k) in
-        absurd (at-place d t order front (x ∷ back) state k g st l [] q (with_value s.registers reg (value_of s.registers operand)) (read_values k (s.place + 1) q order) (rw (drop_at (program_of t k) s.place i e, is) refl) x (x-in-order d t order front back state x x st (inl refl)) refl (sym p))
+        absurd (at-place d t order front (x ∷ back) state k g st l [] q (with_value s.registers reg (value_of s.registers operand)) (read_values k (s.place + 1) q order) (rw (drop-at (program_of t k) s.place i e, is) refl) x (x-in-order d t order front back state x x st (inl refl)) refl (sym p))
     by_action Fence is =
         let k : ℕ = x.core.0 in let s : CoreState = core_of state k in let q : List Instr = drop (s.place + 1) (program_of t k) in
-        inl (fence-onward d t order front back state x g st l p u q s.registers (read_values k (s.place + 1) q order) (rw (drop_at (program_of t k) s.place i e, is) refl) (rw (e, is) refl))
+        inl (fence-onward d t order front back state x g st l p u q s.registers (read_values k (s.place + 1) q order) (rw (drop-at (program_of t k) s.place i e, is) refl) (rw (e, is) refl))
     by_action (Lock loc reg update) is =
         let k : ℕ = x.core.0 in let s : CoreState = core_of state k in let q : List Instr = drop (s.place + 1) (program_of t k) in
         let v : ℕ = read_value k s.place LR order in
-        inr (locked-onward d t order front back state x reg loc v (λ z. updated update z (value_in s.registers reg)) g st l p u (rw is at (g.known k s.place i e)) q (with_value s.registers reg v) (read_values k (s.place + 1) q order) (rw (drop_at (program_of t k) s.place i e, is) refl) (rw (e, is) refl))
+        inr (locked-onward d t order front back state x reg loc v (λ z. updated update z (value_in s.registers reg)) g st l p u (rw is at (g.known k s.place i e)) q (with_value s.registers reg v) (read_values k (s.place + 1) q order) (rw (drop-at (program_of t k) s.place i e, is) refl) (rw (e, is) refl))
 
 higher : (place n : ℕ) (xs : List Entry) → Each (λ e. e.place < (place + 1) + n) xs → Each (λ e. e.place < place + suc n) xs
 higher place n xs h = each-map (λ e. e.place < (place + 1) + n) (λ e. e.place < place + suc n) xs (λ e q. omega (arith, q)) h

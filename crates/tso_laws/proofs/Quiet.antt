@@ -17,9 +17,9 @@ use Rattle.tso_model.specs.declared.action.Action.TheVariants.{Store, Load, Move
 use Rattle.tso_model.specs.FlatMachine.{core_of, CoreState, State, Effect, program_of, stored, moved, effect_by, step_of, effect_of, after_choice, step, drain}
 use Rattle.tso_laws.specs.Along.{steps}
 use Rattle.tso_model.specs.Runs.{stall_count}
-use Rattle.tso_laws.proofs.Lists.{Member, drop_at, append-nil}
+use Rattle.basic_laws.proofs.Lists.{Member, drop-at, append-nil}
 use Rattle.tso_laws.proofs.Entries.{Ordered}
-use Rattle.tso_laws.proofs.Sees.{Behind}
+use Rattle.tso_laws.proofs.Sees.{Precedes}
 use Rattle.tso_laws.proofs.Holds.{left, trace}
 use Rattle.tso_laws.proofs.Held.{member-left, member-right, member-split, each-of, Distinct, is_held, held, held-same, held-more, held-length}
 use Rattle.tso_laws.proofs.Goes.{first_of, Good, Stands, holds-of, Goes, goes-append, choice-goes, entries-from}
@@ -36,7 +36,7 @@ at-place d t order front back state k g st l new q registers reads e y m c p =
     let mine : Member y (made_by k (program_of t k) (first_of t k) order) = subst (λ z. Member y (made_by z (program_of t z) (first_of t z) order)) c (g.in_made y m).1 in
     let split : Member y (h.done ++ (new ++ entries_of k (s.place + 1) q registers reads)) = subst (λ z. Member y z) (trace ∙ ap (λ z. h.done ++ z) e) mine in
     elim (member-split y h.done (new ++ entries_of k (s.place + 1) q registers reads) split) [
-      | inl a ↦ absurd (let b = each-of (Behind k (s.place + s.place)) y (front ++ s.pending) h.sees.behind (each-of (λ z. Member z (front ++ s.pending)) y h.done h.sees.members a) c in omega (arith, b, p))
+      | inl a ↦ absurd (let b = each-of (Precedes k (s.place + s.place)) y (front ++ s.pending) h.sees.preceding (each-of (λ z. Member z (front ++ s.pending)) y h.done h.sees.members a) c in omega (arith, b, p))
       | inr a ↦ elim (member-split y new (entries_of k (s.place + 1) q registers reads) a) [
         | inl b ↦ b
         | inr b ↦ absurd (let f = (each-of (λ z. (z.core.0 ≡ k) × (s.place + 1 ≤ z.place)) y _ (entries-from k (s.place + 1) q registers reads) b).1 in omega (arith, f, p))
@@ -53,7 +53,7 @@ in-back d t order front back state k g st l e m c p =
     subst (λ z. made_by k (program_of t k) (first_of t k) z ≡ h.done ++ left k (program_of t k) s z) (sym st.is) (trace d k (program_of t k) (first_of t k) t.words front s h back) in
     let mine : Member e (front ++ back) = subst (λ z. Member e z) st.is (g.made_in k e l (subst (λ z. Member e z) (sym trace) (member-right e h.done _ m))) in
     elim (member-split e front back mine) [
-      | inl a ↦ absurd (let b = each-of (Behind k (s.place + s.place)) e (front ++ s.pending) h.sees.behind (member-left e front s.pending a) c in omega (arith, b, p))
+      | inl a ↦ absurd (let b = each-of (Precedes k (s.place + s.place)) e (front ++ s.pending) h.sees.preceding (member-left e front s.pending a) c in omega (arith, b, p))
       | inr a ↦ a
     ]
 
@@ -123,19 +123,19 @@ quiet-step d t order front back state k n i g st l b f r e = by_action (action_o
     by_action : (a : Action) → action_of i ≡ a → Quiet k (core_of state k) (effect_by d state.memory k a (core_of state k)) back
     by_action (Store loc operand) is =
         let s : CoreState = core_of state k in
-        store-quiet d t order front back state k n (entry k s.place W loc (value_of s.registers operand)) g st l b r refl refl refl (rw (drop_at (program_of t k) s.place i e, is) (inl refl))
+        store-quiet d t order front back state k n (entry k s.place W loc (value_of s.registers operand)) g st l b r refl refl refl (rw (drop-at (program_of t k) s.place i e, is) (inl refl))
     by_action (Load reg loc) is =
         let s : CoreState = core_of state k in
-        absurd (not-there d t order front back state k n (entry k s.place R loc (read_value k s.place R order)) g st l b f (rw (drop_at (program_of t k) s.place i e, is) (inl refl)) refl refl refl)
+        absurd (not-there d t order front back state k n (entry k s.place R loc (read_value k s.place R order)) g st l b f (rw (drop-at (program_of t k) s.place i e, is) (inl refl)) refl refl refl)
     by_action (Move reg operand) is =
         let s : CoreState = core_of state k in let v : ℕ = value_of s.registers operand in let q : List Instr = drop (s.place + 1) (program_of t k) in
-        move-quiet d t order front back state k reg v g st l q (with_value s.registers reg v) (read_values k (s.place + 1) q order) (rw (drop_at (program_of t k) s.place i e, is) refl)
+        move-quiet d t order front back state k reg v g st l q (with_value s.registers reg v) (read_values k (s.place + 1) q order) (rw (drop-at (program_of t k) s.place i e, is) refl)
     by_action Fence is =
         let s : CoreState = core_of state k in
-        absurd (not-there d t order front back state k n (fence k s.place) g st l b f (rw (drop_at (program_of t k) s.place i e, is) (inl refl)) refl refl refl)
+        absurd (not-there d t order front back state k n (fence k s.place) g st l b f (rw (drop-at (program_of t k) s.place i e, is) (inl refl)) refl refl refl)
     by_action (Lock loc reg update) is =
         let s : CoreState = core_of state k in
-        absurd (not-there d t order front back state k n (entry k s.place LR loc (read_value k s.place LR order)) g st l b f (rw (drop_at (program_of t k) s.place i e, is) (inl refl)) refl refl refl)
+        absurd (not-there d t order front back state k n (entry k s.place LR loc (read_value k s.place LR order)) g st l b f (rw (drop-at (program_of t k) s.place i e, is) (inl refl)) refl refl refl)
 
 -- one step that commits nothing, of the whole machine
 pub quiet-goes : (d : ℕ) (t : Litmus) (order front back : List Entry) (state : State) (k n : ℕ) → Good d t order → Stands d t order front back state → k < length t.programs

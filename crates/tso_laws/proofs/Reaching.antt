@@ -9,7 +9,7 @@ use Rattle.tso_model.specs.declared.action.Action.TheVariants.{Store, Load, Move
 use Rattle.tso_model.specs.declared.execution.Entry.{Entry}
 use Rattle.tso_model.specs.Runs.{run}
 use Rattle.tso_model.specs.declared.choice.Choice.{Choice}
-use Rattle.tso_laws.proofs.Basics.{max-within}
+use Rattle.basic_laws.proofs.Basics.{max-within}
 use Rattle.tso_laws.specs.Counting.{store_count, stores_in, most_stores}
 use Rattle.tso_laws.specs.Depth.{needed}
 use Rattle.tso_laws.specs.Along.{choices_along, LeadTo}

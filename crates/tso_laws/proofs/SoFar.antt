@@ -10,10 +10,10 @@ use Rattle.tso_model.specs.Runs.{run}
 use Rattle.tso_model.specs.declared.instruction.Instr.{Instr}
 use Rattle.tso_model.specs.declared.execution.Entry.{Entry}
 use Rattle.tso_model.specs.declared.choice.Choice.{Choice}
-use Rattle.tso_laws.proofs.Basics.{decide, lt-or}
+use Rattle.basic_laws.proofs.Basics.{decide, lt-or}
 use Rattle.tso_laws.specs.Choices.{state_after, commits_of, IsPossible}
 use Rattle.tso_laws.specs.SoFar.{issued, is_waiting, CoreSoFar, IsIssued, SoFar}
-use Rattle.tso_laws.proofs.Lists.{Each, each-at, each-map, each-append, each-right, Member, member-at, append-nil}
+use Rattle.basic_laws.proofs.Lists.{Each, each-at, each-map, each-append, each-right, Member, member-at, append-nil}
 use Rattle.tso_laws.proofs.Folds.{HasLocations, due-is}
 use Rattle.tso_laws.proofs.Entries.{Fine, Ordered, DueIn}
 use Rattle.tso_laws.proofs.Sees.{Queued}

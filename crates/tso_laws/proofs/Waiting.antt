@@ -5,7 +5,8 @@ use Rattle.std.proofs.lemmas.Bool.Decides.{nat_tests}
 use Rattle.tso_model.specs.Actions.{action_of}
 use Rattle.tso_model.specs.Thread.{entry, fence, value_in, value_of, updated, entries_by, entries_of}
 use Rattle.tso_model.specs.ProgramOrder.{same_kind, is_before, is_store}
-use Rattle.tso_laws.proofs.Ranks.{rank, part_of, is_store_kind, is_load_kind, by-rank}
+use Rattle.basic_laws.specs.Ranks.{rank, part_of}
+use Rattle.basic_laws.proofs.Ranks.{is_store_kind, is_load_kind, by-rank}
 use Rattle.tso_model.specs.Execution.{is_at, made_by, read_values}
 use Rattle.tso_model.specs.FlatMachine.{CoreState}
 use Rattle.tso_model.specs.declared.instruction.Instr.{Instr}
@@ -14,9 +15,9 @@ use Rattle.tso_model.specs.declared.action.Action.TheVariants.{Store, Load, Move
 use Rattle.tso_model.specs.declared.execution.Entry.{Entry}
 use Rattle.tso_model.specs.declared.execution.Kind.{Kind}
 use Rattle.tso_model.specs.declared.execution.Kind.TheVariants.{R, W, F, LR, LW}
-use Rattle.tso_laws.proofs.Basics.{part-small}
+use Rattle.basic_laws.proofs.Basics.{part-small}
 use Rattle.tso_laws.specs.SoFar.{is_committed, is_waiting}
-use Rattle.tso_laws.proofs.Lists.{Each, each-map, Member}
+use Rattle.basic_laws.proofs.Lists.{Each, each-map, Member}
 use Rattle.tso_laws.proofs.Entries.{Fine, Ordered, count}
 use Rattle.tso_laws.proofs.Sees.{Queued}
 use Rattle.tso_laws.proofs.Holds.{Holds}
@@ -211,10 +212,10 @@ like (x ∷ xs) e h = go (is_at e.core.0 e.place e.kind x) refl h (like xs e)
     go false q k f = let r = f k in record { other = r.other; member = inr r.member; core = r.core; rank = r.rank }
 
 -- of a distinct list, no entry of the first part is like one of the rest
-parted : (xs ys : List Entry) (x y : Entry) → Distinct (xs ++ ys) → Member x xs → Member y ys → Apart x y
-parted [] ys x y d m n = absurd m
-parted (z ∷ zs) ys x y d (inl p) n = subst (λ v. Apart v y) (sym p) (each-of (Apart z) y (zs ++ ys) d.0 (member-right y zs ys n))
-parted (z ∷ zs) ys x y d (inr m) n = parted zs ys x y d.1 m n
+separated : (xs ys : List Entry) (x y : Entry) → Distinct (xs ++ ys) → Member x xs → Member y ys → Apart x y
+separated [] ys x y d m n = absurd m
+separated (z ∷ zs) ys x y d (inl p) n = subst (λ v. Apart v y) (sym p) (each-of (Apart z) y (zs ++ ys) d.0 (member-right y zs ys n))
+separated (z ∷ zs) ys x y d (inr m) n = separated zs ys x y d.1 m n
 
 -- pending stores stand in program order
 queue-sorted : (d c n : ℕ) (ys : List Entry) → Ordered d c ys → Distinct ys → Each (Queued c n) ys → Sorted ys
@@ -255,7 +256,7 @@ waits d c program first words commits s h =
     let apart : Distinct (own c commits ++ s.pending) = subst (λ z. Distinct z) split same.distinct in
     let uncommitted : (e : Entry) → Member e s.pending → is_committed commits e ≡ false =
     (λ (e : Entry) (m : Member e s.pending). no (is_committed commits e) (λ q. let k = like commits e q in
-    parted (own c commits) s.pending k.other e apart (in-filter (λ z. z.core.0 == c) commits k.other k.member (is-own k.other.core.0 c (k.core ∙ each-of (λ z. z.core.0 ≡ c) e s.pending queue m))) m k.core k.rank)) in
+    separated (own c commits) s.pending k.other e apart (in-filter (λ z. z.core.0 == c) commits k.other k.member (is-own k.other.core.0 c (k.core ∙ each-of (λ z. z.core.0 ≡ c) e s.pending queue m))) m k.core k.rank)) in
     let waiting : (e : Entry) → Member e s.pending → is_waiting commits e ≡ true =
     (λ (e : Entry) (m : Member e s.pending). rw (ap is_store_kind (each-of (Queued c (length words)) e s.pending h.queued m).kind, uncommitted e m) refl) in
     let from : (e : Entry) → Member e s.pending → Member e h.done =

@@ -4,8 +4,8 @@ use Rattle.tso_model.specs.Actions.{action_of}
 use Rattle.tso_model.specs.Thread.{entry, fence, value_in, value_of, updated, entries_by, entries_of}
 use Rattle.tso_model.specs.Litmus.{Litmus}
 use Rattle.tso_model.specs.ProgramOrder.{may_be_passed}
-use Rattle.tso_laws.proofs.Ranks.{rank}
-use Rattle.tso_laws.proofs.Basics.{part-small}
+use Rattle.basic_laws.specs.Ranks.{rank}
+use Rattle.basic_laws.proofs.Basics.{part-small}
 use Rattle.tso_laws.proofs.Folds.{due-is, needs, HasLocations}
 use Rattle.tso_model.specs.Execution.{read_values, made_by, made_from, made, KeepsProgramOrder, IsStorePart, KeepsPairs, StandsIn, IsWhole, IsTsoExecution}
 use Rattle.tso_model.specs.declared.execution.Entry.{Entry}
@@ -14,7 +14,7 @@ use Rattle.tso_model.specs.declared.action.Action.{Action}
 use Rattle.tso_model.specs.declared.action.Action.TheVariants.{Store, Load, Move, Fence, Lock}
 use Rattle.tso_model.specs.declared.execution.Kind.TheVariants.{R, W, LR, LW}
 use Rattle.tso_model.specs.FlatMachine.{program_of}
-use Rattle.tso_laws.proofs.Lists.{Each, each-map, Member, member-at}
+use Rattle.basic_laws.proofs.Lists.{Each, each-map, Member, member-at}
 use Rattle.tso_laws.proofs.Entries.{Fine, Ordered}
 use Rattle.tso_laws.proofs.Holds.{Paired, Next}
 use Rattle.tso_laws.proofs.Held.{member-left, member-right, member-split, each-of, Distinct, Apart}

@@ -16,11 +16,11 @@ use Rattle.tso_model.specs.declared.choice.Outcome.TheVariants.{Committed}
 use Rattle.tso_model.specs.Actions.{action_of}
 use Rattle.tso_model.specs.FlatMachine.{is_none_pending, core_of, stalled, advanced, CoreState, State, Effect, idle, program_of, stored, when_drained, effect_by, step_of, drain_of, effect_of, chosen, after_choice, started, start}
 use Rattle.tso_laws.proofs.Draining.{waits-or-acts, drains}
-use Rattle.tso_laws.proofs.Basics.{lt-or, and-left, and-right}
+use Rattle.basic_laws.proofs.Basics.{lt-or, and-left, and-right}
 use Rattle.tso_laws.proofs.Folds.{put}
 use Rattle.tso_model.specs.Runs.{is_done, all_done, has_ended, stall_count, then_run, resting, run, run_from}
 use Rattle.tso_laws.specs.Counting.{store_count, stores_in, instructions, stores}
-use Rattle.tso_laws.proofs.Lists.{drop_at, drop_end}
+use Rattle.basic_laws.proofs.Lists.{drop-at, drop-end}
 
 abbrev pub store_weight : ℕ → ℕ
 store_weight zero = 1
@@ -59,7 +59,7 @@ one-less : (d : ℕ) (p : List Instr) (s : CoreState) (x : Instr) (f : Effect) �
     → weight d (action_of x) + length s.pending ≡ suc (length f.after.pending) → Advances d p s f
 one-less d p s x f e o n w = record {
   took = o;
-  less = rw (n, drop_at p s.place x e) (omega arith);
+  less = rw (n, drop-at p s.place x e) (omega arith);
   within = λ h. rw n (let l = slice_get_within p s.place x e in omega arith);
 }
 
@@ -186,7 +186,7 @@ done-length p s h = let m = and-left (length p == s.place) (is_none_pending s.pe
 pub done-undone : (d : ℕ) (p : List Instr) (s : CoreState) → is_done p s ≡ true → undone d p s ≡ 0
 done-undone d p s h =
     let e : s.pending ≡ [] = is_none-is s.pending (and-right (length p == s.place) (is_none_pending s.pending) h) in
-    rw (drop_end p s.place (done-length p s h), e) (omega arith)
+    rw (drop-end p s.place (done-length p s h), e) (omega arith)
 
 done-remaining : (d : ℕ) (ps : List (List Instr)) (ss : List CoreState) → all_done ps ss ≡ true → remaining d ps ss ≡ 0
 done-remaining d [] ss h = refl

@@ -5,7 +5,7 @@ use Rattle.std.proofs.lemmas.Option.{slice_get-get_or}
 use Rattle.std.proofs.lemmas.Bool.Decides.{nat_tests}
 use Rattle.tso_model.specs.Litmus.{Litmus}
 use Rattle.tso_model.specs.ProgramOrder.{is_write}
-use Rattle.tso_laws.proofs.Basics.{lt-or}
+use Rattle.basic_laws.proofs.Basics.{lt-or}
 use Rattle.tso_laws.proofs.Folds.{last_word-append, last_word, HasLocations}
 use Rattle.tso_model.specs.FlatMachine.{memory_after, CoreState, State, Effect, idle, program_of, effect_of, chosen, after_choice, applied, started, start}
 use Rattle.tso_model.specs.declared.execution.Entry.{Entry}
@@ -13,7 +13,7 @@ use Rattle.tso_model.specs.declared.instruction.Instr.{Instr}
 use Rattle.tso_model.specs.declared.choice.Choice.{Choice}
 use Rattle.tso_model.specs.declared.choice.Choice.TheVariants.{Step, Drain}
 use Rattle.tso_laws.specs.Choices.{state_after, commits_of}
-use Rattle.tso_laws.proofs.Lists.{Each, each-append, each-map, set-cases, append-nil}
+use Rattle.basic_laws.proofs.Lists.{Each, each-append, each-map, set-cases, append-nil}
 use Rattle.tso_laws.proofs.Work.{length-starts, absent-stays, stays-same}
 use Rattle.tso_laws.proofs.Holds.{Holds, IsMemory, Commits, holds-step, holds-drained, holds-others, step-commits, drain-commits, KnownAt, Paired, paired-append, step-paired, drain-paired}
 
@@ -141,7 +141,7 @@ world-start d t = record {
     first : (k : ℕ) → Holds d k (program_of t k) (slice_index_or t.registers k []) t.words [] (record { place = 0; registers = slice_index_or t.registers k []; pending = [] })
     first k = record {
       done = [];
-      sees = record { behind = tt; kept = tt; few = tt; due = tt; counted = refl; members = tt };
+      sees = record { preceding = tt; kept = tt; few = tt; due = tt; counted = refl; members = tt };
       queued = tt;
       made = λ X. refl;
       now = λ X. refl;

@@ -5,7 +5,7 @@ ghost use Rattle.std.specs.Prelude.{ℕ, ◌*◌, ◌≡◌, false, [], ◌∷�
 ghost use Rattle.tso_model.specs.Litmus.{IsTest};
 ghost use Rattle.tso_model.specs.Execution.{IsTsoExecution, KeepsAllOrder};
 ghost use Rattle.tso_model.specs.Runs.{run};
-ghost use Rattle.tso_model.specs.Examples.{sb, sb_order, sb_choices, n6, n6_order, added, parted_order, zeros};
+ghost use Rattle.tso_model.specs.Examples.{sb, sb_order, sb_choices, n6, n6_order, added, separated_order, zeros};
 ghost use Rattle.tso_model.specs.FinalState.{final_words, final_registers};
 ghost use Rattle.tso_laws.specs.EndedRuns.{End};
 ghost use Rattle.tso_laws.specs.Counting.{most_stores, longest};
@@ -44,7 +44,7 @@ pub fn worked_orders()
     ensures n6_is_allowed { IsTsoExecution n6 n6_order }
     ensures short_is_not_whole { IsTsoExecution sb short_order → ⊥ }
     ensures turned_breaks_program_order { IsTsoExecution n6 turned_order → ⊥ }
-    ensures parted_is_not_adjacent { IsTsoExecution added parted_order → ⊥ }
+    ensures separated_is_not_adjacent { IsTsoExecution added separated_order → ⊥ }
     ensures wrong_has_another_value { IsTsoExecution sb wrong_order → ⊥ }
 {}
 

@@ -67,5 +67,5 @@ added = record {
 }
 
 -- the store comes between the two parts of the addition
-abbrev pub parted_order : List Entry
-parted_order = entry 0 0 LR loc_x 0 ∷ (entry 1 0 W loc_x 1 ∷ (entry 0 0 LW loc_x 0 ∷ []))
+abbrev pub separated_order : List Entry
+separated_order = entry 0 0 LR loc_x 0 ∷ (entry 1 0 W loc_x 1 ∷ (entry 0 0 LW loc_x 0 ∷ []))

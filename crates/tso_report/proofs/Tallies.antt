@@ -1,4 +1,4 @@
--- What a tally is seen as, and what it holds.
+-- What a tally is tallied_in as, and what it holds.
 use Rattle.std.proofs.Common.{◌≡◌, ◌∙◌, ℕ, Bool, List, ◌++◌, length, All, sym, ap, subst, append_assoc}
 use Rattle.tso_model.specs.Litmus.{Litmus}
 use Rattle.tso_report.specs.declared.named.Named.{Named}
@@ -7,11 +7,11 @@ use Rattle.tso_report.specs.Tally.{Tallied, IsKnown, looked_at, sweep_line, stat
 use Rattle.tso_report.specs.Counted.{states_of, counts_in, IsKept}
 use Rattle.tso_report.proofs.Looking.{looked-known}
 
-abbrev seen : Litmus → Counters → Tallied
-seen t counters = record { test = t; counts = counts_in counters }
+abbrev tallied_in : Litmus → Counters → Tallied
+tallied_in t counters = record { test = t; counts = counts_in counters }
 
 -- what is looked at is there in each state of the test
-pub known-in-state : (t : Litmus) (counters : Counters) (tally : Tallied) (registers : List (List ℕ)) (memory : List ℕ) (names list : List Named) → seen t counters ≡ tally
+pub known-in-state : (t : Litmus) (counters : Counters) (tally : Tallied) (registers : List (List ℕ)) (memory : List ℕ) (names list : List Named) → tallied_in t counters ≡ tally
     → length registers ≡ length tally.test.programs → length memory ≡ length tally.test.locations
     → names ≡ looked_at t → list ≡ names → All (IsKnown (length registers) (length memory)) list
 known-in-state t counters tally registers memory names list view each_core each_location are same =
@@ -22,7 +22,7 @@ known-in-state t counters tally registers memory names list view each_core each_
     (subst (All (IsKnown (length t.programs) (length t.locations))) (sym (same ∙ are)) (looked-known t)))
 
 -- the text is put together from its parts
-pub text-of-tally : (t : Litmus) (counters : Counters) (tally : Tallied) (judged : Bool) (from size : ℕ) (first second all : List ℕ) → seen t counters ≡ tally → IsKept judged counters
+pub text-of-tally : (t : Litmus) (counters : Counters) (tally : Tallied) (judged : Bool) (from size : ℕ) (first second all : List ℕ) → tallied_in t counters ≡ tally → IsKept judged counters
     → first ≡ sweep_line counters.ended counters.unfinished from size → second ≡ first ++ state_lines t (states_of counters.states.entries)
     → all ≡ second ++ observation t.name t.condition counters.held counters.failed → all ≡ tally_text tally.test tally.counts from size
 text-of-tally t counters tally judged from size first second all view kept is_first is_second is =

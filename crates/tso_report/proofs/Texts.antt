@@ -6,21 +6,21 @@ use Rattle.tso_report.specs.declared.named.Named.{Named}
 use Rattle.tso_report.specs.Tally.{printed_value, printed_values}
 
 -- what was written so far, after which a piece and then a rest come
-behind : (piece rest before after : List ℕ) → after ≡ before ++ piece → after ++ rest ≡ before ++ (piece ++ rest)
-behind piece rest before after is = ap (λ text. text ++ rest) is ∙ append_assoc before piece rest
+rest-after : (piece rest before after : List ℕ) → after ≡ before ++ piece → after ++ rest ≡ before ++ (piece ++ rest)
+rest-after piece rest before after is = ap (λ text. text ++ rest) is ∙ append_assoc before piece rest
 
 pub seven_pieces : (a b c d e f g : List ℕ) (second third fourth fifth sixth all : List ℕ)
     → second ≡ a ++ b → third ≡ second ++ c → fourth ≡ third ++ d → fifth ≡ fourth ++ e → sixth ≡ fifth ++ f → all ≡ sixth ++ g
     → all ≡ a ++ (b ++ (c ++ (d ++ (e ++ (f ++ g)))))
 seven_pieces a b c d e f g second third fourth fifth sixth all is_second is_third is_fourth is_fifth is_sixth is =
-    is ∙ (behind f g fifth sixth is_sixth ∙ (behind e (f ++ g) fourth fifth is_fifth ∙ (behind d (e ++ (f ++ g)) third fourth is_fourth
-    ∙ (behind c (d ++ (e ++ (f ++ g))) second third is_third ∙ behind b (c ++ (d ++ (e ++ (f ++ g)))) a second is_second))))
+    is ∙ (rest-after f g fifth sixth is_sixth ∙ (rest-after e (f ++ g) fourth fifth is_fifth ∙ (rest-after d (e ++ (f ++ g)) third fourth is_fourth
+    ∙ (rest-after c (d ++ (e ++ (f ++ g))) second third is_third ∙ rest-after b (c ++ (d ++ (e ++ (f ++ g)))) a second is_second))))
 
 -- a line written in two pieces and its end
 pub ended_line : (old front text first second all : List ℕ) → first ≡ old ++ front → second ≡ first ++ text → all ≡ second ++ 10 ∷ []
     → all ≡ old ++ (front ++ (text ++ 10 ∷ []))
 ended_line old front text first second all is_first is_second is =
-    is ∙ (behind text (10 ∷ []) first second is_second ∙ behind front (text ++ 10 ∷ []) old first is_first)
+    is ∙ (rest-after text (10 ∷ []) first second is_second ∙ rest-after front (text ++ 10 ∷ []) old first is_first)
 
 pub sweep_nested : (from runs length rest : List ℕ)
     → (codes "Sweep from=" ++ (from ++ (codes " seeds=" ++ (runs ++ (codes " length=" ++ length))))) ++ rest
@@ -33,7 +33,7 @@ pub values-next : (t : Litmus) (named : Named) (value : ℕ) (names more : List 
     → names ≡ named ∷ more → values ≡ value ∷ further → after ≡ before ++ printed_value t named value
     → before ++ printed_values t names values ≡ whole → after ++ printed_values t more further ≡ whole
 values-next t named value names more values further before after whole first second is was =
-    behind (printed_value t named value) (printed_values t more further) before after is
+    rest-after (printed_value t named value) (printed_values t more further) before after is
     ∙ (sym (ap (λ list. before ++ printed_values t list (value ∷ further)) first) ∙ (sym (ap (λ list. before ++ printed_values t names list) second) ∙ was))
 
 pub no-names : (t : Litmus) (names : List Named) (values : List ℕ) → length names ≡ 0 → printed_values t names values ≡ []

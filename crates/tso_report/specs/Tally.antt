@@ -118,9 +118,12 @@ with_verdict (Some false) c = run_counts c.states c.held (c.failed + 1) c.unfini
 abbrev pub with_state : List ℕ → RunCounts → RunCounts
 with_state values c = run_counts (with_values values c.states) c.held c.failed c.unfinished
 
--- one more run of the test that ended
+-- one more run of the test that ended, in this state, with this truth of the condition's proposition
+abbrev pub with_ended : Litmus → List (List ℕ) → List ℕ → Option Bool → RunCounts → RunCounts
+with_ended t registers memory holds c = with_verdict holds (with_state (values_in t registers memory) c)
+
 abbrev pub with_run : Litmus → Shown → RunCounts → RunCounts
-with_run t s c = with_verdict s.holds (with_state (values_in t s.registers s.memory) c)
+with_run t s c = with_ended t s.registers s.memory s.holds c
 
 -- one more run that didn't end
 abbrev pub with_unfinished : RunCounts → RunCounts

@@ -2,7 +2,7 @@
 
 ghost use Rattle.std.specs.Prelude.{◌≡◌, ◌+◌, ◌<◌, ◌^◌, ◌-◌, true, IfOk, OnOk, OnErr, length, string_bytes, is_some};
 ghost use Rattle.tso_report.specs.Shown.{shown, IsOf};
-ghost use Rattle.tso_report.specs.Tally.{nothing_counted, with_run, with_state, with_verdict, with_unfinished, values_in, runs_in, ended_in, tally_text};
+ghost use Rattle.tso_report.specs.Tally.{nothing_counted, with_run, with_ended, with_unfinished, runs_in, ended_in, tally_text};
 
 use crate::counters::{Counters, count_ended, count_unfinished, no_runs};
 use crate::named::{Named, looked_at, values_at};
@@ -86,7 +86,7 @@ impl<'a> Tally<'a> {
         requires verdict { is_some holds ≡ is_some self.old.test.condition }
         requires room { runs_in self.old.counts < 2 ^ 32 - 1 }
 
-        ensures counts { OnOk result (self.new.counts ≡ with_verdict holds (with_state (values_in self.old.test registers.now memory.now) self.old.counts)) }
+        ensures counts { OnOk result (self.new.counts ≡ with_ended self.old.test registers.now memory.now holds self.old.counts) }
         ensures test { self.new.test ≡ self.old.test }
         ensures refused { OnErr result (self.new ≡ self.old) }
     {

@@ -7,11 +7,32 @@ use std::io::{Read, Write};
 use std::process::Abort;
 use tso_cli::{Counted, RunFault, Settings, Status, run_command};
 
-const INPUT: &[u8] =
-    b"X86 SB\n{ }\n P0          | P1          ;\n MOV [x],$1  | MOV [y],$1  ;\n MOV EAX,[y] | MOV EAX,[x] ;\nexists (0:EAX=0 /\\ 1:EAX=0)\n====\n0s 1s 0s 1s 0d 1d\n";
+const INPUT: &[u8] = b"\
+X86 SB\n\
+{ }\n\
+\x20P0          | P1          ;\n\
+\x20MOV [x],$1  | MOV [y],$1  ;\n\
+\x20MOV EAX,[y] | MOV EAX,[x] ;\n\
+exists (0:EAX=0 /\\ 1:EAX=0)\n\
+====\n\
+0s 1s 0s 1s 0d 1d\n";
 
-const REPORT: &[u8] =
-    b"Test SB\nMachine msi depth=4 sets=1 ways=2 words=1\nOrder\nP0:1 R y=0\nP1:1 R x=0\nP0:0 W x=1\nP1:0 W y=1\nEndorder 4\nRegisters P0 EAX=0 EBX=0 ECX=0 EDX=0 ESI=0 EDI=0\nRegisters P1 EAX=0 EBX=0 ECX=0 EDX=0 ESI=0 EDI=0\nMemory x=1 y=1\nCondition exists true\nChoices used=6 stalled=0 unused=0\nCache P0 hits=0 misses=2 upgrades=0 forwards=0 write_backs=0 flushes=0\nCache P1 hits=0 misses=2 upgrades=0 forwards=0 write_backs=0 flushes=0\n";
+const REPORT: &[u8] = b"\
+Test SB\n\
+Machine msi depth=4 sets=1 ways=2 words=1\n\
+Order\n\
+P0:1 R y=0\n\
+P1:1 R x=0\n\
+P0:0 W x=1\n\
+P1:0 W y=1\n\
+Endorder 4\n\
+Registers P0 EAX=0 EBX=0 ECX=0 EDX=0 ESI=0 EDI=0\n\
+Registers P1 EAX=0 EBX=0 ECX=0 EDX=0 ESI=0 EDI=0\n\
+Memory x=1 y=1\n\
+Condition exists true\n\
+Choices used=6 stalled=0 unused=0\n\
+Cache P0 hits=0 misses=2 upgrades=0 forwards=0 write_backs=0 flushes=0\n\
+Cache P1 hits=0 misses=2 upgrades=0 forwards=0 write_backs=0 flushes=0\n";
 
 /// A reader over bytes that gives so many a call, and whose call of one number fails. It would work
 /// at the next, so a call that comes again shows.

@@ -13,14 +13,22 @@ use tso_cli::{Ending, simulate};
 use tso_model::Test;
 use tso_report::Tally;
 
-const SB: &[u8] =
-    b"X86 SB\n{ }\n P0          | P1          ;\n MOV [x],$1  | MOV [y],$1  ;\n MOV EAX,[y] | MOV EAX,[x] ;\nexists (0:EAX=0 /\\ 1:EAX=0)\n";
+const SB: &[u8] = b"\
+X86 SB\n\
+{ }\n\
+\x20P0          | P1          ;\n\
+\x20MOV [x],$1  | MOV [y],$1  ;\n\
+\x20MOV EAX,[y] | MOV EAX,[x] ;\n\
+exists (0:EAX=0 /\\ 1:EAX=0)\n";
 
 /// One in which the second core waits for the first core's store, one in which both loads pass, and one that doesn't end.
 const RUNS: [&[u8]; 3] = [b"0s 0d 0s 1s 1d 1s", b"0s 1s 0s 1s 0d 1d", b"0s 1s"];
 
-const TEXT: &str =
-    "Sweep from=0 seeds=3 length=6 ended=2 unfinished=1\nState 1 0:EAX=0 1:EAX=0\nState 1 0:EAX=0 1:EAX=1\nObservation SB Sometimes 1 1\n";
+const TEXT: &str = "\
+Sweep from=0 seeds=3 length=6 ended=2 unfinished=1\n\
+State 1 0:EAX=0 1:EAX=0\n\
+State 1 0:EAX=0 1:EAX=1\n\
+Observation SB Sometimes 1 1\n";
 
 /// The run under these choices.
 fn run(rt: &impl Abort, alloc: Global, test: &Test, choices: &[u8]) -> Ending

@@ -1,7 +1,7 @@
 use Rattle.std.proofs.Common.{List, rules}
 use Rattle.tso_model.specs.Litmus.{Litmus, IsTest}
 use Rattle.tso_model.specs.Execution.{IsTsoExecution}
-use Rattle.tso_model.specs.Examples.{sb, sb_order, n6, n6_order, added, parted_order}
+use Rattle.tso_model.specs.Examples.{sb, sb_order, n6, n6_order, added, separated_order}
 use Rattle.tso_model.specs.declared.execution.Entry.{Entry}
 use Rattle.tso_laws.specs.WorkedRuns.{short_order, turned_order, wrong_order}
 use Rattle.abstract_machine.specs.Ended.{IsReachedFreely}
@@ -37,10 +37,10 @@ returns-clause-turned_is_not_reached c =
     none c.runs_of_the_abstract_machine_are_executions.ensures.order n6 turned_order n6-is-test
     c.worked_orders.ensures.turned_breaks_program_order
 
-pub returns-clause-parted_is_not_reached : goal.returns-clause-parted_is_not_reached
-returns-clause-parted_is_not_reached c =
-    none c.runs_of_the_abstract_machine_are_executions.ensures.order added parted_order added-is-test
-    c.worked_orders.ensures.parted_is_not_adjacent
+pub returns-clause-separated_is_not_reached : goal.returns-clause-separated_is_not_reached
+returns-clause-separated_is_not_reached c =
+    none c.runs_of_the_abstract_machine_are_executions.ensures.order added separated_order added-is-test
+    c.worked_orders.ensures.separated_is_not_adjacent
 
 pub returns-clause-wrong_is_not_reached : goal.returns-clause-wrong_is_not_reached
 returns-clause-wrong_is_not_reached c =

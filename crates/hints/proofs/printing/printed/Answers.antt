@@ -1,4 +1,4 @@
-use Rattle.std.proofs.Common.{sym, ◌∙◌}
+use Rattle.std.proofs.Common.{◌∙◌}
 use Rattle.hints.proofs.Printed.{words_are_text, is_hint}
 use Rattle.hints.proofs.printing.printed.Goals as goal
 

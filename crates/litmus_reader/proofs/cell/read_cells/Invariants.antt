@@ -1,14 +1,14 @@
 use Rattle.std.proofs.Common.{◌≡◌, ◌≤◌, ◌+◌, length}
 use Rattle.litmus_tokens.specs.Pieces.{pieces}
 use Rattle.litmus_reader.specs.Locations.{texts}
-use Rattle.litmus_reader.specs.Cells.{cells_behind, cells_in}
+use Rattle.litmus_reader.specs.Cells.{cells_after, cells_in}
 use Rattle.litmus_reader.specs.RefusedTable.{cells_of}
 use Rattle.litmus_reader.proofs.Cells.{room_of}
 use Rattle.litmus_reader.proofs.cell.read_cells.Given as goal
 
 abbrev pub invariant-cells : goal.invariant-cells
 invariant-cells l = record {
-  same : cells_in l.core l.instrs.items (texts l.names.keys) (cells_behind l.left) ≡ cells_in 0 l.initial.instrs.items (texts l.initial.names.keys) (cells_of (pieces l.row));
+  same : cells_in l.core l.instrs.items (texts l.names.keys) (cells_after l.left) ≡ cells_in 0 l.initial.instrs.items (texts l.initial.names.keys) (cells_of (pieces l.row));
   bound : l.core + room_of l.left ≤ length l.row + 1;
 }
 

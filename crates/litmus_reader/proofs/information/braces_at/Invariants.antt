@@ -1,10 +1,10 @@
 use Rattle.std.proofs.Common.{length}
 use Rattle.litmus_reader.specs.Information.{braces_at}
-use Rattle.litmus_reader.proofs.Informed.{BracesBehind}
+use Rattle.litmus_reader.proofs.Informed.{BracesAfter}
 use Rattle.litmus_reader.proofs.information.braces_at.Given as goal
 
 abbrev pub invariant-loop-at : goal.invariant-loop-at
-invariant-loop-at l = BracesBehind l.rest (braces_at l.bytes)
+invariant-loop-at l = BracesAfter l.rest (braces_at l.bytes)
 
 abbrev pub decreases-loop-at : goal.decreases-loop-at
 decreases-loop-at l = length l.rest

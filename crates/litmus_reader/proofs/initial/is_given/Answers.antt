@@ -1,5 +1,5 @@
 use Rattle.std.proofs.Common.{◌∙◌}
-use Rattle.litmus_reader.proofs.InitialLists.{given_before}
+use Rattle.litmus_reader.proofs.Listed.{given_before}
 use Rattle.litmus_reader.proofs.initial.is_given.Goals as goal
 
 pub returns : goal.returns

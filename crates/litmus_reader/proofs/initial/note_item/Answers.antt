@@ -3,7 +3,7 @@ use Rattle.std.specs.List.{list_any}
 use Rattle.decimals.specs.Decimals.{decimal_value}
 use Rattle.litmus_reader.specs.Locations.{texts}
 use Rattle.litmus_reader.specs.Initial.{given_of, gives}
-use Rattle.litmus_reader.proofs.InitialLists.{judged_twice, judged_new}
+use Rattle.litmus_reader.proofs.Listed.{judged_twice, judged_new}
 use Rattle.litmus_reader.proofs.initial.note_item.Goals as goal
 
 pub returns-then-is_given-clause-value : goal.returns-then-is_given-clause-value

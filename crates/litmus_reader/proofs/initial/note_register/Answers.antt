@@ -1,4 +1,4 @@
-use Rattle.litmus_reader.proofs.InitialLists.{given_with}
+use Rattle.litmus_reader.proofs.Listed.{given_with}
 use Rattle.litmus_reader.proofs.initial.note_register.Goals as goal
 
 pub returns-clause-knows : goal.returns-clause-knows

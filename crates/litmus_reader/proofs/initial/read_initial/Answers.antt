@@ -28,7 +28,7 @@ pub returns-in-Some : goal.returns-in-Some
 returns-in-Some c =
     initial_done c.args.stop c.in_initial-part.result (texts c.args.names.now.keys) (pieces c.args.tokens.now) (pieces c.in_ok-rest.rest.now) _
     (c.in_initial-part.ensures ∙ ap (λ (l : ℕ). in_initial l c.args.stop) c.left_of.ensures) c.in_ok-rest.ensures
-    (items_end c.in_initial-part.result (initial (texts c.items.names.keys) c.items.state.words.items (map given_of c.items.state.registers.items)) (pieces c.items.rest.now) (pieces c.in-Some.behind.now) _ c.in-Some.ensures.value c.items.invariant.items)
+    (items_end c.in_initial-part.result (initial (texts c.items.names.keys) c.items.state.words.items (map given_of c.items.state.registers.items)) (pieces c.items.rest.now) (pieces c.in-Some.after.now) _ c.in-Some.ensures.value c.items.invariant.items)
 
 pub returns-in_err-rest-2 : goal.returns-in_err-rest-2
 returns-in_err-rest-2 c =

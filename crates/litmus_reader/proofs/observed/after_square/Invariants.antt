@@ -1,10 +1,10 @@
 use Rattle.std.proofs.Common.{length}
 use Rattle.litmus_reader.specs.Observed.{square_end}
-use Rattle.litmus_reader.proofs.Squares.{SquareBehind}
+use Rattle.litmus_reader.proofs.Squares.{SquareAfter}
 use Rattle.litmus_reader.proofs.observed.after_square.Given as goal
 
 abbrev pub invariant-loop-at : goal.invariant-loop-at
-invariant-loop-at l = SquareBehind l.left l.rest (square_end l.left l.bytes)
+invariant-loop-at l = SquareAfter l.left l.rest (square_end l.left l.bytes)
 
 abbrev pub decreases-loop-at : goal.decreases-loop-at
 decreases-loop-at l = length l.rest

@@ -1,10 +1,10 @@
 use Rattle.std.proofs.Common.{length, map}
 use Rattle.litmus_tokens.specs.Pieces.{piece_of, pieces_of}
-use Rattle.litmus_tokens.proofs.Pieces.{behind}
+use Rattle.litmus_tokens.proofs.Pieces.{goes_on}
 use Rattle.litmus_tokens.proofs.lexing.tokens_of.Given as goal
 
 abbrev pub invariant-loop-token : goal.invariant-loop-token
-invariant-loop-token l = behind (map piece_of l.items.items) l.rest (pieces_of l.bytes)
+invariant-loop-token l = goes_on (map piece_of l.items.items) l.rest (pieces_of l.bytes)
 
 abbrev pub decreases-loop-token : goal.decreases-loop-token
 decreases-loop-token l = length l.rest

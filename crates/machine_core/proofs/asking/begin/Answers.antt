@@ -1,12 +1,11 @@
-use Rattle.std.proofs.Common.{◌≢◌, ◌∙◌, refl, sym, ap, subst, IsOk, IfOk, false, true}
+use Rattle.std.proofs.Common.{◌∙◌, refl, sym, ap, subst, IfOk, false, true}
 use Rattle.tso_model.specs.FlatMachine.{chosen, core_of, stalled}
 use Rattle.tso_model.specs.declared.choice.Stall.TheVariants as stall
-use Rattle.tso_model.specs.declared.choice.Outcome.TheVariants.{Committed}
 use Rattle.machine_core.specs.Cores.{state_of}
 use Rattle.machine_core.specs.Kept.{state_in, holder_in, access_in}
-use Rattle.machine_core.specs.Performed.{HasUsed, Performs}
-use Rattle.machine_core.specs.Split.{use_by}
-use Rattle.machine_core.proofs.Splitting.{needs-is, may-act, begins-acts, begins-asks, asks-held, asks-between, use-acts, held-next, held-ask, fits-ask, fits-by, performs-stall, use-rests, performs-ask, use-ask}
+use Rattle.machine_core.specs.Acted.{SucceedsUnlessCommitting}
+use Rattle.machine_core.specs.Made.{HasMade}
+use Rattle.machine_core.proofs.Splitting.{needs-is, may-act, begins-acts, begins-asks, asks-held, asks-between, held-next, held-ask, fits-ask, fits-by, performs-stall, use-rests, performs-ask, use-ask}
 use Rattle.machine_core.proofs.asking.begin.Goals as goal
 
 pub act-requires-clause-free : goal.act-requires-clause-free
@@ -15,103 +14,96 @@ act-requires-clause-free g c =
     (needs-is c.args.test.now c.args.parts.now c.args.choice c.core_of-core.result.0 (access_in c.access_of-access.result) false c.core_of-core.ensures.chosen c.access_of-access.ensures.value
     (sym c.if-not-needs_bus.true ∙ c.needs_bus.ensures.value))
 
-pub returns-then-not-needs_bus-clause-ok : goal.returns-then-not-needs_bus-clause-ok
-returns-then-not-needs_bus-clause-ok g c =
+pub returns-then-not-needs_bus-clause-makes : goal.returns-then-not-needs_bus-clause-makes
+returns-then-not-needs_bus-clause-makes g c =
     let same = begins-acts c.args.test.now c.args.parts.now c.args.choice
     (needs-is c.args.test.now c.args.parts.now c.args.choice c.core_of-core.result.0 (access_in c.access_of-access.result) false c.core_of-core.ensures.chosen c.access_of-access.ensures.value
     (sym c.if-not-needs_bus.true ∙ c.needs_bus.ensures.value)) in
-    subst (λ f. IfOk c.act.result (λ r. Performs c.args.parts.now c.act.new.parts c.args.choice f r.0)) (sym same) c.act.ensures.ok
-
-pub returns-then-not-needs_bus-clause-caches : goal.returns-then-not-needs_bus-clause-caches
-returns-then-not-needs_bus-clause-caches g c =
-    let same = begins-acts c.args.test.now c.args.parts.now c.args.choice
-    (needs-is c.args.test.now c.args.parts.now c.args.choice c.core_of-core.result.0 (access_in c.access_of-access.result) false c.core_of-core.ensures.chosen c.access_of-access.ensures.value
-    (sym c.if-not-needs_bus.true ∙ c.needs_bus.ensures.value)) in
-    let used = ap (use_by c.args.test.now c.args.parts.now c.args.choice) same ∙ use-acts c.args.test.now c.args.parts.now c.args.choice in
-    subst (λ u. IfOk c.act.result (λ r. HasUsed u c.act.new.parts.bus r.1)) (sym used) c.act.ensures.caches
+    subst (λ f. IfOk c.act.result (HasMade c.args.test.now c.args.parts.now c.act.new.parts c.args.choice f)) (sym same) c.act.ensures.makes
 
 pub returns-then-not-needs_bus-clause-succeeds : goal.returns-then-not-needs_bus-clause-succeeds
 returns-then-not-needs_bus-clause-succeeds g c =
     let same = begins-acts c.args.test.now c.args.parts.now c.args.choice
     (needs-is c.args.test.now c.args.parts.now c.args.choice c.core_of-core.result.0 (access_in c.access_of-access.result) false c.core_of-core.ensures.chosen c.access_of-access.ensures.value
     (sym c.if-not-needs_bus.true ∙ c.needs_bus.ensures.value)) in
-    subst (λ f. f.effect.outcome ≢ Committed → IsOk c.act.result) (sym same) c.act.ensures.succeeds
+    subst (λ f. SucceedsUnlessCommitting c.act.result f.effect) (sym same) c.act.ensures.succeeds
 
 pub returns-then-not-needs_bus-clause-answer : goal.returns-then-not-needs_bus-clause-answer
 returns-then-not-needs_bus-clause-answer g c =
-    fits-by c.args.test.now c.args.parts.now c.args.choice c.core_of-core.result.0 (access_in c.access_of-access.result) c.requires.held c.core_of-core.ensures.chosen c.access_of-access.ensures.value c.needs_bus.ensures.taken
+    fits-by c.args.test.now c.args.parts.now c.args.choice c.core_of-core.result.0 (access_in c.access_of-access.result) c.requires.consistent.held c.core_of-core.ensures.chosen c.access_of-access.ensures.value c.needs_bus.ensures.taken
 
-pub returns-then-not-needs_bus-clause-held : goal.returns-then-not-needs_bus-clause-held
-returns-then-not-needs_bus-clause-held g c =
-    held-next c.act.result c.args.test.now c.args.parts.now c.act.new.parts c.args.choice c.requires.held c.requires.other c.requires.holder
-    (c.accesses_wait.ensures c.args.test.now c.args.parts.now.config.depth (state_in c.args.parts.now).flat) c.act.ensures.config c.act.ensures.holder c.act.ensures.ok c.act.ensures.err_state
+pub returns-then-not-needs_bus-clause-of_test : goal.returns-then-not-needs_bus-clause-of_test
+returns-then-not-needs_bus-clause-of_test g c = record {
+  fits = c.act.ensures.fits;
+  held = held-next c.act.result c.args.test.now c.args.parts.now c.act.new.parts c.args.choice c.requires.consistent.held c.requires.other c.requires.consistent.holder
+      (c.accesses_wait.ensures c.args.test.now c.args.parts.now.config.depth (state_in c.args.parts.now).flat) c.act.ensures.keeps.config c.act.ensures.holder c.act.ensures.makes c.act.ensures.err;
+}
 
-pub returns-in-Free-clause-ok : goal.returns-in-Free-clause-ok
-returns-in-Free-clause-ok g c =
-    performs-ask c.args.test.now c.args.parts.now _ c.args.choice
-    (needs-is c.args.test.now c.args.parts.now c.args.choice c.core_of-core.result.0 (access_in c.access_of-access.result) true c.core_of-core.ensures.chosen c.access_of-access.ensures.value
-    (sym c.if-not-needs_bus.false ∙ c.needs_bus.ensures.value))
-    (ap holder_in c.in-Free.is) refl c.ask.ensures.words refl refl
-
-pub returns-in-Free-clause-caches : goal.returns-in-Free-clause-caches
-returns-in-Free-clause-caches g c =
-    use-ask c.args.test.now c.args.parts.now c.ask.new.bus c.args.choice c.core_of-core.result.0 (access_in c.access_of-access.result)
-    (needs-is c.args.test.now c.args.parts.now c.args.choice c.core_of-core.result.0 (access_in c.access_of-access.result) true c.core_of-core.ensures.chosen c.access_of-access.ensures.value
-    (sym c.if-not-needs_bus.false ∙ c.needs_bus.ensures.value))
-    (ap holder_in c.in-Free.is) c.core_of-core.ensures.chosen c.access_of-access.ensures.value c.ask.ensures.caches
+pub returns-in-Free-clause-makes : goal.returns-in-Free-clause-makes
+returns-in-Free-clause-makes g c = record {
+  ok =
+      performs-ask c.args.test.now c.args.parts.now _ c.args.choice
+      (needs-is c.args.test.now c.args.parts.now c.args.choice c.core_of-core.result.0 (access_in c.access_of-access.result) true c.core_of-core.ensures.chosen c.access_of-access.ensures.value
+      (sym c.if-not-needs_bus.false ∙ c.needs_bus.ensures.value))
+      (ap holder_in c.in-Free.is) refl c.ask.ensures.words refl refl;
+  caches =
+      use-ask c.args.test.now c.args.parts.now c.ask.new.bus c.args.choice c.core_of-core.result.0 (access_in c.access_of-access.result)
+      (needs-is c.args.test.now c.args.parts.now c.args.choice c.core_of-core.result.0 (access_in c.access_of-access.result) true c.core_of-core.ensures.chosen c.access_of-access.ensures.value
+      (sym c.if-not-needs_bus.false ∙ c.needs_bus.ensures.value))
+      (ap holder_in c.in-Free.is) c.core_of-core.ensures.chosen c.access_of-access.ensures.value c.ask.ensures.caches;
+}
 
 pub returns-in-Free-clause-answer : goal.returns-in-Free-clause-answer
 returns-in-Free-clause-answer g c =
-    fits-by c.args.test.now c.args.parts.now c.args.choice c.core_of-core.result.0 (access_in c.access_of-access.result) c.requires.held c.core_of-core.ensures.chosen c.access_of-access.ensures.value c.needs_bus.ensures.taken
+    fits-by c.args.test.now c.args.parts.now c.args.choice c.core_of-core.result.0 (access_in c.access_of-access.result) c.requires.consistent.held c.core_of-core.ensures.chosen c.access_of-access.ensures.value c.needs_bus.ensures.taken
 
-pub returns-in-Free-clause-fits : goal.returns-in-Free-clause-fits
-returns-in-Free-clause-fits g c = fits-ask c.args.test.now c.args.parts.now _ c.requires.fits refl refl c.ask.ensures.words c.ask.ensures.cores
+pub returns-in-Free-clause-of_test : goal.returns-in-Free-clause-of_test
+returns-in-Free-clause-of_test g c = record {
+  fits = fits-ask c.args.test.now c.args.parts.now _ c.requires.consistent.fits refl refl c.ask.ensures.words c.ask.ensures.cores;
+  held = held-ask c.args.test.now c.args.parts.now.config.depth (state_in c.args.parts.now).flat _ c.args.choice c.core_of-core.result (access_in c.access_of-access.result) _
+      c.core_of-core.ensures.core c.access_of-access.ensures.value (ap (state_of c.args.parts.now.processors.items) c.ask.ensures.words) c.ask.ensures.holder;
+}
 
-pub returns-in-Free-clause-held : goal.returns-in-Free-clause-held
-returns-in-Free-clause-held g c =
-    held-ask c.args.test.now c.args.parts.now.config.depth (state_in c.args.parts.now).flat _ c.args.choice c.core_of-core.result (access_in c.access_of-access.result) _
-    c.core_of-core.ensures.core c.access_of-access.ensures.value (ap (state_of c.args.parts.now.processors.items) c.ask.ensures.words) c.ask.ensures.holder
-
-pub returns-in-Asked-clause-ok : goal.returns-in-Asked-clause-ok
-returns-in-Asked-clause-ok g c =
-    let s = core_of (state_in c.args.parts.now).flat (chosen c.args.choice) in
-    performs-stall c.args.test.now c.args.parts.now c.args.choice _ (stalled stall.Bus s) _
-    (begins-asks c.args.test.now c.args.parts.now c.args.choice
-    (needs-is c.args.test.now c.args.parts.now c.args.choice c.core_of-core.result.0 (access_in c.access_of-access.result) true c.core_of-core.ensures.chosen c.access_of-access.ensures.value
-    (sym c.if-not-needs_bus.false ∙ c.needs_bus.ensures.value))
-    ∙ asks-held s c.args.choice _ (state_in c.args.parts.now).holder (ap holder_in c.in-Asked.is)) refl refl refl
-
-pub returns-in-Asked-clause-caches : goal.returns-in-Asked-clause-caches
-returns-in-Asked-clause-caches g c =
-    let s = core_of (state_in c.args.parts.now).flat (chosen c.args.choice) in
-    use-rests c.args.test.now c.args.parts.now c.args.choice _ (stalled stall.Bus s)
-    (begins-asks c.args.test.now c.args.parts.now c.args.choice
-    (needs-is c.args.test.now c.args.parts.now c.args.choice c.core_of-core.result.0 (access_in c.access_of-access.result) true c.core_of-core.ensures.chosen c.access_of-access.ensures.value
-    (sym c.if-not-needs_bus.false ∙ c.needs_bus.ensures.value))
-    ∙ asks-held s c.args.choice _ (state_in c.args.parts.now).holder (ap holder_in c.in-Asked.is)) refl
+pub returns-in-Asked-clause-makes : goal.returns-in-Asked-clause-makes
+returns-in-Asked-clause-makes g c = record {
+  ok =
+      let s = core_of (state_in c.args.parts.now).flat (chosen c.args.choice) in
+      performs-stall c.args.test.now c.args.parts.now c.args.choice _ (stalled stall.Bus s) _
+      (begins-asks c.args.test.now c.args.parts.now c.args.choice
+      (needs-is c.args.test.now c.args.parts.now c.args.choice c.core_of-core.result.0 (access_in c.access_of-access.result) true c.core_of-core.ensures.chosen c.access_of-access.ensures.value
+      (sym c.if-not-needs_bus.false ∙ c.needs_bus.ensures.value))
+      ∙ asks-held s c.args.choice _ (state_in c.args.parts.now).holder (ap holder_in c.in-Asked.is)) refl refl refl;
+  caches =
+      let s = core_of (state_in c.args.parts.now).flat (chosen c.args.choice) in
+      use-rests c.args.test.now c.args.parts.now c.args.choice _ (stalled stall.Bus s)
+      (begins-asks c.args.test.now c.args.parts.now c.args.choice
+      (needs-is c.args.test.now c.args.parts.now c.args.choice c.core_of-core.result.0 (access_in c.access_of-access.result) true c.core_of-core.ensures.chosen c.access_of-access.ensures.value
+      (sym c.if-not-needs_bus.false ∙ c.needs_bus.ensures.value))
+      ∙ asks-held s c.args.choice _ (state_in c.args.parts.now).holder (ap holder_in c.in-Asked.is)) refl;
+}
 
 pub returns-in-Asked-clause-answer : goal.returns-in-Asked-clause-answer
 returns-in-Asked-clause-answer g c =
-    fits-by c.args.test.now c.args.parts.now c.args.choice c.core_of-core.result.0 (access_in c.access_of-access.result) c.requires.held c.core_of-core.ensures.chosen c.access_of-access.ensures.value c.needs_bus.ensures.taken
+    fits-by c.args.test.now c.args.parts.now c.args.choice c.core_of-core.result.0 (access_in c.access_of-access.result) c.requires.consistent.held c.core_of-core.ensures.chosen c.access_of-access.ensures.value c.needs_bus.ensures.taken
 
-pub returns-in-Between-clause-ok : goal.returns-in-Between-clause-ok
-returns-in-Between-clause-ok g c =
-    let s = core_of (state_in c.args.parts.now).flat (chosen c.args.choice) in
-    performs-stall c.args.test.now c.args.parts.now c.args.choice _ (stalled stall.Bus s) _
-    (begins-asks c.args.test.now c.args.parts.now c.args.choice
-    (needs-is c.args.test.now c.args.parts.now c.args.choice c.core_of-core.result.0 (access_in c.access_of-access.result) true c.core_of-core.ensures.chosen c.access_of-access.ensures.value
-    (sym c.if-not-needs_bus.false ∙ c.needs_bus.ensures.value))
-    ∙ asks-between s c.args.choice _ (state_in c.args.parts.now).holder (ap holder_in c.in-Between.is)) refl refl refl
-
-pub returns-in-Between-clause-caches : goal.returns-in-Between-clause-caches
-returns-in-Between-clause-caches g c =
-    let s = core_of (state_in c.args.parts.now).flat (chosen c.args.choice) in
-    use-rests c.args.test.now c.args.parts.now c.args.choice _ (stalled stall.Bus s)
-    (begins-asks c.args.test.now c.args.parts.now c.args.choice
-    (needs-is c.args.test.now c.args.parts.now c.args.choice c.core_of-core.result.0 (access_in c.access_of-access.result) true c.core_of-core.ensures.chosen c.access_of-access.ensures.value
-    (sym c.if-not-needs_bus.false ∙ c.needs_bus.ensures.value))
-    ∙ asks-between s c.args.choice _ (state_in c.args.parts.now).holder (ap holder_in c.in-Between.is)) refl
+pub returns-in-Between-clause-makes : goal.returns-in-Between-clause-makes
+returns-in-Between-clause-makes g c = record {
+  ok =
+      let s = core_of (state_in c.args.parts.now).flat (chosen c.args.choice) in
+      performs-stall c.args.test.now c.args.parts.now c.args.choice _ (stalled stall.Bus s) _
+      (begins-asks c.args.test.now c.args.parts.now c.args.choice
+      (needs-is c.args.test.now c.args.parts.now c.args.choice c.core_of-core.result.0 (access_in c.access_of-access.result) true c.core_of-core.ensures.chosen c.access_of-access.ensures.value
+      (sym c.if-not-needs_bus.false ∙ c.needs_bus.ensures.value))
+      ∙ asks-between s c.args.choice _ (state_in c.args.parts.now).holder (ap holder_in c.in-Between.is)) refl refl refl;
+  caches =
+      let s = core_of (state_in c.args.parts.now).flat (chosen c.args.choice) in
+      use-rests c.args.test.now c.args.parts.now c.args.choice _ (stalled stall.Bus s)
+      (begins-asks c.args.test.now c.args.parts.now c.args.choice
+      (needs-is c.args.test.now c.args.parts.now c.args.choice c.core_of-core.result.0 (access_in c.access_of-access.result) true c.core_of-core.ensures.chosen c.access_of-access.ensures.value
+      (sym c.if-not-needs_bus.false ∙ c.needs_bus.ensures.value))
+      ∙ asks-between s c.args.choice _ (state_in c.args.parts.now).holder (ap holder_in c.in-Between.is)) refl;
+}
 
 pub returns-in-Between-clause-answer : goal.returns-in-Between-clause-answer
 returns-in-Between-clause-answer g c =
-    fits-by c.args.test.now c.args.parts.now c.args.choice c.core_of-core.result.0 (access_in c.access_of-access.result) c.requires.held c.core_of-core.ensures.chosen c.access_of-access.ensures.value c.needs_bus.ensures.taken
+    fits-by c.args.test.now c.args.parts.now c.args.choice c.core_of-core.result.0 (access_in c.access_of-access.result) c.requires.consistent.held c.core_of-core.ensures.chosen c.access_of-access.ensures.value c.needs_bus.ensures.taken

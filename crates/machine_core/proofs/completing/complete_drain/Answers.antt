@@ -2,6 +2,7 @@ use Rattle.std.proofs.Common.{◌∙◌, refl, sym, ap, subst}
 use Rattle.tso_model.specs.SplitMachine.{Free, acts}
 use Rattle.tso_model.specs.declared.choice.Choice.TheVariants.{Drain}
 use Rattle.tso_model.specs.declared.choice.Outcome.TheVariants.{Committed}
+use Rattle.snoop_bus.specs.Bus.{words_of}
 use Rattle.machine_core.specs.declared.cache_use.CacheUse.TheVariants.{Unused, Through}
 use Rattle.machine_core.specs.Cores.{drain_by}
 use Rattle.machine_core.specs.Caches.{caches_of, at_access, not_through, completion_by, is_awaited}
@@ -14,33 +15,33 @@ use Rattle.machine_core.proofs.completing.complete_drain.Goals as goal
 
 pub store_oldest-requires-clause-asked : goal.store_oldest-requires-clause-asked
 store_oldest-requires-clause-asked g c =
-    let within = within-cores c.args.test.now c.args.parts.now c.args.core.0 c.requires.fits c.requires.core in
-    sym (held-asked c.args.test.now c.args.parts.now (Drain c.args.core) c.requires.held c.requires.asked
+    let within = within-cores c.args.test.now c.args.parts.now c.args.core.0 c.requires.consistent.fits c.requires.core in
+    sym (held-asked c.args.test.now c.args.parts.now (Drain c.args.core) c.requires.consistent.held c.requires.asked
     ∙ ap (held_for c.args.core) (access_of-drain c.args.test.now c.args.parts.now c.args.core c.index_mut-processor.result.now within c.index_mut-processor.ensures.value))
 
 pub store_oldest-requires-clause-some : goal.store_oldest-requires-clause-some
 store_oldest-requires-clause-some g c = λ none.
-    let within = within-cores c.args.test.now c.args.parts.now c.args.core.0 c.requires.fits c.requires.core in
-    some-asked c.args.test.now c.args.parts.now (Drain c.args.core) c.requires.holder c.requires.asked
+    let within = within-cores c.args.test.now c.args.parts.now c.args.core.0 c.requires.consistent.fits c.requires.core in
+    some-asked c.args.test.now c.args.parts.now (Drain c.args.core) c.requires.consistent.holder c.requires.asked
     (access_of-drain c.args.test.now c.args.parts.now c.args.core c.index_mut-processor.result.now within c.index_mut-processor.ensures.value ∙ none)
 
-pub returns-clause-ok : goal.returns-clause-ok
-returns-clause-ok g c =
-    let p = c.index_mut-processor.result.now in
-    let within = within-cores c.args.test.now c.args.parts.now c.args.core.0 c.requires.fits c.requires.core in
-    let some = some-asked c.args.test.now c.args.parts.now (Drain c.args.core) c.requires.holder c.requires.asked in
-    Performs-by c.args.parts.now _ (Drain c.args.core) Committed c.store_oldest.new.processor (completes_in c.args.test.now c.args.parts.now (Drain c.args.core)) (acts (drain_by p c.args.core.0) Free)
-    (completes_in-drain c.args.test.now c.args.parts.now c.args.core p within c.index_mut-processor.ensures.value) refl
-    c.in_ok-access.ensures.after c.in_ok-access.ensures.words c.in_ok-access.ensures.commits refl
-    (sym (drain-commits c.args.test.now c.args.parts.now c.args.core p within c.index_mut-processor.ensures.value some))
-
-pub returns-clause-caches : goal.returns-clause-caches
-returns-clause-caches g c =
-    let p = c.index_mut-processor.result.now in
-    let within = within-cores c.args.test.now c.args.parts.now c.args.core.0 c.requires.fits c.requires.core in
-    let f = completes_in c.args.test.now c.args.parts.now (Drain c.args.core) in
-    let same = use-frees c.args.test.now c.args.parts.now (Drain c.args.core) f c.requires.asked
-    (ap (λ e. is_awaited e.holder) (completes_in-drain c.args.test.now c.args.parts.now c.args.core p within c.index_mut-processor.ensures.value))
-    ∙ ap (at_access (not_through Unused (caches_of c.args.parts.now.bus)) (λ loc write. completion_by (caches_of c.args.parts.now.bus) c.args.core.0 loc.0))
-    (access_of-drain c.args.test.now c.args.parts.now c.args.core p within c.index_mut-processor.ensures.value) in
-    subst (λ u. HasUsed u c.store_oldest.new.bus (Through c.in_ok-access.access)) (sym same) c.in_ok-access.ensures.caches
+pub returns-clause-makes : goal.returns-clause-makes
+returns-clause-makes g c = record {
+  ok =
+      let p = c.index_mut-processor.result.now in
+      let within = within-cores c.args.test.now c.args.parts.now c.args.core.0 c.requires.consistent.fits c.requires.core in
+      let some = some-asked c.args.test.now c.args.parts.now (Drain c.args.core) c.requires.consistent.holder c.requires.asked in
+      Performs-by c.args.parts.now _ (Drain c.args.core) Committed c.store_oldest.new.processor (completes_in c.args.test.now c.args.parts.now (Drain c.args.core)) (acts (drain_by c.args.core.0 p (words_of c.args.parts.now.bus)) Free)
+      (completes_in-drain c.args.test.now c.args.parts.now c.args.core p within c.index_mut-processor.ensures.value) refl
+      c.in_ok-access.ensures.drained.after c.in_ok-access.ensures.drained.words c.in_ok-access.ensures.drained.commits refl
+      (sym (drain-commits c.args.test.now c.args.parts.now c.args.core p within c.index_mut-processor.ensures.value some));
+  caches =
+      let p = c.index_mut-processor.result.now in
+      let within = within-cores c.args.test.now c.args.parts.now c.args.core.0 c.requires.consistent.fits c.requires.core in
+      let f = completes_in c.args.test.now c.args.parts.now (Drain c.args.core) in
+      let same = use-frees c.args.test.now c.args.parts.now (Drain c.args.core) f c.requires.asked
+      (ap (λ e. is_awaited e.holder) (completes_in-drain c.args.test.now c.args.parts.now c.args.core p within c.index_mut-processor.ensures.value))
+      ∙ ap (at_access (not_through Unused (caches_of c.args.parts.now.bus)) (λ loc write. completion_by (caches_of c.args.parts.now.bus) c.args.core.0 loc.0))
+      (access_of-drain c.args.test.now c.args.parts.now c.args.core p within c.index_mut-processor.ensures.value) in
+      subst (λ u. HasUsed u c.store_oldest.new.bus (Through c.in_ok-access.access)) (sym same) c.in_ok-access.ensures.completes.caches;
+}

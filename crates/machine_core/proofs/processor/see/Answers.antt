@@ -28,4 +28,4 @@ returns-in_ok-word-in-None-clause-caches g c =
 pub load-requires-clause-free : goal.load-requires-clause-free
 load-requires-clause-free g c =
     may-read c.args.bus.now c.args.core.0 c.args.loc (map (store_of c.args.core.0) c.args.stores.now.items)
-    (unanswered c.args.core.0 c.args.loc.0 c.args.stores.now.items c.in-None.ensures) c.requires.free
+    (unanswered c.args.core.0 c.args.loc.0 c.args.stores.now.items c.in-None.ensures) c.requires.access.free

@@ -1,5 +1,5 @@
 use Rattle.std.proofs.Common.{◌≡◌, ◌<◌, length, slice_index_or, ap, ◌∙◌, subst, sym, All, arith}
-use Rattle.machine_core.specs.Cores.{core_states, restarted}
+use Rattle.machine_core.specs.Cores.{core_states, at_start}
 use Rattle.machine_core.specs.Kept.{IsCore}
 use Rattle.machine_core.proofs.Overwriting.{written, written-next}
 use Rattle.machine_core.proofs.Beginning.{begun, started-begun, depth-begun}
@@ -11,7 +11,7 @@ loop-core-preserved c =
     let ps = c.loop-core.processors in
     written-next (begun c.args.test.now.registers) i c.args.processors.now ps c.index-processors-core.result c.restart.new.self c.loop-core.invariant
     (let z : i < length ps = omega (arith, c.cores-core-end.ensures.value, c.requires, c.loop-core-test.true, c.loop-core.auto.processors) in z)
-    (c.restart.ensures ∙ ap (λ r. restarted r (slice_index_or ps i c.index-processors-core.result)) c.initial_registers-registers.ensures)
+    (c.restart.ensures ∙ ap (λ r. at_start r (slice_index_or ps i c.index-processors-core.result)) c.initial_registers-registers.ensures)
 
 pub returns-clause-states : goal.returns-clause-states
 returns-clause-states c =

@@ -1,7 +1,7 @@
 use Rattle.std.proofs.Common.{◌≡◌, ◌^◌, ◌<◌, length, Err, arith}
-use Rattle.order_builder.specs.Reading.{Gives, order_of}
+use Rattle.order_builder.specs.Reading.{Gives, entries_of, order_of}
 use Rattle.order_builder.specs.declared.fault.OrderFault.TheVariants.{NoOrder}
-use Rattle.order_builder.proofs.ContractLemmas.{entries_of, is_found, is_only, is_fault, is_only_fault, read_behind, read_nowhere}
+use Rattle.order_builder.proofs.ContractLemmas.{is_found, is_only, is_fault, is_only_fault, read_after, read_nowhere}
 use Rattle.order_builder.proofs.reading.read_order.Goals as goal
 
 pub returns-in-Some : goal.returns-in-Some
@@ -9,7 +9,7 @@ returns-in-Some c =
     let small : length c.args.text.now < 2 ^ 64 = omega arith in
     let test = c.locations-locations.ensures.test in
     let read : Gives entries_of c.read_entries.result (order_of c.args.test.now c.args.text.now) =
-    read_behind c.args.test.now c.args.text.now c.in-Some.rest.now c.in-Some.start c.read_entries.result c.in-Some.ensures.value c.read_entries.ensures in
+    read_after c.args.test.now c.args.text.now c.in-Some.rest.now c.in-Some.start c.read_entries.result c.in-Some.ensures.value c.read_entries.ensures in
     record {
       found = is_found c.args.test.now c.args.text.now c.read_entries.result small read;
       only = is_only c.args.test.now c.args.text.now c.read_entries.result test small read;

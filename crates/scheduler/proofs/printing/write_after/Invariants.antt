@@ -1,6 +1,6 @@
 use Rattle.std.proofs.Common.{◌≡◌, ◌++◌, drop, string_bytes}
-use Rattle.scheduler.specs.Printed.{printed_behind}
+use Rattle.scheduler.specs.Printed.{printed_after}
 use Rattle.scheduler.proofs.printing.write_after.Given as goal
 
 abbrev pub invariant-loop-choice : goal.invariant-loop-choice
-invariant-loop-choice l = string_bytes l.text ++ printed_behind (drop l.choice-index l.choices) ≡ string_bytes l.initial.text ++ printed_behind l.choices
+invariant-loop-choice l = string_bytes l.text ++ printed_after (drop l.choice-index l.choices) ≡ string_bytes l.initial.text ++ printed_after l.choices

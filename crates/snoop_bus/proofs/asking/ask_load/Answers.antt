@@ -9,10 +9,10 @@ returns-clause-transaction g c =
     load_ask-transaction t (g.met.P.Protocol.fills_exclusive_only_alone p) (g.met.P.Protocol.shares p) (g.met.P.Protocol.cleans_by_memory p) (g.met.P.Protocol.supplies_to_readers p) (g.met.P.Protocol.writes_back_dirty p)
     c.args.caches.now c.snoop_others.new.caches c.args.memory.now c.flush.new.memory c.args.core c.args.line c.unwrap_or-words.result c.filled-state.result c.find-found.result.flushed
     (record {
-      coherent = c.requires.coherent;
-      core_in = c.requires.core;
+      coherent = c.requires.ready.coherent;
+      core_in = c.requires.ready.core_in;
       some_set = c.requires.some_set;
-      within = c.requires.line;
+      within = c.requires.ready.line_in;
       absent = c.requires.absent;
       words = rw (c.unwrap_or-words.ensures, c.from.ensures) (c.find-found.ensures.words (line_in c.args.memory.now c.args.line));
       state = rw c.find-found.ensures.shared at c.filled-state.ensures;
@@ -29,10 +29,10 @@ returns-clause-memory g c =
     load_ask-memory t (g.met.P.Protocol.fills_exclusive_only_alone p) (g.met.P.Protocol.shares p) (g.met.P.Protocol.cleans_by_memory p) (g.met.P.Protocol.supplies_to_readers p) (g.met.P.Protocol.writes_back_dirty p)
     c.args.caches.now c.snoop_others.new.caches c.args.memory.now c.flush.new.memory c.args.core c.args.line c.unwrap_or-words.result c.filled-state.result c.find-found.result.flushed
     (record {
-      coherent = c.requires.coherent;
-      core_in = c.requires.core;
+      coherent = c.requires.ready.coherent;
+      core_in = c.requires.ready.core_in;
       some_set = c.requires.some_set;
-      within = c.requires.line;
+      within = c.requires.ready.line_in;
       absent = c.requires.absent;
       words = rw (c.unwrap_or-words.ensures, c.from.ensures) (c.find-found.ensures.words (line_in c.args.memory.now c.args.line));
       state = rw c.find-found.ensures.shared at c.filled-state.ensures;
@@ -49,10 +49,10 @@ returns-clause-words g c =
     load_ask-words t (g.met.P.Protocol.fills_exclusive_only_alone p) (g.met.P.Protocol.shares p) (g.met.P.Protocol.cleans_by_memory p) (g.met.P.Protocol.supplies_to_readers p) (g.met.P.Protocol.writes_back_dirty p)
     c.args.caches.now c.snoop_others.new.caches c.args.memory.now c.flush.new.memory c.args.core c.args.line c.unwrap_or-words.result c.filled-state.result c.find-found.result.flushed
     (record {
-      coherent = c.requires.coherent;
-      core_in = c.requires.core;
+      coherent = c.requires.ready.coherent;
+      core_in = c.requires.ready.core_in;
       some_set = c.requires.some_set;
-      within = c.requires.line;
+      within = c.requires.ready.line_in;
       absent = c.requires.absent;
       words = rw (c.unwrap_or-words.ensures, c.from.ensures) (c.find-found.ensures.words (line_in c.args.memory.now c.args.line));
       state = rw c.find-found.ensures.shared at c.filled-state.ensures;

@@ -9,10 +9,10 @@ returns-clause-transaction g c =
     write_ask-transaction t (g.met.P.Protocol.gives_up p) (g.met.P.Protocol.supplies_to_writers p) (g.met.P.Protocol.writes_back_dirty p)
     c.args.caches.now c.snoop_others.new.caches c.args.memory.now c.args.core c.args.line c.unwrap_or-words.result
     (record {
-      coherent = c.requires.coherent;
-      core_in = c.requires.core;
+      coherent = c.requires.ready.coherent;
+      core_in = c.requires.ready.core_in;
       some_set = c.requires.some_set;
-      within = c.requires.line;
+      within = c.requires.ready.line_in;
       absent = c.requires.absent;
       words = rw (c.unwrap_or-words.ensures, c.from.ensures) (c.find-found.ensures.words (line_in c.args.memory.now c.args.line));
       left = c.snoop_others.ensures.copies;
@@ -26,10 +26,10 @@ returns-clause-words g c =
     write_ask-words t (g.met.P.Protocol.gives_up p) (g.met.P.Protocol.supplies_to_writers p) (g.met.P.Protocol.writes_back_dirty p)
     c.args.caches.now c.snoop_others.new.caches c.args.memory.now c.args.core c.args.line c.unwrap_or-words.result
     (record {
-      coherent = c.requires.coherent;
-      core_in = c.requires.core;
+      coherent = c.requires.ready.coherent;
+      core_in = c.requires.ready.core_in;
       some_set = c.requires.some_set;
-      within = c.requires.line;
+      within = c.requires.ready.line_in;
       absent = c.requires.absent;
       words = rw (c.unwrap_or-words.ensures, c.from.ensures) (c.find-found.ensures.words (line_in c.args.memory.now c.args.line));
       left = c.snoop_others.ensures.copies;

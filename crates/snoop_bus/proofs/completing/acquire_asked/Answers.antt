@@ -4,20 +4,20 @@ use Rattle.snoop_bus.proofs.completing.acquire_asked.Goals as goal
 pub returns-in-None-clause-words : goal.returns-in-None-clause-words
 returns-in-None-clause-words g c =
     rw c.in-None.is (hit_acquired c.args.caches.now c.enter.new.caches c.args.memory.now c.args.core c.args.line
-    (rw c.in-None.is at c.requires.coherent) c.requires.line (rw c.in-None.is at c.requires.awaits) c.enter.ensures.copies c.enter.ensures.ways).1
+    (rw c.in-None.is at c.requires.awaited.coherent) c.requires.awaited.line_in (rw c.in-None.is at c.requires.awaited.awaits) c.enter.ensures.copies c.enter.ensures.ways).1
 
 pub returns-in-SmD-clause-own : goal.returns-in-SmD-clause-own
 returns-in-SmD-clause-own g c =
-    let awaits = rw c.in-Some.is at c.requires.awaits in
+    let awaits = rw c.in-Some.is at c.requires.awaited.awaits in
     rw c.in-Some.is (upgrade_acquired c.args.caches.now c.enter-in-SmD.new.caches c.args.memory.now c.args.core c.args.line c.in-Some.transaction
-    (rw c.in-Some.is at c.requires.coherent) c.requires.core c.requires.some_set c.requires.line (rw c.in-SmD.is at awaits.1) c.enter-in-SmD.ensures.copies c.enter-in-SmD.ensures.ways).0
+    (rw c.in-Some.is at c.requires.awaited.coherent) c.requires.awaited.core_in c.requires.awaited.some_set c.requires.awaited.line_in (rw c.in-SmD.is at awaits.1) c.enter-in-SmD.ensures.copies c.enter-in-SmD.ensures.ways).0
 
 pub returns-in-SmD-clause-words : goal.returns-in-SmD-clause-words
 returns-in-SmD-clause-words g c =
-    let awaits = rw c.in-Some.is at c.requires.awaits in
+    let awaits = rw c.in-Some.is at c.requires.awaited.awaits in
     rw c.in-Some.is (upgrade_acquired c.args.caches.now c.enter-in-SmD.new.caches c.args.memory.now c.args.core c.args.line c.in-Some.transaction
-    (rw c.in-Some.is at c.requires.coherent) c.requires.core c.requires.some_set c.requires.line (rw c.in-SmD.is at awaits.1) c.enter-in-SmD.ensures.copies c.enter-in-SmD.ensures.ways).1
+    (rw c.in-Some.is at c.requires.awaited.coherent) c.requires.awaited.core_in c.requires.awaited.some_set c.requires.awaited.line_in (rw c.in-SmD.is at awaits.1) c.enter-in-SmD.ensures.copies c.enter-in-SmD.ensures.ways).1
 
 pub returns-in-SmD-clause-found : goal.returns-in-SmD-clause-found
 returns-in-SmD-clause-found g c =
-    rw c.in-Some.is (kept_words c.args.caches.now c.args.memory.now c.args.core c.args.line c.in-Some.transaction.copy (rw c.in-Some.is at c.requires.coherent) c.requires.core c.requires.some_set c.requires.line)
+    rw c.in-Some.is (kept_words c.args.caches.now c.args.memory.now c.args.core c.args.line c.in-Some.transaction.copy (rw c.in-Some.is at c.requires.awaited.coherent) c.requires.awaited.core_in c.requires.awaited.some_set c.requires.awaited.line_in)

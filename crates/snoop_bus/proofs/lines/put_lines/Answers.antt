@@ -1,14 +1,21 @@
-use Rattle.std.proofs.Common.{◌<◌, ℕ, [], length, ap, ◌∙◌, arith}
+use Rattle.std.proofs.Common.{arith, ◌<◌, ◌≡◌, ℕ, [], length, ap, ◌∙◌}
+use Rattle.std.proofs.lemmas.List.{append-nil, drop_all}
 use Rattle.snoop_bus.specs.Lines.{line_of_words, lines_of_words}
-use Rattle.snoop_bus.proofs.Overwriting.{written-next, whole-range}
+use Rattle.snoop_bus.proofs.LineLemmas.{put-next}
 use Rattle.snoop_bus.proofs.lines.put_lines.Goals as goal
 
 pub loop-line-preserved : goal.loop-line-preserved
 loop-line-preserved c =
-    written-next (λ k _. line_of_words c.from-size.result c.args.words.now k) c.loop-line.line c.args.lines.now c.loop-line.lines [] c.line_at.result c.loop-line.invariant
-    (let z : c.loop-line.line < length c.loop-line.lines = omega arith in z) c.line_at.ensures
+    let below : c.loop-line.line < length c.args.lines.now = omega arith in
+    rw c.line_at.ensures
+    (put-next (line_of_words c.from-size.result c.args.words.now) c.loop-line.line c.args.lines.now c.loop-line.lines [] below c.loop-line.invariant)
 
 pub returns-clause-value : goal.returns-clause-value
 returns-clause-value c =
-    whole-range (line_of_words c.from-size.result c.args.words.now) c.loop-line.line c.args.lines.now c.loop-line.lines c.loop-line.invariant (omega arith)
-    ∙ ap (λ (n : ℕ). lines_of_words n c.args.words.now (length c.args.lines.now)) (c.from-size.ensures ∙ c.words.ensures.value)
+    let all : c.loop-line.line ≡ length c.args.lines.now = omega arith in
+    let size = c.from-size.ensures ∙ c.words.ensures.value in
+    let put : c.loop-line.lines ≡ lines_of_words c.from-size.result c.args.words.now c.loop-line.line =
+    rw (drop_all c.loop-line.line c.args.lines.now (omega arith), append-nil) at c.loop-line.invariant in
+    put
+    ∙ ap (λ (n : ℕ). lines_of_words c.from-size.result c.args.words.now n) all
+    ∙ ap (λ (n : ℕ). lines_of_words n c.args.words.now (length c.args.lines.now)) size

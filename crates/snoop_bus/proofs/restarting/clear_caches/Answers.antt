@@ -1,12 +1,11 @@
-use Rattle.std.proofs.Common.{◌<◌, length, map, arith}
+use Rattle.std.proofs.Common.{rules, map}
+use Rattle.std.proofs.lemmas.List.{take_all, drop_all}
+use Rattle.std.proofs.lemmas.List.Edits.{map_over_more}
 use Rattle.snoop_bus.specs.Copies.{emptied}
-use Rattle.snoop_bus.proofs.Overwriting.{written-next, whole-written}
 use Rattle.snoop_bus.proofs.restarting.clear_caches.Goals as goal
 
 pub loop-core-preserved : goal.loop-core-preserved
-loop-core-preserved c =
-    written-next (λ _ sets. map emptied sets) c.loop-core.core c.args.caches.now c.loop-core.caches c.index-caches-core.result c.clear.new.self c.loop-core.invariant
-    (let z : c.loop-core.core < length c.loop-core.caches = omega arith in z) c.clear.ensures
+loop-core-preserved c = search (rules, map_over_more (map emptied))
 
 pub returns : goal.returns
-returns c = whole-written (map emptied) c.loop-core.core c.args.caches.now c.loop-core.caches c.loop-core.invariant (omega arith)
+returns c = search (rules, take_all, drop_all)

@@ -1,7 +1,6 @@
-use Rattle.std.proofs.Common.{◌≡◌, map}
+use Rattle.std.proofs.Common.{◌≡◌, ◌++◌, map, take, drop}
 use Rattle.snoop_bus.specs.Copies.{emptied}
-use Rattle.snoop_bus.proofs.Overwriting.{written}
 use Rattle.snoop_bus.proofs.restarting.clear_caches.Given as goal
 
 abbrev pub invariant-loop-core : goal.invariant-loop-core
-invariant-loop-core l = l.caches ≡ written (λ _ sets. map emptied sets) 0 l.core l.initial.caches
+invariant-loop-core l = l.caches ≡ map (map emptied) (take l.core l.initial.caches) ++ drop l.core l.initial.caches

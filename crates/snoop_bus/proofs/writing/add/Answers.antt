@@ -7,16 +7,16 @@ write-requires-clause-present g c = present_own c.acquire.new.caches c.args.core
 
 pub returns-clause-ok : goal.returns-clause-ok
 returns-clause-ok g c = rw c.from.ensures (word_written (g.P.Protocol.table c.args.protocol.now) c.args.held c.args.caches.now c.acquire.new.caches c.write.new.caches c.args.memory.now c.acquire.new.memory c.args.core c.args.line c.args.place ((slice_index c.in_ok-words.words c.args.place + c.args.value) % 2 ^ 32) c.in_ok-words.words c.in_ok-words.access
-    c.requires.line (search rules) (search rules) c.in_ok-words.ensures.ok c.in_ok-words.ensures.words c.in_ok-words.ensures.awaited c.acquire.ensures.ways (rw c.from.ensures at c.write.ensures.copies) c.write.ensures.tags c.write.ensures.ways).0
+    c.requires.ready.line_in (search rules) (search rules) c.in_ok-words.ensures.ok c.in_ok-words.ensures.words c.in_ok-words.ensures.awaited c.acquire.ensures.ways (rw c.from.ensures at c.write.ensures.copies) c.write.ensures.tags c.write.ensures.ways).0
 
 pub returns-clause-coherent : goal.returns-clause-coherent
 returns-clause-coherent g c = (word_written (g.P.Protocol.table c.args.protocol.now) c.args.held c.args.caches.now c.acquire.new.caches c.write.new.caches c.args.memory.now c.acquire.new.memory c.args.core c.args.line c.args.place ((slice_index c.in_ok-words.words c.args.place + c.args.value) % 2 ^ 32) c.in_ok-words.words c.in_ok-words.access
-    c.requires.line (search rules) (search rules) c.in_ok-words.ensures.ok c.in_ok-words.ensures.words c.in_ok-words.ensures.awaited c.acquire.ensures.ways (rw c.from.ensures at c.write.ensures.copies) c.write.ensures.tags c.write.ensures.ways).1
+    c.requires.ready.line_in (search rules) (search rules) c.in_ok-words.ensures.ok c.in_ok-words.ensures.words c.in_ok-words.ensures.awaited c.acquire.ensures.ways (rw c.from.ensures at c.write.ensures.copies) c.write.ensures.tags c.write.ensures.ways).1
 
 pub returns-clause-ways : goal.returns-clause-ways
 returns-clause-ways g c = (word_written (g.P.Protocol.table c.args.protocol.now) c.args.held c.args.caches.now c.acquire.new.caches c.write.new.caches c.args.memory.now c.acquire.new.memory c.args.core c.args.line c.args.place ((slice_index c.in_ok-words.words c.args.place + c.args.value) % 2 ^ 32) c.in_ok-words.words c.in_ok-words.access
-    c.requires.line (search rules) (search rules) c.in_ok-words.ensures.ok c.in_ok-words.ensures.words c.in_ok-words.ensures.awaited c.acquire.ensures.ways (rw c.from.ensures at c.write.ensures.copies) c.write.ensures.tags c.write.ensures.ways).2
+    c.requires.ready.line_in (search rules) (search rules) c.in_ok-words.ensures.ok c.in_ok-words.ensures.words c.in_ok-words.ensures.awaited c.acquire.ensures.ways (rw c.from.ensures at c.write.ensures.copies) c.write.ensures.tags c.write.ensures.ways).2
 
 pub returns-clause-awaited : goal.returns-clause-awaited
 returns-clause-awaited g c = (word_written (g.P.Protocol.table c.args.protocol.now) c.args.held c.args.caches.now c.acquire.new.caches c.write.new.caches c.args.memory.now c.acquire.new.memory c.args.core c.args.line c.args.place ((slice_index c.in_ok-words.words c.args.place + c.args.value) % 2 ^ 32) c.in_ok-words.words c.in_ok-words.access
-    c.requires.line (search rules) (search rules) c.in_ok-words.ensures.ok c.in_ok-words.ensures.words c.in_ok-words.ensures.awaited c.acquire.ensures.ways (rw c.from.ensures at c.write.ensures.copies) c.write.ensures.tags c.write.ensures.ways).3
+    c.requires.ready.line_in (search rules) (search rules) c.in_ok-words.ensures.ok c.in_ok-words.ensures.words c.in_ok-words.ensures.awaited c.acquire.ensures.ways (rw c.from.ensures at c.write.ensures.copies) c.write.ensures.tags c.write.ensures.ways).3

@@ -8,14 +8,14 @@ pub returns-clause-ok : goal.returns-clause-ok
 returns-clause-ok g c =
     let t = g.P.Protocol.table c.args.protocol.now in
     let p = c.args.protocol.now in
-    let here = get_or_default c.args.caches.now c.args.core c.index-caches-core.result [] c.requires.core in
+    let here = get_or_default c.args.caches.now c.args.core c.index-caches-core.result [] c.requires.ready.core_in in
     (write_missed t (g.met.P.Protocol.gives_up p) (g.met.P.Protocol.supplies_to_writers p) (g.met.P.Protocol.writes_back_dirty p)
     c.args.caches.now c.snoop_others.new.caches c.args.memory.now c.write_back-wrote_back.new.memory c.args.core c.args.line c.unwrap_or-words.result c.in_ok-victim.victim c.fill.new.self c.write_back-wrote_back.result
     (record {
       basis = record {
-        coherent = c.requires.coherent;
-        core_in = c.requires.core;
-        within = c.requires.line;
+        coherent = c.requires.ready.coherent;
+        core_in = c.requires.ready.core_in;
+        within = c.requires.ready.line_in;
         absent = c.requires.absent;
         words = rw (c.unwrap_or-words.ensures, c.from.ensures) (c.find-found.ensures.words (line_in c.args.memory.now c.args.line));
         filled = rw here at c.in_ok-victim.ensures.copies;
@@ -35,14 +35,14 @@ pub returns-clause-words : goal.returns-clause-words
 returns-clause-words g c =
     let t = g.P.Protocol.table c.args.protocol.now in
     let p = c.args.protocol.now in
-    let here = get_or_default c.args.caches.now c.args.core c.index-caches-core.result [] c.requires.core in
+    let here = get_or_default c.args.caches.now c.args.core c.index-caches-core.result [] c.requires.ready.core_in in
     (write_missed t (g.met.P.Protocol.gives_up p) (g.met.P.Protocol.supplies_to_writers p) (g.met.P.Protocol.writes_back_dirty p)
     c.args.caches.now c.snoop_others.new.caches c.args.memory.now c.write_back-wrote_back.new.memory c.args.core c.args.line c.unwrap_or-words.result c.in_ok-victim.victim c.fill.new.self c.write_back-wrote_back.result
     (record {
       basis = record {
-        coherent = c.requires.coherent;
-        core_in = c.requires.core;
-        within = c.requires.line;
+        coherent = c.requires.ready.coherent;
+        core_in = c.requires.ready.core_in;
+        within = c.requires.ready.line_in;
         absent = c.requires.absent;
         words = rw (c.unwrap_or-words.ensures, c.from.ensures) (c.find-found.ensures.words (line_in c.args.memory.now c.args.line));
         filled = rw here at c.in_ok-victim.ensures.copies;

@@ -11,7 +11,7 @@ use Rattle.tso_cli.proofs.answer.judged_answer.Goals as goal
 pub returns-then-input-gt-MAX_INPUT : goal.returns-then-input-gt-MAX_INPUT
 returns-then-input-gt-MAX_INPUT c =
     answer-is (IsInputAnswer c.args.task.now c.args.input.now) c.refused_input.result input_refusal Refused
-    c.refused_input.ensures.text c.refused_input.ensures.status (too_large c.if-input-gt-MAX_INPUT.true)
+    c.refused_input.ensures (too_large c.if-input-gt-MAX_INPUT.true)
 
 pub returns-in-Ok : goal.returns-in-Ok
 returns-in-Ok c =
@@ -26,5 +26,5 @@ pub returns-in-Err : goal.returns-in-Err
 returns-in-Err c =
     let small : length c.args.input.now ≤ longest_input = omega arith in
     refusal-is (IsInputAnswer c.args.task.now c.args.input.now) (c.in-Err.fault.why ≢ whys.NoMemory) c.refused_test.result
-    (test_refusal c.in-Err.fault) Refused c.refused_test.ensures.text c.refused_test.ensures.status c.refused_test.ensures.real
+    (test_refusal c.in-Err.fault) Refused c.refused_test.ensures.says c.refused_test.ensures.real
     (λ real. refused c.in-Err.fault small (rw c.parts_of-parts.ensures.test at (c.in-Err.ensures.refused real)))

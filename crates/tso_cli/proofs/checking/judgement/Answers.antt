@@ -17,10 +17,10 @@ invalid-requires c =
 pub returns-in-Ok : goal.returns-in-Ok
 returns-in-Ok c =
     answer-is (IsJudgement c.args.test.now c.args.execution.now.order.items) c.valid.result valid_line Good
-    c.valid.ensures.text c.valid.ensures.status (valid c.in-Ok.ensures.valid)
+    c.valid.ensures (valid c.in-Ok.ensures.valid)
 
 pub returns-in-Err : goal.returns-in-Err
 returns-in-Err c =
     refusal-is (IsJudgement c.args.test.now c.args.execution.now.order.items) (c.in-Err.breach ≢ breaches.NoMemory) c.invalid.result
-    (invalid_line c.args.test.now c.in-Err.breach) Invalid c.invalid.ensures.text c.invalid.ensures.status c.invalid.ensures.real
+    (invalid_line c.args.test.now c.in-Err.breach) Invalid c.invalid.ensures.says c.invalid.ensures.real
     (λ real. invalid c.in-Err.breach (c.in-Err.ensures.first real))

@@ -21,9 +21,7 @@ pub returns-in_err-write_output-clause-writer_fault : goal.returns-in_err-write_
 returns-in_err-write_output-clause-writer_fault g c =
     λ rose. (
       c.in_ok-answer.answer.status,
-      (
-        c.as_bytes.result.now,
-        subst (λ out. IsAnswer c.args.settings.now (g.R.Read.remaining c.args.reader.now.0) out c.in_ok-answer.answer.status) (sym c.as_bytes.ensures.value) c.in_ok-answer.ensures.exact,
-        c.write_output.ensures.beginning,
-      ),
+      c.as_bytes.result.now,
+      subst (λ out. IsAnswer c.args.settings.now (g.R.Read.remaining c.args.reader.now.0) out c.in_ok-answer.answer.status) (sym c.as_bytes.ensures.value) c.in_ok-answer.ensures.exact,
+      c.write_output.ensures.beginning,
     )

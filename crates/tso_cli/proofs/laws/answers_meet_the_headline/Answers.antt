@@ -1,4 +1,3 @@
-use Rattle.tso_cli.proofs.OneAnswer.{Texts}
 use Rattle.tso_cli.proofs.HeadlineLemmas.{Runs, input-means, command-means}
 use Rattle.tso_cli.proofs.SimulationLemmas.{choices-counted}
 use Rattle.tso_cli.proofs.WitnessLemmas.{Reaching}
@@ -6,18 +5,7 @@ use Rattle.tso_cli.proofs.laws.answers_meet_the_headline.Goals as goal
 
 pub returns : goal.returns
 returns c =
-    let texts : Texts = record {
-      one_test = c.test_is_spelled_once.ensures.once;
-      refused_or_not = c.test_is_spelled_once.ensures.never_both;
-      one_refusal = c.test_is_spelled_once.ensures.one_refusal;
-      test = c.test_is_spelled_once.ensures.within;
-      decided = c.texts_are_decided.ensures;
-      once = c.order_is_spelled_once.ensures.once;
-      never_both = c.order_is_spelled_once.ensures.never_both;
-      one_fault = c.order_is_spelled_once.ensures.one_fault;
-      one = c.first_breach_is_one.ensures;
-      real = c.first_breach_is_real.ensures;
-    } in
+    let texts = c.texts_are_read_one_way.ensures in
     let runs : Runs = record {
       executions = c.ended_runs_of_machines_are_executions.ensures.executions;
       words = c.ended_runs_of_machines_are_executions.ensures.words;

@@ -1,20 +1,9 @@
-use Rattle.tso_cli.proofs.OneAnswer.{Texts, one_input_answer, one_answer}
+use Rattle.tso_cli.proofs.OneAnswer.{one_input_answer, one_answer}
 use Rattle.tso_cli.proofs.laws.inputs_have_one_answer.Goals as goal
 
 pub returns : goal.returns
 returns c =
-    let texts : Texts = record {
-      one_test = c.test_is_spelled_once.ensures.once;
-      refused_or_not = c.test_is_spelled_once.ensures.never_both;
-      one_refusal = c.test_is_spelled_once.ensures.one_refusal;
-      test = c.test_is_spelled_once.ensures.within;
-      decided = c.texts_are_decided.ensures;
-      once = c.order_is_spelled_once.ensures.once;
-      never_both = c.order_is_spelled_once.ensures.never_both;
-      one_fault = c.order_is_spelled_once.ensures.one_fault;
-      one = c.first_breach_is_one.ensures;
-      real = c.first_breach_is_real.ensures;
-    } in
+    let texts = c.texts_are_read_one_way.ensures in
     record {
       tasks = λ task input out other status again. one_input_answer task input out other status again texts;
       commands = λ s input out other status again. one_answer s input out other status again texts;

@@ -2,7 +2,7 @@ use Rattle.std.proofs.Common.{◌≡◌, ◌≤◌, ◌-◌, ◌++◌, length, t
 use Rattle.tso_cli.specs.Parts as words
 use Rattle.tso_cli.proofs.parts.parts_of.Given as goal
 
--- the parts of the whole are those of what is left, behind what was passed
+-- the parts of the whole are those of what is left, after what was passed
 abbrev pub invariant-loop-at : goal.invariant-loop-at
 invariant-loop-at l = record {
   within : l.at ≤ length l.input;

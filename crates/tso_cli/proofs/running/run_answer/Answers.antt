@@ -1,9 +1,9 @@
 use Rattle.std.proofs.Common.{◌≢◌}
 use Rattle.scheduler.specs.declared.fault.ChoiceFault.TheVariants as faults
 use Rattle.tso_cli.specs.declared.answer.Status.TheVariants.{Refused}
-use Rattle.tso_cli.specs.Answers.{counts_under, run_text, run_status, IsRunAnswer, refused, ran}
+use Rattle.tso_cli.specs.Answers.{run_text, run_status, IsRunAnswer, refused, ran}
 use Rattle.tso_cli.specs.Lines.{choices_refusal}
-use Rattle.tso_cli.specs.Runs.{run_under, AnswersFit}
+use Rattle.tso_cli.specs.Runs.{run_under, AnswersFit, counts_under}
 use Rattle.tso_cli.proofs.AnswerLemmas.{refusal-is}
 use Rattle.tso_cli.proofs.running.run_answer.Goals as goal
 
@@ -16,12 +16,12 @@ returns-in-Ok c =
     let r = run_under t kind config choices in
     refusal-is (IsRunAnswer t kind config c.args.json c.args.text.now) (AnswersFit t kind config choices) c.run_under.result
     (run_text t kind config c.args.json (counts_under t kind config choices) r) (run_status r)
-    (rw c.deref.ensures.value at c.run_under.ensures.text) (rw c.deref.ensures.value at c.run_under.ensures.status)
+    (rw c.deref.ensures.value at c.run_under.ensures.says)
     (rw c.deref.ensures.value at c.run_under.ensures.answers)
     (λ fit. ran choices (rw c.cores.ensures.value at c.in-Ok.ensures.found) fit)
 
 pub returns-in-Err : goal.returns-in-Err
 returns-in-Err c =
     refusal-is (IsRunAnswer c.args.test.now c.args.protocol c.args.config c.args.json c.args.text.now) (c.in-Err.fault ≢ faults.NoMemory) c.refused_choices.result
-    (choices_refusal c.in-Err.fault) Refused c.refused_choices.ensures.text c.refused_choices.ensures.status c.refused_choices.ensures.real
+    (choices_refusal c.in-Err.fault) Refused c.refused_choices.ensures.says c.refused_choices.ensures.real
     (λ real. refused c.in-Err.fault (rw c.cores.ensures.value at (c.in-Err.ensures.refused real)))

@@ -1,14 +1,13 @@
-use Rattle.std.proofs.Common.{List, ap, ◌∙◌}
+use Rattle.std.proofs.Common.{List, ap, refl, ◌∙◌}
 use Rattle.machine_core.specs.declared.counts.Counts.{Counts}
-use Rattle.tso_cli.specs.Answers.{counts_under}
-use Rattle.tso_cli.specs.Runs.{run_under}
+use Rattle.tso_cli.specs.Runs.{run_under, counts_under}
 use Rattle.tso_cli.specs.RunTexts.{report_in}
 use Rattle.tso_cli.specs.Simulation.{shown_of, IsEndingOf, HasCounts}
 use Rattle.tso_cli.specs.declared.simulation.Ending.TheVariants.{Ended}
 use Rattle.tso_cli.proofs.running.run_under.Goals as goal
 
-pub returns-in_ok-text-in-Ok-Ended-clause-text : goal.returns-in_ok-text-in-Ok-Ended-clause-text
-returns-in_ok-text-in-Ok-Ended-clause-text c =
+pub returns-in_ok-text-in-Ok-Ended-clause-says : goal.returns-in_ok-text-in-Ok-Ended-clause-says
+returns-in_ok-text-in-Ok-Ended-clause-says c =
     let t = c.args.test.now in
     let kind = c.args.protocol in
     let config = c.args.config in
@@ -17,4 +16,4 @@ returns-in_ok-text-in-Ok-Ended-clause-text c =
     let is : IsEndingOf t r (Ended c.in-Ok-Ended.run') = rw c.in-Ok-Ended.field-0-is at c.in-Ok-Ended.ensures.ending in
     let counted : HasCounts counts (Ended c.in-Ok-Ended.run') = rw c.in-Ok-Ended.field-0-is at c.in-Ok-Ended.ensures.counts in
     let shown = is.1 ∙ ap (λ (cs : List Counts). shown_of t cs r) counted in
-    rw is.0 (c.in_ok-text-in-Ok-Ended.ensures ∙ ap (report_in c.args.json t kind config) shown)
+    record { text = rw is.0 (c.in_ok-text-in-Ok-Ended.ensures ∙ ap (report_in c.args.json t kind config) shown); status = rw is.0 refl }

@@ -3,7 +3,7 @@ use Rattle.tso_model.specs.Litmus.{Litmus}
 use Rattle.split_laws.specs.BusChoices.{IsPossibleOn}
 use Rattle.machine_core.specs.Running.{Running, table_in, configuration_of}
 use Rattle.tso_report.specs.Tally.{RunCounts, with_state, with_verdict, values_in}
-use Rattle.tso_cli.specs.Runs.{run_on_machine}
+use Rattle.tso_cli.specs.Runs.{machine_run}
 use Rattle.tso_cli.specs.Simulation.{verdict}
 use Rattle.tso_cli.specs.Sweep.{with_one_run}
 use Rattle.tso_cli.proofs.SimulationLemmas.{RunLaws, unfinished-is}
@@ -32,7 +32,7 @@ returns-then-not-is_ended-clause-ended g c =
 pub returns-then-not-is_ended-clause-counts : goal.returns-then-not-is_ended-clause-counts
 returns-then-not-is_ended-clause-counts g c =
     c.add_unfinished.ensures.counts
-    ∙ counted-unfinished c.args.test.now (run_on_machine c.args.machine.now (g.C.Choices.coming c.args.choices)) c.args.tally.now.counts (sym (returns-then-not-is_ended-clause-ended g c))
+    ∙ counted-unfinished c.args.test.now (machine_run c.args.machine.now (g.C.Choices.coming c.args.choices)) c.args.tally.now.counts (sym (returns-then-not-is_ended-clause-ended g c))
 
 pub returns-then-not-is_ended-clause-again : goal.returns-then-not-is_ended-clause-again
 returns-then-not-is_ended-clause-again g c =
@@ -55,7 +55,7 @@ returns-clause-counts g c =
     let m = c.args.machine.now in
     let t = c.args.test.now in
     let left = c.in_ok-state.state in
-    let run = run_on_machine m (g.C.Choices.coming c.args.choices) in
+    let run = machine_run m (g.C.Choices.coming c.args.choices) in
     let laws : RunLaws = record {
       atomic = record { atomic = c.atomic_runs_are_flat_runs.ensures.atomic; side_by_side = c.atomic_runs_are_flat_runs.ensures.together };
       stops = c.runs_on_either_bus_stop_where_they_end.ensures.stops;

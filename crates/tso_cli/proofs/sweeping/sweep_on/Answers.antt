@@ -3,7 +3,7 @@ use Rattle.tso_model.specs.Runs.{Run}
 use Rattle.tso_model.specs.declared.choice.Choice.{Choice}
 use Rattle.scheduler.specs.Seeds.{choice_of_word, drawn_words, seeded_choices}
 use Rattle.tso_report.specs.Tally.{RunCounts, Ascend, runs_in}
-use Rattle.tso_cli.specs.Runs.{run_under, run_on_machine, AnswersFit}
+use Rattle.tso_cli.specs.Runs.{run_under, machine_run, AnswersFit}
 use Rattle.tso_cli.specs.Sweep.{choices_of, seeded_run, with_one_run, counts_from}
 use Rattle.tso_cli.proofs.StateLemmas.{ascend-none}
 use Rattle.tso_cli.proofs.SweepLemmas.{ended-with, ascend-run, runs-with, fit-more}
@@ -43,7 +43,7 @@ loop-at-preserved g c =
     let m = c.loop-at.machine in
     let before = c.loop-at.tally.counts in
     let cs : List Choice = map (choice_of_word c.new-choices.result.cores) (drawn_words c.new-choices.result.left c.new-choices.result.generator) in
-    let r = run_on_machine m cs in
+    let r = machine_run m cs in
     let drawn : cs ≡ choices_of t c.args.plan.length (c.args.plan.from + c.loop-at.at) =
     c.new-choices.ensures.exact ∙ ap (λ (n : ℕ). seeded_choices n c.seed.result c.length-length.result) c.cores.ensures.value
     ∙ ap (λ (s : ℕ). choices_of t c.length-length.result s) c.seed.ensures ∙ ap (λ (n : ℕ). choices_of t n (c.args.plan.from + c.loop-at.at)) c.length-length.ensures in

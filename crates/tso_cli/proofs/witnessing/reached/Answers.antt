@@ -12,7 +12,7 @@ returns-in-Ok c =
     let t = c.args.test.now in
     let order = c.args.execution.now.order.items in
     answer-is (IsWitness t c.args.depth order) c.found.result (choices_line (choices_along t order)) Good
-    (rw (c.deref.ensures.value, c.in-Ok.ensures.exact) at c.found.ensures.text) c.found.ensures.status
+    (rw (c.deref.ensures.value, c.in-Ok.ensures.exact) at c.found.ensures)
     (reached c.requires.order c.in-Ok.ensures.depth)
 
 pub returns-in-Err-Depth : goal.returns-in-Err-Depth
@@ -22,4 +22,4 @@ returns-in-Err-Depth c =
     let because = c.in-Err-Depth.ensures.depth (λ e. absurd cc) in
     let same : c.in-Err-Depth.needed ≡ needed order = (let is = because.0 in cc) in
     answer-is (IsWitness t c.args.depth order) c.too_small.result (depth_line (needed order)) Invalid
-    (rw same at c.too_small.ensures.text) c.too_small.ensures.status (too_small c.requires.order because.1)
+    (rw same at c.too_small.ensures) (too_small c.requires.order because.1)

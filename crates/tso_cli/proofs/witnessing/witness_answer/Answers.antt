@@ -16,5 +16,5 @@ returns-in-Ok c =
 pub returns-in-Err : goal.returns-in-Err
 returns-in-Err c =
     refusal-is (IsWitnessAnswer c.args.test.now c.args.depth c.args.text.now) (c.in-Err.fault ≢ faults.NoMemory) c.refused_order.result
-    (order_refusal c.in-Err.fault) Refused c.refused_order.ensures.text c.refused_order.ensures.status c.refused_order.ensures.real
+    (order_refusal c.in-Err.fault) Refused c.refused_order.ensures.says c.refused_order.ensures.real
     (λ real. refused c.in-Err.fault (c.in-Err.ensures.fault real))

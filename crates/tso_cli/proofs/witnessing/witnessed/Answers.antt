@@ -17,5 +17,5 @@ invalid-requires c =
 pub returns-in-Err : goal.returns-in-Err
 returns-in-Err c =
     refusal-is (IsWitness c.args.test.now c.args.depth c.args.execution.now.order.items) (c.in-Err.breach ≢ breaches.NoMemory) c.invalid.result
-    (invalid_line c.args.test.now c.in-Err.breach) Invalid c.invalid.ensures.text c.invalid.ensures.status c.invalid.ensures.real
+    (invalid_line c.args.test.now c.in-Err.breach) Invalid c.invalid.ensures.says c.invalid.ensures.real
     (λ real. invalid c.in-Err.breach (c.in-Err.ensures.first real))

@@ -1,6 +1,6 @@
 use Rattle.std.proofs.Common.{◌≡◌, ◌<◌, ℕ, [], Some, slice_get, arith, refl, ap, ◌∙◌, rules}
 use Rattle.tso_model.specs.Litmus.{IsTest}
-use Rattle.tso_model.specs.Examples.{sb, sb_choices, n6, parted_order, loc_x, loc_y}
+use Rattle.tso_model.specs.Examples.{sb, sb_choices, n6, separated_order, loc_x, loc_y}
 use Rattle.tso_model.specs.Thread.{entry}
 use Rattle.tso_model.specs.Execution.{IsStorePart}
 use Rattle.tso_model.specs.declared.execution.Entry.{Entry}
@@ -28,9 +28,9 @@ returns-clause-short_is_not_whole c = λ tso. let count : 3 ≡ 4 = tso.whole.co
 pub returns-clause-turned_breaks_program_order : goal.returns-clause-turned_breaks_program_order
 returns-clause-turned_breaks_program_order c = λ tso. let less : 3 < 2 = tso.program_order 3 2 (entry 1 0 W loc_y 2) (entry 1 1 W loc_x 2) refl refl refl refl in absurd (omega arith)
 
-pub returns-clause-parted_is_not_adjacent : goal.returns-clause-parted_is_not_adjacent
-returns-clause-parted_is_not_adjacent c = λ tso.
-    let found : (y : Entry) × (slice_get parted_order 1 ≡ Some y) × IsStorePart (entry 0 0 LR loc_x 0) y = tso.pairs 0 (entry 0 0 LR loc_x 0) refl refl in
+pub returns-clause-separated_is_not_adjacent : goal.returns-clause-separated_is_not_adjacent
+returns-clause-separated_is_not_adjacent c = λ tso.
+    let found : (y : Entry) × (slice_get separated_order 1 ≡ Some y) × IsStorePart (entry 0 0 LR loc_x 0) y = tso.pairs 0 (entry 0 0 LR loc_x 0) refl refl in
     let next : Some (entry 1 0 W loc_x 1) ≡ Some found.0 = found.1 in
     let same : entry 1 0 W loc_x 1 ≡ found.0 = cc in
     let kind : W ≡ LW = ap (λ (e : Entry). e.kind) same ∙ found.2.kind in

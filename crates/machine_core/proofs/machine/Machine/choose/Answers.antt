@@ -19,7 +19,7 @@ returns-clause-stall g c = λ why h.
     let bus = parts.config.bus in
     let depth = parts.config.depth in
     let done : Performs parts new choice (effect_in t parts choice) (Stalled why) = IfOk-at_ok (λ o. Performs parts new choice (effect_in t parts choice) o) h c.perform-outcome.ensures.ok in
-    let rests = c.stalls_on_either_bus_change_nothing.ensures bus t depth parts.commits.entries (state_in parts) (attempt_in t parts choice) why c.self.invariant.2 (sym done.outcome) in
+    let rests = c.stalls_on_either_bus_change_nothing.ensures bus t depth parts.commits.entries (state_in parts) (attempt_in t parts choice) why c.self.invariant.possible (sym done.outcome) in
     let flat = done.flat ∙ ap (λ (s : BusState). s.flat) rests.same in
     let holder = ap (λ (s : BusState). s.holder) rests.same in
     let state : state_in new ≡ state_in parts = same-state (state_in new) (state_in parts) flat (done.holder ∙ holder) in
@@ -31,22 +31,25 @@ returns-clause-stall g c = λ why h.
     Running-same c.args.self.now t bus new.config.bus depth new.config.depth (state_in parts) (state_in new) parts.commits.entries new.commits.entries (statistics_in parts) (statistics_in new) c.self.inside.failed c.is_err-self-inside.result
     c.self.view_is (ap (λ config. config.bus) c.perform-outcome.ensures.config) (ap (λ config. config.depth) c.perform-outcome.ensures.config) state commits statistics failed
 
-pub perform-outcome-requires-clause-holder : goal.perform-outcome-requires-clause-holder
-perform-outcome-requires-clause-holder g c =
+pub perform-outcome-requires-clause-consistent : goal.perform-outcome-requires-clause-consistent
+perform-outcome-requires-clause-consistent g c =
     let parts = c.self.inside.parts in
-    (c.what_holds_so_far_on_either_bus.ensures.so_far parts.config.bus c.self.inside.test.now parts.config.depth parts.commits.entries (state_in parts) c.self.invariant.2).holder
+    let so_far = c.what_holds_so_far_on_either_bus.ensures.so_far parts.config.bus c.self.inside.test.now parts.config.depth parts.commits.entries (state_in parts) c.self.invariant.possible in
+    record { fits = c.self.invariant.fits; held = c.self.invariant.held; holder = so_far.holder }
 
 pub invariant_of-self : goal.invariant_of-self
 invariant_of-self g c =
     let parts = c.self.inside.parts in
-    let t = c.self.inside.test.now in (
-      c.perform-outcome.ensures.fits,
-      c.perform-outcome.ensures.held,
-      possible-next c.perform-outcome.result t parts c.perform-outcome.new.parts c.args.choice c.self.invariant.2
+    let t = c.self.inside.test.now in
+    let made = c.perform-outcome.ensures in
+    record {
+      fits = made.of_test.fits;
+      held = made.of_test.held;
+      possible = possible-next c.perform-outcome.result t parts c.perform-outcome.new.parts c.args.choice c.self.invariant.possible
           (c.attempts_lead_from_state_to_state.ensures.next parts.config.bus t parts.config.depth parts.commits.entries (state_in parts))
-          c.perform-outcome.ensures.answer c.perform-outcome.ensures.ok c.perform-outcome.ensures.err_state c.perform-outcome.ensures.err_commits c.perform-outcome.ensures.config,
-      c.perform-outcome.ensures.tallied,
-    )
+          made.answer made.ok made.err_state made.err_commits made.config;
+      tallied = made.tallied;
+    }
 
 pub returns-clause-answer : goal.returns-clause-answer
 returns-clause-answer g c =

@@ -15,19 +15,24 @@ final_state-state-requires-clause-free g c =
     let t = c.self.inside.test.now in
     let parts = c.self.inside.parts in
     let ended = has-ended c.self.inside.failed _ (subst (λ m. IsTrue (is_ended m)) (sym c.self.view_is) c.requires) in
-    free-bus t parts c.self.invariant.1
-    (c.what_holds_so_far_on_either_bus.ensures.free parts.config.bus t parts.config.depth parts.commits.entries (state_in parts) c.self.invariant.2 ended)
+    free-bus t parts c.self.invariant.held
+    (c.what_holds_so_far_on_either_bus.ensures.free parts.config.bus t parts.config.depth parts.commits.entries (state_in parts) c.self.invariant.possible ended)
 
 pub restart-requires-clause-test : goal.restart-requires-clause-test
-restart-requires-clause-test g c = c.self.invariant.3.test
+restart-requires-clause-test g c = c.self.invariant.tallied.test
 
 pub restart-requires-clause-counts : goal.restart-requires-clause-counts
-restart-requires-clause-counts g c = ap length c.final_state-state.ensures.counts ∙ c.self.invariant.3.cores
+restart-requires-clause-counts g c = ap length c.final_state-state.ensures.counts ∙ c.self.invariant.tallied.cores
 
 pub invariant_of-self : goal.invariant_of-self
 invariant_of-self g c =
     let r = c.restart.ensures in
-    (r.fits, r.held, possible-first c.self.inside.test.now c.restart.new.parts c.attempts_lead_from_state_to_state.ensures.first r.state r.commits, r.tallied)
+    record {
+      fits = r.begun.fits;
+      held = r.begun.held;
+      possible = possible-first c.self.inside.test.now c.restart.new.parts c.attempts_lead_from_state_to_state.ensures.first r.begun.state r.begun.commits;
+      tallied = r.begun.tallied;
+    }
 
 pub returns-clause-registers : goal.returns-clause-registers
 returns-clause-registers g c =
@@ -45,5 +50,5 @@ returns-clause-restarted g c =
     let config = r.config ∙ left.config in
     let statistics = r.statistics ∙ ap (λ rows. no_statistics (table_of rows) mid.bus.shape t) left.machine.rows ∙ ap (λ shape. no_statistics (table_of old.bus.rows) shape t) left.machine.shape in
     Running-same _ t old.config.bus new.config.bus old.config.depth new.config.depth (unheld (start t)) (state_in new) [] new.commits.entries _ (statistics_in new) false false
-    refl (ap (λ config. config.bus) config) (ap (λ config. config.depth) config) r.state r.commits statistics refl
+    refl (ap (λ config. config.bus) config) (ap (λ config. config.depth) config) r.begun.state r.begun.commits statistics refl
     ∙ ap restarted c.self.view_is

@@ -19,8 +19,8 @@ settle-requires g c =
     let parts = c.self.inside.parts in
     let ended = has-ended c.self.inside.failed _ (subst (λ m. IsTrue (is_ended m)) (sym c.self.view_is) c.requires) in
     record {
-      free = free-bus t parts c.self.invariant.1
-          (c.what_holds_so_far_on_either_bus.ensures.free parts.config.bus t parts.config.depth parts.commits.entries (state_in parts) c.self.invariant.2 ended);
+      free = free-bus t parts c.self.invariant.held
+          (c.what_holds_so_far_on_either_bus.ensures.free parts.config.bus t parts.config.depth parts.commits.entries (state_in parts) c.self.invariant.possible ended);
     }
 
 pub build-requires : goal.build-requires
@@ -28,6 +28,6 @@ build-requires g c =
     let t = c.self.inside.test.now in
     let parts = c.self.inside.parts in
     let ended = has-ended c.self.inside.failed _ (subst (λ m. IsTrue (is_ended m)) (sym c.self.view_is) c.requires) in
-    let free = c.what_holds_so_far_on_either_bus.ensures.free parts.config.bus t parts.config.depth parts.commits.entries (state_in parts) c.self.invariant.2 ended in
-    let so_far = c.what_holds_so_far_on_either_bus.ensures.so_far parts.config.bus t parts.config.depth parts.commits.entries (state_in parts) c.self.invariant.2 in
+    let free = c.what_holds_so_far_on_either_bus.ensures.free parts.config.bus t parts.config.depth parts.commits.entries (state_in parts) c.self.invariant.possible ended in
+    let so_far = c.what_holds_so_far_on_either_bus.ensures.so_far parts.config.bus t parts.config.depth parts.commits.entries (state_in parts) c.self.invariant.possible in
     paired parts.commits.entries (subst (ArePaired parts.commits.entries) free so_far.pairs)

@@ -8,15 +8,20 @@ use Rattle.machine_core.proofs.RunningLemmas.{Running-same}
 use Rattle.machine_core.proofs.machine.Machine.restart.Goals as goal
 
 pub restart-requires-clause-test : goal.restart-requires-clause-test
-restart-requires-clause-test g c = c.self.invariant.3.test
+restart-requires-clause-test g c = c.self.invariant.tallied.test
 
 pub restart-requires-clause-counts : goal.restart-requires-clause-counts
-restart-requires-clause-counts g c = c.self.invariant.3.cores
+restart-requires-clause-counts g c = c.self.invariant.tallied.cores
 
 pub invariant_of-self : goal.invariant_of-self
 invariant_of-self g c =
     let r = c.restart.ensures in
-    (r.fits, r.held, possible-first c.self.inside.test.now c.restart.new.parts c.attempts_lead_from_state_to_state.ensures.first r.state r.commits, r.tallied)
+    record {
+      fits = r.begun.fits;
+      held = r.begun.held;
+      possible = possible-first c.self.inside.test.now c.restart.new.parts c.attempts_lead_from_state_to_state.ensures.first r.begun.state r.begun.commits;
+      tallied = r.begun.tallied;
+    }
 
 pub returns : goal.returns
 returns g c =
@@ -25,5 +30,5 @@ returns g c =
     let old = c.self.inside.parts in
     let new = c.restart.new.parts in
     Running-same _ t old.config.bus new.config.bus old.config.depth new.config.depth (unheld (start t)) (state_in new) [] new.commits.entries _ (statistics_in new) false false
-    refl (ap (λ config. config.bus) r.config) (ap (λ config. config.depth) r.config) r.state r.commits r.statistics refl
+    refl (ap (λ config. config.bus) r.config) (ap (λ config. config.depth) r.config) r.begun.state r.begun.commits r.statistics refl
     ∙ ap restarted c.self.view_is

@@ -1,15 +1,15 @@
-use Rattle.std.proofs.Common.{rules, true, ◌<◌, length, ℕ, ◌+◌, ◌%◌, ◌^◌}
+use Rattle.std.proofs.Common.{rules, true, ◌<◌, ℕ, ◌+◌, ◌%◌, ◌^◌}
 use Rattle.std.proofs.lemmas.List.{with_items_is}
 use Rattle.snoop_bus.specs.Held.{counted}
-use Rattle.snoop_bus.proofs.WordLemmas.{line_below}
-use Rattle.snoop_bus.proofs.CallLemmas.{free_or_hit, loc_in, write_word, write_done, write_refused}
+use Rattle.snoop_bus.proofs.CallLemmas.{bus_ready, free_or_hit, loc_in, write_word, write_done, write_refused}
 use Rattle.snoop_bus.proofs.NewLemmas.{bus-written}
 use Rattle.snoop_bus.proofs.bus.SnoopBus.add.Goals as goal
 
-pub add-requires-clause-line : goal.add-requires-clause-line
-add-requires-clause-line g c =
-    let within : c.args.loc.0 < c.self.inside.locations = loc_in c.self.inside.shape.words c.self.inside.locations (counted c.self.inside.held c.self.inside.caches.items) c.self.inside.memory.items c.args.loc.0 (rw (← c.self.view_is) at c.requires.loc) in
-    rw (c.deref_mut-2.ensures.value, c.line_of-line.ensures.value) (line_below c.self.inside.shape.words c.self.inside.locations (length c.self.inside.memory.items) c.args.loc.0 c.self.invariant.some_word c.self.invariant.enough_lines within)
+pub add-requires-clause-ready : goal.add-requires-clause-ready
+add-requires-clause-ready g c =
+    rw (c.deref_mut.ensures.value, c.deref_mut-2.ensures.value, c.from.ensures, c.line_of-line.ensures.value)
+    (bus_ready c.self.inside.shape c.self.inside.locations c.self.inside.caches.items c.self.inside.memory.items c.self.inside.held
+    c.args.core.0 c.args.loc.0 c.self.invariant (rw (← c.self.view_is) at c.requires.core) (rw (← c.self.view_is) at c.requires.loc))
 
 pub returns-clause-word : goal.returns-clause-word
 returns-clause-word g c =
@@ -34,7 +34,7 @@ returns-clause-refused g c =
     rw (← c.self.view_is, cs, ms)
     (write_refused (g.P.Protocol.table c.self.inside.protocol) c.self.inside.shape c.self.inside.locations c.self.inside.caches.items c.add.new.caches c.self.inside.memory.items c.add.new.memory c.self.inside.held c.args.core.0 c.args.loc.0 c.add.result
     (rw (c.deref_mut.ensures.value, c.from.ensures, c.line_of-line.ensures.value) at c.add.ensures.succeeds)
-    (rw c.deref_mut.ensures.value at c.add.ensures.err_caches) (rw c.deref_mut-2.ensures.value at c.add.ensures.err_memory))
+    (rw (c.deref_mut.ensures.value, c.deref_mut-2.ensures.value) at c.add.ensures.refused))
 
 pub invariant_of-self : goal.invariant_of-self
 invariant_of-self g c =
@@ -45,7 +45,7 @@ invariant_of-self g c =
     (bus-written (g.P.Protocol.table c.self.inside.protocol) c.self.inside.held (λ (w : ℕ). (w + c.args.value) % 2 ^ 32) c.add.result c.self.inside.shape c.self.inside.locations c.self.inside.caches.items c.add.new.caches c.self.inside.memory.items c.add.new.memory c.args.core.0 c.args.loc.0 c.self.invariant (search rules) within
     c.add.ensures.coherent c.add.ensures.awaited (rw c.deref_mut.ensures.value at c.add.ensures.ways)
     (rw (c.deref_mut.ensures.value, c.deref_mut-2.ensures.value, c.from.ensures, c.line_of-line.ensures.value, c.place_of-place.ensures.value) at c.add.ensures.ok)
-    (rw c.deref_mut.ensures.value at c.add.ensures.err_caches) (rw c.deref_mut-2.ensures.value at c.add.ensures.err_memory))
+    (rw (c.deref_mut.ensures.value, c.deref_mut-2.ensures.value) at c.add.ensures.refused))
 
 pub add-requires-clause-free : goal.add-requires-clause-free
 add-requires-clause-free g c =

@@ -1,23 +1,20 @@
-use Rattle.std.proofs.Common.{rules, ◌≡◌, ◌/◌, ◌<◌, Some, None, length}
+use Rattle.std.proofs.Common.{rules, ◌≡◌, ◌/◌, ◌<◌, Some, None}
 use Rattle.std.proofs.lemmas.List.{with_items_is}
 use Rattle.snoop_bus.specs.Held.{counted}
 use Rattle.snoop_bus.proofs.RowLemmas.{table_of-rows}
-use Rattle.snoop_bus.proofs.WordLemmas.{line_below}
 use Rattle.snoop_bus.proofs.HolderLemmas.{free-held, not_here}
 use Rattle.snoop_bus.proofs.NewLemmas.{bus-kept}
-use Rattle.snoop_bus.proofs.CallLemmas.{loc_in}
+use Rattle.snoop_bus.proofs.CallLemmas.{bus_ready, loc_in}
 use Rattle.snoop_bus.proofs.AskCalls.{ask_done}
 use Rattle.snoop_bus.proofs.bus.SnoopBus.ask.Goals as goal
 
-pub ask-held-requires-clause-coherent : goal.ask-held-requires-clause-coherent
-ask-held-requires-clause-coherent g c =
+pub ask-held-requires-clause-ready : goal.ask-held-requires-clause-ready
+ask-held-requires-clause-ready g c =
     let free : c.self.inside.held ≡ None = free-held c.self.inside.held (rw (← c.self.view_is) at c.requires.free) in
-    rw (c.deref_mut.ensures.value, c.deref_mut-2.ensures.value) (rw free at c.self.invariant.coherent)
-
-pub ask-held-requires-clause-line : goal.ask-held-requires-clause-line
-ask-held-requires-clause-line g c =
-    let within : c.args.loc.0 < c.self.inside.locations = loc_in c.self.inside.shape.words c.self.inside.locations (counted c.self.inside.held c.self.inside.caches.items) c.self.inside.memory.items c.args.loc.0 (rw (← c.self.view_is) at c.requires.loc) in
-    rw (c.deref_mut-2.ensures.value, c.line_of-line.ensures.value) (line_below c.self.inside.shape.words c.self.inside.locations (length c.self.inside.memory.items) c.args.loc.0 c.self.invariant.some_word c.self.invariant.enough_lines within)
+    let loc = rw (← c.self.view_is) at c.requires.loc in
+    rw (c.deref_mut.ensures.value, c.deref_mut-2.ensures.value, c.line_of-line.ensures.value)
+    (bus_ready c.self.inside.shape c.self.inside.locations c.self.inside.caches.items c.self.inside.memory.items None
+    c.args.core.0 c.args.loc.0 (rw free at c.self.invariant) (rw (← c.self.view_is) at c.requires.core) (rw free at loc))
 
 pub ask-held-requires-clause-misses : goal.ask-held-requires-clause-misses
 ask-held-requires-clause-misses g c = λ e.

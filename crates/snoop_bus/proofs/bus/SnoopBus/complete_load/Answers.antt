@@ -2,7 +2,7 @@ use Rattle.std.proofs.Common.{rules, ◌≡◌, ◌/◌, ℕ, Some, None, length
 use Rattle.std.proofs.lemmas.List.{with_items_is}
 use Rattle.snoop_bus.specs.declared.holding.Stage.TheVariants.{Load}
 use Rattle.snoop_bus.specs.Held.{counted_in, held_by}
-use Rattle.snoop_bus.specs.Bus.{seen}
+use Rattle.snoop_bus.specs.Bus.{current_words}
 use Rattle.snoop_bus.proofs.WordLemmas.{words-get, words-same}
 use Rattle.snoop_bus.proofs.NewLemmas.{bus-kept}
 use Rattle.snoop_bus.proofs.HolderLemmas.{holds}
@@ -12,9 +12,8 @@ pub returns-in_err-done-clause-words : goal.returns-in_err-done-clause-words
 returns-in_err-done-clause-words g c =
     let cs = with_items_is c.self.inside.caches c.complete_load.new.caches (search rules) in
     let ms = with_items_is c.self.inside.memory c.complete_load.new.memory (search rules) in
-    let caches = rw c.deref_mut.ensures.value at c.in_err-done.ensures.err_caches in
-    let memory = rw c.deref_mut-2.ensures.value at c.in_err-done.ensures.err_memory in
-    rw (← c.self.view_is, cs, ms) (rw (caches, memory) refl)
+    let unchanged = rw (c.deref_mut.ensures.value, c.deref_mut-2.ensures.value) at c.in_err-done.ensures.refused in
+    rw (← c.self.view_is, cs, ms) (rw (unchanged.caches, unchanged.memory) refl)
 
 pub returns-clause-word : goal.returns-clause-word
 returns-clause-word g c =
@@ -23,7 +22,7 @@ returns-clause-word g c =
     let same : c.unwrap-held.result ≡ held_by c.args.core c.args.loc Load (c.args.loc.0 / c.self.inside.shape.words) held.0 = cc (some, held.1.held_is) in
     let word = rw (c.deref_mut.ensures.value, c.deref_mut-2.ensures.value, c.from.ensures, c.place_of.ensures.value, same) at c.in_ok-done.ensures.word in
     rw (← c.self.view_is, held.1.held_is)
-    (words-get c.self.inside.shape.words (seen (counted_in c.args.core.0 (c.args.loc.0 / c.self.inside.shape.words) held.0 c.self.inside.caches.items) c.self.inside.memory.items) c.self.inside.locations c.args.loc.0 held.1.loc_in
+    (words-get c.self.inside.shape.words (current_words (counted_in c.args.core.0 (c.args.loc.0 / c.self.inside.shape.words) held.0 c.self.inside.caches.items) c.self.inside.memory.items) c.self.inside.locations c.args.loc.0 held.1.loc_in
     ∙ ap (λ (w : ℕ). Some w) (sym word))
 
 pub returns-clause-words : goal.returns-clause-words
@@ -35,7 +34,7 @@ returns-clause-words g c =
     let ms = with_items_is c.self.inside.memory c.complete_load.new.memory (search rules) in
     let keeps = rw (c.deref_mut.ensures.value, c.deref_mut-2.ensures.value, c.from.ensures, same) at c.in_ok-done.ensures.words in
     rw (← c.self.view_is, cs, ms, held.1.held_is)
-    (words-same c.self.inside.shape.words c.self.inside.locations (length c.self.inside.memory.items) (seen (counted_in c.args.core.0 (c.args.loc.0 / c.self.inside.shape.words) held.0 c.self.inside.caches.items) c.self.inside.memory.items) (seen c.complete_load.new.caches c.complete_load.new.memory)
+    (words-same c.self.inside.shape.words c.self.inside.locations (length c.self.inside.memory.items) (current_words (counted_in c.args.core.0 (c.args.loc.0 / c.self.inside.shape.words) held.0 c.self.inside.caches.items) c.self.inside.memory.items) (current_words c.complete_load.new.caches c.complete_load.new.memory)
     c.self.invariant.some_word c.self.invariant.enough_lines keeps.words)
 
 pub invariant_of-self-2 : goal.invariant_of-self-2
@@ -48,3 +47,6 @@ invariant_of-self-2 g c =
     let keeps = rw (c.deref_mut.ensures.value, c.deref_mut-2.ensures.value, c.from.ensures, same) at c.in_ok-done.ensures.words in
     rw (cs, ms)
     (bus-kept c.self.inside.shape c.self.inside.locations c.self.inside.caches.items c.complete_load.new.caches c.self.inside.memory.items c.complete_load.new.memory (Some (held_by c.args.core c.args.loc Load (c.args.loc.0 / c.self.inside.shape.words) held.0)) None (rw held.1.held_is at c.self.invariant) (search rules) keeps (rw c.deref_mut.ensures.value at c.complete_load.ensures.ways) tt tt)
+
+pub returns-clause-coherent : goal.returns-clause-coherent
+returns-clause-coherent g c = (invariant_of-self-2 g c).coherent

@@ -2,7 +2,7 @@ use Rattle.std.proofs.Common.{rules, ◌≡◌, ◌/◌, Some, length}
 use Rattle.std.proofs.lemmas.List.{with_items_is}
 use Rattle.snoop_bus.specs.declared.holding.Stage.TheVariants.{Write}
 use Rattle.snoop_bus.specs.Held.{counted_in, held_by}
-use Rattle.snoop_bus.specs.Bus.{seen}
+use Rattle.snoop_bus.specs.Bus.{current_words}
 use Rattle.snoop_bus.proofs.WordLemmas.{words-set}
 use Rattle.snoop_bus.proofs.NewLemmas.{bus-set}
 use Rattle.snoop_bus.proofs.HolderLemmas.{holds}
@@ -17,7 +17,7 @@ returns-clause-words g c =
     let ms = with_items_is c.self.inside.memory c.complete_store.new.memory (search rules) in
     let sets = rw (c.deref_mut.ensures.value, c.deref_mut-2.ensures.value, c.from.ensures, c.place_of.ensures.value, same) at c.in_ok-access.ensures.words in
     rw (← c.self.view_is, cs, ms, held.1.held_is)
-    (words-set c.self.inside.shape.words c.self.inside.locations (length c.self.inside.memory.items) (seen (counted_in c.args.core.0 (c.args.loc.0 / c.self.inside.shape.words) held.0 c.self.inside.caches.items) c.self.inside.memory.items) (seen c.complete_store.new.caches c.complete_store.new.memory) c.args.loc.0 c.args.value
+    (words-set c.self.inside.shape.words c.self.inside.locations (length c.self.inside.memory.items) (current_words (counted_in c.args.core.0 (c.args.loc.0 / c.self.inside.shape.words) held.0 c.self.inside.caches.items) c.self.inside.memory.items) (current_words c.complete_store.new.caches c.complete_store.new.memory) c.args.loc.0 c.args.value
     c.self.invariant.some_word c.self.invariant.enough_lines held.1.loc_in sets.place_in sets.lines)
 
 pub invariant_of-self-2 : goal.invariant_of-self-2
@@ -30,3 +30,6 @@ invariant_of-self-2 g c =
     let sets = rw (c.deref_mut.ensures.value, c.deref_mut-2.ensures.value, c.from.ensures, c.place_of.ensures.value, same) at c.in_ok-access.ensures.words in
     rw (cs, ms)
     (bus-set c.self.inside.shape c.self.inside.locations c.self.inside.caches.items c.complete_store.new.caches c.self.inside.memory.items c.complete_store.new.memory (Some (held_by c.args.core c.args.loc Write (c.args.loc.0 / c.self.inside.shape.words) held.0)) c.args.loc.0 c.args.value (rw held.1.held_is at c.self.invariant) (search rules) held.1.loc_in sets (rw c.deref_mut.ensures.value at c.complete_store.ensures.ways))
+
+pub returns-clause-coherent : goal.returns-clause-coherent
+returns-clause-coherent g c = (invariant_of-self-2 g c).coherent

@@ -5,7 +5,7 @@ use Rattle.snoop_bus.specs.declared.holding.Transaction.{Transaction}
 use Rattle.snoop_bus.specs.Lines.{words_in}
 use Rattle.snoop_bus.specs.Copies.{copy_at}
 use Rattle.snoop_bus.specs.Held.{held_by}
-use Rattle.snoop_bus.specs.Bus.{seen}
+use Rattle.snoop_bus.specs.Bus.{current_words}
 use Rattle.snoop_bus.proofs.WordLemmas.{words-set}
 use Rattle.snoop_bus.proofs.LineLemmas.{length-line}
 use Rattle.snoop_bus.proofs.NewLemmas.{bus-set}
@@ -21,11 +21,11 @@ returns-clause-words g c =
     let was = rw is at c.self.invariant in
     let cs = with_items_is c.self.inside.caches c.write.new.caches (search rules) in
     let copies = rw (c.deref_mut.ensures.value, c.from.ensures, c.line_of-line.ensures.value, c.place_of-place.ensures.value) at c.write.ensures.copies in
-    let room : c.args.loc.0 % c.self.inside.shape.words < length (seen c.self.inside.caches.items c.self.inside.memory.items (c.args.loc.0 / c.self.inside.shape.words)) =
-    rw (was.lines (c.args.loc.0 / c.self.inside.shape.words) held.1.within, length-line c.self.inside.shape.words (words_in c.self.inside.shape.words (seen c.self.inside.caches.items c.self.inside.memory.items) c.self.inside.locations) (c.args.loc.0 / c.self.inside.shape.words)) (rw c.place_of-place.ensures.value at c.place_of-place.ensures.within) in
+    let room : c.args.loc.0 % c.self.inside.shape.words < length (current_words c.self.inside.caches.items c.self.inside.memory.items (c.args.loc.0 / c.self.inside.shape.words)) =
+    rw (was.lines (c.args.loc.0 / c.self.inside.shape.words) held.1.within, length-line c.self.inside.shape.words (words_in c.self.inside.shape.words (current_words c.self.inside.caches.items c.self.inside.memory.items) c.self.inside.locations) (c.args.loc.0 / c.self.inside.shape.words)) (rw c.place_of-place.ensures.value at c.place_of-place.ensures.within) in
     let sets = locked_written c.self.inside.caches.items c.write.new.caches c.self.inside.memory.items c.args.core.0 (c.args.loc.0 / c.self.inside.shape.words) (c.args.loc.0 % c.self.inside.shape.words) c.args.value was.coherent held.1.within room real.1 copies in
     rw (← c.self.view_is, cs, is)
-    (words-set c.self.inside.shape.words c.self.inside.locations (length c.self.inside.memory.items) (seen c.self.inside.caches.items c.self.inside.memory.items) (seen c.write.new.caches c.self.inside.memory.items) c.args.loc.0 c.args.value
+    (words-set c.self.inside.shape.words c.self.inside.locations (length c.self.inside.memory.items) (current_words c.self.inside.caches.items c.self.inside.memory.items) (current_words c.write.new.caches c.self.inside.memory.items) c.args.loc.0 c.args.value
     c.self.invariant.some_word c.self.invariant.enough_lines held.1.loc_in sets.place_in sets.lines)
 
 pub invariant_of-self : goal.invariant_of-self
@@ -36,8 +36,8 @@ invariant_of-self g c =
     let was = rw is at c.self.invariant in
     let cs = with_items_is c.self.inside.caches c.write.new.caches (search rules) in
     let copies = rw (c.deref_mut.ensures.value, c.from.ensures, c.line_of-line.ensures.value, c.place_of-place.ensures.value) at c.write.ensures.copies in
-    let room : c.args.loc.0 % c.self.inside.shape.words < length (seen c.self.inside.caches.items c.self.inside.memory.items (c.args.loc.0 / c.self.inside.shape.words)) =
-    rw (was.lines (c.args.loc.0 / c.self.inside.shape.words) held.1.within, length-line c.self.inside.shape.words (words_in c.self.inside.shape.words (seen c.self.inside.caches.items c.self.inside.memory.items) c.self.inside.locations) (c.args.loc.0 / c.self.inside.shape.words)) (rw c.place_of-place.ensures.value at c.place_of-place.ensures.within) in
+    let room : c.args.loc.0 % c.self.inside.shape.words < length (current_words c.self.inside.caches.items c.self.inside.memory.items (c.args.loc.0 / c.self.inside.shape.words)) =
+    rw (was.lines (c.args.loc.0 / c.self.inside.shape.words) held.1.within, length-line c.self.inside.shape.words (words_in c.self.inside.shape.words (current_words c.self.inside.caches.items c.self.inside.memory.items) c.self.inside.locations) (c.args.loc.0 / c.self.inside.shape.words)) (rw c.place_of-place.ensures.value at c.place_of-place.ensures.within) in
     let sets = locked_written c.self.inside.caches.items c.write.new.caches c.self.inside.memory.items c.args.core.0 (c.args.loc.0 / c.self.inside.shape.words) (c.args.loc.0 % c.self.inside.shape.words) c.args.value was.coherent held.1.within room real.1 copies in
     rw cs (bus-set c.self.inside.shape c.self.inside.locations c.self.inside.caches.items c.write.new.caches c.self.inside.memory.items c.self.inside.memory.items (Some (held_by c.args.core c.args.loc Locked (c.args.loc.0 / c.self.inside.shape.words) None)) c.args.loc.0 c.args.value was refl held.1.loc_in sets (rw c.deref_mut.ensures.value at c.write.ensures.ways))
 
@@ -49,8 +49,8 @@ returns-clause-coherent g c =
     let was = rw is at c.self.invariant in
     let cs = with_items_is c.self.inside.caches c.write.new.caches (search rules) in
     let copies = rw (c.deref_mut.ensures.value, c.from.ensures, c.line_of-line.ensures.value, c.place_of-place.ensures.value) at c.write.ensures.copies in
-    let room : c.args.loc.0 % c.self.inside.shape.words < length (seen c.self.inside.caches.items c.self.inside.memory.items (c.args.loc.0 / c.self.inside.shape.words)) =
-    rw (was.lines (c.args.loc.0 / c.self.inside.shape.words) held.1.within, length-line c.self.inside.shape.words (words_in c.self.inside.shape.words (seen c.self.inside.caches.items c.self.inside.memory.items) c.self.inside.locations) (c.args.loc.0 / c.self.inside.shape.words)) (rw c.place_of-place.ensures.value at c.place_of-place.ensures.within) in
+    let room : c.args.loc.0 % c.self.inside.shape.words < length (current_words c.self.inside.caches.items c.self.inside.memory.items (c.args.loc.0 / c.self.inside.shape.words)) =
+    rw (was.lines (c.args.loc.0 / c.self.inside.shape.words) held.1.within, length-line c.self.inside.shape.words (words_in c.self.inside.shape.words (current_words c.self.inside.caches.items c.self.inside.memory.items) c.self.inside.locations) (c.args.loc.0 / c.self.inside.shape.words)) (rw c.place_of-place.ensures.value at c.place_of-place.ensures.within) in
     let sets = locked_written c.self.inside.caches.items c.write.new.caches c.self.inside.memory.items c.args.core.0 (c.args.loc.0 / c.self.inside.shape.words) (c.args.loc.0 % c.self.inside.shape.words) c.args.value was.coherent held.1.within room real.1 copies in
     rw cs sets.coherent
 

@@ -1,16 +1,16 @@
-use Rattle.std.proofs.Common.{rules, false, ◌<◌, ◌/◌, length}
+use Rattle.std.proofs.Common.{rules, false, ◌<◌, ◌/◌}
 use Rattle.std.proofs.lemmas.List.{with_items_is}
 use Rattle.snoop_bus.specs.Held.{counted}
-use Rattle.snoop_bus.proofs.WordLemmas.{line_below}
-use Rattle.snoop_bus.proofs.CallLemmas.{free_or_hit, loc_in, load_done, load_refused}
+use Rattle.snoop_bus.proofs.CallLemmas.{bus_ready, free_or_hit, loc_in, load_done, load_refused}
 use Rattle.snoop_bus.proofs.UpgradeAsk.{free_load}
 use Rattle.snoop_bus.proofs.NewLemmas.{bus-kept}
 use Rattle.snoop_bus.proofs.bus.SnoopBus.load.Goals as goal
 
-pub load-requires-clause-line : goal.load-requires-clause-line
-load-requires-clause-line g c =
-    let within : c.args.loc.0 < c.self.inside.locations = loc_in c.self.inside.shape.words c.self.inside.locations (counted c.self.inside.held c.self.inside.caches.items) c.self.inside.memory.items c.args.loc.0 (rw (← c.self.view_is) at c.requires.loc) in
-    rw (c.deref_mut-2.ensures.value, c.line_of-line.ensures.value) (line_below c.self.inside.shape.words c.self.inside.locations (length c.self.inside.memory.items) c.args.loc.0 c.self.invariant.some_word c.self.invariant.enough_lines within)
+pub load-requires-clause-ready : goal.load-requires-clause-ready
+load-requires-clause-ready g c =
+    rw (c.deref_mut.ensures.value, c.deref_mut-2.ensures.value, c.from.ensures, c.line_of-line.ensures.value)
+    (bus_ready c.self.inside.shape c.self.inside.locations c.self.inside.caches.items c.self.inside.memory.items c.self.inside.held
+    c.args.core.0 c.args.loc.0 c.self.invariant (rw (← c.self.view_is) at c.requires.core) (rw (← c.self.view_is) at c.requires.loc))
 
 pub returns-clause-done : goal.returns-clause-done
 returns-clause-done g c =
@@ -29,7 +29,7 @@ returns-clause-refused g c =
     rw (← c.self.view_is, cs, ms)
     (load_refused (g.P.Protocol.table c.self.inside.protocol) c.self.inside.shape c.self.inside.locations c.self.inside.caches.items c.load.new.caches c.self.inside.memory.items c.load.new.memory c.self.inside.held c.args.core.0 c.args.loc.0 c.load.result
     (rw (c.deref_mut.ensures.value, c.from.ensures, c.line_of-line.ensures.value) at c.load.ensures.succeeds)
-    (rw c.deref_mut.ensures.value at c.load.ensures.err_caches) (rw c.deref_mut-2.ensures.value at c.load.ensures.err_memory))
+    (rw (c.deref_mut.ensures.value, c.deref_mut-2.ensures.value) at c.load.ensures.refused))
 
 pub invariant_of-self : goal.invariant_of-self
 invariant_of-self g c =

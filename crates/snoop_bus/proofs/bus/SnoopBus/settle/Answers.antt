@@ -1,6 +1,6 @@
 use Rattle.std.proofs.Common.{rules, None, length}
 use Rattle.std.proofs.lemmas.List.{with_items_is}
-use Rattle.snoop_bus.specs.Bus.{seen}
+use Rattle.snoop_bus.specs.Bus.{current_words}
 use Rattle.snoop_bus.proofs.WordLemmas.{words-same}
 use Rattle.snoop_bus.proofs.CallLemmas.{settled_words}
 use Rattle.snoop_bus.proofs.HolderLemmas.{free-held}
@@ -14,7 +14,7 @@ returns-clause-words g c =
     let free = free-held c.self.inside.held (rw (← c.self.view_is) at c.requires.free) in
     let keeps = rw (c.deref_mut.ensures.value, c.deref_mut-2.ensures.value) at c.settle.ensures.words in
     rw (← c.self.view_is, cs, ms, free)
-    (words-same c.self.inside.shape.words c.self.inside.locations (length c.self.inside.memory.items) (seen c.self.inside.caches.items c.self.inside.memory.items) (seen c.settle.new.caches c.settle.new.memory)
+    (words-same c.self.inside.shape.words c.self.inside.locations (length c.self.inside.memory.items) (current_words c.self.inside.caches.items c.self.inside.memory.items) (current_words c.settle.new.caches c.settle.new.memory)
     c.self.invariant.some_word c.self.invariant.enough_lines keeps.words)
 
 pub returns-clause-memory : goal.returns-clause-memory

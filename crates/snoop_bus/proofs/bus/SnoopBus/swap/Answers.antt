@@ -1,15 +1,15 @@
-use Rattle.std.proofs.Common.{rules, true, ◌<◌, length, ℕ}
+use Rattle.std.proofs.Common.{rules, true, ◌<◌, ℕ}
 use Rattle.std.proofs.lemmas.List.{with_items_is}
 use Rattle.snoop_bus.specs.Held.{counted}
-use Rattle.snoop_bus.proofs.WordLemmas.{line_below}
-use Rattle.snoop_bus.proofs.CallLemmas.{free_or_hit, loc_in, write_word, write_done, write_refused}
+use Rattle.snoop_bus.proofs.CallLemmas.{bus_ready, free_or_hit, loc_in, write_word, write_done, write_refused}
 use Rattle.snoop_bus.proofs.NewLemmas.{bus-written}
 use Rattle.snoop_bus.proofs.bus.SnoopBus.swap.Goals as goal
 
-pub swap-requires-clause-line : goal.swap-requires-clause-line
-swap-requires-clause-line g c =
-    let within : c.args.loc.0 < c.self.inside.locations = loc_in c.self.inside.shape.words c.self.inside.locations (counted c.self.inside.held c.self.inside.caches.items) c.self.inside.memory.items c.args.loc.0 (rw (← c.self.view_is) at c.requires.loc) in
-    rw (c.deref_mut-2.ensures.value, c.line_of-line.ensures.value) (line_below c.self.inside.shape.words c.self.inside.locations (length c.self.inside.memory.items) c.args.loc.0 c.self.invariant.some_word c.self.invariant.enough_lines within)
+pub swap-requires-clause-ready : goal.swap-requires-clause-ready
+swap-requires-clause-ready g c =
+    rw (c.deref_mut.ensures.value, c.deref_mut-2.ensures.value, c.from.ensures, c.line_of-line.ensures.value)
+    (bus_ready c.self.inside.shape c.self.inside.locations c.self.inside.caches.items c.self.inside.memory.items c.self.inside.held
+    c.args.core.0 c.args.loc.0 c.self.invariant (rw (← c.self.view_is) at c.requires.core) (rw (← c.self.view_is) at c.requires.loc))
 
 pub returns-clause-word : goal.returns-clause-word
 returns-clause-word g c =
@@ -34,7 +34,7 @@ returns-clause-refused g c =
     rw (← c.self.view_is, cs, ms)
     (write_refused (g.P.Protocol.table c.self.inside.protocol) c.self.inside.shape c.self.inside.locations c.self.inside.caches.items c.swap.new.caches c.self.inside.memory.items c.swap.new.memory c.self.inside.held c.args.core.0 c.args.loc.0 c.swap.result
     (rw (c.deref_mut.ensures.value, c.from.ensures, c.line_of-line.ensures.value) at c.swap.ensures.succeeds)
-    (rw c.deref_mut.ensures.value at c.swap.ensures.err_caches) (rw c.deref_mut-2.ensures.value at c.swap.ensures.err_memory))
+    (rw (c.deref_mut.ensures.value, c.deref_mut-2.ensures.value) at c.swap.ensures.refused))
 
 pub invariant_of-self : goal.invariant_of-self
 invariant_of-self g c =
@@ -45,7 +45,7 @@ invariant_of-self g c =
     (bus-written (g.P.Protocol.table c.self.inside.protocol) c.self.inside.held (λ (w : ℕ). c.args.value) c.swap.result c.self.inside.shape c.self.inside.locations c.self.inside.caches.items c.swap.new.caches c.self.inside.memory.items c.swap.new.memory c.args.core.0 c.args.loc.0 c.self.invariant (search rules) within
     c.swap.ensures.coherent c.swap.ensures.awaited (rw c.deref_mut.ensures.value at c.swap.ensures.ways)
     (rw (c.deref_mut.ensures.value, c.deref_mut-2.ensures.value, c.from.ensures, c.line_of-line.ensures.value, c.place_of-place.ensures.value) at c.swap.ensures.ok)
-    (rw c.deref_mut.ensures.value at c.swap.ensures.err_caches) (rw c.deref_mut-2.ensures.value at c.swap.ensures.err_memory))
+    (rw (c.deref_mut.ensures.value, c.deref_mut-2.ensures.value) at c.swap.ensures.refused))
 
 pub swap-requires-clause-free : goal.swap-requires-clause-free
 swap-requires-clause-free g c =

@@ -18,7 +18,7 @@ use Rattle.litmus_reader.specs.declared.cell.CoreInstr.{CoreInstr}
 use Rattle.litmus_reader.specs.Faults.{◌>>=◌, or_unfit}
 use Rattle.litmus_reader.specs.Items.{if_location, location_at, if_register, register_at, value_at, register_setting, square_setting, plain_setting, setting_at}
 use Rattle.litmus_reader.specs.Initial.{before_initial, Initial, initial, judged, item_in, step_in, items_within, items_at, initial_at, ends_item}
-use Rattle.litmus_reader.specs.Columns.{if_core, core_at, parting_at, columns, columns_at, in_columns}
+use Rattle.litmus_reader.specs.Columns.{if_core, core_at, separator_at, columns, columns_at, in_columns}
 use Rattle.litmus_reader.specs.Rows.{Rows, row_at, row_in, rows_within, rows_at}
 use Rattle.litmus_reader.proofs.Keeps.{Any, ok_any, some_any, ok_is, bind_keeps, there_keeps, cond_keeps, or_unfit_keeps}
 use Rattle.litmus_reader.proofs.Readings.{AreLast}
@@ -114,26 +114,26 @@ plain_setting_leaves part ps =
 abbrev pub LeavesSetting : List Piece → Result (Setting × List Piece) Fault → Type 0
 LeavesSetting ps r = IfOk r (λ found. Leaves ps found)
 
-leaves_behind : (ps qs : List Piece) (r : Result (Setting × List Piece) Fault) → AreLast ps qs → LeavesSetting qs r → LeavesSetting ps r
-leaves_behind ps qs (Ok found) a b = last_further ps qs found.1 a b
-leaves_behind ps qs (Err e) a b = tt
+leaves_after : (ps qs : List Piece) (r : Result (Setting × List Piece) Fault) → AreLast ps qs → LeavesSetting qs r → LeavesSetting ps r
+leaves_after ps qs (Ok found) a b = last_further ps qs found.1 a b
+leaves_after ps qs (Err e) a b = tt
 
 pub setting_leaves : (part : Part) (ps : List Piece) → LeavesSetting ps (setting_at part ps)
 unfolding setting_at
 setting_leaves part ps =
     there_keeps (λ found. Leaves ps found) (LeavesSetting ps) (number_at ps) (λ core. register_setting part core.0 core.1) _ (number_leaves ps)
-    (λ core a. leaves_behind ps core.1 (register_setting part core.0 core.1) a (register_setting_leaves part core.0 core.1))
+    (λ core a. leaves_after ps core.1 (register_setting part core.0 core.1) a (register_setting_leaves part core.0 core.1))
     (there_keeps (AreLast ps) (LeavesSetting ps) (symbol_at OpenSquare ps) (square_setting part) _ (symbol_leaves OpenSquare ps)
-    (λ rest a. leaves_behind ps rest (square_setting part rest) a (square_setting_leaves part rest)) (plain_setting_leaves part ps))
+    (λ rest a. leaves_after ps rest (square_setting part rest) a (square_setting_leaves part rest)) (plain_setting_leaves part ps))
 
 -- ---- the initial state
 
 abbrev pub LeavesItems : List Piece → Result (Initial × List Piece) Fault → Type 0
 LeavesItems ps r = IfOk r (λ found. Leaves ps found)
 
-items_behind : (ps qs : List Piece) (r : Result (Initial × List Piece) Fault) → AreLast ps qs → LeavesItems qs r → LeavesItems ps r
-items_behind ps qs (Ok found) a b = last_further ps qs found.1 a b
-items_behind ps qs (Err e) a b = tt
+items_after : (ps qs : List Piece) (r : Result (Initial × List Piece) Fault) → AreLast ps qs → LeavesItems qs r → LeavesItems ps r
+items_after ps qs (Ok found) a b = last_further ps qs found.1 a b
+items_after ps qs (Err e) a b = tt
 
 pub item_leaves : (part : Part) (i : Initial) (ps : List Piece) → LeavesItems ps (item_in part i ps)
 unfolding item_in
@@ -153,14 +153,14 @@ items_leave zero part i ps = tt
 items_leave (suc n) part i ps =
     there_keeps (AreLast ps) (LeavesItems ps) (symbol_at CloseCurly ps) (λ rest. Ok (i, rest)) _ (symbol_leaves CloseCurly ps) (λ rest a. a)
     (bind_keeps (λ found. Leaves ps found) (λ found. Leaves ps found) (step_in part i ps) _ (step_leaves part i ps)
-    (λ read a. items_behind ps read.1 (items_within n part read.0 read.1) a (items_leave n part read.0 read.1)))
+    (λ read a. items_after ps read.1 (items_within n part read.0 read.1) a (items_leave n part read.0 read.1)))
 
 pub initial_leaves : (stop : Stop) (names : List (List ℕ)) (ps rest : List Piece) (i : Initial) → initial_at stop names ps ≡ Ok (i, rest) → AreLast ps rest
 unfolding initial_at items_at
 initial_leaves stop names ps rest i e =
     ok_is (λ found. Leaves ps found) (initial_at stop names ps) (i, rest)
     (bind_keeps (AreLast ps) (λ found. Leaves ps found) (or_unfit (before_initial stop) ps (symbol_at OpenCurly ps)) _ (or_unfit_keeps (AreLast ps) (before_initial stop) ps (symbol_at OpenCurly ps) (symbol_leaves OpenCurly ps))
-    (λ inner a. items_behind ps inner (items_at (in_initial (left_of ps) stop) names inner) a (items_leave (length inner) (in_initial (left_of ps) stop) (initial names [] []) inner)))
+    (λ inner a. items_after ps inner (items_at (in_initial (left_of ps) stop) names inner) a (items_leave (length inner) (in_initial (left_of ps) stop) (initial names [] []) inner)))
     e
 
 -- ---- the header row
@@ -171,9 +171,9 @@ core_leaves core ps =
     let P : Option (List Piece) → Type 0 = λ o. IfSome o (AreLast ps) in
     there_keeps (λ found. Leaves ps found) P (name_at ps) (if_core core) None (name_leaves ps) (λ found a. cond_keeps P _ (Some found.1) None (λ _. a) (λ _. tt)) tt
 
-parting_leaves : (ps : List Piece) → IfSome (parting_at ps) (λ found. Leaves ps found)
-unfolding parting_at
-parting_leaves ps =
+separator_leaves : (ps : List Piece) → IfSome (separator_at ps) (λ found. Leaves ps found)
+unfolding separator_at
+separator_leaves ps =
     let P : Option (Bool × List Piece) → Type 0 = λ o. IfSome o (λ found. Leaves ps found) in
     there_keeps (AreLast ps) P (symbol_at Bar ps) (λ rest. Some (true, rest)) _ (symbol_leaves Bar ps) (λ rest a. a)
     (there_keeps (AreLast ps) P (symbol_at Semicolon ps) (λ rest. Some (false, rest)) None (symbol_leaves Semicolon ps) (λ rest a. a) tt)
@@ -181,9 +181,9 @@ parting_leaves ps =
 abbrev LeavesColumns : List Piece → Result (ℕ × List Piece) Fault → Type 0
 LeavesColumns ps r = IfOk r (λ found. Leaves ps found)
 
-columns_behind : (ps qs : List Piece) (r : Result (ℕ × List Piece) Fault) → AreLast ps qs → LeavesColumns qs r → LeavesColumns ps r
-columns_behind ps qs (Ok found) a b = last_further ps qs found.1 a b
-columns_behind ps qs (Err e) a b = tt
+columns_after : (ps qs : List Piece) (r : Result (ℕ × List Piece) Fault) → AreLast ps qs → LeavesColumns qs r → LeavesColumns ps r
+columns_after ps qs (Ok found) a b = last_further ps qs found.1 a b
+columns_after ps qs (Err e) a b = tt
 
 columns_leave : (stop : Stop) (n core : ℕ) (ps : List Piece) → LeavesColumns ps (columns stop n core ps)
 unfolding columns
@@ -191,11 +191,11 @@ columns_leave stop zero core ps =
     bind_keeps (AreLast ps) (λ found. Leaves ps found) (or_unfit (in_columns stop) ps (core_at core ps)) _ (or_unfit_keeps (AreLast ps) (in_columns stop) ps (core_at core ps) (core_leaves core ps)) (λ rest a. tt)
 columns_leave stop (suc n) core ps =
     bind_keeps (AreLast ps) (λ found. Leaves ps found) (or_unfit (in_columns stop) ps (core_at core ps)) _ (or_unfit_keeps (AreLast ps) (in_columns stop) ps (core_at core ps) (core_leaves core ps))
-    (λ rest a. bind_keeps (λ found. Leaves rest found) (λ found. Leaves ps found) (or_unfit (in_columns stop) rest (parting_at rest)) _
-    (or_unfit_keeps (λ found. Leaves rest found) (in_columns stop) rest (parting_at rest) (parting_leaves rest))
-    (λ parting b. cond_keeps (LeavesColumns ps) parting.0 _ _
-    (λ _. columns_behind ps parting.1 (columns stop n (core + 1) parting.1) (last_further ps rest parting.1 a b) (columns_leave stop n (core + 1) parting.1))
-    (λ _. last_further ps rest parting.1 a b)))
+    (λ rest a. bind_keeps (λ found. Leaves rest found) (λ found. Leaves ps found) (or_unfit (in_columns stop) rest (separator_at rest)) _
+    (or_unfit_keeps (λ found. Leaves rest found) (in_columns stop) rest (separator_at rest) (separator_leaves rest))
+    (λ separator b. cond_keeps (LeavesColumns ps) separator.0 _ _
+    (λ _. columns_after ps separator.1 (columns stop n (core + 1) separator.1) (last_further ps rest separator.1 a b) (columns_leave stop n (core + 1) separator.1))
+    (λ _. last_further ps rest separator.1 a b)))
 
 pub header_row_leaves : (stop : Stop) (ps rest : List Piece) (cores : ℕ) → columns_at stop ps ≡ Ok (cores, rest) → AreLast ps rest
 header_row_leaves stop ps rest cores e = ok_is (λ found. Leaves ps found) (columns stop most_cores 0 ps) (cores, rest) (columns_leave stop most_cores 0 ps) e
@@ -212,9 +212,9 @@ row_leaves stop ps =
 abbrev LeavesRows : List Piece → Result Rows Fault → Type 0
 LeavesRows ps r = IfOk r (λ r. AreLast ps r.rest)
 
-rows_behind : (ps qs : List Piece) (r : Result Rows Fault) → AreLast ps qs → LeavesRows qs r → LeavesRows ps r
-rows_behind ps qs (Ok r) a b = last_further ps qs r.rest a b
-rows_behind ps qs (Err e) a b = tt
+rows_after : (ps qs : List Piece) (r : Result Rows Fault) → AreLast ps qs → LeavesRows qs r → LeavesRows ps r
+rows_after ps qs (Ok r) a b = last_further ps qs r.rest a b
+rows_after ps qs (Err e) a b = tt
 
 rows_leave : (n : ℕ) (stop : Stop) (cores : ℕ) (instrs : List CoreInstr) (names : List (List ℕ)) (ps : List Piece) → LeavesRows ps (rows_within n stop cores instrs names ps)
 unfolding rows_within
@@ -223,7 +223,7 @@ rows_leave (suc n) stop cores instrs names ps =
     cond_keeps (LeavesRows ps) (ends_rows ps) _ _ (λ _. all_last ps)
     (λ _. bind_keeps (λ found. Leaves ps found) (λ r. AreLast ps r.rest) (row_at stop ps) _ (row_leaves stop ps)
     (λ row a. bind_keeps (λ x. Any x) (λ r. AreLast ps r.rest) (row_in cores (left_of ps) instrs names row.0) _ (ok_any _)
-    (λ read _. rows_behind ps row.1 (rows_within n stop cores read.0 read.1 row.1) a (rows_leave n stop cores read.0 read.1 row.1))))
+    (λ read _. rows_after ps row.1 (rows_within n stop cores read.0 read.1 row.1) a (rows_leave n stop cores read.0 read.1 row.1))))
 
 pub all_rows_leave : (stop : Stop) (cores : ℕ) (names : List (List ℕ)) (ps : List Piece) (r : Rows) → rows_at stop cores names ps ≡ Ok r → AreLast ps r.rest
 unfolding rows_at

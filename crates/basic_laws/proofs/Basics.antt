@@ -2,7 +2,8 @@
 use Rattle.std.proofs.Common.{max, ◌≡◌, ◌≢◌, ◌<◌, ◌≤◌, ℕ, Bool, true, false, arith, refl, ◌⊎◌, inl, inr, ◌==◌, ◌&&◌, nat_lt, ◌∙◌}
 use Rattle.std.proofs.lemmas.Bool.Decides.{nat_tests}
 use Rattle.tso_model.specs.ProgramOrder.{is_before}
-use Rattle.tso_laws.proofs.Ranks.{is_load_kind, part_of, rank, by-rank}
+use Rattle.basic_laws.specs.Ranks.{part_of, rank}
+use Rattle.basic_laws.proofs.Ranks.{is_load_kind, by-rank}
 use Rattle.tso_model.specs.declared.execution.Entry.{Entry}
 use Rattle.tso_model.specs.declared.execution.Kind.{Kind}
 use Rattle.tso_model.specs.declared.execution.Kind.TheVariants.{R, W, F, LR, LW}

@@ -5,10 +5,13 @@ use Rattle.tso_model.specs.ProgramOrder.{same_kind, is_before}
 use Rattle.tso_model.specs.declared.execution.Entry.{Entry}
 use Rattle.tso_model.specs.declared.execution.Kind.{Kind}
 use Rattle.tso_model.specs.declared.execution.Kind.TheVariants.{R, W, LR, LW}
-use Rattle.axiom_checker.specs.Ranks.{part_of, rank}
+use Rattle.basic_laws.specs.Ranks.{part_of, rank}
 
 abbrev pub is_load_kind : Kind → Bool
 is_load_kind k = same_kind k R
+
+abbrev pub is_store_kind : Kind → Bool
+is_store_kind k = same_kind k W
 
 abbrev pub is_read_kind : Kind → Bool
 is_read_kind k = same_kind k R || same_kind k LR
@@ -28,7 +31,8 @@ first-later p q = grind (arith, nat_tests)
 second-later : (p q : ℕ) → (nat_lt p q || ((p == q) && true)) ≡ nat_lt (p + p + 0) (q + q + 1)
 second-later p q = grind (arith, nat_tests)
 
-kinds-rank : (j k : Kind) (p q : ℕ) → (nat_lt p q || ((p == q) && (same_kind k LW && not (same_kind j LW)))) ≡ nat_lt (p + p + part_of j) (q + q + part_of k)
+kinds-rank : (j k : Kind) (p q : ℕ)
+    → (nat_lt p q || ((p == q) && (same_kind k LW && not (same_kind j LW)))) ≡ nat_lt (p + p + part_of j) (q + q + part_of k)
 kinds-rank LW LW p q = both-later p q
 kinds-rank LW _ p q = first-later p q
 kinds-rank _ LW p q = second-later p q

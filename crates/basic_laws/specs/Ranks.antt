@@ -1,5 +1,6 @@
--- Where an entry stands among those of its program, as a number. (This project's profile.)
-use Rattle.std.specs.Prelude.{ℕ, ◌+◌}
+-- Where an entry stands among those of its program, as one number. (This project's.)
+use Rattle.std.specs.Prelude.{ℕ, ◌+◌, ◌≡◌, ◌==◌, ◌&&◌, nat_lt}
+use Rattle.tso_model.specs.ProgramOrder.{is_before}
 use Rattle.tso_model.specs.declared.execution.Entry.{Entry}
 use Rattle.tso_model.specs.declared.execution.Kind.{Kind}
 use Rattle.tso_model.specs.declared.execution.Kind.TheVariants.{LW}
@@ -12,3 +13,7 @@ part_of _ = 0
 -- entries of one core stand in their program as these numbers do
 abbrev pub rank : Entry → ℕ
 rank e = e.place + e.place + part_of e.kind
+
+-- program order goes by rank
+abbrev pub ProgramOrderGoesByRank : Type 0
+ProgramOrderGoesByRank = (x y : Entry) → is_before x y ≡ ((x.core.0 == y.core.0) && nat_lt (rank x) (rank y))

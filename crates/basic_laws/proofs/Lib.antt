@@ -1,0 +1,4 @@
+pub mod Ranks
+pub mod Basics
+pub mod Lists
+pub mod WithPending

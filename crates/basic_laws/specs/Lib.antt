@@ -1,0 +1,2 @@
+pub mod Ranks
+pub use Rattle.tso_model.specs.ProgramOrder

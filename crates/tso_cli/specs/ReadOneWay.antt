@@ -1,0 +1,31 @@
+-- What the crates below say of texts and orders, put together: each is read in one way. (This project's profile.)
+use Rattle.std.specs.Prelude.{ℕ, ◌≡◌, ◌<◌, ◌^◌, List, length}
+use Rattle.tso_model.specs.Litmus.{Litmus, IsTest}
+use Rattle.tso_model.specs.Execution.{IsTsoExecution}
+use Rattle.tso_model.specs.declared.execution.Entry.{Entry}
+use Rattle.litmus_reader.specs.Spelling.{SpellsTest, IsRefused as IsRefusedTest}
+use Rattle.litmus_reader.specs.declared.fault.TextFault.{TextFault}
+use Rattle.scheduler.specs.Refusals.{IsDecided}
+use Rattle.order_builder.specs.Spelling.{SpellsOrder, HasFault}
+use Rattle.order_builder.specs.declared.fault.OrderFault.{OrderFault}
+use Rattle.axiom_checker.specs.FirstBreach.{IsFirstBreach}
+use Rattle.axiom_checker.specs.declared.breach.Breach.{Breach}
+
+pub record AreReadOneWay : Type 0 where
+  -- a text spells one test, which is within the limits, or gets one refusal
+  pub one_test : (text : List ℕ) (t other : Litmus) → SpellsTest text t → SpellsTest text other → t ≡ other
+  pub refused_or_not : (text : List ℕ) (t : Litmus) (fault : TextFault) → SpellsTest text t → IsRefusedTest text fault → ⊥
+  pub one_refusal : (text : List ℕ) (fault other : TextFault) → IsRefusedTest text fault → IsRefusedTest text other → fault ≡ other
+  pub test : (text : List ℕ) (t : Litmus) → SpellsTest text t → IsTest t
+  -- a text spells one list of choices, or gets one refusal
+  pub decided : (cores : ℕ) (text : List ℕ) → 0 < cores → IsDecided cores text
+  -- a text spells one order of a test, or has one fault
+  pub once : (t : Litmus) (text : List ℕ) (order other : List Entry) → IsTest t → length text < 2 ^ 64
+      → SpellsOrder t text order → SpellsOrder t text other → order ≡ other
+  pub never_both : (t : Litmus) (text : List ℕ) (order : List Entry) (fault : OrderFault) → IsTest t → length text < 2 ^ 64
+      → SpellsOrder t text order → HasFault t text fault → ⊥
+  pub one_fault : (t : Litmus) (text : List ℕ) (fault other : OrderFault) → IsTest t
+      → HasFault t text fault → HasFault t text other → fault ≡ other
+  -- an order has one first breach at most, and none where it is a TSO execution
+  pub one : (t : Litmus) (order : List Entry) (b c : Breach) → IsFirstBreach t order b → IsFirstBreach t order c → b ≡ c
+  pub real : (t : Litmus) (order : List Entry) (b : Breach) → IsFirstBreach t order b → ¬ IsTsoExecution t order
