@@ -21,9 +21,9 @@ mod limits;
 mod location;
 mod observed;
 mod operand;
-mod parts;
 mod reader;
 mod row;
+mod test_parts;
 
 pub use fault::{Fault, TextFault, Why};
 pub use laws::texts_are_decided;

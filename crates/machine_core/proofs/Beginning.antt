@@ -17,7 +17,7 @@ use Rattle.machine_core.specs.Cores.{core_states, core_state, state_of, at_start
 use Rattle.machine_core.specs.declared.counts.Counts.{Counts}
 use Rattle.machine_core.specs.Statistics.{no_counts, no_statistics}
 use Rattle.machine_core.specs.Caches.{caches_of}
-use Rattle.machine_core.specs.declared.parts.Parts.{Parts}
+use Rattle.machine_core.specs.declared.machine_parts.MachineParts.{MachineParts}
 use Rattle.machine_core.specs.Kept.{IsCore, state_in}
 use Rattle.machine_core.proofs.CoreLemmas.{IsCore-new}
 
@@ -58,7 +58,7 @@ begun-statistics old new init counts t n exact cores words none all =
     rw (bus, none, all) refl
 
 -- what a machine has come to at the beginning is possible
-pub possible-first : {P : Type 0} (t : Litmus) (m : Parts P) → ((bus : kind.Bus) (t : Litmus) (depth : ℕ) → IsPossibleOn bus t depth [] (unheld (start t)))
+pub possible-first : {P : Type 0} (t : Litmus) (m : MachineParts P) → ((bus : kind.Bus) (t : Litmus) (depth : ℕ) → IsPossibleOn bus t depth [] (unheld (start t)))
     → state_in m ≡ unheld (start t) → m.commits.entries ≡ [] → IsPossibleOn m.config.bus t m.config.depth m.commits.entries (state_in m)
 possible-first t m first state commits =
     subst (λ es. IsPossibleOn m.config.bus t m.config.depth es (state_in m)) (sym commits)

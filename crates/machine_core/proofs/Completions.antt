@@ -14,7 +14,7 @@ use Rattle.split_laws.specs.Holders.{HolderFits}
 use Rattle.snoop_bus.specs.Bus.{words_of, holder_of}
 use Rattle.machine_core.specs.declared.processor.Processor.{Processor}
 use Rattle.machine_core.specs.declared.cache_use.CacheUse.TheVariants.{Unused}
-use Rattle.machine_core.specs.declared.parts.Parts.{Parts}
+use Rattle.machine_core.specs.declared.machine_parts.MachineParts.{MachineParts}
 use Rattle.machine_core.specs.Cores.{pending_in, drain_by}
 use Rattle.machine_core.specs.Caches.{caches_of, at_access, not_through, completion_by, is_awaited, used_between}
 use Rattle.machine_core.specs.Kept.{IsHeldAs, held_as, held_for, core_in, state_in}
@@ -23,16 +23,16 @@ use Rattle.machine_core.proofs.Accessing.{commits-at-once}
 use Rattle.machine_core.proofs.Performing.{access_of-drain, effect_in-drain}
 
 -- the holder's access
-pub held-asked : {P : Type 0} (t : Litmus) (m : Parts P) (choice : Choice) → IsHeldAs t m → (state_in m).holder ≡ HeldBy choice
+pub held-asked : {P : Type 0} (t : Litmus) (m : MachineParts P) (choice : Choice) → IsHeldAs t m → (state_in m).holder ≡ HeldBy choice
     → holder_of m.bus ≡ held_for (core_in choice) (access_of t m.config.depth (state_in m).flat choice)
 held-asked t m choice held asked = held ∙ ap (held_as t m.config.depth (state_in m).flat) asked
 
-pub some-asked : {P : Type 0} (t : Litmus) (m : Parts P) (choice : Choice) → HolderFits Split t m.config.depth (state_in m).flat (state_in m).holder → (state_in m).holder ≡ HeldBy choice
+pub some-asked : {P : Type 0} (t : Litmus) (m : MachineParts P) (choice : Choice) → HolderFits Split t m.config.depth (state_in m).flat (state_in m).holder → (state_in m).holder ≡ HeldBy choice
     → access_of t m.config.depth (state_in m).flat choice ≢ NoAccess
 some-asked t m choice fits asked = subst (HolderFits Split t m.config.depth (state_in m).flat) asked fits
 
 -- it uses the caches by its completion
-pub use-frees : {P : Type 0} (t : Litmus) (m : Parts P) (choice : Choice) (f : BusEffect) → (state_in m).holder ≡ HeldBy choice → is_awaited f.holder ≡ false
+pub use-frees : {P : Type 0} (t : Litmus) (m : MachineParts P) (choice : Choice) (f : BusEffect) → (state_in m).holder ≡ HeldBy choice → is_awaited f.holder ≡ false
     → use_by t m choice f
     ≡ at_access (not_through Unused (caches_of m.bus)) (λ loc write. completion_by (caches_of m.bus) (chosen choice) loc.0) (access_of t m.config.depth (state_in m).flat choice)
 use-frees t m choice f asked free =
@@ -46,13 +46,13 @@ completes-drain : (t : Litmus) (depth : ℕ) (state : State) (choice : Choice) (
 completes-drain t depth state choice [] = refl
 completes-drain t depth state choice (p ∷ ps) = refl
 
-pub completes_in-drain : {P : Type 0} (t : Litmus) (m : Parts P) (core : Core) (p : Processor) → core.0 < length m.processors.items → p ≡ slice_index_or m.processors.items core.0 p
+pub completes_in-drain : {P : Type 0} (t : Litmus) (m : MachineParts P) (core : Core) (p : Processor) → core.0 < length m.processors.items → p ≡ slice_index_or m.processors.items core.0 p
     → completes_in t m (Drain core) ≡ acts (drain_by core.0 p (words_of m.bus)) Free
 completes_in-drain t m core p h q =
     ap (completes t m.config.depth (state_in m).flat (Drain core)) (access_of-drain t m core p h q)
     ∙ completes-drain t m.config.depth (state_in m).flat (Drain core) (pending_in core.0 p) ∙ ap (λ f. acts f Free) (effect_in-drain t m core p h q)
 
-pub drain-commits : {P : Type 0} (t : Litmus) (m : Parts P) (core : Core) (p : Processor) → core.0 < length m.processors.items → p ≡ slice_index_or m.processors.items core.0 p
+pub drain-commits : {P : Type 0} (t : Litmus) (m : MachineParts P) (core : Core) (p : Processor) → core.0 < length m.processors.items → p ≡ slice_index_or m.processors.items core.0 p
     → access_of t m.config.depth (state_in m).flat (Drain core) ≢ NoAccess → (drain_by core.0 p (words_of m.bus)).outcome ≡ Committed
 drain-commits t m core p h q some =
     ap (λ f. f.outcome) (sym (effect_in-drain t m core p h q)) ∙ (commits-at-once t m.config.depth (state_in m).flat (Drain core) some).outcome

@@ -20,7 +20,7 @@ use Rattle.snoop_bus.specs.Bus.{Bus, IsFree, IsSameMachine, words_of}
 use Rattle.snoop_bus.specs.Accesses.{contents_of, awaited_of}
 use Rattle.machine_core.specs.declared.processor.Processor.{Processor}
 use Rattle.machine_core.specs.declared.cache_use.CacheUse.TheVariants.{Unused}
-use Rattle.machine_core.specs.declared.parts.Parts.{Parts}
+use Rattle.machine_core.specs.declared.machine_parts.MachineParts.{MachineParts}
 use Rattle.machine_core.specs.Cores.{core_state}
 use Rattle.machine_core.specs.Caches.{caches_of, not_through, is_awaited, used_between}
 use Rattle.machine_core.specs.Kept.{state_in}
@@ -31,7 +31,7 @@ use Rattle.machine_core.proofs.Performing.{core_of-state_in}
 use Rattle.machine_core.proofs.StepCompletions.{IsNext, access-next, effect-next}
 use Rattle.basic_laws.proofs.WithPending.{locked_with}
 
-pub has-read : {P : Type 0} (t : Litmus) (m : Parts P) (e : Entry) → HolderFits Split t m.config.depth (state_in m).flat (state_in m).holder → (state_in m).holder ≡ HeldBetween e
+pub has-read : {P : Type 0} (t : Litmus) (m : MachineParts P) (e : Entry) → HolderFits Split t m.config.depth (state_in m).flat (state_in m).holder → (state_in m).holder ≡ HeldBetween e
     → HasRead t m.config.depth (state_in m).flat e
 has-read t m e fits between = subst (HolderFits Split t m.config.depth (state_in m).flat) between fits
 
@@ -83,7 +83,7 @@ read-same : (state : State) (e : Entry) → slice_index state.memory e.loc.0 ≡
 read-same state e word =
     ap (λ words. record { memory = words; cores = state.cores }) (ap (slice_set state.memory e.loc.0) (sym word) ∙ set-get_or state.memory e.loc.0 0)
 
-pub writes-last : {P : Type 0} (t : Litmus) (m : Parts P) (e : Entry) (p : Processor) (a : Action) (into : Reg) (due : ℕ) → IsNext t m e.core p a
+pub writes-last : {P : Type 0} (t : Litmus) (m : MachineParts P) (e : Entry) (p : Processor) (a : Action) (into : Reg) (due : ℕ) → IsNext t m e.core p a
     → HasRead t m.config.depth (state_in m).flat e → WritesAs a p.registers e.value into due
     → writes_last_in t m e ≡ acts (last_part e.core.0 e.place (core_state e.core.0 p) e.loc into e.value due) Free
 writes-last t m e p a into due next read writes =
@@ -94,7 +94,7 @@ writes-last t m e p a into due next read writes =
     ∙ ap (λ n. acts (last_part e.core.0 n (core_state e.core.0 p) e.loc into e.value due) Free) place
 
 -- it is no access
-pub use-last : {P : Type 0} (t : Litmus) (m : Parts P) (e : Entry) (f : BusEffect) (p : Processor) (into : Reg) (due : ℕ) → (state_in m).holder ≡ HeldBetween e
+pub use-last : {P : Type 0} (t : Litmus) (m : MachineParts P) (e : Entry) (f : BusEffect) (p : Processor) (into : Reg) (due : ℕ) → (state_in m).holder ≡ HeldBetween e
     → f ≡ acts (last_part e.core.0 e.place (core_state e.core.0 p) e.loc into e.value due) Free → use_by t m (Step e.core) f ≡ not_through Unused (caches_of m.bus)
 use-last t m e f p into due between is =
     let what = access_of t m.config.depth (state_in m).flat (Step e.core) in

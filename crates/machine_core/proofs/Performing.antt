@@ -14,7 +14,7 @@ use Rattle.tso_model.specs.declared.choice.Outcome.{Outcome}
 use Rattle.tso_model.specs.declared.choice.Stall.TheVariants as stall
 use Rattle.snoop_bus.specs.Bus.{words_of, cores_of}
 use Rattle.machine_core.specs.declared.processor.Processor.{Processor}
-use Rattle.machine_core.specs.declared.parts.Parts.{Parts}
+use Rattle.machine_core.specs.declared.machine_parts.MachineParts.{MachineParts}
 use Rattle.machine_core.specs.Cores.{core_state, core_states, pending_in, step_by, drain_by}
 use Rattle.machine_core.specs.Caches.{caches_of, use_of}
 use Rattle.machine_core.specs.Kept.{IsCore, PartsFitTest, state_in}
@@ -26,28 +26,28 @@ use Rattle.machine_core.proofs.CoreLemmas.{core_states-get_or, core_states-set}
 use Rattle.machine_core.proofs.Splitting.{use-acts}
 
 -- the core that a choice names, as the flat machine has it
-pub core_of-state_in : {P : Type 0} (m : Parts P) (i : ℕ) (p : Processor) → i < length m.processors.items → p ≡ slice_index_or m.processors.items i p → core_of (state_in m).flat i ≡ core_state i p
+pub core_of-state_in : {P : Type 0} (m : MachineParts P) (i : ℕ) (p : Processor) → i < length m.processors.items → p ≡ slice_index_or m.processors.items i p → core_of (state_in m).flat i ≡ core_state i p
 core_of-state_in m i p h q = core_states-get_or m.processors.items i p h ∙ ap (core_state i) (sym q)
 
-pub effect_in-step : {P : Type 0} (t : Litmus) (m : Parts P) (core : Core) (p : Processor) (instr : Instr) → core.0 < length m.processors.items → p ≡ slice_index_or m.processors.items core.0 p
+pub effect_in-step : {P : Type 0} (t : Litmus) (m : MachineParts P) (core : Core) (p : Processor) (instr : Instr) → core.0 < length m.processors.items → p ≡ slice_index_or m.processors.items core.0 p
     → p.stores.depth ≡ m.config.depth → slice_get (program_of t core.0) p.place ≡ Some instr → flat_effect_in t m (Step core) ≡ step_by instr core.0 p (words_of m.bus)
 effect_in-step t m core p instr h q d g =
     ap (λ s. step_of m.config.depth (words_of m.bus) core.0 (slice_get (program_of t core.0) s.place) s) (core_of-state_in m core.0 p h q)
     ∙ ap (λ found. step_of m.config.depth (words_of m.bus) core.0 found (core_state core.0 p)) g
     ∙ ap (λ depth. step_of depth (words_of m.bus) core.0 (Some instr) (core_state core.0 p)) (sym d)
 
-pub effect_in-done : {P : Type 0} (t : Litmus) (m : Parts P) (core : Core) (p : Processor) → core.0 < length m.processors.items → p ≡ slice_index_or m.processors.items core.0 p
+pub effect_in-done : {P : Type 0} (t : Litmus) (m : MachineParts P) (core : Core) (p : Processor) → core.0 < length m.processors.items → p ≡ slice_index_or m.processors.items core.0 p
     → slice_get (program_of t core.0) p.place ≡ None → flat_effect_in t m (Step core) ≡ stalled stall.Done (core_state core.0 p)
 effect_in-done t m core p h q g =
     ap (λ s. step_of m.config.depth (words_of m.bus) core.0 (slice_get (program_of t core.0) s.place) s) (core_of-state_in m core.0 p h q)
     ∙ ap (λ found. step_of m.config.depth (words_of m.bus) core.0 found (core_state core.0 p)) g
 
-pub effect_in-drain : {P : Type 0} (t : Litmus) (m : Parts P) (core : Core) (p : Processor) → core.0 < length m.processors.items → p ≡ slice_index_or m.processors.items core.0 p
+pub effect_in-drain : {P : Type 0} (t : Litmus) (m : MachineParts P) (core : Core) (p : Processor) → core.0 < length m.processors.items → p ≡ slice_index_or m.processors.items core.0 p
     → flat_effect_in t m (Drain core) ≡ drain_by core.0 p (words_of m.bus)
 effect_in-drain t m core p h q = ap (λ s. drain_of s) (core_of-state_in m core.0 p h q)
 
 -- the access that it makes
-pub access_of-step : {P : Type 0} (t : Litmus) (m : Parts P) (core : Core) (p : Processor) (instr : Instr) → core.0 < length m.processors.items → p ≡ slice_index_or m.processors.items core.0 p
+pub access_of-step : {P : Type 0} (t : Litmus) (m : MachineParts P) (core : Core) (p : Processor) (instr : Instr) → core.0 < length m.processors.items → p ≡ slice_index_or m.processors.items core.0 p
     → p.stores.depth ≡ m.config.depth → slice_get (program_of t core.0) p.place ≡ Some instr
     → access_of t m.config.depth (state_in m).flat (Step core) ≡ step_access p.stores.depth (Some instr) (pending_in core.0 p)
 access_of-step t m core p instr h q d g =
@@ -55,18 +55,18 @@ access_of-step t m core p instr h q d g =
     ∙ ap (λ found. step_access m.config.depth found (pending_in core.0 p)) g
     ∙ ap (λ depth. step_access depth (Some instr) (pending_in core.0 p)) (sym d)
 
-pub access_of-done : {P : Type 0} (t : Litmus) (m : Parts P) (core : Core) (p : Processor) → core.0 < length m.processors.items → p ≡ slice_index_or m.processors.items core.0 p
+pub access_of-done : {P : Type 0} (t : Litmus) (m : MachineParts P) (core : Core) (p : Processor) → core.0 < length m.processors.items → p ≡ slice_index_or m.processors.items core.0 p
     → slice_get (program_of t core.0) p.place ≡ None → access_of t m.config.depth (state_in m).flat (Step core) ≡ NoAccess
 access_of-done t m core p h q g =
     ap (λ s. step_access m.config.depth (slice_get (program_of t core.0) s.place) s.pending) (core_of-state_in m core.0 p h q)
     ∙ ap (λ found. step_access m.config.depth found (pending_in core.0 p)) g
 
-pub access_of-drain : {P : Type 0} (t : Litmus) (m : Parts P) (core : Core) (p : Processor) → core.0 < length m.processors.items → p ≡ slice_index_or m.processors.items core.0 p
+pub access_of-drain : {P : Type 0} (t : Litmus) (m : MachineParts P) (core : Core) (p : Processor) → core.0 < length m.processors.items → p ≡ slice_index_or m.processors.items core.0 p
     → access_of t m.config.depth (state_in m).flat (Drain core) ≡ drain_access (pending_in core.0 p)
 access_of-drain t m core p h q = ap (λ s. drain_access s.pending) (core_of-state_in m core.0 p h q)
 
 -- from what its core did
-pub Performs-by : {P : Type 0} (m new : Parts P) (choice : Choice) (o : Outcome) (p : Processor) (f g : BusEffect) → f ≡ g
+pub Performs-by : {P : Type 0} (m new : MachineParts P) (choice : Choice) (o : Outcome) (p : Processor) (f g : BusEffect) → f ≡ g
     → new.processors.items ≡ slice_set m.processors.items (chosen choice) p → core_state (chosen choice) p ≡ g.effect.after
     → words_of new.bus ≡ memory_after g.effect.commits (words_of m.bus) → new.commits.entries ≡ m.commits.entries ++ g.effect.commits → (state_in new).holder ≡ g.holder → o ≡ g.effect.outcome
     → Performs m new choice f o
@@ -81,7 +81,7 @@ Performs-by m new choice o p f g e processors after memory commits holder outcom
     } in
     subst (λ h. Performs m new choice h o) (sym e) all
 
-pub IfOk-Makes : {P : Type 0} (r : Result Answer NoMemory) (t : Litmus) (m new : Parts P) (choice : Choice) (p q : Processor) (f : Effect) → flat_effect_in t m choice ≡ f
+pub IfOk-Makes : {P : Type 0} (r : Result Answer NoMemory) (t : Litmus) (m new : MachineParts P) (choice : Choice) (p q : Processor) (f : Effect) → flat_effect_in t m choice ≡ f
     → chosen choice < length m.processors.items → p ≡ slice_index_or m.processors.items (chosen choice) p
     → new.processors.items ≡ slice_set m.processors.items (chosen choice) q → (state_in new).holder ≡ (state_in m).holder
     → IfOk r (HasActed (chosen choice) p q m.bus new.bus m.commits new.commits f) → IfOk r (HasMade t m new choice (whole_effect_in t m choice))
@@ -97,7 +97,7 @@ IfOk-Makes (Ok x) t m new choice p q f e h at processors holder acted =
 IfOk-Makes (Err x) t m new choice p q f e h at processors holder acted = tt
 
 -- the parts still fit the test when one core and memory have changed
-pub PartsFitTest-next : {P : Type 0} (t : Litmus) (m new : Parts P) (i : ℕ) (p : Processor) → PartsFitTest t m → new.config ≡ m.config → new.processors.items ≡ slice_set m.processors.items i p
+pub PartsFitTest-next : {P : Type 0} (t : Litmus) (m new : MachineParts P) (i : ℕ) (p : Processor) → PartsFitTest t m → new.config ≡ m.config → new.processors.items ≡ slice_set m.processors.items i p
     → cores_of new.bus ≡ cores_of m.bus → length (words_of new.bus) ≡ length (words_of m.bus) → p.stores.depth ≡ m.config.depth → All (λ s. s.loc.0 < length (words_of m.bus)) p.stores.items → PartsFitTest t new
 PartsFitTest-next t m new i p fits config processors on_bus size depth known = record {
   cores = ap length processors ∙ length-set m.processors.items i p ∙ fits.cores;
@@ -111,8 +111,8 @@ PartsFitTest-next t m new i p fits config processors on_bus size depth known = r
       (subst (λ c. All (IsCore c.depth (length (words_of m.bus))) (slice_set m.processors.items i p)) (sym config) old));
 }
 
-pub within-cores : {P : Type 0} (t : Litmus) (m : Parts P) (i : ℕ) → PartsFitTest t m → i < length t.programs → i < length m.processors.items
+pub within-cores : {P : Type 0} (t : Litmus) (m : MachineParts P) (i : ℕ) → PartsFitTest t m → i < length t.programs → i < length m.processors.items
 within-cores t m i fits h = subst (λ n. i < n) (sym fits.cores) h
 
-pub IsCore-at : {P : Type 0} (t : Litmus) (m : Parts P) (i : ℕ) (p : Processor) → PartsFitTest t m → i < length t.programs → p ≡ slice_index_or m.processors.items i p → IsCore m.config.depth (length (words_of m.bus)) p
+pub IsCore-at : {P : Type 0} (t : Litmus) (m : MachineParts P) (i : ℕ) (p : Processor) → PartsFitTest t m → i < length t.programs → p ≡ slice_index_or m.processors.items i p → IsCore m.config.depth (length (words_of m.bus)) p
 IsCore-at t m i p fits h q = subst (IsCore m.config.depth (length (words_of m.bus))) (sym q) (fits.each i p (within-cores t m i fits h))

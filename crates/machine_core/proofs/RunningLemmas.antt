@@ -8,7 +8,7 @@ use Rattle.tso_model.specs.EitherBus.{BusState, effect_on, after_on, HitFits}
 use Rattle.tso_model.specs.declared.out_of_memory.NoMemory.{NoMemory}
 use Rattle.tso_model.specs.declared.choice.Outcome.{Outcome}
 use Rattle.split_laws.specs.BusChoices.{IsPossibleOn}
-use Rattle.machine_core.specs.declared.parts.Parts.{Parts}
+use Rattle.machine_core.specs.declared.machine_parts.MachineParts.{MachineParts}
 use Rattle.snoop_bus.specs.Bus.{IsFree}
 use Rattle.machine_core.specs.Kept.{IsHeldAs, held_as, state_in}
 use Rattle.machine_core.specs.Performed.{Performs, attempt_in, effect_in}
@@ -45,7 +45,7 @@ on-ok (Ok x) Q q = q
 on-ok (Err e) Q q = tt
 
 -- what a machine has come to is possible after a choice too
-pub possible-next : {P : Type 0} (r : Result Outcome NoMemory) (t : Litmus) (m new : Parts P) (choice : Choice) → IsPossibleOn m.config.bus t m.config.depth m.commits.entries (state_in m)
+pub possible-next : {P : Type 0} (r : Result Outcome NoMemory) (t : Litmus) (m new : MachineParts P) (choice : Choice) → IsPossibleOn m.config.bus t m.config.depth m.commits.entries (state_in m)
     → ((a : Attempt) → IsPossibleOn m.config.bus t m.config.depth m.commits.entries (state_in m) → HitFits t m.config.depth (state_in m).flat a (state_in m).holder
     → IsPossibleOn m.config.bus t m.config.depth (m.commits.entries ++ (effect_on m.config.bus t m.config.depth (state_in m) a).effect.commits) (after_on m.config.bus t m.config.depth (state_in m) a))
     → HitFits t m.config.depth (state_in m).flat (attempt_in t m choice) (state_in m).holder → IfOk r (λ o. Performs m new choice (effect_in t m choice) o)
@@ -65,5 +65,5 @@ pub has-ended : (failed ended : Bool) → IsTrue (not failed && ended) → ended
 has-ended false ended h = h
 has-ended true ended h = absurd (let z : ⊥ = cc in z)
 
-pub free-bus : {P : Type 0} (t : Litmus) (m : Parts P) → IsHeldAs t m → (state_in m).holder ≡ Free → IsFree m.bus
+pub free-bus : {P : Type 0} (t : Litmus) (m : MachineParts P) → IsHeldAs t m → (state_in m).holder ≡ Free → IsFree m.bus
 free-bus t m held free = held ∙ ap (held_as t m.config.depth (state_in m).flat) free

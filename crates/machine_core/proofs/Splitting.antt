@@ -22,7 +22,7 @@ use Rattle.snoop_bus.specs.Held as bus
 use Rattle.snoop_bus.specs.declared.holding.Holder as bus_holder
 use Rattle.snoop_bus.specs.declared.holding.Stage.TheVariants.{Locked}
 use Rattle.machine_core.specs.declared.cache_use.CacheUse.TheVariants.{Unused}
-use Rattle.machine_core.specs.declared.parts.Parts.{Parts}
+use Rattle.machine_core.specs.declared.machine_parts.MachineParts.{MachineParts}
 use Rattle.machine_core.specs.Caches.{Caches, Used, caches_of, at_access, ask_by, not_through, hits_by, is_awaited, used_between, use_of}
 use Rattle.machine_core.specs.Kept.{PartsFitTest, IsHeldAs, held_as, held_for, core_in, state_in}
 use Rattle.machine_core.specs.Performed.{Answer, HasUsed, MayAct, Performs, attempt_in, flat_effect_in}
@@ -30,18 +30,18 @@ use Rattle.machine_core.specs.Split.{IsOther, begins_in, use_by}
 use Rattle.machine_core.specs.Made.{HasMade, IsUndone, whole_effect_in}
 
 -- whether it needs the bus
-abbrev pub needs_in : {P : Type 0} → Litmus → Parts P → Choice → Bool
+abbrev pub needs_in : {P : Type 0} → Litmus → MachineParts P → Choice → Bool
 needs_in t m choice = needs_bus (access_of t m.config.depth (state_in m).flat choice) (attempt_in t m choice).hits
 
-pub begins-acts : {P : Type 0} (t : Litmus) (m : Parts P) (choice : Choice) → needs_in t m choice ≡ false → begins_in t m choice ≡ acts (flat_effect_in t m choice) (state_in m).holder
+pub begins-acts : {P : Type 0} (t : Litmus) (m : MachineParts P) (choice : Choice) → needs_in t m choice ≡ false → begins_in t m choice ≡ acts (flat_effect_in t m choice) (state_in m).holder
 begins-acts t m choice h = rw h refl
 
-pub begins-asks : {P : Type 0} (t : Litmus) (m : Parts P) (choice : Choice) → needs_in t m choice ≡ true
+pub begins-asks : {P : Type 0} (t : Litmus) (m : MachineParts P) (choice : Choice) → needs_in t m choice ≡ true
     → begins_in t m choice ≡ asks (core_of (state_in m).flat (chosen choice)) choice (state_in m).holder
 begins-asks t m choice h = rw h refl
 
 -- how a choice that is made at once uses the caches
-abbrev pub flat_use_in : {P : Type 0} → Litmus → Parts P → Choice → Used
+abbrev pub flat_use_in : {P : Type 0} → Litmus → MachineParts P → Choice → Used
 flat_use_in t m choice = use_of (caches_of m.bus) (core_of (state_in m).flat (chosen choice)).pending (flat_effect_in t m choice).commits
 
 -- where the same is awaited before it and after it, a choice uses the caches as on the flat machine
@@ -49,7 +49,7 @@ pub used-same : (b : Bool) (c : Caches) (core : ℕ) (what : Access) (pending co
 used-same true c core what pending commits = refl
 used-same false c core what pending commits = refl
 
-pub use-acts : {P : Type 0} (t : Litmus) (m : Parts P) (choice : Choice) → use_by t m choice (acts (flat_effect_in t m choice) (state_in m).holder) ≡ flat_use_in t m choice
+pub use-acts : {P : Type 0} (t : Litmus) (m : MachineParts P) (choice : Choice) → use_by t m choice (acts (flat_effect_in t m choice) (state_in m).holder) ≡ flat_use_in t m choice
 use-acts t m choice = used-same (is_awaited (state_in m).holder) _ _ _ _ _
 
 -- an ask is no access
@@ -71,7 +71,7 @@ held-kept t depth state choice Free other fits waits = refl
 held-kept t depth state choice (HeldBy asked) other fits waits = ap (held_for (core_in asked)) (waits asked choice fits other)
 held-kept t depth state choice (HeldBetween e) other fits waits = refl
 
-pub held-next : {P : Type 0} (r : Result Answer NoMemory) (t : Litmus) (m new : Parts P) (choice : Choice) → IsHeldAs t m → IsOther (state_in m).holder choice
+pub held-next : {P : Type 0} (r : Result Answer NoMemory) (t : Litmus) (m new : MachineParts P) (choice : Choice) → IsHeldAs t m → IsOther (state_in m).holder choice
     → HolderFits Split t m.config.depth (state_in m).flat (state_in m).holder
     → ((a b : Choice) → access_of t m.config.depth (state_in m).flat a ≢ NoAccess → same_choice a b ≡ false
     → access_of t m.config.depth (after_choice t m.config.depth (state_in m).flat b) a ≡ access_of t m.config.depth (state_in m).flat a)
@@ -97,7 +97,7 @@ answer-fits t depth state a b (HeldBetween e) held taken = λ loc. taken e loc h
 pub rests-at : (state : State) (core : ℕ) → record { memory = state.memory; cores = slice_set state.cores core (core_of state core) } ≡ state
 rests-at state core = rw (set-get_or state.cores core idle) refl
 
-pub performs-stall : {P : Type 0} (t : Litmus) (m : Parts P) (choice : Choice) (f : BusEffect) (s : Effect) (o : Outcome) → f ≡ acts s (state_in m).holder
+pub performs-stall : {P : Type 0} (t : Litmus) (m : MachineParts P) (choice : Choice) (f : BusEffect) (s : Effect) (o : Outcome) → f ≡ acts s (state_in m).holder
     → s.after ≡ core_of (state_in m).flat (chosen choice) → s.commits ≡ [] → o ≡ s.outcome → Performs m m choice f o
 performs-stall t m choice f s o e after commits outcome =
     let all : Performs m m choice (acts s (state_in m).holder) o = record {
@@ -108,13 +108,13 @@ performs-stall t m choice f s o e after commits outcome =
     } in
     subst (λ g. Performs m m choice g o) (sym e) all
 
-pub use-rests : {P : Type 0} (t : Litmus) (m : Parts P) (choice : Choice) (f : BusEffect) (s : Effect) → f ≡ acts s (state_in m).holder → s.commits ≡ [] → HasUsed (use_by t m choice f) m.bus Unused
+pub use-rests : {P : Type 0} (t : Litmus) (m : MachineParts P) (choice : Choice) (f : BusEffect) (s : Effect) → f ≡ acts s (state_in m).holder → s.commits ≡ [] → HasUsed (use_by t m choice f) m.bus Unused
 use-rests t m choice f s e none =
     let same : use_by t m choice f ≡ not_through Unused (caches_of m.bus) =
     ap (use_by t m choice) e ∙ used-same (is_awaited (state_in m).holder) _ _ _ _ _ ∙ ap (use_of (caches_of m.bus) (core_of (state_in m).flat (chosen choice)).pending) none in
     subst (λ u. HasUsed u m.bus Unused) (sym same) (record { how_is = refl; caches = refl })
 
-pub performs-ask : {P : Type 0} (t : Litmus) (m new : Parts P) (choice : Choice) → needs_in t m choice ≡ true → (state_in m).holder ≡ Free → new.processors.items ≡ m.processors.items
+pub performs-ask : {P : Type 0} (t : Litmus) (m new : MachineParts P) (choice : Choice) → needs_in t m choice ≡ true → (state_in m).holder ≡ Free → new.processors.items ≡ m.processors.items
     → words_of new.bus ≡ words_of m.bus → (state_in new).holder ≡ HeldBy choice → new.commits.entries ≡ m.commits.entries → Performs m new choice (begins_in t m choice) Asked
 performs-ask t m new choice needs free processors words holder commits =
     let same : begins_in t m choice ≡ acts (record { outcome = Asked; after = core_of (state_in m).flat (chosen choice); commits = [] }) (HeldBy choice) =
@@ -127,7 +127,7 @@ performs-ask t m new choice needs free processors words holder commits =
     } in
     subst (λ g. Performs m new choice g Asked) (sym same) all
 
-pub use-ask : {P : Type 0} (t : Litmus) (m : Parts P) (bus : Bus) (choice : Choice) (core : ℕ) (access : Access) → needs_in t m choice ≡ true → (state_in m).holder ≡ Free → core ≡ chosen choice
+pub use-ask : {P : Type 0} (t : Litmus) (m : MachineParts P) (bus : Bus) (choice : Choice) (core : ℕ) (access : Access) → needs_in t m choice ≡ true → (state_in m).holder ≡ Free → core ≡ chosen choice
     → access ≡ access_of t m.config.depth (state_in m).flat choice
     → caches_of bus ≡ (at_access (not_through Unused (caches_of m.bus)) (λ loc write. ask_by (caches_of m.bus) core loc.0 write) access).caches → HasUsed (use_by t m choice (begins_in t m choice)) bus Unused
 use-ask t m bus choice core access needs free is at caches =
@@ -141,16 +141,16 @@ use-ask t m bus choice core access needs free is at caches =
     })
 
 -- what the caches answered is what the definition asks them
-pub needs-is : {P : Type 0} (t : Litmus) (m : Parts P) (choice : Choice) (core : ℕ) (access : Access) (b : Bool) → core ≡ chosen choice
+pub needs-is : {P : Type 0} (t : Litmus) (m : MachineParts P) (choice : Choice) (core : ℕ) (access : Access) (b : Bool) → core ≡ chosen choice
     → access ≡ access_of t m.config.depth (state_in m).flat choice → b ≡ needs_bus access (hits_by (caches_of m.bus) core access) → needs_in t m choice ≡ b
 needs-is t m choice core access b i a h =
     sym (h ∙ ap (λ k. needs_bus access (hits_by (caches_of m.bus) k access)) i ∙ ap (λ x. needs_bus x (hits_by (caches_of m.bus) (chosen choice) x)) a)
 
-pub may-act : {P : Type 0} (t : Litmus) (m : Parts P) (choice : Choice) → needs_in t m choice ≡ false
+pub may-act : {P : Type 0} (t : Litmus) (m : MachineParts P) (choice : Choice) → needs_in t m choice ≡ false
     → MayAct m.bus (chosen choice) (access_of t m.config.depth (state_in m).flat choice)
 may-act t m choice h = inr h
 
-pub fits-by : {P : Type 0} (t : Litmus) (m : Parts P) (choice : Choice) (core : ℕ) (access : Access) → IsHeldAs t m → core ≡ chosen choice → access ≡ access_of t m.config.depth (state_in m).flat choice
+pub fits-by : {P : Type 0} (t : Litmus) (m : MachineParts P) (choice : Choice) (core : ℕ) (access : Access) → IsHeldAs t m → core ≡ chosen choice → access ≡ access_of t m.config.depth (state_in m).flat choice
     → ((e : Entry) (loc : Loc) → holder_of m.bus ≡ Some (bus.holder e.core e.loc Locked) → access ≡ Writes loc → hits_by (caches_of m.bus) core access ≡ true → core ≢ e.core.0 → loc.0 ≢ e.loc.0)
     → HitFits t m.config.depth (state_in m).flat (attempt_in t m choice) (state_in m).holder
 fits-by t m choice core access held i a taken =
@@ -170,7 +170,7 @@ pub held-ask : (t : Litmus) (depth : ℕ) (old new : State) (choice : Choice) (c
 held-ask t depth old new choice core access b i a s h =
     h ∙ ap (λ k. held_for k access) i ∙ ap (held_for (core_in choice)) (a ∙ ap (λ st. access_of t depth st choice) (sym s))
 
-pub fits-ask : {P : Type 0} (t : Litmus) (m new : Parts P) → PartsFitTest t m → new.config ≡ m.config → new.processors.items ≡ m.processors.items → words_of new.bus ≡ words_of m.bus
+pub fits-ask : {P : Type 0} (t : Litmus) (m new : MachineParts P) → PartsFitTest t m → new.config ≡ m.config → new.processors.items ≡ m.processors.items → words_of new.bus ≡ words_of m.bus
     → cores_of new.bus ≡ cores_of m.bus → PartsFitTest t new
 fits-ask t m new fits config processors words cores = record {
   cores = ap length processors ∙ fits.cores;

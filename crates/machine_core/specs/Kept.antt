@@ -16,7 +16,7 @@ use Rattle.snoop_bus.specs.Held as bus
 use Rattle.snoop_bus.specs.declared.holding.Holder as bus_holder
 use Rattle.snoop_bus.specs.declared.holding.Stage.TheVariants.{Locked}
 use Rattle.machine_core.specs.declared.processor.Processor.{Processor}
-use Rattle.machine_core.specs.declared.parts.Parts.{Parts}
+use Rattle.machine_core.specs.declared.machine_parts.MachineParts.{MachineParts}
 use Rattle.machine_core.specs.declared.counts.Counts.{Counts}
 use Rattle.machine_core.specs.declared.cache_use.CacheUse.{CacheUse}
 use Rattle.machine_core.specs.declared.cache_use.CacheUse.TheVariants.{Unused, Forwarded, Through}
@@ -89,7 +89,7 @@ pub record IsTallied (t : Litmus) (state : BusState) (s : Statistics) : Type 0 w
   pub sender : IsSenderAmong (length t.programs) s.caches.awaited
 
 -- the parts of a machine of this test: its cores, all on one bus, and a word for each location
-pub record PartsFitTest {P : Type 0} (t : Litmus) (m : Parts P) : Type 0 where
+pub record PartsFitTest {P : Type 0} (t : Litmus) (m : MachineParts P) : Type 0 where
   pub cores : length m.processors.items ≡ length t.programs
   pub on_bus : cores_of m.bus ≡ length t.programs
   pub words : length (words_of m.bus) ≡ length t.locations
@@ -108,7 +108,7 @@ access_in (Write loc) = Writes loc
 access_in (Lock loc) = Locks loc
 
 -- the machine's state: its memory has the words that a program sees
-abbrev pub state_in : {P : Type 0} → Parts P → BusState
+abbrev pub state_in : {P : Type 0} → MachineParts P → BusState
 state_in m = record { flat = state_of m.processors.items (words_of m.bus); holder = holder_in m.holding }
 
 -- the core that a choice names
@@ -127,9 +127,9 @@ held_as t depth state (HeldBy choice) = held_for (core_in choice) (access_of t d
 held_as t depth state (HeldBetween e) = Some (bus.holder e.core e.loc Locked)
 
 -- the caches' bus is held by the machine's holder
-abbrev pub IsHeldAs : {P : Type 0} → Litmus → Parts P → Type 0
+abbrev pub IsHeldAs : {P : Type 0} → Litmus → MachineParts P → Type 0
 IsHeldAs t m = holder_of m.bus ≡ held_as t m.config.depth (state_in m).flat (state_in m).holder
 
 -- the statistics so far
-abbrev pub statistics_in : {P : Type 0} → Parts P → Statistics
+abbrev pub statistics_in : {P : Type 0} → MachineParts P → Statistics
 statistics_in m = record { caches = caches_of m.bus; counts = m.counts.items }

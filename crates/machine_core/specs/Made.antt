@@ -14,7 +14,7 @@ use Rattle.split_laws.specs.Holders.{HolderFits}
 use Rattle.snoop_bus.specs.Bus.{Bus, holder_of}
 use Rattle.snoop_bus.specs.Held.{holder}
 use Rattle.snoop_bus.specs.declared.holding.Stage.TheVariants.{Locked}
-use Rattle.machine_core.specs.declared.parts.Parts.{Parts}
+use Rattle.machine_core.specs.declared.machine_parts.MachineParts.{MachineParts}
 use Rattle.machine_core.specs.Caches.{caches_of, hits_by}
 use Rattle.machine_core.specs.Statistics.{Statistics, statistics_after}
 use Rattle.machine_core.specs.Kept.{PartsFitTest, IsHeldAs, IsTallied, state_in, statistics_in}
@@ -22,18 +22,18 @@ use Rattle.machine_core.specs.Performed.{Answer, HasUsed, Performs, attempt_in, 
 use Rattle.machine_core.specs.Split.{use_by}
 
 -- the parts are of this test, and the caches' bus is held by what holds the machine's
-pub record AreOfTest {P : Type 0} (t : Litmus) (m : Parts P) : Type 0 where
+pub record AreOfTest {P : Type 0} (t : Litmus) (m : MachineParts P) : Type 0 where
   pub fits : PartsFitTest t m
   pub held : IsHeldAs t m
 
 -- the same, and what holds the machine's bus is something that may hold one of this kind
-pub record AreConsistent {P : Type 0} (on : kind.Bus) (t : Litmus) (m : Parts P) : Type 0 where
+pub record AreConsistent {P : Type 0} (on : kind.Bus) (t : Litmus) (m : MachineParts P) : Type 0 where
   pub fits : PartsFitTest t m
   pub held : IsHeldAs t m
   pub holder : HolderFits on t m.config.depth (state_in m).flat (state_in m).holder
 
 -- the parts are of this test, and it is at its beginning: nobody holds the bus, and nothing is committed or counted
-pub record AreAtStart {P : Type 0} (t : Litmus) (m : Parts P) : Type 0 where
+pub record AreAtStart {P : Type 0} (t : Litmus) (m : MachineParts P) : Type 0 where
   pub fits : PartsFitTest t m
   pub held : IsHeldAs t m
   pub state : state_in m ≡ unheld (start t)
@@ -41,7 +41,7 @@ pub record AreAtStart {P : Type 0} (t : Litmus) (m : Parts P) : Type 0 where
   pub tallied : IsTallied t (state_in m) (statistics_in m)
 
 -- the caches' answer to a choice is one that caches may give
-abbrev pub AnswerFitsIn : {P : Type 0} → Litmus → Parts P → Choice → Type 0
+abbrev pub AnswerFitsIn : {P : Type 0} → Litmus → MachineParts P → Choice → Type 0
 AnswerFitsIn t m choice = HitFits t m.config.depth (state_in m).flat (attempt_in t m choice) (state_in m).holder
 
 -- between the two parts of a locked instruction this access of another core doesn't hit as a write to its location
@@ -51,29 +51,30 @@ LeavesLocked b core access =
     → hits_by (caches_of b) core access ≡ true → core ≢ e.core.0 → loc.0 ≢ e.loc.0
 
 -- what a choice does that is made at once: who holds the bus stays so
-abbrev pub whole_effect_in : {P : Type 0} → Litmus → Parts P → Choice → BusEffect
+abbrev pub whole_effect_in : {P : Type 0} → Litmus → MachineParts P → Choice → BusEffect
 whole_effect_in t m choice = acts (flat_effect_in t m choice) (state_in m).holder
 
 -- a choice had this effect, and used the caches as a choice with this effect does
-pub record HasMade {P : Type 0} (t : Litmus) (old new : Parts P) (choice : Choice) (f : BusEffect) (r : Answer) : Type 0 where
+pub record HasMade {P : Type 0} (t : Litmus) (old new : MachineParts P) (choice : Choice) (f : BusEffect) (r : Answer) : Type 0 where
   pub ok : Performs old new choice f r.0
   pub caches : HasUsed (use_by t old choice f) new.bus r.1
 
 -- the choice had the effect that it has on the parts as they were
-abbrev pub Makes : {P : Type 0} → (Litmus → Parts P → Choice → BusEffect) → Litmus → Parts P → Parts P → Choice → Answer → Type 0
+abbrev pub Makes : {P : Type 0} → (Litmus → MachineParts P → Choice → BusEffect)
+    → Litmus → MachineParts P → MachineParts P → Choice → Answer → Type 0
 Makes does t old new choice = HasMade t old new choice (does t old choice)
 
 -- no choice was made: the state, the commits and the caches are as they were
-pub record IsUndone {P : Type 0} (old new : Parts P) : Type 0 where
+pub record IsUndone {P : Type 0} (old new : MachineParts P) : Type 0 where
   pub state : state_in new ≡ state_in old
   pub commits : new.commits.entries ≡ old.commits.entries
   pub bus : new.bus ≡ old.bus
 
 -- a choice changes neither how the machine is built nor what is counted
-pub record KeepsParts {P : Type 0} (old new : Parts P) : Type 0 where
+pub record KeepsParts {P : Type 0} (old new : MachineParts P) : Type 0 where
   pub config : new.config ≡ old.config
   pub counts : new.counts.items ≡ old.counts.items
 
 -- the statistics after a choice
-abbrev pub statistics_next : {P : Type 0} → Litmus → Parts P → Choice → Statistics
+abbrev pub statistics_next : {P : Type 0} → Litmus → MachineParts P → Choice → Statistics
 statistics_next t m choice = statistics_after m.config.bus t m.config.depth (state_in m) choice (statistics_in m)

@@ -10,7 +10,7 @@ use Rattle.tso_model.specs.declared.choice.Choice.{Choice}
 use Rattle.tso_model.specs.declared.choice.Outcome.{Outcome}
 use Rattle.snoop_bus.specs.Bus.{Bus, words_of, cores_of, IsFree}
 use Rattle.machine_core.specs.declared.cache_use.CacheUse.{CacheUse}
-use Rattle.machine_core.specs.declared.parts.Parts.{Parts}
+use Rattle.machine_core.specs.declared.machine_parts.MachineParts.{MachineParts}
 use Rattle.machine_core.specs.Caches.{Used, caches_of, hits_by, attempt_of}
 use Rattle.machine_core.specs.Kept.{state_in}
 
@@ -34,22 +34,22 @@ pub record MayAccess (b : Bus) (c : ℕ) (loc : Loc) (access : Access) : Type 0 
   pub known : loc.0 < length (words_of b)
 
 -- a choice's access may be made at once
-abbrev pub MayActIn : {P : Type 0} → Litmus → Parts P → Choice → Type 0
+abbrev pub MayActIn : {P : Type 0} → Litmus → MachineParts P → Choice → Type 0
 MayActIn t m choice = MayAct m.bus (chosen choice) (access_of t m.config.depth (state_in m).flat choice)
 
 -- a choice with the caches' answer, and what it does to the parts on their bus
-abbrev pub attempt_in : {P : Type 0} → Litmus → Parts P → Choice → Attempt
+abbrev pub attempt_in : {P : Type 0} → Litmus → MachineParts P → Choice → Attempt
 attempt_in t m choice = attempt_of t m.config.depth (state_in m).flat (caches_of m.bus) choice
 
-abbrev pub effect_in : {P : Type 0} → Litmus → Parts P → Choice → BusEffect
+abbrev pub effect_in : {P : Type 0} → Litmus → MachineParts P → Choice → BusEffect
 effect_in t m choice = effect_on m.config.bus t m.config.depth (state_in m) (attempt_in t m choice)
 
 -- the same of a choice that is made at once, as on the flat machine
-abbrev pub flat_effect_in : {P : Type 0} → Litmus → Parts P → Choice → Effect
+abbrev pub flat_effect_in : {P : Type 0} → Litmus → MachineParts P → Choice → Effect
 flat_effect_in t m choice = effect_of t m.config.depth (state_in m).flat choice
 
 -- a choice had this effect, with this outcome
-pub record Performs {P : Type 0} (old new : Parts P) (choice : Choice) (f : BusEffect) (o : Outcome) : Type 0 where
+pub record Performs {P : Type 0} (old new : MachineParts P) (choice : Choice) (f : BusEffect) (o : Outcome) : Type 0 where
   pub outcome : o ≡ f.effect.outcome
   pub flat : (state_in new).flat ≡ applied (state_in old).flat (chosen choice) f.effect
   pub holder : (state_in new).holder ≡ f.holder

@@ -12,21 +12,21 @@ use Rattle.tso_model.specs.declared.action.Action.TheVariants.{Lock}
 use Rattle.tso_model.specs.declared.execution.Entry.{Entry}
 use Rattle.tso_model.specs.declared.choice.Choice.{Choice}
 use Rattle.tso_model.specs.declared.choice.Choice.TheVariants.{Step}
-use Rattle.machine_core.specs.declared.parts.Parts.{Parts}
+use Rattle.machine_core.specs.declared.machine_parts.MachineParts.{MachineParts}
 use Rattle.machine_core.specs.Caches.{Used, caches_of, use_with}
 use Rattle.machine_core.specs.Kept.{state_in}
 use Rattle.machine_core.specs.Performed.{attempt_in}
 
 -- what a choice does, and how it uses the caches then
-abbrev pub split_effect_in : {P : Type 0} → Litmus → Parts P → Choice → BusEffect
+abbrev pub split_effect_in : {P : Type 0} → Litmus → MachineParts P → Choice → BusEffect
 split_effect_in t m choice = split_effect t m.config.depth (state_in m).flat (attempt_in t m choice) (state_in m).holder
 
 -- what a choice does that isn't the holder's next one
-abbrev pub begins_in : {P : Type 0} → Litmus → Parts P → Choice → BusEffect
+abbrev pub begins_in : {P : Type 0} → Litmus → MachineParts P → Choice → BusEffect
 begins_in t m choice = begins t m.config.depth (state_in m).flat (attempt_in t m choice) (state_in m).holder
 
 -- how a choice with this effect uses the caches
-abbrev pub use_by : {P : Type 0} → Litmus → Parts P → Choice → BusEffect → Used
+abbrev pub use_by : {P : Type 0} → Litmus → MachineParts P → Choice → BusEffect → Used
 use_by t m choice f = use_with t m.config.depth (state_in m) choice f (caches_of m.bus)
 
 -- the access is at one of so many locations
@@ -37,11 +37,11 @@ IsAccessAmong locations (Writes loc) = loc.0 < locations
 IsAccessAmong locations (Locks loc) = loc.0 < locations
 
 -- what the holder's next choice does: it completes what it asked for; a locked instruction with this load part writes
-abbrev pub completes_in : {P : Type 0} → Litmus → Parts P → Choice → BusEffect
+abbrev pub completes_in : {P : Type 0} → Litmus → MachineParts P → Choice → BusEffect
 completes_in t m choice =
     completes t m.config.depth (state_in m).flat choice (access_of t m.config.depth (state_in m).flat choice)
 
-abbrev pub writes_last_in : {P : Type 0} → Litmus → Parts P → Entry → BusEffect
+abbrev pub writes_last_in : {P : Type 0} → Litmus → MachineParts P → Entry → BusEffect
 writes_last_in t m e = writes_last t m.config.depth (state_in m).flat e
 
 -- the choice isn't the holder's next one

@@ -18,8 +18,8 @@ ghost use Rattle.machine_core.specs.Made.{AreConsistent, AreOfTest, AnswerFitsIn
 use crate::cache_use::CacheUse;
 use crate::completing::{complete, write_last};
 use crate::holding::Holding;
+use crate::machine_parts::{MachineParts, act, core_of, instruction_at};
 use crate::memory_access::MemoryAccess;
-use crate::parts::{Parts, act, core_of, instruction_at};
 use crate::processor::Processor;
 use protocol_tables::Protocol;
 use snoop_bus::SnoopBus;
@@ -28,7 +28,7 @@ use tso_model::{Action, Choice, Core, Instr, Loc, NoMemory, Outcome, Stall, Test
 
 /// Makes a choice on a split bus, and answers its outcome and what it had to do with the caches.
 pub fn act_on_split<P: Protocol>(
-    parts: &mut Parts<P>,
+    parts: &mut MachineParts<P>,
     test: &Test,
     choice: Choice,
 ) -> Result<(Outcome, CacheUse), NoMemory>
@@ -69,7 +69,7 @@ fn is_same(a: Choice, b: Choice) -> bool
 
 /// Makes a choice that isn't the holder's next one.
 fn begin<P: Protocol>(
-    parts: &mut Parts<P>,
+    parts: &mut MachineParts<P>,
     test: &Test,
     choice: Choice,
 ) -> Result<(Outcome, CacheUse), NoMemory>
@@ -136,7 +136,7 @@ fn ask<P: Protocol>(bus: &mut SnoopBus<P>, core: Core, access: MemoryAccess)
 }
 
 /// The access that a choice makes.
-pub fn access_of<P: Protocol>(parts: &Parts<P>, test: &Test, choice: Choice) -> MemoryAccess
+pub fn access_of<P: Protocol>(parts: &MachineParts<P>, test: &Test, choice: Choice) -> MemoryAccess
     requires core { chosen choice < length test.now.programs }
     requires fits { PartsFitTest test.now parts.now }
     ensures value { access_in result ≡ access_of test.now parts.now.config.depth (state_in parts.now).flat choice }

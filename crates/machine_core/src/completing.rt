@@ -23,7 +23,7 @@ ghost use Rattle.machine_core.specs.Made.{AreConsistent, AreOfTest, HasMade, Mak
 
 use crate::cache_use::CacheUse;
 use crate::holding::Holding;
-use crate::parts::{Parts, instruction_at};
+use crate::machine_parts::{MachineParts, instruction_at};
 use crate::processor::{Processor, advance};
 use order_builder::Commits;
 use protocol_tables::Protocol;
@@ -34,7 +34,7 @@ use tso_model::{Action, Choice, Core, Entry, Kind, Loc, NoMemory, Outcome, Reg, 
 ///
 /// Errors: out of memory only; nothing is changed then.
 pub fn complete<P: Protocol>(
-    parts: &mut Parts<P>,
+    parts: &mut MachineParts<P>,
     test: &Test,
     choice: Choice,
 ) -> Result<(Outcome, CacheUse), NoMemory>
@@ -56,7 +56,7 @@ pub fn complete<P: Protocol>(
 
 /// Completes a step: a plain store, a load, or the load part of a locked instruction.
 fn complete_step<P: Protocol>(
-    parts: &mut Parts<P>,
+    parts: &mut MachineParts<P>,
     test: &Test,
     core: Core,
 ) -> Result<(Outcome, CacheUse), NoMemory>
@@ -110,7 +110,7 @@ fn complete_step<P: Protocol>(
 
 /// Completes a drain.
 fn complete_drain<P: Protocol>(
-    parts: &mut Parts<P>,
+    parts: &mut MachineParts<P>,
     test: &Test,
     core: Core,
 ) -> Result<(Outcome, CacheUse), NoMemory>
@@ -281,7 +281,7 @@ fn read_first<P: Protocol>(
 ///
 /// Errors: out of memory only; nothing is changed then.
 pub fn write_last<P: Protocol>(
-    parts: &mut Parts<P>,
+    parts: &mut MachineParts<P>,
     test: &Test,
     read: Entry,
 ) -> Result<(Outcome, CacheUse), NoMemory>

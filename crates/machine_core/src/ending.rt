@@ -3,7 +3,7 @@ ghost use Rattle.std.specs.Prelude.{◌≡◌, IfOk, map};
 ghost use Rattle.snoop_bus.specs.Bus.{words_of, IsFree, IsSameMachine};
 ghost use Rattle.machine_core.specs.Kept.{PartsFitTest};
 
-use crate::parts::{Parts, memory_of, registers_of};
+use crate::machine_parts::{MachineParts, memory_of, registers_of};
 use protocol_tables::Protocol;
 use std::alloc::Global;
 use tso_model::{NoMemory, Test};
@@ -22,7 +22,7 @@ pub struct FinalState {
 /// Errors: out of memory only.
 pub fn final_state<P: Protocol>(
     alloc: Global,
-    parts: &mut Parts<P>,
+    parts: &mut MachineParts<P>,
     test: &Test,
 ) -> Result<FinalState, NoMemory>
     requires fits { PartsFitTest test.now parts.old }

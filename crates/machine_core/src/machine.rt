@@ -8,7 +8,7 @@ ghost use Rattle.machine_core.specs.Running.{new_machine, effect_by, machine_aft
 use crate::config::Config;
 use crate::counts::Counts;
 use crate::ending::{FinalState, final_state};
-use crate::parts::{Parts, are_done, begin, memory_of, perform, registers_of};
+use crate::machine_parts::{MachineParts, are_done, begin, memory_of, perform, registers_of};
 use crate::restarting::restart;
 use order_builder::build;
 use protocol_tables::Protocol;
@@ -40,7 +40,7 @@ pub struct Final {
 #[derive(Drop)]
 pub struct Machine<'a, P: Protocol> {
     test: &'a Test,
-    parts: Parts<P>,
+    parts: MachineParts<P>,
     failed: bool,
 }
 

@@ -10,13 +10,13 @@ ghost use Rattle.machine_core.specs.Made.{AreAtStart};
 
 use crate::counts::Counts;
 use crate::holding::Holding;
-use crate::parts::Parts;
+use crate::machine_parts::MachineParts;
 use crate::processor::Processor;
 use protocol_tables::Protocol;
 use tso_model::{Core, Test};
 
 /// The parts go back to the beginning of the test.
-pub fn restart<P: Protocol>(parts: &mut Parts<P>, test: &Test)
+pub fn restart<P: Protocol>(parts: &mut MachineParts<P>, test: &Test)
     requires fits { PartsFitTest test.now parts.old }
     requires test { IsTest test.now }
     requires counts { length parts.old.counts.items ≡ length test.now.programs }

@@ -1,7 +1,7 @@
 use Rattle.std.proofs.Common.{◌∙◌, ◌++◌, ◌∷◌, [], ap, sym}
 use Rattle.snoop_bus.specs.Accesses.{memory_words_of}
 use Rattle.machine_core.proofs.CoreLemmas.{take-got}
-use Rattle.machine_core.proofs.parts.memory_of.Goals as goal
+use Rattle.machine_core.proofs.machine_parts.memory_of.Goals as goal
 
 pub loop-location-preserved : goal.loop-location-preserved
 loop-location-preserved g c =

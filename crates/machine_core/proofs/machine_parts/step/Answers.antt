@@ -10,7 +10,7 @@ use Rattle.machine_core.specs.Cores.{core_state, step_by}
 use Rattle.machine_core.specs.Acted.{SucceedsUnlessCommitting}
 use Rattle.machine_core.proofs.ActedLemmas.{acts-stalls}
 use Rattle.machine_core.proofs.Performing.{access_of-step, effect_in-step, effect_in-done, IfOk-Makes, PartsFitTest-next, IsCore-at, within-cores}
-use Rattle.machine_core.proofs.parts.step.Goals as goal
+use Rattle.machine_core.proofs.machine_parts.step.Goals as goal
 
 pub returns-in-None-clause-makes : goal.returns-in-None-clause-makes
 returns-in-None-clause-makes g c =

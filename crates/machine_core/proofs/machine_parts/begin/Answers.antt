@@ -3,7 +3,7 @@ use Rattle.snoop_bus.specs.Bus.{words_of}
 use Rattle.machine_core.specs.Kept.{IsCore}
 use Rattle.machine_core.proofs.Beginning.{begun-state}
 use Rattle.machine_core.proofs.TallyLemmas.{tallied-first}
-use Rattle.machine_core.proofs.parts.begin.Goals as goal
+use Rattle.machine_core.proofs.machine_parts.begin.Goals as goal
 
 pub returns-clause-begun : goal.returns-clause-begun
 returns-clause-begun g c = record {

@@ -4,7 +4,7 @@ use Rattle.machine_core.specs.Performed.{attempt_in}
 use Rattle.machine_core.specs.Acted.{SucceedsUnlessCommitting}
 use Rattle.machine_core.specs.Made.{AreConsistent, HasMade}
 use Rattle.machine_core.proofs.EitherBus.{is-free, may-act-free, effect-atomic, effect-split, fits-free, held-free}
-use Rattle.machine_core.proofs.parts.act_on_bus.Goals as goal
+use Rattle.machine_core.proofs.machine_parts.act_on_bus.Goals as goal
 
 pub act-requires-clause-free : goal.act-requires-clause-free
 act-requires-clause-free g c =

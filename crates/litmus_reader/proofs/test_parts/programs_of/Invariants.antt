@@ -1,5 +1,5 @@
 use Rattle.std.proofs.Common.{◌≡◌, map}
-use Rattle.litmus_reader.proofs.parts.programs_of.Given as goal
+use Rattle.litmus_reader.proofs.test_parts.programs_of.Given as goal
 use Rattle.litmus_reader.specs.Reading.{programs_from}
 
 abbrev pub invariant-loop-core : goal.invariant-loop-core

@@ -1,7 +1,7 @@
 use Rattle.std.proofs.Common.{◌≡◌, drop}
 use Rattle.tso_model.specs.Runs.{all_done}
 use Rattle.machine_core.specs.Cores.{core_states}
-use Rattle.machine_core.proofs.parts.are_done.Given as goal
+use Rattle.machine_core.proofs.machine_parts.are_done.Given as goal
 
 abbrev pub invariant-loop-core : goal.invariant-loop-core
 invariant-loop-core g l =

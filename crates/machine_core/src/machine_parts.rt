@@ -31,7 +31,7 @@ use tso_model::{Bus, Choice, Core, Instr, Loc, NoMemory, Outcome, Stall, Test};
 /// What a machine consists of: its cores, memory after their caches, who holds the bus, what was
 /// committed and what was counted.
 #[derive(Drop)]
-pub struct Parts<P: Protocol> {
+pub struct MachineParts<P: Protocol> {
     pub config: Config,
     pub processors: Vec<Processor>,
     pub bus: SnoopBus<P>,
@@ -46,7 +46,7 @@ pub fn begin<P: Protocol>(
     protocol: P,
     test: &Test,
     config: Config,
-) -> Result<Parts<P>, NoMemory>
+) -> Result<MachineParts<P>, NoMemory>
     ensures begun { IfOk result (AreAtStart test.now) }
     ensures config { IfOk result (λ parts. parts.config ≡ config) }
     ensures statistics { IfOk result (λ parts. statistics_in parts ≡ no_statistics (P.table protocol) config.shape test.now) }
@@ -60,7 +60,7 @@ pub fn begin<P: Protocol>(
         test.initial_words(),
     )?;
     let counts = nothing_counted(alloc, test)?;
-    Ok(Parts {
+    Ok(MachineParts {
         config,
         processors,
         bus,
@@ -106,7 +106,7 @@ fn processors_of(alloc: Global, test: &Test, depth: u8) -> Result<Vec<Processor>
 ///
 /// Errors: out of memory only; nothing is changed then.
 pub fn perform<P: Protocol>(
-    parts: &mut Parts<P>,
+    parts: &mut MachineParts<P>,
     test: &Test,
     choice: Choice,
 ) -> Result<Outcome, NoMemory>
@@ -142,7 +142,7 @@ pub fn core_of(choice: Choice) -> Core
 
 /// Makes a choice on the kind of bus that there is. On the atomic bus every choice is whole.
 fn act_on_bus<P: Protocol>(
-    parts: &mut Parts<P>,
+    parts: &mut MachineParts<P>,
     test: &Test,
     choice: Choice,
 ) -> Result<(Outcome, CacheUse), NoMemory>
@@ -164,7 +164,7 @@ fn act_on_bus<P: Protocol>(
 
 /// Makes a choice at once, and answers its outcome and what it had to do with the caches.
 pub fn act<P: Protocol>(
-    parts: &mut Parts<P>,
+    parts: &mut MachineParts<P>,
     test: &Test,
     choice: Choice,
 ) -> Result<(Outcome, CacheUse), NoMemory>
@@ -187,7 +187,7 @@ pub fn act<P: Protocol>(
 
 /// A step of a core at its next instruction, if there is one.
 fn step<P: Protocol>(
-    parts: &mut Parts<P>,
+    parts: &mut MachineParts<P>,
     test: &Test,
     core: Core,
 ) -> Result<(Outcome, CacheUse), NoMemory>
@@ -219,7 +219,7 @@ pub fn instruction_at(program: &[Instr], place: u8) -> Option<Instr>
 
 /// A drain of a core: its oldest buffered store goes to memory, if there is one.
 fn drain<P: Protocol>(
-    parts: &mut Parts<P>,
+    parts: &mut MachineParts<P>,
     test: &Test,
     core: Core,
 ) -> Result<(Outcome, CacheUse), NoMemory>
@@ -239,7 +239,7 @@ fn drain<P: Protocol>(
 }
 
 /// Whether each core is at the end of its program with nothing buffered.
-pub fn are_done<P: Protocol>(parts: &Parts<P>, test: &Test) -> bool
+pub fn are_done<P: Protocol>(parts: &MachineParts<P>, test: &Test) -> bool
     requires { length parts.now.processors.items ≡ length test.now.programs }
     ensures { result ≡ all_done test.now.programs (core_states 0 parts.now.processors.items) }
 {

@@ -4,7 +4,7 @@ use Rattle.machine_core.specs.Cores.{core_states}
 use Rattle.machine_core.specs.Kept.{IsCore}
 use Rattle.machine_core.specs.declared.processor.Processor.{Processor}
 use Rattle.machine_core.proofs.CoreLemmas.{started-next, IsCore-new, All-one_more}
-use Rattle.machine_core.proofs.parts.processors_of.Goals as goal
+use Rattle.machine_core.proofs.machine_parts.processors_of.Goals as goal
 
 begun : goal.In_ok-push → Processor
 begun c = record { place = 0; registers = c.initial_registers-registers.result; stores = c.in_ok-stores.stores }

@@ -2,7 +2,7 @@ use Rattle.std.proofs.Common.{◌≡◌, ℕ, ◌++◌, All, drop, length}
 use Rattle.tso_model.specs.FlatMachine.{started}
 use Rattle.machine_core.specs.Cores.{core_states}
 use Rattle.machine_core.specs.Kept.{IsCore}
-use Rattle.machine_core.proofs.parts.processors_of.Given as goal
+use Rattle.machine_core.proofs.machine_parts.processors_of.Given as goal
 
 abbrev pub invariant-loop-core : goal.invariant-loop-core
 invariant-loop-core l = record {

@@ -1,6 +1,6 @@
 use Rattle.std.proofs.Common.{sym, ◌∙◌, ap, length}
 use Rattle.machine_core.proofs.TallyLemmas.{flusher-next, few-next, tallied-next}
-use Rattle.machine_core.proofs.parts.perform.Goals as goal
+use Rattle.machine_core.proofs.machine_parts.perform.Goals as goal
 
 pub tally-requires-clause-flusher : goal.tally-requires-clause-flusher
 tally-requires-clause-flusher g c =

@@ -5,7 +5,7 @@ use Rattle.machine_core.specs.Cores.{drain_by}
 use Rattle.machine_core.specs.Performed.{MayAct}
 use Rattle.machine_core.specs.Acted.{SucceedsUnlessCommitting}
 use Rattle.machine_core.proofs.Performing.{access_of-drain, effect_in-drain, IfOk-Makes, within-cores}
-use Rattle.machine_core.proofs.parts.drain.Goals as goal
+use Rattle.machine_core.proofs.machine_parts.drain.Goals as goal
 
 pub returns-clause-makes : goal.returns-clause-makes
 returns-clause-makes g c =
