@@ -1,12 +1,17 @@
 -- What this project's machine reaches with bounded buffers, and what the abstract machine does.
-use Rattle.std.proofs.Common.{◌≤◌, ◌↔◌, ℕ, List, arith, subst}
+use Rattle.std.proofs.Common.{◌≤◌, ◌<◌, ◌↔◌, ℕ, suc, List, [], ◌∷◌, length, slice_index_or, arith, subst}
 use Rattle.tso_model.specs.Litmus.{Litmus, IsTest}
-use Rattle.tso_model.specs.Execution.{IsTsoExecution}
+use Rattle.tso_model.specs.Actions.{action_of}
+use Rattle.tso_model.specs.Axioms.{IsTsoExecution}
+use Rattle.tso_model.specs.declared.instruction.Instr.{Instr}
+use Rattle.tso_model.specs.declared.action.Action.{Action}
+use Rattle.tso_model.specs.declared.action.Action.TheVariants.{Store, Load, Move, Fence, Lock}
 use Rattle.tso_model.specs.declared.execution.Entry.{Entry}
-use Rattle.tso_laws.specs.Counting.{most_stores}
+use Rattle.tso_laws.specs.Counting.{store_count, stores_in, most_stores}
 use Rattle.tso_laws.specs.Depth.{needed}
 use Rattle.tso_laws.specs.Along.{choices_along}
 use Rattle.tso_laws.specs.Reached.{IsReached}
+use Rattle.basic_laws.proofs.Basics.{max-within}
 use Rattle.abstract_machine.specs.Machine.{Machine}
 use Rattle.abstract_machine.specs.Ended.{EndsWith, IsReachedFreely}
 use Rattle.abstract_machine.proofs.Leading.{Reaches}
@@ -34,3 +39,26 @@ bounded-is-free executions reaches enough freely returns t depth order test l = 
       let w = reaches t depth order test tso (omega arith) in
       record { choices = choices_along t order; cores = w.cores; ended = w.ended; commits = w.commits },
 )
+
+-- ---- no program of a test has more than 32 plain stores
+
+stores-length : (p : List Instr) → stores_in p ≤ length p
+stores-length [] = omega arith
+stores-length (x ∷ p) = let h = stores-length p in let w = one (action_of x) in omega arith
+  where
+    one : (a : Action) → store_count a ≤ 1
+    one (Store loc operand) = omega arith
+    one (Load reg loc) = omega arith
+    one (Move reg operand) = omega arith
+    one Fence = omega arith
+    one (Lock loc reg update) = omega arith
+
+most-within : (ps : List (List Instr)) (n : ℕ) → ((k : ℕ) → k < length ps → length (slice_index_or ps k []) ≤ n) → most_stores ps ≤ n
+most-within [] n f = omega arith
+most-within (p ∷ ps) n f =
+    let first = f 0 (omega arith) in
+    let l = stores-length p in
+    max-within (stores_in p) (most_stores ps) n (omega arith) (most-within ps n (λ k i. f (suc k) (omega arith)))
+
+pub most-stores-few : (t : Litmus) → IsTest t → most_stores t.programs ≤ 32
+most-stores-few t test = most-within t.programs 32 (λ k l. (test.programs_fit k [] l).size)

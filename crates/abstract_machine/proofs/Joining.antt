@@ -1,7 +1,7 @@
 -- What the abstract machine gives, put together, against what the flat machine commits.
 use Rattle.std.proofs.Common.{◌≡◌, ◌==◌, ◌&&◌, Bool, true, false, if◌then◌else◌, List, [], ◌∷◌, ◌++◌, ap, sym, ◌∙◌, refl, append_assoc}
 use Rattle.tso_model.specs.ProgramOrder.{same_kind}
-use Rattle.tso_model.specs.Execution.{IsStorePart}
+use Rattle.tso_model.specs.ProgramOrder.{IsStorePart}
 use Rattle.tso_model.specs.Together.{put_before, put_together}
 use Rattle.tso_model.specs.declared.execution.Entry.{Entry}
 use Rattle.tso_model.specs.declared.execution.Kind.TheVariants.{W, LR, LW}

@@ -2,7 +2,7 @@
 use Rattle.std.proofs.Common.{◌≡◌, ◌<◌, ◌≤◌, ◌==◌, ℕ, ◌+◌, zero, suc, Bool, true, false, List, [], ◌∷◌, ◌++◌, length, None, Some, slice_get, slice_index_or, arith, sym, ◌∙◌, refl, subst, if◌then◌else◌, append_assoc}
 use Rattle.std.proofs.lemmas.Bool.Decides.{nat_tests}
 use Rattle.tso_model.specs.Litmus.{Litmus, IsTest}
-use Rattle.tso_model.specs.Execution.{KeepsPairs, IsTsoExecution}
+use Rattle.tso_model.specs.Axioms.{IsAdjacent, IsTsoExecution}
 use Rattle.tso_model.specs.FlatMachine.{CoreState, State, is_none_pending, program_of, chosen, effect_of, after_choice, started, start}
 use Rattle.tso_model.specs.Runs.{is_done, all_done, has_ended, Run, resting, then_run, run_from, run, CoresExist}
 use Rattle.tso_model.specs.declared.instruction.Instr.{Instr}
@@ -95,7 +95,7 @@ ended-has t state e p h g =
 
 -- a run of the flat machine that ends the test, of cores that are there
 run-leads : (t : Litmus) (n : ℕ) (order : List Entry) (choices : List Choice) → CoresExist (length t.programs) choices
-    → (run t (suc n) choices).ended ≡ true → (run t (suc n) choices).commits ≡ order → KeepsPairs order → IsReachedFreely t order
+    → (run t (suc n) choices).ended ≡ true → (run t (suc n) choices).commits ≡ order → IsAdjacent order → IsReachedFreely t order
 run-leads t n order choices exist ended commits pairs =
     let r = leads t n (start t) choices (first-size 0 t.programs t.registers) (first-writes 0 t.programs t.registers) exist ended in
     let m : Machine = lifted (run t (suc n) choices).state in (
@@ -119,4 +119,4 @@ Reaches =
 pub execution-runs : Reaches → (t : Litmus) (order : List Entry) → IsTest t → IsTsoExecution t order → IsReachedFreely t order
 execution-runs reaches t order test tso =
     let w = reaches t (suc (needed order)) order test tso (omega arith) in
-    run-leads t (needed order) order (choices_along t order) w.cores w.ended w.commits tso.pairs
+    run-leads t (needed order) order (choices_along t order) w.cores w.ended w.commits tso.adjacent

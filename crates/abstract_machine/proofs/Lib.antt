@@ -11,3 +11,4 @@ pub mod Tracks
 pub mod Holder
 pub mod Returning
 pub mod Bounded
+pub mod OneStep

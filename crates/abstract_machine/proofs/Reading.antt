@@ -1,7 +1,7 @@
 -- What a thread can read is what a load of the flat machine gets.
 use Rattle.std.proofs.Common.{◌≡◌, ◌<◌, ℕ, Bool, true, false, List, [], ◌∷◌, ◌++◌, length, filter, slice_index, slice_set, ap, sym, refl, ◌⊎◌, inl, inr, subst, get_or-set_same, get_or-set_other}
 use Rattle.tso_model.specs.ProgramOrder.{writes_to}
-use Rattle.tso_model.specs.Execution.{last_value}
+use Rattle.tso_model.specs.Axioms.{last_value}
 use Rattle.tso_model.specs.declared.execution.Entry.{Entry}
 use Rattle.tso_model.specs.declared.execution.Kind.TheVariants.{W}
 use Rattle.abstract_machine.specs.Machine.{HardwareThread, Machine}

@@ -1,7 +1,7 @@
 -- A run of the abstract machine that ends the test leads to a state of the flat machine that has ended it too.
 use Rattle.std.proofs.Common.{◌≡◌, ◌<◌, ℕ, suc, true, List, [], ◌∷◌, ◌++◌, length, map, None, Some, slice_get, slice_set, slice_index_or, arith, ap, sym, ◌∙◌, refl, inl, inr, subst, append_assoc}
 use Rattle.tso_model.specs.Litmus.{Litmus, IsTest}
-use Rattle.tso_model.specs.Execution.{IsTsoExecution}
+use Rattle.tso_model.specs.Axioms.{IsTsoExecution}
 use Rattle.tso_model.specs.FinalState.{final_words, final_registers}
 use Rattle.tso_model.specs.FlatMachine.{CoreState, State, program_of, registers_in, start}
 use Rattle.tso_model.specs.Runs.{is_done, all_done, has_ended, run}

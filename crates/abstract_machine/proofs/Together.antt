@@ -1,7 +1,9 @@
 -- An order in which each load part is followed by its store part is put together already.
 use Rattle.std.proofs.Common.{◌≡◌, suc, Bool, true, false, List, [], ◌∷◌, Some, slice_get, ap, ◌∙◌, refl, if◌then◌else◌}
 use Rattle.tso_model.specs.ProgramOrder.{same_kind}
-use Rattle.tso_model.specs.Execution.{is_at, KeepsPairs, IsStorePart}
+use Rattle.tso_model.specs.ProgramEntries.{is_at}
+use Rattle.tso_model.specs.Axioms.{IsAdjacent}
+use Rattle.tso_model.specs.ProgramOrder.{IsStorePart}
 use Rattle.tso_model.specs.Together.{put_before, put_together}
 use Rattle.tso_model.specs.declared.execution.Entry.{Entry}
 use Rattle.tso_model.specs.declared.execution.Kind.{Kind}
@@ -24,7 +26,7 @@ before-part x (e ∷ es) h =
     let q : e ≡ h.0 = let w = h.1 in cc in
     rw (ap (λ z. is_at x.core.0 x.place LW z) q ∙ store-part-at x h.0 h.2) refl
 
-pub already-together : (order : List Entry) → KeepsPairs order → put_together order ≡ order
+pub already-together : (order : List Entry) → IsAdjacent order → put_together order ≡ order
 already-together [] pairs = refl
 already-together (e ∷ es) pairs = go (same_kind e.kind LR) refl (already-together es (λ i x q k. pairs (suc i) x q k))
   where

@@ -13,7 +13,7 @@
 
 ghost use Rattle.std.specs.Prelude.{ℕ, ◌≡◌, ◌≤◌, ◌↔◌, List};
 ghost use Rattle.tso_model.specs.Litmus.{Litmus, IsTest};
-ghost use Rattle.tso_model.specs.Execution.{IsTsoExecution};
+ghost use Rattle.tso_model.specs.Axioms.{IsTsoExecution};
 ghost use Rattle.tso_model.specs.FinalState.{final_words, final_registers};
 ghost use Rattle.tso_model.specs.Examples.{sb, sb_order, n6, n6_order, added, separated_order};
 ghost use Rattle.tso_model.specs.declared.execution.Entry.{Entry};
@@ -22,6 +22,7 @@ ghost use Rattle.tso_laws.specs.Reached.{IsReached};
 ghost use Rattle.tso_laws.specs.WorkedRuns.{short_order, turned_order, wrong_order};
 ghost use Rattle.abstract_machine.specs.Machine.{Machine};
 ghost use Rattle.abstract_machine.specs.Ended.{registers_of, EndsWith, IsReachedFreely};
+ghost use Rattle.abstract_machine.specs.OneStep.{BlockedThreadsReadAndFlushNothing, OnlyTheHolderUnlocks};
 
 use tso_laws::{
     choices_lead_from_state_to_state, ended_runs_are_executions, every_execution_is_reached,
@@ -48,13 +49,21 @@ pub fn executions_are_runs_of_the_abstract_machine()
     every_execution_is_reached();
 }
 
+/// No program of a test has more than 32 plain stores: the greatest depth holds them all.
+pub fn most_stores_are_at_most_32()
+    ensures { (t : Litmus) → IsTest t → most_stores t.programs ≤ 32 }
+{}
+
 /// Bounded buffers lose nothing: at each depth that is at least the greatest number of plain stores
 /// of a program, the runs of this project's machine end with exactly the orders with which those of
-/// the abstract machine do. By the two laws above these are the TSO executions of the test.
+/// the abstract machine do; and so at depth 32. By the two laws on executions these are the TSO
+/// executions of the test.
 pub fn bounded_buffers_lose_nothing()
-    ensures { (t : Litmus) (depth : ℕ) (order : List Entry) → IsTest t → most_stores t.programs ≤ depth
+    ensures deep_enough { (t : Litmus) (depth : ℕ) (order : List Entry) → IsTest t → most_stores t.programs ≤ depth
         → IsReached t depth order ↔ IsReachedFreely t order }
+    ensures at_the_greatest { (t : Litmus) (order : List Entry) → IsTest t → IsReached t 32 order ↔ IsReachedFreely t order }
 {
+    most_stores_are_at_most_32();
     ended_runs_are_executions();
     every_execution_is_reached();
     most_stores_are_depth_enough();
@@ -77,3 +86,16 @@ pub fn worked_runs_of_the_abstract_machine()
     executions_are_runs_of_the_abstract_machine();
     runs_of_the_abstract_machine_are_executions();
 }
+
+/// In any machine, whether a run leads to it or not, a thread that is blocked reads nothing, from memory
+/// or from its own buffer, and flushes nothing.
+pub fn blocked_threads_read_and_flush_nothing()
+    ensures { BlockedThreadsReadAndFlushNothing }
+{}
+
+/// In any machine a lock that is held stays with its holder until this very thread frees it, which it does
+/// with an empty buffer; a free one is taken by the thread that makes the step; and a locked instruction
+/// that has written ends in no other way than by unlocking.
+pub fn only_the_holder_unlocks()
+    ensures { OnlyTheHolderUnlocks }
+{}

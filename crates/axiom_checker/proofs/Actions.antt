@@ -4,7 +4,7 @@ use Rattle.std.proofs.lemmas.Bool.Decides.{eqb_tells}
 use Rattle.tso_model.specs.Thread.{entry}
 use Rattle.tso_model.specs.ProgramOrder.{same_kind, is_read, is_write}
 use Rattle.basic_laws.proofs.Ranks.{is_read_kind, is_write_kind}
-use Rattle.tso_model.specs.Execution.{is_at, read_value}
+use Rattle.tso_model.specs.ProgramEntries.{is_at, read_value}
 use Rattle.tso_model.specs.declared.execution.Entry.{Entry}
 use Rattle.tso_model.specs.declared.execution.Kind.{Kind}
 use Rattle.tso_model.specs.declared.execution.Kind.TheVariants.{R, W, F, LR, LW}

@@ -4,7 +4,8 @@ use Rattle.tso_model.specs.Limits.{most_instructions}
 use Rattle.tso_model.specs.Actions.{action_of}
 use Rattle.tso_model.specs.Thread.{entries_by, entries_of, reads_in}
 use Rattle.tso_model.specs.Litmus.{Litmus, IsProgram, IsTest}
-use Rattle.tso_model.specs.Execution.{read_values, made_from, made}
+use Rattle.tso_model.specs.ProgramEntries.{read_values}
+use Rattle.tso_model.specs.ProgramEntries.{made_from, made}
 use Rattle.tso_model.specs.declared.instruction.Instr.{Instr}
 use Rattle.tso_model.specs.declared.action.Action.{Action}
 use Rattle.tso_model.specs.declared.action.Action.TheVariants.{Store, Load, Move, Fence, Lock}

@@ -2,11 +2,12 @@
 use Rattle.std.proofs.Common.{◌≡◌, ◌<◌, ℕ, suc, zero, List, Some, slice_get, arith, ap, sym, ◌∙◌, ◌⊎◌, inl, inr, subst}
 use Rattle.tso_model.specs.Litmus.{Litmus}
 use Rattle.tso_model.specs.Thread.{entry}
-use Rattle.tso_model.specs.Execution.{made, IsWhole, KeepsProgramOrder, KeepsPairs, IsTsoExecution}
+use Rattle.tso_model.specs.ProgramEntries.{made}
+use Rattle.tso_model.specs.Axioms.{IsWhole, KeepsProgramOrder, IsAdjacent, IsTsoExecution}
 use Rattle.tso_model.specs.declared.execution.Entry.{Entry}
 use Rattle.axiom_checker.specs.First.{IsFirst, IsNowhere}
 use Rattle.axiom_checker.specs.Entries.{IsExtra, IsStray, IsMissing, IsWrongWrite, written_value}
-use Rattle.axiom_checker.specs.Axioms.{Overtakes, IsLate, IsSeparated, IsWrongRead, due_at}
+use Rattle.axiom_checker.specs.AxiomBreaches.{Overtakes, IsLate, IsSeparated, IsWrongRead, due_at}
 use Rattle.axiom_checker.specs.FirstBreach.{IsFirstBreach}
 use Rattle.axiom_checker.specs.declared.breach.Breach.{Breach}
 use Rattle.axiom_checker.specs.declared.breach.Breach.TheVariants.{Extra, Twice, Missing, WrongValue, ProgramOrder, NotAdjacent, ReadValue, NoMemory}
@@ -70,7 +71,7 @@ clear-ordered t order w k n l o = elim (below-or n 3 l) [
   | inr s ↦ clear-whole t order w n s o
 ]
 
-clear-paired : (t : Litmus) (order : List Entry) → IsWhole t order → KeepsProgramOrder order → KeepsPairs order → (n : ℕ) → n < 5 → OccursAt t order n → ⊥
+clear-paired : (t : Litmus) (order : List Entry) → IsWhole t order → KeepsProgramOrder order → IsAdjacent order → (n : ℕ) → n < 5 → OccursAt t order n → ⊥
 clear-paired t order w k p n l o = elim (below-or n 4 l) [
   | inl q ↦ nowhere order (IsSeparated order) (none-separated order p) (subst (λ m. OccursAt t order m) q o)
   | inr s ↦ clear-ordered t order w k n s o
@@ -94,7 +95,7 @@ none-lower t order NoMemory f n l o = f
 none-at-all : (t : Litmus) (order : List Entry) → IsTsoExecution t order → (n : ℕ) → n < 6 → OccursAt t order n → ⊥
 none-at-all t order e n l o = elim (below-or n 5 l) [
   | inl q ↦ nowhere order (IsWrongRead t order) (none-wrong t order e.read_values) (subst (λ m. OccursAt t order m) q o)
-  | inr s ↦ clear-paired t order e.whole e.program_order e.pairs n s o
+  | inr s ↦ clear-paired t order e.whole e.program_order e.adjacent n s o
 ]
 
 level-below : (t : Litmus) (order : List Entry) (b : Breach) → IsFirstBreach t order b → level b < 6

@@ -5,7 +5,7 @@ use Rattle.std.proofs.lemmas.List.{get_or-set_same, get_or-set_other}
 use Rattle.std.specs.Option.{is_some}
 use Rattle.tso_model.specs.Thread.{entry}
 use Rattle.basic_laws.specs.Ranks.{rank, part_of}
-use Rattle.tso_model.specs.Execution.{is_at}
+use Rattle.tso_model.specs.ProgramEntries.{is_at}
 use Rattle.tso_model.specs.declared.execution.Entry.{Entry}
 use Rattle.axiom_checker.specs.First.{IsFirst, IsNowhere}
 use Rattle.axiom_checker.specs.Entries.{same_action, same_but_value, IsExtra, IsTwice, IsStray, IsMissing}

@@ -2,11 +2,11 @@
 use Rattle.std.proofs.Common.{◌≡◌, ℕ, List, [], ◌∷◌, ◌++◌, Some, None, Bool, true, false, find, filter, ap, ◌∙◌, refl, take, cond}
 use Rattle.std.specs.List.{list_any}
 use Rattle.tso_model.specs.ProgramOrder.{writes_to, is_before}
-use Rattle.tso_model.specs.Execution.{last_value, counting}
+use Rattle.tso_model.specs.Axioms.{last_value, counting}
 use Rattle.tso_model.specs.declared.execution.Entry.{Entry}
 use Rattle.axiom_checker.specs.First.{IsFirst}
 use Rattle.axiom_checker.specs.Entries.{same_action, same_but_value, IsExtra, IsTwice}
-use Rattle.axiom_checker.specs.Axioms.{must_stand_before, Overtakes, IsLate}
+use Rattle.axiom_checker.specs.AxiomBreaches.{must_stand_before, Overtakes, IsLate}
 use Rattle.axiom_checker.proofs.Firsts.{any_at, none_passes, found_at, found_none, in_front, from_front}
 
 -- entries that are extra or stand twice

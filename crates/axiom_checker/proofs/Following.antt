@@ -5,11 +5,12 @@ use Rattle.tso_model.specs.Litmus.{Litmus, IsTest}
 use Rattle.tso_model.specs.ProgramOrder.{is_before, may_be_passed, is_read, is_load, is_store, is_write, writes_to}
 use Rattle.basic_laws.specs.Ranks.{rank}
 use Rattle.basic_laws.proofs.Ranks.{is_load_kind, is_read_kind, is_write_kind}
-use Rattle.tso_model.specs.Execution.{made, IsWhole, KeepsProgramOrder, last_value}
+use Rattle.tso_model.specs.ProgramEntries.{made}
+use Rattle.tso_model.specs.Axioms.{IsWhole, KeepsProgramOrder, last_value}
 use Rattle.tso_model.specs.declared.execution.Entry.{Entry}
 use Rattle.tso_model.specs.declared.execution.Kind.{Kind}
 use Rattle.tso_model.specs.declared.execution.Kind.TheVariants.{R, W, F, LR, LW}
-use Rattle.axiom_checker.specs.Axioms.{due_at}
+use Rattle.axiom_checker.specs.AxiomBreaches.{due_at}
 use Rattle.axiom_checker.specs.Slots.{slots_of_a_core}
 use Rattle.axiom_checker.specs.Sources.{IsLastOwn, IsSource}
 use Rattle.axiom_checker.specs.Passing.{due_from}

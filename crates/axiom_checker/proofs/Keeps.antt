@@ -3,7 +3,8 @@ use Rattle.std.proofs.Common.{◌≡◌, ◌≢◌, ℕ, suc, zero, List, [], �
 use Rattle.std.proofs.lemmas.Bool.Decides.{nat_tests, eqb_tells}
 use Rattle.tso_model.specs.Litmus.{Litmus}
 use Rattle.tso_model.specs.ProgramOrder.{is_before, may_be_passed}
-use Rattle.tso_model.specs.Execution.{KeepsProgramOrder, KeepsPairs, IsStorePart, HasReadValues, due_value}
+use Rattle.tso_model.specs.Axioms.{KeepsProgramOrder, IsAdjacent, HasReadValues, due_value}
+use Rattle.tso_model.specs.ProgramOrder.{IsStorePart}
 use Rattle.tso_model.specs.declared.execution.Entry.{Entry}
 use Rattle.tso_model.specs.declared.execution.Kind.{Kind}
 use Rattle.tso_model.specs.declared.execution.Kind.TheVariants.{R, W, F, LR, LW}
@@ -11,7 +12,7 @@ use Rattle.basic_laws.specs.Ranks.{rank}
 use Rattle.basic_laws.proofs.Ranks.{by-rank}
 use Rattle.axiom_checker.specs.First.{IsNowhere}
 use Rattle.axiom_checker.proofs.Firsts.{three-ways}
-use Rattle.axiom_checker.specs.Axioms.{IsLate, IsSeparated, IsWrongRead, due_at}
+use Rattle.axiom_checker.specs.AxiomBreaches.{IsLate, IsSeparated, IsWrongRead, due_at}
 
 -- program order
 not-before-itself : (x : Entry) → is_before x x ≡ false
@@ -75,13 +76,13 @@ next-of x (Some y) = elim (store-part-or-not x y) [
   | inr n ↦ inl (λ w e s. let q : w ≡ y = cc in n (subst (λ z. IsStorePart x z) q s))
 ]
 
-pub keeps-pairs : (order : List Entry) → IsNowhere order (IsSeparated order) → KeepsPairs order
+pub keeps-pairs : (order : List Entry) → IsNowhere order (IsSeparated order) → IsAdjacent order
 keeps-pairs order n i x e k = elim (next-of x (slice_get order (suc i))) [
   | inl none ↦ absurd (n i x e (record { load_part = k; separated = none }))
   | inr next ↦ next
 ]
 
-pub none-separated : (order : List Entry) → KeepsPairs order → IsNowhere order (IsSeparated order)
+pub none-separated : (order : List Entry) → IsAdjacent order → IsNowhere order (IsSeparated order)
 none-separated order h i x e p = let n = h i x e p.load_part in p.separated n.0 n.1 n.2
 
 -- read values

@@ -4,7 +4,8 @@ use Rattle.tso_model.specs.Actions.{action_of, location_of}
 use Rattle.tso_model.specs.Thread.{entry, fence, entries_by, entries_of}
 use Rattle.tso_model.specs.Litmus.{Litmus, KnownLocation, IsProgram, IsTest}
 use Rattle.tso_model.specs.ProgramOrder.{is_write}
-use Rattle.tso_model.specs.Execution.{read_values, made_by, made_from, made}
+use Rattle.tso_model.specs.ProgramEntries.{read_values}
+use Rattle.tso_model.specs.ProgramEntries.{made_by, made_from, made}
 use Rattle.tso_model.specs.declared.instruction.Instr.{Instr}
 use Rattle.tso_model.specs.declared.action.Action.{Action}
 use Rattle.tso_model.specs.declared.action.Action.TheVariants.{Store, Load, Move, Fence, Lock}

@@ -6,9 +6,9 @@ use Rattle.std.proofs.lemmas.Bool.Decides.{eqb_tells}
 use Rattle.tso_model.specs.ProgramOrder.{is_before, may_be_passed, is_load, is_store, is_write, writes_to}
 use Rattle.basic_laws.proofs.Ranks.{by-rank}
 use Rattle.basic_laws.specs.Ranks.{rank}
-use Rattle.tso_model.specs.Execution.{last_value}
+use Rattle.tso_model.specs.Axioms.{last_value}
 use Rattle.tso_model.specs.declared.execution.Entry.{Entry}
-use Rattle.axiom_checker.specs.Axioms.{must_stand_before, IsLate}
+use Rattle.axiom_checker.specs.AxiomBreaches.{must_stand_before, IsLate}
 use Rattle.axiom_checker.specs.Progress.{reached, settled, written, is_late}
 use Rattle.axiom_checker.proofs.Keeps.{equal-or-not}
 use Rattle.axiom_checker.proofs.Coming.{true-or-false, some-is}

@@ -5,12 +5,14 @@ use Rattle.std.proofs.lemmas.Option.{slice_get-get_or}
 use Rattle.std.proofs.lemmas.Bool.Decides.{leb_tells}
 use Rattle.tso_model.specs.Litmus.{Litmus, IsTest}
 use Rattle.tso_model.specs.ProgramOrder.{is_read, writes_to}
-use Rattle.tso_model.specs.Execution.{made, IsWhole, KeepsProgramOrder, IsStorePart, last_value}
+use Rattle.tso_model.specs.ProgramEntries.{made}
+use Rattle.tso_model.specs.Axioms.{IsWhole, KeepsProgramOrder, last_value}
+use Rattle.tso_model.specs.ProgramOrder.{IsStorePart}
 use Rattle.tso_model.specs.declared.execution.Entry.{Entry}
 use Rattle.tso_model.specs.declared.execution.Kind.TheVariants.{LR, LW}
 use Rattle.axiom_checker.specs.First.{NoneBefore, IsFirst, IsEarliest}
 use Rattle.axiom_checker.specs.Entries.{IsWrongWrite, written_value}
-use Rattle.axiom_checker.specs.Axioms.{IsLate, IsSeparated, IsWrongRead, due_at}
+use Rattle.axiom_checker.specs.AxiomBreaches.{IsLate, IsSeparated, IsWrongRead, due_at}
 use Rattle.axiom_checker.specs.Progress.{is_late}
 use Rattle.axiom_checker.specs.Sources.{IsSource}
 use Rattle.axiom_checker.specs.Passing.{HasMet, IsFirstWrongWrite, IsFirstWrongRead, NamesWrongWrite, NamesWrongRead, IsDueFrom, first_of, due_from}

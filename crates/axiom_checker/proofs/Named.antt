@@ -1,11 +1,12 @@
 -- Each breach that the checker names is the first, and an order in which it finds none is a TSO execution.
 use Rattle.std.proofs.Common.{◌≡◌, ℕ, List, subst}
 use Rattle.tso_model.specs.Litmus.{Litmus}
-use Rattle.tso_model.specs.Execution.{made, IsWhole, IsTsoExecution}
+use Rattle.tso_model.specs.ProgramEntries.{made}
+use Rattle.tso_model.specs.Axioms.{IsWhole, IsTsoExecution}
 use Rattle.tso_model.specs.declared.execution.Entry.{Entry}
 use Rattle.axiom_checker.specs.First.{IsFirst, IsNowhere}
 use Rattle.axiom_checker.specs.Entries.{IsExtra, IsStray, IsMissing, IsWrongWrite, written_value}
-use Rattle.axiom_checker.specs.Axioms.{Overtakes, IsLate, IsSeparated, IsWrongRead, due_at}
+use Rattle.axiom_checker.specs.AxiomBreaches.{Overtakes, IsLate, IsSeparated, IsWrongRead, due_at}
 use Rattle.axiom_checker.specs.FirstBreach.{IsFirstBreach}
 use Rattle.axiom_checker.specs.declared.breach.Breach.TheVariants.{Extra, Twice, Missing, WrongValue, ProgramOrder, NotAdjacent, ReadValue}
 use Rattle.axiom_checker.proofs.Whole.{whole-from}
@@ -55,6 +56,6 @@ module _ (t : Litmus) (order entries : List Entry) (is : entries ≡ made t orde
   names-none stray missing wrong late separated read = record {
     whole = is-whole stray missing wrong;
     program_order = keeps-order order late;
-    pairs = keeps-pairs order separated;
+    adjacent = keeps-pairs order separated;
     read_values = has-values t order read;
   }

@@ -6,7 +6,8 @@ use Rattle.tso_model.specs.Actions.{action_of}
 use Rattle.tso_model.specs.Thread.{entries_by, is_reading, entries_of, reads_in}
 use Rattle.tso_model.specs.Litmus.{Litmus}
 use Rattle.tso_model.specs.ProgramOrder.{is_read}
-use Rattle.tso_model.specs.Execution.{read_value, values_by, read_values, made_from, made}
+use Rattle.tso_model.specs.ProgramEntries.{read_value, values_by, made_from, made}
+use Rattle.tso_model.specs.ProgramEntries.{read_values}
 use Rattle.tso_model.specs.declared.instruction.Instr.{Instr}
 use Rattle.tso_model.specs.declared.action.Action.{Action}
 use Rattle.tso_model.specs.declared.action.Action.TheVariants.{Store, Load, Move, Fence, Lock}

@@ -5,7 +5,8 @@ use Rattle.tso_model.specs.Thread.{entry, entries_by, entries_of, reads_in}
 use Rattle.tso_model.specs.Litmus.{Litmus}
 use Rattle.tso_model.specs.ProgramOrder.{same_kind, is_read, is_write}
 use Rattle.basic_laws.proofs.Ranks.{is_read_kind, is_write_kind}
-use Rattle.tso_model.specs.Execution.{read_values, made_from, made}
+use Rattle.tso_model.specs.ProgramEntries.{read_values}
+use Rattle.tso_model.specs.ProgramEntries.{made_from, made}
 use Rattle.tso_model.specs.declared.instruction.Loc.{Loc}
 use Rattle.tso_model.specs.declared.instruction.Instr.{Instr}
 use Rattle.tso_model.specs.declared.action.Action.{Action}

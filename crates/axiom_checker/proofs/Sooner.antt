@@ -7,7 +7,8 @@ use Rattle.tso_model.specs.Thread.{entries_of}
 use Rattle.tso_model.specs.ProgramOrder.{is_before}
 use Rattle.basic_laws.specs.Ranks.{rank}
 use Rattle.basic_laws.proofs.Ranks.{by-rank}
-use Rattle.tso_model.specs.Execution.{made, made_from, read_values}
+use Rattle.tso_model.specs.ProgramEntries.{made, made_from}
+use Rattle.tso_model.specs.ProgramEntries.{read_values}
 use Rattle.tso_model.specs.declared.instruction.Instr.{Instr}
 use Rattle.tso_model.specs.declared.execution.Entry.{Entry}
 use Rattle.axiom_checker.specs.Slots.{slot_of, slots_of_a_core}

@@ -3,7 +3,7 @@
 -- core by core and in program order.
 use Rattle.std.specs.Prelude.{ℕ, ◌<◌, ◌≡◌, ◌≢◌, ◌==◌, ◌&&◌, ◌||◌, Bool, true, false, ◌⊎◌, List, Some, slice_get}
 use Rattle.tso_model.specs.ProgramOrder.{is_read, is_write}
-use Rattle.tso_model.specs.Execution.{is_at, read_value}
+use Rattle.tso_model.specs.ProgramEntries.{is_at, read_value}
 use Rattle.tso_model.specs.declared.execution.Entry.{Entry}
 
 -- both are of one core, place and kind

@@ -4,10 +4,11 @@
 use Rattle.std.specs.Prelude.{ℕ, ◌≡◌, ◌≢◌, List, Option, IfSome, IsNone, Result, OnOk, IfErr, IsOkUnless}
 use Rattle.tso_model.specs.Litmus.{Litmus}
 use Rattle.tso_model.specs.Thread.{entry}
-use Rattle.tso_model.specs.Execution.{made, IsWhole, KeepsProgramOrder, KeepsPairs, IsTsoExecution}
+use Rattle.tso_model.specs.ProgramEntries.{made}
+use Rattle.tso_model.specs.Axioms.{IsWhole, KeepsProgramOrder, IsAdjacent, IsTsoExecution}
 use Rattle.axiom_checker.specs.First.{IsFirst, IsEarliest, IsNowhere}
 use Rattle.axiom_checker.specs.Entries.{IsExtra, IsStray, IsMissing, IsWrongWrite, written_value}
-use Rattle.axiom_checker.specs.Axioms.{Overtakes, IsLate, IsSeparated, IsWrongRead, due_at}
+use Rattle.axiom_checker.specs.AxiomBreaches.{Overtakes, IsLate, IsSeparated, IsWrongRead, due_at}
 use Rattle.tso_model.specs.declared.execution.Entry.{Entry}
 use Rattle.axiom_checker.specs.declared.breach.Breach.{Breach}
 use Rattle.axiom_checker.specs.declared.breach.Breach.TheVariants.{Extra, Twice, Missing, WrongValue}
@@ -32,7 +33,7 @@ IsFirstBreach t order (ProgramOrder a b) =
 IsFirstBreach t order (NotAdjacent x) =
     IsWhole t order × KeepsProgramOrder order × IsEarliest order (IsSeparated order) x
 IsFirstBreach t order (ReadValue x due) =
-    IsWhole t order × KeepsProgramOrder order × KeepsPairs order
+    IsWhole t order × KeepsProgramOrder order × IsAdjacent order
     × ((at : ℕ) × IsFirst order (IsWrongRead t order) at x × (due ≡ due_at t order at x))
 IsFirstBreach t order NoMemory = ⊥
 

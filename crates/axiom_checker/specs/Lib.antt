@@ -1,12 +1,15 @@
 pub mod First
 pub mod Entries
-pub mod Axioms
 pub mod FirstBreach
 pub mod Programs
 pub mod Slots
 pub mod Sources
 pub mod Progress
 pub mod Passing
+pub mod AxiomBreaches
 pub use Rattle.tso_model.specs.Litmus
-pub use Rattle.tso_model.specs.Execution
+pub use Rattle.tso_model.specs.ProgramEntries
+pub use Rattle.tso_model.specs.Axioms
+pub use Rattle.tso_model.specs.ProgramOrder
+pub use Rattle.tso_model.specs.SequentialConsistency
 pub use Rattle.tso_model.specs.Watched

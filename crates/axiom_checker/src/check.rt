@@ -1,8 +1,11 @@
 //! The judgement of an order: the shape first, then the axioms.
 ghost use Rattle.std.specs.Prelude.{◌≡◌, ◌≢◌, ◌+◌, ◌*◌, ◌<◌, ◌≤◌, ℕ, None, length, OnOk, IfErr, IfOk, IsOkUnless, IfSome, IsNone};
 ghost use Rattle.tso_model.specs.Litmus.{Litmus, IsTest};
-ghost use Rattle.tso_model.specs.Execution.{IsTsoExecution};
-ghost use Rattle.tso_model.specs.Execution as execution;
+ghost use Rattle.tso_model.specs.Axioms.{IsTsoExecution};
+ghost use Rattle.tso_model.specs.ProgramEntries as execution_programentries;
+ghost use Rattle.tso_model.specs.Axioms as execution_axioms;
+ghost use Rattle.tso_model.specs.ProgramOrder as execution_axioms_programorder;
+ghost use Rattle.tso_model.specs.SequentialConsistency as execution_sequentialconsistency;
 ghost use Rattle.axiom_checker.specs.Passing.{IsMatched, HasMet};
 ghost use Rattle.axiom_checker.specs.Programs.{shape_from, kept_in};
 ghost use Rattle.axiom_checker.specs.Slots.{IsIndex};
@@ -119,7 +122,7 @@ fn breach_of_all<L: Ledger>(
     slots: &[Option<usize>],
     order: &mut Watched<'_, L>,
 ) -> Result<Option<Breach>, NoMemory>
-    requires made { made.now ≡ execution.made test.now order.old.order }
+    requires made { made.now ≡ execution_programentries.made test.now order.old.order }
     requires index { IsIndex made.now slots.now }
     requires matched { IsMatched test.now order.old.order }
     requires test { IsTest test.now }

@@ -1,9 +1,9 @@
 //! Tests on one entry or two.
 ghost use Rattle.std.specs.Prelude.{◌≡◌, ◌≤◌, ◌↔◌, IsTrue};
 ghost use Rattle.tso_model.specs.ProgramOrder as program_order;
-ghost use Rattle.tso_model.specs.Execution.{IsStorePart};
+ghost use Rattle.tso_model.specs.ProgramOrder.{IsStorePart};
 ghost use Rattle.axiom_checker.specs.Entries as entries;
-ghost use Rattle.axiom_checker.specs.Axioms as axioms;
+ghost use Rattle.axiom_checker.specs.AxiomBreaches as axioms;
 ghost use Rattle.basic_laws.specs.Ranks as ranks;
 
 use tso_model::{Entry, Kind};

@@ -1,12 +1,13 @@
 //! Laws on breaches, with nothing to run.
 ghost use Rattle.std.specs.Prelude.{◌≡◌, ◌↔◌, ◌⊎◌, List};
 ghost use Rattle.tso_model.specs.Litmus.{Litmus};
-ghost use Rattle.tso_model.specs.Execution.{made, IsWhole, KeepsProgramOrder, KeepsPairs, HasReadValues, IsTsoExecution};
+ghost use Rattle.tso_model.specs.ProgramEntries.{made};
+ghost use Rattle.tso_model.specs.Axioms.{IsWhole, KeepsProgramOrder, IsAdjacent, HasReadValues, IsTsoExecution};
 ghost use Rattle.tso_model.specs.declared.execution.Entry.{Entry};
 ghost use Rattle.axiom_checker.specs.declared.breach.Breach.{Breach};
 ghost use Rattle.axiom_checker.specs.First.{IsNowhere};
 ghost use Rattle.axiom_checker.specs.Entries.{IsStray, IsMissing, IsWrongWrite};
-ghost use Rattle.axiom_checker.specs.Axioms.{IsLate, IsSeparated, IsWrongRead};
+ghost use Rattle.axiom_checker.specs.AxiomBreaches.{IsLate, IsSeparated, IsWrongRead};
 ghost use Rattle.axiom_checker.specs.FirstBreach.{IsFirstBreach};
 
 /// An order is whole exactly where no entry is extra, there twice, missing or a write of a wrong
@@ -16,7 +17,7 @@ pub fn axioms_fail_by_breaches()
         ↔ (IsNowhere order (IsStray (made t order) order) × IsNowhere (made t order) (IsMissing order)
         × IsNowhere order (IsWrongWrite (made t order))) }
     ensures program_order { (order : List Entry) → KeepsProgramOrder order ↔ IsNowhere order (IsLate order) }
-    ensures pairs { (order : List Entry) → KeepsPairs order ↔ IsNowhere order (IsSeparated order) }
+    ensures adjacent { (order : List Entry) → IsAdjacent order ↔ IsNowhere order (IsSeparated order) }
     ensures read_values { (t : Litmus) (order : List Entry)
         → HasReadValues t order ↔ IsNowhere order (IsWrongRead t order) }
 {}

@@ -2,10 +2,10 @@
 ghost use Rattle.std.specs.Prelude.{◌≡◌, ◌+◌, ◌≤◌, ◌<◌, ℕ, true, length, slice_get, slice_index, Some, None, if◌then◌else◌, IfSome, IsNone};
 ghost use Rattle.std.specs.Option.{unwrap_or};
 ghost use Rattle.tso_model.specs.ProgramOrder as program_order;
-ghost use Rattle.tso_model.specs.Execution.{IsStorePart};
+ghost use Rattle.tso_model.specs.ProgramOrder.{IsStorePart};
 ghost use Rattle.axiom_checker.specs.First.{IsEarliest};
 ghost use Rattle.axiom_checker.specs.Entries.{IsExtra, IsWrongWrite};
-ghost use Rattle.axiom_checker.specs.Axioms.{Overtakes, IsLate};
+ghost use Rattle.axiom_checker.specs.AxiomBreaches.{Overtakes, IsLate};
 ghost use Rattle.axiom_checker.specs.Slots.{IsIndex};
 ghost use Rattle.axiom_checker.specs.Sources.{HasSources};
 ghost use Rattle.tso_model.specs.declared.execution.Kind.TheVariants.{LR};

@@ -2,8 +2,8 @@
 
 use crate::printing::Where;
 use crate::quotes::{is_all_digits, is_space};
-use crate::words::{Piece, Words, listed, naming, plain};
-use scheduler::ChoiceFault;
+use crate::words::{Piece, Words, listed, naming, plain, six};
+use scheduler::{ChoiceFault, MAX_CHOICES};
 use std::alloc::{AllocError, Global};
 use tso_model::NoMemory;
 
@@ -23,13 +23,7 @@ pub fn choice_words<'a>(
             Where::Word(number),
             no_such_core(nth(&words, number), cores),
         )),
-        ChoiceFault::TooMany(number) => Ok((
-            Where::Word(number),
-            naming(
-                nth(&words, number),
-                " passes the 100000 choices that there may be",
-            ),
-        )),
+        ChoiceFault::TooMany(number) => Ok((Where::Word(number), too_many(nth(&words, number)))),
         ChoiceFault::NoMemory => Err(NoMemory),
     }
 }
@@ -46,6 +40,15 @@ fn nth<'a>(words: &[&'a [u8]], number: usize) -> &'a [u8] {
         Some(word) => *word,
         None => &[],
     }
+}
+
+fn too_many<'a>(word: &'a [u8]) -> Words<'a> {
+    listed(
+        Piece::Named(word),
+        Piece::Text(" passes the "),
+        Piece::Number(MAX_CHOICES),
+        Piece::Text(" choices that there may be"),
+    )
 }
 
 fn no_such_core<'a>(word: &'a [u8], cores: u8) -> Words<'a> {
@@ -94,9 +97,11 @@ fn bad_word<'a>(words: &[&'a [u8]], number: usize) -> Words<'a> {
             word,
             " is no seed: in seed N M the seed N is a number below 2^64",
         ),
-        Part::Count => naming(
-            word,
-            " is no number: in seed N M there are M choices, at most 100000",
+        Part::Count => listed(
+            Piece::Named(word),
+            Piece::Text(" is no number: in seed N M there are M choices, at most "),
+            Piece::Number(MAX_CHOICES),
+            Piece::Text(""),
         ),
     }
 }
@@ -169,6 +174,5 @@ fn no_letter<'a>(word: &'a [u8]) -> Words<'a> {
     };
     let steps = Piece::Text("s steps that core, ");
     let drains = Piece::Text("d drains it");
-    let pieces = [number, lacking, core, steps, core, drains];
-    Words { pieces }
+    six([number, lacking, core, steps, core, drains])
 }

@@ -9,7 +9,7 @@ use crate::orders::order_words;
 use crate::place::Place;
 use crate::printing::{Where, hint};
 use crate::unended::{choices_end, has_no_choices, no_choices, sweep_ends};
-use crate::words::plain;
+use crate::words::{Piece, around, plain};
 use litmus_reader::{Fault, fault_in, read_test};
 use order_builder::{OrderFault, read_order};
 use scheduler::{ChoiceFault, read_choices};
@@ -27,16 +27,16 @@ pub enum Asked {
     Order,
 }
 
-/// The hint of an input that has too many bytes.
+/// The hint of an input that has too many bytes: more than `most`.
 ///
 /// Errors: out of memory only.
-pub fn size_hint(alloc: Global) -> Result<String, NoMemory>
+pub fn size_hint(alloc: Global, most: usize) -> Result<String, NoMemory>
     ensures { IfOk result (λ text. IsHint (string_bytes text)) }
 {
     hint(
         alloc,
         Where::Input,
-        &plain("an input has at most 1048576 bytes"),
+        &around("an input has at most ", Piece::Number(most), " bytes"),
     )
 }
 

@@ -1,9 +1,12 @@
 //! What is said of a number that is too great.
 
-use crate::words::{Words, naming, plain};
+use crate::words::{Piece, Words, around, listed};
 use litmus_tokens::{Lexeme, Symbol, Token, is_symbol, tokens_of, word};
 use std::alloc::Global;
 use tso_model::NoMemory;
+
+/// The greatest value of a register or a location.
+pub const GREATEST: usize = u32::MAX as usize;
 
 /// Of an item with a value over the greatest.
 ///
@@ -11,8 +14,13 @@ use tso_model::NoMemory;
 pub fn bad_number<'a>(alloc: Global, rest: &'a [u8]) -> Result<Words<'a>, NoMemory> {
     let tokens = tokens_of(alloc, rest)?;
     Ok(match first_over(&tokens.items) {
-        Some(digits) => naming(digits, " is over 4294967295, the greatest value"),
-        None => plain("a value is at most 4294967295"),
+        Some(digits) => listed(
+            Piece::Named(digits),
+            Piece::Text(" is over "),
+            Piece::Number(GREATEST),
+            Piece::Text(", the greatest value"),
+        ),
+        None => around("a value is at most ", Piece::Number(GREATEST), ""),
     })
 }
 

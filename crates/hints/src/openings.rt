@@ -2,9 +2,10 @@
 
 use crate::divider::missing_divider;
 use crate::hinting::Asked;
+use crate::numbers::GREATEST;
 use crate::place::Place;
 use crate::quotes::{is_bare, word};
-use crate::words::{Piece, Words, around, listed, naming, plain};
+use crate::words::{Piece, Words, around, naming, plain, six};
 use tso_model::limits::MAX_NAME;
 use tso_model::names::is_location_name;
 
@@ -88,12 +89,7 @@ pub fn bad_token<'a>(place: Place<'a>) -> Words<'a> {
         return no_brackets(place);
     }
     if token.len() > MAX_NAME && !token.starts_with(b"0") && is_bare(token) {
-        return listed(
-            Piece::Named(token),
-            Piece::Text(" has "),
-            Piece::Number(token.len()),
-            Piece::Text(" bytes: a name has at most 32"),
-        );
+        return too_long_name(token);
     }
     match place.rest.first() {
         Some(byte) if !begins_token(place.rest) => bad_byte(place, *byte),
@@ -102,6 +98,17 @@ pub fn bad_token<'a>(place: Place<'a>) -> Words<'a> {
             " stands before the initial state { }, where only \"..\", KEY=.. and comments may",
         ),
     }
+}
+
+fn too_long_name<'a>(name: &'a [u8]) -> Words<'a> {
+    six([
+        Piece::Named(name),
+        Piece::Text(" has "),
+        Piece::Number(name.len()),
+        Piece::Text(" bytes: a name has at most "),
+        Piece::Number(MAX_NAME),
+        Piece::Text(""),
+    ])
 }
 
 fn no_brackets<'a>(place: Place<'a>) -> Words<'a> {
@@ -129,7 +136,11 @@ fn begins_token(text: &[u8]) -> bool {
 
 fn bad_byte<'a>(place: Place<'a>, byte: u8) -> Words<'a> {
     match byte {
-        b'-' => plain("a number has no sign: values are 0 to 4294967295"),
+        b'-' => around(
+            "a number has no sign: values are 0 to ",
+            Piece::Number(GREATEST),
+            "",
+        ),
         b'#' => plain("a comment is written (* .. *)"),
         b'/' if place.rest.starts_with(b"//") => plain("a comment is written (* .. *)"),
         b'%' => plain("a register is written without %: EAX"),

@@ -2,10 +2,12 @@
 
 use crate::place::Place;
 use crate::quotes::{up_to, without_end};
-use crate::words::{Piece, Words, around, listed, naming, plain};
+use crate::words::{Piece, Words, around, listed, naming, plain, six};
 use litmus_reader::MAX_TEXT;
 use litmus_tokens::after_gap;
-use tso_model::limits::MAX_CORES;
+use tso_model::limits::{
+    MAX_ATOMS, MAX_CORES, MAX_INSTRUCTIONS, MAX_LOCATIONS, MAX_OPEN, MAX_TEST_NAME,
+};
 
 /// Of the row of cores.
 pub fn bad_header_row<'a>(place: Place<'a>) -> Words<'a> {
@@ -40,26 +42,54 @@ pub fn wrong_cells<'a>(place: Place<'a>) -> Words<'a> {
 pub fn too_large<'a>(place: Place<'a>) -> Words<'a> {
     let token = place.token();
     if place.text.len() > MAX_TEXT {
-        around(
-            "the test has ",
-            Piece::Number(place.text.len()),
-            " bytes: at most 65536 may stand before the line ====",
-        )
+        too_long_text(place.text)
     } else if begins_text(place) {
-        plain("the test's name has more than 64 bytes")
+        around(
+            "the test's name has more than ",
+            Piece::Number(MAX_TEST_NAME),
+            " bytes",
+        )
     } else if place.last_word() == b"|".as_slice() && token.starts_with(b"P") {
         too_many_cores(token)
     } else if opens(token) {
-        naming(
-            token,
-            " is the 65th bracket or negation within one another: at most 64 may be open",
-        )
+        too_deep(token)
     } else {
-        naming(
-            item(place.rest),
-            " is one too many: a test has at most 16 locations, 32 instructions of a core, 256 atoms",
-        )
+        one_too_many(item(place.rest))
     }
+}
+
+fn too_long_text<'a>(text: &[u8]) -> Words<'a> {
+    six([
+        Piece::Text("the test has "),
+        Piece::Number(text.len()),
+        Piece::Text(" bytes: at most "),
+        Piece::Number(MAX_TEXT),
+        Piece::Text(" may stand before the line ===="),
+        Piece::Text(""),
+    ])
+}
+
+fn too_deep<'a>(token: &'a [u8]) -> Words<'a> {
+    listed(
+        Piece::Named(token),
+        Piece::Text(" is one too many: at most "),
+        Piece::Number(MAX_OPEN),
+        Piece::Text(" brackets and negations may be open within one another"),
+    )
+}
+
+fn one_too_many<'a>(item: &'a [u8]) -> Words<'a> {
+    let pieces = [
+        Piece::Named(item),
+        Piece::Text(" is one too many: a test has at most "),
+        Piece::Number(MAX_LOCATIONS),
+        Piece::Text(" locations, "),
+        Piece::Number(MAX_INSTRUCTIONS),
+        Piece::Text(" instructions of a core, "),
+        Piece::Number(MAX_ATOMS),
+        Piece::Text(" atoms"),
+    ];
+    Words { pieces }
 }
 
 /// Whether nothing stands before a place but white space and comments.

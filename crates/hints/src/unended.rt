@@ -1,7 +1,7 @@
 //! What is said of a run that didn't end.
 
 use crate::orders::first_word;
-use crate::words::{Piece, Words, around, plain};
+use crate::words::{Piece, Words, around, plain, six};
 use tso_model::{Core, Instr, Test};
 
 /// Of a sweep whose seeds make so many choices.
@@ -37,8 +37,7 @@ fn taking_at_least<'a>(steps: usize, drains: usize) -> Words<'a> {
     let joint = joint(drains);
     let second = number_of_drains(drains);
     let closing = closing(drains);
-    let pieces = [opening, number, unit, joint, second, closing];
-    Words { pieces }
+    six([opening, number, unit, joint, second, closing])
 }
 
 fn unit_of_steps<'a>(steps: usize) -> Piece<'a> {

@@ -13,10 +13,10 @@ pub enum Piece<'a> {
     Number(usize),
 }
 
-/// The words of a hint.
+/// The words of a hint, one piece after the other.
 #[derive(Clone, Copy)]
 pub struct Words<'a> {
-    pub pieces: [Piece<'a>; 6],
+    pub pieces: [Piece<'a>; 8],
 }
 
 const NOTHING: &str = "";
@@ -49,6 +49,14 @@ pub fn listed<'a>(
     fourth: Piece<'a>,
 ) -> Words<'a> {
     let nothing = Piece::Text(NOTHING);
-    let pieces = [first, second, third, fourth, nothing, nothing];
+    six([first, second, third, fourth, nothing, nothing])
+}
+
+/// Six pieces.
+pub fn six<'a>(pieces: [Piece<'a>; 6]) -> Words<'a> {
+    let nothing = Piece::Text(NOTHING);
+    let pieces = [
+        pieces[0], pieces[1], pieces[2], pieces[3], pieces[4], pieces[5], nothing, nothing,
+    ];
     Words { pieces }
 }

@@ -4,7 +4,7 @@ use Rattle.std.proofs.lemmas.List.Elements.{All-append}
 use Rattle.std.specs.Option.{option_map}
 use Rattle.std.specs.List.{last_or}
 use Rattle.tso_model.specs.ProgramOrder.{writes_to}
-use Rattle.tso_model.specs.Execution.{last_value}
+use Rattle.tso_model.specs.Axioms.{last_value}
 use Rattle.tso_model.specs.FlatMachine.{is_none_pending, CoreState, stalled, started, idle}
 use Rattle.tso_model.specs.Runs.{is_done, all_done}
 use Rattle.tso_model.specs.declared.register.Reg.{Reg}

@@ -19,3 +19,4 @@ pub mod Beginning
 pub mod Performing
 pub mod Paired
 pub mod RunningLemmas
+pub mod Alone

@@ -7,7 +7,7 @@ use Rattle.tso_model.specs.Litmus.{Litmus}
 use Rattle.tso_model.specs.Actions.{action_of}
 use Rattle.tso_model.specs.ProgramOrder.{writes_to}
 use Rattle.tso_model.specs.Thread.{entry, value_of}
-use Rattle.tso_model.specs.Execution.{last_value}
+use Rattle.tso_model.specs.Axioms.{last_value}
 use Rattle.tso_model.specs.FlatMachine.{stored, loaded, program_of}
 use Rattle.tso_model.specs.Access.{NoAccess, Reads, Writes, Locks, store_access, load_access, locked_access, access_by, access_of}
 use Rattle.tso_model.specs.SplitMachine.{Free, acts, completes, reads_first}

@@ -4,7 +4,7 @@ use Rattle.std.specs.Prelude.{ℕ, ◌+◌, ◌<◌, List, [], ◌∷◌, map, f
 use Rattle.tso_model.specs.Actions.{action_of}
 use Rattle.tso_model.specs.Access.{Access, access_by}
 use Rattle.tso_model.specs.ProgramOrder.{writes_to}
-use Rattle.tso_model.specs.Execution.{last_value}
+use Rattle.tso_model.specs.Axioms.{last_value}
 use Rattle.tso_model.specs.Thread.{entry}
 use Rattle.tso_model.specs.FlatMachine.{CoreState, State, Effect, stored, fenced, effect_by, drain_of}
 use Rattle.tso_model.specs.declared.instruction.Loc.{Loc}

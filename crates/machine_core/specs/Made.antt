@@ -4,7 +4,7 @@ use Rattle.std.specs.Prelude.{◌≡◌, ◌≢◌, ℕ, [], true, Some}
 use Rattle.tso_model.specs.Litmus.{Litmus}
 use Rattle.tso_model.specs.FlatMachine.{start}
 use Rattle.tso_model.specs.Access.{Access, Writes}
-use Rattle.tso_model.specs.SplitMachine.{BusEffect, acts}
+use Rattle.tso_model.specs.SplitMachine.{HeldBetween, BusEffect, acts}
 use Rattle.tso_model.specs.EitherBus.{unheld, HitFits}
 use Rattle.tso_model.specs.declared.bus.Bus as kind
 use Rattle.tso_model.specs.declared.instruction.Loc.{Loc}
@@ -15,7 +15,7 @@ use Rattle.snoop_bus.specs.Bus.{Bus, holder_of}
 use Rattle.snoop_bus.specs.Held.{holder}
 use Rattle.snoop_bus.specs.declared.holding.Stage.TheVariants.{Locked}
 use Rattle.machine_core.specs.declared.machine_parts.MachineParts.{MachineParts}
-use Rattle.machine_core.specs.Caches.{caches_of, hits_by}
+use Rattle.machine_core.specs.Caches.{HasLineAlone, caches_of, hits_by}
 use Rattle.machine_core.specs.Statistics.{Statistics, statistics_after}
 use Rattle.machine_core.specs.Kept.{PartsFitTest, IsHeldAs, IsTallied, state_in, statistics_in}
 use Rattle.machine_core.specs.Performed.{Answer, HasUsed, Performs, attempt_in, flat_effect_in}
@@ -43,6 +43,10 @@ pub record AreAtStart {P : Type 0} (t : Litmus) (m : MachineParts P) : Type 0 wh
 -- the caches' answer to a choice is one that caches may give
 abbrev pub AnswerFitsIn : {P : Type 0} → Litmus → MachineParts P → Choice → Type 0
 AnswerFitsIn t m choice = HitFits t m.config.depth (state_in m).flat (attempt_in t m choice) (state_in m).holder
+
+-- between the two parts of a locked instruction no other core has its line
+abbrev pub IsAloneIn : {P : Type 0} → MachineParts P → Type 0
+IsAloneIn m = (e : Entry) → (state_in m).holder ≡ HeldBetween e → HasLineAlone (caches_of m.bus) e
 
 -- between the two parts of a locked instruction this access of another core doesn't hit as a write to its location
 abbrev pub LeavesLocked : Bus → ℕ → Access → Type 0

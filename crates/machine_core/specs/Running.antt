@@ -4,7 +4,7 @@ use Rattle.std.specs.Prelude.{ℕ, ◌≡◌, ◌&&◌, Bool, true, false, not, 
 use Rattle.tso_model.specs.Litmus.{Litmus}
 use Rattle.tso_model.specs.FlatMachine.{start}
 use Rattle.tso_model.specs.Runs.{has_ended}
-use Rattle.tso_model.specs.SplitMachine.{Attempt, BusEffect}
+use Rattle.tso_model.specs.SplitMachine.{HeldBetween, Attempt, BusEffect}
 use Rattle.tso_model.specs.EitherBus.{BusState, unheld, effect_on, HitFits}
 use Rattle.tso_model.specs.declared.bus.Bus.{Bus}
 use Rattle.tso_model.specs.declared.execution.Entry.{Entry}
@@ -12,7 +12,7 @@ use Rattle.tso_model.specs.declared.choice.Choice.{Choice}
 use Rattle.protocol_tables.specs.Tables.{Table}
 use Rattle.snoop_bus.specs.Rows.{table_of}
 use Rattle.machine_core.specs.Configuration.{Configuration}
-use Rattle.machine_core.specs.Caches.{attempt_of, state_after_on}
+use Rattle.machine_core.specs.Caches.{HasLineAlone, attempt_of, state_after_on}
 use Rattle.machine_core.specs.Statistics.{Statistics, no_statistics, statistics_after}
 
 -- a machine: its test, the kind of its bus, the depth of its store buffers, the flat machine's state with who holds the bus,
@@ -56,6 +56,10 @@ attempt_on m choice = attempt_of m.test m.depth m.state.flat m.statistics.caches
 -- the answer is one that caches may give
 abbrev pub AnswerFits : Running → Choice → Type 0
 AnswerFits m choice = HitFits m.test m.depth m.state.flat (attempt_on m choice) m.state.holder
+
+-- between the two parts of a locked instruction no other core has its line
+abbrev pub IsAloneBetween : Running → Type 0
+IsAloneBetween m = (e : Entry) → m.state.holder ≡ HeldBetween e → HasLineAlone m.statistics.caches e
 
 -- what a choice does to a machine
 abbrev pub effect_by : Running → Choice → BusEffect

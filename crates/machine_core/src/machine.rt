@@ -3,12 +3,15 @@
 ghost use Rattle.std.specs.Prelude.{◌≡◌, ◌≢◌, ◌<◌, true, false, IsTrue, IsOk, IsErr, IfOk, OnOk, OnErr, length, map};
 ghost use Rattle.tso_model.specs.FlatMachine.{chosen};
 ghost use Rattle.tso_model.specs.Together.{put_together};
-ghost use Rattle.machine_core.specs.Running.{new_machine, effect_by, machine_after, AnswerFits, HasFailed, is_ended, restarted};
+ghost use Rattle.machine_core.specs.Running.{new_machine, effect_by, machine_after, is_ended, restarted};
+ghost use Rattle.machine_core.specs.Running.{AnswerFits, IsAloneBetween, HasFailed};
 
 use crate::config::Config;
 use crate::counts::Counts;
 use crate::ending::{FinalState, final_state};
-use crate::machine_parts::{MachineParts, are_done, begin, memory_of, perform, registers_of};
+use crate::machine_parts::{
+    MachineParts, are_done, begin, line_is_alone, memory_of, perform, registers_of,
+};
 use crate::restarting::restart;
 use order_builder::build;
 use protocol_tables::Protocol;
@@ -94,6 +97,9 @@ impl<'a, P: Protocol> Machine<'a, P> {
         // Between the two parts of a locked instruction no write of another core to its location hits.
         ensures answer { OnOk result (AnswerFits self.old choice) }
 
+        // And no other core has its line then.
+        ensures alone { OnOk result (IsAloneBetween self.new) }
+
         // Only a choice that commits takes memory, and a machine that was refused it stays so.
         ensures succeeds { self.old.failed ≡ false → (effect_by self.old choice).effect.outcome ≢ Outcome.Committed → IsOk result }
         ensures refused { OnErr result (HasFailed self.old self.new) }
@@ -107,6 +113,7 @@ impl<'a, P: Protocol> Machine<'a, P> {
         }
         let outcome = perform(&mut self.parts, self.test, choice);
         self.failed = outcome.is_err();
+        line_is_alone(&self.parts, self.test);
         outcome
     }
 

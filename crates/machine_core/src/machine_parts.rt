@@ -8,10 +8,10 @@ ghost use Rattle.snoop_bus.specs.Bus.{words_of, holder_of};
 ghost use Rattle.snoop_bus.specs.Accesses.{memory_words_of};
 ghost use Rattle.machine_core.specs.Cores.{core_states};
 ghost use Rattle.machine_core.specs.Statistics.{no_counts, no_statistics};
-ghost use Rattle.machine_core.specs.Kept.{IsCore, PartsFitTest, IsTallied, core_in, state_in, statistics_in};
+ghost use Rattle.machine_core.specs.Kept.{IsCore, PartsFitTest, IsHeldAs, IsTallied, core_in, state_in, statistics_in};
 ghost use Rattle.machine_core.specs.Performed.{Performs, MayActIn, effect_in, flat_effect_in};
 ghost use Rattle.machine_core.specs.Acted.{SucceedsUnlessCommitting};
-ghost use Rattle.machine_core.specs.Made.{AreAtStart, AreConsistent, AreOfTest, AnswerFitsIn};
+ghost use Rattle.machine_core.specs.Made.{AreAtStart, AreConsistent, AreOfTest, AnswerFitsIn, IsAloneIn};
 ghost use Rattle.machine_core.specs.Made.{whole_effect_in, Makes, IsUndone, KeepsParts, statistics_next};
 
 use crate::asking::act_on_split;
@@ -128,6 +128,15 @@ pub fn perform<P: Protocol>(
     let (outcome, cache_use) = act_on_bus(parts, test, choice)?;
     tally(&mut parts.counts, core_of(choice), cache_use);
     Ok(outcome)
+}
+
+/// Between the two parts of a locked instruction its core has the line in M, and no other core has it: so much is
+/// known of the parts from this call on, which has no effect.
+pub fn line_is_alone<P: Protocol>(parts: &MachineParts<P>, test: &Test)
+    requires { IsHeldAs test.now parts.now }
+    ensures { IsAloneIn parts.now }
+{
+    let _holder = parts.bus.who_holds();
 }
 
 /// The core that a choice names.

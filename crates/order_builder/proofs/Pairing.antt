@@ -1,7 +1,9 @@
 -- Where each load part is put directly before its store part, the pairs are kept.
 use Rattle.std.proofs.Common.{◌≡◌, ◌≢◌, zero, suc, ◌==◌, ◌&&◌, Bool, true, false, if◌then◌else◌, List, [], ◌∷◌, Some, slice_get, refl, sym, ap, ◌∙◌, subst}
 use Rattle.tso_model.specs.ProgramOrder.{same_kind}
-use Rattle.tso_model.specs.Execution.{is_at, KeepsPairs, IsStorePart}
+use Rattle.tso_model.specs.ProgramEntries.{is_at}
+use Rattle.tso_model.specs.Axioms.{IsAdjacent}
+use Rattle.tso_model.specs.ProgramOrder.{IsStorePart}
 use Rattle.tso_model.specs.Together.{put_before, put_together}
 use Rattle.tso_model.specs.declared.execution.Entry.{Entry}
 use Rattle.tso_model.specs.declared.execution.Kind.{Kind}
@@ -71,19 +73,19 @@ after x y (e ∷ es) c next =
     (next.0, (let z : slice_get (put_before x (e ∷ es)) 0 ≡ Some e = rw other refl in z ∙ ap Some same), next.2)
 
 -- a load part that is put directly before its store part
-KeepsPairs-put : (x : Entry) (es : List Entry) → x.kind ≡ LR → is_answered x es ≡ true → KeepsPairs es → KeepsPairs (put_before x es)
-KeepsPairs-put x [] k a keeps = absurd (let z : ⊥ = cc in z)
-KeepsPairs-put x (y ∷ ys) k a keeps = by_part (is_at x.core.0 x.place LW y) refl (KeepsPairs-put x ys k)
+IsAdjacent-put : (x : Entry) (es : List Entry) → x.kind ≡ LR → is_answered x es ≡ true → IsAdjacent es → IsAdjacent (put_before x es)
+IsAdjacent-put x [] k a keeps = absurd (let z : ⊥ = cc in z)
+IsAdjacent-put x (y ∷ ys) k a keeps = by_part (is_at x.core.0 x.place LW y) refl (IsAdjacent-put x ys k)
   where
-    rest : KeepsPairs ys
+    rest : IsAdjacent ys
     rest i z g l = keeps (suc i) z g l
 
     later : (b : Bool) → (y.core.0 == x.core.0) ≡ b → is_at x.core.0 x.place LW y ≡ false → (y.core.0 ≢ x.core.0) × (is_answered x ys ≡ true)
     later true q o = absurd (let part = answers x y ys (is_core y.core.0 x.core.0 q) a in let z : true ≡ false = sym part ∙ o in let w : ⊥ = cc in w)
     later false q o = let c = isn't_core y.core.0 x.core.0 q in (c, sym (skipped x y ys c) ∙ a)
 
-    by_part : (b : Bool) → is_at x.core.0 x.place LW y ≡ b → (is_answered x ys ≡ true → KeepsPairs ys → KeepsPairs (put_before x ys))
-        → KeepsPairs (if b then x ∷ (y ∷ ys) else y ∷ put_before x ys)
+    by_part : (b : Bool) → is_at x.core.0 x.place LW y ≡ b → (is_answered x ys ≡ true → IsAdjacent ys → IsAdjacent (put_before x ys))
+        → IsAdjacent (if b then x ∷ (y ∷ ys) else y ∷ put_before x ys)
     by_part true q go zero z g l = let s : x ≡ z = cc in (y, refl, subst (λ u. IsStorePart u y) s (IsStorePart-from_test x y q))
     by_part true q go (suc i) z g l = keeps i z g l
     by_part false q go zero z g l =
@@ -93,21 +95,21 @@ KeepsPairs-put x (y ∷ ys) k a keeps = by_part (is_at x.core.0 x.place LW y) re
         after x z ys (λ e. c (ap (λ (u : Entry). u.core.0) s ∙ e)) next
     by_part false q go (suc i) z g l = go (later (y.core.0 == x.core.0) refl q).1 rest i z g l
 
-KeepsPairs-after : (e : Entry) (es : List Entry) → same_kind e.kind LR ≡ false → KeepsPairs es → KeepsPairs (e ∷ es)
-KeepsPairs-after e es q keeps zero x g k =
+IsAdjacent-after : (e : Entry) (es : List Entry) → same_kind e.kind LR ≡ false → IsAdjacent es → IsAdjacent (e ∷ es)
+IsAdjacent-after e es q keeps zero x g k =
     absurd (let s : e ≡ x = cc in let z : false ≡ true = sym q ∙ (ap (λ (u : Entry). same_kind u.kind LR) s ∙ ap (λ u. same_kind u LR) k) in let w : ⊥ = cc in w)
-KeepsPairs-after e es q keeps (suc i) x g k = keeps i x g k
+IsAdjacent-after e es q keeps (suc i) x g k = keeps i x g k
 
-KeepsPairs-together : (es : List Entry) → are_answered es ≡ true → KeepsPairs (put_together es)
-KeepsPairs-together [] h = λ i x g k. absurd (let z : ⊥ = cc in z)
-KeepsPairs-together (e ∷ es) h = by_kind (same_kind e.kind LR) refl h (KeepsPairs-together es)
+IsAdjacent-together : (es : List Entry) → are_answered es ≡ true → IsAdjacent (put_together es)
+IsAdjacent-together [] h = λ i x g k. absurd (let z : ⊥ = cc in z)
+IsAdjacent-together (e ∷ es) h = by_kind (same_kind e.kind LR) refl h (IsAdjacent-together es)
   where
-    by_kind : (b : Bool) → same_kind e.kind LR ≡ b → ((if b then is_answered e es else true) && are_answered es) ≡ true → (are_answered es ≡ true → KeepsPairs (put_together es))
-        → KeepsPairs (if b then put_before e (put_together es) else e ∷ put_together es)
+    by_kind : (b : Bool) → same_kind e.kind LR ≡ b → ((if b then is_answered e es else true) && are_answered es) ≡ true → (are_answered es ≡ true → IsAdjacent (put_together es))
+        → IsAdjacent (if b then put_before e (put_together es) else e ∷ put_together es)
     by_kind true q a rest =
-        KeepsPairs-put e (put_together es) (load_kind e.kind q) (answered-together e es (and_first (is_answered e es) (are_answered es) a))
+        IsAdjacent-put e (put_together es) (load_kind e.kind q) (answered-together e es (and_first (is_answered e es) (are_answered es) a))
         (rest (and_second (is_answered e es) (are_answered es) a))
-    by_kind false q a rest = KeepsPairs-after e (put_together es) q (rest a)
+    by_kind false q a rest = IsAdjacent-after e (put_together es) q (rest a)
 
-pub KeepsPairs-paired : (es : List Entry) → IsPaired es → KeepsPairs (put_together es)
-KeepsPairs-paired es h = KeepsPairs-together es h
+pub IsAdjacent-paired : (es : List Entry) → IsPaired es → IsAdjacent (put_together es)
+IsAdjacent-paired es h = IsAdjacent-together es h

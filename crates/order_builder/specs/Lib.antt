@@ -7,5 +7,8 @@ pub mod Numbers
 pub mod Spelling
 pub mod Reading
 pub use Rattle.tso_model.specs.Litmus
-pub use Rattle.tso_model.specs.Execution
+pub use Rattle.tso_model.specs.ProgramEntries
+pub use Rattle.tso_model.specs.Axioms
+pub use Rattle.tso_model.specs.ProgramOrder
+pub use Rattle.tso_model.specs.SequentialConsistency
 pub use Rattle.tso_model.specs.Together

@@ -2,7 +2,7 @@
 -- (Primer, chapter 4: the load part and the store part of a read-modify-write stand together in the order.)
 use Rattle.std.specs.Prelude.{◌==◌, ◌&&◌, Bool, true, false, IsTrue, if◌then◌else◌, List, [], ◌∷◌}
 use Rattle.tso_model.specs.ProgramOrder.{same_kind}
-use Rattle.tso_model.specs.Execution.{is_at}
+use Rattle.tso_model.specs.ProgramEntries.{is_at}
 use Rattle.tso_model.specs.declared.execution.Entry.{Entry}
 use Rattle.tso_model.specs.declared.execution.Kind.TheVariants.{LR, LW}
 

@@ -1,6 +1,6 @@
 //! How commits become an order.
 ghost use Rattle.std.specs.Prelude.{◌≡◌, IfOk};
-ghost use Rattle.tso_model.specs.Execution.{KeepsPairs};
+ghost use Rattle.tso_model.specs.Axioms.{IsAdjacent};
 ghost use Rattle.tso_model.specs.ProgramOrder.{same_kind};
 ghost use Rattle.tso_model.specs.Together.{put_together};
 ghost use Rattle.tso_model.specs.declared.execution.Kind.TheVariants.{LR};
@@ -18,7 +18,7 @@ use tso_model::{Core, Entry, Execution, Kind, NoMemory};
 pub fn build(alloc: Global, commits: &Commits) -> Result<Execution, NoMemory>
     requires { IsPaired commits.now.entries }
     ensures order { IfOk result (λ e. e.order.items ≡ put_together commits.now.entries) }
-    ensures pairs { IfOk result (λ e. KeepsPairs e.order.items) }
+    ensures pairs { IfOk result (λ e. IsAdjacent e.order.items) }
 {
     let mut order = Vec::new(alloc);
     // At most one load part for each core: after it nothing of its core comes but its store part.

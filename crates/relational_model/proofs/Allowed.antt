@@ -3,7 +3,8 @@ use Rattle.std.proofs.Common.{◌≡◌, ◌<◌, ℕ, suc, true, List, [], ◌�
 use Rattle.std.specs.Prelude.{filter}
 use Rattle.tso_model.specs.Litmus.{Litmus}
 use Rattle.tso_model.specs.ProgramOrder.{is_read, writes_to}
-use Rattle.tso_model.specs.Execution.{made, counting, last_value, IsTsoExecution}
+use Rattle.tso_model.specs.ProgramEntries.{made}
+use Rattle.tso_model.specs.Axioms.{counting, last_value, IsTsoExecution}
 use Rattle.tso_model.specs.declared.execution.Entry.{Entry}
 use Rattle.relational_model.specs.Events.{IsIn, IsEarlier}
 use Rattle.relational_model.specs.Candidates.{Candidate, Returns, IsCandidate, events}
@@ -97,7 +98,7 @@ between-none order r v w i once p q a b =
 atomic : (t : Litmus) (order : List Entry) (c : Candidate) → Whole t order → Known t order c → IsAtomic (events t c) c
 atomic t order c whole known r v w i j k pair f apart before others =
     let (a, p) = event-in t order c known r i in
-    let next = known.tso.pairs a r p pair.read in
+    let next = known.tso.adjacent a r p pair.read in
     let same : next.0 ≡ w = same-made t order next.0 w (whole.made next.0 (suc a, next.1)) (whole.made w (event-in t order c known w k))
     (next.2.core ∙ pair.core) (next.2.place ∙ pair.place) (next.2.kind ∙ sym pair.write) in
     between-none order r v w a known.once p (subst (λ y. slice_get order (suc a) ≡ Some y) same next.1)

@@ -2,7 +2,7 @@
 -- go into a row, and each load part directly before its store part.
 use Rattle.std.proofs.Common.{◌≡◌, ◌≤◌, zero, suc, List, [], ◌∷◌, ◌++◌, arith, refl, sym, ap, ◌∙◌, ◌⊎◌, inl, inr, subst, length}
 use Rattle.tso_model.specs.Litmus.{Litmus}
-use Rattle.tso_model.specs.Execution.{KeepsPairs}
+use Rattle.tso_model.specs.Axioms.{IsAdjacent}
 use Rattle.tso_model.specs.declared.execution.Entry.{Entry}
 use Rattle.tso_model.specs.declared.execution.Kind.TheVariants.{LR, LW}
 use Rattle.relational_model.specs.Events.{IsIn, at_once, onward}
@@ -163,7 +163,7 @@ single (r ∷ (q ∷ xs)) o h =
     absurd (o.0 (in-first q xs r (h r q (in-first r (q ∷ xs) r refl) (in-later r (q ∷ xs) q (in-first q xs q refl)))))
 
 keeps-single : (zs : List Entry) (x : Entry) (ys : List Entry) → Single zs → ((r : Entry) → IsIn zs r → ArePair r x) → (x.kind ≡ LR → ⊥)
-    → KeepsPairs ys → KeepsPairs (zs ++ (x ∷ ys))
+    → IsAdjacent ys → IsAdjacent (zs ++ (x ∷ ys))
 keeps-single _ x ys none p n k zero e q l = absurd (n (let same : x ≡ e = cc in ap (λ (z : Entry). z.kind) same ∙ l))
 keeps-single _ x ys none p n k (suc i) e q l = k i e q l
 keeps-single _ x ys (one r) p n k zero e q l =
@@ -173,7 +173,7 @@ keeps-single _ x ys (one r) p n k zero e q l =
 keeps-single _ x ys (one r) p n k (suc zero) e q l = absurd (n (let same : x ≡ e = cc in ap (λ (z : Entry). z.kind) same ∙ l))
 keeps-single _ x ys (one r) p n k (suc (suc i)) e q l = k i e q l
 
-put-pairs : (t : Litmus) (c : Candidate) → Sound t c → (xs : List Entry) → Others t c xs → KeepsPairs (put (events t c) xs)
+put-pairs : (t : Litmus) (c : Candidate) → Sound t c → (xs : List Entry) → Others t c xs → IsAdjacent (put (events t c) xs)
 put-pairs t c s [] o = λ i e q l. let z : ⊥ = cc in absurd z
 put-pairs t c s (x ∷ xs) o =
     keeps-single (load-of (events t c) x) x (put (events t c) xs)

@@ -26,7 +26,7 @@ pub data Fits (t : Litmus) (c : Candidate) : List Entry → Type 0 where
       → Fits t c xs → Fits t c (x ∷ xs)
   fit-fence : (x : Entry) (xs : List Entry) → is_read x ≡ false → is_write x ≡ false → Fits t c xs → Fits t c (x ∷ xs)
 
-no-read : {A : Type 0} → false ≡ true → A
+pub no-read : {A : Type 0} → false ≡ true → A
 no-read h = let z : ⊥ = cc in absurd z
 
 -- an event that is none of these
@@ -72,7 +72,7 @@ fitting-writes t c _ (fit-fence x xs f g rest) loc w i h = go (in-case x xs w i)
     go (inr j) later = later j
 
 -- a write to x is none to y or to a third location, and a write to y none to x or to a third one
-to-x : (xs ys : List Entry) (w : Entry) → IsIn xs w → (loc : ℕ) → (0 == loc) ≡ true → IsIn (of_x_and_y xs ys loc) w
+pub to-x : (xs ys : List Entry) (w : Entry) → IsIn xs w → (loc : ℕ) → (0 == loc) ≡ true → IsIn (of_x_and_y xs ys loc) w
 to-x xs ys w i zero h = i
 to-x xs ys w i (suc zero) h = no-read h
 to-x xs ys w i (suc (suc n)) h = no-read (sym (not-first n) ∙ h)
@@ -82,7 +82,7 @@ to-y xs ys w i zero h = no-read h
 to-y xs ys w i (suc zero) h = i
 to-y xs ys w i (suc (suc n)) h = no-read (sym (not-second n) ∙ h)
 
-told : (t : Litmus) (c : Candidate) (xs ys : List Entry) → c.coherence ≡ of_x_and_y xs ys → Fits t c (events t c)
+pub told : (t : Litmus) (c : Candidate) (xs ys : List Entry) → c.coherence ≡ of_x_and_y xs ys → Fits t c (events t c)
     → length xs ≡ length (filter (writes_to 0) (events t c)) → length ys ≡ length (filter (writes_to 1) (events t c))
     → ((n : ℕ) → Without (writes_to (suc (suc n))) (events t c)) → IsCandidate t c
 told t c xs ys is fits at-x at-y none = record {

@@ -4,7 +4,9 @@ use Rattle.std.specs.Prelude.{filter}
 use Rattle.tso_model.specs.Litmus.{Litmus}
 use Rattle.tso_model.specs.Thread.{entries_of}
 use Rattle.tso_model.specs.ProgramOrder.{same_kind, writes_to}
-use Rattle.tso_model.specs.Execution.{is_at, read_values, made_by, made_from, counting}
+use Rattle.tso_model.specs.ProgramEntries.{is_at, made_by, made_from}
+use Rattle.tso_model.specs.Axioms.{counting}
+use Rattle.tso_model.specs.ProgramEntries.{read_values}
 use Rattle.tso_model.specs.declared.instruction.Instr.{Instr}
 use Rattle.tso_model.specs.declared.execution.Entry.{Entry}
 use Rattle.tso_model.specs.declared.execution.Kind.{Kind}

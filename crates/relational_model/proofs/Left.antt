@@ -4,7 +4,9 @@ use Rattle.std.specs.Prelude.{filter}
 use Rattle.tso_model.specs.Actions.{action_of}
 use Rattle.tso_model.specs.Thread.{entry, entries_by, registers_by, values_after, entries_of, registers_after, with_value}
 use Rattle.tso_model.specs.ProgramOrder.{writes_to}
-use Rattle.tso_model.specs.Execution.{read_values, made_by, made_from, last_value}
+use Rattle.tso_model.specs.Axioms.{last_value}
+use Rattle.tso_model.specs.ProgramEntries.{read_values}
+use Rattle.tso_model.specs.ProgramEntries.{made_by, made_from}
 use Rattle.tso_model.specs.FinalState.{word_after, words_from, registers_of, registers_from}
 use Rattle.tso_model.specs.Litmus.{Litmus}
 use Rattle.tso_model.specs.declared.instruction.Instr.{Instr}

@@ -22,3 +22,4 @@ pub mod Together
 pub mod Converse
 pub mod Independent
 pub mod Forbidden
+pub mod Unseen

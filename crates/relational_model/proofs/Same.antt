@@ -2,7 +2,8 @@
 use Rattle.std.proofs.Common.{◌≡◌, ◌≤◌, ℕ, ◌+◌, List, [], ◌∷◌, slice_index, slice_index_or, arith, refl, sym, ap, ◌∙◌, ◌⊎◌, inl, inr, subst}
 use Rattle.tso_model.specs.Actions.{action_of}
 use Rattle.tso_model.specs.Thread.{entry, fence, value_in, value_of, updated, entries_by, registers_by, values_after, entries_of}
-use Rattle.tso_model.specs.Execution.{read_values, made_by, made_from, made}
+use Rattle.tso_model.specs.ProgramEntries.{read_values}
+use Rattle.tso_model.specs.ProgramEntries.{made_by, made_from, made}
 use Rattle.tso_model.specs.Litmus.{Litmus}
 use Rattle.tso_model.specs.declared.instruction.Instr.{Instr}
 use Rattle.tso_model.specs.declared.action.Action.{Action}

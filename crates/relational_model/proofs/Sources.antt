@@ -3,7 +3,8 @@ use Rattle.std.proofs.Common.{◌≡◌, ◌≢◌, ◌<◌, ℕ, Bool, true, fa
 use Rattle.std.specs.Prelude.{filter}
 use Rattle.tso_model.specs.Litmus.{Litmus}
 use Rattle.tso_model.specs.ProgramOrder.{is_before, is_read, writes_to}
-use Rattle.tso_model.specs.Execution.{made, counting, IsTsoExecution}
+use Rattle.tso_model.specs.ProgramEntries.{made}
+use Rattle.tso_model.specs.Axioms.{counting, IsTsoExecution}
 use Rattle.tso_model.specs.declared.execution.Entry.{Entry}
 use Rattle.relational_model.specs.Events.{IsIn, IsEarlier}
 use Rattle.relational_model.specs.Candidates.{Candidate, events}

@@ -3,7 +3,9 @@ use Rattle.std.proofs.Common.{◌≡◌, ℕ, ◌+◌, ◌==◌, suc, Bool, true
 use Rattle.tso_model.specs.Actions.{action_of}
 use Rattle.tso_model.specs.Thread.{entry, entries_by, registers_by, values_after, entries_of}
 use Rattle.tso_model.specs.ProgramOrder.{same_kind}
-use Rattle.tso_model.specs.Execution.{is_at, read_value, values_by, read_values, made_by, made_from, made, counting, due_value, HasReadValues, KeepsPairs, IsTsoExecution}
+use Rattle.tso_model.specs.ProgramEntries.{is_at, read_value, values_by, made_by, made_from, made}
+use Rattle.tso_model.specs.Axioms.{counting, due_value, HasReadValues, IsAdjacent, IsTsoExecution}
+use Rattle.tso_model.specs.ProgramEntries.{read_values}
 use Rattle.tso_model.specs.Litmus.{Litmus}
 use Rattle.tso_model.specs.declared.instruction.Instr.{Instr}
 use Rattle.tso_model.specs.declared.action.Action.{Action}
@@ -117,14 +119,14 @@ read-values t c order k front r back is read = go (c.source r) refl
         let h : Returns t c r (Some w) = subst (Returns t c r) e returns in
         h.2 ∙ sym (value-some (counting r front back) w (slice_index t.words r.loc.0) (sym last ∙ e))
 
-pub is-execution : (t : Litmus) (c : Candidate) (order : List Entry) → Placed t c order → KeepsPairs order → IsTsoExecution t order
+pub is-execution : (t : Litmus) (c : Candidate) (order : List Entry) → Placed t c order → IsAdjacent order → IsTsoExecution t order
 is-execution t c order k pairs = record {
   whole = record {
     count = k.count ∙ ap length (all-made t c order k);
     each = λ i e p. k.inside e (subst (λ xs. IsIn xs e) (sym (all-made t c order k)) (i, p));
   };
   program_order = keeps-order t c order k;
-  pairs = pairs;
+  adjacent = pairs;
   read_values = read-values t c order k;
 }
 

@@ -3,7 +3,8 @@
 use Rattle.std.specs.Prelude.{ℕ, ◌≡◌, true, List, [], ◌∷◌, ◌++◌, filter, Option, Some, None}
 use Rattle.tso_model.specs.Litmus.{Litmus}
 use Rattle.tso_model.specs.ProgramOrder.{is_read, writes_to}
-use Rattle.tso_model.specs.Execution.{made, counting, IsTsoExecution}
+use Rattle.tso_model.specs.ProgramEntries.{made}
+use Rattle.tso_model.specs.Axioms.{counting, IsTsoExecution}
 use Rattle.tso_model.specs.FinalState.{final_words, final_registers}
 use Rattle.tso_model.specs.declared.execution.Entry.{Entry}
 use Rattle.relational_model.specs.Candidates.{Candidate, events, words_left, registers_left}

@@ -6,7 +6,10 @@ pub mod CandidatesOfOrders
 pub mod CandidatesOfRuns
 pub mod WorkedCandidates
 pub use Rattle.tso_model.specs.Litmus
-pub use Rattle.tso_model.specs.Execution
+pub use Rattle.tso_model.specs.ProgramEntries
+pub use Rattle.tso_model.specs.Axioms
+pub use Rattle.tso_model.specs.ProgramOrder
+pub use Rattle.tso_model.specs.SequentialConsistency
 pub use Rattle.tso_model.specs.FinalState
 pub use Rattle.tso_model.specs.Examples
 pub use Rattle.tso_model.specs.FlatMachine

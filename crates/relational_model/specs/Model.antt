@@ -72,3 +72,10 @@ pub record IsAllowed (t : Litmus) (c : Candidate) : Type 0 where
 pub record IsForbidden (t : Litmus) (c : Candidate) : Type 0 where
   pub candidate : IsCandidate t c
   pub never : IsAllowed t c → ⊥
+
+-- a candidate of the test that uniproc alone forbids: it meets the two other conditions
+pub record IsForbiddenByUniproc (t : Litmus) (c : Candidate) : Type 0 where
+  pub candidate : IsCandidate t c
+  pub atomic : IsAtomic (events t c) c
+  pub global : IsAcyclic (events t c) (HappensBefore (events t c) c)
+  pub never : IsAcyclic (events t c) (IsBeforeOnLocation c) → ⊥

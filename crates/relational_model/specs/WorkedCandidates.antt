@@ -134,3 +134,14 @@ between_candidate = record {
   source = initial;
   coherence = of_x_and_y (entry 1 0 W loc_x 1 ∷ (entry 0 0 LW loc_x 0 ∷ [])) [];
 }
+
+-- a core's load of the location that it has just stored to (iwp2.3.b): the load reads the initial word
+abbrev pub unseen : Litmus
+unseen = on_x_and_y (codes "iwp2.3.b") ((StoreImm loc_x 1 ∷ (Load Eax loc_x ∷ [])) ∷ []) (zeros ∷ [])
+
+abbrev pub unseen_candidate : Candidate
+unseen_candidate = record {
+  reads = (0 ∷ []) ∷ [];
+  source = initial;
+  coherence = of_x_and_y (entry 0 0 W loc_x 1 ∷ []) [];
+}

@@ -2,7 +2,7 @@
 
 ghost use Rattle.std.specs.Prelude.{◌≡◌, ◌≢◌, ◌≤◌, IfOk, IfErr, MatchResult};
 ghost use Rattle.tso_model.specs.Limits.{least_depth, most_depth};
-ghost use Rattle.tso_model.specs.Execution.{IsTsoExecution};
+ghost use Rattle.tso_model.specs.Axioms.{IsTsoExecution};
 ghost use Rattle.tso_laws.specs.Along.{choices_along, LeadTo};
 ghost use Rattle.tso_laws.specs.Depth.{needed};
 ghost use Rattle.tso_laws.specs.Counting.{most_stores};

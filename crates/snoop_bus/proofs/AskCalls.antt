@@ -10,7 +10,7 @@ use Rattle.snoop_bus.specs.Geometry.{Geometry}
 use Rattle.snoop_bus.specs.Lines.{Words}
 use Rattle.snoop_bus.specs.Rows.{rows_of, table_of}
 use Rattle.snoop_bus.specs.CacheContents.{TagSets}
-use Rattle.snoop_bus.specs.Copies.{Sets, tags_of}
+use Rattle.snoop_bus.specs.Copies.{Sets, cache_of, tags_of}
 use Rattle.snoop_bus.specs.Held.{counted, held_by, stage_for}
 use Rattle.snoop_bus.specs.Bus.{current_words, bus_with}
 use Rattle.snoop_bus.specs.Accessing.{KeepsWords}
@@ -43,10 +43,12 @@ module _ (t : Table) (shape : Geometry) (locations : ℕ) (c0 c2 : List Sets) (m
     pub exact : h ≡ held_by core loc (stage_for write) line (transaction_of t (request_for write) core.0 line (current_words c0 m0 line) (tags_of c0))
     pub tags : tags_of c2 ≡ asked_caches t (request_for write) core.0 line (tags_of c0)
     pub memory : m2 ≡ asked_memory t (request_for write) line c0 m0
+    pub own : cache_of c2 core.0 ≡ cache_of c0 core.0
     pub words : KeepsWords c0 (counted (Some h) c2) m0 m2
 
   pub ask_done : (write : Bool) (h : Held) → AskSteps write h → AsksFor (bus_with t shape locations c0 m0 None) (bus_with t shape locations c2 m2 (Some h)) core loc write
   ask_done write h s = record {
+    own = s.own;
     words = words-same shape.words locations (length m0) (current_words c0 m0) (current_words (counted (Some h) c2) m2) s.some_word s.enough s.words.words;
     holder_is = rw s.exact refl;
     awaited_is = ap (λ (x : Held). awaited_in x.transaction) s.exact ∙ awaited-for t (request_for write) core.0 line (current_words c0 m0 line) (tags_of c0)

@@ -10,7 +10,8 @@ use Rattle.snoop_bus.specs.Geometry.{Geometry}
 use Rattle.snoop_bus.specs.Lines.{Words}
 use Rattle.snoop_bus.specs.Coherent.{Coherent, state_of}
 use Rattle.snoop_bus.specs.Copies.{Sets, copy_at, cache_of, tags_of}
-use Rattle.snoop_bus.specs.Bus.{AllCoherent}
+use Rattle.snoop_bus.specs.Bus.{AllCoherent, bus_with}
+use Rattle.snoop_bus.specs.Accesses.{StandsAlone}
 use Rattle.snoop_bus.specs.declared.holding.Held.{Held}
 use Rattle.snoop_bus.specs.declared.holding.Holder.{Holder}
 use Rattle.snoop_bus.specs.declared.holding.Stage.{Stage}
@@ -119,3 +120,21 @@ holds caches memory shape locations core loc stage (Some h) e held placed =
 pub locked_real : (x : Option Transaction) (own : Option Line) → Awaits Locked x own → (x ≡ None) × (state_of own ≡ M)
 locked_real None own a = (refl, a)
 locked_real (Some x) own a = absurd a
+
+-- the lines and states say so too
+pub stands_alone : (t : Table) (shape : Geometry) (locations : ℕ) (caches : List Sets) (memory : List Words) (held : Option Held) → AllCoherent (counted held caches) memory →
+    IfSome held (IsHeld caches memory) → IfSome held (IsPlaced shape locations) → IfSome (holder_in held) (StandsAlone (bus_with t shape locations caches memory held))
+stands_alone t shape locations caches memory None coherent held placed = tt
+stands_alone t shape locations caches memory (Some h) coherent held placed = record {
+  others = λ writes core d.
+      tag_here caches core (h.holder.loc.0 / shape.words)
+      ∙ ap (option_map (λ (copy : Line). copy.state)) (rw placed.line_is at (held_alone caches memory h core coherent held writes d));
+  own = λ locked.
+      tag_here caches h.holder.core.0 (h.holder.loc.0 / shape.words)
+      ∙ modified (copy_at caches h.holder.core.0 (h.holder.loc.0 / shape.words))
+      (locked_real h.transaction (copy_at caches h.holder.core.0 (h.holder.loc.0 / shape.words)) (rw (locked, placed.line_is) at held.awaits)).1;
+}
+  where
+    modified : (own : Option Line) → state_of own ≡ M → option_map (λ (copy : Line). copy.state) own ≡ Some M
+    modified None m = absurd (let z : ⊥ = cc in z)
+    modified (Some copy) m = ap Some m

@@ -34,3 +34,4 @@ pub mod WholeAccess
 pub mod Emptied
 pub mod CallLemmas
 pub mod AskCalls
+pub mod BothWays

@@ -5,12 +5,13 @@ use Rattle.std.specs.Prelude.{List, [], length, slice_get, slice_set, slice_inde
 use Rattle.std.specs.Int.{div_ceil}
 use Rattle.tso_model.specs.declared.instruction.Core.{Core}
 use Rattle.tso_model.specs.declared.instruction.Loc.{Loc}
+use Rattle.protocol_tables.specs.declared.state.State.TheVariants.{M}
 use Rattle.protocol_tables.specs.Tables.{Table}
 use Rattle.cache_set.specs.Contents.{Contents, contents}
 use Rattle.snoop_bus.specs.declared.access.Access.{Access}
 use Rattle.snoop_bus.specs.declared.access.AccessKind.TheVariants.{Miss}
 use Rattle.snoop_bus.specs.declared.holding.Holder.{Holder}
-use Rattle.snoop_bus.specs.declared.holding.Stage.TheVariants.{Load}
+use Rattle.snoop_bus.specs.declared.holding.Stage.TheVariants.{Load, Locked}
 use Rattle.snoop_bus.specs.Geometry.{Geometry}
 use Rattle.snoop_bus.specs.Rows.{table_of}
 use Rattle.snoop_bus.specs.Lines.{Words, line_in, words_in, lines_of_words}
@@ -19,7 +20,7 @@ use Rattle.snoop_bus.specs.Copies.{cache_of, tags_of}
 use Rattle.snoop_bus.specs.Bus.{Bus, bus_with, words_of, holder_of, IsFree, empty_caches}
 use Rattle.snoop_bus.specs.MemoryAfter.{loaded_memory, written_memory}
 use Rattle.snoop_bus.specs.Held.{transaction_in, holder, stage_for}
-use Rattle.snoop_bus.specs.Asks.{Awaited, Asked, hits, request_for, asking, asked_memory, awaited_in, completed, completed_memory}
+use Rattle.snoop_bus.specs.Asks.{Awaited, Asked, tag_at, hits, request_for, asking, asked_memory, awaited_in, completed, completed_memory}
 
 -- memory with these words: as many lines as they need
 abbrev pub lines_with : Geometry → List ℕ → List Words
@@ -127,13 +128,20 @@ pub record WritesAt (old new : Bus) (core loc word : ℕ) (access : Access) : Ty
   pub held : KeepsHolder old new
 
 -- a core asked for an access at a location: its action holds the bus and awaits what it asked for, no word that is seen
--- changes, and contents and memory are those after the ask
+-- changes, contents and memory are those after the ask, and the core's own copies are as they were
 pub record AsksFor (old new : Bus) (core : Core) (loc : Loc) (write : Bool) : Type 0 where
+  pub own : cache_of new.caches core.0 ≡ cache_of old.caches core.0
   pub words : words_of new ≡ words_of old
   pub holder_is : holder_of new ≡ Some (holder core loc (stage_for write))
   pub awaited_is : awaited_of new ≡ (ask_of old core.0 loc.0 write).awaited
   pub contents : contents_of new ≡ (ask_of old core.0 loc.0 write).caches
   pub memory : memory_of new ≡ memory_after_ask old loc.0 write
+
+-- while a core's write access holds the bus, or its locked instruction, no other core has its line; and where a locked
+-- instruction has read, its core has the line in M
+pub record StandsAlone (b : Bus) (h : Holder) : Type 0 where
+  pub others : h.stage ≢ Load → (core : ℕ) → core ≢ h.core.0 → tag_at core (line_of b h.loc.0) (contents_of b) ≡ None
+  pub own : h.stage ≡ Locked → tag_at h.core.0 (line_of b h.loc.0) (contents_of b) ≡ Some M
 
 -- a core's action at a location was completed and was this access: contents and memory are those after the completion
 pub record CompletesAt (old new : Bus) (core loc : ℕ) (access : Access) : Type 0 where

@@ -14,4 +14,5 @@ pub mod Asks
 pub mod Accessing
 pub mod Completing
 pub mod Accesses
+pub mod Halves
 pub mod Finding

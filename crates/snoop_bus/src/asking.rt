@@ -47,6 +47,7 @@ pub fn ask<P: Protocol>(
     ensures tags { tags_of caches.new ≡ asked_caches (P.table protocol.now) (request_for write) core.0 line (tags_of caches.old) }
     ensures memory { memory.new ≡ asked_memory (P.table protocol.now) (request_for write) line caches.old memory.old }
     ensures words { KeepsWords caches.old (counted (Some result) caches.new) memory.old memory.new }
+    ensures cache { cache_of caches.new core.0 ≡ cache_of caches.old core.0 }
     ensures ways { ways_of caches.new ≡ ways_of caches.old }
 {
     let at = usize::from(core.0);
@@ -96,6 +97,7 @@ pub fn ask_load<P: Protocol>(
     ensures memory { memory.new ≡ asked_memory (P.table protocol.now) GetS line caches.old memory.old }
     ensures own { copy_at caches.new core line ≡ None }
     ensures words { KeepsWords caches.old (counting core line result.copy caches.new) memory.old memory.new }
+    ensures cache { cache_of caches.new core ≡ cache_of caches.old core }
     ensures ways { ways_of caches.new ≡ ways_of caches.old }
 {
     let found = find(caches, protocol, Request::GetS, line);
@@ -125,6 +127,7 @@ pub fn ask_write<P: Protocol>(
     ensures tags { tags_of caches.new ≡ asked_caches (P.table protocol.now) GetM core line (tags_of caches.old) }
     ensures awaits { Awaits Write result (copy_at caches.new core line) }
     ensures words { KeepsWords caches.old (counted_in core line result caches.new) memory.now memory.now }
+    ensures cache { cache_of caches.new core ≡ cache_of caches.old core }
     ensures ways { ways_of caches.new ≡ ways_of caches.old }
 {
     match caches[core].look(line).copied() {
@@ -162,6 +165,7 @@ fn ask_write_miss<P: Protocol>(
     ensures tags { tags_of caches.new ≡ requested (P.table protocol.now).on_get_m core line (tags_of caches.old) }
     ensures own { copy_at caches.new core line ≡ None }
     ensures words { KeepsWords caches.old (counting core line result.copy caches.new) memory.now memory.now }
+    ensures cache { cache_of caches.new core ≡ cache_of caches.old core }
     ensures ways { ways_of caches.new ≡ ways_of caches.old }
 {
     let found = find(caches, protocol, Request::GetM, line);

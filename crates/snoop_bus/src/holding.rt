@@ -1,7 +1,12 @@
 //! Who holds the bus, and how far the access is.
 
+ghost use Rattle.std.specs.Prelude.{◌≡◌, IfSome};
+ghost use Rattle.snoop_bus.specs.Bus.{holder_of};
+ghost use Rattle.snoop_bus.specs.Accesses.{StandsAlone};
+
+use crate::bus::SnoopBus;
 use cache_set::Line;
-use protocol_tables::Transient;
+use protocol_tables::{Protocol, Transient};
 use tso_model::{Core, Loc};
 
 /// How far an action is that holds the bus.
@@ -41,4 +46,18 @@ pub struct Held {
     pub holder: Holder,
     pub line: u8,
     pub transaction: Option<Transaction>,
+}
+
+impl<P: Protocol> SnoopBus<P> {
+    /// Whose action holds the bus, and how far it is. While that is a write access or a locked instruction no other
+    /// core has its line, and between the two parts of a locked instruction its core has it in M.
+    pub fn who_holds(&self) -> Option<Holder>
+        ensures value { result ≡ holder_of self.now }
+        ensures alone { IfSome (holder_of self.now) (StandsAlone self.now) }
+    {
+        match self.held {
+            None => None,
+            Some(held) => Some(held.holder),
+        }
+    }
 }

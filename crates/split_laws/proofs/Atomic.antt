@@ -9,9 +9,9 @@ use Rattle.tso_model.specs.Together.{put_together}
 use Rattle.tso_model.specs.declared.bus.Bus.TheVariants.{Atomic}
 use Rattle.tso_model.specs.declared.choice.Choice.{Choice}
 use Rattle.tso_laws.specs.Choices.{commits_of}
+use Rattle.tso_laws.specs.Stopping.{StopsAtTheEnd}
 use Rattle.split_laws.proofs.Waiting.{AllStores, choice-stores, start-stores}
 use Rattle.split_laws.proofs.Following.{choice-whole}
-use Rattle.split_laws.proofs.Ending.{FlatStops}
 
 -- a run of the flat machine, with nobody who holds the bus
 abbrev flat_run : Litmus → ℕ → State → List Choice → BusRun
@@ -47,6 +47,10 @@ commits-together t depth state [] stores = refl
 commits-together t depth state (c ∷ cs) stores =
     (choice-whole t depth state c stores).together (commits_of t depth (after_choice t depth state c) cs)
     ∙ ap (λ z. (effect_of t depth state c).commits ++ z) (commits-together t depth (after_choice t depth state c) cs (choice-stores t depth state c stores))
+
+-- the law of the flat machine that is needed
+abbrev pub FlatStops : Type 0
+FlatStops = (t : Litmus) (depth : ℕ) (choices : List Choice) → StopsAtTheEnd t depth choices (run t depth choices)
 
 pub flat-together : FlatStops → (t : Litmus) (depth : ℕ) (choices : List Choice) → put_together (run t depth choices).commits ≡ (run t depth choices).commits
 flat-together flat_stops t depth choices = rw (flat_stops t depth choices).all_commits (commits-together t depth (start t) choices (start-stores t))

@@ -2,65 +2,49 @@
 use Rattle.std.proofs.Common.{◌≡◌, ℕ, List, ◌++◌, ap, sym, ◌∙◌}
 use Rattle.std.proofs.lemmas.List.{append-nil}
 use Rattle.tso_model.specs.Litmus.{Litmus, IsTest}
-use Rattle.tso_model.specs.Execution.{KeepsAllOrder}
+use Rattle.tso_model.specs.SequentialConsistency.{KeepsAllOrder}
 use Rattle.tso_model.specs.FlatMachine.{start}
-use Rattle.tso_model.specs.Runs.{has_ended, run}
+use Rattle.tso_model.specs.Runs.{run}
 use Rattle.tso_model.specs.SplitMachine.{Attempt}
 use Rattle.tso_model.specs.EitherBus.{unheld, run_on, HitsFit}
 use Rattle.tso_model.specs.Together.{put_together, together}
 use Rattle.tso_model.specs.declared.bus.Bus.{Bus}
 use Rattle.tso_model.specs.declared.choice.Choice.{Choice}
 use Rattle.tso_laws.specs.EndedRuns.{End, IsExecution}
-use Rattle.tso_laws.specs.Stopping.{StopsAtTheEnd}
-use Rattle.split_laws.specs.BusRuns.{EndOn, left_by, waiting, IsFlatRun}
+use Rattle.split_laws.specs.BusRuns.{EndOn, waiting, IsFlatRun}
 use Rattle.split_laws.proofs.Waiting.{start-stores}
-use Rattle.split_laws.proofs.Following.{Follows, all-follow}
-use Rattle.split_laws.proofs.Stopping.{run-ended, stops-at-end, end-free}
+use Rattle.split_laws.proofs.Counted.{run-follows-from}
+use Rattle.split_laws.proofs.Stopping.{end-free}
 
 -- the laws of the flat machine that are needed
-abbrev pub FlatStops : Type 0
-FlatStops = (t : Litmus) (depth : ℕ) (choices : List Choice) → StopsAtTheEnd t depth choices (run t depth choices)
-
 abbrev pub FlatExecutions : Type 0
 FlatExecutions = (t : Litmus) (depth : ℕ) (choices : List Choice) → IsTest t → End t depth choices → IsExecution t (run t depth choices)
 
 abbrev pub FlatKeepsAll : Type 0
 FlatKeepsAll = (t : Litmus) (choices : List Choice) → IsTest t → KeepsAllOrder (run t 0 choices).commits
 
-run-follows : (bus : Bus) (t : Litmus) (depth : ℕ) (attempts : List Attempt) → HitsFit bus t depth (unheld (start t)) attempts
-    → Follows bus t depth (unheld (start t)) (run_on bus t depth attempts).run.commits (left_by (run_on bus t depth attempts))
-run-follows bus t depth attempts hits =
-    let s = stops-at-end bus t depth attempts in
-    rw (s.all_commits, s.all_state) (all-follow bus t depth (unheld (start t)) attempts (start-stores t) tt hits)
-
-pub is-flat : FlatStops → (bus : Bus) (t : Litmus) (depth : ℕ) (attempts : List Attempt) → HitsFit bus t depth (unheld (start t)) attempts → IsFlatRun t depth (run_on bus t depth attempts)
-is-flat flat_stops bus t depth attempts hits =
-    let f = run-follows bus t depth attempts hits in
-    let s = flat_stops t depth f.choices in
-    let same : (run t depth f.choices).state ≡ (run_on bus t depth attempts).run.state = s.all_state ∙ f.now in
-    record {
-      choices = f.choices;
-      ended = s.ended ∙ ap (λ z. has_ended t z) same ∙ sym (run-ended bus t depth (unheld (start t)) attempts);
-      state = same;
-      commits = ap (λ z. z ++ waiting (run_on bus t depth attempts).holder) s.all_commits ∙ sym f.committed;
-    }
+pub is-flat : (bus : Bus) (t : Litmus) (depth : ℕ) (attempts : List Attempt) → HitsFit bus t depth (unheld (start t)) attempts
+    → IsFlatRun bus t depth attempts (run_on bus t depth attempts)
+is-flat bus t depth attempts hits =
+    let f = run-follows-from bus t depth (unheld (start t)) attempts (start-stores t) tt hits in
+    record { choices = f.choices; cores = f.cores; ended = f.ended; state = f.same; commits = sym f.commits; used = f.used; stalled = f.stalled; unused = f.unused }
 
 -- an ended run commits what the flat machine's run commits
-flat-commits : (bus : Bus) (t : Litmus) (depth : ℕ) (attempts : List Attempt) → EndOn bus t depth attempts → (f : IsFlatRun t depth (run_on bus t depth attempts))
+flat-commits : (bus : Bus) (t : Litmus) (depth : ℕ) (attempts : List Attempt) → EndOn bus t depth attempts → (f : IsFlatRun bus t depth attempts (run_on bus t depth attempts))
     → (run t depth f.choices).commits ≡ put_together (run_on bus t depth attempts).run.commits
 flat-commits bus t depth attempts ended f =
     sym (append-nil (run t depth f.choices).commits) ∙ ap (λ z. (run t depth f.choices).commits ++ waiting z) (sym (end-free bus t depth attempts ended)) ∙ f.commits
 
-pub is-execution : FlatStops → FlatExecutions → (bus : Bus) (t : Litmus) (depth : ℕ) (attempts : List Attempt) → IsTest t → HitsFit bus t depth (unheld (start t)) attempts → EndOn bus t depth attempts
+pub is-execution : FlatExecutions → (bus : Bus) (t : Litmus) (depth : ℕ) (attempts : List Attempt) → IsTest t → HitsFit bus t depth (unheld (start t)) attempts → EndOn bus t depth attempts
     → IsExecution t (together (run_on bus t depth attempts).run)
-is-execution flat_stops flat_executions bus t depth attempts test hits ended =
-    let f = is-flat flat_stops bus t depth attempts hits in
+is-execution flat_executions bus t depth attempts test hits ended =
+    let f = is-flat bus t depth attempts hits in
     let c = flat-commits bus t depth attempts ended f in
     let x = flat_executions t depth f.choices test (f.ended ∙ ended) in
     record { order = rw (← c) x.order; memory = rw (← c, ← f.state) x.memory; registers = rw (← c, ← f.state) x.registers }
 
-pub keeps-all : FlatStops → FlatKeepsAll → (bus : Bus) (t : Litmus) (attempts : List Attempt) → IsTest t → HitsFit bus t 0 (unheld (start t)) attempts → EndOn bus t 0 attempts
+pub keeps-all : FlatKeepsAll → (bus : Bus) (t : Litmus) (attempts : List Attempt) → IsTest t → HitsFit bus t 0 (unheld (start t)) attempts → EndOn bus t 0 attempts
     → KeepsAllOrder (put_together (run_on bus t 0 attempts).run.commits)
-keeps-all flat_stops flat_keeps bus t attempts test hits ended =
-    let f = is-flat flat_stops bus t 0 attempts hits in
+keeps-all flat_keeps bus t attempts test hits ended =
+    let f = is-flat bus t 0 attempts hits in
     rw (← flat-commits bus t 0 attempts ended f) (flat_keeps t f.choices test)

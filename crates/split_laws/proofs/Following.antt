@@ -1,18 +1,23 @@
 -- A run on either bus is followed by one of the flat machine, which makes a locked instruction when its store part is
 -- committed.
-use Rattle.std.proofs.Common.{◌≡◌, ◌≢◌, ℕ, List, [], ◌∷◌, ◌++◌, Bool, true, false, drop, slice_set, arith, ap, sym, ◌∙◌, refl, inl, inr, append_assoc, subst, if◌then◌else◌}
+use Rattle.std.proofs.Common.{◌≡◌, ◌≢◌, ℕ, ◌+◌, zero, suc, Option, Some, None, length, nat_lt, List, [], ◌∷◌, ◌++◌, Bool, true, false, drop, slice_set, arith, ap, sym, ◌∙◌, refl, inl, inr, append_assoc, subst, if◌then◌else◌}
 use Rattle.std.proofs.lemmas.List.{append-nil, set-get_or}
 use Rattle.std.proofs.lemmas.Bool.Decides.{nat_tests}
 use Rattle.tso_model.specs.Litmus.{Litmus}
 use Rattle.tso_model.specs.Thread.{entry}
-use Rattle.tso_model.specs.FlatMachine.{State, Effect, effect_of, after_choice, chosen, core_of, applied, memory_after}
-use Rattle.tso_model.specs.Access.{Access, NoAccess, Reads, Writes, Locks, access_of}
+use Rattle.tso_model.specs.Actions.{action_of}
+use Rattle.tso_model.specs.FlatMachine.{CoreState, State, Effect, stored, effect_by, step_of, effect_of, after_choice, chosen, core_of, applied, memory_after, is_none_pending}
+use Rattle.tso_model.specs.Runs.{stall_count}
+use Rattle.tso_model.specs.Access.{Access, NoAccess, Reads, Writes, Locks, next_of, access_of}
 use Rattle.tso_model.specs.SplitMachine.{Holder, Free, HeldBy, HeldBetween, Attempt, BusEffect, same_choice, needs_bus, acts, asks, begins, load_part, reads_first, completes, as_read, after_first, writes_last, split_effect}
 use Rattle.tso_model.specs.EitherBus.{BusState, effect_on, after_on, HitFits, HitsFit}
 use Rattle.tso_model.specs.Together.{put_together}
 use Rattle.tso_model.specs.declared.bus.Bus.{Bus}
 use Rattle.tso_model.specs.declared.bus.Bus.TheVariants.{Atomic, Split}
 use Rattle.tso_model.specs.declared.instruction.Loc.{Loc}
+use Rattle.tso_model.specs.declared.instruction.Instr.{Instr}
+use Rattle.tso_model.specs.declared.action.Action.{Action}
+use Rattle.tso_model.specs.declared.action.Action.TheVariants.{Store, Load, Move, Fence, Lock}
 use Rattle.tso_model.specs.declared.execution.Entry.{Entry}
 use Rattle.tso_model.specs.declared.execution.Kind.TheVariants.{LW}
 use Rattle.tso_model.specs.declared.choice.Choice.{Choice}
@@ -22,10 +27,12 @@ use Rattle.tso_model.specs.declared.choice.Outcome.TheVariants.{Committed, Asked
 use Rattle.tso_laws.specs.Choices.{state_after, commits_of}
 use Rattle.split_laws.specs.BusChoices.{state_on, commits_on}
 use Rattle.split_laws.specs.Holders.{HasRead, HolderFits}
-use Rattle.split_laws.specs.BusRuns.{waiting}
+use Rattle.split_laws.specs.BusRuns.{waiting, ask_count, wait_count, load_part_count, bus_count}
 use Rattle.basic_laws.proofs.Basics.{decide, test-true}
+use Rattle.basic_laws.proofs.Lists.{Each}
+use Rattle.basic_laws.proofs.WithPending.{drain_with}
 use Rattle.split_laws.proofs.Cores.{quiet, quiet-same}
-use Rattle.split_laws.proofs.Steps.{drain-no-lock, choice-plain, choice-pair, Pairs}
+use Rattle.split_laws.proofs.Steps.{IsPlain, drain-no-lock, choice-plain, choice-pair, Pairs}
 use Rattle.split_laws.proofs.Waiting.{AllStores, choice-stores, access-kept, same-part, reading-kept, reader-writes-nothing, reader-commits-nothing}
 use Rattle.split_laws.proofs.Moving.{moved, moved-plain, Parts, moved-pair, together-pair, IsToCome, GoesOn, plain-on, load-on, store-on, pair-on}
 
@@ -58,6 +65,49 @@ write-hits : (what : Access) (hits : Bool) (l : Loc) → needs_bus what hits ≡
 write-hits what true l h q = refl
 write-hits what false l h q = absurd (let z : needs_bus what false ≡ true = rw q refl in let y : ⊥ = cc in y)
 
+-- ---- what the flat machine's choices count
+
+-- they ask for no bus, and wait for none
+own-outcome : (t : Litmus) (depth : ℕ) (state : State) (a : Choice) → ask_count (effect_of t depth state a).outcome + wait_count (effect_of t depth state a).outcome ≡ 0
+own-outcome t depth state (Step c) = by_next (next_of t state c.0)
+  where
+    s : CoreState
+    s = core_of state c.0
+
+    -- either of two such effects
+    either : (b : Bool) (f g : Effect) → ask_count f.outcome + wait_count f.outcome ≡ 0 → ask_count g.outcome + wait_count g.outcome ≡ 0
+        → ask_count (if b then f else g).outcome + wait_count (if b then f else g).outcome ≡ 0
+    either true f g p q = p
+    either false f g p q = q
+
+    by_depth : (d : ℕ) (e : Entry) → ask_count (stored d s e).outcome + wait_count (stored d s e).outcome ≡ 0
+    by_depth zero e = refl
+    by_depth (suc n) e = either (nat_lt (length s.pending) (suc n)) _ _ refl refl
+
+    by_action : (a : Action) → ask_count (effect_by depth state.memory c.0 a s).outcome + wait_count (effect_by depth state.memory c.0 a s).outcome ≡ 0
+    by_action (Store loc operand) = by_depth depth _
+    by_action (Load reg loc) = refl
+    by_action (Move reg operand) = refl
+    by_action Fence = either (is_none_pending s.pending) _ _ refl refl
+    by_action (Lock loc reg update) = either (is_none_pending s.pending) _ _ refl refl
+
+    by_next : (i : Option Instr) → ask_count (step_of depth state.memory c.0 i s).outcome + wait_count (step_of depth state.memory c.0 i s).outcome ≡ 0
+    by_next None = refl
+    by_next (Some i) = by_action (action_of i)
+own-outcome t depth state (Drain c) = by_pending (core_of state c.0).pending
+  where
+    by_pending : (q : List Entry) → ask_count (drain_with (core_of state c.0) q).outcome + wait_count (drain_with (core_of state c.0) q).outcome ≡ 0
+    by_pending [] = refl
+    by_pending (p ∷ ps) = refl
+
+own-count : (t : Litmus) (depth : ℕ) (state : State) (a : Choice) → load_part_count (effect_of t depth state a).commits ≡ 0 → bus_count (effect_of t depth state a) ≡ 0
+own-count t depth state a parts = let n = own-outcome t depth state a in omega arith
+
+no-load-part : (core : ℕ) (what : Access) (xs : List Entry) → Each (IsPlain core what) xs → load_part_count xs ≡ 0
+no-load-part core what [] h = refl
+no-load-part core what (x ∷ []) h = rw h.0.no_load_part refl
+no-load-part core what (x ∷ (y ∷ ys)) h = refl
+
 -- ---- one choice
 
 -- the choice isn't the holder's next one
@@ -66,9 +116,15 @@ IsOther Free a = Unit {0}
 IsOther (HeldBy choice) a = same_choice choice a ≡ false
 IsOther (HeldBetween e) a = same_choice (Step e.core) a ≡ false
 
+-- how one choice counts: it is made for the bus alone, or is one of the flat machine's, of the same core and with the same outcome
+pub data Counts (t : Litmus) (depth : ℕ) (state : State) (c : ℕ) (f : Effect) : List Choice → Type 0 where
+  for_bus : bus_count f ≡ 1 → stall_count f.outcome ≡ wait_count f.outcome → Counts t depth state c f []
+  as_flat : (a : Choice) → chosen a ≡ c → bus_count f ≡ 0 → f.outcome ≡ (effect_of t depth state a).outcome → Counts t depth state c f (a ∷ [])
+
 -- one choice, followed by choices of the flat machine (one or none)
 pub record Goes (bus : Bus) (t : Litmus) (depth : ℕ) (state : State) (c : ℕ) (holder : Holder) (g : BusEffect) : Type 0 where
   pub choices : List Choice
+  pub counted : Counts t depth state c g.effect choices
   pub now : state_after t depth state choices ≡ applied state c g.effect
   pub commits : (ys : List Entry) → moved holder (put_together (g.effect.commits ++ ys)) ≡ commits_of t depth state choices ++ moved g.holder (put_together ys)
   pub goes_on : GoesOn holder g.holder g.effect.commits
@@ -89,9 +145,10 @@ alike-free holder next same n = record { same = same; back = λ ys end b. record
 
 -- a choice that changes at most who holds the bus
 quiet-goes : (t : Litmus) (depth : ℕ) (state : State) (c : ℕ) (o : Outcome) (holder next : Holder) → AllStores state → HolderFits Split t depth state next
-    → Alike holder next → Goes Split t depth state c holder (acts (quiet o (core_of state c)) next)
-quiet-goes t depth state c o holder next stores fits like = record {
+    → Alike holder next → bus_count (quiet o (core_of state c)) ≡ 1 → stall_count o ≡ wait_count o → Goes Split t depth state c holder (acts (quiet o (core_of state c)) next)
+quiet-goes t depth state c o holder next stores fits like one stalls = record {
   choices = [];
+  counted = for_bus one stalls;
   now = sym (quiet-same state c o);
   commits = λ ys. like.same (put_together ys);
   goes_on = like.back;
@@ -101,9 +158,9 @@ quiet-goes t depth state c o holder next stores fits like = record {
 
 asks-goes : (t : Litmus) (depth : ℕ) (state : State) (a : Choice) (holder : Holder) → AllStores state → HolderFits Split t depth state holder → access_of t depth state a ≢ NoAccess
     → Goes Split t depth state (chosen a) holder (asks (core_of state (chosen a)) a holder)
-asks-goes t depth state a Free stores fits n = quiet-goes t depth state (chosen a) Asked Free (HeldBy a) stores n (alike-free Free (HeldBy a) (λ ys. refl) (λ e q. let z : ⊥ = cc in z))
-asks-goes t depth state a (HeldBy choice) stores fits n = quiet-goes t depth state (chosen a) _ (HeldBy choice) (HeldBy choice) stores fits (alike (HeldBy choice))
-asks-goes t depth state a (HeldBetween e) stores fits n = quiet-goes t depth state (chosen a) _ (HeldBetween e) (HeldBetween e) stores fits (alike (HeldBetween e))
+asks-goes t depth state a Free stores fits n = quiet-goes t depth state (chosen a) Asked Free (HeldBy a) stores n (alike-free Free (HeldBy a) (λ ys. refl) (λ e q. let z : ⊥ = cc in z)) refl refl
+asks-goes t depth state a (HeldBy choice) stores fits n = quiet-goes t depth state (chosen a) _ (HeldBy choice) (HeldBy choice) stores fits (alike (HeldBy choice)) refl refl
+asks-goes t depth state a (HeldBetween e) stores fits n = quiet-goes t depth state (chosen a) _ (HeldBetween e) (HeldBetween e) stores fits (alike (HeldBetween e)) refl refl
 
 -- a choice that acts as on the flat machine, and isn't a locked instruction
 acts-goes : (bus : Bus) (t : Litmus) (depth : ℕ) (state : State) (a : Choice) (holder next : Holder) → AllStores state → ((l : Loc) → access_of t depth state a ≢ Locks l)
@@ -115,6 +172,7 @@ acts-goes bus t depth state a holder next stores n fits like none =
     let plain = choice-plain t depth state a (stores (chosen a)) n in
     record {
       choices = a ∷ [];
+      counted = as_flat a refl (own-count t depth state a (no-load-part (chosen a) (access_of t depth state a) f.commits plain)) refl;
       now = refl;
       commits = λ ys. moved-plain (chosen a) (access_of t depth state a) holder f.commits ys plain
           ∙ ap (λ z. f.commits ++ z) (like.same (put_together ys))
@@ -171,6 +229,7 @@ reads-goes t depth state (Step c) loc stores q =
     let r : HasRead t depth state e = record { kind = refl; place = refl; access = q; word = refl } in
     record {
       choices = [];
+      counted = for_bus refl refl;
       now = sym same;
       commits = λ ys. refl;
       goes_on = load-on (HeldBy (Step c)) e (λ x h. let z : ⊥ = cc in z);
@@ -228,6 +287,7 @@ writes-goes t depth state e stores r =
     whole : Goes Split t depth state e.core.0 (HeldBetween e) (acts (after_first f) Free)
     whole = record {
       choices = Step e.core ∷ [];
+      counted = as_flat (Step e.core) refl (rw (last, p.took) refl) refl;
       now = same;
       commits = λ ys. ap (λ z. moved (HeldBetween e) (put_together (z ++ ys))) last ∙ moved-pair e y ys parts ∙ ap (λ z. (z ++ []) ++ put_together ys) (sym both);
       goes_on = subst (λ z. GoesOn (HeldBetween e) Free z) (sym last) (store-on e y parts);
@@ -256,6 +316,7 @@ split-goes t depth state a (HeldBetween e) stores fits fit = go (same_choice (St
 pub record IsWhole (xs : List Entry) : Type 0 where
   pub together : (ys : List Entry) → put_together (xs ++ ys) ≡ xs ++ put_together ys
   pub on : GoesOn Free Free xs
+  pub parts : load_part_count xs ≡ 0
 
 pub choice-whole : (t : Litmus) (depth : ℕ) (state : State) (a : Choice) → AllStores state → IsWhole (effect_of t depth state a).commits
 choice-whole t depth state a stores = go (access_of t depth state a) refl
@@ -267,6 +328,7 @@ choice-whole t depth state a stores = go (access_of t depth state a) refl
         record {
           together = λ ys. moved-plain (chosen a) (access_of t depth state a) Free f.commits ys p;
           on = plain-on (chosen a) (access_of t depth state a) Free f.commits p (λ e h. absurd (let z : ⊥ = cc in z));
+          parts = no-load-part (chosen a) (access_of t depth state a) f.commits p;
         }
 
     pair : (a : Choice) (loc : Loc) → access_of t depth state a ≡ Locks loc → IsWhole (effect_of t depth state a).commits
@@ -275,7 +337,7 @@ choice-whole t depth state a stores = go (access_of t depth state a) refl
         let x : Entry = load_part state c.0 loc in
         let y : Entry = entry c.0 (core_of state c.0).place LW loc p.value in
         let parts : Parts x y = record { load = refl; store = record { core = refl; place = refl; kind = refl } } in
-        subst IsWhole (sym p.commits) (record { together = λ ys. together-pair x y ys parts; on = pair-on x y parts })
+        subst IsWhole (sym p.commits) (record { together = λ ys. together-pair x y ys parts; on = pair-on x y parts; parts = refl })
     pair (Drain c) loc q = absurd (drain-no-lock (core_of state c.0).pending loc q)
 
     go : (what : Access) → access_of t depth state a ≡ what → IsWhole (effect_of t depth state a).commits
@@ -290,6 +352,7 @@ atomic-goes t depth state a stores =
     let w = choice-whole t depth state a stores in
     record {
       choices = a ∷ [];
+      counted = as_flat a refl (own-count t depth state a w.parts) refl;
       now = refl;
       commits = λ ys. w.together ys ∙ ap (λ z. z ++ put_together ys) (sym (append-nil (effect_of t depth state a).commits));
       goes_on = w.on;

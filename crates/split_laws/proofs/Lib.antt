@@ -3,6 +3,7 @@ pub mod Steps
 pub mod Waiting
 pub mod Moving
 pub mod Following
+pub mod Counted
 pub mod Left
 pub mod Effects
 pub mod Rounds

@@ -1,7 +1,8 @@
 -- Load parts that are put before their store parts, and what is committed in between.
 use Rattle.std.proofs.Common.{◌≡◌, ◌≢◌, ℕ, List, [], ◌∷◌, ◌++◌, Bool, true, false, ap, sym, refl, ◌∙◌, ◌==◌, ◌&&◌, inl, inr}
 use Rattle.tso_model.specs.ProgramOrder.{same_kind}
-use Rattle.tso_model.specs.Execution.{is_at, IsStorePart}
+use Rattle.tso_model.specs.ProgramEntries.{is_at}
+use Rattle.tso_model.specs.ProgramOrder.{IsStorePart}
 use Rattle.tso_model.specs.Access.{Access}
 use Rattle.tso_model.specs.SplitMachine.{Holder, Free, HeldBy, HeldBetween}
 use Rattle.tso_model.specs.Together.{put_before, put_together}

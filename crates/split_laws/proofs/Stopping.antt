@@ -17,6 +17,9 @@ use Rattle.tso_model.specs.declared.choice.Outcome.TheVariants.{Stalled}
 use Rattle.split_laws.specs.BusChoices.{state_on, commits_on, IsPossibleOn}
 use Rattle.split_laws.specs.BusRuns.{EndOn, left_by, ChangesNothingOn, StopsAtTheEndOn}
 use Rattle.split_laws.specs.BusSoFar.{SoFarOn}
+use Rattle.split_laws.specs.Pending.{PendingIsOwn}
+use Rattle.basic_laws.proofs.Lists.{Each, each-at}
+use Rattle.split_laws.proofs.Steps.{IsStore}
 use Rattle.split_laws.proofs.Cores.{done-pending, done-next, done-anywhere}
 use Rattle.split_laws.proofs.Waiting.{start-stores}
 use Rattle.split_laws.proofs.Following.{all-follow}
@@ -202,3 +205,11 @@ possible-stall bus t d commits state a why p q = stall-nothing bus t d state a (
 
 pub possible-free : (bus : Bus) (t : Litmus) (d : ℕ) (commits : List Entry) (state : BusState) → IsPossibleOn bus t d commits state → has_ended t state.flat ≡ true → state.holder ≡ Free
 possible-free bus t d commits state p h = ended-free bus t d state.flat state.holder (possible-live bus t d commits state p) h
+
+-- what is pending are stores of their core
+pub possible-own : (bus : Bus) (t : Litmus) (d : ℕ) (commits : List Entry) (state : BusState) → IsPossibleOn bus t d commits state → PendingIsOwn state.flat
+possible-own bus t d commits state p core place e q =
+    let f = all-follow bus t d (unheld (start t)) p.attempts (start-stores t) tt p.fit in
+    let own : Each (IsStore core) (core_of state.flat core).pending = subst (λ z. Each (IsStore core) (core_of z.flat core).pending) p.state_is (f.stores core) in
+    let s = each-at (IsStore core) (core_of state.flat core).pending place e own q in
+    record { kind = s.kind; mine = s.mine }

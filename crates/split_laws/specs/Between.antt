@@ -1,6 +1,6 @@
 -- What is committed between the two parts of a locked instruction.
 use Rattle.std.specs.Prelude.{◌≡◌, ◌≢◌, List, [], ◌∷◌, ◌⊎◌}
-use Rattle.tso_model.specs.Execution.{IsStorePart}
+use Rattle.tso_model.specs.ProgramOrder.{IsStorePart}
 use Rattle.tso_model.specs.SplitMachine.{Holder, HeldBetween}
 use Rattle.tso_model.specs.declared.execution.Entry.{Entry}
 use Rattle.tso_model.specs.declared.execution.Kind.TheVariants.{LR, LW}

@@ -1,7 +1,7 @@
 -- What the laws say that are too long for a line: each is the contract of the function of the same name.
 use Rattle.std.specs.Prelude.{ℕ, ◌*◌, ◌≡◌, ◌≢◌, true, false, List, [], ◌++◌, length}
 use Rattle.tso_model.specs.Litmus.{Litmus, IsTest}
-use Rattle.tso_model.specs.Execution.{KeepsAllOrder}
+use Rattle.tso_model.specs.SequentialConsistency.{KeepsAllOrder}
 use Rattle.tso_model.specs.FlatMachine.{State, start, after_choice}
 use Rattle.tso_model.specs.Runs.{run, has_ended}
 use Rattle.tso_model.specs.Access.{NoAccess, access_of}
@@ -19,6 +19,7 @@ use Rattle.tso_laws.specs.Counting.{instructions}
 use Rattle.tso_laws.specs.Rounds.{CanBeCutIntoRounds}
 use Rattle.split_laws.specs.BusChoices.{IsPossibleOn}
 use Rattle.split_laws.specs.BusSoFar.{SoFarOn}
+use Rattle.split_laws.specs.Pending.{PendingIsOwn}
 use Rattle.split_laws.specs.BusRuns.{EndOn, left_by, IsFlatRun, ChangesNothingOn, StopsAtTheEndOn}
 
 -- the first state is one that choices can lead to, each choice whose answer fits leads from one to one, and each run
@@ -38,6 +39,11 @@ pub record WhatHoldsSoFarOnEitherBus : Type 0 where
       → IsPossibleOn bus t depth commits state → SoFarOn bus t depth commits state
   pub free : (bus : Bus) (t : Litmus) (depth : ℕ) (commits : List Entry) (state : BusState)
       → IsPossibleOn bus t depth commits state → has_ended t state.flat ≡ true → state.holder ≡ Free
+
+abbrev pub PendingStoresAreOwn : Type 0
+PendingStoresAreOwn =
+    (bus : Bus) (t : Litmus) (depth : ℕ) (commits : List Entry) (state : BusState)
+    → IsPossibleOn bus t depth commits state → PendingIsOwn state.flat
 
 -- a run stops at the first moment at which the test has ended; no further choice does anything, and nobody holds the bus
 pub record RunsOnEitherBusStopWhereTheyEnd : Type 0 where
@@ -63,7 +69,7 @@ EndedRunsOnEitherBusAreExecutions =
 abbrev pub RunsOnEitherBusAreFlatRuns : Type 0
 RunsOnEitherBusAreFlatRuns =
     (bus : Bus) (t : Litmus) (depth : ℕ) (attempts : List Attempt)
-    → HitsFit bus t depth (unheld (start t)) attempts → IsFlatRun t depth (run_on bus t depth attempts)
+    → HitsFit bus t depth (unheld (start t)) attempts → IsFlatRun bus t depth attempts (run_on bus t depth attempts)
 
 abbrev pub NoBufferNoReorderingOnEitherBus : Type 0
 NoBufferNoReorderingOnEitherBus =

@@ -1,12 +1,16 @@
 pub mod BusChoices
 pub mod Holders
+pub mod Pending
 pub mod Between
 pub mod BusSoFar
 pub mod BusRuns
 pub mod BusLaws
 pub mod WorkedSplitRuns
 pub use Rattle.tso_model.specs.Litmus
-pub use Rattle.tso_model.specs.Execution
+pub use Rattle.tso_model.specs.ProgramEntries
+pub use Rattle.tso_model.specs.Axioms
+pub use Rattle.tso_model.specs.ProgramOrder
+pub use Rattle.tso_model.specs.SequentialConsistency
 pub use Rattle.tso_model.specs.FlatMachine
 pub use Rattle.tso_model.specs.Runs
 pub use Rattle.tso_model.specs.Examples

@@ -3,7 +3,7 @@
 ghost use Rattle.split_laws.specs.BusLaws.{AttemptsLeadFromStateToState, WhatHoldsSoFarOnEitherBus, RunsOnEitherBusStopWhereTheyEnd};
 ghost use Rattle.split_laws.specs.BusLaws.{StallsOnEitherBusChangeNothing, EndedRunsOnEitherBusAreExecutions};
 ghost use Rattle.split_laws.specs.BusLaws.{RunsOnEitherBusAreFlatRuns, NoBufferNoReorderingOnEitherBus, FairRoundsEndOnEitherBus};
-ghost use Rattle.split_laws.specs.BusLaws.{AccessesWait, AtomicRunsAreFlatRuns};
+ghost use Rattle.split_laws.specs.BusLaws.{AccessesWait, AtomicRunsAreFlatRuns, PendingStoresAreOwn};
 
 use tso_laws::{ended_runs_are_executions, no_buffer_no_reordering, runs_stop_where_they_end};
 
@@ -24,6 +24,11 @@ pub fn what_holds_so_far_on_either_bus()
     ensures { WhatHoldsSoFarOnEitherBus }
 {}
 
+/// In each state that choices lead to, all that is pending at a core are plain stores of its own.
+pub fn pending_stores_are_own()
+    ensures { PendingStoresAreOwn }
+{}
+
 /// A run uses its choices up to the first moment at which the test has ended, and counts the
 /// others as unused; after that moment no choice commits or changes anything, and nobody holds the
 /// bus, whatever the caches answer.
@@ -42,24 +47,21 @@ pub fn stalls_on_either_bus_change_nothing()
 pub fn ended_runs_on_either_bus_are_executions()
     ensures { EndedRunsOnEitherBusAreExecutions }
 {
-    runs_stop_where_they_end();
     ended_runs_are_executions();
 }
 
 /// Whether it has ended or not, a run is followed by a run of the flat machine, which makes a locked
-/// instruction when its store part is committed here.
+/// instruction when its store part is committed here. It uses and stalls the choices that this one does,
+/// but for those that were made for the bus alone: to ask, to wait, and to commit a load part.
 pub fn runs_on_either_bus_are_flat_runs()
     ensures { RunsOnEitherBusAreFlatRuns }
-{
-    runs_stop_where_they_end();
-}
+{}
 
 /// At depth 0, where no store is buffered, the order of an ended run keeps every two entries of
 /// program order, without exception: sequential consistency.
 pub fn no_buffer_no_reordering_on_either_bus()
     ensures { NoBufferNoReorderingOnEitherBus }
 {
-    runs_stop_where_they_end();
     no_buffer_no_reordering();
 }
 

@@ -17,8 +17,8 @@ pub mod worked;
 pub use laws::{
     accesses_wait, atomic_runs_are_flat_runs, attempts_lead_from_state_to_state,
     ended_runs_on_either_bus_are_executions, fair_rounds_end_on_either_bus,
-    no_buffer_no_reordering_on_either_bus, runs_on_either_bus_are_flat_runs,
-    runs_on_either_bus_stop_where_they_end, stalls_on_either_bus_change_nothing,
-    what_holds_so_far_on_either_bus,
+    no_buffer_no_reordering_on_either_bus, pending_stores_are_own,
+    runs_on_either_bus_are_flat_runs, runs_on_either_bus_stop_where_they_end,
+    stalls_on_either_bus_change_nothing, what_holds_so_far_on_either_bus,
 };
 pub use worked::{split_laws_need_their_premises, split_premises_are_met, worked_split_runs};

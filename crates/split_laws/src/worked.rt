@@ -4,7 +4,8 @@
 ghost use Rattle.std.specs.Prelude.{ℕ, ◌*◌, ◌≡◌, true, false, [], ◌∷◌, length};
 ghost use Rattle.tso_model.specs.Litmus.{IsTest};
 ghost use Rattle.tso_model.specs.Thread.{entry};
-ghost use Rattle.tso_model.specs.Execution.{IsTsoExecution, KeepsAllOrder};
+ghost use Rattle.tso_model.specs.Axioms.{IsTsoExecution};
+ghost use Rattle.tso_model.specs.SequentialConsistency.{KeepsAllOrder};
 ghost use Rattle.tso_model.specs.FlatMachine.{start, drain, registers_in};
 ghost use Rattle.tso_model.specs.EitherBus.{unheld, effect_on, run_on, choices_in, HitsFit};
 ghost use Rattle.tso_model.specs.Together.{put_together, together};
@@ -15,7 +16,7 @@ ghost use Rattle.tso_model.specs.declared.choice.Stall.TheVariants as stall;
 ghost use Rattle.tso_model.specs.declared.choice.Outcome.TheVariants.{Stalled};
 ghost use Rattle.tso_laws.specs.Counting.{instructions};
 ghost use Rattle.tso_laws.specs.Rounds.{CanBeCutIntoRounds};
-ghost use Rattle.split_laws.specs.BusRuns.{EndOn};
+ghost use Rattle.split_laws.specs.BusRuns.{EndOn, made_for_bus, wait_for_bus};
 ghost use Rattle.split_laws.specs.WorkedSplitRuns.{missing, one, sb_waits, sb_asks, added_and_loaded, load_waits, load_waits_order};
 ghost use Rattle.split_laws.specs.WorkedSplitRuns.{added_and_loaded_elsewhere, load_between, load_between_run};
 ghost use Rattle.split_laws.specs.WorkedSplitRuns.{load_between_commits, load_between_order, load_forwards, drain_holding};
@@ -30,9 +31,13 @@ pub fn worked_split_runs()
     ensures sb_waits_used { (run_on Split sb 4 sb_waits).run.used ≡ 6 }
     ensures sb_waits_stalled { (run_on Split sb 4 sb_waits).run.stalled ≡ 3 }
     ensures sb_waits_ended { (run_on Split sb 4 sb_waits).run.ended ≡ false }
+    ensures sb_waits_for_bus { made_for_bus Split sb 4 (unheld (start sb)) sb_waits ≡ 4 }
+    ensures sb_waits_that_wait { wait_for_bus Split sb 4 (unheld (start sb)) sb_waits ≡ 3 }
     ensures sb_asks_order { (run_on Split sb 4 sb_asks).run.commits ≡ sb_order }
     ensures sb_asks_used { (run_on Split sb 4 sb_asks).run.used ≡ 10 }
     ensures sb_asks_stalled { (run_on Split sb 4 sb_asks).run.stalled ≡ 0 }
+    ensures sb_asks_for_bus { made_for_bus Split sb 4 (unheld (start sb)) sb_asks ≡ 4 }
+    ensures sb_asks_that_wait { wait_for_bus Split sb 4 (unheld (start sb)) sb_asks ≡ 0 }
     ensures sb_asks_ended { (run_on Split sb 4 sb_asks).run.ended ≡ true }
     ensures load_waits_commits { (run_on Split added_and_loaded 4 load_waits).run.commits ≡ load_waits_order }
     ensures load_waits_used { (run_on Split added_and_loaded 4 load_waits).run.used ≡ 6 }
@@ -44,6 +49,7 @@ pub fn worked_split_runs()
     ensures load_between_put_together { (together load_between_run.run).commits ≡ load_between_order }
     ensures load_between_used { load_between_run.run.used ≡ 6 }
     ensures load_between_stalled { load_between_run.run.stalled ≡ 0 }
+    ensures between_for_bus { made_for_bus Split added_and_loaded_elsewhere 4 (unheld (start added_and_loaded_elsewhere)) load_between ≡ 3 }
     ensures load_forwards_at_once { (run_on Split n6 4 load_forwards).run.commits ≡ entry 0 1 R loc_x 1 ∷ [] }
     ensures load_forwards_stalled { (run_on Split n6 4 load_forwards).run.stalled ≡ 0 }
     ensures empty_comes_before_bus { (effect_on Split n6 4 drain_holding (missing (drain 0))).effect.outcome ≡ Stalled stall.Empty }

@@ -1,7 +1,8 @@
 -- Runs on either bus: the choices with the caches' answers, and what an ended run leaves.
 use Rattle.std.proofs.Common.{◌≡◌, ℕ, zero, suc, arith, true, List, [], ◌∷◌, ◌++◌, length, append-nil, refl, sym, ap, subst, ◌∙◌}
 use Rattle.tso_model.specs.Litmus.{Litmus, IsTest}
-use Rattle.tso_model.specs.Execution.{IsTsoExecution, KeepsAllOrder}
+use Rattle.tso_model.specs.Axioms.{IsTsoExecution}
+use Rattle.tso_model.specs.SequentialConsistency.{KeepsAllOrder}
 use Rattle.tso_model.specs.FinalState.{final_words, final_registers}
 use Rattle.tso_model.specs.FlatMachine.{State, start}
 use Rattle.tso_model.specs.Runs.{Run, run}
@@ -82,7 +83,7 @@ atomic-run table c t choices is = ap (λ (b : Bus). run_by b table c t choices) 
 -- what the laws of either bus, and those of the flat machine, say of ended runs
 pub record EndedRuns : Type 0 where
   pub atomic : AtomicRuns
-  pub flat : (bus : Bus) (t : Litmus) (depth : ℕ) (attempts : List Attempt) → HitsFit bus t depth (unheld (start t)) attempts → IsFlatRun t depth (run_on bus t depth attempts)
+  pub flat : (bus : Bus) (t : Litmus) (depth : ℕ) (attempts : List Attempt) → HitsFit bus t depth (unheld (start t)) attempts → IsFlatRun bus t depth attempts (run_on bus t depth attempts)
   pub free : (bus : Bus) (t : Litmus) (depth : ℕ) (attempts : List Attempt) → EndOn bus t depth attempts → (run_on bus t depth attempts).holder ≡ Free
   pub executions : (t : Litmus) (depth : ℕ) (choices : List Choice) → IsTest t → (run t depth choices).ended ≡ true → IsExecution t (run t depth choices)
   pub words : (t : Litmus) (depth : ℕ) (choices : List Choice) → IsTest t → HoldsWords (run t depth choices).commits (run t depth choices).state

@@ -2,7 +2,8 @@
 use Rattle.std.proofs.Common.{◌≡◌, ◌≢◌, ℕ, false, ◌<◌, ◌≤◌, ◌^◌, List, [], length, get_or, Some, slice_get, slice_index_or, All, refl, sym, ap, subst, arith}
 use Rattle.std.proofs.lemmas.Option.{get_or_from_slice_get, slice_get-get_or, slice_get_within}
 use Rattle.tso_model.specs.Litmus.{Litmus, IsTest}
-use Rattle.tso_model.specs.Execution.{made, StandsIn, IsWhole, IsTsoExecution}
+use Rattle.tso_model.specs.ProgramEntries.{made}
+use Rattle.tso_model.specs.Axioms.{StandsIn, IsWhole, IsTsoExecution}
 use Rattle.tso_model.specs.Runs.{Run}
 use Rattle.tso_model.specs.FlatMachine.{program_of}
 use Rattle.tso_model.specs.declared.choice.Choice.{Choice}
@@ -25,7 +26,8 @@ use Rattle.tso_report.specs.Shown.{Shown}
 use Rattle.tso_cli.specs.Simulation.{shown_of}
 use Rattle.tso_cli.specs.Answers.{IsCheckAnswer, IsJudgement, refused, judged, valid, invalid}
 use Rattle.tso_cli.specs.CheckLines.{valid_line, invalid_line, CanBeNamed}
-use Rattle.tso_cli.specs.Headline.{JudgesOrder, JudgesEachOrder, PrintsExecution}
+use Rattle.tso_cli.specs.Judgement.{JudgesOrder, JudgesEachOrder}
+use Rattle.tso_cli.specs.RunHeadline.{PrintsExecution}
 use Rattle.tso_cli.specs.declared.answer.Status.{Status}
 use Rattle.tso_cli.specs.declared.answer.Status.TheVariants.{Good}
 
@@ -90,9 +92,15 @@ judgement-means t order _ _ real one (invalid b first) = record {
 
 pub check-means : (t : Litmus) (text out : List ℕ) (status : Status) → IsReal → IsOne → IsOnce → IsNeverBoth → IsTest t → length text < 2 ^ 64
     → IsCheckAnswer t text out status → JudgesEachOrder t text out
-check-means t text _ _ real one once never test short (refused fault has) = λ order spelled. absurd (never t text order fault test short spelled has)
-check-means t text _ _ real one once never test short (judged order out status spelled is) = λ other again.
-    subst (λ o. JudgesOrder t o out) (once t text order other test short spelled again) (judgement-means t order out status real one is)
+check-means t text _ _ real one once never test short (refused fault has) = record {
+  every_order = λ order spelled. absurd (never t text order fault test short spelled has);
+  every_other = λ none. (fault, has, refl);
+}
+check-means t text _ _ real one once never test short (judged order out status spelled is) = record {
+  every_order = λ other again.
+      subst (λ o. JudgesOrder t o out) (once t text order other test short spelled again) (judgement-means t order out status real one is);
+  every_other = λ none. absurd (none order spelled);
+}
 
 valid-judgement : (t : Litmus) (order : List Entry) (out : List ℕ) (status : Status) → IsReal → IsTsoExecution t order
     → IsJudgement t order out status → (out ≡ valid_line) × (status ≡ Good)
@@ -106,11 +114,10 @@ valid-answer t text order _ _ real once never test short spelled execution (refu
 valid-answer t text order _ _ real once never test short spelled execution (judged other out status again is) =
     valid-judgement t other out status real (subst (IsTsoExecution t) (once t text order other test short spelled again) execution) is
 
-pub printed-is-valid : (t : Litmus) (kind : ProtocolKind) (c : Configuration) (choices : List Choice) (out answer : List ℕ) (status : Status) → IsReal → IsOnce → IsNeverBoth → IsTest t
-    → length out < 2 ^ 64 → PrintsExecution t kind c false choices out → IsCheckAnswer t out answer status → (answer ≡ valid_line) × (status ≡ Good)
-printed-is-valid t kind c choices out answer status real once never test short prints is =
-    valid-answer t out prints.shown.order answer status real once never test short (prints.spelled refl)
-    (record { whole = prints.exactly_once; program_order = prints.program_order; pairs = prints.adjacent; read_values = prints.read_values }) is
+pub printed-is-valid : (t : Litmus) (kind : ProtocolKind) (c : Configuration) (r : Run) (out answer : List ℕ) (status : Status) → IsReal → IsOnce → IsNeverBoth → IsTest t
+    → length out < 2 ^ 64 → PrintsExecution t kind c false r out → IsCheckAnswer t out answer status → (answer ≡ valid_line) × (status ≡ Good)
+printed-is-valid t kind c r out answer status real once never test short prints is =
+    valid-answer t out prints.shown.order answer status real once never test short (prints.spelled refl) prints.execution is
 
 -- ---- the order of an ended run has all that the text of an order needs
 

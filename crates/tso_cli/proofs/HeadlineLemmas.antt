@@ -1,7 +1,9 @@
 -- The headline holds of each answer.
 use Rattle.std.proofs.Common.{◌≡◌, ◌<◌, ◌^◌, ℕ, Bool, List, length, true, false, Option, Some, None, IfSome, subst, refl, arith}
 use Rattle.tso_model.specs.Litmus.{Litmus, IsTest}
-use Rattle.tso_model.specs.Execution.{IsWhole, KeepsAllOrder, StandsIn}
+use Rattle.tso_model.specs.Axioms.{IsWhole, StandsIn}
+use Rattle.tso_model.specs.SequentialConsistency.{KeepsAllOrder}
+use Rattle.tso_model.specs.declared.bus.Bus.{Bus}
 use Rattle.tso_model.specs.declared.bus.Bus.TheVariants.{Atomic}
 use Rattle.tso_model.specs.declared.choice.Choice.{Choice}
 use Rattle.tso_model.specs.declared.execution.Entry.{Entry}
@@ -20,9 +22,12 @@ use Rattle.tso_cli.specs.Answers.{run_text, IsRunAnswer, IsAnswerTo, IsInputAnsw
 use Rattle.tso_cli.specs.Limits.{IsTaskWithinLimits}
 use Rattle.command_line.specs.Limits.{IsWithinLimits as IsSettingsWithinLimits}
 use Rattle.tso_cli.specs.Parts.{parts_of}
-use Rattle.tso_cli.specs.Headline.{PrintsExecution, PrintsEachRun, HeadlineOf, InputHeadline, Headline}
+use Rattle.command_line.specs.Plan.{Plan}
+use Rattle.tso_cli.specs.RunHeadline.{PrintsExecution, PrintsEachRun, HeadlineOfRuns}
+use Rattle.tso_cli.specs.SweepHeadline.{PrintsSweep, HeadlineOfSweeps}
+use Rattle.tso_cli.specs.Headline.{HeadlineOf, InputHeadline, Headline}
 use Rattle.tso_cli.specs.Runs.{run_by, run_under, AnswersFitBy, AnswersFit, counts_under}
-use Rattle.tso_cli.specs.RunTexts.{report_in}
+use Rattle.tso_cli.specs.RunTexts.{report_in, unfinished_in}
 use Rattle.tso_cli.specs.Simulation.{shown_of}
 use Rattle.tso_cli.specs.declared.task.Task.{Task}
 use Rattle.tso_cli.specs.declared.task.Task.TheVariants as tasks
@@ -41,19 +46,16 @@ Spells t kind c json choices out = json ≡ false → SpellsOrder t out (run_und
 
 prints : (t : Litmus) (kind : ProtocolKind) (c : Configuration) (json : Bool) (choices : List Choice) (out : List ℕ) → IsExecution t (run_under t kind c choices)
     → (c.depth ≡ 0 → KeepsAllOrder (run_under t kind c choices).commits) → out ≡ report_in json t kind c (shown_of t (counts_under t kind c choices) (run_under t kind c choices)) → Spells t kind c json choices out
-    → PrintsExecution t kind c json choices out
+    → PrintsExecution t kind c json (run_under t kind c choices) out
 prints t kind c json choices out e all printed spelled = record {
   shown = shown_of t (counts_under t kind c choices) (run_under t kind c choices);
   printed = printed;
-  exactly_once = e.order.whole;
-  program_order = e.order.program_order;
+  execution = e.order;
   unbuffered = all;
-  adjacent = e.order.pairs;
-  read_values = e.order.read_values;
   registers = e.registers;
   memory = e.memory;
   condition = refl;
-  under_choices = refl;
+  committed = refl;
   spelled = spelled;
 }
 
@@ -67,18 +69,54 @@ HasEnded t kind c choices = (run_under t kind c choices).ended ≡ true
 
 prints-one : (t : Litmus) (kind : ProtocolKind) (c : Configuration) (json : Bool) (choices : List Choice) (out : List ℕ) → out ≡ written_of t kind c json choices
     → (HasEnded t kind c choices → IsExecution t (run_under t kind c choices)) → (c.depth ≡ 0 → HasEnded t kind c choices → KeepsAllOrder (run_under t kind c choices).commits)
-    → (HasEnded t kind c choices → Spells t kind c json choices out) → HasEnded t kind c choices → PrintsExecution t kind c json choices out
+    → (HasEnded t kind c choices → Spells t kind c json choices out) → HasEnded t kind c choices → PrintsExecution t kind c json (run_under t kind c choices) out
 prints-one t kind c json choices out text law all spelled ended = prints t kind c json choices out (law ended) (λ none. all none ended) (rw ended at text) (spelled ended)
+
+-- the choices don't end the test
+abbrev HasNotEnded : Litmus → ProtocolKind → Configuration → List Choice → Type 0
+HasNotEnded t kind c choices = (run_under t kind c choices).ended ≡ false
+
+prints-none : (t : Litmus) (kind : ProtocolKind) (c : Configuration) (json : Bool) (choices : List Choice) (out : List ℕ) → out ≡ written_of t kind c json choices
+    → HasNotEnded t kind c choices → out ≡ unfinished_in json (run_under t kind c choices).used (run_under t kind c choices).stalled
+prints-none t kind c json choices out text unended = rw unended at text
 
 run-means : (t : Litmus) (kind : ProtocolKind) (c : Configuration) (json : Bool) (text out : List ℕ) (status : Status) → IsDecided (length t.programs) text
     → ((choices : List Choice) → AnswersFit t kind c choices → HasEnded t kind c choices → IsExecution t (run_under t kind c choices))
     → ((choices : List Choice) → c.depth ≡ 0 → AnswersFit t kind c choices → HasEnded t kind c choices → KeepsAllOrder (run_under t kind c choices).commits)
     → ((choices : List Choice) (out : List ℕ) → AnswersFit t kind c choices → out ≡ written_of t kind c json choices → HasEnded t kind c choices → Spells t kind c json choices out)
-    → IsRunAnswer t kind c json text out status → PrintsEachRun t kind c json text out
-run-means t kind c json text _ _ decided law all spells (refused fault h) = λ choices spelled. absurd (decided.never_both choices fault spelled h)
-run-means t kind c json text _ _ decided law all spells (ran made spelled fit) = λ choices read.
-    subst (λ cs. HasEnded t kind c cs → PrintsExecution t kind c json cs (written_of t kind c json made)) (decided.one_list made choices spelled read)
-    (prints-one t kind c json made (written_of t kind c json made) refl (law made fit) (λ none. all made none fit) (spells made (written_of t kind c json made) fit refl))
+    → IsRunAnswer t kind c json text out status → PrintsEachRun t kind c json (λ choices. run_under t kind c choices) text out
+run-means t kind c json text _ _ decided law all spells (refused fault h) = record {
+  every_list = λ choices spelled. absurd (decided.never_both choices fault spelled h);
+  every_other = λ none. (fault, h, refl);
+}
+run-means t kind c json text _ _ decided law all spells (ran made spelled fit) = record {
+  every_list = λ choices read.
+      let out : List ℕ = written_of t kind c json made in
+      let is : made ≡ choices = decided.one_list made choices spelled read in
+      record {
+        ended = subst (λ cs. HasEnded t kind c cs → PrintsExecution t kind c json (run_under t kind c cs) out) is
+            (prints-one t kind c json made out refl (law made fit) (λ none. all made none fit) (spells made out fit refl));
+        unended = subst (λ cs. HasNotEnded t kind c cs → out ≡ unfinished_in json (run_under t kind c cs).used (run_under t kind c cs).stalled) is
+            (prints-none t kind c json made out refl);
+      };
+  every_other = λ none. absurd (none made spelled);
+}
+
+-- what is said of the runs on either bus is said of each bus apart
+
+runs-by-bus : (t : Litmus) (kind : ProtocolKind) (c : Configuration) (json : Bool) (text out : List ℕ)
+    → PrintsEachRun t kind c json (λ choices. run_under t kind c choices) text out → HeadlineOfRuns t kind c json text out
+runs-by-bus t kind c json text out prints = record {
+  atomic = λ is. subst (λ (b : Bus). PrintsEachRun t kind c json (λ choices. run_by b (table_of kind) c t choices) text out) is prints;
+  split = λ is. subst (λ (b : Bus). PrintsEachRun t kind c json (λ choices. run_by b (table_of kind) c t choices) text out) is prints;
+}
+
+sweeps-by-bus : (t : Litmus) (kind : ProtocolKind) (c : Configuration) (plan : Plan) (out : List ℕ)
+    → PrintsSweep t kind c plan (λ choices. run_under t kind c choices) out → HeadlineOfSweeps t kind c plan out
+sweeps-by-bus t kind c plan out prints = record {
+  atomic = λ is. subst (λ (b : Bus). PrintsSweep t kind c plan (λ choices. run_by b (table_of kind) c t choices) out) is prints;
+  split = λ is. subst (λ (b : Bus). PrintsSweep t kind c plan (λ choices. run_by b (table_of kind) c t choices) out) is prints;
+}
 
 -- what is known of runs and reports
 pub record Runs : Type 0 where
@@ -103,11 +141,13 @@ report-spells t kind c false choices out laws test within fit is ended plain =
 answer-means : (task : Task) (t : Litmus) (text out : List ℕ) (status : Status) → AreReadOneWay → Runs → Reaching → IsTaskWithinLimits task → IsTest t → length text < 2 ^ 64
     → IsAnswerTo task t text out status → HeadlineOf task t text out
 answer-means (tasks.Run kind c json) t text out status texts runs reaching within test short is =
-    run-means t kind c json text out status (texts.decided (length t.programs) text test.some_core) (λ choices. runs.executions (table_of kind) c t choices test)
+    runs-by-bus t kind c json text out
+    (run-means t kind c json text out status (texts.decided (length t.programs) text test.some_core) (λ choices. runs.executions (table_of kind) c t choices test)
     (λ choices none. runs.unbuffered (table_of kind) c t choices none test)
-    (λ choices out. report-spells t kind c json choices out runs test within) is
+    (λ choices out. report-spells t kind c json choices out runs test within) is)
 answer-means (tasks.Sweep kind c plan) t text out status texts runs reaching within test short is =
-    sweep-means t kind c plan out status (λ choices. runs.executions (table_of kind) c t choices test) (λ choices none. runs.unbuffered (table_of kind) c t choices none test) (runs.atomic (table_of kind) c t) is
+    sweeps-by-bus t kind c plan out
+    (sweep-means t kind c plan out status (λ choices. runs.executions (table_of kind) c t choices test) (λ choices none. runs.unbuffered (table_of kind) c t choices none test) (runs.atomic (table_of kind) c t) is)
 answer-means tasks.Check t text out status texts runs reaching within test short is =
     check-means t text out status texts.real texts.one texts.once texts.never_both test short is
 answer-means (tasks.Witness depth) t text out status texts runs reaching within test short is =

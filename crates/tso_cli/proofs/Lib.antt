@@ -18,3 +18,9 @@ pub mod SweptRuns
 pub mod Joined
 pub mod Rechecked
 pub mod Replayed
+pub mod MachineLemmas
+mod SameStates
+mod SweptLines
+pub mod OneTextLemmas
+pub mod FittingRuns
+pub mod FittingSweeps

@@ -5,7 +5,9 @@ use Rattle.order_builder.specs.Spelling.{SpellsOrder}
 use Rattle.tso_model.specs.Litmus.{Litmus, IsTest, IsProgram}
 use Rattle.tso_model.specs.Registers.{AreRegisters}
 use Rattle.tso_model.specs.Thread.{entries_of, with_value, value_in}
-use Rattle.tso_model.specs.Execution.{made_by, made_from, read_values, IsTsoExecution}
+use Rattle.tso_model.specs.ProgramEntries.{made_by, made_from}
+use Rattle.tso_model.specs.Axioms.{IsTsoExecution}
+use Rattle.tso_model.specs.ProgramEntries.{read_values}
 use Rattle.tso_model.specs.FinalState.{registers_from}
 use Rattle.tso_model.specs.FlatMachine.{start}
 use Rattle.tso_model.specs.Runs.{Run, has_ended, stall_count}
@@ -71,7 +73,7 @@ order_few t order test execution =
     let few = made_few 0 t.programs t.registers order sizes in
     omega arith
 
-registers_each : (core : ℕ) (programs : List (List Instr)) (registers : List (List ℕ)) (order : List Entry) → length (registers_from core programs registers order) ≡ length programs
+pub registers_each : (core : ℕ) (programs : List (List Instr)) (registers : List (List ℕ)) (order : List Entry) → length (registers_from core programs registers order) ≡ length programs
 registers_each core [] registers order = refl
 registers_each core (p ∷ ps) registers order = ap suc (registers_each (core + 1) ps registers order)
 
@@ -93,11 +95,11 @@ stalls_few bus t depth state (x ∷ xs) = by_end (has_ended t state.flat) (stall
     by_end false h = let one = stall_few (effect_on bus t depth state x).effect.outcome in omega arith
 
 -- the counts of choices of a run
-record FewChoices (n : ℕ) (r : Run) : Type 0 where
-  count : r.used + r.unused ≡ n
-  stalls : r.stalled ≤ r.used
+pub record FewChoices (n : ℕ) (r : Run) : Type 0 where
+  pub count : r.used + r.unused ≡ n
+  pub stalls : r.stalled ≤ r.used
 
-choices-few : (table : Table) (c : Configuration) (t : Litmus) (choices : List Choice) → RunLaws → FewChoices (length choices) (run_by c.bus table c t choices)
+pub choices-few : (table : Table) (c : Configuration) (t : Litmus) (choices : List Choice) → RunLaws → FewChoices (length choices) (run_by c.bus table c t choices)
 choices-few table c t choices laws =
     subst (λ (r : Run). FewChoices (length choices) r) (sym (run-is table c t choices laws.atomic))
     (record {
@@ -105,7 +107,7 @@ choices-few table c t choices laws =
       stalls = stalls_few c.bus t c.depth (unheld (start t)) (attempts_in table c t choices);
     })
 
-small-run : (t : Litmus) (kind : ProtocolKind) (c : Configuration) (choices : List Choice) → Runs → RunLaws → IsTest t → length choices ≤ 100000 → AnswersFit t kind c choices
+pub small-run : (t : Litmus) (kind : ProtocolKind) (c : Configuration) (choices : List Choice) → Runs → RunLaws → IsTest t → length choices ≤ 100000 → AnswersFit t kind c choices
     → (run_under t kind c choices).ended ≡ true → IsSmall t (shown_of t (counts_under t kind c choices) (run_under t kind c choices))
 small-run t kind c choices laws runs test few fit ended =
     let r = run_under t kind c choices in
@@ -130,6 +132,10 @@ small-run t kind c choices laws runs test few fit ended =
     }
 
 -- ---- the answer of `run`, and that of `check` to it
+
+-- what is known of reports, as this file uses it
+abbrev pub AreShort : Type 0
+AreShort = (t : Litmus) (kind : ProtocolKind) (c : Configuration) (s : Shown) → IsTest t → IsWithinLimits c → IsSmall t s → length (report t kind c s) ≤ longest_report
 
 record Ended (kind : ProtocolKind) (c : Configuration) (input out : List ℕ) : Type 0 where
   t : Litmus
@@ -175,15 +181,24 @@ checked test out input _ _ t order laws same separated short spelled spells exec
     valid-answer t out order answer status laws.real laws.once laws.never_both (laws.test test t spelled) (omega arith) spells execution
     (subst (λ (u : Litmus). IsCheckAnswer u out answer status) one (subst (λ text. IsCheckAnswer other text answer status) second is))
 
+ended-short : (kind : ProtocolKind) (c : Configuration) (input out : List ℕ) → AreReadOneWay → Runs → RunLaws → AreShort
+    → IsWithinLimits c → Ended kind c input out → length out ≤ longest_report
+ended-short kind c input out texts runs laws short within e =
+    let test = texts.test (parts_of input).test e.t e.spelled in
+    let printed : out ≡ report e.t kind c (shown_of e.t (counts_under e.t kind c e.choices) (run_under e.t kind c e.choices)) = rw e.ended at e.is in
+    subst (λ (o : List ℕ). length o ≤ longest_report) (sym printed)
+    (short e.t kind c (shown_of e.t (counts_under e.t kind c e.choices) (run_under e.t kind c e.choices)) test within (small-run e.t kind c e.choices runs laws test e.few e.fit e.ended))
+
+pub printed-short : (kind : ProtocolKind) (c : Configuration) (input out : List ℕ) → AreReadOneWay → Runs → RunLaws → AreShort
+    → IsWithinLimits c → IsInputAnswer (tasks.Run kind c false) input out Good → length out ≤ longest_report
+printed-short kind c input out texts runs laws short within is = ended-short kind c input out texts runs laws short within (input-ended kind c input out Good refl is)
+
 pub rechecked : (kind : ProtocolKind) (c : Configuration) (input out answer : List ℕ) (status : Status) → AreReadOneWay → Runs → RunLaws
-    → ((t : Litmus) (kind : ProtocolKind) (c : Configuration) (s : Shown) → IsTest t → IsWithinLimits c → IsSmall t s → length (report t kind c s) ≤ longest_report)
-    → IsWithinLimits c → parts_of (joined (parts_of input).test out) ≡ record { test = (parts_of input).test; rest = out }
+    → AreShort → IsWithinLimits c → parts_of (joined (parts_of input).test out) ≡ record { test = (parts_of input).test; rest = out }
     → IsInputAnswer (tasks.Run kind c false) input out Good → IsInputAnswer tasks.Check (joined (parts_of input).test out) answer status → (answer ≡ valid_line) × (status ≡ Good)
 rechecked kind c input out answer status texts runs laws short within separated is answered_so =
     let e = input-ended kind c input out Good refl is in
     let test = texts.test (parts_of input).test e.t e.spelled in
-    let printed : out ≡ report e.t kind c (shown_of e.t (counts_under e.t kind c e.choices) (run_under e.t kind c e.choices)) = rw e.ended at e.is in
-    let size : length out ≤ longest_report =
-    subst (λ (o : List ℕ). length o ≤ longest_report) (sym printed) (short e.t kind c (shown_of e.t (counts_under e.t kind c e.choices) (run_under e.t kind c e.choices)) test within (small-run e.t kind c e.choices runs laws test e.few e.fit e.ended)) in
+    let size : length out ≤ longest_report = ended-short kind c input out texts runs laws short within e in
     checked (parts_of input).test out (joined (parts_of input).test out) answer status e.t (run_under e.t kind c e.choices).commits texts refl separated size e.spelled
     (report-spells e.t kind c false e.choices out runs test within e.fit e.is e.ended refl) (runs.executions (table_of kind) c e.t e.choices test e.fit e.ended).order answered_so

@@ -3,7 +3,7 @@ use Rattle.std.proofs.Common.{◌≡◌, ◌*◌, ◌≤◌, ◌<◌, ℕ, Bool,
 use Rattle.std.specs.Fmt.{decimal}
 use Rattle.std.proofs.lemmas.Fmt.{length-decimal-le}
 use Rattle.tso_model.specs.Litmus.{Litmus, IsTest}
-use Rattle.tso_model.specs.Execution.{IsTsoExecution}
+use Rattle.tso_model.specs.Axioms.{IsTsoExecution}
 use Rattle.tso_model.specs.FlatMachine.{chosen}
 use Rattle.tso_model.specs.Runs.{run, CoresExist}
 use Rattle.tso_model.specs.declared.bus.Bus.TheVariants.{Atomic}

@@ -1,5 +1,5 @@
 -- The states of a tally: lists of values in ascending order, each with the number of runs that gave it.
-use Rattle.std.proofs.Common.{◌≡◌, ◌<◌, ◌+◌, ℕ, zero, suc, Bool, true, false, cond, List, [], ◌∷◌, length, slice_index_or, Option, Some, None, Ordering, Less, Equal, Greater, All, refl, sym, ap, subst, ◌∙◌, arith}
+use Rattle.std.proofs.Common.{◌≡◌, ◌<◌, ◌+◌, ℕ, zero, suc, Bool, true, false, cond, List, [], ◌∷◌, length, slice_index_or, Option, Some, None, is_some, Ordering, Less, Equal, Greater, All, Contains, refl, sym, ap, subst, ◌∙◌, arith}
 use Rattle.std.specs.Prelude.{bytes_eq, sum}
 use Rattle.std.specs.List.{AllByRecursion}
 use Rattle.std.specs.List.Sorted.{IsStrictlySortedBy}
@@ -12,7 +12,7 @@ use Rattle.std.proofs.lemmas.Cmp.{nat_list_cmp_total, eq_by_cmp_equiv}
 use Rattle.std.proofs.lemmas.Map.Entries.{sum_by-insert_entry, lookup_from_place}
 use Rattle.std.proofs.lemmas.Map.Keys.{IsDistinct-from_sorted}
 use Rattle.std.proofs.lemmas.Map.Text.{is_eq-slice_cmp}
-use Rattle.std.proofs.lemmas.Map.Views.{All-values-insert_entry}
+use Rattle.std.proofs.lemmas.Map.Views.{All-values-insert_entry, Contains-keys_from_lookup}
 use Rattle.std.proofs.lemmas.Slice.Eq.{bytes_eq-Decides}
 use Rattle.std.proofs.lemmas.Option.{slice_get-get_or}
 use Rattle.tso_report.specs.Tally.{count_of, with_values}
@@ -69,7 +69,7 @@ count-with v w es = ap (λ (o : Option ℕ). unwrap_or o 0) (lookup-inserted v w
 
 -- ---- they ascend, and each was given by a run
 
-all-map : (P Q : List ℕ → Type 0) → ((y : List ℕ) → P y → Q y) → (ks : List (List ℕ)) → AllByRecursion P ks → AllByRecursion Q ks
+pub all-map : (P Q : List ℕ → Type 0) → ((y : List ℕ) → P y → Q y) → (ks : List (List ℕ)) → AllByRecursion P ks → AllByRecursion Q ks
 all-map P Q f [] a = tt
 all-map P Q f (k ∷ ks) a = (f k a.0, all-map P Q f ks a.1)
 
@@ -142,3 +142,16 @@ each-counted es number s given counts = λ k d l.
     lookup_from_place (eq_by_cmp_equiv nat_list_cmp_total) es k e.0 e.1 (IsDistinct-from_sorted R (keys_of es) s) (slice_get-get_or es k d l) in
     let some : 0 < e.1 = subst (λ n. 0 < n) (values-at es k d l) (given k d.1 (subst (λ n. k < n) (sym (length-values es)) l)) in
     (some, sym (ap (λ (o : Option ℕ). unwrap_or o 0) found) ∙ counts e.0)
+
+-- ---- what is counted is there
+
+pub same-values : (v w : List ℕ) → is_eq (R v w) ≡ true → v ≡ w
+same-values v w h = (bytes_eq-Decides v w).0 (sym (is_eq-slice_cmp v w) ∙ h)
+
+-- a list of values that some run gave is one of those that are kept
+pub counted-there : (v : List ℕ) (es : States) → 0 < count_of v es → Contains (keys_of es) v
+counted-there v es some = by (lookup (is_at (R v)) es) refl
+  where
+    by : (o : Option ℕ) → lookup (is_at (R v)) es ≡ o → Contains (keys_of es) v
+    by None h = absurd (let none : count_of v es ≡ 0 = ap (λ (o : Option ℕ). unwrap_or o 0) h in omega arith)
+    by (Some n) h = Contains-keys_from_lookup same-values v es (ap (λ (o : Option ℕ). is_some o) h)

@@ -1,12 +1,14 @@
 -- What is counted of a sweep, and what that means: the final states of TSO executions.
-use Rattle.std.proofs.Common.{◌≡◌, ◌<◌, ◌≤◌, ◌⊎◌, inl, inr, ◌==◌, ◌&&◌, ◌+◌, ℕ, zero, suc, Bool, true, false, not, cond, List, ◌++◌, Option, Some, None, IfSome, is_none, refl, sym, ap, subst, ◌∙◌, arith}
+use Rattle.std.proofs.Common.{◌≡◌, ◌<◌, ◌≤◌, ◌⊎◌, inl, inr, ◌==◌, ◌&&◌, ◌+◌, ℕ, zero, suc, Bool, true, false, not, cond, List, ◌++◌, Option, Some, None, IfSome, is_none, All, Contains, refl, sym, ap, subst, ◌∙◌, arith}
 use Rattle.std.proofs.lemmas.Bool.Decides.{nat_tests}
+use Rattle.std.proofs.lemmas.Slice.Eq.{bytes_eq-Decides}
 use Rattle.std.specs.Prelude.{bytes_eq, sum}
 use Rattle.std.specs.Option.{option_map}
-use Rattle.std.specs.Map.{values_of}
+use Rattle.std.specs.Map.{keys_of, values_of}
 use Rattle.tso_model.specs.FlatMachine.{registers_in}
 use Rattle.tso_model.specs.Litmus.{Litmus}
-use Rattle.tso_model.specs.Execution.{IsTsoExecution, KeepsAllOrder}
+use Rattle.tso_model.specs.Axioms.{IsTsoExecution}
+use Rattle.tso_model.specs.SequentialConsistency.{KeepsAllOrder}
 use Rattle.tso_model.specs.Condition.{Condition, truth_of}
 use Rattle.tso_model.specs.FinalState.{final_words, final_registers}
 use Rattle.tso_model.specs.Runs.{Run}
@@ -17,14 +19,15 @@ use Rattle.tso_laws.specs.EndedRuns.{IsExecution}
 use Rattle.protocol_tables.specs.declared.kind.ProtocolKind.{ProtocolKind}
 use Rattle.machine_core.specs.Configuration.{Configuration}
 use Rattle.tso_report.specs.Report.{head}
-use Rattle.tso_report.specs.Tally.{RunCounts, with_state, with_verdict, values_in, count_of, runs_in, tally_text}
+use Rattle.tso_report.specs.Tally.{RunCounts, with_state, with_verdict, values_in, count_of, runs_in, state_line, tally_text}
 use Rattle.command_line.specs.Plan.{Plan}
 use Rattle.tso_cli.specs.Runs.{run_under, AnswersFit}
 use Rattle.tso_cli.specs.Simulation.{verdict}
 use Rattle.tso_cli.specs.Sweep.{choices_of, seeded_run, with_one_run, counts_from, sweep_counts, sweep_lines, AnswersFitFrom, IsSweepAnswer}
-use Rattle.tso_cli.specs.Headline.{has_values, has_truth, seeds_from, PrintsSweep}
+use Rattle.tso_cli.specs.SweepHeadline.{values_after, has_values, has_truth, seeds_from, HasPart, PrintsSweep}
 use Rattle.tso_cli.specs.declared.answer.Status.{Status}
-use Rattle.tso_cli.proofs.StateLemmas.{States, Ascend, EachGiven, count-with, ascend-with, ascend-none, given-with, sum-with, each-counted}
+use Rattle.tso_cli.proofs.SweptLines.{each-line}
+use Rattle.tso_cli.proofs.StateLemmas.{States, Ascend, EachGiven, count-with, ascend-with, ascend-none, given-with, sum-with, each-counted, counted-there}
 
 -- the order of a run that ended
 abbrev order_in : Run → Option (List Entry)
@@ -244,14 +247,41 @@ all-order-is r law = by_end r.ended refl
     by_end true e = law e
     by_end false e = tt
 
+-- ---- the final state of each run that ended is among those that are counted
+
+le-cases : (a b : ℕ) → a ≤ b → (a < b) ⊎ (a ≡ b)
+le-cases a b h = grind arith
+
+-- a seed that passes a test is counted
+seeds-some : (test : ℕ → Bool) (from n seeds : ℕ) → n < seeds → test (from + n) ≡ true → 0 < seeds_from test from seeds
+seeds-some test from n zero below passed = absurd (omega arith)
+seeds-some test from n (suc seeds) below passed = by_place (le-cases n seeds (omega arith)) (λ less. seeds-some test from n seeds less passed)
+  where
+    by_place : (n < seeds) ⊎ (n ≡ seeds) → (n < seeds → 0 < seeds_from test from seeds) → 0 < seeds_from test from seeds + one (test (from + seeds))
+    by_place (inl less) before = let earlier = before less in omega arith
+    by_place (inr is) before =
+        let here : test (from + seeds) ≡ true = subst (λ (k : ℕ). test (from + k) ≡ true) is passed in
+        let counted : one (test (from + seeds)) ≡ 1 = ap (λ (b : Bool). one b) here in omega arith
+
+among : (t : Litmus) (order_of : ℕ → Option (List Entry)) (states : States) (from n seeds : ℕ)
+    → ((v : List ℕ) → count_of v states ≡ seeds_from (λ seed. has_values t v (order_of seed)) from seeds) → n < seeds
+    → IfSome (order_of (from + n)) (λ order. Contains (keys_of states) (values_after t order))
+among t order_of states from n seeds counts below = by_end (order_of (from + n)) refl
+  where
+    by_end : (o : Option (List Entry)) → order_of (from + n) ≡ o → IfSome o (λ order. Contains (keys_of states) (values_after t order))
+    by_end None e = tt
+    by_end (Some order) e =
+        let v = values_after t order in
+        let has : has_values t v (order_of (from + n)) ≡ true =
+        ap (λ (o : Option (List Entry)). has_values t v o) e ∙ (bytes_eq-Decides v v).1 refl in
+        let some : 0 < seeds_from (λ seed. has_values t v (order_of seed)) from seeds = seeds-some (λ seed. has_values t v (order_of seed)) from n seeds below has in
+        counted-there v states (subst (λ (k : ℕ). 0 < k) (sym (counts v)) some)
+
 -- the answers fit for one more seed
 pub fit-more : (t : Litmus) (kind : ProtocolKind) (c : Configuration) (count from seeds length seed : ℕ) → AnswersFitFrom t kind c count from seeds
     → length ≡ count → seed ≡ from + seeds → AnswersFit t kind c (choices_of t length seed) → AnswersFitFrom t kind c count from (seeds + 1)
 fit-more t kind c count from seeds length seed before same_length same_seed last = λ n l. by_place n (le-cases n seeds (omega arith))
   where
-    le-cases : (a b : ℕ) → a ≤ b → (a < b) ⊎ (a ≡ b)
-    le-cases a b h = grind arith
-
     by_place : (n : ℕ) → (n < seeds) ⊎ (n ≡ seeds) → AnswersFit t kind c (choices_of t count (from + n))
     by_place n (inl below) = before n below
     by_place n (inr is) =
@@ -266,7 +296,7 @@ pub sweep-means : (t : Litmus) (kind : ProtocolKind) (c : Configuration) (plan :
     → ((choices : List Choice) → AnswersFit t kind c choices → (run_under t kind c choices).ended ≡ true → IsExecution t (run_under t kind c choices))
     → ((choices : List Choice) → c.depth ≡ 0 → AnswersFit t kind c choices → (run_under t kind c choices).ended ≡ true → KeepsAllOrder (run_under t kind c choices).commits)
     → ((choices : List Choice) → c.bus ≡ Atomic → AnswersFit t kind c choices)
-    → IsSweepAnswer t kind c plan out status → PrintsSweep t kind c plan out
+    → IsSweepAnswer t kind c plan out status → PrintsSweep t kind c plan (λ choices. run_under t kind c choices) out
 sweep-means t kind c plan out status executions all fit is =
     let count = plan.length in
     let from = plan.from in
@@ -279,6 +309,9 @@ sweep-means t kind c plan out status executions all fit is =
       executions = λ n l. execution-is t (seeded_run t kind c count (from + n)) (law n l);
       every_seed = λ atomic seed. execution-is t (seeded_run t kind c count seed) (executions (choices_of t count seed) (fit (choices_of t count seed) atomic));
       unbuffered = λ none n l. all-order-is (seeded_run t kind c count (from + n)) (all (choices_of t count (from + n)) none (is.answers n l));
+      ascending = ascend t kind c count from seeds;
+      lines = subst (λ (o : List ℕ). All (λ state. HasPart o (state_line t state)) (sweep_counts t kind c plan).states) (sym is.text) (each-line t kind c plan (sweep_counts t kind c plan));
+      complete = λ n l. among t (λ seed. order_in (seeded_run t kind c count seed)) (sweep_counts t kind c plan).states from n seeds (λ v. found t kind c count from v seeds law) l;
       states = each-counted (sweep_counts t kind c plan).states _ (ascend t kind c count from seeds) (given t kind c count from seeds) (λ v. found t kind c count from v seeds law);
       held = where-there-is t.condition _ (λ k there. held-are t kind c count from k there seeds law);
       failed = where-there-is t.condition _ (λ k there. failed-are t kind c count from k there seeds law);

@@ -4,7 +4,7 @@ use Rattle.std.specs.List.{list_all}
 use Rattle.std.proofs.lemmas.List.Elements.{All-head, All-tail, All-weaker}
 use Rattle.tso_model.specs.Limits.{most_depth}
 use Rattle.tso_model.specs.Litmus.{Litmus, IsTest, IsProgram}
-use Rattle.tso_model.specs.Execution.{IsTsoExecution}
+use Rattle.tso_model.specs.Axioms.{IsTsoExecution}
 use Rattle.tso_model.specs.Runs.{run, CoresExist}
 use Rattle.tso_model.specs.declared.instruction.Instr.{Instr}
 use Rattle.tso_model.specs.declared.instruction.Instr.TheVariants.{StoreImm, StoreReg, Load, SetImm, SetReg, Fence, Xchg, Xadd}
@@ -18,7 +18,7 @@ use Rattle.scheduler.specs.Grammar.{SpellsChoices}
 use Rattle.scheduler.specs.Limits.{most_choices}
 use Rattle.scheduler.specs.Printed.{printed_choices}
 use Rattle.scheduler.specs.Words.{is_space}
-use Rattle.tso_cli.specs.Headline.{WitnessesOrder, WitnessesEachOrder, reached, unreached, broken}
+use Rattle.tso_cli.specs.Judgement.{WitnessesOrder, WitnessesEachOrder, reached, unreached, broken}
 use Rattle.command_line.specs.Limits.{IsDepth}
 use Rattle.tso_cli.specs.Simulation.{IsEndingOf, drains}
 use Rattle.tso_cli.specs.Witness.{choices_line, IsWitness, IsWitnessAnswer, HasEndedWith, reached, too_small, invalid, refused, judged}

@@ -6,9 +6,16 @@ pub mod Simulation
 pub mod Lines
 pub mod RunTexts
 pub mod Sweep
+pub mod Fitting
 pub mod CheckLines
 pub mod Witness
 pub mod Answers
+pub mod SplitRun
+pub mod RunHeadline
+pub mod SweepHeadline
+pub mod Judgement
 pub mod Headline
+pub mod OneText
+pub mod Machines
 pub mod ReadOneWay
 pub mod Hints

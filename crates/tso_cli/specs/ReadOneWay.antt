@@ -1,7 +1,7 @@
 -- What the crates below say of texts and orders, put together: each is read in one way. (This project's profile.)
 use Rattle.std.specs.Prelude.{ℕ, ◌≡◌, ◌<◌, ◌^◌, List, length}
 use Rattle.tso_model.specs.Litmus.{Litmus, IsTest}
-use Rattle.tso_model.specs.Execution.{IsTsoExecution}
+use Rattle.tso_model.specs.Axioms.{IsTsoExecution}
 use Rattle.tso_model.specs.declared.execution.Entry.{Entry}
 use Rattle.litmus_reader.specs.Spelling.{SpellsTest, IsRefused as IsRefusedTest}
 use Rattle.litmus_reader.specs.declared.fault.TextFault.{TextFault}

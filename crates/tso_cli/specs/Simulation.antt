@@ -3,7 +3,7 @@ use Rattle.std.specs.Prelude.{ℕ, zero, suc, ◌+◌, ◌≡◌, Bool, true, fa
 use Rattle.std.specs.Option.{option_map}
 use Rattle.tso_model.specs.Litmus.{Litmus}
 use Rattle.tso_model.specs.Condition.{truth_of}
-use Rattle.tso_model.specs.Execution.{KeepsAllOrder}
+use Rattle.tso_model.specs.SequentialConsistency.{KeepsAllOrder}
 use Rattle.tso_model.specs.FlatMachine.{registers_in}
 use Rattle.tso_model.specs.Runs.{Run}
 use Rattle.tso_model.specs.EitherBus.{BusRun, run_on_from, HitsFit}

@@ -40,6 +40,7 @@ pub fn run_command<R: Read, W: Write>(
 
     // Faults come from the devices, and are told.
     ensures device { (result ≡ Err RunFault.Device) ↔ ((reader.old.1 < reader.new.1) ⊎ (writer.old.1 < writer.new.1)) }
+    // At most one call fails; that none is made after it can't be said here.
     ensures once { reader.new.1 + writer.new.1 ≤ reader.old.1 + writer.old.1 + 1 }
     ensures no_memory { result ≡ Err RunFault.NoMemory → Keeps (W.contents writer.old.0) (W.contents writer.new.0) }
     ensures reader_fault { reader.old.1 < reader.new.1 → Keeps (W.contents writer.old.0) (W.contents writer.new.0) }

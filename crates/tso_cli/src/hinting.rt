@@ -53,7 +53,7 @@ fn refused(alloc: Global, asked: Option<Asked>, input: &[u8]) -> Result<String, 
         return general_hint(alloc);
     };
     if input.len() > MAX_INPUT {
-        return size_hint(alloc);
+        return size_hint(alloc, MAX_INPUT);
     }
     let parts = parts_of(input);
     let is_divided = parts.test.len() < input.len();

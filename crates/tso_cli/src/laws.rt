@@ -3,8 +3,9 @@
 ghost use Rattle.std.specs.Prelude.{◌≡◌, ◌<◌, ◌≤◌, ◌^◌, ℕ, Bool, false, List, Option, Some, length};
 ghost use Rattle.tso_model.specs.Limits.{most_depth};
 ghost use Rattle.tso_model.specs.Litmus.{Litmus, IsTest};
-ghost use Rattle.tso_model.specs.Execution.{IsTsoExecution, KeepsAllOrder};
-ghost use Rattle.tso_model.specs.Runs.{run};
+ghost use Rattle.tso_model.specs.Axioms.{IsTsoExecution};
+ghost use Rattle.tso_model.specs.SequentialConsistency.{KeepsAllOrder};
+ghost use Rattle.tso_model.specs.Runs.{Run, run};
 ghost use Rattle.tso_model.specs.declared.bus.Bus.TheVariants.{Atomic};
 ghost use Rattle.tso_model.specs.declared.choice.Choice.{Choice};
 ghost use Rattle.tso_model.specs.declared.execution.Entry.{Entry};
@@ -17,7 +18,9 @@ ghost use Rattle.protocol_tables.specs.declared.kind.ProtocolKind.{ProtocolKind}
 ghost use Rattle.machine_core.specs.Configuration.{Configuration};
 ghost use Rattle.tso_cli.specs.Answers.{IsCheckAnswer, IsInputAnswer, IsAnswer};
 ghost use Rattle.tso_cli.specs.CheckLines.{valid_line};
-ghost use Rattle.tso_cli.specs.Headline.{PrintsExecution, InputHeadline, Headline};
+ghost use Rattle.tso_cli.specs.Fitting.{ChoicesAreCounted, EndedRunsFit, SweptCountsFit};
+ghost use Rattle.tso_cli.specs.Headline.{InputHeadline, Headline};
+ghost use Rattle.tso_cli.specs.RunHeadline.{PrintsExecution};
 ghost use Rattle.tso_cli.specs.Limits.{IsTaskWithinLimits};
 ghost use Rattle.tso_cli.specs.ReadOneWay.{AreReadOneWay};
 ghost use Rattle.command_line.specs.Limits.{IsWithinLimits};
@@ -33,7 +36,7 @@ ghost use Rattle.tso_cli.specs.declared.task.Task.{Task};
 
 use axiom_checker::laws::{first_breach_is_one, first_breach_is_real};
 use litmus_reader::laws::test_is_spelled_once;
-use order_builder::laws::order_is_spelled_once;
+use order_builder::laws::{order_can_be_printed, order_is_spelled_once};
 use scheduler::{printed_choices_are_spelled, texts_are_decided};
 use split_laws::{
     atomic_runs_are_flat_runs, no_buffer_no_reordering_on_either_bus,
@@ -70,8 +73,24 @@ pub fn ended_runs_of_machines_are_executions()
     values_are_words();
 }
 
+/// The runs of a machine fit their test: what is shown of a run that ended, and what is counted of a sweep, is as many
+/// registers, words and counts as the test has, each one that a run can leave. Of the choices that a run was given each was
+/// used or is left over.
+pub fn runs_fit_their_tests()
+    ensures ended { EndedRunsFit }
+    ensures choices { ChoicesAreCounted }
+    ensures swept { SweptCountsFit }
+{
+    ended_runs_of_machines_are_executions();
+    whole_orders_have_each_entry_once();
+    report_spells_its_order();
+    atomic_runs_are_flat_runs();
+    runs_on_either_bus_stop_where_they_end();
+    order_can_be_printed();
+}
+
 /// What the crates below say of texts and orders: each is read in one way.
-fn texts_are_read_one_way()
+pub(crate) fn texts_are_read_one_way()
     ensures { AreReadOneWay }
 {
     test_is_spelled_once();
@@ -118,8 +137,8 @@ pub fn joined_parts_are_separated()
 /// valid`, with the status of success: of one test, and of the whole inputs, where the second has the
 /// first part of the first, the dividing line and what was printed.
 pub fn printed_runs_are_valid()
-    ensures tests { (t : Litmus) (kind : ProtocolKind) (c : Configuration) (choices : List Choice) (out answer : List ℕ) (status : Status)
-        → IsTest t → length out < 2 ^ 64 → PrintsExecution t kind c false choices out → IsCheckAnswer t out answer status
+    ensures tests { (t : Litmus) (kind : ProtocolKind) (c : Configuration) (r : Run) (out answer : List ℕ) (status : Status)
+        → IsTest t → length out < 2 ^ 64 → PrintsExecution t kind c false r out → IsCheckAnswer t out answer status
         → (answer ≡ valid_line) × (status ≡ Good) }
     ensures inputs { (kind : ProtocolKind) (c : Configuration) (input out answer : List ℕ) (status : Status)
         → IsWithinLimits (Settings.Run kind c false) → IsJoinable (parts_of input).test
@@ -135,6 +154,20 @@ pub fn printed_runs_are_valid()
     report_spells_its_order();
     reports_are_short();
     joined_parts_are_separated();
+}
+
+/// What `run` prints of a run that ended, but for JSON, has at most 32,768 bytes.
+pub fn printed_runs_are_short()
+    ensures { (kind : ProtocolKind) (c : Configuration) (input out : List ℕ)
+        → IsWithinLimits (Settings.Run kind c false) → IsAnswer (Settings.Run kind c false) (Some input) out Good → length out ≤ 32768 }
+{
+    texts_are_read_one_way();
+    atomic_runs_are_flat_runs();
+    runs_on_either_bus_stop_where_they_end();
+    ended_runs_of_machines_are_executions();
+    whole_orders_have_each_entry_once();
+    report_spells_its_order();
+    reports_are_short();
 }
 
 /// Where choices lead to an order, what `simulate` answers under them on the atomic bus has ended with

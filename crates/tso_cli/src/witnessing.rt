@@ -1,7 +1,7 @@
 //! The answer of `witness`.
 
 ghost use Rattle.std.specs.Prelude.{IfOk, string_bytes};
-ghost use Rattle.tso_model.specs.Execution.{IsTsoExecution};
+ghost use Rattle.tso_model.specs.Axioms.{IsTsoExecution};
 ghost use Rattle.tso_model.specs.declared.choice.Choice.{Choice};
 ghost use Rattle.order_builder.specs.Spelling.{IsOrderFor};
 ghost use Rattle.command_line.specs.Limits.{IsDepth};

@@ -5,7 +5,8 @@ use Rattle.tso_model.specs.Litmus.{Litmus}
 use Rattle.tso_model.specs.ProgramOrder.{is_store, is_load}
 use Rattle.basic_laws.specs.Ranks.{rank}
 use Rattle.basic_laws.proofs.Ranks.{is_store_kind}
-use Rattle.tso_model.specs.Execution.{made_by, read_values}
+use Rattle.tso_model.specs.ProgramEntries.{made_by}
+use Rattle.tso_model.specs.ProgramEntries.{read_values}
 use Rattle.tso_model.specs.declared.execution.Entry.{Entry}
 use Rattle.tso_model.specs.declared.instruction.Instr.{Instr}
 use Rattle.tso_model.specs.declared.choice.Choice.{Choice}

@@ -2,7 +2,7 @@
 use Rattle.std.proofs.Common.{◌≡◌, ◌≤◌, ◌<◌, ℕ, ◌+◌, suc, List, [], ◌∷◌, ◌++◌, Bool, true, false, length, take, arith, ap, sym, ◌∙◌, refl, subst, if◌then◌else◌, ◌==◌}
 use Rattle.std.proofs.lemmas.Option.{slice_get_within, get_or_from_slice_get}
 use Rattle.tso_model.specs.Litmus.{Litmus}
-use Rattle.tso_model.specs.Execution.{KeepsAllOrder}
+use Rattle.tso_model.specs.SequentialConsistency.{KeepsAllOrder}
 use Rattle.basic_laws.proofs.Basics.{and-right}
 use Rattle.tso_laws.proofs.Folds.{needed-is, HasEnded, HasLocations}
 use Rattle.tso_model.specs.declared.instruction.Instr.{Instr}

@@ -3,7 +3,7 @@ use Rattle.std.proofs.Common.{◌≡◌, ◌<◌, ◌≤◌, ℕ, suc, List, [],
 use Rattle.std.proofs.lemmas.Bool.Decides.{nat_tests}
 use Rattle.tso_model.specs.ProgramOrder.{same_kind, is_write, is_read, is_before, may_be_passed, writes_to, is_store, is_load}
 use Rattle.basic_laws.proofs.Ranks.{is_write_kind, is_read_kind}
-use Rattle.tso_model.specs.Execution.{read_value, is_at}
+use Rattle.tso_model.specs.ProgramEntries.{read_value, is_at}
 use Rattle.basic_laws.proofs.Basics.{and-true}
 use Rattle.tso_laws.proofs.Folds.{last_word, last_own, passed}
 use Rattle.tso_model.specs.declared.execution.Entry.{Entry}

@@ -4,7 +4,10 @@ use Rattle.std.proofs.lemmas.Option.{slice_get-get_or}
 use Rattle.std.proofs.lemmas.Bool.Decides.{nat_tests}
 use Rattle.tso_model.specs.Litmus.{Litmus}
 use Rattle.tso_model.specs.ProgramOrder.{is_read, is_before, may_be_passed, is_load, is_store}
-use Rattle.tso_model.specs.Execution.{made_by, made_from, made, IsTsoExecution, IsStorePart, KeepsPairs, KeepsProgramOrder, KeepsAllOrder}
+use Rattle.tso_model.specs.ProgramEntries.{made_by, made_from, made}
+use Rattle.tso_model.specs.Axioms.{IsTsoExecution, IsAdjacent, KeepsProgramOrder}
+use Rattle.tso_model.specs.ProgramOrder.{IsStorePart}
+use Rattle.tso_model.specs.SequentialConsistency.{KeepsAllOrder}
 use Rattle.basic_laws.proofs.Basics.{test-false, le-cases, lt-by, max-within, not-itself}
 use Rattle.tso_laws.proofs.Folds.{last_word, last_own, passed, asks, needs, HasEnded, word-is, due-is}
 use Rattle.tso_model.specs.FinalState.{registers_of, registers_from, final_registers, words_from, word_after}
@@ -109,7 +112,7 @@ members-made order k [] registers h = tt
 members-made order k (p ∷ ps) registers h =
     each-append (λ e. Member e order) (made_by k p (slice_index_or registers k []) order) _ h.0.members (rw add-one (members-made order (suc k) ps registers h.1))
 
-pub paired-at : (xs : List Entry) → Paired xs → KeepsPairs xs
+pub paired-at : (xs : List Entry) → Paired xs → IsAdjacent xs
 paired-at [] h i x e l = absurd (let z : ⊥ = cc in z)
 paired-at (y ∷ ys) h zero x e l =
     let q : y ≡ x = cc in let n = h.0 (subst (λ v. v.kind ≡ LR) (sym q) l) in
@@ -156,7 +159,7 @@ ended_is_tso d t order state w h =
           let v : Each (λ e. e.core.0 < length t.programs) (front ++ (x ∷ back)) = subst (λ z. Each (λ e. e.core.0 < length t.programs) z) q w.known in
           let l = (each-right (λ e. e.core.0 < length t.programs) front (x ∷ back) v).0 in
           due-at x.core.0 t.words [] front x back (subst (λ z. DueIn x.core.0 t.words [] z) q (each x.core.0 l).due) refl r ∙ sym (due-is x front back (slice_index t.words x.loc.0));
-      pairs = paired-at order w.pairs;
+      adjacent = paired-at order w.pairs;
     }
   where
     made_here : (j : ℕ) → Ended d t order j → MadeAt order (0 + j) (slice_index_or t.programs j []) t.registers

@@ -5,7 +5,7 @@ use Rattle.std.specs.Prelude.{filter}
 use Rattle.tso_model.specs.Litmus.{Litmus, KnownLocation}
 use Rattle.tso_model.specs.ProgramOrder.{is_store, is_load, is_read, is_before, writes_to}
 use Rattle.basic_laws.proofs.Ranks.{is_store_kind, is_load_kind}
-use Rattle.tso_model.specs.Execution.{last_value, counting}
+use Rattle.tso_model.specs.Axioms.{last_value, counting}
 use Rattle.tso_model.specs.FlatMachine.{CoreState, State, Effect, program_of}
 use Rattle.tso_model.specs.declared.instruction.Instr.{Instr}
 use Rattle.tso_model.specs.declared.execution.Entry.{Entry}

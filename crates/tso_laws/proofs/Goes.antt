@@ -8,7 +8,7 @@ use Rattle.tso_model.specs.Litmus.{Litmus}
 use Rattle.basic_laws.proofs.Basics.{decide}
 use Rattle.tso_laws.proofs.Folds.{needs, HasDueValues, HasLocations}
 use Rattle.tso_model.specs.ProgramOrder.{is_store}
-use Rattle.tso_model.specs.Execution.{made_by}
+use Rattle.tso_model.specs.ProgramEntries.{made_by}
 use Rattle.tso_model.specs.declared.execution.Entry.{Entry}
 use Rattle.tso_model.specs.declared.instruction.Instr.{Instr}
 use Rattle.tso_model.specs.declared.action.Action.{Action}

@@ -9,7 +9,8 @@ use Rattle.tso_model.specs.ProgramOrder.{is_write}
 use Rattle.tso_laws.proofs.Draining.{waits-or-acts, drains}
 use Rattle.basic_laws.proofs.Ranks.{is_write_kind}
 use Rattle.basic_laws.specs.Ranks.{rank}
-use Rattle.tso_model.specs.Execution.{IsStorePart, is_at, read_value, made_by}
+use Rattle.tso_model.specs.ProgramOrder.{IsStorePart}
+use Rattle.tso_model.specs.ProgramEntries.{is_at, read_value, made_by}
 use Rattle.tso_model.specs.FinalState.{registers_of}
 use Rattle.tso_model.specs.FlatMachine.{CoreState, effect_by, step_of, drain_of, stalled, stored, advanced, advanced_with, load_value, fenced, locked}
 use Rattle.tso_model.specs.declared.register.Reg.{Reg}

@@ -10,7 +10,9 @@ use Rattle.tso_laws.specs.Counting.{store_count, stores_in, most_stores}
 use Rattle.tso_model.specs.ProgramOrder.{is_store, is_load}
 use Rattle.basic_laws.specs.Ranks.{rank}
 use Rattle.tso_laws.proofs.Folds.{needed-is, passed, asks, needs}
-use Rattle.tso_model.specs.Execution.{read_values, made_by, IsTsoExecution}
+use Rattle.tso_model.specs.Axioms.{IsTsoExecution}
+use Rattle.tso_model.specs.ProgramEntries.{read_values}
+use Rattle.tso_model.specs.ProgramEntries.{made_by}
 use Rattle.tso_model.specs.declared.execution.Entry.{Entry}
 use Rattle.tso_model.specs.declared.instruction.Instr.{Instr}
 use Rattle.tso_model.specs.declared.action.Action.{Action}

@@ -9,7 +9,8 @@ use Rattle.tso_laws.proofs.Folds.{needs, asks, passed, passes, last_word, last_o
 use Rattle.tso_model.specs.ProgramOrder.{is_write, is_before, may_be_passed, is_store, is_load}
 use Rattle.basic_laws.proofs.Ranks.{is_read_kind, is_store_kind, is_load_kind}
 use Rattle.basic_laws.specs.Ranks.{rank}
-use Rattle.tso_model.specs.Execution.{read_value, read_values}
+use Rattle.tso_model.specs.ProgramEntries.{read_value}
+use Rattle.tso_model.specs.ProgramEntries.{read_values}
 use Rattle.tso_model.specs.declared.execution.Entry.{Entry}
 use Rattle.tso_model.specs.declared.instruction.Loc.{Loc}
 use Rattle.tso_model.specs.declared.register.Reg.{Reg}

@@ -6,7 +6,8 @@ use Rattle.tso_model.specs.Actions.{action_of}
 use Rattle.tso_model.specs.Thread.{entry, fence, with_value, value_of, entries_of}
 use Rattle.tso_model.specs.Litmus.{Litmus}
 use Rattle.tso_model.specs.ProgramOrder.{is_store}
-use Rattle.tso_model.specs.Execution.{read_value, read_values, made_by}
+use Rattle.tso_model.specs.ProgramEntries.{read_value, made_by}
+use Rattle.tso_model.specs.ProgramEntries.{read_values}
 use Rattle.tso_model.specs.declared.execution.Entry.{Entry}
 use Rattle.tso_model.specs.declared.register.Reg.{Reg}
 use Rattle.tso_model.specs.declared.execution.Kind.TheVariants.{R, W, LR}

@@ -3,7 +3,8 @@ use Rattle.std.proofs.Common.{◌≡◌, ◌≢◌, ◌<◌, ◌≤◌, ℕ, zer
 use Rattle.std.specs.Prelude.{filter}
 use Rattle.std.proofs.lemmas.Option.{slice_get-get_or}
 use Rattle.tso_model.specs.Litmus.{Litmus, IsTest, KnownLocation}
-use Rattle.tso_model.specs.Execution.{made_by, StandsIn, KeepsProgramOrder}
+use Rattle.tso_model.specs.ProgramEntries.{made_by}
+use Rattle.tso_model.specs.Axioms.{StandsIn, KeepsProgramOrder}
 use Rattle.tso_model.specs.FinalState.{registers_of}
 use Rattle.tso_model.specs.FlatMachine.{CoreState, State, idle, program_of, core_of, effect_of, after_choice, start}
 use Rattle.tso_model.specs.Runs.{run}
@@ -76,7 +77,7 @@ pub so-far : (d : ℕ) (t : Litmus) (commits : List Entry) (state : State) → I
 so-far d t commits state test known w = record {
   each_issued = λ e m. of-core e m (each-at (λ e. e.core.0 < length t.programs) commits m.0 e w.known m.1);
   program_order = kept-by-each d (length t.programs) commits w.known (world-ordered d t commits state w);
-  pairs = paired-at commits w.pairs;
+  adjacent = paired-at commits w.pairs;
   read_values = λ front x back q r.
       let v : Each (λ e. e.core.0 < length t.programs) (front ++ (x ∷ back)) = subst (λ z. Each (λ e. e.core.0 < length t.programs) z) q w.known in
       let l = (each-right (λ e. e.core.0 < length t.programs) front (x ∷ back) v).0 in

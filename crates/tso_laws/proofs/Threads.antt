@@ -2,7 +2,8 @@
 use Rattle.std.proofs.Common.{◌≡◌, ℕ, ◌+◌, zero, suc, List, [], ◌∷◌, ◌++◌, Some, take, drop, slice_get, slice_index, arith, ap, sym, ◌∙◌, append_assoc, refl, add-one, subst}
 use Rattle.tso_model.specs.Actions.{action_of}
 use Rattle.tso_model.specs.Thread.{entries_by, registers_by, values_after, entries_of, registers_after}
-use Rattle.tso_model.specs.Execution.{values_by, read_values, made_by}
+use Rattle.tso_model.specs.ProgramEntries.{values_by, made_by}
+use Rattle.tso_model.specs.ProgramEntries.{read_values}
 use Rattle.tso_model.specs.FinalState.{registers_of}
 use Rattle.tso_model.specs.declared.instruction.Instr.{Instr}
 use Rattle.tso_model.specs.declared.action.Action.{Action}

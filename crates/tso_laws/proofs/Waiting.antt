@@ -7,7 +7,8 @@ use Rattle.tso_model.specs.Thread.{entry, fence, value_in, value_of, updated, en
 use Rattle.tso_model.specs.ProgramOrder.{same_kind, is_before, is_store}
 use Rattle.basic_laws.specs.Ranks.{rank, part_of}
 use Rattle.basic_laws.proofs.Ranks.{is_store_kind, is_load_kind, by-rank}
-use Rattle.tso_model.specs.Execution.{is_at, made_by, read_values}
+use Rattle.tso_model.specs.ProgramEntries.{is_at, made_by}
+use Rattle.tso_model.specs.ProgramEntries.{read_values}
 use Rattle.tso_model.specs.FlatMachine.{CoreState}
 use Rattle.tso_model.specs.declared.instruction.Instr.{Instr}
 use Rattle.tso_model.specs.declared.action.Action.{Action}

@@ -7,7 +7,10 @@ use Rattle.tso_model.specs.ProgramOrder.{may_be_passed}
 use Rattle.basic_laws.specs.Ranks.{rank}
 use Rattle.basic_laws.proofs.Basics.{part-small}
 use Rattle.tso_laws.proofs.Folds.{due-is, needs, HasLocations}
-use Rattle.tso_model.specs.Execution.{read_values, made_by, made_from, made, KeepsProgramOrder, IsStorePart, KeepsPairs, StandsIn, IsWhole, IsTsoExecution}
+use Rattle.tso_model.specs.Axioms.{KeepsProgramOrder, IsAdjacent, StandsIn, IsWhole, IsTsoExecution}
+use Rattle.tso_model.specs.ProgramEntries.{read_values}
+use Rattle.tso_model.specs.ProgramOrder.{IsStorePart}
+use Rattle.tso_model.specs.ProgramEntries.{made_by, made_from, made}
 use Rattle.tso_model.specs.declared.execution.Entry.{Entry}
 use Rattle.tso_model.specs.declared.instruction.Instr.{Instr}
 use Rattle.tso_model.specs.declared.action.Action.{Action}
@@ -168,7 +171,7 @@ kept-ordered k (x ∷ xs) h = (
   kept-ordered k xs (λ i j x y a b c d. let l = h (suc i) (suc j) x y a b c d in omega (arith, l)),
 )
 
-kept-paired : (xs : List Entry) → KeepsPairs xs → Paired xs
+kept-paired : (xs : List Entry) → IsAdjacent xs → Paired xs
 kept-paired [] h = tt
 kept-paired (x ∷ xs) h = (λ l. next xs (h 0 x refl l), kept-paired xs (λ i y e l. h (suc i) y e l))
   where
@@ -221,7 +224,7 @@ tso-good d t order known h n =
       distinct = s.distinct;
       ordered = λ k l. kept-ordered k order h.program_order;
       due = λ front x back q r. h.read_values front x back q r ∙ due-is x front back (slice_index t.words x.loc.0);
-      pairs = kept-paired order h.pairs;
+      pairs = kept-paired order h.adjacent;
       enough = n;
       known = known;
     }

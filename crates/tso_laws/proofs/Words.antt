@@ -7,7 +7,7 @@ use Rattle.tso_model.specs.Registers.{IsWord, AreRegisters, index_of}
 use Rattle.tso_model.specs.Actions.{action_of}
 use Rattle.tso_model.specs.Thread.{entry, fence, value_in, value_of, sum_of, updated}
 use Rattle.tso_model.specs.ProgramOrder.{is_write, writes_to}
-use Rattle.tso_model.specs.Execution.{last_value}
+use Rattle.tso_model.specs.Axioms.{last_value}
 use Rattle.tso_model.specs.FlatMachine.{CoreState, State, Effect, stalled, advanced_with, stored, load_value, loaded, moved, fenced, locked, effect_by, step_of, drain_of, idle, program_of, core_of, chosen, effect_of, memory_after, after_choice, started, start}
 use Rattle.tso_model.specs.Runs.{Run, has_ended, resting, then_run, run_from, run}
 use Rattle.tso_model.specs.declared.register.Reg.{Reg}

@@ -1,7 +1,7 @@
 -- Runs that have ended, and what they leave.
 use Rattle.std.specs.Prelude.{ℕ, ◌≡◌, true, List}
 use Rattle.tso_model.specs.Litmus.{Litmus}
-use Rattle.tso_model.specs.Execution.{IsTsoExecution}
+use Rattle.tso_model.specs.Axioms.{IsTsoExecution}
 use Rattle.tso_model.specs.FinalState.{final_words, final_registers}
 pub use Rattle.tso_model.specs.FlatMachine.{registers_in}
 use Rattle.tso_model.specs.Runs.{Run, run}

@@ -2,7 +2,8 @@
 use Rattle.std.specs.Prelude.{ℕ, ◌+◌, ◌*◌, ◌<◌, ◌≤◌, ◌≡◌, ◌≢◌, ◌↔◌, List, [], ◌++◌, length, slice_get, Some, All}
 use Rattle.tso_model.specs.Limits.{most_depth}
 use Rattle.tso_model.specs.Litmus.{Litmus, IsTest}
-use Rattle.tso_model.specs.Execution.{made, StandsIn, IsWhole, IsTsoExecution}
+use Rattle.tso_model.specs.ProgramEntries.{made}
+use Rattle.tso_model.specs.Axioms.{StandsIn, IsWhole, IsTsoExecution}
 use Rattle.tso_model.specs.FlatMachine.{State, start, effect_of, after_choice}
 use Rattle.tso_model.specs.Runs.{run}
 use Rattle.tso_model.specs.declared.execution.Entry.{Entry}

@@ -12,7 +12,10 @@ pub mod Words
 pub mod Laws
 pub mod WorkedRuns
 pub use Rattle.tso_model.specs.Litmus
-pub use Rattle.tso_model.specs.Execution
+pub use Rattle.tso_model.specs.ProgramEntries
+pub use Rattle.tso_model.specs.Axioms
+pub use Rattle.tso_model.specs.ProgramOrder
+pub use Rattle.tso_model.specs.SequentialConsistency
 pub use Rattle.tso_model.specs.FlatMachine
 pub use Rattle.tso_model.specs.Runs
 pub use Rattle.tso_model.specs.Examples

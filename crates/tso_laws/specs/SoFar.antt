@@ -3,7 +3,8 @@ use Rattle.std.specs.Prelude.{ℕ, ◌<◌, ◌≤◌, ◌≡◌, ◌&&◌, ◌|
 use Rattle.std.specs.Prelude.{List, [], ◌∷◌, ◌++◌, filter, length, take, slice_index_or, All}
 use Rattle.tso_model.specs.Litmus.{Litmus}
 use Rattle.tso_model.specs.ProgramOrder.{is_read, is_store}
-use Rattle.tso_model.specs.Execution.{is_at, made_by, StandsIn, KeepsProgramOrder, KeepsPairs, due_value}
+use Rattle.tso_model.specs.ProgramEntries.{is_at, made_by}
+use Rattle.tso_model.specs.Axioms.{StandsIn, KeepsProgramOrder, IsAdjacent, due_value}
 use Rattle.tso_model.specs.FinalState.{final_words, registers_of}
 use Rattle.tso_model.specs.FlatMachine.{CoreState, State, program_of, core_of}
 use Rattle.tso_model.specs.declared.execution.Entry.{Entry}
@@ -56,7 +57,7 @@ HasReadValuesSoFar t commits state =
 pub record SoFar (t : Litmus) (depth : ℕ) (commits : List Entry) (state : State) : Type 0 where
   pub each_issued : (e : Entry) → StandsIn commits e → IsIssued t commits state e
   pub program_order : KeepsProgramOrder commits
-  pub pairs : KeepsPairs commits
+  pub adjacent : IsAdjacent commits
   pub read_values : HasReadValuesSoFar t commits state
   pub memory : state.memory ≡ final_words t commits
   pub size : length state.cores ≡ length t.programs

@@ -4,7 +4,9 @@
 ghost use Rattle.std.specs.Prelude.{ℕ, max, ◌≤◌, ◌≡◌, List, [], ◌∷◌};
 ghost use Rattle.tso_model.specs.Limits.{most_depth};
 ghost use Rattle.tso_model.specs.Litmus.{Litmus, IsTest};
-ghost use Rattle.tso_model.specs.Execution.{made, StandsIn, IsTsoExecution, KeepsAllOrder};
+ghost use Rattle.tso_model.specs.ProgramEntries.{made};
+ghost use Rattle.tso_model.specs.Axioms.{StandsIn, IsTsoExecution};
+ghost use Rattle.tso_model.specs.SequentialConsistency.{KeepsAllOrder};
 ghost use Rattle.tso_model.specs.Runs.{run};
 ghost use Rattle.tso_model.specs.declared.execution.Entry.{Entry};
 ghost use Rattle.tso_model.specs.declared.choice.Choice.{Choice};

@@ -3,7 +3,8 @@
 
 ghost use Rattle.std.specs.Prelude.{ℕ, ◌*◌, ◌≡◌, false, [], ◌∷◌, length};
 ghost use Rattle.tso_model.specs.Litmus.{IsTest};
-ghost use Rattle.tso_model.specs.Execution.{IsTsoExecution, KeepsAllOrder};
+ghost use Rattle.tso_model.specs.Axioms.{IsTsoExecution};
+ghost use Rattle.tso_model.specs.SequentialConsistency.{KeepsAllOrder};
 ghost use Rattle.tso_model.specs.Runs.{run};
 ghost use Rattle.tso_model.specs.Examples.{sb, sb_order, sb_choices, n6, n6_order, added, separated_order, zeros};
 ghost use Rattle.tso_model.specs.FinalState.{final_words, final_registers};

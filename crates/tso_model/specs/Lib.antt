@@ -8,7 +8,6 @@ pub mod LitmusParts
 pub mod ConditionCode
 pub mod Thread
 pub mod ProgramOrder
-pub mod Execution
 pub mod FinalState
 pub mod FlatMachine
 pub mod Runs
@@ -18,3 +17,6 @@ pub mod EitherBus
 pub mod Together
 pub mod Examples
 pub mod Watched
+pub mod Axioms
+pub mod ProgramEntries
+pub mod SequentialConsistency

@@ -1,5 +1,5 @@
 -- Kinds of entries, and their order in a program. (Primer, chapter 4: memory actions and program order.)
-use Rattle.std.specs.Prelude.{ℕ, ◌==◌, ◌&&◌, ◌||◌, nat_lt, not, Bool, true, false}
+use Rattle.std.specs.Prelude.{ℕ, ◌==◌, ◌&&◌, ◌||◌, nat_lt, not, Bool, true, false, ◌≡◌}
 use Rattle.tso_model.specs.declared.execution.Entry.{Entry}
 use Rattle.tso_model.specs.declared.execution.Kind.{Kind}
 use Rattle.tso_model.specs.declared.execution.Kind.TheVariants.{R, W, F, LR, LW}
@@ -43,3 +43,9 @@ is_before x y = (x.core.0 == y.core.0) && (nat_lt x.place y.place || is_earlier_
 -- the one exception of TSO: a plain store may be passed by a later plain load
 abbrev pub may_be_passed : Entry → Entry → Bool
 may_be_passed x y = is_store x && is_load y
+
+-- y is the store part of the locked instruction whose load part is x
+pub record IsStorePart (x y : Entry) : Type 0 where
+  pub core : y.core.0 ≡ x.core.0
+  pub place : y.place ≡ x.place
+  pub kind : y.kind ≡ LW

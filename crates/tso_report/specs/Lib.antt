@@ -1,6 +1,7 @@
 pub mod Shown
 pub mod Report
 pub mod Json
+pub mod JsonFrame
 pub mod Tally
 pub mod Counted
 pub mod Limits

@@ -1,7 +1,7 @@
 //! What a sweep says of its runs: the tally of them, and its text.
 
 ghost use Rattle.std.specs.Prelude.{◌≡◌, ◌+◌, ◌<◌, ◌^◌, ◌-◌, true, IfOk, OnOk, OnErr, length, string_bytes, is_some};
-ghost use Rattle.tso_report.specs.Shown.{shown, IsOf};
+ghost use Rattle.tso_report.specs.Shown.{shown};
 ghost use Rattle.tso_report.specs.Tally.{nothing_counted, with_run, with_ended, with_unfinished, runs_in, ended_in, tally_text};
 
 use crate::counters::{Counters, count_ended, count_unfinished, no_runs};
@@ -58,11 +58,13 @@ impl<'a> Tally<'a> {
         })
     }
 
-    /// Counts a run of the test that ended.
+    /// Counts a run of the test that ended. Of the run its registers, its memory and its verdict are looked at.
     ///
     /// Errors: out of memory only; then nothing has changed.
     pub fn add(&mut self, run: &Run) -> Result<(), NoMemory>
-        requires fits { IsOf self.old.test (shown run.now) }
+        requires registers { length (shown run.now).registers ≡ length self.old.test.programs }
+        requires memory { length (shown run.now).memory ≡ length self.old.test.locations }
+        requires verdict { is_some (shown run.now).holds ≡ is_some self.old.test.condition }
         requires room { runs_in self.old.counts < 2 ^ 32 - 1 }
 
         ensures counts { OnOk result (self.new.counts ≡ with_run self.old.test (shown run.now) self.old.counts) }

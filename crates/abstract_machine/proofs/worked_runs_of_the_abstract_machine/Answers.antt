@@ -1,6 +1,6 @@
 use Rattle.std.proofs.Common.{List, rules}
 use Rattle.tso_model.specs.Litmus.{Litmus, IsTest}
-use Rattle.tso_model.specs.Execution.{IsTsoExecution}
+use Rattle.tso_model.specs.Axioms.{IsTsoExecution}
 use Rattle.tso_model.specs.Examples.{sb, sb_order, n6, n6_order, added, separated_order}
 use Rattle.tso_model.specs.declared.execution.Entry.{Entry}
 use Rattle.tso_laws.specs.WorkedRuns.{short_order, turned_order, wrong_order}

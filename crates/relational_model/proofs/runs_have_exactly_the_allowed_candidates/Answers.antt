@@ -29,6 +29,7 @@ returns-clause-reached c = λ t d test a.
     let h = (c.runs_reach_exactly_the_executions.ensures.at_the_greatest t o.order test).1 o.execution in
     let r = c.ended_runs_are_executions.ensures t most_depth h.choices test h.ended in (
       h.choices,
+      h.cores,
       h.ended,
       record {
         order = subst (λ es. IsCandidateOf t es d) (sym h.commits) o.candidate;

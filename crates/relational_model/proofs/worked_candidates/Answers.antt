@@ -9,6 +9,7 @@ use Rattle.relational_model.proofs.Found.{has-candidate}
 use Rattle.relational_model.proofs.Left.{leave-the-same}
 use Rattle.relational_model.proofs.Independent.{no-opposite-registers}
 use Rattle.relational_model.proofs.Forbidden.{fenced-is-forbidden, exchanged-is-forbidden, passing-is-forbidden, buffering-is-forbidden, independent-is-forbidden, between-is-forbidden}
+use Rattle.relational_model.proofs.Unseen.{unseen-is-forbidden, unseen-by-uniproc}
 use Rattle.relational_model.proofs.Worked.{sources-from, filter-none, not-first, not-second}
 use Rattle.relational_model.proofs.worked_candidates.Goals as goal
 
@@ -87,6 +88,12 @@ returns-clause-independent_is_forbidden c = independent-is-forbidden
 
 pub returns-clause-between_is_forbidden : goal.returns-clause-between_is_forbidden
 returns-clause-between_is_forbidden c = between-is-forbidden
+
+pub returns-clause-unseen_is_forbidden : goal.returns-clause-unseen_is_forbidden
+returns-clause-unseen_is_forbidden c = unseen-is-forbidden
+
+pub returns-clause-unseen_is_forbidden_by_uniproc : goal.returns-clause-unseen_is_forbidden_by_uniproc
+returns-clause-unseen_is_forbidden_by_uniproc c = unseen-by-uniproc
 
 pub returns-clause-independent_is_no_execution : goal.returns-clause-independent_is_no_execution
 returns-clause-independent_is_no_execution c = λ order tso h.

@@ -1,5 +1,5 @@
 use Rattle.std.proofs.Common.{◌≤◌, length, ap, sym, ◌∙◌, refl, subst}
-use Rattle.tso_model.specs.Execution.{made}
+use Rattle.tso_model.specs.ProgramEntries.{made}
 use Rattle.axiom_checker.specs.Programs.{made_reading, reads_of_all}
 use Rattle.axiom_checker.specs.Slots.{IsIndex}
 use Rattle.axiom_checker.specs.Passing.{IsMatched}

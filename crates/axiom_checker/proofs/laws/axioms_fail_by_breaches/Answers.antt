@@ -11,8 +11,8 @@ returns-clause-whole c t order = (
 pub returns-clause-program_order : goal.returns-clause-program_order
 returns-clause-program_order c order = (none-late order, keeps-order order)
 
-pub returns-clause-pairs : goal.returns-clause-pairs
-returns-clause-pairs c order = (none-separated order, keeps-pairs order)
+pub returns-clause-adjacent : goal.returns-clause-adjacent
+returns-clause-adjacent c order = (none-separated order, keeps-pairs order)
 
 pub returns-clause-read_values : goal.returns-clause-read_values
 returns-clause-read_values c t order = (none-wrong t order, has-values t order)

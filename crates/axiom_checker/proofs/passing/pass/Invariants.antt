@@ -1,6 +1,6 @@
 use Rattle.std.proofs.Common.{◌≡◌, ◌≤◌, ◌<◌, ◌+◌, Some, IfSome, length, slice_get}
 use Rattle.tso_model.specs.Litmus.{Litmus, IsTest}
-use Rattle.tso_model.specs.Execution.{made}
+use Rattle.tso_model.specs.ProgramEntries.{made}
 use Rattle.axiom_checker.proofs.Marking.{AreMarks, AreWords, of_core, past_loads}
 use Rattle.axiom_checker.proofs.Meeting.{HasMetSoFar}
 use Rattle.axiom_checker.proofs.passing.pass.Given as goal

@@ -1,10 +1,10 @@
 use Rattle.std.proofs.Common.{◌<◌, ◌+◌, ◌∙◌, sym, ap, subst, arith, drop, length}
-use Rattle.tso_model.specs.Execution.{KeepsPairs}
+use Rattle.tso_model.specs.Axioms.{IsAdjacent}
 use Rattle.tso_model.specs.Together.{put_together}
 use Rattle.order_builder.specs.Pairs.{IsPaired}
 use Rattle.order_builder.specs.Waiting.{IsBuiltSoFar}
 use Rattle.order_builder.proofs.Together.{built-first, built-last, drop-end, drop-next, load-step, plain-step, store-step}
-use Rattle.order_builder.proofs.Pairing.{KeepsPairs-paired}
+use Rattle.order_builder.proofs.Pairing.{IsAdjacent-paired}
 use Rattle.order_builder.proofs.building.build.Goals.{then-is_load_part+in_ok-push, else-is_load_part+in_ok-push-3, in-Some+in_ok-push-2, in_default}
 use Rattle.order_builder.proofs.building.build.Goals as goal
 
@@ -43,4 +43,4 @@ returns-clause-pairs c =
     let order = built-last c.loop-entry.order.items c.loop-entry.waiting.items _ _
     (drop-end c.entries-entry-items.result.now c.loop-entry.entry-index (omega (arith, c.loop-entry-test.false, c.loop-entry.auto.entry-index-end))) c.loop-entry.invariant
     ∙ ap put_together c.entries-entry-items.ensures in
-    subst KeepsPairs (sym order) (KeepsPairs-paired c.args.commits.now.entries c.requires)
+    subst IsAdjacent (sym order) (IsAdjacent-paired c.args.commits.now.entries c.requires)

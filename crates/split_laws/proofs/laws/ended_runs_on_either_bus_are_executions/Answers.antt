@@ -2,4 +2,4 @@ use Rattle.split_laws.proofs.Ending.{is-execution}
 use Rattle.split_laws.proofs.laws.ended_runs_on_either_bus_are_executions.Goals as goal
 
 pub returns : goal.returns
-returns c = is-execution c.runs_stop_where_they_end.ensures.stops c.ended_runs_are_executions.ensures
+returns c = is-execution c.ended_runs_are_executions.ensures

@@ -2,4 +2,4 @@ use Rattle.split_laws.proofs.Ending.{keeps-all}
 use Rattle.split_laws.proofs.laws.no_buffer_no_reordering_on_either_bus.Goals as goal
 
 pub returns : goal.returns
-returns c = keeps-all c.runs_stop_where_they_end.ensures.stops c.no_buffer_no_reordering.ensures
+returns c = keeps-all c.no_buffer_no_reordering.ensures

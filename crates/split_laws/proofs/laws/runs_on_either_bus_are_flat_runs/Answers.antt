@@ -2,4 +2,4 @@ use Rattle.split_laws.proofs.Ending.{is-flat}
 use Rattle.split_laws.proofs.laws.runs_on_either_bus_are_flat_runs.Goals as goal
 
 pub returns : goal.returns
-returns c = is-flat c.runs_stop_where_they_end.ensures.stops
+returns c = is-flat

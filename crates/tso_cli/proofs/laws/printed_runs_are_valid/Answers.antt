@@ -26,5 +26,5 @@ returns-clause-inputs c =
 pub returns-clause-tests : goal.returns-clause-tests
 returns-clause-tests c =
     let texts = c.texts_are_read_one_way.ensures in
-    λ t kind config choices out answer status test short.
-    printed-is-valid t kind config choices out answer status texts.real texts.once texts.never_both test short
+    λ t kind config r out answer status test short.
+    printed-is-valid t kind config r out answer status texts.real texts.once texts.never_both test short

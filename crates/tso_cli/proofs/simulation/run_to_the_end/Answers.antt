@@ -1,5 +1,5 @@
 use Rattle.std.proofs.Common.{arith, ◌≡◌, true, false, sym, subst, ap, ◌∙◌, refl, length, is_some}
-use Rattle.tso_model.specs.Execution.{IsWhole}
+use Rattle.tso_model.specs.Axioms.{IsWhole}
 use Rattle.tso_laws.specs.EndedRuns.{IsExecution}
 use Rattle.tso_cli.specs.Runs.{run_by, AnswersFitBy}
 use Rattle.tso_cli.specs.Simulation.{verdict}

@@ -2,7 +2,7 @@ use Rattle.std.proofs.Common.{◌≡◌, ◌<◌, ℕ, [], Some, slice_get, arit
 use Rattle.tso_model.specs.Litmus.{IsTest}
 use Rattle.tso_model.specs.Examples.{sb, sb_choices, n6, separated_order, loc_x, loc_y}
 use Rattle.tso_model.specs.Thread.{entry}
-use Rattle.tso_model.specs.Execution.{IsStorePart}
+use Rattle.tso_model.specs.ProgramOrder.{IsStorePart}
 use Rattle.tso_model.specs.declared.execution.Entry.{Entry}
 use Rattle.tso_model.specs.declared.execution.Kind.TheVariants.{R, W, LR, LW}
 use Rattle.tso_laws.specs.WorkedRuns.{n6_along}
@@ -30,7 +30,7 @@ returns-clause-turned_breaks_program_order c = λ tso. let less : 3 < 2 = tso.pr
 
 pub returns-clause-separated_is_not_adjacent : goal.returns-clause-separated_is_not_adjacent
 returns-clause-separated_is_not_adjacent c = λ tso.
-    let found : (y : Entry) × (slice_get separated_order 1 ≡ Some y) × IsStorePart (entry 0 0 LR loc_x 0) y = tso.pairs 0 (entry 0 0 LR loc_x 0) refl refl in
+    let found : (y : Entry) × (slice_get separated_order 1 ≡ Some y) × IsStorePart (entry 0 0 LR loc_x 0) y = tso.adjacent 0 (entry 0 0 LR loc_x 0) refl refl in
     let next : Some (entry 1 0 W loc_x 1) ≡ Some found.0 = found.1 in
     let same : entry 1 0 W loc_x 1 ≡ found.0 = cc in
     let kind : W ≡ LW = ap (λ (e : Entry). e.kind) same ∙ found.2.kind in

@@ -36,6 +36,7 @@ returns-clause-done g c =
       exact = rw (c.deref_mut.ensures.value, c.deref_mut-2.ensures.value, c.line_of-line.ensures.value) at c.ask-held.ensures.exact;
       tags = rw (c.deref_mut.ensures.value, c.line_of-line.ensures.value) at c.ask-held.ensures.tags;
       memory = rw (c.deref_mut.ensures.value, c.deref_mut-2.ensures.value, c.line_of-line.ensures.value) at c.ask-held.ensures.memory;
+      own = rw c.deref_mut.ensures.value at c.ask-held.ensures.cache;
       words = rw (c.deref_mut.ensures.value, c.deref_mut-2.ensures.value) at c.ask-held.ensures.words;
     }))
 

@@ -2,8 +2,8 @@
 -- (Primer, chapter 4, the axioms of TSO; x86-TSO, section 3, for locked instructions.)
 use Rattle.std.specs.Prelude.{ℕ, ◌<◌, ◌≡◌, ◌≢◌, ◌&&◌, not, Bool, true, List, Some, slice_get, take, drop, suc}
 use Rattle.tso_model.specs.Litmus.{Litmus}
-use Rattle.tso_model.specs.ProgramOrder.{is_before, may_be_passed, is_read}
-use Rattle.tso_model.specs.Execution.{IsStorePart, due_value}
+use Rattle.tso_model.specs.ProgramOrder.{is_before, may_be_passed, is_read, IsStorePart}
+use Rattle.tso_model.specs.Axioms.{due_value}
 use Rattle.tso_model.specs.declared.execution.Entry.{Entry}
 use Rattle.tso_model.specs.declared.execution.Kind.TheVariants.{LR}
 

@@ -1,0 +1,36 @@
+-- Which two states stand together: no two dirty ones.
+use Rattle.std.proofs.Common.{◌≡◌, ◌≢◌, ◌<◌, ℕ, Bool, true, false, Option, None, List, length, refl, sym, ap, ◌∙◌, ◌⊎◌, inl, inr}
+use Rattle.protocol_tables.specs.Laws.{is_dirty}
+use Rattle.protocol_tables.specs.declared.state.State.{State}
+use Rattle.protocol_tables.specs.declared.state.State.TheVariants.{I, S, E, O, M}
+use Rattle.snoop_bus.specs.Lines.{Words}
+use Rattle.snoop_bus.specs.Coherent.{state_of, may_share}
+use Rattle.snoop_bus.specs.Copies.{Sets, copy_at}
+use Rattle.snoop_bus.specs.Bus.{AllCoherent}
+use Rattle.basic_laws.proofs.Basics.{lt-or}
+use Rattle.bus_laws.specs.Owners.{IsOwner}
+
+apart : (s t : State) → may_share s t ≡ true → is_dirty s ≡ true → is_dirty t ≡ true → ⊥
+apart I t h a b = let z : ⊥ = cc in z
+apart S t h a b = let z : ⊥ = cc in z
+apart E t h a b = let z : ⊥ = cc in z
+apart O I h a b = let z : ⊥ = cc in z
+apart O S h a b = let z : ⊥ = cc in z
+apart O E h a b = let z : ⊥ = cc in z
+apart O O h a b = let z : ⊥ = cc in z
+apart O M h a b = let z : ⊥ = cc in z
+apart M I h a b = let z : ⊥ = cc in z
+apart M S h a b = let z : ⊥ = cc in z
+apart M E h a b = let z : ⊥ = cc in z
+apart M O h a b = let z : ⊥ = cc in z
+apart M M h a b = let z : ⊥ = cc in z
+
+-- no cache has a line past memory
+past : (caches : List Sets) (line i : ℕ) → copy_at caches i line ≡ None → IsOwner caches line i → ⊥
+past caches line i e a = let z : is_dirty (state_of (copy_at caches i line)) ≡ false = ap (λ o. is_dirty (state_of o)) e in let y : ⊥ = cc in y
+
+pub one-owner : (caches : List Sets) (memory : List Words) (line i j : ℕ) → AllCoherent caches memory → IsOwner caches line i → IsOwner caches line j → i ≢ j → ⊥
+one-owner caches memory line i j h a b n = elim (lt-or (length memory) line) [
+  | inl l ↦ apart (state_of (copy_at caches i line)) (state_of (copy_at caches j line)) ((h.each line l).apart i j n) a b
+  | inr l ↦ past caches line i (h.within line i l) a
+]

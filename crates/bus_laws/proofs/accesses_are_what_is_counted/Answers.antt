@@ -1,0 +1,14 @@
+use Rattle.tso_model.specs.FlatMachine.{chosen}
+use Rattle.tso_model.specs.Access.{access_of}
+use Rattle.bus_laws.specs.Uses.{use_at}
+use Rattle.bus_laws.proofs.Counted.{choice-use, use-told}
+use Rattle.bus_laws.proofs.accesses_are_what_is_counted.Goals as goal
+
+pub returns : goal.returns
+returns c = record {
+  uses = λ bus t depth commits state caches choice possible.
+      choice-use t depth state.flat caches choice (c.pending_stores_are_own.ensures bus t depth commits state possible);
+  answers = λ bus t depth commits state caches choice possible.
+      use-told caches (chosen choice) (access_of t depth state.flat choice) (use_at t depth state.flat caches choice)
+      (choice-use t depth state.flat caches choice (c.pending_stores_are_own.ensures bus t depth commits state possible));
+}

@@ -1,0 +1,208 @@
+-- On the atomic bus the protocol and the shape of the caches change two kinds of lines alone.
+use Rattle.std.proofs.Common.{◌≡◌, ◌==◌, ◌+◌, ℕ, zero, suc, Bool, true, false, cond, List, [], ◌∷◌, ◌++◌, length, Some, codes, refl, sym, ap, subst, ◌∙◌, append_assoc, arith}
+use Rattle.std.specs.Fmt.{decimal}
+use Rattle.tso_model.specs.Litmus.{Litmus, IsTest}
+use Rattle.tso_model.specs.Runs.{Run, run}
+use Rattle.tso_model.specs.declared.choice.Choice.{Choice}
+use Rattle.scheduler.specs.Refusals.{IsDecided}
+use Rattle.protocol_tables.specs.Tables.{table_of}
+use Rattle.protocol_tables.specs.declared.kind.ProtocolKind.{ProtocolKind}
+use Rattle.machine_core.specs.Configuration.{Configuration}
+use Rattle.machine_core.specs.declared.counts.Counts.{Counts}
+use Rattle.order_builder.specs.PrintedOrder.{printed_order}
+use Rattle.tso_report.specs.Shown.{Shown}
+use Rattle.tso_report.specs.Report.{line, test_line, machine_line, register_lines, memory_line, condition_line, choices_line, cache_lines, report}
+use Rattle.tso_report.specs.Json.{json_report}
+use Rattle.tso_report.specs.JsonFrame.{other_members}
+use Rattle.tso_report.specs.Tally.{RunCounts, tally_text}
+use Rattle.command_line.specs.Plan.{Plan}
+use Rattle.command_line.specs.declared.settings.Settings.TheVariants as settings
+use Rattle.tso_cli.specs.Parts.{parts_of, EndsInFeed}
+use Rattle.tso_cli.specs.Lines.{input_refusal, test_refusal, choices_refusal}
+use Rattle.tso_cli.specs.RunTexts.{report_in, unfinished_in}
+use Rattle.tso_cli.specs.Runs.{run_under, counts_under}
+use Rattle.tso_cli.specs.Simulation.{shown_of}
+use Rattle.tso_cli.specs.Sweep.{choices_of, seeded_run, with_one_run, counts_from, sweep_counts, sweep_status, IsSweepAnswer}
+use Rattle.tso_cli.specs.Answers.{run_text, run_status, text_under, status_under, IsRunAnswer, IsAnswerTo, IsInputAnswer, IsAnswer, too_large, refused, answered, ran}
+use Rattle.tso_cli.specs.Machines.{AreAtomicAtOneDepth, DifferInLines, DifferInMembers, ReportsDiffer, RunsAnswerAlike, SweepsAnswerAlike}
+use Rattle.tso_cli.specs.ReadOneWay.{AreReadOneWay}
+use Rattle.tso_cli.specs.declared.task.Task.{Task}
+use Rattle.tso_cli.specs.declared.task.Task.TheVariants as tasks
+use Rattle.tso_cli.specs.declared.answer.Status.{Status}
+use Rattle.tso_cli.specs.declared.answer.Status.TheVariants.{Good, Refused, Unended}
+use Rattle.tso_cli.proofs.BusLemmas.{atomic-run}
+use Rattle.tso_cli.proofs.CountLemmas.{counts-each}
+
+-- ---- a report as one text with two places
+
+ends-line : (text : List ℕ) → EndsInFeed (line text)
+ends-line text = (text, refl)
+
+ends-after : (front back : List ℕ) → EndsInFeed back → EndsInFeed (front ++ back)
+ends-after front back ends = (front ++ ends.0, ap (λ (b : List ℕ). front ++ b) ends.1 ∙ sym (append_assoc front ends.0 (10 ∷ [])))
+
+ends-test : (t : Litmus) → EndsInFeed (test_line t)
+ends-test t = ends-after (codes "Test ") (line t.name) (ends-line t.name)
+
+-- the lines between the machine's and the caches'
+abbrev middle_lines : Litmus → Shown → List ℕ
+middle_lines t s =
+    printed_order t s.order ++ (register_lines 0 s.registers ++ (memory_line t s.memory ++ (condition_line t s.holds ++ choices_line s.used s.stalled s.unused)))
+
+ends-choices : (used stalled unused : ℕ) → EndsInFeed (choices_line used stalled unused)
+ends-choices used stalled unused =
+    ends-after (codes "Choices used=") _ (ends-after (decimal used) _ (ends-after (codes " stalled=") _ (ends-after (decimal stalled) _
+    (ends-after (codes " unused=") (line (decimal unused)) (ends-line (decimal unused))))))
+
+ends-middle : (t : Litmus) (s : Shown) → EndsInFeed (middle_lines t s)
+ends-middle t s =
+    ends-after (printed_order t s.order) _ (ends-after (register_lines 0 s.registers) _ (ends-after (memory_line t s.memory) _
+    (ends-after (condition_line t s.holds) _ (ends-choices s.used s.stalled s.unused))))
+
+regrouped : (a b c d e f : List ℕ) → a ++ (b ++ (c ++ (d ++ (e ++ f)))) ≡ (a ++ (b ++ (c ++ (d ++ e)))) ++ f
+regrouped a b c d e f = sym (
+    append_assoc a (b ++ (c ++ (d ++ e))) f
+    ∙ ap (λ (x : List ℕ). a ++ x) (append_assoc b (c ++ (d ++ e)) f
+    ∙ ap (λ (x : List ℕ). b ++ x) (append_assoc c (d ++ e) f ∙ ap (λ (x : List ℕ). c ++ x) (append_assoc d e f))))
+
+report-is : (t : Litmus) (kind : ProtocolKind) (c : Configuration) (s : Shown)
+    → report t kind c s ≡ test_line t ++ (machine_line kind c ++ (middle_lines t s ++ cache_lines 0 s.counts))
+report-is t kind c s =
+    ap (λ (x : List ℕ). (test_line t ++ machine_line kind c) ++ x)
+    (regrouped (printed_order t s.order) (register_lines 0 s.registers) (memory_line t s.memory) (condition_line t s.holds) (choices_line s.used s.stalled s.unused) (cache_lines 0 s.counts))
+    ∙ append_assoc (test_line t) (machine_line kind c) (middle_lines t s ++ cache_lines 0 s.counts)
+
+-- ---- two reports of one run, with other counts
+
+module _ (t : Litmus) (kind other : ProtocolKind) (c d : Configuration) (counts others : List Counts) (r : Run) (cores : length counts ≡ length others) where
+  lines-differ : DifferInLines kind other c d (report t kind c (shown_of t counts r)) (report t other d (shown_of t others r))
+  lines-differ = record {
+    front = test_line t;
+    middle = middle_lines t (shown_of t counts r);
+    counts = counts;
+    others = others;
+    whole_lines = (ends-test t, ends-middle t (shown_of t counts r));
+    cores = cores;
+    first = report-is t kind c (shown_of t counts r);
+    second = report-is t other d (shown_of t others r);
+  }
+
+  members-differ : DifferInMembers kind other c d (json_report t kind c (shown_of t counts r)) (json_report t other d (shown_of t others r))
+  members-differ = record {
+    rest = other_members t (shown_of t counts r);
+    counts = counts;
+    others = others;
+    cores = cores;
+    first = refl;
+    second = refl;
+  }
+
+  reports-differ : (json : Bool) → ReportsDiffer json kind other c d (report_in json t kind c (shown_of t counts r)) (report_in json t other d (shown_of t others r))
+  reports-differ false = lines-differ
+  reports-differ true = members-differ
+
+  one-run-alike : (json : Bool) → RunsAnswerAlike json kind other c d (run_text t kind c json counts r) (run_text t other d json others r) (run_status r) (run_status r)
+  one-run-alike json = by_end r.ended (reports-differ json)
+    where
+      by_end : (b : Bool) → ReportsDiffer json kind other c d (report_in json t kind c (shown_of t counts r)) (report_in json t other d (shown_of t others r))
+          → RunsAnswerAlike json kind other c d (cond b (report_in json t kind c (shown_of t counts r)) (unfinished_in json r.used r.stalled))
+          (cond b (report_in json t other d (shown_of t others r)) (unfinished_in json r.used r.stalled)) (cond b Good Unended) (cond b Good Unended)
+      by_end true differ = record { status = refl; ended = λ good. differ; otherwise = λ not_good. absurd (not_good refl) }
+      by_end false differ = record { status = refl; ended = λ good. absurd (let no : ⊥ = cc in no); otherwise = λ not_good. refl }
+
+-- ---- the run is the same, and so many cores are counted
+
+same-run : (t : Litmus) (kind other : ProtocolKind) (c d : Configuration) (choices : List Choice) → AreAtomicAtOneDepth c d
+    → run_under t kind c choices ≡ run_under t other d choices
+same-run t kind other c d choices shape =
+    atomic-run (table_of kind) c t choices shape.atomic ∙ ap (λ (depth : ℕ). run t depth choices) shape.depth
+    ∙ sym (atomic-run (table_of other) d t choices shape.atomic_too)
+
+same-cores : (t : Litmus) (kind other : ProtocolKind) (c d : Configuration) (choices : List Choice)
+    → length (counts_under t kind c choices) ≡ length (counts_under t other d choices)
+same-cores t kind other c d choices =
+    counts-each c.bus (table_of kind) c.shape t c.depth choices ∙ sym (counts-each d.bus (table_of other) d.shape t d.depth choices)
+
+-- ---- the answers
+
+refusals-alike : (json : Bool) (kind other : ProtocolKind) (c d : Configuration) (out again : List ℕ) → out ≡ again
+    → RunsAnswerAlike json kind other c d out again Refused Refused
+refusals-alike json kind other c d out again same = record { status = refl; ended = λ good. absurd (let no : ⊥ = cc in no); otherwise = λ not_good. same }
+
+run-answers-alike : (t : Litmus) (kind other : ProtocolKind) (c d : Configuration) (json : Bool) (text out again : List ℕ) (status too : Status)
+    → IsDecided (length t.programs) text → AreAtomicAtOneDepth c d → IsRunAnswer t kind c json text out status → IsRunAnswer t other d json text again too
+    → RunsAnswerAlike json kind other c d out again status too
+run-answers-alike t kind other c d json text _ _ _ _ law shape (refused f h) (refused g k) =
+    refusals-alike json kind other c d (choices_refusal f) (choices_refusal g) (ap choices_refusal (law.one_refusal f g h k))
+run-answers-alike t kind other c d json text _ _ _ _ law shape (refused f h) (ran choices spelled fit) = absurd (law.never_both choices f spelled h)
+run-answers-alike t kind other c d json text _ _ _ _ law shape (ran choices spelled fit) (refused f h) = absurd (law.never_both choices f spelled h)
+run-answers-alike t kind other c d json text _ _ _ _ law shape (ran choices spelled fit) (ran others again fit_too) =
+    let out = text_under t kind c json choices in
+    let status = status_under t kind c choices in
+    subst (λ (cs : List Choice). RunsAnswerAlike json kind other c d out (text_under t other d json cs) status (status_under t other d cs)) (law.one_list choices others spelled again)
+    (subst (λ (r : Run). RunsAnswerAlike json kind other c d out (run_text t other d json (counts_under t other d choices) r) status (run_status r)) (same-run t kind other c d choices shape)
+    (one-run-alike t kind other c d (counts_under t kind c choices) (counts_under t other d choices) (run_under t kind c choices) (same-cores t kind other c d choices) json))
+
+-- what is counted of a sweep is the same
+same-counts : (t : Litmus) (kind other : ProtocolKind) (c d : Configuration) (count from seeds : ℕ) → AreAtomicAtOneDepth c d
+    → counts_from t kind c count from seeds ≡ counts_from t other d count from seeds
+same-counts t kind other c d count from zero shape = refl
+same-counts t kind other c d count from (suc n) shape =
+    ap (λ (r : Run). with_one_run t r (counts_from t kind c count from n)) (same-run t kind other c d (choices_of t count (from + n)) shape)
+    ∙ ap (λ (k : RunCounts). with_one_run t (seeded_run t other d count (from + n)) k) (same-counts t kind other c d count from n shape)
+
+never-refused : (b : Bool) → cond b Good Unended ≡ Refused → ⊥
+never-refused true h = let no : ⊥ = cc in no
+never-refused false h = let no : ⊥ = cc in no
+
+sweep-answers-alike : (t : Litmus) (kind other : ProtocolKind) (c d : Configuration) (plan : Plan) (out again : List ℕ) (status too : Status)
+    → AreAtomicAtOneDepth c d → IsSweepAnswer t kind c plan out status → IsSweepAnswer t other d plan again too → SweepsAnswerAlike kind other c d out again status too
+sweep-answers-alike t kind other c d plan out again status too shape is is_too =
+    let same : sweep_counts t kind c plan ≡ sweep_counts t other d plan = same-counts t kind other c d plan.length plan.from plan.seeds shape in
+    let told : RunCounts → List ℕ = λ counts. tally_text t counts plan.from plan.length in
+    record {
+      status = is.status_is ∙ ap sweep_status same ∙ sym is_too.status_is;
+      swept = λ not_refused. record {
+        front = test_line t;
+        back = told (sweep_counts t kind c plan);
+        whole_lines = ends-test t;
+        first = is.text ∙ append_assoc (test_line t) (machine_line kind c) (told (sweep_counts t kind c plan));
+        second = is_too.text ∙ append_assoc (test_line t) (machine_line other d) (told (sweep_counts t other d plan))
+            ∙ ap (λ (counts : RunCounts). test_line t ++ (machine_line other d ++ told counts)) (sym same);
+      };
+      refused = λ is_refused. absurd (never-refused ((sweep_counts t kind c plan).unfinished == 0) (sym is.status_is ∙ is_refused));
+    }
+
+-- of whole inputs: two tasks answer alike, where they do so of each test and of what is refused
+inputs-alike : (task other : Task) (Alike : List ℕ → List ℕ → Status → Status → Type 0) (input out again : List ℕ) (status too : Status) → AreReadOneWay
+    → ((text : List ℕ) → Alike text text Refused Refused)
+    → ((t : Litmus) (text out again : List ℕ) (status too : Status) → IsTest t → IsAnswerTo task t text out status → IsAnswerTo other t text again too → Alike out again status too)
+    → IsInputAnswer task input out status → IsInputAnswer other input again too → Alike out again status too
+inputs-alike task other Alike input _ _ _ _ law same step (too_large l) (too_large m) = same input_refusal
+inputs-alike task other Alike input _ _ _ _ law same step (too_large l) (refused f small h) = absurd (omega arith)
+inputs-alike task other Alike input _ _ _ _ law same step (too_large l) (answered t out status small spelled is) = absurd (omega arith)
+inputs-alike task other Alike input _ _ _ _ law same step (refused f small h) (too_large m) = absurd (omega arith)
+inputs-alike task other Alike input _ _ _ _ law same step (refused f small h) (refused g less k) =
+    subst (λ (text : List ℕ). Alike (test_refusal f) text Refused Refused) (ap test_refusal (law.one_refusal _ f g h k)) (same (test_refusal f))
+inputs-alike task other Alike input _ _ _ _ law same step (refused f small h) (answered t out status less spelled is) = absurd (law.refused_or_not _ t f spelled h)
+inputs-alike task other Alike input _ _ _ _ law same step (answered t out status small spelled is) (too_large m) = absurd (omega arith)
+inputs-alike task other Alike input _ _ _ _ law same step (answered t out status small spelled is) (refused f less h) = absurd (law.refused_or_not _ t f spelled h)
+inputs-alike task other Alike input _ _ _ _ law same step (answered t out status small spelled is) (answered t2 out2 status2 less spelled2 is2) =
+    step t2 (parts_of input).rest out out2 status status2 (law.test _ t2 spelled2)
+    (subst (λ t. IsAnswerTo task t (parts_of input).rest out status) (law.one_test _ t t2 spelled spelled2) is) is2
+
+pub runs-alike : (kind other : ProtocolKind) (c d : Configuration) (json : Bool) (input out again : List ℕ) (status too : Status) → AreReadOneWay → AreAtomicAtOneDepth c d
+    → IsAnswer (settings.Run kind c json) (Some input) out status → IsAnswer (settings.Run other d json) (Some input) again too
+    → RunsAnswerAlike json kind other c d out again status too
+runs-alike kind other c d json input out again status too law shape is is_too =
+    inputs-alike (tasks.Run kind c json) (tasks.Run other d json) (RunsAnswerAlike json kind other c d) input out again status too law
+    (λ text. refusals-alike json kind other c d text text refl)
+    (λ t text out again status too test. run-answers-alike t kind other c d json text out again status too (law.decided (length t.programs) text test.some_core) shape) is is_too
+
+pub sweeps-alike : (kind other : ProtocolKind) (c d : Configuration) (plan : Plan) (input out again : List ℕ) (status too : Status) → AreReadOneWay → AreAtomicAtOneDepth c d
+    → IsAnswer (settings.Sweep kind c plan) (Some input) out status → IsAnswer (settings.Sweep other d plan) (Some input) again too
+    → SweepsAnswerAlike kind other c d out again status too
+sweeps-alike kind other c d plan input out again status too law shape is is_too =
+    inputs-alike (tasks.Sweep kind c plan) (tasks.Sweep other d plan) (SweepsAnswerAlike kind other c d) input out again status too law
+    (λ text. record { status = refl; swept = λ not_refused. absurd (not_refused refl); refused = λ is_refused. refl })
+    (λ t text out again status too test. sweep-answers-alike t kind other c d plan out again status too shape) is is_too

@@ -1,0 +1,17 @@
+use Rattle.tso_cli.proofs.OneTextLemmas.{AreDecided, runs-one, sweeps-one, checks-one, witnesses-one}
+use Rattle.tso_cli.proofs.headline_laws.headlines_leave_one_text.Goals as goal
+
+pub returns : goal.returns
+returns c =
+    let law = c.texts_are_read_one_way.ensures in
+    let decided : AreDecided = record {
+      tests = c.texts_are_decided.ensures;
+      orders = c.order_is_spelled_once.ensures.either;
+      judged = c.each_order_is_judged.ensures;
+    } in
+    record {
+      runs = λ kind config json input out other. runs-one kind config json input out other law decided;
+      sweeps = λ kind config plan input out other. sweeps-one kind config plan input out other law decided;
+      witnesses = λ depth input out other. witnesses-one depth input out other law decided;
+      checks = λ input out other. checks-one input out other law decided;
+    }

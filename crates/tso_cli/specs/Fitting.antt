@@ -1,0 +1,57 @@
+-- What may be shown of a run of a test, and what may be counted of its runs; and that the runs of a machine keep to it.
+-- (This project's profile.)
+use Rattle.std.specs.Prelude.{ℕ, ◌≡◌, ◌+◌, ◌<◌, ◌≤◌, ◌^◌, true, if◌then◌else◌, List, length, All, is_some}
+use Rattle.tso_model.specs.Litmus.{Litmus, IsTest}
+use Rattle.tso_model.specs.Registers.{IsWord}
+use Rattle.tso_model.specs.declared.choice.Choice.{Choice}
+use Rattle.scheduler.specs.Limits.{most_choices}
+use Rattle.protocol_tables.specs.declared.kind.ProtocolKind.{ProtocolKind}
+use Rattle.machine_core.specs.Configuration.{Configuration}
+use Rattle.tso_report.specs.Shown.{Shown, IsOf}
+use Rattle.tso_report.specs.Limits.{IsSmall}
+use Rattle.tso_report.specs.Tally.{RunCounts, looked_at, ended_in, runs_in}
+use Rattle.command_line.specs.Plan.{Plan, most_seeds}
+use Rattle.tso_cli.specs.Runs.{run_under, counts_under, AnswersFit}
+use Rattle.tso_cli.specs.Simulation.{shown_of}
+use Rattle.tso_cli.specs.Sweep.{sweep_counts, SweepAnswersFit}
+
+-- a run of this test: its parts are as many as the test has, and each is one that a run of the test can leave
+pub record FitsTest (t : Litmus) (s : Shown) : Type 0 where
+  pub of_test : IsOf t s
+  pub small : IsSmall t s
+
+-- a word for each register and location that is looked at
+pub record IsStateOf (t : Litmus) (values : List ℕ) : Type 0 where
+  pub each : length values ≡ length (looked_at t)
+  pub words : All IsWord values
+
+-- runs of this test, fewer than 2^64: what they ended in are states of it, and each run that ended made the condition's
+-- proposition true or false, if there is a condition
+pub record CountsFitTest (t : Litmus) (c : RunCounts) : Type 0 where
+  pub states : All (λ state. IsStateOf t state.0) c.states
+  pub verdicts : c.held + c.failed ≡ (if is_some t.condition then ended_in c else 0)
+  pub few : runs_in c < 2 ^ 64
+
+-- what is shown of the run under these choices, where it ends
+abbrev pub shown_under : Litmus → ProtocolKind → Configuration → List Choice → Shown
+shown_under t kind c choices = shown_of t (counts_under t kind c choices) (run_under t kind c choices)
+
+-- each run that ends under as many choices as a text may have, with answers such as caches may give, fits its test
+abbrev pub EndedRunsFit : Type 0
+EndedRunsFit =
+    (t : Litmus) (kind : ProtocolKind) (c : Configuration) (choices : List Choice)
+    → IsTest t → length choices ≤ most_choices → AnswersFit t kind c choices
+    → (run_under t kind c choices).ended ≡ true → FitsTest t (shown_under t kind c choices)
+
+-- of the choices that a run was given each was used or is left over, and no more stalled than were used
+abbrev pub ChoicesAreCounted : Type 0
+ChoicesAreCounted =
+    (t : Litmus) (kind : ProtocolKind) (c : Configuration) (choices : List Choice)
+    → ((run_under t kind c choices).used + (run_under t kind c choices).unused ≡ length choices)
+    × ((run_under t kind c choices).stalled ≤ (run_under t kind c choices).used)
+
+-- what is counted of the runs of a plan, with such answers, fits their test
+abbrev pub SweptCountsFit : Type 0
+SweptCountsFit =
+    (t : Litmus) (kind : ProtocolKind) (c : Configuration) (plan : Plan)
+    → IsTest t → plan.seeds ≤ most_seeds → SweepAnswersFit t kind c plan → CountsFitTest t (sweep_counts t kind c plan)

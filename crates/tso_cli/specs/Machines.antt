@@ -1,0 +1,67 @@
+-- What two machines on the atomic bus answer that differ in the protocol, and in the sets, the ways and the words of their
+-- caches: one text, into which each puts its own `Machine` and `Cache` lines, or members, and nothing else. (This project's
+-- profile.)
+use Rattle.std.specs.Prelude.{ℕ, ◌≡◌, ◌≢◌, Bool, true, false, List, ◌++◌, length}
+use Rattle.tso_model.specs.declared.bus.Bus.TheVariants.{Atomic}
+use Rattle.protocol_tables.specs.declared.kind.ProtocolKind.{ProtocolKind}
+use Rattle.machine_core.specs.Configuration.{Configuration}
+use Rattle.machine_core.specs.declared.counts.Counts.{Counts}
+use Rattle.tso_report.specs.Report.{machine_line, cache_lines}
+use Rattle.tso_report.specs.Json.{cache_value, machine_value}
+use Rattle.tso_report.specs.JsonFrame.{OtherMembers, json_with}
+use Rattle.tso_cli.specs.Parts.{EndsInFeed}
+use Rattle.tso_cli.specs.declared.answer.Status.{Status}
+use Rattle.tso_cli.specs.declared.answer.Status.TheVariants.{Good, Refused}
+
+-- both are on the atomic bus, and their store buffers have one depth; their caches may have any shape
+pub record AreAtomicAtOneDepth (c d : Configuration) : Type 0 where
+  pub atomic : c.bus ≡ Atomic
+  pub atomic_too : d.bus ≡ Atomic
+  pub depth : c.depth ≡ d.depth
+
+-- two reports are one text but for the line `Machine` and the lines `Cache` at the end, one for each core
+pub record DifferInLines (kind other : ProtocolKind) (c d : Configuration) (out again : List ℕ) : Type 0 where
+  pub front : List ℕ
+  pub middle : List ℕ
+  pub counts : List Counts
+  pub others : List Counts
+  pub whole_lines : EndsInFeed front × EndsInFeed middle
+  pub cores : length counts ≡ length others
+  pub first : out ≡ front ++ (machine_line kind c ++ (middle ++ cache_lines 0 counts))
+  pub second : again ≡ front ++ (machine_line other d ++ (middle ++ cache_lines 0 others))
+
+-- two reports as JSON are one line but for the members `cache` and `machine`
+pub record DifferInMembers (kind other : ProtocolKind) (c d : Configuration) (out again : List ℕ) : Type 0 where
+  pub rest : OtherMembers
+  pub counts : List Counts
+  pub others : List Counts
+  pub cores : length counts ≡ length others
+  pub first : out ≡ json_with rest (cache_value counts) (machine_value kind c)
+  pub second : again ≡ json_with rest (cache_value others) (machine_value other d)
+
+-- two reports, plain or as JSON, do
+abbrev pub ReportsDiffer : Bool → ProtocolKind → ProtocolKind → Configuration → Configuration → List ℕ → List ℕ → Type 0
+ReportsDiffer false kind other c d out again = DifferInLines kind other c d out again
+ReportsDiffer true kind other c d out again = DifferInMembers kind other c d out again
+
+-- the texts of two sweeps are one text but for the line `Machine`
+pub record SweepsDiffer (kind other : ProtocolKind) (c d : Configuration) (out again : List ℕ) : Type 0 where
+  pub front : List ℕ
+  pub back : List ℕ
+  pub whole_lines : EndsInFeed front
+  pub first : out ≡ front ++ (machine_line kind c ++ back)
+  pub second : again ≡ front ++ (machine_line other d ++ back)
+
+-- two answers of `run` have one status; where the test ended, the reports differ as above, and all else is the same byte for
+-- byte, the refusals and how far a run came
+pub record RunsAnswerAlike (json : Bool) (kind other : ProtocolKind) (c d : Configuration) (out again : List ℕ) (how too : Status)
+    : Type 0 where
+  pub status : how ≡ too
+  pub ended : how ≡ Good → ReportsDiffer json kind other c d out again
+  pub otherwise : how ≢ Good → out ≡ again
+
+-- two answers of `sweep` have one status; the texts differ in that line, and refusals are the same byte for byte
+pub record SweepsAnswerAlike (kind other : ProtocolKind) (c d : Configuration) (out again : List ℕ) (how too : Status) : Type 0 where
+  pub status : how ≡ too
+  pub swept : how ≢ Refused → SweepsDiffer kind other c d out again
+  pub refused : how ≡ Refused → out ≡ again

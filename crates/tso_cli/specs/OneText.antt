@@ -1,0 +1,42 @@
+-- What the headline leaves open: two texts of which it holds. (This project's profile.)
+use Rattle.std.specs.Prelude.{ℕ, ◌≡◌, ◌⊎◌, Bool, List, length}
+use Rattle.tso_model.specs.Litmus.{Litmus}
+use Rattle.tso_model.specs.declared.choice.Choice.{Choice}
+use Rattle.tso_model.specs.declared.execution.Entry.{Entry}
+use Rattle.tso_laws.specs.Along.{LeadTo}
+use Rattle.scheduler.specs.Grammar.{SpellsChoices}
+use Rattle.protocol_tables.specs.declared.kind.ProtocolKind.{ProtocolKind}
+use Rattle.machine_core.specs.Configuration.{Configuration}
+use Rattle.tso_report.specs.Shown.{Shown}
+use Rattle.tso_cli.specs.RunTexts.{report_in}
+
+-- two reports show the same order, registers, memory and verdict of one test; the counts of choices and of accesses may differ
+pub record ShowOneExecution (kind : ProtocolKind) (c : Configuration) (json : Bool) (out other : List ℕ) : Type 0 where
+  pub t : Litmus
+  pub shown : Shown
+  pub again : Shown
+  pub first : out ≡ report_in json t kind c shown
+  pub second : other ≡ report_in json t kind c again
+  pub order : shown.order ≡ again.order
+  pub registers : shown.registers ≡ again.registers
+  pub memory : shown.memory ≡ again.memory
+  pub holds : shown.holds ≡ again.holds
+
+-- two texts of `run` are one text, or such reports
+abbrev pub AreOneRun : ProtocolKind → Configuration → Bool → List ℕ → List ℕ → Type 0
+AreOneRun kind c json out other = (out ≡ other) ⊎ ShowOneExecution kind c json out other
+
+-- two texts spell choices of one test that lead to one order at this depth; which choices they are may differ
+pub record ReachOneOrder (depth : ℕ) (out other : List ℕ) : Type 0 where
+  pub t : Litmus
+  pub order : List Entry
+  pub choices : List Choice
+  pub others : List Choice
+  pub first : SpellsChoices (length t.programs) out choices
+  pub second : SpellsChoices (length t.programs) other others
+  pub lead : LeadTo t depth choices order
+  pub lead_too : LeadTo t depth others order
+
+-- two texts of `witness` are one text, or such choices
+abbrev pub AreOneWitness : ℕ → List ℕ → List ℕ → Type 0
+AreOneWitness depth out other = (out ≡ other) ⊎ ReachOneOrder depth out other
