@@ -1,0 +1,13 @@
+pub mod Cutting
+pub mod JsonTexts
+pub mod Unfinished
+pub mod Heads
+pub mod Lines
+pub mod Counted
+pub mod Reports
+pub mod Sweeps
+pub mod JsonNumbers
+pub mod JsonMemory
+pub mod JsonReports
+pub mod PrintedRuns
+pub mod Machines

@@ -1,0 +1,124 @@
+//! What the calls of a bus leave, beyond the words that are seen: coherent copies, and the lines in memory.
+
+ghost use Rattle.std.specs.Prelude.{◌≡◌, ◌<◌, ◌≤◌, false, true, IfOk, length, option_copied};
+ghost use Rattle.cache_set.specs.Contents.{copy_of};
+ghost use Rattle.snoop_bus.specs.Bus.{words_of, cores_of, IsFree, IsCoherent, HasLines};
+ghost use Rattle.snoop_bus.specs.Accesses.{contents_of, contents_settled, copies_of, memory_of, MayGoOn};
+ghost use Rattle.snoop_bus.specs.Accesses.{memory_after_load, memory_after_write};
+
+use cache_set::Line;
+use protocol_tables::Protocol;
+use snoop_bus::{Access, Shape, SnoopBus};
+use std::alloc::Global;
+use tso_model::{Core, Loc, NoMemory};
+
+/// The words that are seen of a new bus are those that it is made with.
+pub fn a_new_bus<P: Protocol>(
+    alloc: Global,
+    protocol: P,
+    cores: u8,
+    shape: Shape,
+    init: &[u32],
+) -> Result<SnoopBus<P>, NoMemory>
+    requires cores { (1 ≤ cores) × (cores ≤ 8) }
+    requires init { length init.now ≤ 16 }
+    ensures { IfOk result (λ b. words_of b ≡ init.now) }
+{
+    SnoopBus::new(alloc, protocol, cores, shape, init)
+}
+
+/// A bus that begins anew is coherent.
+pub fn a_bus_that_begins_anew<P: Protocol>(bus: &mut SnoopBus<P>, init: &[u32])
+    requires { length init.now ≡ length (words_of bus.old) }
+    ensures { IsCoherent bus.new }
+{
+    bus.restart(init);
+}
+
+/// A load leaves the copies coherent, and memory as the load leaves it.
+pub fn a_load<P: Protocol>(
+    bus: &mut SnoopBus<P>,
+    core: Core,
+    loc: Loc,
+) -> Result<(u32, Access), NoMemory>
+    requires core { core.0 < cores_of bus.old }
+    requires loc { loc.0 < length (words_of bus.old) }
+    requires free { MayGoOn bus.old core.0 loc.0 false }
+    ensures coherent { IsCoherent bus.new }
+    ensures memory { IfOk result (λ _. memory_of bus.new ≡ memory_after_load bus.old core.0 loc.0) }
+{
+    bus.load(core, loc)
+}
+
+/// So does a store.
+pub fn a_store<P: Protocol>(
+    bus: &mut SnoopBus<P>,
+    core: Core,
+    loc: Loc,
+    value: u32,
+) -> Result<Access, NoMemory>
+    requires core { core.0 < cores_of bus.old }
+    requires loc { loc.0 < length (words_of bus.old) }
+    requires free { MayGoOn bus.old core.0 loc.0 true }
+    ensures coherent { IsCoherent bus.new }
+    ensures memory { IfOk result (λ _. memory_of bus.new ≡ memory_after_write bus.old core.0 loc.0) }
+{
+    bus.store(core, loc, value)
+}
+
+/// So does an exchange.
+pub fn an_exchange<P: Protocol>(
+    bus: &mut SnoopBus<P>,
+    core: Core,
+    loc: Loc,
+    value: u32,
+) -> Result<(u32, Access), NoMemory>
+    requires core { core.0 < cores_of bus.old }
+    requires loc { loc.0 < length (words_of bus.old) }
+    requires free { MayGoOn bus.old core.0 loc.0 true }
+    ensures coherent { IsCoherent bus.new }
+    ensures memory { IfOk result (λ _. memory_of bus.new ≡ memory_after_write bus.old core.0 loc.0) }
+{
+    bus.swap(core, loc, value)
+}
+
+/// So does an addition.
+pub fn an_addition<P: Protocol>(
+    bus: &mut SnoopBus<P>,
+    core: Core,
+    loc: Loc,
+    value: u32,
+) -> Result<(u32, Access), NoMemory>
+    requires core { core.0 < cores_of bus.old }
+    requires loc { loc.0 < length (words_of bus.old) }
+    requires free { MayGoOn bus.old core.0 loc.0 true }
+    ensures coherent { IsCoherent bus.new }
+    ensures memory { IfOk result (λ _. memory_of bus.new ≡ memory_after_write bus.old core.0 loc.0) }
+{
+    bus.add(core, loc, value)
+}
+
+/// Settling cleans each dirty copy where it stands, and leaves every other, and the copies coherent.
+pub fn a_settled_bus<P: Protocol>(bus: &mut SnoopBus<P>)
+    requires { IsFree bus.old }
+    ensures contents { contents_of bus.new ≡ contents_settled bus.old }
+    ensures coherent { IsCoherent bus.new }
+{
+    bus.settle();
+}
+
+/// A core's copy of a line is found in its set; the copies are coherent, and have no word past those of their lines.
+pub fn a_copy_in_its_set<P: Protocol>(
+    bus: &SnoopBus<P>,
+    core: Core,
+    set: u8,
+    line: u8,
+) -> Option<Line>
+    requires core { core.0 < cores_of bus.now }
+    requires set { set < bus.now.shape.sets }
+    ensures copy { result ≡ copy_of (copies_of bus.now core.0 set) line }
+    ensures coherent { IsCoherent bus.now }
+    ensures lines { HasLines bus.now }
+{
+    bus.set_of(core, set).look(line).copied()
+}

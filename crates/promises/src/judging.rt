@@ -1,0 +1,39 @@
+//! How often an order is looked at while it is judged.
+
+ghost use Rattle.std.specs.Prelude.{◌≡◌, ◌+◌, ◌*◌, ◌<◌, ◌≤◌, length};
+ghost use Rattle.axiom_checker.specs.FirstBreach.{IsJudged};
+
+use axiom_checker::{Breach, check_counted};
+use std::alloc::Global;
+use std::sync::ledger::{Blank, Ledger};
+use tso_model::{Execution, Test, Watched};
+
+/// Judging an order takes at most three looks for each of its entries.
+pub fn three_looks_for_each_entry<L: Ledger>(
+    alloc: Global,
+    test: &Test,
+    order: &mut Watched<'_, L>,
+) -> Result<(), Breach>
+    ensures looks { order.new.looks ≤ order.old.looks + 3 * length order.old.order }
+    ensures same { order.new.order ≡ order.old.order }
+{
+    check_counted(alloc, test, order)
+}
+
+/// The same from the first look on, as `check_order` has an order judged: what was judged, and the order with its looks.
+pub fn three_looks_from_the_first<'a, L: Ledger>(
+    blank: Blank,
+    alloc: Global,
+    test: &Test,
+    execution: &'a Execution,
+) -> (Result<(), Breach>, Watched<'a, L>)
+    requires name { blank.name ≡ L.name }
+    requires parts { blank.parts ≡ L.parts }
+    requires some { 0 < blank.parts }
+    ensures judged { IsJudged test.now execution.entry.now.order.items result.0 }
+    ensures looks { result.1.looks ≤ 3 * length execution.entry.now.order.items }
+{
+    let mut order = Watched::<L>::new(blank, execution);
+    let judged = check_counted(alloc, test, &mut order);
+    (judged, order)
+}

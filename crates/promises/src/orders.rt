@@ -1,0 +1,34 @@
+//! What the order of a run's commits keeps.
+
+ghost use Rattle.std.specs.Prelude.{◌≡◌, ℕ, ◌+◌, ◌++◌, Some, IfOk, OnOk, All, slice_get, string_bytes};
+ghost use Rattle.tso_model.specs.ProgramOrder.{IsStorePart};
+ghost use Rattle.tso_model.specs.declared.execution.Entry.{Entry};
+ghost use Rattle.tso_model.specs.declared.execution.Kind.TheVariants.{LR};
+ghost use Rattle.order_builder.specs.Pairs.{IsPaired};
+ghost use Rattle.order_builder.specs.PrintedOrder.{printed_order, HasLocation, HasWord};
+
+use order_builder::{Commits, build, order_text};
+use std::alloc::Global;
+use tso_model::{Execution, NoMemory, Test};
+
+/// In an order that was built, the load part of a locked instruction is followed at once by its store part.
+pub fn a_built_order_keeps_pairs(alloc: Global, commits: &Commits) -> Result<Execution, NoMemory>
+    requires { IsPaired commits.now.entries }
+    ensures { IfOk result (λ e. (i : ℕ) (x : Entry) → slice_get e.order.items i ≡ Some x → x.kind ≡ LR
+        → (y : Entry) × (slice_get e.order.items (i + 1) ≡ Some y) × IsStorePart x y) }
+{
+    build(alloc, commits)
+}
+
+/// The text of an order is what is printed of it, and each value in it is a word.
+pub fn an_order_is_printed(
+    alloc: Global,
+    test: &Test,
+    execution: &Execution,
+) -> Result<String, NoMemory>
+    requires { All (HasLocation test.now) execution.now.order.items }
+    ensures text { IfOk result (λ text. string_bytes text ≡ printed_order test.now execution.now.order.items) }
+    ensures words { OnOk result (All HasWord execution.now.order.items) }
+{
+    order_text(alloc, test, execution)
+}

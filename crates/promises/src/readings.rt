@@ -1,0 +1,79 @@
+//! What is read of texts: what they spell, and how they are refused, memory aside.
+
+ghost use Rattle.std.specs.Prelude.{◌≡◌, ◌≢◌, ◌<◌, List, Some, Ok, Err, IfOk, IfErr, IfSome, MatchResult};
+ghost use Rattle.tso_model.specs.Litmus.{Litmus};
+ghost use Rattle.tso_model.specs.declared.choice.Choice.{Choice as ChoiceMade};
+ghost use Rattle.tso_model.specs.declared.execution.Entry.{Entry};
+ghost use Rattle.litmus_reader.specs.Refusals.{IsFault};
+ghost use Rattle.litmus_reader.specs.Spelling.{SpellsTest, IsRefused};
+ghost use Rattle.litmus_reader.specs.declared.fault.Fault.{Fault as FaultFound};
+ghost use Rattle.litmus_reader.specs.declared.fault.TextFault.{TextFault as TextRefused};
+ghost use Rattle.order_builder.specs.Reading.{entries_of, Gives};
+ghost use Rattle.order_builder.specs.Spelling.{SpellsOrder, HasFault};
+ghost use Rattle.order_builder.specs.declared.fault.OrderFault.{OrderFault as OrderRefused};
+ghost use Rattle.scheduler.specs.Grammar.{SpellsChoices};
+ghost use Rattle.scheduler.specs.Refusals.{IsRefusedAsChoices};
+ghost use Rattle.scheduler.specs.Seeds.{seeded_choices};
+ghost use Rattle.scheduler.specs.declared.fault.ChoiceFault.{ChoiceFault as ChoicesRefused};
+
+use litmus_reader::{Fault, TextFault, Why, fault_in, read_test};
+use order_builder::{OrderFault, read_order};
+use scheduler::{ChoiceFault, read_choices, seeded_choices};
+use std::alloc::Global;
+use tso_model::{Choice, Execution, NoMemory, Test};
+
+/// A test is read exactly where a text spells it, and refused exactly as the text is; where memory ran out, of no line.
+pub fn a_test_is_read(alloc: Global, text: &[u8]) -> Result<Test, TextFault>
+    ensures found { IfOk result (λ test. SpellsTest text.now test) }
+    ensures only { (t : Litmus) → SpellsTest text.now t → MatchResult result (λ test. test ≡ t) (λ f. f.why ≡ Why.NoMemory) }
+    ensures refused { IfErr result (λ f. f.why ≢ Why.NoMemory → IsRefused text.now f) }
+    ensures refuses { (fault : TextRefused) → IsRefused text.now fault
+        → MatchResult result (λ _. ⊥) (λ f. f.why ≢ Why.NoMemory → f ≡ fault) }
+    ensures no_memory { IfErr result (λ f. f.why ≡ Why.NoMemory → f.line ≡ 0) }
+{
+    read_test(alloc, text)
+}
+
+/// The fault of a text is found, where it has one.
+pub fn a_fault_is_found(alloc: Global, text: &[u8]) -> Result<Option<Fault>, NoMemory>
+    ensures found { IfOk result (λ found. IfSome found (λ fault. IsFault text.now fault)) }
+    ensures only { (fault : FaultFound) → IsFault text.now fault → IfOk result (λ found. found ≡ Some fault) }
+{
+    fault_in(alloc, text)
+}
+
+/// Choices are read exactly where a text spells them, and refused exactly as the text is.
+pub fn choices_are_read(alloc: Global, cores: u8, text: &[u8]) -> Result<Vec<Choice>, ChoiceFault>
+    requires { 0 < cores }
+    ensures found { IfOk result (λ v. SpellsChoices cores text.now v.items) }
+    ensures only { (choices : List ChoiceMade) → SpellsChoices cores text.now choices
+        → MatchResult result (λ v. v.items ≡ choices) (λ f. f ≡ ChoiceFault.NoMemory) }
+    ensures refused { IfErr result (λ f. f ≢ ChoiceFault.NoMemory → IsRefusedAsChoices cores text.now f) }
+    ensures refuses { (fault : ChoicesRefused) → IsRefusedAsChoices cores text.now fault
+        → MatchResult result (λ _. ⊥) (λ f. f ≢ ChoiceFault.NoMemory → f ≡ fault) }
+{
+    read_choices(alloc, cores, text)
+}
+
+/// The choices of a seed are those that its words say.
+pub fn choices_are_drawn(
+    alloc: Global,
+    cores: u8,
+    seed: u64,
+    count: usize,
+) -> Result<Vec<Choice>, NoMemory>
+    requires { 0 < cores }
+    ensures { IfOk result (λ v. v.items ≡ seeded_choices cores seed count) }
+{
+    seeded_choices(alloc, cores, seed, count)
+}
+
+/// An order is read exactly where a text spells it, and refused exactly for the fault that the text has.
+pub fn an_order_is_read(alloc: Global, test: &Test, text: &[u8]) -> Result<Execution, OrderFault>
+    ensures found { IfOk result (λ execution. SpellsOrder test.now text.now execution.order.items) }
+    ensures only { (order : List Entry) → SpellsOrder test.now text.now order → Gives entries_of result (Ok order) }
+    ensures fault { IfErr result (λ fault. fault ≢ OrderFault.NoMemory → HasFault test.now text.now fault) }
+    ensures only_fault { (fault : OrderRefused) → HasFault test.now text.now fault → Gives entries_of result (Err fault) }
+{
+    read_order(alloc, test, text)
+}

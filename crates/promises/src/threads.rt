@@ -1,0 +1,38 @@
+//! What a test begins with, and what its programs leave.
+
+ghost use Rattle.std.specs.Prelude.{◌≡◌, ◌<◌, [], IfOk, length, slice_index, slice_index_or};
+ghost use Rattle.tso_model.specs.Registers.{index_of};
+ghost use Rattle.tso_model.specs.Thread.{reads_in, registers_with};
+
+use std::alloc::Global;
+use tso_model::{Core, Loc, NoMemory, Reg, Test, Thread, thread_entries};
+
+/// A location's first word is the test's.
+pub fn a_first_word(test: &Test, loc: Loc) -> u32
+    requires { loc.0 < length test.now.locations }
+    ensures { result ≡ slice_index test.now.words loc.0 }
+{
+    test.initial_word(loc)
+}
+
+/// A register's first value in a core is the test's.
+pub fn a_first_value(test: &Test, core: Core, reg: Reg) -> u32
+    requires { core.0 < length test.now.programs }
+    ensures { result ≡ slice_index (slice_index_or test.now.registers core.0 []) (index_of reg) }
+{
+    test.initial_register(core, reg)
+}
+
+/// A program's registers at its end are those that the values of its reads give.
+pub fn the_registers_of_a_thread(
+    alloc: Global,
+    test: &Test,
+    core: Core,
+    reads: &[u32],
+) -> Result<Thread, NoMemory>
+    requires known { core.0 < length test.now.programs }
+    requires reads { length reads.now ≡ reads_in (slice_index_or test.now.programs core.0 []) }
+    ensures { IfOk result (λ t. t.registers ≡ registers_with test.now core.0 reads.now) }
+{
+    thread_entries(alloc, test, core, reads)
+}
