@@ -4,6 +4,7 @@
 //! answer, and each stands in a helper of its own, which promises little.
 #![tactic(auto)]
 
+pub mod between;
 #[cfg(test)]
 mod bus;
 #[cfg(test)]
@@ -12,6 +13,8 @@ mod caches;
 mod calls;
 #[cfg(test)]
 mod choices;
+#[cfg(test)]
+mod final_states;
 #[cfg(test)]
 mod halves;
 #[cfg(test)]

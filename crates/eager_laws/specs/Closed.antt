@@ -1,0 +1,40 @@
+-- Lists of states that miss none of the ended ones.
+use Rattle.std.specs.Prelude.{ℕ, ◌≡◌, ◌<◌, true, List, [], ◌∷◌, length, Some, slice_get, ◌⊎◌}
+use Rattle.tso_model.specs.Litmus.{Litmus, IsTest}
+use Rattle.tso_model.specs.FlatMachine.{State, start, chosen, after_choice}
+use Rattle.tso_model.specs.Runs.{run}
+use Rattle.tso_model.specs.declared.choice.Choice.{Choice}
+use Rattle.eager_laws.specs.Eager.{IsEager}
+
+-- these choices, made one after the other, are each eager, and lead from the one state to the other
+abbrev pub LeadsEagerly : ℕ → Litmus → State → List Choice → State → Type 0
+LeadsEagerly depth t state [] last = state ≡ last
+LeadsEagerly depth t state (e ∷ es) last = IsEager depth t state e × LeadsEagerly depth t (after_choice t depth state e) es last
+
+-- the state is among these
+abbrev pub IsIn : List State → State → Type 0
+IsIn states state = (i : ℕ) × (slice_get states i ≡ Some state)
+
+-- eager choices lead from the state to one of these, or it is one
+pub record IsCovered (depth : ℕ) (t : Litmus) (states : List State) (state : State) : Type 0 where
+  pub eager : List Choice
+  pub last : State
+  pub leads : LeadsEagerly depth t state eager last
+  pub among : IsIn states last
+
+-- each choice of the test's cores leads from the state to one that is covered, or stalls
+abbrev pub IsExpanded : ℕ → Litmus → List State → State → Type 0
+IsExpanded depth t states state =
+    (c : Choice) → chosen c < length t.programs
+    → (after_choice t depth state c ≡ state) ⊎ IsCovered depth t states (after_choice t depth state c)
+
+-- the first state is covered, and each of the states is expanded
+pub record AreClosed (depth : ℕ) (t : Litmus) (states : List State) : Type 0 where
+  pub first : IsCovered depth t states (start t)
+  pub each : (state : State) → IsIn states state → IsExpanded depth t states state
+
+-- where the states are closed, every run that ends leaves one of them
+abbrev pub ClosedStatesMissNone : Type 0
+ClosedStatesMissNone =
+    (depth : ℕ) (t : Litmus) (states : List State) (choices : List Choice)
+    → IsTest t → AreClosed depth t states → (run t depth choices).ended ≡ true → IsIn states (run t depth choices).state

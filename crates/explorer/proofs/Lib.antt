@@ -1,0 +1,10 @@
+pub mod Same
+pub mod Starting
+pub mod Choosing
+pub mod Absent
+pub mod Linking
+pub mod Searching
+pub mod Counting
+pub mod Ending
+pub mod Finals
+pub mod Allowing

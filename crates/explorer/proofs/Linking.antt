@@ -1,0 +1,179 @@
+-- Links lead to their snapshots.
+use Rattle.std.proofs.Common.{◌≡◌, ◌<◌, ◌≤◌, ℕ, zero, suc, Bool, true, false, List, [], ◌∷◌, ◌++◌, length, Some, slice_get, slice_index_or, if◌then◌else◌, inl, inr, arith, ap, sym, ◌∙◌, subst, refl, length-append}
+use Rattle.std.specs.Prelude.{not}
+use Rattle.std.proofs.lemmas.Option.{slice_get-get_or}
+use Rattle.std.specs.List.{list_any}
+use Rattle.indexmap.specs.IndexSet.{insert_key}
+use Rattle.basic_laws.proofs.Basics.{lt-or}
+use Rattle.tso_model.specs.Litmus.{Litmus}
+use Rattle.tso_model.specs.FlatMachine.{State, after_choice, start, effect_of, chosen}
+use Rattle.tso_model.specs.Runs.{CoresExist, stall_count}
+use Rattle.tso_model.specs.declared.choice.Choice.{Choice}
+use Rattle.tso_laws.specs.Choices.{state_after}
+use Rattle.explorer.specs.State.{state_of}
+use Rattle.explorer.specs.Kept.{LeadsBy, IsSettled, IsLinked, AreLinked, IsPath, GoBack}
+use Rattle.explorer.specs.FinalStates.{IsReachable}
+use Rattle.explorer.specs.declared.snapshot.Snapshot.{Snapshot}
+use Rattle.explorer.specs.declared.link.Link.{Link}
+
+-- ---- places of a list
+
+pub get-left : {A : Type 0} (xs ys : List A) (i : ℕ) (x : A) → slice_get xs i ≡ Some x → slice_get (xs ++ ys) i ≡ Some x
+get-left [] ys i x q = absurd (let z : ⊥ = cc in z)
+get-left (y ∷ xs) ys zero x q = q
+get-left (y ∷ xs) ys (suc i) x q = get-left xs ys i x q
+
+pub get-back : {A : Type 0} (xs ys : List A) (i : ℕ) (x : A) → i < length xs → slice_get (xs ++ ys) i ≡ Some x → slice_get xs i ≡ Some x
+get-back [] ys i x l q = absurd (let z : ⊥ = omega (arith, l) in z)
+get-back (y ∷ xs) ys zero x l q = q
+get-back (y ∷ xs) ys (suc i) x l q = get-back xs ys i x (omega (arith, l)) q
+
+pub get-last : {A : Type 0} (xs : List A) (x y : A) (i : ℕ) → length xs ≤ i → slice_get (xs ++ x ∷ []) i ≡ Some y → (i ≡ length xs) × (x ≡ y)
+get-last [] x y zero l q = (refl, let z : x ≡ y = cc in z)
+get-last [] x y (suc i) l q = absurd (let z : ⊥ = cc in z)
+get-last (w ∷ xs) x y zero l q = absurd (let z : ⊥ = omega (arith, l) in z)
+get-last (w ∷ xs) x y (suc i) l q = let r = get-last xs x y i (omega (arith, l)) q in (ap suc r.0, r.1)
+
+pub get-within : {A : Type 0} (xs : List A) (i : ℕ) (x : A) → slice_get xs i ≡ Some x → i < length xs
+get-within [] i x q = absurd (let z : ⊥ = cc in z)
+get-within (y ∷ xs) zero x q = omega arith
+get-within (y ∷ xs) (suc i) x q = let l = get-within xs i x q in omega (arith, l)
+
+pub get-some : {A : Type 0} (xs : List A) (i : ℕ) → i < length xs → (x : A) × (slice_get xs i ≡ Some x)
+get-some [] i l = absurd (let z : ⊥ = omega (arith, l) in z)
+get-some (y ∷ xs) zero l = (y, refl)
+get-some (y ∷ xs) (suc i) l = get-some xs i (omega (arith, l))
+
+pub get-one : {A : Type 0} (xs : List A) (i : ℕ) (x y : A) → slice_get xs i ≡ Some x → slice_get xs i ≡ Some y → x ≡ y
+get-one xs i x y p q = let z : x ≡ y = cc in z
+
+-- ---- choices that lead on
+
+pub leads-append : (d : ℕ) (t : Litmus) (s : State) (cs : List Choice) (r : State) (ds : List Choice) (u : State) → LeadsBy d t s cs r → LeadsBy d t r ds u → LeadsBy d t s (cs ++ ds) u
+leads-append d t s [] r ds u q h = subst (λ z. LeadsBy d t z ds u) (sym q) h
+leads-append d t s (c ∷ cs) r ds u l h = (l.0, l.1, leads-append d t (after_choice t d s c) cs r ds u l.2 h)
+
+pub leads-after : (d : ℕ) (t : Litmus) (s : State) (cs : List Choice) (r : State) → LeadsBy d t s cs r → state_after t d s cs ≡ r
+leads-after d t s [] r q = q
+leads-after d t s (c ∷ cs) r l = leads-after d t (after_choice t d s c) cs r l.2
+
+pub leads-cores : (d : ℕ) (t : Litmus) (s : State) (cs : List Choice) (r : State) → LeadsBy d t s cs r → CoresExist (length t.programs) cs
+leads-cores d t s [] r q = tt
+leads-cores d t s (c ∷ cs) r l = (l.0, leads-cores d t (after_choice t d s c) cs r l.2)
+
+-- ---- links
+
+linked-grown : (d : ℕ) (t : Litmus) (xs ys : List Snapshot) (i : ℕ) (s : Snapshot) (link : Link) → IsLinked d t xs i s link → IsLinked d t (xs ++ ys) i s link
+linked-grown d t xs ys zero s link h = h
+linked-grown d t xs ys (suc i) s link h = (h.0, h.1, get-left xs ys link.from h.0 h.2, h.3)
+
+-- one snapshot more, reached from one that is there
+pub linked-more : (d : ℕ) (t : Litmus) (xs : List Snapshot) (links : List Link) (r x : Snapshot) (link : Link) → AreLinked d t xs links
+    → slice_get xs link.from ≡ Some r → LeadsBy d t (state_of r) link.choices.items (state_of x) → AreLinked d t (xs ++ x ∷ []) (links ++ link ∷ [])
+linked-more d t xs links r x link h at leads = record {
+  count = let a = length-append xs (x ∷ []) in let b = length-append links (link ∷ []) in let n = h.count in omega (arith, a, b, n);
+  each = λ i s l p q. elim (lt-or (length xs) i) [
+    | inl m ↦ let n = h.count in linked-grown d t xs (x ∷ []) i s l (h.each i s l (get-back xs (x ∷ []) i s m p) (get-back links (link ∷ []) i l (omega (arith, m, n)) q))
+    | inr m ↦ let n = h.count in
+        let a = get-last xs x s i m p in
+        let b = get-last links link l i (omega (arith, m, n)) q in
+        last i s l a.0 a.1 b.1
+  ];
+}
+  where
+    within : link.from < length xs
+    within = get-within xs link.from r at
+
+    new : (i : ℕ) → i ≡ length xs → IsLinked d t (xs ++ x ∷ []) i x link
+    new zero e = absurd (let l = within in let z : ⊥ = omega (arith, e, l) in z)
+    new (suc i) e = (r, (let l = within in omega (arith, e, l)), get-left xs (x ∷ []) link.from r at, leads)
+
+    last : (i : ℕ) (s : Snapshot) (l : Link) → i ≡ length xs → x ≡ s → link ≡ l → IsLinked d t (xs ++ x ∷ []) i s l
+    last i s l e p q = subst (λ z. IsLinked d t (xs ++ x ∷ []) i z l) p (subst (λ z. IsLinked d t (xs ++ x ∷ []) i x z) q (new i e))
+
+not-true : (b : Bool) → not b ≡ true → b ≡ false
+not-true true q = absurd (let z : ⊥ = cc in z)
+not-true false q = refl
+
+not-false : (b : Bool) → not b ≡ false → b ≡ true
+not-false true q = refl
+not-false false q = absurd (let z : ⊥ = cc in z)
+
+-- what a choice leads to, with the eager ones after it
+pub leads-settled : (d : ℕ) (t : Litmus) (s acted settled : State) (c : Choice) (after : List Choice) → chosen c < length t.programs
+    → stall_count (effect_of t d s c).outcome ≡ 0 → acted ≡ after_choice t d s c → IsSettled d t acted settled (c ∷ []) after → LeadsBy d t s after settled
+leads-settled d t s acted settled c after l k e h =
+    subst (λ z. LeadsBy d t s z settled) (sym h.appended) (l, k, subst (λ z. LeadsBy d t z h.made settled) e h.leads)
+
+module _ (eq : Snapshot → Snapshot → Bool) (d : ℕ) (t : Litmus) (old new : List Snapshot) (x : Snapshot) (links : List Link) (added : Bool)
+    (keys : new ≡ insert_key eq old x) (is : added ≡ not (list_any (eq x) old)) (h : AreLinked d t old links) where
+  -- it was new
+  pub linked-new : (r : Snapshot) (link : Link) (more : List Link) → added ≡ true → more ≡ links ++ link ∷ [] → slice_get old link.from ≡ Some r
+      → LeadsBy d t (state_of r) link.choices.items (state_of x) → AreLinked d t new more
+  linked-new r link more q m at leads =
+      let last : new ≡ old ++ x ∷ [] = keys ∙ ap (λ b. if b then old else old ++ x ∷ []) (not-true (list_any (eq x) old) (sym is ∙ q)) in
+      subst (λ z. AreLinked d t z more) (sym last) (subst (λ z. AreLinked d t (old ++ x ∷ []) z) (sym m) (linked-more d t old links r x link h at leads))
+
+  -- it was there
+  pub linked-old : added ≡ false → AreLinked d t new links
+  linked-old q =
+      let same : new ≡ old = keys ∙ ap (λ b. if b then old else old ++ x ∷ []) (not-false (list_any (eq x) old) (sym is ∙ q)) in
+      subst (λ z. AreLinked d t z links) (sym same) h
+
+-- the first alone
+pub linked-first : (d : ℕ) (t : Litmus) (x : Snapshot) (link : Link) → LeadsBy d t (start t) link.choices.items (state_of x) → AreLinked d t (x ∷ []) (link ∷ [])
+linked-first d t x link leads = record { count = refl; each = each }
+  where
+    each : (i : ℕ) (s : Snapshot) (l : Link) → slice_get (x ∷ []) i ≡ Some s → slice_get (link ∷ []) i ≡ Some l → IsLinked d t (x ∷ []) i s l
+    each zero s l p q = let a : x ≡ s = cc in let b : link ≡ l = cc in
+        subst (λ z. LeadsBy d t (start t) z.choices.items (state_of s)) b (subst (λ z. LeadsBy d t (start t) link.choices.items (state_of z)) a leads)
+    each (suc i) s l p q = absurd (let z : ⊥ = cc in z)
+
+-- ---- paths
+
+pub goes-back : (d : ℕ) (t : Litmus) (xs : List Snapshot) (links : List Link) → AreLinked d t xs links → GoBack links
+goes-back d t xs links h i link q =
+    let n = h.count in
+    let m = get-within links (suc i) link q in
+    let r = get-some xs (suc i) (omega (arith, n, m)) in
+    (h.each (suc i) r.0 link r.1 q).1
+
+pub earlier : (links : List Link) (at : ℕ) (d : Link) → GoBack links → 0 < at → at < length links → (slice_index_or links at d).from < at
+earlier links zero d h p l = absurd (let z : ⊥ = omega (arith, p) in z)
+earlier links (suc i) d h p l = let r = h i (slice_index_or links (suc i) d) (slice_get-get_or links (suc i) d l) in omega (arith, r)
+
+pub path-first : (links : List Link) (at : ℕ) (d : Link) (cs was : List Choice) → at ≤ 0 → at < length links → cs ≡ was ++ (slice_index_or links at d).choices.items → was ≡ []
+    → IsPath links at cs
+path-first links zero d cs was p l e w = λ depth t xs s h q.
+    subst (λ z. LeadsBy depth t (start t) z (state_of s)) (sym (e ∙ ap (λ z. z ++ (slice_index_or links 0 d).choices.items) w))
+    (h.each 0 s (slice_index_or links 0 d) q (slice_get-get_or links 0 d l))
+path-first links (suc i) d cs was p l e w = absurd (let z : ⊥ = omega (arith, p) in z)
+
+pub path-on : (links : List Link) (at : ℕ) (c d : Link) (cs was before : List Choice) → 0 < at → at < length links → IsPath links (slice_index_or links at c).from before
+    → cs ≡ was ++ (slice_index_or links at d).choices.items → was ≡ before → IsPath links at cs
+path-on links zero c d cs was before p l h e w = absurd (let z : ⊥ = omega (arith, p) in z)
+path-on links (suc i) c d cs was before p l h e w = λ depth t xs s linked q.
+    let g : slice_get links (suc i) ≡ Some (slice_index_or links (suc i) c) = slice_get-get_or links (suc i) c l in
+    let r = linked.each (suc i) s (slice_index_or links (suc i) c) q g in
+    let same : slice_index_or links (suc i) c ≡ slice_index_or links (suc i) d = get-one links (suc i) _ _ g (slice_get-get_or links (suc i) d l) in
+    subst (λ z. LeadsBy depth t (start t) z (state_of s)) (sym (e ∙ ap (λ z. z ++ (slice_index_or links (suc i) d).choices.items) w ∙ ap (λ z. before ++ z.choices.items) (sym same)))
+    (leads-append depth t (start t) before (state_of r.0) (slice_index_or links (suc i) c).choices.items (state_of s) (h depth t xs r.0 linked r.2) r.3)
+
+-- each snapshot can be reached
+pub linked-leads : (d : ℕ) (t : Litmus) (xs : List Snapshot) (links : List Link) → AreLinked d t xs links → (n i : ℕ) (s : Snapshot) → i < n → slice_get xs i ≡ Some s
+    → (cs : List Choice) × LeadsBy d t (start t) cs (state_of s)
+linked-leads d t xs links h zero i s l at = absurd (let z : ⊥ = omega (arith, l) in z)
+linked-leads d t xs links h (suc n) zero s l at =
+    let m = get-within xs 0 s at in let k = h.count in
+    let r = get-some links 0 (omega (arith, m, k)) in
+    (r.0.choices.items, h.each 0 s r.0 at r.1)
+linked-leads d t xs links h (suc n) (suc i) s l at =
+    let m = get-within xs (suc i) s at in let k = h.count in
+    let r = get-some links (suc i) (omega (arith, m, k)) in
+    let w = h.each (suc i) s r.0 at r.1 in
+    let before = w.1 in
+    let p = linked-leads d t xs links h n r.0.from w.0 (omega (arith, l, before)) w.2 in
+    (p.0 ++ r.0.choices.items, leads-append d t (start t) p.0 (state_of w.0) r.0.choices.items (state_of s) p.1 w.3)
+
+pub reachable : (d : ℕ) (t : Litmus) (s : State) (cs : List Choice) → LeadsBy d t (start t) cs s → IsReachable t d s
+reachable d t s cs h = record { choices = cs; cores = leads-cores d t (start t) cs s h; state_is = leads-after d t (start t) cs s h }

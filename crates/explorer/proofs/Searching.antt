@@ -1,0 +1,191 @@
+-- What the search keeps, step by step.
+use Rattle.std.proofs.Common.{◌≡◌, ◌<◌, ◌≤◌, ℕ, ◌+◌, zero, suc, Bool, true, false, List, [], ◌∷◌, ◌++◌, length, map, Some, slice_get, slice_index_or, if◌then◌else◌, inl, inr, arith, ap, sym, ◌∙◌, subst, refl, append_assoc, length-append, drop, ◌==◌}
+use Rattle.std.specs.List.{list_any}
+use Rattle.indexmap.specs.IndexSet.{insert_key}
+use Rattle.basic_laws.proofs.Basics.{lt-or}
+use Rattle.basic_laws.proofs.Lists.{append-nil}
+use Rattle.tso_model.specs.Litmus.{Litmus}
+use Rattle.tso_model.specs.FlatMachine.{State, after_choice, effect_of, start, chosen, step, drain}
+use Rattle.tso_model.specs.declared.execution.Entry.{Entry}
+use Rattle.tso_model.specs.declared.choice.Choice.{Choice}
+use Rattle.tso_model.specs.declared.choice.Choice.TheVariants.{Step, Drain}
+use Rattle.tso_model.specs.Runs.{stall_count}
+use Rattle.eager_laws.specs.Eager.{IsEager}
+use Rattle.eager_laws.specs.Closed.{LeadsEagerly, IsIn, IsCovered, IsExpanded, AreClosed}
+use Rattle.explorer.specs.State.{state_of}
+use Rattle.explorer.specs.Kept.{LeadsBy, IsSettled, Grows, HaveCores, IsVisited, AreVisited, AreLinked}
+use Rattle.explorer.specs.declared.snapshot.Snapshot.{Snapshot}
+use Rattle.explorer.specs.declared.link.Link.{Link}
+use Rattle.explorer.proofs.Linking.{get-left, get-back, leads-append, linked-first}
+
+-- ---- eager choices, one more
+
+eagerly-more : (d : ℕ) (t : Litmus) (s : State) (es : List Choice) (r : State) (c : Choice) → LeadsEagerly d t s es r → IsEager d t r c → LeadsEagerly d t s (es ++ c ∷ []) (after_choice t d r c)
+eagerly-more d t s [] r c q h = (subst (λ z. IsEager d t z c) (sym q) h, ap (λ z. after_choice t d z c) q)
+eagerly-more d t s (e ∷ es) r c l h = (l.0, eagerly-more d t (after_choice t d s e) es r c l.1 h)
+
+pub settled-more : (d : ℕ) (t : Litmus) (old now new : State) (before after more : List Choice) (c : Choice) → IsSettled d t old now before after → IsEager d t now c → chosen c < length t.programs → stall_count (effect_of t d now c).outcome ≡ 0
+    → new ≡ after_choice t d now c → more ≡ after ++ c ∷ [] → IsSettled d t old new before more
+settled-more d t old now new before after more c h e l k n m = record {
+  made = h.made ++ c ∷ [];
+  eager = subst (λ z. LeadsEagerly d t old (h.made ++ c ∷ []) z) (sym n) (eagerly-more d t old h.made now c h.eager e);
+  leads = subst (λ z. LeadsBy d t old (h.made ++ c ∷ []) z) (sym n) (leads-append d t old h.made now (c ∷ []) _ h.leads (l, k, refl));
+  appended = m ∙ ap (λ z. z ++ c ∷ []) h.appended ∙ append_assoc before h.made (c ∷ []);
+}
+
+pub settled-none : (d : ℕ) (t : Litmus) (s : State) (cs : List Choice) → IsSettled d t s s cs cs
+settled-none d t s cs = record { made = []; eager = refl; leads = refl; appended = sym (append-nil cs) }
+
+-- ---- snapshots that grow
+
+pub grows-none : (xs : List Snapshot) → Grows xs xs
+grows-none xs = ([], sym (append-nil xs))
+
+pub grows-on : (xs ys zs : List Snapshot) → Grows xs ys → Grows ys zs → Grows xs zs
+grows-on xs ys zs g h = (g.0 ++ h.0, h.1 ∙ ap (λ z. z ++ h.0) g.1 ∙ append_assoc xs g.0 h.0)
+
+pub grows-insert : (eq : Snapshot → Snapshot → Bool) (xs : List Snapshot) (x : Snapshot) → Grows xs (insert_key eq xs x)
+grows-insert eq xs x = go (list_any (eq x) xs)
+  where
+    go : (b : Bool) → Grows xs (if b then xs else xs ++ x ∷ [])
+    go true = grows-none xs
+    go false = (x ∷ [], refl)
+
+map-append : (xs ys : List Snapshot) → map state_of (xs ++ ys) ≡ map state_of xs ++ map state_of ys
+map-append [] ys = refl
+map-append (x ∷ xs) ys = ap (λ z. state_of x ∷ z) (map-append xs ys)
+
+pub get-grown : (xs ys : List Snapshot) (i : ℕ) (x : Snapshot) → Grows xs ys → slice_get xs i ≡ Some x → slice_get ys i ≡ Some x
+get-grown xs ys i x g q = subst (λ z. slice_get z i ≡ Some x) (sym g.1) (get-left xs g.0 i x q)
+
+pub in-grown : (xs ys : List Snapshot) (s : State) → Grows xs ys → IsIn (map state_of xs) s → IsIn (map state_of ys) s
+in-grown xs ys s g m = (m.0, subst (λ z. slice_get z m.0 ≡ Some s) (sym (ap (map state_of) g.1 ∙ map-append xs g.0)) (get-left (map state_of xs) (map state_of g.0) m.0 s m.1))
+
+pub covered-grown : (d : ℕ) (t : Litmus) (xs ys : List Snapshot) (s : State) → Grows xs ys → IsCovered d t (map state_of xs) s → IsCovered d t (map state_of ys) s
+covered-grown d t xs ys s g h = record { eager = h.eager; last = h.last; leads = h.leads; among = in-grown xs ys h.last g h.among }
+
+pub visited-grown : (d : ℕ) (t : Litmus) (xs ys : List Snapshot) (s : State) (c : Choice) → Grows xs ys → IsVisited d t xs s c → IsVisited d t ys s c
+visited-grown d t xs ys s c g (inl q) = inl q
+visited-grown d t xs ys s c g (inr h) = inr (covered-grown d t xs ys (after_choice t d s c) g h)
+
+pub expanded-grown : (d : ℕ) (t : Litmus) (xs ys : List Snapshot) (s : State) → Grows xs ys → IsExpanded d t (map state_of xs) s → IsExpanded d t (map state_of ys) s
+expanded-grown d t xs ys s g h c l = visited-grown d t xs ys s c g (h c l)
+
+-- ---- the place of a snapshot
+
+map-get : (xs : List Snapshot) (i : ℕ) (x : Snapshot) → slice_get xs i ≡ Some x → slice_get (map state_of xs) i ≡ Some (state_of x)
+map-get [] i x q = absurd (let z : ⊥ = cc in z)
+map-get (y ∷ xs) zero x q = let z : y ≡ x = cc in ap (λ w. Some (state_of w)) z
+map-get (y ∷ xs) (suc i) x q = map-get xs i x q
+
+pub in-list : (xs : List Snapshot) (i : ℕ) (x : Snapshot) → slice_get xs i ≡ Some x → IsIn (map state_of xs) (state_of x)
+in-list xs i x q = (i, map-get xs i x q)
+
+pub from-list : (xs : List Snapshot) (i : ℕ) (s : State) → slice_get (map state_of xs) i ≡ Some s → (x : Snapshot) × (slice_get xs i ≡ Some x) × (state_of x ≡ s) × (i < length xs)
+from-list [] i s q = absurd (let z : ⊥ = cc in z)
+from-list (y ∷ xs) zero s q = (y, refl, (let z : state_of y ≡ s = cc in z), omega arith)
+from-list (y ∷ xs) (suc i) s q = let r = from-list xs i s q in (r.0, r.1, r.2, let l = r.3 in omega (arith, l))
+
+-- ---- cores
+
+pub cores-insert : (eq : Snapshot → Snapshot → Bool) (t : Litmus) (xs : List Snapshot) (x : Snapshot) → HaveCores t xs → length x.cores.items ≡ length t.programs → HaveCores t (insert_key eq xs x)
+cores-insert eq t xs x h q = go (list_any (eq x) xs)
+  where
+    last : (xs : List Snapshot) → ((k : ℕ) (d : Snapshot) → k < length xs → length (slice_index_or xs k d).cores.items ≡ length t.programs)
+        → (k : ℕ) (d : Snapshot) → k < length (xs ++ x ∷ []) → length (slice_index_or (xs ++ x ∷ []) k d).cores.items ≡ length t.programs
+    last [] h zero d l = q
+    last [] h (suc k) d l = absurd (let z : ⊥ = omega (arith, l) in z)
+    last (y ∷ xs) h zero d l = h zero d (omega arith)
+    last (y ∷ xs) h (suc k) d l = last xs (λ k d l. h (suc k) d (omega (arith, l))) k d (omega (arith, l))
+
+    go : (b : Bool) → HaveCores t (if b then xs else xs ++ x ∷ [])
+    go true = h
+    go false = last xs h
+
+-- ---- all choices of a state
+
+pub expands : (d : ℕ) (t : Litmus) (xs : List Snapshot) (s : State) → ((k : ℕ) → k < length t.programs → AreVisited d t xs s k) → IsExpanded d t (map state_of xs) s
+expands d t xs s h (Step k) l = (h k.0 l).0
+expands d t xs s h (Drain k) l = (h k.0 l).1
+
+pub closes : (d : ℕ) (t : Litmus) (xs : List Snapshot) (n : ℕ) → length xs ≤ n → IsCovered d t (map state_of xs) (start t)
+    → ((i : ℕ) (x : Snapshot) → i < n → slice_get xs i ≡ Some x → IsExpanded d t (map state_of xs) (state_of x)) → AreClosed d t (map state_of xs)
+closes d t xs n l first each = record {
+  first = first;
+  each = λ s m.
+      let r = from-list xs m.0 s m.1 in
+      let k = r.3 in
+      subst (λ z. IsExpanded d t (map state_of xs) z) r.2 (each m.0 r.0 (omega (arith, l, k)) r.1);
+}
+
+pub grown-within : (xs ys : List Snapshot) (i : ℕ) → Grows xs ys → i < length xs → i < length ys
+grown-within xs ys i g l = let q = ap length g.1 in let n = length-append xs g.0 in omega (arith, q, n, l)
+
+-- one core more is visited
+pub visited-more : (d : ℕ) (t : Litmus) (xs ys : List Snapshot) (s : State) (n : ℕ) → Grows xs ys
+    → ((k : ℕ) → k < n → AreVisited d t xs s k) → AreVisited d t ys s n → (k : ℕ) → k < n + 1 → AreVisited d t ys s k
+visited-more d t xs ys s n g before now k l = elim (lt-or n k) [
+  | inl m ↦ let r = before k m in (visited-grown d t xs ys s (step k) g r.0, visited-grown d t xs ys s (drain k) g r.1)
+  | inr m ↦ let q : n ≡ k = omega (arith, l, m) in subst (λ z. AreVisited d t ys s z) q now
+]
+
+-- one snapshot more is expanded
+pub expanded-more : (d : ℕ) (t : Litmus) (xs ys : List Snapshot) (n : ℕ) → n < length xs → Grows xs ys
+    → ((i : ℕ) (x : Snapshot) → i < n → slice_get xs i ≡ Some x → IsExpanded d t (map state_of xs) (state_of x))
+    → ((x : Snapshot) → slice_get xs n ≡ Some x → IsExpanded d t (map state_of ys) (state_of x))
+    → (i : ℕ) (x : Snapshot) → i < n + 1 → slice_get ys i ≡ Some x → IsExpanded d t (map state_of ys) (state_of x)
+expanded-more d t xs ys n within g before now i x l q =
+    let m : i < length xs = omega (arith, l, within) in
+    let old : slice_get xs i ≡ Some x = get-back xs g.0 i x m (subst (λ z. slice_get z i ≡ Some x) g.1 q) in
+    elim (lt-or n i) [
+      | inl k ↦ expanded-grown d t xs ys (state_of x) g (before i x k old)
+      | inr k ↦ let e : i ≡ n = omega (arith, l, k) in now x (subst (λ z. slice_get xs z ≡ Some x) e old)
+    ]
+
+-- what a choice leads to, settled and put into the set
+pub visits : (eq : Snapshot → Snapshot → Bool) → ((a b : Snapshot) → eq a b ≡ true → state_of a ≡ state_of b)
+    → (d : ℕ) (t : Litmus) (keys : List Snapshot) (s acted settled : State) (value : Snapshot) (c : Choice) (before after : List Choice)
+    → acted ≡ after_choice t d s c → IsSettled d t acted settled before after → settled ≡ state_of value
+    → (i : ℕ) (k : Snapshot) → slice_get keys i ≡ Some k → eq value k ≡ true → IsVisited d t keys s c
+visits eq sound d t keys s acted settled value c before after e h f i k at same =
+    inr (record {
+      eager = h.made;
+      last = settled;
+      leads = subst (λ z. LeadsEagerly d t z h.made settled) e h.eager;
+      among = subst (λ z. IsIn (map state_of keys) z) (sym (f ∙ sound value k same)) (in-list keys i k at);
+    })
+
+-- the first of a list
+pub first-is : (xs : List Entry) (x : Entry) → (length xs == 0) ≡ false → x ≡ slice_index_or xs 0 x → xs ≡ x ∷ drop 1 xs
+first-is [] x q e = absurd (let z : ⊥ = cc in z)
+first-is (y ∷ xs) x q e = ap (λ z. z ∷ xs) (sym e)
+
+pub same-some : (x y : Snapshot) → Some x ≡ Some y → x ≡ y
+same-some x y q = let z : x ≡ y = cc in z
+
+-- the first snapshot alone
+module _ (eq : Snapshot → Snapshot → Bool) (d : ℕ) (t : Litmus) (old new : List Snapshot) (x : Snapshot) (first : State) (before after : List Choice)
+    (e : old ≡ []) (n : new ≡ insert_key eq old x) (f : first ≡ start t) (h : IsSettled d t first (state_of x) before after) where
+  pub first-alone : new ≡ x ∷ []
+  first-alone = n ∙ ap (λ z. insert_key eq z x) e
+
+  pub first-linked : (links : List Link) (link : Link) → before ≡ [] → link.choices.items ≡ after → links ≡ link ∷ [] → AreLinked d t new links
+  first-linked links link b a m =
+      let leads : LeadsBy d t (start t) link.choices.items (state_of x) =
+      subst (λ z. LeadsBy d t (start t) z (state_of x)) (sym (a ∙ h.appended ∙ ap (λ z. z ++ h.made) b)) (subst (λ z. LeadsBy d t z h.made (state_of x)) f h.leads) in
+      subst (λ z. AreLinked d t z links) (sym first-alone) (subst (λ z. AreLinked d t (x ∷ []) z) (sym m) (linked-first d t x link leads))
+
+  pub first-covered : IsCovered d t (map state_of new) (start t)
+  first-covered = record {
+    eager = h.made;
+    last = state_of x;
+    leads = subst (λ z. LeadsEagerly d t z h.made (state_of x)) f h.eager;
+    among = subst (λ z. IsIn (map state_of z) (state_of x)) (sym first-alone) (0, refl);
+  }
+
+  pub first-cores : length x.cores.items ≡ length t.programs → HaveCores t new
+  first-cores q = subst (λ z. HaveCores t z) (sym first-alone) only
+    where
+      only : (k : ℕ) (d : Snapshot) → k < length (x ∷ []) → length (slice_index_or (x ∷ []) k d).cores.items ≡ length t.programs
+      only zero d l = q
+      only (suc k) d l = absurd (let z : ⊥ = omega (arith, l) in z)

@@ -1,0 +1,22 @@
+use Rattle.std.proofs.Common.{◌≡◌, sym, subst, ◌∙◌, inl, inr, arith}
+use Rattle.basic_laws.proofs.Basics.{lt-or}
+use Rattle.tso_model.specs.FlatMachine.{program_of, core_of}
+use Rattle.eager_laws.specs.Eager.{Avoids}
+use Rattle.explorer.specs.State.{state_of}
+use Rattle.explorer.proofs.Absent.{avoids-absent}
+use Rattle.explorer.proofs.eager.others_avoid.Goals as goal
+
+pub loop-other-preserved : goal.loop-other-preserved
+loop-other-preserved c = λ j l n. elim (lt-or c.loop-other.other j) [
+  | inl m ↦ c.loop-other.invariant j m n
+  | inr m ↦ let q : j ≡ c.loop-other.other = omega (arith, l, m) in
+      subst (λ z. Avoids c.args.loads c.args.loc.0 (program_of c.args.test.now z) (core_of (state_of c.args.state.now) z)) (sym q)
+      (c.keeps_away.ensures c.if-not-keeps_away.false (λ r. n (q ∙ r)))
+]
+
+pub returns : goal.returns
+returns c = λ q j n. elim (lt-or c.loop-other.other j) [
+  | inl l ↦ c.loop-other.invariant j l n
+  | inr l ↦ let m = c.requires in let k = c.loop-other-test.false in let r = c.cores-other-end.ensures.value in
+      avoids-absent c.args.loads c.args.loc.0 c.args.test.now c.args.state.now j (omega (arith, m, k, r, l)) (omega (arith, k, r, l))
+]

@@ -1,0 +1,8 @@
+use Rattle.std.proofs.Common.{◌≢◌, ◌<◌, ℕ}
+use Rattle.tso_model.specs.FlatMachine.{program_of, core_of}
+use Rattle.eager_laws.specs.Eager.{Avoids}
+use Rattle.explorer.specs.State.{state_of}
+use Rattle.explorer.proofs.eager.others_avoid.Given as goal
+
+abbrev pub invariant-loop-other : goal.invariant-loop-other
+invariant-loop-other l = (j : ℕ) → j < l.other → j ≢ l.core.0 → Avoids l.loads l.loc.0 (program_of l.test j) (core_of (state_of l.state) j)

@@ -1,0 +1,10 @@
+use Rattle.std.proofs.Common.{◌≡◌, length}
+use Rattle.explorer.specs.State.{state_of}
+use Rattle.explorer.specs.Kept.{IsSettled}
+use Rattle.explorer.proofs.eager.settle.Given as goal
+
+abbrev pub invariant-loop-made : goal.invariant-loop-made
+invariant-loop-made l = record {
+  settled : IsSettled l.depth l.test (state_of l.fn.state) (state_of l.state) l.fn.choices.items l.choices.items;
+  cores : length l.state.cores.items ≡ length l.test.programs;
+}

@@ -1,0 +1,5 @@
+use Rattle.explorer.specs.Collected.{AreFinalsOf}
+use Rattle.explorer.proofs.final_states.final_states.Given as goal
+
+abbrev pub invariant-loop-at : goal.invariant-loop-at
+invariant-loop-at l = AreFinalsOf l.test l.found.snapshots.keys l.found.links.items l.at l.final_states.items

@@ -1,0 +1,14 @@
+use Rattle.std.proofs.Common.{◌≡◌, ◌<◌, ℕ, Some, slice_get}
+use Rattle.explorer.specs.State.{state_of}
+use Rattle.explorer.specs.Kept.{Grows, HaveCores, AreVisited, AreLinked}
+use Rattle.explorer.specs.declared.snapshot.Snapshot.{Snapshot}
+use Rattle.explorer.proofs.search.expand.Given as goal
+
+abbrev pub invariant-loop-core : goal.invariant-loop-core
+invariant-loop-core l = record {
+  grows : Grows l.fn.snapshots.keys l.snapshots.keys;
+  cores : HaveCores l.test l.snapshots.keys;
+  linked : AreLinked l.depth l.test l.snapshots.keys l.links.items;
+  visited : (s : Snapshot) → slice_get l.fn.snapshots.keys l.from ≡ Some s → (k : ℕ) → k < l.core
+      → AreVisited l.depth l.test l.snapshots.keys (state_of s) k;
+}

@@ -1,0 +1,17 @@
+use Rattle.std.proofs.Common.{◌≡◌, ◌<◌, ◌≤◌, ℕ, Some, slice_get, map, length}
+use Rattle.tso_model.specs.FlatMachine.{start}
+use Rattle.eager_laws.specs.Closed.{IsCovered, IsExpanded}
+use Rattle.explorer.specs.State.{state_of}
+use Rattle.explorer.specs.Kept.{HaveCores, AreLinked}
+use Rattle.explorer.specs.declared.snapshot.Snapshot.{Snapshot}
+use Rattle.explorer.proofs.search.search.Given as goal
+
+abbrev pub invariant-loop-at : goal.invariant-loop-at
+invariant-loop-at l = record {
+  cores : HaveCores l.test l.found.snapshots.keys;
+  linked : AreLinked l.depth l.test l.found.snapshots.keys l.found.links.items;
+  first : IsCovered l.depth l.test (map state_of l.found.snapshots.keys) (start l.test);
+  each : (i : ℕ) (x : Snapshot) → i < l.at → slice_get l.found.snapshots.keys i ≡ Some x
+      → IsExpanded l.depth l.test (map state_of l.found.snapshots.keys) (state_of x);
+  within : length l.found.snapshots.keys ≤ l.limit;
+}

@@ -1,0 +1,11 @@
+pub mod State
+pub mod Kept
+pub mod FinalStates
+pub mod Collected
+pub use Rattle.tso_model.specs.FlatMachine
+pub use Rattle.tso_model.specs.Litmus
+pub use Rattle.tso_model.specs.Runs
+pub use Rattle.tso_laws.specs.Choices
+pub use Rattle.eager_laws.specs.Eager
+pub use Rattle.eager_laws.specs.Closed
+pub use Rattle.outcome_laws.specs.Outcomes

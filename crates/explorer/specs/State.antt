@@ -1,0 +1,11 @@
+-- The state of the flat machine that a snapshot has.
+use Rattle.std.specs.Prelude.{map}
+use Rattle.tso_model.specs.FlatMachine.{CoreState, State}
+use Rattle.explorer.specs.declared.snapshot.Processor.{Processor}
+use Rattle.explorer.specs.declared.snapshot.Snapshot.{Snapshot}
+
+abbrev pub core_of_processor : Processor → CoreState
+core_of_processor c = record { place = c.place; registers = c.registers; pending = c.pending.items }
+
+abbrev pub state_of : Snapshot → State
+state_of s = record { memory = s.memory.items; cores = map core_of_processor s.cores.items }

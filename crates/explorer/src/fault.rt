@@ -1,0 +1,53 @@
+//! Why a search has no answer.
+
+ghost use Rattle.std.specs.Prelude.{◌≡◌};
+ghost use Rattle.explorer.specs.declared.fault.ExploreFault.TheVariants as faults;
+
+use std::alloc::{AllocError, AllocFailed};
+use std::error::Error;
+use std::fmt;
+use tso_model::NoMemory;
+
+/// Why a search has no answer.
+#[derive(Clone, Copy, Debug, PartialEq, Eq)]
+pub enum ExploreFault {
+    /// The machine can reach more states than the search was to keep.
+    TooMany,
+    /// The allocator refused a growth, which says nothing of the test.
+    NoMemory,
+}
+
+impl fmt::Display for ExploreFault {
+    fn fmt<W: fmt::Write>(&self, f: &mut fmt::Formatter<W>) -> fmt::Result {
+        match self {
+            ExploreFault::TooMany => write!(f, "more states than the limit"),
+            ExploreFault::NoMemory => write!(f, "out of memory"),
+        }
+    }
+}
+
+impl Error for ExploreFault {}
+
+impl From<AllocError> for ExploreFault {
+    ghost from_gives = { λ _ fault. fault ≡ faults.NoMemory };
+
+    fn from(_: AllocError) -> ExploreFault {
+        ExploreFault::NoMemory
+    }
+}
+
+impl<T: Drop> From<AllocFailed<T>> for ExploreFault {
+    ghost from_gives = { λ _ fault. fault ≡ faults.NoMemory };
+
+    fn from(_: AllocFailed<T>) -> ExploreFault {
+        ExploreFault::NoMemory
+    }
+}
+
+impl From<NoMemory> for ExploreFault {
+    ghost from_gives = { λ _ fault. fault ≡ faults.NoMemory };
+
+    fn from(_: NoMemory) -> ExploreFault {
+        ExploreFault::NoMemory
+    }
+}

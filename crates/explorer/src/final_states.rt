@@ -1,0 +1,150 @@
+//! The final states that a search found.
+ghost use Rattle.std.specs.Prelude.{◌≡◌, ◌<◌, IfOk, IfErr, length, slice_get, Some, map};
+ghost use Rattle.tso_model.specs.FlatMachine.{registers_in};
+ghost use Rattle.tso_model.specs.Runs.{is_done, has_ended};
+ghost use Rattle.explorer.specs.State.{state_of, core_of_processor};
+ghost use Rattle.explorer.specs.Kept.{HaveCores, GoBack, IsPath};
+ghost use Rattle.explorer.specs.FinalStates.{AreReached, HaveEveryEnd, AreDistinct, HasMoreStates};
+ghost use Rattle.explorer.specs.FinalStates.{AreWhatTsoAllows, AreWhatSequentialConsistencyAllows};
+ghost use Rattle.tso_model.specs.Limits.{most_depth};
+ghost use Rattle.explorer.specs.Collected.{AreFinalsOf};
+ghost use Rattle.explorer.specs.declared.snapshot.Snapshot.{Snapshot};
+ghost use Rattle.explorer.specs.declared.fault.ExploreFault.{ExploreFault};
+
+use crate::fault::ExploreFault;
+use crate::link::path;
+use crate::search::{Found, search};
+use crate::snapshot::{Processor, Snapshot};
+use eager_laws::closed_states_miss_none;
+use outcome_laws::ends_are_what_tso_allows;
+use std::alloc::Global;
+use tso_laws::runs_stop_where_they_end;
+use tso_model::{Choice, Core, Instr, NoMemory, Test};
+
+/// A final state of a test: the registers of each core, in the order of `Reg::ALL`, the word of each
+/// location, and choices that lead there, of which none stalls and none is left over.
+#[derive(Drop)]
+pub struct FinalState {
+    pub registers: Vec<[u32; 6]>,
+    pub memory: Vec<u32>,
+    pub choices: Vec<Choice>,
+}
+
+/// What a search answers.
+#[derive(Drop)]
+pub struct Exploration {
+    /// Every final state that the machine can reach at the depth, each once.
+    pub final_states: Vec<FinalState>,
+    /// How many states the search kept.
+    pub kept: usize,
+}
+
+/// Whether the core is at the end of its program with nothing pending.
+fn is_done(program: &[Instr], processor: &Processor) -> bool
+    ensures { result ≡ is_done program.now (core_of_processor processor.now) }
+{
+    program.len() == usize::from(processor.place) && processor.pending.is_empty()
+}
+
+/// Whether the test has ended: each core is done.
+fn has_ended(test: &Test, snapshot: &Snapshot) -> bool
+    requires { length snapshot.now.cores.items ≡ length test.now.programs }
+    ensures { result ≡ has_ended test.now (state_of snapshot.now) }
+{
+    for core in 0..test.cores() {
+        if !is_done(test.program(Core(core)), &snapshot.cores[usize::from(core)]) {
+            return false;
+        }
+    }
+    true
+}
+
+/// The registers of each core.
+///
+/// Errors: out of memory only.
+fn registers_of(alloc: Global, cores: &[Processor]) -> Result<Vec<[u32; 6]>, NoMemory>
+    ensures { IfOk result (λ rs. rs.items ≡ map (λ c. c.registers) cores.now) }
+{
+    let mut registers = Vec::new(alloc);
+    for core in cores {
+        registers.push(core.registers)?;
+    }
+    Ok(registers)
+}
+
+/// The final state of a snapshot, with the choices that lead there.
+///
+/// Errors: out of memory only.
+fn final_state(alloc: Global, found: &Found, at: usize) -> Result<FinalState, NoMemory>
+    requires at { at < length found.now.snapshots.keys }
+    requires links { length found.now.links.items ≡ length found.now.snapshots.keys }
+    requires back { GoBack found.now.links.items }
+    ensures registers { IfOk result (λ f. (s : Snapshot) → slice_get found.now.snapshots.keys at ≡ Some s
+        → f.registers.items ≡ registers_in (state_of s)) }
+    ensures memory { IfOk result (λ f. (s : Snapshot) → slice_get found.now.snapshots.keys at ≡ Some s
+        → f.memory.items ≡ s.memory.items) }
+    ensures path { IfOk result (λ f. IsPath found.now.links.items at f.choices.items) }
+{
+    let snapshot = &found.snapshots[at];
+    let registers = registers_of(alloc, &snapshot.cores)?;
+    let mut memory = Vec::new(alloc);
+    memory.extend_from_slice(&snapshot.memory)?;
+    let choices = path(alloc, &found.links, at)?;
+    Ok(FinalState {
+        registers,
+        memory,
+        choices,
+    })
+}
+
+/// The final states among the snapshots.
+///
+/// Errors: out of memory only.
+fn final_states(alloc: Global, test: &Test, found: &Found) -> Result<Vec<FinalState>, NoMemory>
+    requires cores { HaveCores test.now found.now.snapshots.keys }
+    requires links { length found.now.links.items ≡ length found.now.snapshots.keys }
+    requires back { GoBack found.now.links.items }
+    ensures { IfOk result (λ fs. AreFinalsOf test.now found.now.snapshots.keys found.now.links.items
+        (length found.now.snapshots.keys) fs.items) }
+{
+    let mut final_states = Vec::new(alloc);
+    for at in 0..found.snapshots.len() {
+        if has_ended(test, &found.snapshots[at]) {
+            final_states.push(final_state(alloc, found, at)?)?;
+        }
+    }
+    Ok(final_states)
+}
+
+/// Every final state that the machine can reach at this depth of its store buffers, each once, with
+/// choices that lead there. At the greatest depth these are what TSO allows, at depth 0, where the
+/// machine has no store buffers, what sequential consistency allows.
+///
+/// Errors:
+/// - [`ExploreFault::TooMany`]: only where the machine can reach more states than `limit`. The
+///   search keeps a part of these states, and may have an answer where they are more.
+/// - [`ExploreFault::NoMemory`]: only where the allocator refused a growth.
+pub fn explore(
+    alloc: Global,
+    test: &Test,
+    depth: u8,
+    limit: usize,
+) -> Result<Exploration, ExploreFault>
+    ensures reached { IfOk result (λ x. AreReached test.now depth x.final_states.items) }
+    ensures complete { IfOk result (λ x. HaveEveryEnd test.now depth x.final_states.items) }
+    ensures tso { IfOk result (λ x. depth ≡ most_depth → AreWhatTsoAllows test.now x.final_states.items) }
+    ensures sequential { IfOk result (λ x. depth ≡ 0 → AreWhatSequentialConsistencyAllows test.now x.final_states.items) }
+    ensures once { IfOk result (λ x. AreDistinct x.final_states.items) }
+    ensures too_many { IfErr result (λ fault. fault ≡ ExploreFault.TooMany → HasMoreStates test.now depth limit) }
+{
+    closed_states_miss_none();
+    ends_are_what_tso_allows();
+    runs_stop_where_they_end();
+    let _known = test.cores();
+    let found = search(alloc, test, depth, limit)?;
+    let final_states = final_states(alloc, test, &found)?;
+    Ok(Exploration {
+        final_states,
+        kept: found.snapshots.len(),
+    })
+}

@@ -1,0 +1,169 @@
+//! The search for all states that choices lead to.
+ghost use Rattle.std.specs.Prelude.{◌≡◌, ◌<◌, IfOk, IfErr, OnOk, map, length, slice_get, Some};
+ghost use Rattle.tso_model.specs.FlatMachine.{chosen, start};
+ghost use Rattle.eager_laws.specs.Closed.{IsCovered, IsExpanded};
+ghost use Rattle.explorer.specs.State.{state_of};
+ghost use Rattle.explorer.specs.Kept.{Grows, HaveCores, IsVisited, AreVisited, AreLinked, IsSearched};
+ghost use Rattle.explorer.specs.FinalStates.{HasMoreStates};
+ghost use Rattle.explorer.specs.declared.snapshot.Snapshot.{Snapshot};
+ghost use Rattle.explorer.specs.declared.fault.ExploreFault.{ExploreFault};
+
+use crate::acting::{act, has_stalled};
+use crate::eager::settle;
+use crate::fault::ExploreFault;
+use crate::link::Link;
+use crate::snapshot::{Snapshot, copy, start};
+use indexmap::IndexSet;
+use std::alloc::Global;
+use tso_laws::stalls_change_nothing;
+use tso_model::{Choice, Core, NoMemory, Test};
+
+/// Makes a choice in one of the snapshots, and what choices need not wait after it. Where that is a
+/// snapshot that isn't there yet, it is added.
+///
+/// Errors: out of memory only.
+pub fn visit(
+    alloc: Global,
+    snapshots: &mut IndexSet<Snapshot>,
+    links: &mut Vec<Link>,
+    test: &Test,
+    depth: u8,
+    from: usize,
+    choice: Choice,
+) -> Result<(), NoMemory>
+    requires from { from < length snapshots.old.keys }
+    requires cores { HaveCores test.now snapshots.old.keys }
+    requires linked { AreLinked depth test.now snapshots.old.keys links.old.items }
+    requires chosen { chosen choice < length test.now.programs }
+    ensures grows { OnOk result (Grows snapshots.old.keys snapshots.new.keys) }
+    ensures cores { OnOk result (HaveCores test.now snapshots.new.keys) }
+    ensures linked { OnOk result (AreLinked depth test.now snapshots.new.keys links.new.items) }
+    ensures visited { OnOk result ((s : Snapshot) → slice_get snapshots.old.keys from ≡ Some s
+        → IsVisited depth test.now snapshots.new.keys (state_of s) choice) }
+{
+    stalls_change_nothing();
+    let mut state = copy(alloc, &snapshots[from])?;
+    let outcome = act(&mut state, test, depth, choice)?;
+    if has_stalled(outcome) {
+        return Ok(());
+    }
+    let mut choices = Vec::new(alloc);
+    choices.push(choice)?;
+    settle(&mut state, test, depth, &mut choices)?;
+    let (_, added) = snapshots.insert_full(state)?;
+    if added {
+        links.push(Link { from, choices })?;
+    }
+    Ok(())
+}
+
+/// Makes both choices of a core in one of the snapshots.
+///
+/// Errors: out of memory only.
+fn visit_core(
+    alloc: Global,
+    snapshots: &mut IndexSet<Snapshot>,
+    links: &mut Vec<Link>,
+    test: &Test,
+    depth: u8,
+    from: usize,
+    core: u8,
+) -> Result<(), NoMemory>
+    requires from { from < length snapshots.old.keys }
+    requires cores { HaveCores test.now snapshots.old.keys }
+    requires linked { AreLinked depth test.now snapshots.old.keys links.old.items }
+    requires core { core < length test.now.programs }
+    ensures grows { OnOk result (Grows snapshots.old.keys snapshots.new.keys) }
+    ensures cores { OnOk result (HaveCores test.now snapshots.new.keys) }
+    ensures linked { OnOk result (AreLinked depth test.now snapshots.new.keys links.new.items) }
+    ensures visited { OnOk result ((s : Snapshot) → slice_get snapshots.old.keys from ≡ Some s
+        → AreVisited depth test.now snapshots.new.keys (state_of s) core) }
+{
+    let step = Choice::Step(Core(core));
+    visit(alloc, snapshots, links, test, depth, from, step)?;
+    let drain = Choice::Drain(Core(core));
+    visit(alloc, snapshots, links, test, depth, from, drain)
+}
+
+/// Makes every choice in one of the snapshots.
+///
+/// Errors: out of memory only.
+pub fn expand(
+    alloc: Global,
+    snapshots: &mut IndexSet<Snapshot>,
+    links: &mut Vec<Link>,
+    test: &Test,
+    depth: u8,
+    from: usize,
+) -> Result<(), NoMemory>
+    requires from { from < length snapshots.old.keys }
+    requires cores { HaveCores test.now snapshots.old.keys }
+    requires linked { AreLinked depth test.now snapshots.old.keys links.old.items }
+    ensures grows { OnOk result (Grows snapshots.old.keys snapshots.new.keys) }
+    ensures cores { OnOk result (HaveCores test.now snapshots.new.keys) }
+    ensures linked { OnOk result (AreLinked depth test.now snapshots.new.keys links.new.items) }
+    ensures expanded { OnOk result ((s : Snapshot) → slice_get snapshots.old.keys from ≡ Some s
+        → IsExpanded depth test.now (map state_of snapshots.new.keys) (state_of s)) }
+{
+    for core in 0..test.cores() {
+        visit_core(alloc, snapshots, links, test, depth, from, core)?;
+    }
+    Ok(())
+}
+
+/// All that a search found: each snapshot once, and how each was reached.
+#[derive(Drop)]
+pub struct Found {
+    pub snapshots: IndexSet<Snapshot>,
+    pub links: Vec<Link>,
+}
+
+/// What a search begins with: where the choices that need not wait lead from the first state.
+///
+/// Errors: out of memory only.
+fn beginning(alloc: Global, test: &Test, depth: u8) -> Result<Found, NoMemory>
+    ensures cores { IfOk result (λ found. HaveCores test.now found.snapshots.keys) }
+    ensures linked { IfOk result (λ found. AreLinked depth test.now found.snapshots.keys found.links.items) }
+    ensures covered { IfOk result (λ found. IsCovered depth test.now (map state_of found.snapshots.keys) (start test.now)) }
+    ensures one { IfOk result (λ found. length found.snapshots.keys ≡ 1) }
+{
+    let mut snapshots = IndexSet::new(alloc);
+    let mut links = Vec::new(alloc);
+    let mut first = start(alloc, test)?;
+    let mut choices = Vec::new(alloc);
+    settle(&mut first, test, depth, &mut choices)?;
+    snapshots.insert(first)?;
+    links.push(Link { from: 0, choices })?;
+    Ok(Found { snapshots, links })
+}
+
+/// Searches all states that choices lead to, but for those that are passed on the way to where no
+/// choice is eager.
+///
+/// Errors: too many where they are more than `limit`, and out of memory.
+pub fn search(alloc: Global, test: &Test, depth: u8, limit: usize) -> Result<Found, ExploreFault>
+    ensures searched { IfOk result (λ found. IsSearched depth test.now found.snapshots.keys found.links.items) }
+    ensures too_many { IfErr result (λ fault. fault ≡ ExploreFault.TooMany → HasMoreStates test.now depth limit) }
+{
+    let mut found = beginning(alloc, test, depth)?;
+    if limit == 0 {
+        return Err(ExploreFault::TooMany);
+    }
+    for at in 0..limit {
+        if at >= found.snapshots.len() {
+            break;
+        }
+        expand(
+            alloc,
+            &mut found.snapshots,
+            &mut found.links,
+            test,
+            depth,
+            at,
+        )?;
+        if found.snapshots.len() > limit {
+            return Err(ExploreFault::TooMany);
+        }
+    }
+    Ok(found)
+}

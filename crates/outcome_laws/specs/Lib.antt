@@ -1,0 +1,9 @@
+pub mod Outcomes
+pub use Rattle.tso_model.specs.Litmus
+pub use Rattle.tso_model.specs.ProgramEntries
+pub use Rattle.tso_model.specs.Axioms
+pub use Rattle.tso_model.specs.ProgramOrder
+pub use Rattle.tso_model.specs.SequentialConsistency
+pub use Rattle.tso_model.specs.FlatMachine
+pub use Rattle.tso_model.specs.Runs
+pub use Rattle.tso_laws.specs.Choices
