@@ -1,0 +1,313 @@
+"""Litmus tests in this project's form: reading them, printing them, and what their conditions say.
+
+The grammar is that of docs/INPUT.md. What reads here is for tools beside the proved program: it takes each test that the program takes,
+and says of a few others, in less detail than the program, that they are none.
+"""
+import re
+from dataclasses import dataclass, field
+
+REGISTERS = ("EAX", "EBX", "ECX", "EDX", "ESI", "EDI")
+WORD = 2 ** 32
+
+# What the program takes at most: docs/INPUT.md has the limits.
+MOST_CORES, MOST_LOCATIONS, MOST_INSTRUCTIONS, LONGEST_NAME = 8, 16, 32, 64
+
+DIVIDER = "===="
+
+
+class BadTest(Exception):
+    """A text that is no test."""
+
+
+@dataclass(frozen=True)
+class Instruction:
+    """One instruction: its kind, a location or None, a register or None, and an operand: a number, or the name of a register.
+
+    kinds: store (location, operand), load (register, location), move (register, operand), fence, xchg and xadd (location, register)
+    """
+
+    kind: str
+    location: str = None
+    register: str = None
+    operand: object = None
+
+    def text(self):
+        value = "$%d" % self.operand if isinstance(self.operand, int) else self.operand
+        return {
+            "store": "MOV [%s],%s" % (self.location, value),
+            "load": "MOV %s,[%s]" % (self.register, self.location),
+            "move": "MOV %s,%s" % (self.register, value),
+            "fence": "MFENCE",
+            "xchg": "XCHG [%s],%s" % (self.location, self.register),
+            "xadd": "LOCK XADD [%s],%s" % (self.location, self.register),
+        }[self.kind]
+
+
+@dataclass
+class Test:
+    """A test: its name, the facts of its key lines, first words and registers, programs, and its condition.
+
+    A place is a location's name, or a pair of a core and a register. The condition is None, or a pair of a quantifier and a claim; a
+    claim is True, False, ("is", place, value), ("not", claim), ("and", claims) or ("or", claims).
+    """
+
+    name: str
+    programs: list
+    initial: dict = field(default_factory=dict)
+    facts: list = field(default_factory=list)
+    condition: tuple = None
+
+    def text(self):
+        """The test as the program reads it."""
+        lines = ["X86 " + self.name] + self.facts
+        lines.append("{ %s}" % "".join("%s=%d; " % (place_text(place), value) for place, value in self.initial.items()))
+        cells = [[i.text() for i in program] for program in self.programs]
+        height = max(map(len, cells))
+        columns = [["P%d" % core] + cell + [""] * (height - len(cell)) for core, cell in enumerate(cells)]
+        widths = [max(map(len, column)) for column in columns]
+        for row in zip(*columns):
+            lines.append(" " + " | ".join(cell.ljust(width) for cell, width in zip(row, widths)) + " ;")
+        if self.condition:
+            quantifier, claim = self.condition
+            lines.append("%s (%s)" % (quantifier, claim_text(claim)))
+        return "\n".join(lines) + "\n"
+
+    def locations(self):
+        """The locations' names, in the order of first appearance."""
+        found = {place: None for place in self.initial if isinstance(place, str)}
+        height = max(map(len, self.programs), default=0)
+        for row in range(height):
+            for program in self.programs:
+                if row < len(program) and program[row].location:
+                    found[program[row].location] = None
+        for place in claim_places(self.condition[1]) if self.condition else ():
+            if isinstance(place, str):
+                found[place] = None
+        return list(found)
+
+
+def place_text(place):
+    return place if isinstance(place, str) else "%d:%s" % place
+
+
+def claim_text(claim):
+    if isinstance(claim, bool):
+        return str(claim).lower()
+    kind, *parts = claim
+    if kind == "is":
+        return "%s=%d" % (place_text(parts[0]), parts[1])
+    if kind == "not":
+        return "~(%s)" % claim_text(parts[0])
+    joined = [claim_text(part) if part is True or part is False or part[0] in ("is", "not") else "(%s)" % claim_text(part)
+              for part in parts[0]]
+    return (" /\\ " if kind == "and" else " \\/ ").join(joined)
+
+
+def claim_places(claim):
+    if isinstance(claim, bool):
+        return []
+    kind, *parts = claim
+    if kind == "is":
+        return [parts[0]]
+    return [place for part in (parts if kind == "not" else parts[0]) for place in claim_places(part)]
+
+
+def holds(claim, values):
+    """Whether a claim is true where places have these values; what isn't named is 0."""
+    if isinstance(claim, bool):
+        return claim
+    kind, *parts = claim
+    if kind == "is":
+        return values.get(parts[0], 0) == parts[1]
+    if kind == "not":
+        return not holds(parts[0], values)
+    return (all if kind == "and" else any)(holds(part, values) for part in parts[0])
+
+
+# ---- reading
+
+TOKEN = re.compile(r"\s*(?:(\d+)|([A-Za-z_]\w*)|(/\\|\\/|[=;:\[\]{}|,$~()])|(\S))")
+COMMENT = re.compile(r"\(\*.*?\*\)", re.S)
+
+
+def split_stream(text):
+    """The tests of a text that has several one after the other, each from its line `X86 ..` on."""
+    pieces = re.split(r"^(?=X86[ \t])", text, flags=re.M)
+    return [piece for piece in pieces if piece.startswith("X86")]
+
+
+def read_test(text):
+    """The test of an input's first part."""
+    text = re.split(r"^====\r?$", text, flags=re.M)[0]
+    header = re.match(r"(?:\s|\(\*.*?\*\))*X86[ \t]+([^\n]*)(?:\n|$)", text, re.S)
+    if not header:
+        raise BadTest("no line X86 NAME")
+    rest, facts = text[header.end():], []
+    while True:
+        rest = re.sub(r"\A(?:\s|\(\*.*?\*\))+", "", rest, flags=re.S)
+        if rest.startswith("{"):
+            break
+        line = re.match(r'"[^"]*"|[A-Za-z][\w \t-]*=[^\n]*', rest)
+        if not line:
+            raise BadTest("no initial state")
+        facts.append(line.group().rstrip("\r"))
+        rest = rest[line.end():]
+    rest = COMMENT.sub(" ", rest)
+    rest = re.sub(r"\blocations\s*\[[^\]]*\]", " ", rest)
+    return Reader([found for found in TOKEN.findall(rest) if any(found)]).test(header.group(1).strip(), facts)
+
+
+class Reader:
+    """Goes along the tokens of a test, from its initial state on."""
+
+    def __init__(self, tokens):
+        self.tokens, self.at = tokens, 0
+
+    def peek(self):
+        return "".join(self.tokens[self.at]) if self.at < len(self.tokens) else ""
+
+    def take(self, *wanted):
+        token = self.peek()
+        if wanted and token not in wanted:
+            raise BadTest("%r where %s should stand" % (token, " or ".join(wanted)))
+        self.at += 1
+        return token
+
+    def number(self):
+        token = self.take()
+        if not token.isdigit() or int(token) >= WORD:
+            raise BadTest("%r is no number of 32 bits" % token)
+        return int(token)
+
+    def register(self, token):
+        if token.upper() not in REGISTERS:
+            raise BadTest("%r is no register" % token)
+        return token.upper()
+
+    def location(self):
+        token = self.take()
+        if not re.fullmatch(r"[A-Za-z_]\w*", token):
+            raise BadTest("%r is no location" % token)
+        return token
+
+    def place(self):
+        """A location, with or without brackets, or a core's register."""
+        if self.peek() == "[":
+            self.take()
+            name = self.location()
+            self.take("]")
+            return name
+        if self.peek().isdigit():
+            core = self.number()
+            self.take(":")
+            return core, self.register(self.take())
+        return self.location()
+
+    def test(self, name, facts):
+        initial = self.initial()
+        cores = 0
+        while True:
+            self.take("P%d" % cores)
+            cores += 1
+            if self.take("|", ";") == ";":
+                break
+        programs = [[] for _ in range(cores)]
+        while self.peek() and self.peek().lower() not in ("exists", "forall", "~"):
+            for core in range(cores):
+                if self.peek() not in ("|", ";"):
+                    programs[core].append(self.instruction())
+                self.take("|" if core < cores - 1 else ";")
+        condition = self.condition() if self.peek() else None
+        if self.peek():
+            raise BadTest("%r after the condition" % self.peek())
+        return Test(name, programs, initial, facts, condition)
+
+    def initial(self):
+        initial = {}
+        self.take("{")
+        while self.peek() != "}":
+            if self.peek() != ";":
+                place = self.place()
+                self.take("=")
+                initial[place] = self.number()
+            if self.peek() != "}":
+                self.take(";")
+        self.take("}")
+        return initial
+
+    def instruction(self):
+        word = self.take().upper()
+        if word == "LOCK":
+            word = self.take().upper()
+            if word not in ("XCHG", "XADD"):
+                raise BadTest("LOCK %s" % word)
+        if word == "MFENCE":
+            return Instruction("fence")
+        if word not in ("MOV", "XCHG", "XADD"):
+            raise BadTest("%s is no instruction that is read" % word)
+        first = self.operand()
+        self.take(",")
+        second = self.operand()
+        if word == "MOV":
+            return move(first, second)
+        if first[0] == "register":
+            first, second = second, first
+        return Instruction(word.lower(), location=first[1], register=second[1])
+
+    def operand(self):
+        if self.peek() == "[":
+            return "location", self.place()
+        if self.peek() == "$":
+            self.take()
+            return "number", self.number()
+        if self.peek().isdigit():
+            return "number", self.number()
+        return "register", self.register(self.take())
+
+    def condition(self):
+        quantifier = self.take("~", "exists", "forall")
+        if quantifier == "~":
+            quantifier += self.take("exists")
+        return quantifier, self.claim()
+
+    def claim(self):
+        parts = [self.conjunction()]
+        while self.peek() == "\\/":
+            self.take()
+            parts.append(self.conjunction())
+        return parts[0] if len(parts) == 1 else ("or", tuple(parts))
+
+    def conjunction(self):
+        parts = [self.unit()]
+        while self.peek() == "/\\":
+            self.take()
+            parts.append(self.unit())
+        return parts[0] if len(parts) == 1 else ("and", tuple(parts))
+
+    def unit(self):
+        token = self.peek()
+        if token in ("~", "not"):
+            self.take()
+            return "not", self.unit()
+        if token == "(":
+            self.take()
+            claim = self.claim()
+            self.take(")")
+            return claim
+        if token in ("true", "false"):
+            self.take()
+            return token == "true"
+        place = self.place()
+        self.take("=")
+        return "is", place, self.number()
+
+
+def move(first, second):
+    """The MOV of two operands."""
+    if first[0] == "location" and second[0] != "location":
+        return Instruction("store", location=first[1], operand=second[1])
+    if first[0] == "register" and second[0] == "location":
+        return Instruction("load", register=first[1], location=second[1])
+    if first[0] == "register":
+        return Instruction("move", register=first[1], operand=second[1])
+    raise BadTest("MOV of such operands")
