@@ -1,0 +1,129 @@
+"""Command lines: options with values of every kind, and lines that are refused."""
+
+PROTOCOLS, BUSES = ("msi", "mesi", "moesi", "mosi"), ("atomic", "split")
+
+# Lines that are refused, a word between each two spaces.
+BAD_LINES = [line.split() for line in """
+    runs
+    Run
+    help
+    --help
+    --version
+    run --help
+    sweep --help
+    check --help
+    witness --help
+    tables --help
+    --depth 4 run
+    run 4
+    tables msi
+    check order
+    run --unknown 1
+    run --dep 4
+    run --depth 1 --depth 2
+    run --depth=4 --depth 4
+    tables --protocol msi --protocol mesi
+    run --json --json
+    run --json=true
+    run --depth
+    run --depth=
+    run --depth 33
+    run --depth -1
+    run --depth x
+    run --depth 99999999999999999999999
+    run --depth 4.0
+    run --depth 0x4
+    run --protocol mesif
+    run --protocol MSI
+    run --protocol=
+    sweep --protocol mesi,msi
+    tables --protocol moesif
+    run --sets 0
+    run --sets 9
+    run --ways 0
+    sweep --ways 9
+    run --words 0
+    run --words 5
+    run --words 3
+    sweep --words 3
+    run --words=03 --sets 8
+    run --bus shared
+    sweep --bus Split
+    sweep --from 4294967296
+    sweep --from -1
+    sweep --seeds 0
+    sweep --seeds 1001
+    sweep --length 100001
+    sweep --json
+    run --seeds 5
+    run --from 1
+    run --length 1
+    check --depth 4
+    check --bus split
+    witness --protocol msi
+    witness --bus atomic
+    witness --sets 1
+    witness --depth 0
+    witness --depth 33
+    tables --depth 4
+""".strip().splitlines()] + [[], ["run", ""], ["run", "--protocol", ""]]
+
+
+def number(draw, value):
+    """A number as the command line may have it."""
+    return draw.choice(("%d",) * 6 + ("0%d", "+%d", "000%d")) % value
+
+
+def option(draw, name, value):
+    text = str(value) if isinstance(value, str) else number(draw, value)
+    return ["--%s=%s" % (name, text)] if draw.random() < 0.4 else ["--" + name, text]
+
+
+def machine_options(draw, depth=None, bus=None):
+    """Some of the machine's options, in any order; those that are given stand in it."""
+    options = [option(draw, "protocol", draw.choice(PROTOCOLS))] if draw.random() < 0.8 else []
+    for name, values in (("sets", range(1, 9)), ("ways", (1,) + tuple(range(1, 9))), ("words", (1, 2, 4))):
+        if draw.random() < 0.6:
+            options.append(option(draw, name, draw.choice(values)))
+    for name, value, values in (("depth", depth, range(33)), ("bus", bus, BUSES)):
+        if value is not None or draw.random() < 0.7:
+            options.append(option(draw, name, draw.choice(values) if value is None else value))
+    return options
+
+
+def joined(draw, options):
+    draw.shuffle(options)
+    return [word for words in options for word in words]
+
+
+def run(draw, **fixed):
+    options = machine_options(draw, **fixed)
+    if draw.random() < 0.3:
+        options.append(["--json"])
+    return ["run"] + joined(draw, options)
+
+
+def sweep(draw, first, seeds, length, **fixed):
+    """A plan's three numbers are None where nothing is said of them."""
+    options = machine_options(draw, **fixed)
+    plan = (("from", first), ("seeds", seeds), ("length", length))
+    options += [option(draw, name, value) for name, value in plan if value is not None]
+    return ["sweep"] + joined(draw, options)
+
+
+def judge(draw, depth=None):
+    """`check`, or `witness` at some depth."""
+    if depth is None and draw.random() < 0.5:
+        return ["check"]
+    if depth is None and draw.random() < 0.3:
+        return ["witness"]
+    return ["witness"] + option(draw, "depth", draw.randint(1, 32) if depth is None else depth)
+
+
+def tables(draw, turn):
+    return ["tables"] + option(draw, "protocol", PROTOCOLS[turn % 4]) if turn % 5 else ["tables"]
+
+
+def any_with_a_test(draw):
+    """A command that reads a test, with some of its options."""
+    return draw.choice((run(draw), ["check"], judge(draw, 4), sweep(draw, 0, 3, 50)))

@@ -1,0 +1,212 @@
+"""Inputs of each kind: a command line and what it reads."""
+from reference import litmus, machine
+from reference.choices import STEP, DRAIN, choices_of_seed
+from reference.machine import Configuration
+from reference.reading import Refused, read_test
+
+from . import choice_texts, command_lines, fault_table, order_texts
+from .drafts import PLAIN_NAMES, Drafter
+
+# Sizes of tests, as `Drafter.draft` takes them: the most cores (0 stands for two), instructions and locations.
+CROWDED = ((2, 12, 3), (3, 10, 6), (4, 8, 8), (3, 12, 16), (8, 5, 4), (2, 30, 5))
+SPLIT = ((2, 6, 2), (3, 6, 2), (4, 5, 3), (3, 8, 5))
+SMALL = ((1, 2, 2), (2, 3, 2), (4, 2, 2))
+JUDGED = ((2, 4, 2), (2, 6, 3), (3, 5, 3))
+RACING = ((0, 2, 2), (0, 3, 2), (0, 4, 2), (3, 2, 2), (3, 3, 2))
+GREATEST = ((8, 32, 16), (4, 32, 8), (2, 32, 4))
+
+DIVIDERS = ("====\n",) * 8 + ("====\r\n",)
+# Lines that divide an input, or look so; '?' stands for the choices.
+ODD_DIVIDERS = ("====", "====\r", "====?", "====\r?", "====\r\n?", "====\r\r\n?", " ====\n?", "==== \n?", "=====\n?", "===\n?",
+                "(*\n====\n*)\n?", "\"\n====\n\"?", "====\n====\n?", "\n\n====\n?", "====\n0s\n====\r\n?")
+
+
+def test_of(text):
+    """The test that this text spells, or None."""
+    try:
+        return read_test(text)
+    except Refused:
+        return None
+
+
+class Maker:
+    """Makes one input. `turn` counts the inputs of its kind; `name` says more of the kind, where there is more to say."""
+
+    def __init__(self, draw, turn):
+        self.draw, self.turn, self.name = draw, turn, None
+
+    def test(self, asked=0.4, **how):
+        """A test's text, which most often spells one, and that test or None. So often its condition asks for what a run leaves."""
+        drafter = Drafter(self.draw)
+        draft = drafter.draft(**how)
+        if self.draw.random() < asked:
+            self.ask_what_a_run_leaves(drafter, draft)
+        text = draft.spelled(drafter.speller)
+        if not text.endswith(b"\n"):
+            text += b"\n"
+        return text, test_of(text)
+
+    def ask_what_a_run_leaves(self, drafter, draft):
+        """Gives the draft a condition on the end of one of its runs."""
+        draft.condition = []
+        test = test_of(draft.spelled(drafter.speller))
+        if test is not None:
+            run = machine.run(test, Configuration(), self.seeded(test))
+            if run.machine is not None:
+                draft.condition = drafter.condition_on(test, *run.state())
+
+    def seeded(self, test):
+        """Choices that nearly always end the test, drawn from some seed."""
+        return choices_of_seed(self.draw.randrange(2**32), choice_texts.ending_length(test), test.cores())
+
+    def joined(self, text, second):
+        """An input of two parts."""
+        return text + (self.draw.choice(DIVIDERS) + second).encode("latin-1")
+
+    # Runs.
+
+    def run_of(self, text, test, drawn, **options):
+        """`run` of this test under choices that are drawn so; a text that spells no test has no choices."""
+        words = command_lines.run(self.draw, **options)
+        return words, text if test is None else self.joined(text, drawn(self.draw, test))
+
+    def a_run(self, **how):
+        text, test = self.test(**how)
+        return self.run_of(text, test, choice_texts.stores_first if self.draw.random() < 0.2 else choice_texts.choices)
+
+    def a_crowded_run(self):
+        """Many accesses to few lines, or to more lines than the caches hold."""
+        kinds = self.draw.choice(("store load", "store load exchange add", "load add", "load load store")).split()
+        return self.a_run(size=self.draw.choice(CROWDED), kinds=kinds)
+
+    def a_shallow_run(self):
+        """Buffers that are full, fences and locked instructions that wait."""
+        text, test = self.test(kinds=["store", "store", "fence", "exchange", "load"])
+        return self.run_of(text, test, choice_texts.stores_first, depth=self.draw.choice((0, 1, 1, 2)))
+
+    def a_split_run(self):
+        """The split bus, with accesses of several cores in between."""
+        kinds = ["store", "load", "load", "exchange", "add", "store register"]
+        text, test = self.test(size=self.draw.choice(SPLIT), kinds=kinds)
+        return self.run_of(text, test, choice_texts.choices, bus="split")
+
+    def a_great_run(self):
+        """As many cores and instructions as there may be."""
+        text, test = self.test(size=self.draw.choice(GREATEST))
+        return self.run_of(text, test, choice_texts.seed_alone)
+
+    # Texts with a fault.
+
+    def a_faulty_test(self):
+        text, fault = fault_table.faulty(self.draw, Drafter(self.draw), self.turn)
+        self.name = "a test: " + fault
+        words = command_lines.any_with_a_test(self.draw)
+        second = self.draw.choice(("", "0s 1s 0d\n", "seed 1 100\n", "Order\nEndorder 0\n"))
+        return words, text if self.draw.random() < 0.7 else self.joined(text + b"\n", second)
+
+    def faulty_choices(self):
+        text, test = self.test(size=self.draw.choice(SMALL))
+        return self.run_of(text, test, lambda draw, test: choice_texts.faulty_choices(draw, test, self.turn))
+
+    def a_faulty_order(self):
+        text, test = self.test(size=(2, 3, 2), names=PLAIN_NAMES[:2])
+        if test is None:
+            return ["check"], text
+        if self.turn % 12 == 11:
+            order = order_texts.limits_of_entries(self.draw, test)
+        else:
+            order = order_texts.faulty_text(self.draw, test, self.order_of(test), self.turn)
+        return command_lines.judge(self.draw), self.joined(text, order)
+
+    # Orders.
+
+    def order_of(self, test):
+        """The order of a run of this test, whose buffers drain early or late."""
+        depth = self.draw.choice((0, 1, 4, 32))
+        steps = [(core, STEP) for core in range(test.cores()) for _ in test.programs[core]]
+        self.draw.shuffle(steps)
+        first = steps if self.draw.random() < 0.5 else []
+        run = machine.run(test, Configuration(depth=depth), first + list(self.seeded(test)))
+        return run.machine.order if run.machine is not None else []
+
+    def judged(self, text, test, order, depth=None):
+        """`check` or `witness` of this order."""
+        return command_lines.judge(self.draw, depth), self.joined(text, order_texts.spelled(self.draw, test, order))
+
+    def an_order(self):
+        """An execution, and `witness` at every depth in its turn."""
+        text, test = self.test()
+        depth = self.turn % 32 + 1 if self.turn % 3 else None
+        return (["check"], text) if test is None else self.judged(text, test, self.order_of(test), depth)
+
+    def a_deep_order(self):
+        """An execution whose loads pass many stores, and `witness` at a small depth."""
+        text, test = self.test(size=(2, 7, 3), kinds=["store", "store", "load"])
+        if test is None:
+            return ["witness"], text
+        steps = [(core, STEP) for core in range(test.cores()) for _ in test.programs[core]]
+        run = machine.run(test, Configuration(depth=32), steps + [(core, DRAIN) for core, _ in steps])
+        order = run.machine.order if run.machine is not None else []
+        return self.judged(text, test, order, self.draw.choice((1, 1, 2, 3, 32)))
+
+    def a_broken_order(self):
+        """An order that was changed, so that as a rule it breaks an axiom."""
+        separated = order_texts.change_of(self.turn) is order_texts.separated
+        kinds = ["exchange", "add", "load", "store"] if separated or self.draw.random() < 0.4 else None
+        text, test = self.test(size=self.draw.choice(JUDGED), kinds=kinds)
+        if test is None:
+            return ["check"], text
+        return self.judged(text, test, order_texts.mutated(self.draw, test, self.order_of(test), self.turn))
+
+    # Sweeps, lines and the rest.
+
+    def a_sweep(self):
+        """A test whose cores race, as a rule, under seeds enough to show it; and plans at their limits."""
+        kinds = self.draw.choice(("store load", "store load", "store load fence", "store load exchange", "")).split()
+        names = self.draw.choice((PLAIN_NAMES[:1], PLAIN_NAMES[:2], None))
+        full = self.draw.random() < 0.8
+        text, test = self.test(size=self.draw.choice(RACING), kinds=kinds, names=names, full=full, asked=0.7)
+        first, seeds, length = self.plan(80 if test is None else 8 * test.cores() * choice_texts.work_of(test))
+        words = command_lines.sweep(self.draw, first, seeds, length, depth=self.turn % 33 if self.turn % 2 else None)
+        return words, text if self.draw.random() < 0.7 else self.joined(text, "x y z\n====\n")
+
+    def plan(self, length):
+        """First seed, how many, and how many choices each makes, None where nothing is said; `length` is about enough."""
+        plans = (
+            (self.draw.randrange(1000), self.draw.randint(5, 40), self.draw.choice((None, 1000, length))),
+            (self.draw.randrange(2**32), self.draw.randint(5, 40), length),
+            (None, None, self.draw.randrange(100)),
+            (2**32 - 1, self.draw.randint(2, 20), length),
+            (0, 1, 100_000),
+            (self.draw.randrange(50), 1000, 12),
+            (0, 3, 0),
+        )
+        return plans[self.turn % len(plans) if self.turn % 35 < 14 else self.turn % 3]
+
+    def a_bad_line(self):
+        words = command_lines.BAD_LINES[self.turn % len(command_lines.BAD_LINES)]
+        return words, b"X86 t\n{ }\nP0;\n" if self.draw.random() < 0.5 else b""
+
+    def tables(self):
+        return command_lines.tables(self.draw, self.turn), b"" if self.draw.random() < 0.5 else b"not read"
+
+    def a_divided_input(self):
+        """Lines that divide an input, or look so; inputs at their limit."""
+        text, test = self.test(size=(2, 2, 2), names=PLAIN_NAMES[:2])
+        choices = "" if test is None else choice_texts.choices(self.draw, test)
+        over = self.turn % 20 - 18
+        if over >= 0:
+            given = self.joined(text, choices)
+            given += self.draw.choice((b" ", b"\n")) * (litmus.LONGEST_INPUT + over - len(given))
+        else:
+            given = text + ODD_DIVIDERS[self.turn % len(ODD_DIVIDERS)].replace("?", choices).encode("latin-1")
+        return self.draw.choice((command_lines.run(self.draw), ["check"])), given
+
+
+# Of so many inputs in a row, how many there are of each kind.
+SHARES = (
+    (Maker.a_run, 12), (Maker.a_crowded_run, 7), (Maker.a_shallow_run, 5), (Maker.a_split_run, 9), (Maker.a_great_run, 1),
+    (Maker.a_faulty_test, 36), (Maker.faulty_choices, 6), (Maker.a_faulty_order, 5),
+    (Maker.an_order, 4), (Maker.a_deep_order, 3), (Maker.a_broken_order, 9),
+    (Maker.a_sweep, 6), (Maker.a_bad_line, 4), (Maker.tables, 1), (Maker.a_divided_input, 2),
+)

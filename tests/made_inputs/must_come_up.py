@@ -1,0 +1,90 @@
+"""What has to come up among inputs, by kind and name, so that an answer that is alike says something of it."""
+from reference import commands, litmus
+
+FAULTS_OF_TESTS = {
+    "TooLarge": ("the text", "the test's name", "a ninth core", "a 17th location in the initial state",
+                 "a 17th location in the rows",
+                 "a 17th location in the condition", "a 33rd instruction", "a 257th atom", "a 65th bracket or negation"),
+    "NoHeader": ("no text", "no header line"),
+    "Unclosed": ("a comment before the header line", "a comment before the initial state", "a comment in the initial state",
+                 "a comment in the row of cores", "a comment in the rows", "a comment after locations",
+                 "a comment in the brackets of locations", "a comment in the condition", "a quotation", "no initial state",
+                 "the initial state", "a row", "the brackets of locations"),
+    "BadToken": ("no information line", "a key without its =", "no [ after locations", "the end after locations",
+                 "a byte that begins nothing in the initial state", "a byte that begins nothing in the row of cores",
+                 "a byte that begins nothing in the rows", "a byte that begins nothing after locations",
+                 "a byte that begins nothing in the condition", "a name of more than 32 bytes in the initial state",
+                 "a name of more than 32 bytes in the row of cores", "a name of more than 32 bytes in the rows",
+                 "a name of more than 32 bytes in the condition"),
+    "BadInit": ("a token in the initial state",),
+    "BadHeaderRow": ("a token", "the end"),
+    "WrongCells": ("too few", "too many"),
+    "BadInstruction": ("a cell",),
+    "BadNumber": ("of the initial state", "of a row", "of the condition"),
+    "TwiceInit": ("a location", "a register"),
+    "NoSuchCore": ("of the initial state", "of the condition"),
+    "BadCondition": ("a token in the condition", "the end in the condition"),
+    "Trailing": ("after a condition", "without a condition"),
+}
+
+CELLS = ("MOV memory,$number", "MOV memory,number", "MOV memory,register", "MOV register,$number", "MOV register,number",
+         "MOV register,register", "MOV register,memory", "MFENCE", "XCHG memory,register", "XCHG register,memory",
+         "LOCK XCHG memory,register", "LOCK XCHG register,memory", "LOCK XADD memory,register")
+
+LINES = ("no command", "--help", "--version", "help of a command", "unknown command", "option before the command", "stray word",
+         "option of another command", "unknown option", "option twice", "option without its value", "flag with a value",
+         "value that is no number", "lines of three words") + tuple(
+             "value out of range: " + name for name in
+             ("protocol", "depth", "sets", "ways", "words", "bus", "from", "seeds", "length"))
+
+# A refusal is told by every command that reads an input, and each has its own further statuses.
+STATUSES = {"run": (0, 1, 3), "sweep": (0, 1, 3), "check": (0, 1, 4), "witness": (0, 1, 4)}
+
+
+def names():
+    """Each kind, and the names of it that have to come up."""
+    wanted = {
+        "refusal of a test": FAULTS_OF_TESTS,
+        "fault of a test": ["%s: %s" % (name, case) for name, cases in FAULTS_OF_TESTS.items() for case in cases],
+        "refusal of choices": ("BadWord", "NoSuchCore", "TooMany"),
+        "refusal of an order": ("NoOrder", "BadLine", "BadCount"),
+        "refusal of an input": ("TooLarge",),
+        "breach": ("C1 extra", "C1 twice", "C1 missing", "C2", "C3", "C4", "C5"),
+        "depth needed": ("more than there is", "no more than there is"),
+        "outcome": ("Committed", "Buffered", "Moved", "Asked"),
+        "stall": ("Done", "Full", "Fence", "Lock", "Empty", "Bus"),
+        "access": ("hits", "misses", "upgrades", "forwards", "write_backs", "flushes"),
+        "found": ("M hits by a load", "O hits by a load", "E hits by a load", "S hits by a load", "M hits by a write",
+                  "E hits by a write", "O upgrades by a write", "S upgrades by a write"),
+        "snooped": ["%s by %s" % (state, request) for state in "MOES" for request in ("GetS", "GetM")],
+        "victim": "MOES",
+        "hit on the split bus": ("while it is held", "while it is free"),
+        "order": ("entries between the parts of a locked instruction",),
+        "condition": ["none"] + ["%s %s" % (quantifier, truth) for quantifier in ("exists", "~exists", "forall")
+                                 for truth in ("true", "false")],
+        "observation": ("Never", "Sometimes", "Always"),
+        "cell": CELLS,
+        "no location": litmus.NO_LOCATIONS + litmus.KEYWORDS,
+        "case of letters": ("capitals", "small letters", "mixed case"),
+        "spelling": ["tab after X86", "space after X86", "quotation", "key line", "locations", "empty cell", "negation ~",
+                     "negation not"]
+                    + ["%s in the %s" % (form, part) for form in ("location", "location in brackets", "register")
+                       for part in ("initial state", "condition")],
+        "choice": ("s", "d", "s with leading zeros", "d with leading zeros", "seed"),
+        "between choices": ("space", "tab", "carriage return", "line feed"),
+        "command line": LINES,
+        "option's form": ("space", "equals sign"),
+    }
+    wanted.update(("status of " + command, statuses) for command, statuses in STATUSES.items())
+    wanted.update(("%s of %s" % (name, command), values_of(name, values))
+                  for command, options in commands.OPTIONS.items() for name, values in options.items())
+    return {kind: [str(name) for name in listed] for kind, listed in wanted.items()}
+
+
+def values_of(name, values):
+    """The values of an option; of those that a sweep's plan has, the ends of their range."""
+    if name in commands.SWEEP_OPTIONS:
+        return "least", "between", "greatest"
+    if name == "words":
+        return commands.WORDS
+    return (False, True) if values is None else values

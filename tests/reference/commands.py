@@ -1,0 +1,164 @@
+"""Command lines, the parts of an input, and the whole answer: README.md, 'Commands' to 'Exit statuses', docs/INPUT.md, 'The
+input', and docs/MESSAGES.md, 'Command lines'."""
+import re
+import typing
+
+from . import axioms, litmus, machine, printing, seen, witness
+from .choices import printed_choices, read_choices
+from .machine import Configuration
+from .orders import read_order
+from .reading import Refused, read_test
+
+ENDED, REFUSED, BAD_LINE, UNFINISHED, INVALID = 0, 1, 2, 3, 4
+
+MACHINE_OPTIONS = {
+    "protocol": ("msi", "mesi", "moesi", "mosi"), "depth": range(33), "sets": range(1, 9), "ways": range(1, 9),
+    "words": range(1, 5), "bus": (machine.ATOMIC, machine.SPLIT),
+}
+SWEEP_OPTIONS = {"from": range(2**32), "seeds": range(1, 1001), "length": range(100_001)}
+
+# The options of each command, and their values; `json` has none.
+OPTIONS = {
+    "run": dict(MACHINE_OPTIONS, json=None), "sweep": dict(MACHINE_OPTIONS, **SWEEP_OPTIONS), "check": {},
+    "witness": {"depth": range(1, 33)}, "tables": {"protocol": MACHINE_OPTIONS["protocol"]},
+}
+DEFAULTS = {"protocol": "msi", "depth": 4, "sets": 1, "ways": 2, "words": 1, "bus": machine.ATOMIC, "json": False,
+            "from": 0, "seeds": 10, "length": 1000}
+
+# `--words` is read as one of these, and then refused where it isn't one of its values.
+WORDS = (1, 2, 4)
+
+
+class BadLine(Exception):
+    """A command line is refused; `errors` is all of standard error where that is known, else None."""
+
+    def __init__(self, why, errors=None):
+        super().__init__(why, errors)
+        self.errors = errors
+        seen.note("command line", why)
+
+
+class Answer(typing.NamedTuple):
+    """Exit status and standard output; of standard error what it must be, where that is known."""
+    status: int
+    output: bytes
+    errors: typing.Optional[bytes] = None
+
+
+def settings_of(words):
+    """The command, and the value of each of its options; raises `BadLine`."""
+    if not words:
+        raise BadLine("no command")
+    command, rest, settings = words[0], list(words[1:]), dict(DEFAULTS)
+    if command in ("--help", "--version"):
+        raise BadLine(command)
+    if command not in OPTIONS:
+        raise BadLine("option before the command" if command.startswith("-") else "unknown command")
+    given = set()
+    while rest:
+        name, value = option_of(command, rest)
+        if name in given:
+            raise BadLine("option twice")
+        given.add(name)
+        settings[name] = value
+    if settings["words"] not in WORDS:
+        raise BadLine("lines of three words", b"fault range\n")
+    return command, settings
+
+
+def option_of(command, rest):
+    """Takes an option and its value from the words that are left."""
+    word = rest.pop(0)
+    if word in ("--help", "-h"):
+        raise BadLine("help of a command")
+    name, equals, value = word[2:].partition("=")
+    if not word.startswith("--"):
+        raise BadLine("stray word")
+    if name not in OPTIONS[command]:
+        raise BadLine("option of another command" if name in DEFAULTS else "unknown option")
+    values = OPTIONS[command][name]
+    if values is None:
+        if equals:
+            raise BadLine("flag with a value")
+        return name, True
+    if not equals:
+        if not rest or rest[0].startswith("-"):
+            raise BadLine("option without its value")
+        value = rest.pop(0)
+    seen.note("option's form", "equals sign" if equals else "space")
+    if isinstance(values, range):
+        if not re.fullmatch(r"\+?[0-9]+", value):
+            raise BadLine("value that is no number")
+        value = int(value)
+    if value not in values:
+        raise BadLine("value out of range: " + name)
+    return name, value
+
+
+def note_options(command, settings):
+    """Counts the values of a command that answered; of great ranges their ends alone."""
+    for name, values in OPTIONS[command].items():
+        value = settings[name]
+        if name in SWEEP_OPTIONS:
+            value = "least" if value == values[0] else "greatest" if value == values[-1] else "between"
+        seen.note("%s of %s" % (name, command), value)
+
+
+def parts_of(given):
+    """The parts before and after the first line that is '====', a carriage return at its end or not."""
+    found = re.search(rb"(?:\A|(?<=\n))====\r?(?:\n|\Z)", given)
+    return (given, b"") if found is None else (given[:found.start()], given[found.end():])
+
+
+def answer(words, given):
+    """The program's answer to this command line and this input."""
+    try:
+        command, settings = settings_of(words)
+    except BadLine as line:
+        return Answer(BAD_LINE, b"", line.errors)
+    if command == "tables":
+        note_options(command, settings)
+        return Answer(ENDED, printing.table(settings["protocol"]).encode(), b"")
+    try:
+        status, output = answer_to_input(command, settings, given)
+        note_options(command, settings)
+    except Refused as refused:
+        status, output = REFUSED, refused.line + "\n"
+    seen.note("status of " + command, status)
+    return Answer(status, output.encode())
+
+
+def answer_to_input(command, settings, given):
+    """Status and output: the input's size is judged first, then its first part, then its second."""
+    if len(given) > litmus.LONGEST_INPUT:
+        seen.note("refusal of an input", "TooLarge")
+        raise Refused("Refused input TooLarge")
+    first, second = parts_of(given)
+    test = read_test(first)
+    if command in ("check", "witness"):
+        return judged(test, command, settings["depth"], second)
+    configuration = Configuration(*(settings[name] for name in Configuration._fields))
+    if command == "sweep":
+        output, ended = printing.sweep(test, configuration, settings["from"], settings["seeds"], settings["length"])
+        return ENDED if ended else UNFINISHED, output
+    choices = read_choices(second, test.cores())
+    run = machine.run(test, configuration, choices)
+    if run.machine is None:
+        return UNFINISHED, printing.unfinished_json(run) if settings["json"] else printing.unfinished(run)
+    printed = printing.report_json if settings["json"] else printing.report
+    return ENDED, printed(test, configuration, run, choices.count - run.used)
+
+
+def judged(test, command, depth, text):
+    """The answer of `check` and `witness` to an order."""
+    order = read_order(text, test)
+    breach = axioms.first_breach(test, order)
+    if breach is not None:
+        return INVALID, "Check invalid %s\n" % breach
+    if command == "check":
+        return ENDED, "Check valid\n"
+    needed = witness.needed(order)
+    seen.note("depth needed", "more than there is" if needed > depth else "no more than there is")
+    if needed > depth:
+        return INVALID, "Depth needed=%d\n" % needed
+    return ENDED, printed_choices(witness.choices_along(test, order))

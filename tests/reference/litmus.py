@@ -1,0 +1,63 @@
+"""What a test is: docs/DEFINITIONS.md, 'What a test does'; the limits are those of docs/INPUT.md, 'Limits'."""
+import dataclasses
+import typing
+
+REGISTERS = ("EAX", "EBX", "ECX", "EDX", "ESI", "EDI")
+
+# Names that are no location's in any case of letters, and those that are none as they stand here: INPUT.md, 'Rows'.
+NO_LOCATIONS = REGISTERS + ("ESP", "EBP")
+KEYWORDS = ("true", "false", "not", "exists", "forall", "locations")
+
+MOST_CORES = 8
+MOST_LOCATIONS = 16
+MOST_INSTRUCTIONS = 32
+MOST_ATOMS = 256
+MOST_OPEN = 64
+LONGEST_TEST_NAME = 64
+LONGEST_LOCATION_NAME = 32
+GREATEST_WORD = 2**32 - 1
+LONGEST_TEST = 65_536
+LONGEST_INPUT = 1_048_576
+MOST_CHOICES = 100_000
+
+# The instructions, by what they do.
+STORE_NUMBER, STORE_REGISTER, LOAD = "store a number", "store a register", "load"
+SET_NUMBER, SET_REGISTER, FENCE = "set from a number", "set from a register", "fence"
+EXCHANGE, ADD = "exchange", "locked add"
+
+STORES, LOCKED, MOVES = (STORE_NUMBER, STORE_REGISTER), (EXCHANGE, ADD), (SET_NUMBER, SET_REGISTER)
+
+
+class Instruction(typing.NamedTuple):
+    """One instruction: its kind, its location and its register (by their numbers), and for a store or a register move the
+    number, or the register, that the value comes from."""
+    kind: str
+    location: typing.Optional[int] = None
+    register: typing.Optional[int] = None
+    source: typing.Optional[int] = None
+
+
+@dataclasses.dataclass
+class Test:
+    """A test as its text spells it. `quantifier` and `proposition` are None where it has no condition."""
+    name: str
+    locations: list
+    words: list
+    registers: list
+    programs: list
+    quantifier: typing.Optional[str] = None
+    proposition: typing.Optional[tuple] = None
+
+    def cores(self):
+        return len(self.programs)
+
+
+def is_location(name):
+    """Whether this name can be a location's: INPUT.md, 'Rows'."""
+    return name.upper() not in NO_LOCATIONS and name not in KEYWORDS
+
+
+def register_of(name):
+    """The number of the register with this name in any case of letters, or None."""
+    upper = name.upper()
+    return REGISTERS.index(upper) if upper in REGISTERS else None

@@ -1,0 +1,125 @@
+"""Reports, plain and as JSON, sweeps and tables: docs/DEFINITIONS.md, 'What is printed of runs', and docs/SCRIPTS.md, 'JSON'."""
+import collections
+import json
+
+from . import conditions, litmus, machine, seen
+from .caches import DIRTY, IN_PLACE, PROTOCOLS, E, M, O, S
+from .choices import choices_of_seed
+from .orders import printed_order
+
+COUNTS = ("hits", "misses", "upgrades", "forwards", "write_backs", "flushes")
+
+
+def named(pairs):
+    """Each pair as ` name=value`."""
+    return "".join(" %s=%s" % pair for pair in pairs)
+
+
+def truth_word(truth):
+    return "true" if truth else "false"
+
+
+def head(test, configuration):
+    """The lines `Test` and `Machine`."""
+    split = " bus=split" if configuration.bus == machine.SPLIT else ""
+    shape = named((name, getattr(configuration, name)) for name in ("depth", "sets", "ways", "words"))
+    return "Test %s\nMachine %s%s%s\n" % (test.name, configuration.protocol, shape, split)
+
+
+def report(test, configuration, run, unused):
+    """The report of a run that ended."""
+    registers, words = run.state()
+    truth = machine.holds(test, (registers, words))
+    lines = ["Registers P%d%s" % (core, named(zip(litmus.REGISTERS, values))) for core, values in enumerate(registers)]
+    lines.append("Memory" + named(zip(test.locations, words)))
+    seen.note("condition", "none" if truth is None else "%s %s" % (test.quantifier, truth_word(truth)))
+    lines.append("Condition " + ("none" if truth is None else "%s %s" % (test.quantifier, truth_word(truth))))
+    lines.append("Choices used=%d stalled=%d unused=%d" % (run.used, run.stalled, unused))
+    for core, counts in enumerate(run.machine.caches.counts):
+        lines.append("Cache P%d%s" % (core, named((name, counts[name]) for name in COUNTS)))
+    order = run.machine.put_together()
+    return head(test, configuration) + printed_order(test, order) + "".join(line + "\n" for line in lines)
+
+
+def unfinished(run):
+    return "Unfinished used=%d stalled=%d\n" % (run.used, run.stalled)
+
+
+def as_json(value):
+    """A value's compact text and a line feed; keys stand in the order of their bytes."""
+    return json.dumps(value, sort_keys=True, separators=(",", ":")) + "\n"
+
+
+def unfinished_json(run):
+    return as_json({"unfinished": {"stalled": run.stalled, "used": run.used}})
+
+
+def report_json(test, configuration, run, unused):
+    """The same content as `report` has."""
+    registers, words = run.state()
+    truth = machine.holds(test, (registers, words))
+    shown = configuration._asdict()
+    if configuration.bus != machine.SPLIT:
+        del shown["bus"]
+    return as_json({
+        "test": test.name,
+        "machine": shown,
+        "order": [entry.text(test) for entry in run.machine.put_together()],
+        "registers": [dict(zip(litmus.REGISTERS, values)) for values in registers],
+        "memory": dict(zip(test.locations, words)),
+        "condition": None if truth is None else {"kind": test.quantifier, "holds": truth},
+        "choices": {"used": run.used, "stalled": run.stalled, "unused": unused},
+        "cache": run.machine.caches.counts,
+    })
+
+
+def sweep(test, configuration, first, seeds, length):
+    """What a sweep prints, and whether all its runs ended."""
+    if test.proposition is None:
+        registers_named, locations_named = set(), range(len(test.locations))
+    else:
+        registers_named, locations_named = conditions.named_in(test.proposition)
+    registers_named, locations_named = sorted(registers_named), sorted(locations_named)
+    states, truths = collections.Counter(), collections.Counter()
+    for seed in range(first, first + seeds):
+        run = machine.run(test, configuration, choices_of_seed(seed, length, test.cores()))
+        if run.machine is None:
+            truths["unfinished"] += 1
+            continue
+        registers, words = run.state()
+        states[tuple([registers[core][register] for core, register in registers_named]
+                     + [words[location] for location in locations_named])] += 1
+        truths[machine.holds(test, (registers, words))] += 1
+    ended = sum(states.values())
+    names = ["%d:%s" % (core, litmus.REGISTERS[register]) for core, register in registers_named]
+    names += [test.locations[location] for location in locations_named]
+    lines = ["Sweep from=%d seeds=%d length=%d ended=%d unfinished=%d" % (first, seeds, length, ended, truths["unfinished"])]
+    lines += ["State %d%s" % (states[values], named(zip(names, values))) for values in sorted(states)]
+    if test.proposition is not None:
+        lines.append("Observation %s %s %d %d" % (test.name, observation(truths), truths[True], truths[False]))
+    return head(test, configuration) + "".join(line + "\n" for line in lines), ended == seeds
+
+
+def observation(truths):
+    word = "Never" if truths[True] == 0 else "Always" if truths[False] == 0 else "Sometimes"
+    seen.note("observation", word)
+    return word
+
+
+def table(name):
+    """The printed table of a protocol: README.md and docs/DEFINITIONS.md, 'printed table'."""
+    protocol = PROTOCOLS[name]
+
+    def yes(truth):
+        return "yes" if truth else "no"
+
+    def asked(request, snoop):
+        return "%s=%s supplies=%s memory=%s" % (request, snoop.next, yes(snoop.supplies), yes(snoop.to_memory))
+
+    lines = ["Protocol " + name, "Fill alone=%s shared=%s" % (protocol.filled(False), protocol.filled(True))]
+    for state in (M, O, E, S):
+        if protocol.reaches(state):
+            lines.append("%s %s %s write=%s evict=%s" % (
+                state, asked("GetS", protocol.gets[state]), asked("GetM", protocol.getm(state)),
+                M if state in IN_PLACE else "bus", "dirty" if state in DIRTY else "clean"))
+    return "".join(line + "\n" for line in lines)
