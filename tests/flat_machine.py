@@ -10,6 +10,8 @@ CELLS = (
     ("store", r"MOV \[(\w+)\],\$(\d+)"),
     ("store", r"MOV \[(\w+)\],(E[A-Z]{2})"),
     ("load", r"MOV (E[A-Z]{2}),\[(\w+)\]"),
+    ("move", r"MOV (E[A-Z]{2}),\$(\d+)"),
+    ("move", r"MOV (E[A-Z]{2}),(E[A-Z]{2})"),
     ("fence", r"MFENCE"),
     ("xchg", r"XCHG \[(\w+)\],(E[A-Z]{2})"),
     ("xadd", r"LOCK XADD \[(\w+)\],(E[A-Z]{2})"),
@@ -86,6 +88,10 @@ def step(test, state, core, depth):
     if kind == "load":
         register, location = operands
         after.words["%d:%s" % (core, register)] = state.seen(core, location)
+    elif kind == "move":
+        register, source = operands
+        value = int(source) if source.isdigit() else state.word("%d:%s" % (core, source))
+        after.words["%d:%s" % (core, register)] = value
     elif kind in ("xchg", "xadd"):
         location, register = operands
         register = "%d:%s" % (core, register)
@@ -114,10 +120,30 @@ def successors(test, state, depth):
             yield "%dd" % core, drain(state, core)
 
 
+def first_state(test):
+    cores = range(len(test.programs))
+    return State([0 for _ in cores], [[] for _ in cores], dict(test.initial))
+
+
+def final_states(test, depth):
+    """The registers and words of all final states: of each the values that aren't 0, by their places."""
+    reached, frontier, found = {first_state(test).key()}, [first_state(test)], set()
+    while frontier:
+        state = frontier.pop()
+        ended = True
+        for _, after in successors(test, state, depth):
+            ended = False
+            if after.key() not in reached:
+                reached.add(after.key())
+                frontier.append(after)
+        if ended:
+            found.add(frozenset(pair for pair in state.words.items() if pair[1]))
+    return found
+
+
 def choices_to_outcome(test, depth):
     """A shortest list of choices that ends the test in what its condition asks for; None where no run does."""
-    cores = range(len(test.programs))
-    start = State([0 for _ in cores], [[] for _ in cores], dict(test.initial))
+    start = first_state(test)
     came_from, frontier = {start.key(): None}, [start]
     while frontier:
         reached = []
