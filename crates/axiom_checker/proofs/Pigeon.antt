@@ -1,6 +1,6 @@
 -- Distinct members that all stand in a list which is no longer leave room for no other.
 use Rattle.std.proofs.Common.{◌≡◌, ◌<◌, ◌≤◌, ℕ, ◌+◌, suc, zero, List, [], ◌∷◌, ◌++◌, length, Some, slice_get, arith, ap, sym, ◌∙◌, ◌⊎◌, inl, inr, subst, refl, length-append}
-use Rattle.tso_model.specs.Axioms.{StandsIn}
+use Rattle.tso_model.specs.Standing.{StandsIn}
 use Rattle.tso_model.specs.declared.execution.Entry.{Entry}
 
 abbrev pub Member : Entry → List Entry → Type 0

@@ -5,7 +5,8 @@ use Rattle.std.proofs.lemmas.Bool.Decides.{eqb_tells}
 use Rattle.tso_model.specs.Litmus.{Litmus}
 use Rattle.basic_laws.proofs.Ranks.{is_read_kind, is_write_kind}
 use Rattle.tso_model.specs.ProgramEntries.{made}
-use Rattle.tso_model.specs.Axioms.{StandsIn, IsWhole}
+use Rattle.tso_model.specs.Axioms.{IsWhole}
+use Rattle.tso_model.specs.Standing.{StandsIn}
 use Rattle.tso_model.specs.declared.execution.Entry.{Entry}
 use Rattle.tso_model.specs.declared.execution.Kind.{Kind}
 use Rattle.tso_model.specs.declared.execution.Kind.TheVariants.{R, W, F, LR, LW}

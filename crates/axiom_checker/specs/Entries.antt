@@ -1,5 +1,5 @@
 -- The ways in which an order doesn't hold each entry of the programs exactly once, with the value that the program
--- gives it. (This project's profile.) Each speaks of `made`: what the programs make with the order's own read values,
+-- gives it. Each speaks of `made`: what the programs make with the order's own read values,
 -- core by core and in program order.
 use Rattle.std.specs.Prelude.{ℕ, ◌<◌, ◌≡◌, ◌≢◌, ◌==◌, ◌&&◌, ◌||◌, Bool, true, false, ◌⊎◌, List, Some, slice_get}
 use Rattle.tso_model.specs.ProgramOrder.{is_read, is_write}

@@ -1,4 +1,4 @@
--- The earliest entry of a list of which something holds. (This project's profile.)
+-- The earliest entry of a list of which something holds.
 use Rattle.std.specs.Prelude.{ℕ, ◌<◌, ◌≡◌, List, Some, slice_get}
 use Rattle.tso_model.specs.declared.execution.Entry.{Entry}
 

@@ -1,4 +1,4 @@
--- Which breach of the axioms is the first in an order. (This project's profile.)
+-- Which breach of the axioms is the first in an order.
 -- Breaches come in the order of the variants of `Breach`, extra and twice together: the first is of the first kind that
 -- occurs, and of that kind it is the earliest.
 use Rattle.std.specs.Prelude.{ℕ, ◌≡◌, ◌≢◌, List, Option, IfSome, IsNone, Result, OnOk, IfErr, IsOkUnless}

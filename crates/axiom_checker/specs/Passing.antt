@@ -1,4 +1,4 @@
--- What the second pass over an order goes by. (This project's profile.)
+-- What the second pass over an order goes by.
 use Rattle.std.specs.Prelude.{ℕ, ◌<◌, ◌≡◌, ◌≢◌, nat_le, true, if◌then◌else◌}
 use Rattle.std.specs.Prelude.{List, Option, Some, None, IfSome, IsNone, slice_get, slice_index}
 use Rattle.tso_model.specs.Litmus.{Litmus, IsTest}

@@ -1,4 +1,4 @@
--- What the programs make for given read values. (This project's profile.)
+-- What the programs make for given read values.
 use Rattle.std.specs.Prelude.{ℕ, ◌+◌, List, [], ◌∷◌, ◌++◌, Option, None, if◌then◌else◌, replicate, slice_index_or, take, drop}
 use Rattle.std.specs.Option.{unwrap_or}
 use Rattle.tso_model.specs.Thread.{entries_of, reads_in}

@@ -1,4 +1,4 @@
--- How far the entries of each core have come: one more than the greatest rank among them. (This project's profile.)
+-- How far the entries of each core have come: one more than the greatest rank among them.
 use Rattle.std.specs.Prelude.{ℕ, ◌+◌, Bool, nat_lt, if◌then◌else◌, List, max, slice_index, slice_set}
 use Rattle.tso_model.specs.ProgramOrder.{is_load, is_store, is_write}
 use Rattle.basic_laws.specs.Ranks.{rank}

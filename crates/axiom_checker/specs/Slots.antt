@@ -1,4 +1,4 @@
--- How the checker finds the program's entry of an entry of the order. (This project's profile.)
+-- How the checker finds the program's entry of an entry of the order.
 use Rattle.std.specs.Prelude.{ℕ, ◌+◌, ◌*◌, ◌≤◌, ◌<◌, ◌≡◌, true, List, [], ◌∷◌, Option, Some, None, slice_get}
 use Rattle.tso_model.specs.Limits.{most_instructions}
 use Rattle.basic_laws.specs.Ranks.{rank}

@@ -17,7 +17,7 @@ use Rattle.tso_model.specs.declared.execution.Kind.TheVariants.{W}
 use Rattle.tso_model.specs.declared.choice.Choice.{Choice}
 use Rattle.tso_model.specs.declared.choice.Choice.TheVariants.{Step, Drain}
 use Rattle.split_laws.specs.Pending.{IsStoreOf, PendingIsOwn}
-use Rattle.snoop_bus.specs.Rows.{table_of}
+use Rattle.snoop_bus.specs.Rows.{table_of_rows}
 use Rattle.machine_core.specs.declared.cache_use.CacheUse.TheVariants.{Unused, Forwarded}
 use Rattle.machine_core.specs.Caches.{Caches, Used, not_through, load_by, write_by, load_after, use_of, hits_by}
 use Rattle.basic_laws.proofs.WithPending.{drain_with, fenced_with, locked_with}
@@ -89,6 +89,6 @@ use-told c core NoAccess u h = ((λ k. absurd (none h k)), (λ k. absurd (let z 
     none : (u ≡ not_through Unused c) ⊎ (u ≡ not_through Forwarded c) → IsHitUse u.how → ⊥
     none (inl e) k = subst (λ (z : Used). IsHitUse z.how) e k
     none (inr e) k = subst (λ (z : Used). IsHitUse z.how) e k
-use-told c core (Reads loc) u h = subst (λ (z : Used). IsHitUse z.how ↔ (hits_by c core (Reads loc) ≡ true)) (sym h) (load-told (table_of c.rows) core (loc.0 / c.shape.words) c.contents)
-use-told c core (Writes loc) u h = subst (λ (z : Used). IsHitUse z.how ↔ (hits_by c core (Writes loc) ≡ true)) (sym h) (write-told (table_of c.rows) core (loc.0 / c.shape.words) c.contents)
-use-told c core (Locks loc) u h = subst (λ (z : Used). IsHitUse z.how ↔ (hits_by c core (Locks loc) ≡ true)) (sym h) (write-told (table_of c.rows) core (loc.0 / c.shape.words) c.contents)
+use-told c core (Reads loc) u h = subst (λ (z : Used). IsHitUse z.how ↔ (hits_by c core (Reads loc) ≡ true)) (sym h) (load-told (table_of_rows c.rows) core (loc.0 / c.shape.words) c.contents)
+use-told c core (Writes loc) u h = subst (λ (z : Used). IsHitUse z.how ↔ (hits_by c core (Writes loc) ≡ true)) (sym h) (write-told (table_of_rows c.rows) core (loc.0 / c.shape.words) c.contents)
+use-told c core (Locks loc) u h = subst (λ (z : Used). IsHitUse z.how ↔ (hits_by c core (Locks loc) ≡ true)) (sym h) (write-told (table_of_rows c.rows) core (loc.0 / c.shape.words) c.contents)

@@ -1,4 +1,4 @@
--- How large a set and a line may be. (This project's profile.)
+-- How large a set and a line may be.
 use Rattle.std.specs.Prelude.{ℕ}
 
 -- lines that a set has room for, at most

@@ -1,8 +1,8 @@
--- The settings that a command may be run with. (This project's profile.)
+-- The settings that a command may be run with.
 use Rattle.std.specs.Prelude.{ℕ, ◌≤◌}
 use Rattle.tso_model.specs.Limits.{least_depth, most_depth}
-use Rattle.machine_core.specs.Configuration.{IsWithinLimits as IsConfigurationWithinLimits}
-use Rattle.command_line.specs.Plan.{IsWithinLimits as IsPlanWithinLimits}
+use Rattle.machine_core.specs.Configuration.{IsConfigurationWithinLimits}
+use Rattle.command_line.specs.Plan.{IsPlanWithinLimits}
 use Rattle.command_line.specs.declared.settings.Settings.{Settings}
 use Rattle.command_line.specs.declared.settings.Settings.TheVariants.{Run, Sweep, Check, Witness, Tables}
 

@@ -1,4 +1,4 @@
--- Which runs a sweep makes. (This project's profile.)
+-- Which runs a sweep makes.
 use Rattle.std.specs.Prelude.{ℕ, ◌<◌, ◌≤◌, ◌^◌}
 use Rattle.scheduler.specs.Limits.{most_choices}
 
@@ -13,5 +13,5 @@ abbrev pub most_seeds : ℕ
 most_seeds = 1000
 
 -- the first seed is a word, there is a seed, and there are no more seeds, and no more choices of each, than there may be
-abbrev pub IsWithinLimits : Plan → Type 0
-IsWithinLimits p = (p.from < 2 ^ 32) × (1 ≤ p.seeds) × (p.seeds ≤ most_seeds) × (p.length ≤ most_choices)
+abbrev pub IsPlanWithinLimits : Plan → Type 0
+IsPlanWithinLimits p = (p.from < 2 ^ 32) × (1 ≤ p.seeds) × (p.seeds ≤ most_seeds) × (p.length ≤ most_choices)

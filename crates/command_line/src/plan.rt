@@ -2,7 +2,7 @@
 
 ghost use Rattle.std.specs.Prelude.{◌≡◌, ◌+◌, ◌↔◌, IsSome, IfSome};
 ghost use Rattle.scheduler.specs.Limits.{most_choices};
-ghost use Rattle.command_line.specs.Plan.{most_seeds, IsWithinLimits};
+ghost use Rattle.command_line.specs.Plan.{most_seeds, IsPlanWithinLimits};
 
 use scheduler::MAX_CHOICES;
 use std::marker::Model;
@@ -28,7 +28,7 @@ pub struct SweepPlan {
 }
 
 impl Model for SweepPlan {
-    ghost use Rattle.command_line.specs.Plan.{Plan, IsWithinLimits};
+    ghost use Rattle.command_line.specs.Plan.{Plan, IsPlanWithinLimits};
 
     ghost Value = { Plan };
 
@@ -36,7 +36,7 @@ impl Model for SweepPlan {
 
     ghost inverse = { λ v. record { from = v.from; seeds = v.seeds; length = v.length } };
 
-    ghost invariant = { λ p. IsWithinLimits (record { from = p.from; seeds = p.seeds; length = p.length }) };
+    ghost invariant = { λ p. IsPlanWithinLimits (record { from = p.from; seeds = p.seeds; length = p.length }) };
 }
 
 impl SweepPlan {
@@ -45,7 +45,7 @@ impl SweepPlan {
     /// [`MAX_SEEDS`], or more than [`MAX_LENGTH`] choices.
     pub fn new(from: u32, seeds: u32, length: u32) -> Option<SweepPlan>
         ensures value { IfSome result (λ p. p ≡ record { from = from; seeds = seeds; length = length }) }
-        ensures valid { IsSome result ↔ IsWithinLimits (record { from = from; seeds = seeds; length = length }) }
+        ensures valid { IsSome result ↔ IsPlanWithinLimits (record { from = from; seeds = seeds; length = length }) }
     {
         if (1..=MAX_SEEDS).contains(&seeds) && length <= MAX_LENGTH {
             Some(SweepPlan {
@@ -68,7 +68,7 @@ impl SweepPlan {
     /// How many seeds there are: one for each run.
     pub fn seeds(self) -> u32
         ensures value { result ≡ self.seeds }
-        ensures within { IsWithinLimits self }
+        ensures within { IsPlanWithinLimits self }
     {
         self.seeds
     }

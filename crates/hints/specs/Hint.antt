@@ -1,4 +1,4 @@
--- The form of a hint. (This project's profile.)
+-- The form of a hint.
 use Rattle.std.specs.Prelude.{◌≡◌, ◌++◌, ◌≤◌, ◌∷◌, [], ℕ, ◌==◌, ◌||◌, List, true, length, codes, if◌then◌else◌}
 use Rattle.std.specs.List.{list_all}
 use Rattle.tso_model.specs.Names.{is_printable}

@@ -24,7 +24,7 @@ use Rattle.litmus_reader.specs.Grammar.{terms}
 use Rattle.litmus_reader.specs.GrammarItems.{IsSetting, sets_register, sets_location, sets_in_squares}
 use Rattle.litmus_reader.specs.GrammarInitial.{names_in, is_allowed}
 use Rattle.litmus_reader.specs.GrammarNames.{numbered, number_of, with_name, location}
-use Rattle.litmus_reader.specs.GrammarConditions.{IsAtom, says_true, says_false, says_setting, Fits, claim_of, IsWithin}
+use Rattle.litmus_reader.specs.GrammarConditions.{IsAtom, says_true, says_false, says_setting, PhraseFits, claim_by, IsWithin}
 use Rattle.litmus_reader.proofs.GrammarTokens.{chosen, there_is, there_some, some_is, ok_is, ok_pair, bind_ok, opened, name_takes}
 use Rattle.litmus_reader.proofs.GrammarItems.{setting_found, setting_taken}
 use Rattle.litmus_reader.proofs.GrammarPhrases.{Finds, Taken, Takes, Anything}
@@ -40,11 +40,11 @@ abbrev pub SettingFits : ℕ → Setting → Type 0
 SettingFits cores (of_register core reg v) = (decimal_value core < cores) × (v < 2 ^ 32)
 SettingFits cores (of_location x v) = v < 2 ^ 32
 
-pub atom_fits : (cores : ℕ) (s : Setting) → SettingFits cores s → Fits cores (atom s)
+pub atom_fits : (cores : ℕ) (s : Setting) → SettingFits cores s → PhraseFits cores (atom s)
 atom_fits cores (of_register core reg v) f = rw (lt-ltb (decimal_value core) cores f.0, lt-ltb v (2 ^ 32) f.1) refl
 atom_fits cores (of_location x v) f = rw (lt-ltb v (2 ^ 32) f) refl
 
-pub fits_atom : (cores : ℕ) (s : Setting) → Fits cores (atom s) → SettingFits cores s
+pub fits_atom : (cores : ℕ) (s : Setting) → PhraseFits cores (atom s) → SettingFits cores s
 fits_atom cores (of_register core reg v) f =
     let whole = and_parts (is_allowed cores (of_register core reg v)) true f in
     let parts = and_parts (ltb (decimal_value core) cores) (ltb v (2 ^ 32)) whole.0 in
@@ -83,7 +83,7 @@ core_is cores left digits below = rw (lt-ltb (decimal_value digits) cores below)
 
 -- a setting is judged as it fits
 claim_found : (cores left : ℕ) (names : List (List ℕ)) (s : Setting) → SettingFits cores s → length (numbered names (names_in (s ∷ []))) ≤ 16
-    → claim_in cores left names s ≡ Ok (claim_of (numbered names (names_in (s ∷ []))) (atom s), numbered names (names_in (s ∷ [])))
+    → claim_in cores left names s ≡ Ok (claim_by (numbered names (names_in (s ∷ []))) (atom s), numbered names (names_in (s ∷ [])))
 unfolding claim_in numbered located
 claim_found cores left names (of_register digits reg v) fits room = rw (core_is cores left digits fits.0, word_is left v fits.1) refl
 claim_found cores left names (of_location x v) fits room =
@@ -94,7 +94,7 @@ claim_found cores left names (of_location x v) fits room =
 pub record ClaimTaken (cores : ℕ) (names : List (List ℕ)) (s : Setting) (c : Claim × List (List ℕ)) : Type 0 where
   pub fits : SettingFits cores s
   pub names_are : c.1 ≡ numbered names (names_in (s ∷ []))
-  pub claim_is : c.0 ≡ claim_of (numbered names (names_in (s ∷ []))) (atom s)
+  pub claim_is : c.0 ≡ claim_by (numbered names (names_in (s ∷ []))) (atom s)
   pub room : length names ≤ 16 → length (numbered names (names_in (s ∷ []))) ≤ 16
 
 pub located_ok : (left : ℕ) (names : List (List ℕ)) (x : List ℕ) (r : Loc × List (List ℕ)) → located left names x ≡ Ok r

@@ -13,7 +13,7 @@ use Rattle.litmus_reader.specs.Keywords.{word_after}
 use Rattle.litmus_reader.specs.Conditions.{Claimed, claimed, atom_at, Proposition, disjunction, negation_at, opens_unit, negated, bracketed, unit_by, unit_at, proposition_at, in_condition}
 use Rattle.litmus_reader.specs.Grammar.{terms}
 use Rattle.litmus_reader.specs.GrammarNames.{numbered}
-use Rattle.litmus_reader.specs.GrammarConditions.{IsAtom, says_true, says_false, says_setting, IsProposition, plain, negated as negated_by, in_brackets, is_negation, IsUnit, locations_in, atoms_of, claim_of, IsWithin}
+use Rattle.litmus_reader.specs.GrammarConditions.{IsAtom, says_true, says_false, says_setting, IsProposition, plain, negated as negated_by, in_brackets, is_negation, IsUnit, locations_in, atoms_of, claim_by, IsWithin}
 use Rattle.litmus_reader.proofs.GrammarTokens.{chosen, there_is, some_is, ok_is, bind_ok, or_unfit_ok, front, opened, symbol_takes}
 use Rattle.litmus_reader.proofs.GrammarPhrases.{Finds, Taken, Takes, Anything, proposition_takes, proposition_finds}
 use Rattle.litmus_reader.proofs.GrammarLast.{unit_leaves}
@@ -212,8 +212,8 @@ spelled_by cores Is atoms names ps c le t =
       is = t.is;
       parts = t.parts;
       within = record { fits = t.fits; few = omega (arith, t.few, t.atoms_are); room = t.room le };
-      given = ap (λ (x : Claim). claimed x c.atoms c.names c.rest) t.claim_is ∙ ap (λ (n : ℕ). claimed (claim_of new t.phrase) n c.names c.rest) t.atoms_are
-          ∙ ap (λ (l : List (List ℕ)). claimed (claim_of new t.phrase) (atoms + atoms_of t.phrase) l c.rest) t.names_are;
+      given = ap (λ (x : Claim). claimed x c.atoms c.names c.rest) t.claim_is ∙ ap (λ (n : ℕ). claimed (claim_by new t.phrase) n c.names c.rest) t.atoms_are
+          ∙ ap (λ (l : List (List ℕ)). claimed (claim_by new t.phrase) (atoms + atoms_of t.phrase) l c.rest) t.names_are;
     }
 
 pub unit_again : (stop : Stop) (cores opens atoms : ℕ) (names : List (List ℕ)) (ps : List Piece) (ts back : List Term) (p : Phrase)

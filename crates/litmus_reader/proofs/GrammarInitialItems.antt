@@ -12,7 +12,7 @@ use Rattle.litmus_reader.specs.Items.{setting_at}
 use Rattle.litmus_reader.specs.Initial.{Initial, initial, judged, item_in, step_in, items_within, items_at, before_initial, opened_at, initial_at, ends_item}
 use Rattle.litmus_reader.specs.Grammar.{terms}
 use Rattle.litmus_reader.specs.GrammarItems.{IsSetting, sets_register, sets_location, sets_in_squares}
-use Rattle.litmus_reader.specs.GrammarInitial.{IsItem, empty, given, AreItems, last, more, IsInitialState, in_braces, Fits}
+use Rattle.litmus_reader.specs.GrammarInitial.{IsInitialItem, empty, given, AreInitialItems, last, more, IsInitialState, in_braces, Fits}
 use Rattle.litmus_reader.proofs.ItemSteps.{ReadItems, ItemsAfter, items_start, items_end, items_go_on}
 use Rattle.litmus_reader.proofs.GrammarTokens.{chosen, there_is, bind_ok, or_unfit_ok, ok_pair, opened, symbol_takes}
 use Rattle.litmus_reader.proofs.GrammarItems.{setting_found, setting_taken}
@@ -107,7 +107,7 @@ closed part i ps total done back e h =
     opened (λ ps. ItemsAfter part i ps total → Found total done back) ps (symbol CloseCurly) back e (λ p rest is after_it b.
     record { after = i; rest = rest; is = items_end part i (p ∷ rest) rest total (rw is refl) b; parts = after_it; holds = h })
 
-items_found : (ts : List Term) (settings : List Setting) → AreItems ts settings → (part : Part) (i : Initial) (ps : List Piece) (total : ReadItems) (done : List Setting) (back : List Term)
+items_found : (ts : List Term) (settings : List Setting) → AreInitialItems ts settings → (part : Part) (i : Initial) (ps : List Piece) (total : ReadItems) (done : List Setting) (back : List Term)
     → terms ps ≡ ts ++ symbol CloseCurly ∷ back → Holds done i → Fits (done ++ settings) → ItemsAfter part i ps total → Found total (done ++ settings) back
 items_found _ _ (last _ _ empty) part i ps total done back e h fits b =
     subst (λ (l : List Setting). Found total l back) (sym (append-nil done)) (closed part i ps total done back e h b)
@@ -151,7 +151,7 @@ data AtHand (ps : List Piece) : List Term → List Setting → Type 0 where
   before_any : AtHand ps [] []
   after_one : (ts : List Term) (s : Setting) → IsSetting ts s → ends_item ps ≡ true → AtHand ps ts (s ∷ [])
 
-item_at_hand : (ps : List Piece) (ts : List Term) (item : List Setting) → AtHand ps ts item → IsItem ts item
+item_at_hand : (ps : List Piece) (ts : List Term) (item : List Setting) → AtHand ps ts item → IsInitialItem ts item
 item_at_hand ps _ _ before_any = empty
 item_at_hand ps _ _ (after_one ts s is end) = given ts s is
 
@@ -159,7 +159,7 @@ item_at_hand ps _ _ (after_one ts s is end) = given ts s is
 record ItemsTaken (ts : List Term) (item done : List Setting) (ps rest : List Piece) (i : Initial) : Type 0 where
   pub further : List Term
   pub settings : List Setting
-  pub are : AreItems (ts ++ further) (item ++ settings)
+  pub are : AreInitialItems (ts ++ further) (item ++ settings)
   pub parts : terms ps ≡ further ++ symbol CloseCurly ∷ terms rest
   pub holds : Holds (done ++ settings) i
   pub fits : Fits (done ++ settings)
@@ -234,7 +234,7 @@ items_taken (suc n) part i j ps rest ts item done hand h fits e =
           record {
             further = [];
             settings = [];
-            are = last (ts ++ []) (item ++ []) (subst (λ (l : List Term). IsItem l (item ++ [])) (sym (append-nil ts)) (subst (λ (l : List Setting). IsItem ts l) (sym (append-nil item)) (item_at_hand ps ts item hand)));
+            are = last (ts ++ []) (item ++ []) (subst (λ (l : List Term). IsInitialItem l (item ++ [])) (sym (append-nil ts)) (subst (λ (l : List Setting). IsInitialItem ts l) (sym (append-nil item)) (item_at_hand ps ts item hand)));
             parts = symbol_takes CloseCurly ps close.0 close.1 ∙ ap (λ (l : List Piece). symbol CloseCurly ∷ terms l) same.1;
             holds = subst (λ (l : List Setting). Holds l j) (sym (append-nil done)) (subst (Holds done) same.0 h);
             fits = subst Fits (sym (append-nil done)) fits;

@@ -11,7 +11,7 @@ use Rattle.litmus_reader.specs.declared.fault.Why.TheVariants.{TwiceInit}
 use Rattle.litmus_reader.specs.Locations.{located}
 use Rattle.litmus_reader.specs.Items.{or_bad_number, word_at}
 use Rattle.litmus_reader.specs.Initial.{Given, given, Initial, initial, gives, judged}
-use Rattle.litmus_reader.specs.GrammarInitial.{value_of, same_place, each_once, names_in, Fits}
+use Rattle.litmus_reader.specs.GrammarInitial.{given_value, same_place, each_once, names_in, Fits}
 use Rattle.litmus_reader.proofs.Maps.{list_any_map}
 use Rattle.litmus_reader.proofs.GrammarNames.{place_below, place_none}
 use Rattle.litmus_reader.proofs.GrammarTokens.{chosen, ok_is, bind_ok}
@@ -148,14 +148,14 @@ located_is left names x loc e past =
 
 -- ---- judged
 
-values_split : (done rest : List Setting) (s : Setting) → list_all (λ s. ltb (value_of s) (2 ^ 32)) (done ++ s ∷ rest) ≡ true → ltb (value_of s) (2 ^ 32) ≡ true
+values_split : (done rest : List Setting) (s : Setting) → list_all (λ s. ltb (given_value s) (2 ^ 32)) (done ++ s ∷ rest) ≡ true → ltb (given_value s) (2 ^ 32) ≡ true
 values_split done rest s e =
-    let both = and_parts (list_all (λ s. ltb (value_of s) (2 ^ 32)) done) (list_all (λ s. ltb (value_of s) (2 ^ 32)) (s ∷ rest)) (sym (list_all-append (λ s. ltb (value_of s) (2 ^ 32)) done (s ∷ rest)) ∙ e) in
-    (and_parts (ltb (value_of s) (2 ^ 32)) (list_all (λ s. ltb (value_of s) (2 ^ 32)) rest) both.1).0
+    let both = and_parts (list_all (λ s. ltb (given_value s) (2 ^ 32)) done) (list_all (λ s. ltb (given_value s) (2 ^ 32)) (s ∷ rest)) (sym (list_all-append (λ s. ltb (given_value s) (2 ^ 32)) done (s ∷ rest)) ∙ e) in
+    (and_parts (ltb (given_value s) (2 ^ 32)) (list_all (λ s. ltb (given_value s) (2 ^ 32)) rest) both.1).0
 
-pub values_more : (done : List Setting) (s : Setting) → list_all (λ s. ltb (value_of s) (2 ^ 32)) done ≡ true → ltb (value_of s) (2 ^ 32) ≡ true
-    → list_all (λ s. ltb (value_of s) (2 ^ 32)) (done ++ s ∷ []) ≡ true
-values_more done s all one = list_all-append (λ s. ltb (value_of s) (2 ^ 32)) done (s ∷ []) ∙ rw (all, one) refl
+pub values_more : (done : List Setting) (s : Setting) → list_all (λ s. ltb (given_value s) (2 ^ 32)) done ≡ true → ltb (given_value s) (2 ^ 32) ≡ true
+    → list_all (λ s. ltb (given_value s) (2 ^ 32)) (done ++ s ∷ []) ≡ true
+values_more done s all one = list_all-append (λ s. ltb (given_value s) (2 ^ 32)) done (s ∷ []) ∙ rw (all, one) refl
 
 -- the item is taken in
 pub record Judged (left : ℕ) (i : Initial) (done : List Setting) (s : Setting) : Type 0 where

@@ -16,7 +16,7 @@ use Rattle.litmus_reader.specs.Conditions.{claim_in, Claimed, claimed, one_more,
 use Rattle.litmus_reader.specs.Grammar.{terms}
 use Rattle.litmus_reader.specs.GrammarNames.{numbered}
 use Rattle.litmus_reader.specs.GrammarInitial.{names_in, is_allowed}
-use Rattle.litmus_reader.specs.GrammarConditions.{AreJoined, one, more, IsConjunction, IsProposition, settings_in, locations_in, atoms_of, Fits, claim_of, IsWithin}
+use Rattle.litmus_reader.specs.GrammarConditions.{AreJoined, one, more, IsConjunction, IsProposition, settings_in, locations_in, atoms_of, PhraseFits, claim_by, IsWithin}
 use Rattle.litmus_reader.proofs.Keeps.{ok_is as keeps_ok, some_is as keeps_some}
 use Rattle.litmus_reader.proofs.GrammarAfter.{last_further, symbol_leaves}
 use Rattle.litmus_reader.proofs.GrammarLast.{LeavesLast, chain_leaves}
@@ -66,7 +66,7 @@ all_known (either p q) names =
     let one = all_known_more p (locations_in q) (numbered names (locations_in p)) (all_known p names) in
     subst (λ (l : List (List ℕ)). AllKnown l p × AllKnown l q) (sym (numbered_both p q names)) (one, all_known q (numbered names (locations_in p)))
 
-pub stays : (p : Phrase) (xs names : List (List ℕ)) → AllKnown names p → claim_of (numbered names xs) p ≡ claim_of names p
+pub stays : (p : Phrase) (xs names : List (List ℕ)) → AllKnown names p → claim_by (numbered names xs) p ≡ claim_by names p
 stays (truth b) xs names k = refl
 stays (atom (of_register core reg v)) xs names k = refl
 stays (atom (of_location x v)) xs names k = ap (λ (n : ℕ). LocClaim n v) (number_more xs names x k)
@@ -75,7 +75,7 @@ stays (both p q) xs names k = rw (stays p xs names k.0, stays q xs names k.1) re
 stays (either p q) xs names k = rw (stays p xs names k.0, stays q xs names k.1) refl
 
 -- the first claim of two, where the second brought more names
-first_stays : (p : Phrase) (xs names : List (List ℕ)) → claim_of (numbered (numbered names (locations_in p)) xs) p ≡ claim_of (numbered names (locations_in p)) p
+first_stays : (p : Phrase) (xs names : List (List ℕ)) → claim_by (numbered (numbered names (locations_in p)) xs) p ≡ claim_by (numbered names (locations_in p)) p
 first_stays p xs names = stays p xs (numbered names (locations_in p)) (all_known p names)
 
 -- ---- what is found and what is taken
@@ -89,9 +89,9 @@ pub record Taken (cores : ℕ) (Is : List Term → Phrase → Type 0) (atoms : �
   pub phrase : Phrase
   pub is : Is ts phrase
   pub parts : terms ps ≡ ts ++ terms c.rest
-  pub fits : Fits cores phrase
+  pub fits : PhraseFits cores phrase
   pub names_are : c.names ≡ numbered names (locations_in phrase)
-  pub claim_is : c.claim ≡ claim_of (numbered names (locations_in phrase)) phrase
+  pub claim_is : c.claim ≡ claim_by (numbered names (locations_in phrase)) phrase
   pub atoms_are : c.atoms ≡ atoms + atoms_of phrase
   pub few : c.atoms ≤ 256
   pub room : length names ≤ 16 → length (numbered names (locations_in phrase)) ≤ 16
@@ -103,16 +103,16 @@ Takes cores unit Is = (atoms : ℕ) (names : List (List ℕ)) (ps : List Piece) 
 
 -- phrases are joined as their claims are
 pub record Joining (join : Claim → Claim → Claim) (phrases : Phrase → Phrase → Phrase) : Type 0 where
-  pub claims : (names : List (List ℕ)) (p q : Phrase) → claim_of names (phrases p q) ≡ join (claim_of names p) (claim_of names q)
+  pub claims : (names : List (List ℕ)) (p q : Phrase) → claim_by names (phrases p q) ≡ join (claim_by names p) (claim_by names q)
   pub locations : (p q : Phrase) → locations_in (phrases p q) ≡ locations_in p ++ locations_in q
   pub counts : (p q : Phrase) → atoms_of (phrases p q) ≡ atoms_of p + atoms_of q
-  pub fit : (cores : ℕ) (p q : Phrase) → Fits cores p → Fits cores q → Fits cores (phrases p q)
-  pub parts_fit : (cores : ℕ) (p q : Phrase) → Fits cores (phrases p q) → Fits cores p × Fits cores q
+  pub fit : (cores : ℕ) (p q : Phrase) → PhraseFits cores p → PhraseFits cores q → PhraseFits cores (phrases p q)
+  pub parts_fit : (cores : ℕ) (p q : Phrase) → PhraseFits cores (phrases p q) → PhraseFits cores p × PhraseFits cores q
 
-both_fit : (cores : ℕ) (p q : Phrase) → Fits cores p → Fits cores q → list_all (is_allowed cores) (settings_in p ++ settings_in q) ≡ true
+both_fit : (cores : ℕ) (p q : Phrase) → PhraseFits cores p → PhraseFits cores q → list_all (is_allowed cores) (settings_in p ++ settings_in q) ≡ true
 both_fit cores p q f g = list_all-append (is_allowed cores) (settings_in p) (settings_in q) ∙ and_from _ _ f g
 
-each_fits : (cores : ℕ) (p q : Phrase) → list_all (is_allowed cores) (settings_in p ++ settings_in q) ≡ true → Fits cores p × Fits cores q
+each_fits : (cores : ℕ) (p q : Phrase) → list_all (is_allowed cores) (settings_in p ++ settings_in q) ≡ true → PhraseFits cores p × PhraseFits cores q
 each_fits cores p q f = and_parts (list_all (is_allowed cores) (settings_in p)) (list_all (is_allowed cores) (settings_in q)) (sym (list_all-append (is_allowed cores) (settings_in p) (settings_in q)) ∙ f)
 
 pub joining_both : Joining reading.both both
@@ -126,22 +126,22 @@ names_joined : (join : Claim → Claim → Claim) (phrases : Phrase → Phrase �
 names_joined join phrases j names p q = ap (λ (l : List (List ℕ)). numbered names l) (j.locations p q) ∙ numbered_append (locations_in p) (locations_in q) names
 
 claim_joined : (join : Claim → Claim → Claim) (phrases : Phrase → Phrase → Phrase) → Joining join phrases → (names : List (List ℕ)) (p q : Phrase)
-    → claim_of (numbered names (locations_in (phrases p q))) (phrases p q)
-    ≡ join (claim_of (numbered names (locations_in p)) p) (claim_of (numbered (numbered names (locations_in p)) (locations_in q)) q)
+    → claim_by (numbered names (locations_in (phrases p q))) (phrases p q)
+    ≡ join (claim_by (numbered names (locations_in p)) p) (claim_by (numbered (numbered names (locations_in p)) (locations_in q)) q)
 claim_joined join phrases j names p q =
     let new = numbered (numbered names (locations_in p)) (locations_in q) in
-    ap (λ (l : List (List ℕ)). claim_of l (phrases p q)) (names_joined join phrases j names p q) ∙ j.claims new p q
-    ∙ ap (λ (c : Claim). join c (claim_of new q)) (first_stays p (locations_in q) names)
+    ap (λ (l : List (List ℕ)). claim_by l (phrases p q)) (names_joined join phrases j names p q) ∙ j.claims new p q
+    ∙ ap (λ (c : Claim). join c (claim_by new q)) (first_stays p (locations_in q) names)
 
 given_joined : (join : Claim → Claim → Claim) (phrases : Phrase → Phrase → Phrase) → Joining join phrases → (atoms : ℕ) (names : List (List ℕ)) (p q : Phrase) (rest : List Piece)
     → given_by atoms names (phrases p q) rest
-    ≡ joined_to join (claim_of (numbered names (locations_in p)) p) (given_by (atoms + atoms_of p) (numbered names (locations_in p)) q rest)
+    ≡ joined_to join (claim_by (numbered names (locations_in p)) p) (given_by (atoms + atoms_of p) (numbered names (locations_in p)) q rest)
 given_joined join phrases j atoms names p q rest =
     let counted : atoms + atoms_of (phrases p q) ≡ atoms + atoms_of p + atoms_of q = omega (arith, j.counts p q) in
     let whole = numbered names (locations_in (phrases p q)) in
     ap (λ (c : Claim). claimed c (atoms + atoms_of (phrases p q)) whole rest) (claim_joined join phrases j names p q)
-    ∙ ap (λ (n : ℕ). claimed (join (claim_of (numbered names (locations_in p)) p) (claim_of (numbered (numbered names (locations_in p)) (locations_in q)) q)) n whole rest) counted
-    ∙ ap (λ (l : List (List ℕ)). claimed (join (claim_of (numbered names (locations_in p)) p) (claim_of (numbered (numbered names (locations_in p)) (locations_in q)) q)) (atoms + atoms_of p + atoms_of q) l rest)
+    ∙ ap (λ (n : ℕ). claimed (join (claim_by (numbered names (locations_in p)) p) (claim_by (numbered (numbered names (locations_in p)) (locations_in q)) q)) n whole rest) counted
+    ∙ ap (λ (l : List (List ℕ)). claimed (join (claim_by (numbered names (locations_in p)) p) (claim_by (numbered (numbered names (locations_in p)) (locations_in q)) q)) (atoms + atoms_of p + atoms_of q) l rest)
     (names_joined join phrases j names p q)
 
 -- ---- taken
@@ -162,7 +162,7 @@ joined_taken s join phrases IsPart j cores atoms names ps after c right a at r =
       fits = j.fit cores p q a.fits r.fits;
       names_are = r.names_are ∙ grown ∙ sym (names_joined join phrases j names p q);
       claim_is = ap (λ (x : Claim). join x right.claim) a.claim_is
-          ∙ ap (λ (x : Claim). join (claim_of first p) x) (r.claim_is ∙ ap (λ (l : List (List ℕ)). claim_of l q) grown) ∙ sym (claim_joined join phrases j names p q);
+          ∙ ap (λ (x : Claim). join (claim_by first p) x) (r.claim_is ∙ ap (λ (l : List (List ℕ)). claim_by l q) grown) ∙ sym (claim_joined join phrases j names p q);
       atoms_are = omega (arith, r.atoms_are, a.atoms_are, j.counts p q);
       few = r.few;
       room = λ le.

@@ -12,8 +12,8 @@ use Rattle.litmus_reader.specs.declared.fault.Fault.{Fault}
 use Rattle.litmus_reader.specs.Grammar.{terms}
 use Rattle.litmus_reader.specs.GrammarNames.{numbered}
 use Rattle.litmus_reader.specs.GrammarItems.{IsSetting}
-use Rattle.litmus_reader.specs.GrammarInitial.{value_of, has_core}
-use Rattle.litmus_reader.specs.GrammarConditions.{IsAtom, AreJoined, IsConjunction, IsProposition, IsUnit, locations_in, atoms_of, Fits, IsWithin, is_negation}
+use Rattle.litmus_reader.specs.GrammarInitial.{given_value, has_core}
+use Rattle.litmus_reader.specs.GrammarConditions.{IsAtom, AreJoined, IsConjunction, IsProposition, IsUnit, locations_in, atoms_of, PhraseFits, IsWithin, is_negation}
 use Rattle.litmus_reader.specs.Misfits.{Misfits, begins_with}
 use Rattle.litmus_reader.specs.Places.{fault, left_of, unfit, part_of}
 use Rattle.litmus_reader.specs.Written.{Setting, Phrase, both, either}
@@ -26,10 +26,10 @@ pub data IsAtomFault (stop : Stop) (cores atoms : ℕ) (names : List (List ℕ))
       → IsAtomFault stop cores atoms names ps (unfit (part_of BadCondition stop) at)
   -- as the last token is there, at the first
   no_such_core : (ts back : List Term) (s : Setting) → IsSetting ts s → terms ps ≡ ts ++ back → IsFalse (has_core cores s) → IsAtomFault stop cores atoms names ps (fault NoSuchCore (left_of ps))
-  bad_number : (ts back : List Term) (s : Setting) → IsSetting ts s → terms ps ≡ ts ++ back → IsTrue (has_core cores s) → 2 ^ 32 ≤ value_of s
+  bad_number : (ts back : List Term) (s : Setting) → IsSetting ts s → terms ps ≡ ts ++ back → IsTrue (has_core cores s) → 2 ^ 32 ≤ given_value s
       → IsAtomFault stop cores atoms names ps (fault BadNumber (left_of ps))
   -- else one location or one atom too many
-  one_too_many : (ts back : List Term) (p : Phrase) → IsAtom ts p → terms ps ≡ ts ++ back → Fits cores p → ¬ (IsWithin cores atoms names p)
+  one_too_many : (ts back : List Term) (p : Phrase) → IsAtom ts p → terms ps ≡ ts ++ back → PhraseFits cores p → ¬ (IsWithin cores atoms names p)
       → IsAtomFault stop cores atoms names ps (fault TooLarge (left_of ps))
 
 -- ---- propositions

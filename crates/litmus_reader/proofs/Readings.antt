@@ -13,7 +13,7 @@ use Rattle.litmus_reader.specs.Conditions.{Claimed, claimed, Proposition, Condit
 use Rattle.tso_model.specs.declared.condition.Quantifier.{Quantifier}
 use Rattle.litmus_reader.specs.GrammarTable.{AreRows, ends_rows, ends_rows_term}
 use Rattle.litmus_reader.proofs.Placed.{Placed, placed_in, instrs_with, locations_of, EntriesWithin}
-use Rattle.litmus_reader.specs.GrammarConditions.{IsCondition, IsWithin, locations_in, atoms_of, claim_of}
+use Rattle.litmus_reader.specs.GrammarConditions.{IsCondition, IsWithin, locations_in, atoms_of, claim_by}
 use Rattle.litmus_reader.specs.GrammarInitial.{has_cores, names_in, first_words, first_registers}
 use Rattle.litmus_reader.specs.Written.{Setting, Shape, Phrase}
 use Rattle.litmus_reader.specs.RefusedTable.{cells_of}
@@ -94,7 +94,7 @@ pub record SpellsRows (cores : ℕ) (names : List (List ℕ)) (ps : List Piece) 
 
 -- what is read of a phrase, where this stands after it
 abbrev pub given_by : ℕ → List (List ℕ) → Phrase → List Piece → Claimed
-given_by atoms names p rest = claimed (claim_of (numbered names (locations_in p)) p) (atoms + atoms_of p) (numbered names (locations_in p)) rest
+given_by atoms names p rest = claimed (claim_by (numbered names (locations_in p)) p) (atoms + atoms_of p) (numbered names (locations_in p)) rest
 
 -- a reading gives this phrase, and leaves these tokens
 pub record ReadsPhrase (reading : Proposition) (atoms : ℕ) (names : List (List ℕ)) (p : Phrase) (back : List Term) (ps : List Piece) : Type 0 where

@@ -17,8 +17,8 @@ use Rattle.litmus_reader.specs.Items.{setting_at}
 use Rattle.litmus_reader.specs.Conditions.{claim_in, one_more, truth_at, truth_atom, setting_atom, atom_at, in_condition}
 use Rattle.litmus_reader.specs.Grammar.{terms}
 use Rattle.litmus_reader.specs.GrammarNames.{numbered, number_of, with_name, location}
-use Rattle.litmus_reader.specs.GrammarInitial.{value_of, has_core}
-use Rattle.litmus_reader.specs.GrammarConditions.{IsAtom, says_true, says_false, says_setting, Fits, IsWithin}
+use Rattle.litmus_reader.specs.GrammarInitial.{given_value, has_core}
+use Rattle.litmus_reader.specs.GrammarConditions.{IsAtom, says_true, says_false, says_setting, PhraseFits, IsWithin}
 use Rattle.litmus_reader.specs.Misfits.{begins_with, is_word}
 use Rattle.litmus_reader.proofs.Levels.{IsAtomFault, unfit_token, no_such_core, bad_number, one_too_many}
 use Rattle.litmus_reader.proofs.GrammarTokens.{chosen, there_is, some_is, opened}
@@ -81,7 +81,7 @@ unfolding claim_in
 missing_core cores left names (of_register digits reg v) lacks = rw lacks refl
 missing_core cores left names (of_location x v) lacks = absurd cc
 
-long_number : (cores left : ℕ) (names : List (List ℕ)) (s : Setting) → has_core cores s ≡ true → 2 ^ 32 ≤ value_of s → claim_in cores left names s ≡ Err (fault BadNumber left)
+long_number : (cores left : ℕ) (names : List (List ℕ)) (s : Setting) → has_core cores s ≡ true → 2 ^ 32 ≤ given_value s → claim_in cores left names s ≡ Err (fault BadNumber left)
 unfolding claim_in
 long_number cores left names (of_register digits reg v) has big = let past : ltb v (2 ^ 32) ≡ false = le-ltb _ _ big in rw (has, past) refl
 long_number cores left names (of_location x v) has big = let past : ltb v (2 ^ 32) ≡ false = le-ltb _ _ big in rw past refl
@@ -141,7 +141,7 @@ truth_there word t back ps is e (inl so) =
 truth_there word t back ps is e (inr so) =
     opened (λ ps. (rest : List Piece) × (truth_at ps ≡ Some (t, rest))) ps (name word) back e (λ p rest here after_it. (rest, rw (here, so.0, so.1) refl))
 
-many_refused : (stop : Stop) (cores atoms : ℕ) (names : List (List ℕ)) (ps : List Piece) (ts back : List Term) (p : Phrase) → length names ≤ 16 → IsAtom ts p → terms ps ≡ ts ++ back → Fits cores p → ¬ (IsWithin cores atoms names p)
+many_refused : (stop : Stop) (cores atoms : ℕ) (names : List (List ℕ)) (ps : List Piece) (ts back : List Term) (p : Phrase) → length names ≤ 16 → IsAtom ts p → terms ps ≡ ts ++ back → PhraseFits cores p → ¬ (IsWithin cores atoms names p)
     → atom_at stop cores atoms names ps ≡ Err (fault TooLarge (left_of ps))
 many_refused stop cores atoms names ps _ back _ few says_true e fits past =
     let t = truth_there (codes "true") true back ps says_true e (inl (refl, refl)) in truth_refuses stop cores atoms names ps (true, t.0) few t.1 past
@@ -176,7 +176,7 @@ atom_refuses stop cores atoms names ps _ few (one_too_many ts back p is e fits p
 
 -- ---- refused
 
-setting_fits : (cores : ℕ) (s : Setting) → has_core cores s ≡ true → ltb (value_of s) (2 ^ 32) ≡ true → SettingFits cores s
+setting_fits : (cores : ℕ) (s : Setting) → has_core cores s ≡ true → ltb (given_value s) (2 ^ 32) ≡ true → SettingFits cores s
 setting_fits cores (of_register digits reg v) has small = (ltb-true _ _ has, ltb-true _ _ small)
 setting_fits cores (of_location x v) has small = ltb-true _ _ small
 
@@ -190,7 +190,7 @@ atom_refused stop cores atoms names ps f few e = by_way (truth_at ps) refl
     past : (ts back : List Term) (p : Phrase) → IsAtom ts p → terms ps ≡ ts ++ back → ¬ (IsWithin cores atoms names p)
     past ts back p is parts within = let found = atom_found stop cores ts p is atoms names within back tt ps parts in let never = sym found.is ∙ e in cc
 
-    by_value : (s : Setting) (rest : List Piece) → setting_at (in_condition stop) ps ≡ Ok (s, rest) → has_core cores s ≡ true → (b : Bool) → ltb (value_of s) (2 ^ 32) ≡ b → IsAtomFault stop cores atoms names ps f
+    by_value : (s : Setting) (rest : List Piece) → setting_at (in_condition stop) ps ≡ Ok (s, rest) → has_core cores s ≡ true → (b : Bool) → ltb (given_value s) (2 ^ 32) ≡ b → IsAtomFault stop cores atoms names ps f
     by_value s rest read has false big = let t = setting_taken (in_condition stop) ps rest s read in here (fault BadNumber (left_of ps)) (bad_number t.ts (terms rest) s t.is t.parts has (ltb-false _ _ big))
     by_value s rest read has true small =
         let t = setting_taken (in_condition stop) ps rest s read in
@@ -198,7 +198,7 @@ atom_refused stop cores atoms names ps f few e = by_way (truth_at ps) refl
         here (fault TooLarge (left_of ps)) (one_too_many t.ts (terms rest) (atom s) is t.parts (atom_fits cores s (setting_fits cores s has small)) (past t.ts (terms rest) (atom s) is t.parts))
 
     by_core : (s : Setting) (rest : List Piece) → setting_at (in_condition stop) ps ≡ Ok (s, rest) → (b : Bool) → has_core cores s ≡ b → IsAtomFault stop cores atoms names ps f
-    by_core s rest read true has = by_value s rest read has (ltb (value_of s) (2 ^ 32)) refl
+    by_core s rest read true has = by_value s rest read has (ltb (given_value s) (2 ^ 32)) refl
     by_core s rest read false lacks = let t = setting_taken (in_condition stop) ps rest s read in here (fault NoSuchCore (left_of ps)) (no_such_core t.ts (terms rest) s t.is t.parts lacks)
 
     by_read : truth_at ps ≡ None → (r : Result (Setting × List Piece) Fault) → setting_at (in_condition stop) ps ≡ r → Follows (in_condition stop) [] (misfit (setting_slots ps []) ps) r → IsAtomFault stop cores atoms names ps f

@@ -20,7 +20,7 @@ use Rattle.litmus_reader.specs.Items.{setting_at}
 use Rattle.litmus_reader.specs.Initial.{Initial, initial, gives, judged, item_in, step_in, items_at, initial_at, ends_item}
 use Rattle.litmus_reader.specs.Grammar.{terms}
 use Rattle.litmus_reader.specs.GrammarItems.{IsSetting}
-use Rattle.litmus_reader.specs.GrammarInitial.{empty, given, Fits, value_of, same_place, names_in}
+use Rattle.litmus_reader.specs.GrammarInitial.{empty, given, Fits, given_value, same_place, names_in}
 use Rattle.litmus_reader.specs.Misfits.{ends_setting}
 use Rattle.litmus_reader.specs.RefusedInitial.{AreEnded, none as no_items, more, IsSettingFault, bad_number, one_too_many, twice, IsItemFault, unfit_token, judged as at_fault, IsInitialFault, in_item}
 use Rattle.litmus_reader.proofs.Keeps.{ok_is as keeps_ok}
@@ -72,9 +72,9 @@ judged_refuses left i done _ _ (twice (of_location x v) small here) h fits =
 
 -- a setting after others that fit is at fault, or fits too
 setting_decided : (done : List Setting) (s : Setting) → Fits done → ((why : Why) × IsSettingFault done s why) ⊎ Fits (done ++ s ∷ [])
-setting_decided done s fits = by_size (ltb (value_of s) (2 ^ 32)) refl
+setting_decided done s fits = by_size (ltb (given_value s) (2 ^ 32)) refl
   where
-    by_room : (s : Setting) → ltb (value_of s) (2 ^ 32) ≡ true → list_any (same_place s) done ≡ false → (b : Bool) → ltb (length (names_in done)) 16 ≡ b → ((why : Why) × IsSettingFault done s why) ⊎ Fits (done ++ s ∷ [])
+    by_room : (s : Setting) → ltb (given_value s) (2 ^ 32) ≡ true → list_any (same_place s) done ≡ false → (b : Bool) → ltb (length (names_in done)) 16 ≡ b → ((why : Why) × IsSettingFault done s why) ⊎ Fits (done ++ s ∷ [])
     by_room (of_register core reg v) small new b room = inr (record {
       once = once_more done (of_register core reg v) fits.once new;
       values = values_more done (of_register core reg v) fits.values small;
@@ -88,11 +88,11 @@ setting_decided done s fits = by_size (ltb (value_of s) (2 ^ 32)) refl
         })
     by_room (of_location x v) small new false room = inl (TooLarge, one_too_many x v (ltb-true _ _ small) new (ltb-false _ _ room))
 
-    by_place : ltb (value_of s) (2 ^ 32) ≡ true → (b : Bool) → list_any (same_place s) done ≡ b → ((why : Why) × IsSettingFault done s why) ⊎ Fits (done ++ s ∷ [])
+    by_place : ltb (given_value s) (2 ^ 32) ≡ true → (b : Bool) → list_any (same_place s) done ≡ b → ((why : Why) × IsSettingFault done s why) ⊎ Fits (done ++ s ∷ [])
     by_place small true here = inl (TwiceInit, twice s (ltb-true _ _ small) here)
     by_place small false new = by_room s small new (ltb (length (names_in done)) 16) refl
 
-    by_size : (b : Bool) → ltb (value_of s) (2 ^ 32) ≡ b → ((why : Why) × IsSettingFault done s why) ⊎ Fits (done ++ s ∷ [])
+    by_size : (b : Bool) → ltb (given_value s) (2 ^ 32) ≡ b → ((why : Why) × IsSettingFault done s why) ⊎ Fits (done ++ s ∷ [])
     by_size true small = by_place small (list_any (same_place s) done) refl
     by_size false big = inl (BadNumber, bad_number s (ltb-false _ _ big))
 

@@ -11,7 +11,7 @@ use Rattle.tso_model.specs.declared.register.Reg.TheVariants.{Eax, Ebx, Ecx, Edx
 use Rattle.tso_model.specs.declared.instruction.Instr.{Instr}
 use Rattle.decimals.specs.Decimals.{decimal_value}
 use Rattle.litmus_reader.specs.Written.{Written, Setting, of_register, of_location, Shape, store_imm, store_reg, load, set_imm, set_reg, fence, xchg, xadd}
-use Rattle.litmus_reader.specs.GrammarInitial.{value_of, first_registers_of}
+use Rattle.litmus_reader.specs.GrammarInitial.{given_value, first_registers_of}
 use Rattle.litmus_reader.proofs.GrammarInitialSaid.{first_word, first_register}
 use Rattle.litmus_reader.specs.GrammarTable.{in_field, in_rows, column, instr_with, ValueFits}
 use Rattle.litmus_reader.specs.GrammarTest.{test_written, KeepsLimits, located}
@@ -19,7 +19,7 @@ use Rattle.litmus_reader.specs.Spelling.{SpellsTest}
 use Rattle.litmus_reader.proofs.Columnwise.{in_row, program, field_of, field-there}
 
 abbrev ValuesAreWords : List Setting → Type 0
-ValuesAreWords settings = IsTrue (list_all (λ s. ltb (value_of s) (2 ^ 32)) settings)
+ValuesAreWords settings = IsTrue (list_all (λ s. ltb (given_value s) (2 ^ 32)) settings)
 
 either : (b : Bool) (v w : ℕ) → IsWord v → IsWord w → IsWord (cond b v w)
 either true v w h k = h
@@ -28,18 +28,18 @@ either false v w h k = k
 first_word-word : (x : List ℕ) (otherwise : ℕ) (settings : List Setting) → IsWord otherwise → ValuesAreWords settings → IsWord (first_word x otherwise settings)
 first_word-word x otherwise [] h all = h
 first_word-word x otherwise (of_register core reg v ∷ rest) h all =
-    first_word-word x otherwise rest h (and_parts (ltb v (2 ^ 32)) (list_all (λ s. ltb (value_of s) (2 ^ 32)) rest) all).1
+    first_word-word x otherwise rest h (and_parts (ltb v (2 ^ 32)) (list_all (λ s. ltb (given_value s) (2 ^ 32)) rest) all).1
 first_word-word x otherwise (of_location y v ∷ rest) h all =
-    let parts = and_parts (ltb v (2 ^ 32)) (list_all (λ s. ltb (value_of s) (2 ^ 32)) rest) all in
+    let parts = and_parts (ltb v (2 ^ 32)) (list_all (λ s. ltb (given_value s) (2 ^ 32)) rest) all in
     first_word-word x (cond (bytes_eq x y) v otherwise) rest (either (bytes_eq x y) v otherwise (ltb-true _ _ parts.0) h) parts.1
 
 first_register-word : (core : ℕ) (reg : Reg) (otherwise : ℕ) (settings : List Setting) → IsWord otherwise → ValuesAreWords settings → IsWord (first_register core reg otherwise settings)
 first_register-word core reg otherwise [] h all = h
 first_register-word core reg otherwise (of_register c r v ∷ rest) h all =
-    let parts = and_parts (ltb v (2 ^ 32)) (list_all (λ s. ltb (value_of s) (2 ^ 32)) rest) all in
+    let parts = and_parts (ltb v (2 ^ 32)) (list_all (λ s. ltb (given_value s) (2 ^ 32)) rest) all in
     first_register-word core reg (cond ((decimal_value c == core) && (index_of r == index_of reg)) v otherwise) rest (either ((decimal_value c == core) && (index_of r == index_of reg)) v otherwise (ltb-true _ _ parts.0) h) parts.1
 first_register-word core reg otherwise (of_location y v ∷ rest) h all =
-    first_register-word core reg otherwise rest h (and_parts (ltb v (2 ^ 32)) (list_all (λ s. ltb (value_of s) (2 ^ 32)) rest) all).1
+    first_register-word core reg otherwise rest h (and_parts (ltb v (2 ^ 32)) (list_all (λ s. ltb (given_value s) (2 ^ 32)) rest) all).1
 
 first_registers-words : (settings : List Setting) (core : ℕ) → ValuesAreWords settings → AreRegisters (first_registers_of settings core)
 first_registers-words settings core all = record {

@@ -1,4 +1,4 @@
--- The header row: `P0`, `P1`, .. separated by vertical bars and ended by `;`. (This project's profile.)
+-- The header row: `P0`, `P1`, .. separated by vertical bars and ended by `;`.
 use Rattle.std.specs.Prelude.{ℕ, zero, suc, ◌+◌, Bool, true, false, List, Option, Some, None, Result, Ok, Err, if◌then◌else◌}
 use Rattle.std.specs.Str.{bytes_eq}
 use Rattle.litmus_tokens.specs.declared.token.Stop.{Stop}

@@ -1,4 +1,4 @@
--- The condition. (This project's profile.)
+-- The condition.
 use Rattle.std.specs.Prelude.{ℕ, zero, suc, ◌+◌, Bool, true, false, List, length, codes, Option}
 use Rattle.std.specs.Prelude.{Some, None, Result, Ok, Err, nat_lt, is_some, ◌||◌, if◌then◌else◌}
 use Rattle.tso_model.specs.Condition.{Claim, TruthClaim, RegClaim, LocClaim, NotClaim, AndClaim, OrClaim, Condition}

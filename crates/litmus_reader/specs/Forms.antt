@@ -1,4 +1,4 @@
--- The instructions as they are spelled in cells. (This project's profile.)
+-- The instructions as they are spelled in cells.
 use Rattle.std.specs.Prelude.{ℕ, List, [], ◌∷◌, codes, Option, Some, None, if◌then◌else◌}
 use Rattle.tso_model.specs.Registers.{same_letters}
 use Rattle.decimals.specs.Decimals.{decimal_value}

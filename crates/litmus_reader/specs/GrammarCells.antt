@@ -1,4 +1,4 @@
--- Which tokens spell which instruction in a cell. (This project's profile.)
+-- Which tokens spell which instruction in a cell.
 use Rattle.std.specs.Prelude.{◌≡◌, ℕ, List, [], ◌∷◌, ◌++◌, codes, Some, IsTrue}
 use Rattle.tso_model.specs.Names.{is_location_name}
 use Rattle.tso_model.specs.Registers.{register_named, same_letters}

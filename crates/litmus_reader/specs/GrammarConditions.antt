@@ -1,4 +1,4 @@
--- Which tokens spell which proposition. (This project's profile.)
+-- Which tokens spell which proposition.
 use Rattle.std.specs.Prelude.{◌≤◌, ℕ, zero, suc, ◌+◌, true, false, List, [], ◌∷◌, ◌++◌, length, codes, IsTrue, Bool, ◌||◌}
 use Rattle.std.specs.List.{list_all}
 use Rattle.tso_model.specs.Condition.{Claim, TruthClaim, RegClaim, LocClaim, NotClaim, AndClaim, OrClaim}
@@ -78,21 +78,21 @@ atoms_of (both p q) = atoms_of p + atoms_of q
 atoms_of (either p q) = atoms_of p + atoms_of q
 
 -- each core is one of so many, and a word has room for each number
-abbrev pub Fits : ℕ → Phrase → Type 0
-Fits cores p = IsTrue (list_all (is_allowed cores) (settings_in p))
+abbrev pub PhraseFits : ℕ → Phrase → Type 0
+PhraseFits cores p = IsTrue (list_all (is_allowed cores) (settings_in p))
 
 -- what it claims, where these are the names of the locations by their numbers
-abbrev pub claim_of : List (List ℕ) → Phrase → Claim
-claim_of names (truth b) = TruthClaim b
-claim_of names (atom (of_register core reg v)) = RegClaim (decimal_value core) reg v
-claim_of names (atom (of_location x v)) = LocClaim (number_of names x) v
-claim_of names (negation p) = NotClaim (claim_of names p)
-claim_of names (both p q) = AndClaim (claim_of names p) (claim_of names q)
-claim_of names (either p q) = OrClaim (claim_of names p) (claim_of names q)
+abbrev pub claim_by : List (List ℕ) → Phrase → Claim
+claim_by names (truth b) = TruthClaim b
+claim_by names (atom (of_register core reg v)) = RegClaim (decimal_value core) reg v
+claim_by names (atom (of_location x v)) = LocClaim (number_of names x) v
+claim_by names (negation p) = NotClaim (claim_by names p)
+claim_by names (both p q) = AndClaim (claim_by names p) (claim_by names q)
+claim_by names (either p q) = OrClaim (claim_by names p) (claim_by names q)
 
 -- after so many atoms, and after what named these locations, a phrase is within the limits of a test with so many cores
 pub record IsWithin (cores atoms : ℕ) (names : List (List ℕ)) (p : Phrase) : Type 0 where
-  pub fits : Fits cores p
+  pub fits : PhraseFits cores p
   pub few : atoms + atoms_of p ≤ most_atoms
   pub room : length (numbered names (locations_in p)) ≤ most_locations
 

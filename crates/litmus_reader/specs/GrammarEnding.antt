@@ -1,5 +1,5 @@
 -- Which tokens and bytes spell what stands after the rows: perhaps `locations [..]`, which has no effect, and perhaps a
--- condition, up to the end of the text. (This project's profile.)
+-- condition, up to the end of the text.
 use Rattle.std.specs.Prelude.{◌≡◌, ◌≤◌, ℕ, List, [], ◌∷◌, length, codes, Option, Some, None}
 use Rattle.tso_model.specs.Condition.{Condition}
 use Rattle.tso_model.specs.declared.condition.Quantifier.{Quantifier}
@@ -10,7 +10,7 @@ use Rattle.litmus_tokens.specs.declared.token.Symbol.TheVariants.{OpenSquare}
 use Rattle.litmus_tokens.specs.Terms.{Term, name, symbol}
 use Rattle.litmus_tokens.specs.Pieces.{Piece, pieces_of}
 use Rattle.litmus_reader.specs.Grammar.{terms}
-use Rattle.litmus_reader.specs.GrammarConditions.{IsCondition, IsWithin, locations_in, claim_of}
+use Rattle.litmus_reader.specs.GrammarConditions.{IsCondition, IsWithin, locations_in, claim_by}
 use Rattle.litmus_reader.specs.GrammarText.{ClosesBrackets}
 use Rattle.litmus_reader.specs.Places.{from_place}
 use Rattle.litmus_reader.specs.Written.{Phrase, Asked}
@@ -41,7 +41,7 @@ names_asked (Some c) = locations_in c.phrase
 -- the condition, where these are the names of the locations by their numbers
 abbrev pub condition_of : List (List ℕ) → Option Asked → Option Condition
 condition_of xs None = None
-condition_of xs (Some c) = Some (record { quantifier = c.quantifier; claim = claim_of xs c.phrase })
+condition_of xs (Some c) = Some (record { quantifier = c.quantifier; claim = claim_by xs c.phrase })
 
 -- after what named these locations, it is within the limits of a test with so many cores
 abbrev pub IsAskedWithin : ℕ → List (List ℕ) → Option Asked → Type 0

@@ -1,4 +1,4 @@
--- Which tokens spell which initial state, and what it says of a test. (This project's profile.)
+-- Which tokens spell which initial state, and what it says of a test.
 use Rattle.std.specs.Prelude.{ℕ, ◌^◌, ◌≤◌, Bool, true, false, not, List, [], ◌∷◌, ◌++◌, length, map}
 use Rattle.std.specs.Prelude.{nat_lt, IsTrue, ◌==◌, ◌&&◌, if◌then◌else◌}
 use Rattle.std.specs.List.{list_any, list_all, range_with_len}
@@ -16,26 +16,26 @@ use Rattle.litmus_reader.specs.Written.{Setting, of_register, of_location}
 -- ---- what is spelled
 
 -- an item, which may be empty
-pub data IsItem : List Term → List Setting → Type 0 where
-  empty : IsItem [] []
-  given : (ts : List Term) (setting : Setting) → IsSetting ts setting → IsItem ts (setting ∷ [])
+pub data IsInitialItem : List Term → List Setting → Type 0 where
+  empty : IsInitialItem [] []
+  given : (ts : List Term) (setting : Setting) → IsSetting ts setting → IsInitialItem ts (setting ∷ [])
 
 -- items separated by `;`
-pub data AreItems : List Term → List Setting → Type 0 where
-  last : (ts : List Term) (item : List Setting) → IsItem ts item → AreItems ts item
-  more : (ts others : List Term) (item settings : List Setting) → IsItem ts item
-      → AreItems others settings → AreItems (ts ++ symbol Semicolon ∷ others) (item ++ settings)
+pub data AreInitialItems : List Term → List Setting → Type 0 where
+  last : (ts : List Term) (item : List Setting) → IsInitialItem ts item → AreInitialItems ts item
+  more : (ts others : List Term) (item settings : List Setting) → IsInitialItem ts item
+      → AreInitialItems others settings → AreInitialItems (ts ++ symbol Semicolon ∷ others) (item ++ settings)
 
 -- `{`, items, `}`
 pub data IsInitialState : List Term → List Setting → Type 0 where
-  in_braces : (ts : List Term) (settings : List Setting) → AreItems ts settings
+  in_braces : (ts : List Term) (settings : List Setting) → AreInitialItems ts settings
       → IsInitialState (symbol OpenCurly ∷ ts ++ symbol CloseCurly ∷ []) settings
 
 -- ---- what fits
 
-abbrev pub value_of : Setting → ℕ
-value_of (of_register core reg value) = value
-value_of (of_location x value) = value
+abbrev pub given_value : Setting → ℕ
+given_value (of_register core reg value) = value
+given_value (of_location x value) = value
 
 -- whether two settings are of the same location, or of the same register of the same core (equal numbers have equal digits)
 abbrev pub same_place : Setting → Setting → Bool
@@ -57,7 +57,7 @@ names_in (of_location x v ∷ rest) = x ∷ names_in rest
 -- nothing is given twice, a word has room for each value, and there are not too many locations
 pub record Fits (settings : List Setting) : Type 0 where
   pub once : IsTrue (each_once settings)
-  pub values : IsTrue (list_all (λ s. nat_lt (value_of s) (2 ^ 32)) settings)
+  pub values : IsTrue (list_all (λ s. nat_lt (given_value s) (2 ^ 32)) settings)
   pub few : length (names_in settings) ≤ most_locations
 
 abbrev pub has_core : ℕ → Setting → Bool
@@ -66,7 +66,7 @@ has_core cores (of_location x v) = true
 
 -- its core is one of so many, and a word has room for its value
 abbrev pub is_allowed : ℕ → Setting → Bool
-is_allowed cores s = has_core cores s && nat_lt (value_of s) (2 ^ 32)
+is_allowed cores s = has_core cores s && nat_lt (given_value s) (2 ^ 32)
 
 -- each core that a register is given of is one of the test's
 abbrev pub has_cores : ℕ → List Setting → Bool
@@ -77,7 +77,7 @@ has_cores cores settings = list_all (has_core cores) settings
 -- the value that is given by a setting for which this holds, and `otherwise` where there is none
 abbrev pub value_in : (Setting → Bool) → ℕ → List Setting → ℕ
 value_in is otherwise [] = otherwise
-value_in is otherwise (s ∷ rest) = value_in is (if is s then value_of s else otherwise) rest
+value_in is otherwise (s ∷ rest) = value_in is (if is s then given_value s else otherwise) rest
 
 -- whether a setting is of this register of this core
 abbrev pub names_register : ℕ → Reg → Setting → Bool

@@ -1,4 +1,4 @@
--- The numbering of locations: by first appearance. (This project's profile.)
+-- The numbering of locations: by first appearance.
 use Rattle.std.specs.Prelude.{ℕ, List, [], ◌∷◌, ◌++◌, if◌then◌else◌}
 use Rattle.std.specs.List.{position_or_len, list_any}
 use Rattle.std.specs.Str.{bytes_eq}

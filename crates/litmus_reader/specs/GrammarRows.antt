@@ -1,4 +1,4 @@
--- Which tokens spell which row of the table. (This project's profile.)
+-- Which tokens spell which row of the table.
 use Rattle.std.specs.Prelude.{◌≡◌, ℕ, List, [], ◌∷◌, ◌++◌, length, Option, Some, None}
 use Rattle.litmus_tokens.specs.declared.token.Symbol.TheVariants.{Semicolon, Bar}
 use Rattle.litmus_tokens.specs.Terms.{Term, symbol}

@@ -1,4 +1,4 @@
--- Which text spells which test. (This project's profile.)
+-- Which text spells which test.
 use Rattle.std.specs.Prelude.{◌≤◌, ℕ, List, [], length, IsTrue, map}
 use Rattle.std.specs.List.{range_with_len}
 use Rattle.tso_model.specs.Litmus.{Litmus}

@@ -1,5 +1,5 @@
 -- Which bytes spell a header line, information lines, and the brackets of `locations [..]`. White space and comments,
--- and that they end, are the lexical layer's. (This project's profile.)
+-- and that they end, are the lexical layer's.
 use Rattle.std.specs.Prelude.{◌≡◌, ℕ, Bool, List, [], ◌∷◌, ◌++◌, codes, None, Ok, IsTrue, IsFalse}
 use Rattle.std.specs.Prelude.{◌==◌, not, ◌-◌, false, length, take, drop, nat_eq, Option, Some, ◌&&◌}
 use Rattle.std.specs.Prelude.{◌||◌, if◌then◌else◌}

@@ -1,4 +1,4 @@
--- Information lines, between the header line and the initial state. (This project's profile.)
+-- Information lines, between the header line and the initial state.
 use Rattle.std.specs.Prelude.{ℕ, zero, suc, Bool, false, List, [], ◌∷◌, length, drop, Option, Some}
 use Rattle.std.specs.Prelude.{None, Result, Ok, Err, ◌==◌, if◌then◌else◌}
 use Rattle.std.specs.List.{prefix_len}

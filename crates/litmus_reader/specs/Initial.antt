@@ -1,4 +1,4 @@
--- The initial state. (This project's profile.)
+-- The initial state.
 use Rattle.std.specs.Prelude.{ℕ, ◌≡◌, map, ◌-◌, zero, suc, Bool, List, [], ◌∷◌, ◌++◌, length}
 use Rattle.std.specs.Prelude.{replicate, Result, Ok, Err, nat_lt, slice_index_or, slice_set, ◌==◌}
 use Rattle.std.specs.Prelude.{◌&&◌, if◌then◌else◌, false, ◌||◌}

@@ -1,4 +1,4 @@
--- `c:REG=v`, `x=v` and `[x]=v`, as they stand in the initial state and in conditions. (This project's profile.)
+-- `c:REG=v`, `x=v` and `[x]=v`, as they stand in the initial state and in conditions.
 use Rattle.std.specs.Prelude.{ℕ, List, Option, Some, None, Result, Ok, Err, nat_lt, if◌then◌else◌}
 use Rattle.tso_model.specs.Names.{is_location_name}
 use Rattle.tso_model.specs.Registers.{register_named}

@@ -1,4 +1,4 @@
--- Words of the grammar. (This project's profile.)
+-- Words of the grammar.
 use Rattle.std.specs.Prelude.{ℕ, List, Option, Some, None, if◌then◌else◌}
 use Rattle.std.specs.Str.{bytes_eq}
 use Rattle.litmus_tokens.specs.Pieces.{Piece}

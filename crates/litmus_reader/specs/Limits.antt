@@ -1,4 +1,4 @@
--- How long a text may be; the limits of a test itself are those of the model. (This project's profile.)
+-- How long a text may be; the limits of a test itself are those of the model.
 use Rattle.std.specs.Prelude.{ℕ}
 
 -- bytes of a test text, at most

@@ -1,4 +1,4 @@
--- Locations numbered by first appearance. (This project's profile.)
+-- Locations numbered by first appearance.
 use Rattle.std.specs.Prelude.{ℕ, List, map, Result, Ok, Err, nat_lt, if◌then◌else◌}
 use denote.Ref.{Bor}
 use Rattle.tso_model.specs.declared.instruction.Loc.{Loc}

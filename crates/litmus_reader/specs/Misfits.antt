@@ -1,4 +1,4 @@
--- Which token doesn't fit: the first with which nothing of its kind goes on. (This project's profile.)
+-- Which token doesn't fit: the first with which nothing of its kind goes on.
 use Rattle.std.specs.Prelude.{◌≡◌, ℕ, Bool, false, List, [], ◌∷◌, ◌++◌, ◌||◌}
 use Rattle.std.specs.Str.{bytes_eq}
 use Rattle.litmus_tokens.specs.declared.token.Symbol.TheVariants.{Semicolon, CloseCurly, Bar}

@@ -1,5 +1,5 @@
 -- Refusals at places, and how each part of a text refuses a token that doesn't fit. A place is how many bytes of the text stand from
--- there on. (This project's profile.)
+-- there on.
 use Rattle.std.specs.Prelude.{ℕ, List, [], ◌∷◌, ◌-◌, length, drop}
 use Rattle.litmus_tokens.specs.declared.token.Stop.{Stop}
 use Rattle.litmus_tokens.specs.declared.token.Stop.TheVariants as stops

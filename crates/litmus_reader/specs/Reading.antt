@@ -1,4 +1,4 @@
--- The reading of a whole text, part by part in the order of the text. (This project's profile.)
+-- The reading of a whole text, part by part in the order of the text.
 use Rattle.std.specs.Prelude.{ℕ, zero, suc, ◌+◌, List, [], ◌∷◌, map, filter, ◌==◌, length, Option, Some, None, Result, Ok, Err}
 use Rattle.tso_model.specs.Litmus.{Litmus}
 use Rattle.tso_model.specs.Condition.{Condition}

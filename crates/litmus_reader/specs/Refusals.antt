@@ -1,5 +1,4 @@
 -- Which refusal a text gets that spells no test: a case for each thing that can be at fault, where nothing before it is.
--- (This project's profile.)
 use Rattle.std.specs.Prelude.{◌≤◌, ◌<◌, ℕ, List, length, IsTrue}
 use Rattle.litmus_tokens.specs.declared.token.Stop.{Stop}
 use Rattle.litmus_tokens.specs.Pieces.{Piece, pieces_of}

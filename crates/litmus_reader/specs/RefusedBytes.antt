@@ -1,4 +1,4 @@
--- What is at fault in a header line, in information lines, and in the brackets of `locations [..]`. (This project's profile.)
+-- What is at fault in a header line, in information lines, and in the brackets of `locations [..]`.
 use Rattle.std.specs.Prelude.{◌≡◌, ℕ, Bool, List, [], ◌∷◌, length, nat_lt, Some, None, Err, IsTrue, IsFalse, ◌==◌, ◌&&◌, ◌||◌}
 use Rattle.std.specs.List.{list_all}
 use Rattle.tso_model.specs.Limits.{longest_test_name}

@@ -1,4 +1,4 @@
--- What is at fault in a condition. (This project's profile.)
+-- What is at fault in a condition.
 use Rattle.std.specs.Prelude.{◌≡◌, ◌≤◌, ◌^◌, ℕ, zero, suc, ◌+◌, List, ◌∷◌, ◌++◌, codes, IsTrue, IsFalse, ◌||◌, Bool}
 use Rattle.tso_model.specs.declared.condition.Quantifier.{Quantifier}
 use Rattle.litmus_tokens.specs.declared.token.Stop.{Stop}
@@ -11,9 +11,9 @@ use Rattle.litmus_reader.specs.declared.fault.Why.TheVariants.{BadNumber, NoSuch
 use Rattle.litmus_reader.specs.declared.fault.Fault.{Fault}
 use Rattle.litmus_reader.specs.Grammar.{terms}
 use Rattle.litmus_reader.specs.GrammarNames.{numbered, Names}
-use Rattle.litmus_reader.specs.GrammarInitial.{value_of, has_core}
+use Rattle.litmus_reader.specs.GrammarInitial.{given_value, has_core}
 use Rattle.litmus_reader.specs.GrammarConditions.{IsAtom, IsProposition, IsUnit, locations_in}
-use Rattle.litmus_reader.specs.GrammarConditions.{atoms_of, Fits, IsWithin, IsQuantifier}
+use Rattle.litmus_reader.specs.GrammarConditions.{atoms_of, PhraseFits, IsWithin, IsQuantifier}
 use Rattle.litmus_reader.specs.GrammarConditions.{IsCondition, is_negation}
 use Rattle.litmus_reader.specs.Misfits.{Misfits, begins_with, is_word}
 use Rattle.litmus_reader.specs.Places.{fault, left_of, unfit, part_of}
@@ -32,10 +32,10 @@ joins t = is_symbol_term And t || is_symbol_term Or t
 pub data IsAtomFault (cores atoms : ℕ) (names : Names) : Phrase → Why → Type 0 where
   no_such_core : (s : Setting) → IsFalse (has_core cores s)
       → IsAtomFault cores atoms names (atom s) NoSuchCore
-  bad_number : (s : Setting) → IsTrue (has_core cores s) → 2 ^ 32 ≤ value_of s
+  bad_number : (s : Setting) → IsTrue (has_core cores s) → 2 ^ 32 ≤ given_value s
       → IsAtomFault cores atoms names (atom s) BadNumber
   -- else one location or one atom too many
-  one_too_many : (p : Phrase) → Fits cores p → ¬ (IsWithin cores atoms names p)
+  one_too_many : (p : Phrase) → PhraseFits cores p → ¬ (IsWithin cores atoms names p)
       → IsAtomFault cores atoms names p TooLarge
 
 -- where a unit has to stand, in which n negations and brackets may be open at once

@@ -1,4 +1,4 @@
--- What is at fault after the rows. (This project's profile.)
+-- What is at fault after the rows.
 use Rattle.std.specs.Prelude.{◌≡◌, ℕ, Bool, List, [], ◌∷◌, ◌++◌, codes, Option, Some, None, IsFalse, ◌||◌}
 use Rattle.litmus_tokens.specs.declared.token.Stop.{Stop}
 use Rattle.litmus_tokens.specs.declared.token.Stop.TheVariants.{End}

@@ -1,4 +1,4 @@
--- What is at fault in an initial state. (This project's profile.)
+-- What is at fault in an initial state.
 use Rattle.std.specs.Prelude.{◌≡◌, ◌≤◌, ◌<◌, ◌^◌, ℕ, List, [], ◌∷◌, ◌++◌, length, IsTrue, IsFalse}
 use Rattle.std.specs.List.{list_any}
 use Rattle.tso_model.specs.Limits.{most_locations}
@@ -12,7 +12,7 @@ use Rattle.litmus_reader.specs.declared.fault.Fault.{Fault}
 use Rattle.litmus_reader.specs.declared.fault.Part.{Part}
 use Rattle.litmus_reader.specs.Grammar.{terms}
 use Rattle.litmus_reader.specs.GrammarItems.{IsSetting}
-use Rattle.litmus_reader.specs.GrammarInitial.{IsItem, Fits, value_of, same_place, names_in, has_core, has_cores}
+use Rattle.litmus_reader.specs.GrammarInitial.{IsInitialItem, Fits, given_value, same_place, names_in, has_core, has_cores}
 use Rattle.litmus_reader.specs.Misfits.{Misfits, ends_setting}
 use Rattle.litmus_reader.specs.Places.{fault, left_of, unfit, in_initial}
 use Rattle.litmus_reader.specs.Written.{Setting, of_location}
@@ -20,23 +20,23 @@ use Rattle.litmus_reader.specs.Written.{Setting, of_location}
 -- items, each with its `;` after it
 pub data AreEnded : List Term → List Setting → Type 0 where
   none : AreEnded [] []
-  more : (ts others : List Term) (item settings : List Setting) → IsItem ts item
+  more : (ts others : List Term) (item settings : List Setting) → IsInitialItem ts item
       → AreEnded others settings → AreEnded (ts ++ symbol Semicolon ∷ others) (item ++ settings)
 
 -- what is at fault with a setting, after these
 pub data IsSettingFault (before : List Setting) : Setting → Why → Type 0 where
-  bad_number : (s : Setting) → 2 ^ 32 ≤ value_of s → IsSettingFault before s BadNumber
+  bad_number : (s : Setting) → 2 ^ 32 ≤ given_value s → IsSettingFault before s BadNumber
   -- else one location too many
   one_too_many : (x : List ℕ) (v : ℕ) → v < 2 ^ 32
       → IsFalse (list_any (same_place (of_location x v)) before)
       → most_locations ≤ length (names_in before) → IsSettingFault before (of_location x v) TooLarge
   -- else its location, or its register of this core, has been given a value
-  twice : (s : Setting) → value_of s < 2 ^ 32 → IsTrue (list_any (same_place s) before)
+  twice : (s : Setting) → given_value s < 2 ^ 32 → IsTrue (list_any (same_place s) before)
       → IsSettingFault before s TwiceInit
 
 -- an item, and its `;` or `}`
 pub data IsEndedItem : List Term → Type 0 where
-  ended : (ts : List Term) (item : List Setting) (t : Term) → IsItem ts item
+  ended : (ts : List Term) (item : List Setting) (t : Term) → IsInitialItem ts item
       → IsTrue (ends_setting t) → IsEndedItem (ts ++ t ∷ [])
 
 -- after items that fit, each ended: at the next item

@@ -1,4 +1,4 @@
--- What is at fault in a header row and in the rows after it. (This project's profile.)
+-- What is at fault in a header row and in the rows after it.
 use Rattle.std.specs.Prelude.{◌≡◌, ◌≢◌, ◌<◌, ◌≤◌, ℕ, ◌+◌, List, [], ◌∷◌, ◌++◌, length, Option, Some, IsTrue, IsFalse}
 use Rattle.std.specs.List.{list_any, before_first, slice_split}
 use Rattle.tso_model.specs.Limits.{most_cores}

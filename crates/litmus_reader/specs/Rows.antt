@@ -1,4 +1,4 @@
--- The rows of the table. (This project's profile.)
+-- The rows of the table.
 use Rattle.std.specs.Prelude.{ℕ, zero, suc, List, [], length, Result, Ok, Err, nat_lt, ◌==◌, if◌then◌else◌}
 use Rattle.std.specs.List.{position_or_len, before_first, after_first}
 use Rattle.litmus_tokens.specs.declared.token.Symbol.TheVariants.{Semicolon}

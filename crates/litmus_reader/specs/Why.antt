@@ -1,4 +1,4 @@
--- The names of refusals, as they are printed. (This project's profile.)
+-- The names of refusals, as they are printed.
 use Rattle.std.specs.Prelude.{ℕ, List, codes}
 use Rattle.litmus_reader.specs.declared.fault.Why.{Why}
 use Rattle.litmus_reader.specs.declared.fault.Why.TheVariants as whys

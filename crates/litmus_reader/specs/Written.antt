@@ -1,4 +1,4 @@
--- A test as it is written: locations by their names, cores by their digits, numbers of any size. (This project's profile.)
+-- A test as it is written: locations by their names, cores by their digits, numbers of any size.
 use Rattle.std.specs.Prelude.{ℕ, List, Option, Bool}
 use Rattle.tso_model.specs.declared.register.Reg.{Reg}
 use Rattle.tso_model.specs.declared.condition.Quantifier.{Quantifier}

@@ -1,4 +1,4 @@
--- White space and comments. (This project's profile.)
+-- White space and comments.
 use Rattle.std.specs.Prelude.{◌≡◌, ◌<◌, ℕ, Bool, List, [], ◌∷◌, length, Option, Some, None, Result}
 use Rattle.std.specs.Prelude.{Ok, Err, ◌==◌, ◌&&◌, ◌||◌, if◌then◌else◌}
 use denote.Ref.{Bor}

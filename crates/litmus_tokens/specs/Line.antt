@@ -1,4 +1,4 @@
--- Lines of places. (This project's profile.)
+-- Lines of places.
 use Rattle.std.specs.Prelude.{ℕ, ◌+◌, ◌-◌, List, length, take, count_by, ◌==◌}
 
 -- The line of the place from which so many bytes of the text stand: 1, and the number of LF bytes before it.

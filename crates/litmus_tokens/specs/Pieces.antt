@@ -1,4 +1,4 @@
--- The tokens of a text with their places, and why there are no more. (This project's profile.)
+-- The tokens of a text with their places, and why there are no more.
 use Rattle.std.specs.Prelude.{ℕ, zero, suc, List, [], ◌∷◌, length, map, None, Result, Ok, Err}
 use Rattle.litmus_tokens.specs.declared.token.Stop.{Stop}
 use Rattle.litmus_tokens.specs.declared.token.Stop.TheVariants.{End}

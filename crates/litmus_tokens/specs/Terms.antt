@@ -1,4 +1,4 @@
--- Single tokens: numbers, names and symbols. (This project's profile.)
+-- Single tokens: numbers, names and symbols.
 use Rattle.std.specs.Prelude.{ℕ, ◌^◌, Bool, List, [], ◌∷◌, length, take, drop, Option, Some, None, Result, Ok, Err, nat_lt, nat_eq}
 use Rattle.std.specs.Prelude.{codes, ◌==◌, if◌then◌else◌}
 use Rattle.std.specs.List.{prefix_len, starts_with}
@@ -70,12 +70,12 @@ symbol_of bytes = symbol_among symbols bytes
 abbrev pub run_of : (ℕ → Bool) → List ℕ → List ℕ × List ℕ
 run_of p bytes = (take (prefix_len p bytes) bytes, drop (prefix_len p bytes) bytes)
 
-abbrev pub number_of : List ℕ × List ℕ → Result (Term × List ℕ) Stop
-number_of run = Ok (number (without_zeros run.0), run.1)
+abbrev pub number_term : List ℕ × List ℕ → Result (Term × List ℕ) Stop
+number_term run = Ok (number (without_zeros run.0), run.1)
 
 -- a name is no longer than a location's may be
-abbrev pub name_of : ℕ → List ℕ × List ℕ → Result (Term × List ℕ) Stop
-name_of left run = if nat_lt longest_name (length run.0) then Err (BadToken left) else Ok (name run.0, run.1)
+abbrev pub name_term : ℕ → List ℕ × List ℕ → Result (Term × List ℕ) Stop
+name_term left run = if nat_lt longest_name (length run.0) then Err (BadToken left) else Ok (name run.0, run.1)
 
 abbrev pub symbol_or_bad : ℕ → Option (Symbol × List ℕ) → Result (Term × List ℕ) Stop
 symbol_or_bad left (Some found) = Ok (symbol found.0, found.1)
@@ -85,6 +85,6 @@ symbol_or_bad left None = Err (BadToken left)
 unfoldable pub term_at : List ℕ → Result (Term × List ℕ) Stop
 term_at [] = Err End
 term_at (b ∷ bs) =
-    if is_ascii_digit b then number_of (run_of is_ascii_digit (b ∷ bs))
-    else if begins_name b then name_of (length (b ∷ bs)) (run_of continues_name (b ∷ bs))
+    if is_ascii_digit b then number_term (run_of is_ascii_digit (b ∷ bs))
+    else if begins_name b then name_term (length (b ∷ bs)) (run_of continues_name (b ∷ bs))
     else symbol_or_bad (length (b ∷ bs)) (symbol_of (b ∷ bs))

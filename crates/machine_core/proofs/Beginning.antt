@@ -8,7 +8,7 @@ use Rattle.tso_model.specs.declared.bus.Bus as kind
 use Rattle.tso_model.specs.declared.instruction.Instr.{Instr}
 use Rattle.split_laws.specs.BusChoices.{IsPossibleOn}
 use Rattle.store_buffer.specs.Stores.{stores}
-use Rattle.snoop_bus.specs.Rows.{table_of}
+use Rattle.snoop_bus.specs.Rows.{table_of_rows}
 use Rattle.snoop_bus.specs.Bus.{Bus, cores_of}
 use Rattle.snoop_bus.specs.Accesses.{new_bus}
 use Rattle.machine_core.proofs.Overwriting.{written}
@@ -49,12 +49,12 @@ pub begun-state : (ps : List Processor) (words : List ℕ) (t : Litmus) → core
     → record { flat = state_of ps words; holder = Free } ≡ unheld (start t)
 begun-state ps words t cores memory = rw (cores, memory) refl
 
-pub begun-statistics : (old new : Bus) (init : List ℕ) (counts : List Counts) (t : Litmus) (n : ℕ) → new ≡ new_bus (table_of old.rows) (cores_of old) old.shape init → cores_of old ≡ length t.programs
+pub begun-statistics : (old new : Bus) (init : List ℕ) (counts : List Counts) (t : Litmus) (n : ℕ) → new ≡ new_bus (table_of_rows old.rows) (cores_of old) old.shape init → cores_of old ≡ length t.programs
     → init ≡ t.words → counts ≡ replicate n no_counts → n ≡ length t.programs
-    → record { caches = caches_of new; counts = counts } ≡ no_statistics (table_of old.rows) old.shape t
+    → record { caches = caches_of new; counts = counts } ≡ no_statistics (table_of_rows old.rows) old.shape t
 begun-statistics old new init counts t n exact cores words none all =
-    let bus : new ≡ new_bus (table_of old.rows) (length t.programs) old.shape t.words =
-    exact ∙ ap (λ k. new_bus (table_of old.rows) k old.shape init) cores ∙ ap (λ w. new_bus (table_of old.rows) (length t.programs) old.shape w) words in
+    let bus : new ≡ new_bus (table_of_rows old.rows) (length t.programs) old.shape t.words =
+    exact ∙ ap (λ k. new_bus (table_of_rows old.rows) k old.shape init) cores ∙ ap (λ w. new_bus (table_of_rows old.rows) (length t.programs) old.shape w) words in
     rw (bus, none, all) refl
 
 -- what a machine has come to at the beginning is possible

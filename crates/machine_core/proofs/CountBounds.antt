@@ -27,7 +27,7 @@ use Rattle.protocol_tables.specs.declared.state.Snoop.{Snoop}
 use Rattle.protocol_tables.specs.Tables.{Table}
 use Rattle.snoop_bus.specs.declared.access.AccessKind.{AccessKind}
 use Rattle.snoop_bus.specs.declared.access.AccessKind.TheVariants.{Hit, Upgrade, Miss}
-use Rattle.snoop_bus.specs.Rows.{table_of}
+use Rattle.snoop_bus.specs.Rows.{table_of_rows}
 use Rattle.snoop_bus.specs.Tags.{tag_of}
 use Rattle.snoop_bus.specs.CacheContents.{TagSets, loaded_in, written_in, write_in, sends_in, flusher_from, tags_at}
 use Rattle.machine_core.specs.declared.counts.Counts.{Counts}
@@ -216,10 +216,10 @@ write-among t core line caches (Some s) = written-among t core line caches (t.wr
 write-among t core line caches None = tt
 
 load_by-among : (c : Caches) (core loc : ℕ) → IsFlusherAmong (length c.contents) (load_by c core loc).how
-load_by-among c core loc = load-among (table_of c.rows) core _ c.contents _
+load_by-among c core loc = load-among (table_of_rows c.rows) core _ c.contents _
 
 write_by-among : (c : Caches) (core loc : ℕ) → IsFlusherAmong (length c.contents) (write_by c core loc).how
-write_by-among c core loc = write-among (table_of c.rows) core _ c.contents _
+write_by-among c core loc = write-among (table_of_rows c.rows) core _ c.contents _
 
 load_after-among : (c : Caches) (pending : List Entry) (core loc : ℕ) → IsFlusherAmong (length c.contents) (load_after c pending core loc).how
 load_after-among c pending core loc =

@@ -20,7 +20,7 @@ use Rattle.protocol_tables.specs.declared.asking.Request.TheVariants.{GetS, GetM
 use Rattle.protocol_tables.specs.declared.asking.Transient.{Transient}
 use Rattle.protocol_tables.specs.declared.asking.Transient.TheVariants.{IsD, ImD, SmD}
 use Rattle.protocol_tables.specs.Tables.{Table}
-use Rattle.snoop_bus.specs.Rows.{table_of}
+use Rattle.snoop_bus.specs.Rows.{table_of_rows}
 use Rattle.snoop_bus.specs.CacheContents.{TagSets, flusher_from}
 use Rattle.snoop_bus.specs.Asks.{Awaited, asking, asked_for, awaiting, completed, completed_in, flusher_of}
 use Rattle.machine_core.specs.declared.counts.Counts.{Counts}
@@ -71,13 +71,13 @@ whole-senders c pending (e ∷ es) h = (use_of-among c pending (e ∷ es), whole
 pub senders : (before after : Bool) (c : Caches) (core : ℕ) (what : Access) (pending commits : List Entry) → IsSenderAmong (length c.contents) c.awaited
     → SendersAmong (length c.contents) (used_between before after c core what pending commits)
 senders false true c core NoAccess pending commits h = (tt, h)
-senders false true c core (Reads loc) pending commits h = (tt, asked-among (table_of c.rows) _ core _ c.contents)
-senders false true c core (Writes loc) pending commits h = (tt, asked-among (table_of c.rows) _ core _ c.contents)
-senders false true c core (Locks loc) pending commits h = (tt, asked-among (table_of c.rows) _ core _ c.contents)
+senders false true c core (Reads loc) pending commits h = (tt, asked-among (table_of_rows c.rows) _ core _ c.contents)
+senders false true c core (Writes loc) pending commits h = (tt, asked-among (table_of_rows c.rows) _ core _ c.contents)
+senders false true c core (Locks loc) pending commits h = (tt, asked-among (table_of_rows c.rows) _ core _ c.contents)
 senders true false c core NoAccess pending commits h = (tt, h)
-senders true false c core (Reads loc) pending commits h = (completed-among (table_of c.rows) core _ (length c.contents) c.awaited c.contents h, tt)
-senders true false c core (Writes loc) pending commits h = (completed-among (table_of c.rows) core _ (length c.contents) c.awaited c.contents h, tt)
-senders true false c core (Locks loc) pending commits h = (completed-among (table_of c.rows) core _ (length c.contents) c.awaited c.contents h, tt)
+senders true false c core (Reads loc) pending commits h = (completed-among (table_of_rows c.rows) core _ (length c.contents) c.awaited c.contents h, tt)
+senders true false c core (Writes loc) pending commits h = (completed-among (table_of_rows c.rows) core _ (length c.contents) c.awaited c.contents h, tt)
+senders true false c core (Locks loc) pending commits h = (completed-among (table_of_rows c.rows) core _ (length c.contents) c.awaited c.contents h, tt)
 senders false false c core what pending commits h = whole-senders c pending commits h
 senders true true c core what pending commits h = whole-senders c pending commits h
 

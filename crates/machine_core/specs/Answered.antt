@@ -1,5 +1,4 @@
 -- Choices with the caches' answers along a run: each choice is answered by the caches as the choices before it left them.
--- (This project's profile.)
 use Rattle.std.specs.Prelude.{ℕ, List, [], ◌∷◌}
 use Rattle.tso_model.specs.Litmus.{Litmus}
 use Rattle.tso_model.specs.FlatMachine.{start}

@@ -1,4 +1,4 @@
--- The stores that a core has pending, in its buffer. (This project's profile.)
+-- The stores that a core has pending, in its buffer.
 use Rattle.std.specs.Prelude.{◌<◌, [], Option, None, Some}
 use Rattle.store_buffer.specs.Stores.{Stores, stores}
 

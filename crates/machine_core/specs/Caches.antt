@@ -17,7 +17,7 @@ use Rattle.tso_model.specs.declared.execution.Kind.TheVariants.{R, W, F, LR, LW}
 use Rattle.tso_model.specs.declared.choice.Choice.{Choice}
 use Rattle.protocol_tables.specs.declared.state.State.TheVariants.{M}
 use Rattle.snoop_bus.specs.Geometry.{Geometry}
-use Rattle.snoop_bus.specs.Rows.{Rows, table_of}
+use Rattle.snoop_bus.specs.Rows.{Rows, table_of_rows}
 use Rattle.snoop_bus.specs.CacheContents.{TagSets, Accessed, loaded, written}
 use Rattle.snoop_bus.specs.Asks.{Awaited, Asked, tag_at, hits, request_for, asking, completed}
 use Rattle.snoop_bus.specs.Bus.{Bus}
@@ -51,14 +51,14 @@ through c awaited a =
 
 -- a core's load at a location, and its write access
 abbrev pub load_by : Caches → ℕ → ℕ → Used
-load_by c core loc = through c c.awaited (loaded (table_of c.rows) core (loc / c.shape.words) c.contents)
+load_by c core loc = through c c.awaited (loaded (table_of_rows c.rows) core (loc / c.shape.words) c.contents)
 
 abbrev pub write_by : Caches → ℕ → ℕ → Used
-write_by c core loc = through c c.awaited (written (table_of c.rows) core (loc / c.shape.words) c.contents)
+write_by c core loc = through c c.awaited (written (table_of_rows c.rows) core (loc / c.shape.words) c.contents)
 
 -- whether such an access, a load or a write access, is a hit
 abbrev pub would_hit : Caches → ℕ → ℕ → Bool → Bool
-would_hit c core loc write = hits (table_of c.rows) core (loc / c.shape.words) write c.contents
+would_hit c core loc write = hits (table_of_rows c.rows) core (loc / c.shape.words) write c.contents
 
 -- between the two parts of a locked instruction, whose load part this is: its core has the line in M, and no other core has it
 pub record HasLineAlone (c : Caches) (e : Entry) : Type 0 where
@@ -79,7 +79,7 @@ asked_with c a = record { rows = c.rows; shape = c.shape; contents = a.caches; a
 
 abbrev pub ask_by : Caches → ℕ → ℕ → Bool → Used
 ask_by c core loc write =
-    not_through Unused (asked_with c (asking (table_of c.rows) (request_for write) core (loc / c.shape.words) c.contents))
+    not_through Unused (asked_with c (asking (table_of_rows c.rows) (request_for write) core (loc / c.shape.words) c.contents))
 
 -- of an action that may make no access
 abbrev pub asking_by : Caches → ℕ → Access → Used
@@ -87,7 +87,7 @@ asking_by c core what = at_access (not_through Unused c) (λ loc write. ask_by c
 
 -- the second half: what was awaited comes, and the access is made
 abbrev pub completion_by : Caches → ℕ → ℕ → Used
-completion_by c core loc = through c None (completed (table_of c.rows) core (loc / c.shape.words) c.awaited c.contents)
+completion_by c core loc = through c None (completed (table_of_rows c.rows) core (loc / c.shape.words) c.awaited c.contents)
 
 abbrev pub completing_by : Caches → ℕ → Access → Used
 completing_by c core what = at_access (not_through Unused c) (λ loc write. completion_by c core loc.0) what

@@ -1,4 +1,4 @@
--- What a contract sees of a machine's configuration. (This project's profile.)
+-- What a contract sees of a machine's configuration.
 use Rattle.std.specs.Prelude.{ℕ, ◌≤◌}
 use Rattle.tso_model.specs.Limits.{most_depth}
 use Rattle.tso_model.specs.declared.bus.Bus.{Bus}
@@ -13,5 +13,5 @@ pub record Configuration : Type 0 where
   pub bus : Bus
 
 -- the depth and the shape of the caches are within their limits
-abbrev pub IsWithinLimits : Configuration → Type 0
-IsWithinLimits c = (c.depth ≤ most_depth) × shape.IsWithinLimits c.shape
+abbrev pub IsConfigurationWithinLimits : Configuration → Type 0
+IsConfigurationWithinLimits c = (c.depth ≤ most_depth) × shape.IsShapeWithinLimits c.shape

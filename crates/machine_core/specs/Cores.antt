@@ -1,5 +1,4 @@
 -- A core of the machine as the flat machine has it: what its store buffer holds are its pending stores.
--- (This project's profile.)
 use Rattle.std.specs.Prelude.{ℕ, ◌+◌, ◌<◌, List, [], ◌∷◌, map, filter, slice_index, All}
 use Rattle.tso_model.specs.Actions.{action_of}
 use Rattle.tso_model.specs.Access.{Access, access_by}

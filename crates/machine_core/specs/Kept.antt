@@ -1,4 +1,4 @@
--- What the parts of a machine keep from choice to choice. (This project's profile.)
+-- What the parts of a machine keep from choice to choice.
 use Rattle.std.specs.Prelude.{ℕ, ◌≡◌, ◌<◌, ◌≤◌, ◌+◌, ◌-◌, ◌*◌, length, All, Option, None, Some}
 use Rattle.std.specs.List.{sum_by}
 use Rattle.tso_model.specs.Limits.{most_cores, most_instructions}

@@ -1,4 +1,4 @@
--- A machine from its parts. (This project's profile.)
+-- A machine from its parts.
 use Rattle.std.specs.Prelude.{Bool}
 use Rattle.tso_model.specs.Litmus.{Litmus}
 use Rattle.split_laws.specs.BusChoices.{IsPossibleOn}

@@ -10,7 +10,7 @@ use Rattle.tso_model.specs.declared.bus.Bus.{Bus}
 use Rattle.tso_model.specs.declared.execution.Entry.{Entry}
 use Rattle.tso_model.specs.declared.choice.Choice.{Choice}
 use Rattle.protocol_tables.specs.Tables.{Table}
-use Rattle.snoop_bus.specs.Rows.{table_of}
+use Rattle.snoop_bus.specs.Rows.{table_of_rows}
 use Rattle.machine_core.specs.Configuration.{Configuration}
 use Rattle.machine_core.specs.Caches.{HasLineAlone, attempt_of, state_after_on}
 use Rattle.machine_core.specs.Statistics.{Statistics, no_statistics, statistics_after}
@@ -40,7 +40,7 @@ new_machine table config t = record {
 
 -- its protocol's table, and its configuration
 abbrev pub table_in : Running → Table
-table_in m = table_of m.statistics.caches.rows
+table_in m = table_of_rows m.statistics.caches.rows
 
 abbrev pub configuration_of : Running → Configuration
 configuration_of m = record { depth = m.depth; shape = m.statistics.caches.shape; bus = m.bus }

@@ -3,7 +3,7 @@
 ghost use Rattle.std.specs.Prelude.{◌≡◌, ◌≤◌, ◌↔◌, IsSome, IfSome};
 ghost use Rattle.snoop_bus.specs.Geometry.{IsLineSize};
 ghost use Rattle.tso_model.specs.Limits.{most_depth};
-ghost use Rattle.machine_core.specs.Configuration.{IsWithinLimits};
+ghost use Rattle.machine_core.specs.Configuration.{IsConfigurationWithinLimits};
 
 use snoop_bus::Shape;
 use snoop_bus::shape::{MAX_SETS, MAX_WAYS};
@@ -21,7 +21,7 @@ pub struct Config {
 }
 
 impl Model for Config {
-    ghost use Rattle.machine_core.specs.Configuration.{Configuration, IsWithinLimits};
+    ghost use Rattle.machine_core.specs.Configuration.{Configuration, IsConfigurationWithinLimits};
 
     ghost Value = { Configuration };
 
@@ -29,7 +29,7 @@ impl Model for Config {
 
     ghost inverse = { λ v. record { depth = v.depth; shape = v.shape; bus = v.bus } };
 
-    ghost invariant = { λ c. IsWithinLimits (record { depth = c.depth; shape = c.shape; bus = c.bus }) };
+    ghost invariant = { λ c. IsConfigurationWithinLimits (record { depth = c.depth; shape = c.shape; bus = c.bus }) };
 }
 
 impl Config {
@@ -51,7 +51,7 @@ impl Config {
     /// How many stores a core's buffer holds; 0 where it has none.
     pub fn depth(self) -> u8
         ensures value { result ≡ self.depth }
-        ensures within { IsWithinLimits self }
+        ensures within { IsConfigurationWithinLimits self }
     {
         self.depth
     }

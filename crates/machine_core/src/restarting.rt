@@ -2,7 +2,7 @@
 ghost use Rattle.std.specs.Prelude.{◌≡◌, ℕ, All, length, map, replicate};
 ghost use Rattle.tso_model.specs.Litmus.{IsTest};
 ghost use Rattle.tso_model.specs.FlatMachine.{started};
-ghost use Rattle.snoop_bus.specs.Rows.{table_of};
+ghost use Rattle.snoop_bus.specs.Rows.{table_of_rows};
 ghost use Rattle.machine_core.specs.Cores.{core_states};
 ghost use Rattle.machine_core.specs.Statistics.{no_counts, no_statistics};
 ghost use Rattle.machine_core.specs.Kept.{IsCore, PartsFitTest, statistics_in};
@@ -23,7 +23,7 @@ pub fn restart<P: Protocol>(parts: &mut MachineParts<P>, test: &Test)
 
     ensures begun { AreAtStart test.now parts.new }
     ensures config { parts.new.config ≡ parts.old.config }
-    ensures statistics { statistics_in parts.new ≡ no_statistics (table_of parts.old.bus.rows) parts.old.bus.shape test.now }
+    ensures statistics { statistics_in parts.new ≡ no_statistics (table_of_rows parts.old.bus.rows) parts.old.bus.shape test.now }
 {
     restart_cores(&mut parts.processors, test);
     parts.bus.restart(test.initial_words());

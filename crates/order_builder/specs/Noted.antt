@@ -1,4 +1,4 @@
--- What a contract sees of noted commits. (This project's profile.)
+-- What a contract sees of noted commits.
 use Rattle.std.specs.Prelude.{ℕ, ◌-◌, List}
 use Rattle.std.specs.Vec.{vec_len, vec_capacity}
 use Rattle.std.specs.declared.vec.Vec.{Vec}

@@ -1,4 +1,4 @@
--- Numbers as an order is written with them: decimal, without leading zeros. (This project's profile.)
+-- Numbers as an order is written with them: decimal, without leading zeros.
 use Rattle.std.specs.Prelude.{ℕ, ◌==◌, ◌&&◌, ◌||◌, nat_lt, Bool, not, List, length, slice_index, Option, None, if◌then◌else◌}
 use Rattle.std.specs.List.{list_all}
 use Rattle.std.specs.Char.{is_ascii_digit}

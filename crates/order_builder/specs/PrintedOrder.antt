@@ -1,4 +1,4 @@
--- The printed text of an order, and of one entry. (This project's profile.)
+-- The printed text of an order, and of one entry.
 use Rattle.std.specs.Prelude.{ℕ, ◌<◌, ◌^◌, List, [], ◌∷◌, ◌++◌, length, map, slice_index_or, codes}
 use Rattle.std.specs.Fmt.{decimal}
 use Rattle.tso_model.specs.Litmus.{Litmus}

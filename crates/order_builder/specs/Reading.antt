@@ -1,4 +1,4 @@
--- An order as it is read from the lines of a text, or the first fault in their order. (This project's profile.)
+-- An order as it is read from the lines of a text, or the first fault in their order.
 use Rattle.std.specs.Prelude.{ℕ, ◌+◌, ◌-◌, ◌^◌, ◌==◌, ◌≡◌, List, [], ◌∷◌, length, take, drop}
 use Rattle.std.specs.Prelude.{Option, Some, None, Result, Ok, Err, codes, if◌then◌else◌}
 use Rattle.std.specs.List.{position}

@@ -1,4 +1,4 @@
--- Which text spells which order of a test, and which fault a text has that spells none. (This project's profile.)
+-- Which text spells which order of a test, and which fault a text has that spells none.
 use Rattle.std.specs.Prelude.{ℕ, ◌+◌, ◌<◌, ◌^◌, ◌≡◌, ◌≢◌, true, List, [], ◌∷◌, ◌++◌, length, map, All, codes}
 use Rattle.tso_model.specs.Litmus.{Litmus}
 use Rattle.tso_model.specs.declared.execution.Entry.{Entry}

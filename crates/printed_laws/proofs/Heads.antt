@@ -13,7 +13,7 @@ use Rattle.protocol_tables.specs.Names.{protocol_name}
 use Rattle.protocol_tables.specs.declared.kind.ProtocolKind.{ProtocolKind}
 use Rattle.protocol_tables.specs.declared.kind.ProtocolKind.TheVariants.{Msi, Mesi, Moesi, Mosi}
 use Rattle.snoop_bus.specs.Geometry.{IsLineSize}
-use Rattle.machine_core.specs.Configuration.{Configuration, IsWithinLimits}
+use Rattle.machine_core.specs.Configuration.{Configuration, IsConfigurationWithinLimits}
 use Rattle.tso_report.specs.Report.{line, bus_text, machine_line, head}
 use Rattle.printed_laws.specs.Telling.{NameTheSame}
 use Rattle.printed_laws.proofs.Cutting.{Stops, run-cut, next-cut}
@@ -73,7 +73,7 @@ machine-flat name depth sets ways words bus rest = simp append_assoc
 pub same-configuration : (c d : Configuration) → c.depth ≡ d.depth → c.shape.sets ≡ d.shape.sets → c.shape.ways ≡ d.shape.ways → c.shape.words ≡ d.shape.words → c.bus ≡ d.bus → c ≡ d
 same-configuration c d depth sets ways words bus = λ i. record { depth = depth i; shape = record { sets = sets i; ways = ways i; words = words i }; bus = bus i }
 
-machine-cut : (kind other_kind : ProtocolKind) (c d : Configuration) (rest other : List ℕ) → IsWithinLimits c → IsWithinLimits d
+machine-cut : (kind other_kind : ProtocolKind) (c d : Configuration) (rest other : List ℕ) → IsConfigurationWithinLimits c → IsConfigurationWithinLimits d
     → machine_line kind c ++ rest ≡ machine_line other_kind d ++ other → (kind ≡ other_kind) × (c ≡ d) × (rest ≡ other)
 machine-cut kind other_kind c d rest other p q e =
     let from_bus = λ (x : Configuration) (after : List ℕ). bus_text x.bus ++ 10 ∷ after in
@@ -96,7 +96,7 @@ machine-cut kind other_kind c d rest other p q e =
 test-flat : (name machine rest : List ℕ) → ((codes "Test " ++ line name) ++ machine) ++ rest ≡ codes "Test " ++ (name ++ 10 ∷ (machine ++ rest))
 test-flat name machine rest = simp append_assoc
 
-pub head-cut : (t u : Litmus) (kind other_kind : ProtocolKind) (c d : Configuration) (rest other : List ℕ) → IsTest t → IsTest u → IsWithinLimits c → IsWithinLimits d
+pub head-cut : (t u : Litmus) (kind other_kind : ProtocolKind) (c d : Configuration) (rest other : List ℕ) → IsTest t → IsTest u → IsConfigurationWithinLimits c → IsConfigurationWithinLimits d
     → head t kind c ++ rest ≡ head u other_kind d ++ other → NameTheSame t u kind other_kind c d × (rest ≡ other)
 head-cut t u kind other_kind c d rest other test test' p q e =
     let machine = machine_line kind c in

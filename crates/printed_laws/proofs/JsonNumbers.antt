@@ -21,7 +21,7 @@ use Rattle.tso_model.specs.declared.execution.Entry.{Entry}
 use Rattle.order_builder.specs.PrintedOrder.{printed_entry}
 use Rattle.protocol_tables.specs.declared.kind.ProtocolKind.{ProtocolKind}
 use Rattle.snoop_bus.specs.Geometry.{IsLineSize}
-use Rattle.machine_core.specs.Configuration.{Configuration, IsWithinLimits}
+use Rattle.machine_core.specs.Configuration.{Configuration, IsConfigurationWithinLimits}
 use Rattle.machine_core.specs.Kept.{IsAtMost}
 use Rattle.machine_core.specs.declared.counts.Counts.{Counts}
 use Rattle.tso_report.specs.Shown.{Shown}
@@ -72,7 +72,7 @@ line-small words (inl e) = omega (arith, e)
 line-small words (inr (inl e)) = omega (arith, e)
 line-small words (inr (inr e)) = omega (arith, e)
 
-machine-numbers : (kind : ProtocolKind) (c : Configuration) → IsWithinLimits c → HasNumbers (outline (machine_value kind c))
+machine-numbers : (kind : ProtocolKind) (c : Configuration) → IsConfigurationWithinLimits c → HasNumbers (outline (machine_value kind c))
 machine-numbers kind c within = by_bus c.bus
   where
     members : MembersHaveNumbers (members_outline (machine_members kind c))
@@ -164,7 +164,7 @@ registers-depth (r ∷ rs) = omega (arith, registers-depth rs)
 
 -- ---- the whole value
 
-pub run-numbers : (t : Litmus) (kind : ProtocolKind) (c : Configuration) (s : Shown) → IsWithinLimits c → IsSmall t s → HasNumbers (outline (run_value t kind c s))
+pub run-numbers : (t : Litmus) (kind : ProtocolKind) (c : Configuration) (s : Shown) → IsConfigurationWithinLimits c → IsSmall t s → HasNumbers (outline (run_value t kind c s))
 run-numbers t kind c s within p = (
   cache-numbers s.counts p.counts,
   (

@@ -18,7 +18,7 @@ use Rattle.tso_model.specs.declared.execution.Entry.{Entry}
 use Rattle.order_builder.specs.PrintedOrder.{printed_entry, printed_end, printed_lines, printed_order}
 use Rattle.order_builder.specs.Spelling.{IsOrderFor, SpellsOrder}
 use Rattle.protocol_tables.specs.declared.kind.ProtocolKind.{ProtocolKind}
-use Rattle.machine_core.specs.Configuration.{Configuration, IsWithinLimits}
+use Rattle.machine_core.specs.Configuration.{Configuration, IsConfigurationWithinLimits}
 use Rattle.tso_report.specs.Laws.{ReportsAreShort}
 use Rattle.tso_report.specs.Shown.{Shown}
 use Rattle.tso_cli.specs.Fitting.{FitsTest}
@@ -91,7 +91,7 @@ printed-alike t xs ys same =
     λ i. printed_lines (codes "Order" ∷ (same i ++ (printed_end (count i) ∷ [])))
 
 -- its lines are no more than those of a report
-order-told : OrderIsSpelledOnce → PrintedOrderIsSpelled → ReportsAreShort → (t : Litmus) (kind : ProtocolKind) (c : Configuration) (s o : Shown) → IsTest t → IsWithinLimits c → FitsTest t s → FitsTest t o
+order-told : OrderIsSpelledOnce → PrintedOrderIsSpelled → ReportsAreShort → (t : Litmus) (kind : ProtocolKind) (c : Configuration) (s o : Shown) → IsTest t → IsConfigurationWithinLimits c → FitsTest t s → FitsTest t o
     → items_outline (items_of (map (λ e. string (printed_entry t e)) s.order)) ≡ items_outline (items_of (map (λ e. string (printed_entry t e)) o.order)) → s.order ≡ o.order
 order-told once spelled short t kind c s o test within p q same =
     let alike = printed-alike t s.order o.order (entries-told t s.order o.order same) in

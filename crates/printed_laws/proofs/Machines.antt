@@ -13,7 +13,7 @@ use Rattle.order_builder.specs.PrintedOrder.{printed_order}
 use Rattle.tso_model.specs.Litmus.{Litmus}
 use Rattle.protocol_tables.specs.Names.{protocol_name}
 use Rattle.protocol_tables.specs.declared.kind.ProtocolKind.{ProtocolKind}
-use Rattle.machine_core.specs.Configuration.{Configuration, IsWithinLimits}
+use Rattle.machine_core.specs.Configuration.{Configuration, IsConfigurationWithinLimits}
 use Rattle.tso_report.specs.Shown.{Shown}
 use Rattle.tso_report.specs.Report.{register_lines, memory_line, condition_line, choices_line, cache_lines}
 use Rattle.tso_report.specs.Json.{with_bus, machine_members, machine_value, run_value}
@@ -47,7 +47,7 @@ named-told : (kind other_kind : ProtocolKind) → protocol_name kind ≡ protoco
 named-told kind other_kind e = (protocol-cut kind other_kind [] [] (ap (λ (l : List ℕ). l ++ 32 ∷ []) e)).0
 
 -- the members without the bus
-members-told : (kind other_kind : ProtocolKind) (c d : Configuration) → IsWithinLimits c → IsWithinLimits d → c.bus ≡ d.bus
+members-told : (kind other_kind : ProtocolKind) (c d : Configuration) → IsConfigurationWithinLimits c → IsConfigurationWithinLimits d → c.bus ≡ d.bus
     → outline (object (machine_members kind c)) ≡ outline (object (machine_members other_kind d)) → (kind ≡ other_kind) × (c ≡ d)
 members-told kind other_kind c d p q bus same = (
   named-told kind other_kind (ap (text_at 1) same),
@@ -62,7 +62,7 @@ abbrev more_members : json.Json → json.Json
 more_members (json.object (json.member k j ms)) = json.object ms
 more_members j = j
 
-machine-told : (kind other_kind : ProtocolKind) (c d : Configuration) → IsWithinLimits c → IsWithinLimits d
+machine-told : (kind other_kind : ProtocolKind) (c d : Configuration) → IsConfigurationWithinLimits c → IsConfigurationWithinLimits d
     → outline (machine_value kind c) ≡ outline (machine_value other_kind d) → (kind ≡ other_kind) × (c ≡ d)
 machine-told kind other_kind c d p q same = by_bus c.bus d.bus refl refl same
   where

@@ -4,7 +4,7 @@ use Rattle.json.specs.Print.{escape_byte}
 use Rattle.tso_model.specs.Litmus.{Litmus, IsTest}
 use Rattle.tso_model.specs.Runs.{Run}
 use Rattle.protocol_tables.specs.declared.kind.ProtocolKind.{ProtocolKind}
-use Rattle.machine_core.specs.Configuration.{Configuration, IsWithinLimits}
+use Rattle.machine_core.specs.Configuration.{Configuration, IsConfigurationWithinLimits}
 use Rattle.tso_report.specs.Shown.{Shown}
 use Rattle.tso_cli.specs.Fitting.{FitsTest, shown_under, EndedRunsFit, ChoicesAreCounted}
 use Rattle.tso_cli.specs.RunTexts.{report_in, unfinished_in}
@@ -36,7 +36,7 @@ record AreAlike (r o : Run) (s u : Shown) : Type 0 where
   stalled : r.ended ≡ false → r.stalled ≡ o.stalled
 
 alike : (t : Litmus) (kind : ProtocolKind) (c : Configuration) (json : Bool) (r o : Run) (s u : Shown) (m n : ℕ)
-    → ((json : Bool) → ReportsTellTheirRuns json) → ((json : Bool) → UnfinishedRunsAreTold json) → IsTest t → IsWithinLimits c
+    → ((json : Bool) → ReportsTellTheirRuns json) → ((json : Bool) → UnfinishedRunsAreTold json) → IsTest t → IsConfigurationWithinLimits c
     → (r.ended ≡ true → FitsTest t s) → (o.ended ≡ true → FitsTest t u) → AreFew m r → AreFew n o → m ≤ 100000 → n ≤ 100000
     → (b d : Bool) → r.ended ≡ b → o.ended ≡ d → cond b (report_in json t kind c s) (unfinished_in json r.used r.stalled) ≡ cond d (report_in json t kind c u) (unfinished_in json o.used o.stalled)
     → AreAlike r o s u

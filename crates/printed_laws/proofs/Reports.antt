@@ -7,7 +7,7 @@ use Rattle.tso_model.specs.declared.execution.Entry.{Entry}
 use Rattle.order_builder.specs.PrintedOrder.{printed_order}
 use Rattle.order_builder.specs.Spelling.{SpellsOrder}
 use Rattle.protocol_tables.specs.declared.kind.ProtocolKind.{ProtocolKind}
-use Rattle.machine_core.specs.Configuration.{Configuration, IsWithinLimits}
+use Rattle.machine_core.specs.Configuration.{Configuration, IsConfigurationWithinLimits}
 use Rattle.tso_report.specs.Laws.{ReportSpellsItsOrder, ReportsAreShort}
 use Rattle.tso_report.specs.Shown.{Shown}
 use Rattle.tso_report.specs.Report.{line, head, report, register_lines, printed_words, memory_line, printed_verdict, condition_line, choices_line, cache_lines}
@@ -22,7 +22,7 @@ abbrev pub OrderIsSpelledOnce : Type 0
 OrderIsSpelledOnce =
     (t : Litmus) (text : List ℕ) (order other : List Entry) → IsTest t → length text < 2 ^ 64 → SpellsOrder t text order → SpellsOrder t text other → order ≡ other
 
-order-told : OrderIsSpelledOnce → ReportSpellsItsOrder → ReportsAreShort → (t : Litmus) (kind : ProtocolKind) (c : Configuration) (s o : Shown) → IsTest t → IsWithinLimits c → FitsTest t s → FitsTest t o
+order-told : OrderIsSpelledOnce → ReportSpellsItsOrder → ReportsAreShort → (t : Litmus) (kind : ProtocolKind) (c : Configuration) (s o : Shown) → IsTest t → IsConfigurationWithinLimits c → FitsTest t s → FitsTest t o
     → report t kind c s ≡ report t kind c o → s.order ≡ o.order
 order-told once spells short t kind c s o test within p q e =
     let size = short t kind c o test within q.small in

@@ -4,7 +4,7 @@ use Rattle.tso_model.specs.Litmus.{Litmus, IsTest}
 use Rattle.tso_model.specs.declared.choice.Choice.{Choice}
 use Rattle.scheduler.specs.Limits.{most_choices}
 use Rattle.protocol_tables.specs.declared.kind.ProtocolKind.{ProtocolKind}
-use Rattle.machine_core.specs.Configuration.{Configuration, IsWithinLimits}
+use Rattle.machine_core.specs.Configuration.{Configuration, IsConfigurationWithinLimits}
 use Rattle.tso_cli.specs.Answers.{text_under}
 use Rattle.tso_cli.specs.Fitting.{shown_under}
 use Rattle.tso_cli.specs.Runs.{run_under, AnswersFit}
@@ -21,6 +21,6 @@ pub record LeaveTheSame (t : Litmus) (kind : ProtocolKind) (c : Configuration) (
 abbrev pub PrintedRunsAreTold : Type 0
 PrintedRunsAreTold =
     (t : Litmus) (kind : ProtocolKind) (c : Configuration) (json : Bool) (choices other : List Choice)
-    → IsTest t → IsWithinLimits c → length choices ≤ most_choices → length other ≤ most_choices
+    → IsTest t → IsConfigurationWithinLimits c → length choices ≤ most_choices → length other ≤ most_choices
     → AnswersFit t kind c choices → AnswersFit t kind c other
     → text_under t kind c json choices ≡ text_under t kind c json other → LeaveTheSame t kind c choices other

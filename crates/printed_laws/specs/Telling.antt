@@ -3,10 +3,10 @@
 use Rattle.std.specs.Prelude.{ℕ, ◌≡◌, ◌<◌, ◌^◌, Bool}
 use Rattle.tso_model.specs.Litmus.{Litmus, IsTest}
 use Rattle.protocol_tables.specs.declared.kind.ProtocolKind.{ProtocolKind}
-use Rattle.machine_core.specs.Configuration.{Configuration, IsWithinLimits}
+use Rattle.machine_core.specs.Configuration.{Configuration, IsConfigurationWithinLimits}
 use Rattle.tso_report.specs.Shown.{Shown}
 use Rattle.tso_report.specs.Tally.{RunCounts, runs_in}
-use Rattle.command_line.specs.Plan.{Plan, IsWithinLimits as IsPlan}
+use Rattle.command_line.specs.Plan.{Plan, IsPlanWithinLimits as IsPlan}
 use Rattle.tso_cli.specs.RunTexts.{report_in, unfinished_in}
 use Rattle.tso_cli.specs.Sweep.{sweep_lines}
 use Rattle.tso_cli.specs.Fitting.{FitsTest, CountsFitTest}
@@ -15,7 +15,7 @@ use Rattle.tso_cli.specs.Fitting.{FitsTest, CountsFitTest}
 abbrev pub ReportsTellTheirRuns : Bool → Type 0
 ReportsTellTheirRuns json =
     (t : Litmus) (kind : ProtocolKind) (c : Configuration) (s other : Shown)
-    → IsTest t → IsWithinLimits c → FitsTest t s → FitsTest t other
+    → IsTest t → IsConfigurationWithinLimits c → FitsTest t s → FitsTest t other
     → report_in json t kind c s ≡ report_in json t kind c other → s ≡ other
 
 -- of runs that didn't end: how many choices were used, and how many of them stalled
@@ -43,14 +43,14 @@ pub record NameTheSame (t u : Litmus) (kind other_kind : ProtocolKind) (c d : Co
 abbrev pub ReportsTellTheirMachines : Bool → Type 0
 ReportsTellTheirMachines json =
     (t u : Litmus) (kind other_kind : ProtocolKind) (c d : Configuration) (s other : Shown)
-    → IsTest t → IsTest u → IsWithinLimits c → IsWithinLimits d → FitsTest t s → FitsTest u other
+    → IsTest t → IsTest u → IsConfigurationWithinLimits c → IsConfigurationWithinLimits d → FitsTest t s → FitsTest u other
     → report_in json t kind c s ≡ report_in json u other_kind d other → NameTheSame t u kind other_kind c d
 
 -- of a sweep the same, and the first seed, the number of seeds and the choices of each
 abbrev pub SweepsTellTheirMachines : Type 0
 SweepsTellTheirMachines =
     (t u : Litmus) (kind other_kind : ProtocolKind) (c d : Configuration) (plan other_plan : Plan) (counts other : RunCounts)
-    → IsTest t → IsTest u → IsWithinLimits c → IsWithinLimits d → IsPlan plan → IsPlan other_plan
+    → IsTest t → IsTest u → IsConfigurationWithinLimits c → IsConfigurationWithinLimits d → IsPlan plan → IsPlan other_plan
     → runs_in counts ≡ plan.seeds → runs_in other ≡ other_plan.seeds
     → sweep_lines t kind c plan counts ≡ sweep_lines u other_kind d other_plan other
     → NameTheSame t u kind other_kind c d × (plan ≡ other_plan)

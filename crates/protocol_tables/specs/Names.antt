@@ -1,4 +1,4 @@
--- The names of the protocols. (This project's profile.)
+-- The names of the protocols.
 use Rattle.std.specs.Prelude.{ℕ, List, codes}
 use Rattle.protocol_tables.specs.declared.kind.ProtocolKind.{ProtocolKind}
 use Rattle.protocol_tables.specs.declared.kind.ProtocolKind.TheVariants.{Msi, Mesi, Moesi, Mosi}

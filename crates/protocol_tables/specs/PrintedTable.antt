@@ -1,4 +1,4 @@
--- The text of a protocol's table. (This project's profile.)
+-- The text of a protocol's table.
 use Rattle.std.specs.Prelude.{ℕ, Bool, true, false, List, [], ◌∷◌, ◌++◌, Option, Some, None, codes, if◌then◌else◌}
 use Rattle.protocol_tables.specs.declared.state.State.{State}
 use Rattle.protocol_tables.specs.declared.state.State.TheVariants.{I, S, E, O, M}

@@ -18,7 +18,7 @@ use Rattle.tso_model.specs.FlatMachine.{chosen}
 use Rattle.scheduler.specs.Seeds.{seeded_choices, drawn_words, generator, choice_of_word}
 use Rattle.scheduler.specs.Limits.{most_choices}
 use Rattle.scheduler.specs.Grammar.{IsChoiceWord, IsItem, one, seeded}
-use Rattle.scheduler.specs.Refusals.{IsFault, bad_form, cut_seed, bad_seed, bad_count, no_core, too_many}
+use Rattle.scheduler.specs.Refusals.{IsItemAtFault, bad_form, cut_seed, bad_seed, bad_count, no_core, too_many}
 use Rattle.scheduler.specs.Reading.{made_of, words_in, one_of, seed_of, seeded_from, seeded_of, item_of}
 use Rattle.scheduler.proofs.ChoiceWords.{either, number_in, number_out, reads_absent, reads_full, reads_there, not_a_choice, word_cases}
 
@@ -39,7 +39,7 @@ pub record Fits (cores room : ℕ) (words : List (List ℕ)) (item : Item) : Typ
 
 abbrev pub IsRead : ℕ → ℕ → ℕ → ℕ → List (List ℕ) → Result Item ChoiceFault → Type 0
 IsRead cores before room number words (Ok item) = Fits cores room words item
-IsRead cores before room number words (Err fault) = IsFault cores before number words fault
+IsRead cores before room number words (Err fault) = IsItemAtFault cores before number words fault
 
 read_choice : (cores before room number : ℕ) (word : List ℕ) (rest : List (List ℕ)) (c : Choice) → 0 < cores → before + room ≡ most_choices → IsChoiceWord word c
     → IsRead cores before room number (word ∷ rest) (one_of cores room number word)

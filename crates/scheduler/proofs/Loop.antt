@@ -8,7 +8,7 @@ use Rattle.scheduler.specs.declared.item.Item.{Item}
 use Rattle.scheduler.specs.declared.item.Item.TheVariants.{One, Seeded}
 use Rattle.scheduler.specs.Limits.{most_choices}
 use Rattle.scheduler.specs.Grammar.{IsItem, AreItems, none, more}
-use Rattle.scheduler.specs.Refusals.{IsFault, AreRefused}
+use Rattle.scheduler.specs.Refusals.{IsItemAtFault, AreRefused}
 use Rattle.scheduler.specs.Reading.{made_of, words_in, item_of}
 use Rattle.scheduler.proofs.Found.{Fits, IsRead, item_read}
 
@@ -47,7 +47,7 @@ pub refused_at : (cores room at : ℕ) (words rest : List (List ℕ)) (word : Li
     → room ≡ most_choices - length choices → drop at words ≡ word ∷ rest → item_of cores room (at + 1) word rest ≡ Err fault → AreItems cores (take at words) choices
     → AreRefused cores words fault
 refused_at cores room at words rest word choices fault some few room_is here is items =
-    let read : IsFault cores (length choices) (at + 1) (word ∷ rest) fault = subst (IsRead cores (length choices) room (at + 1) (word ∷ rest)) is (item_read cores (length choices) room (at + 1) word rest some (omega arith)) in
+    let read : IsItemAtFault cores (length choices) (at + 1) (word ∷ rest) fault = subst (IsRead cores (length choices) room (at + 1) (word ∷ rest)) is (item_read cores (length choices) room (at + 1) word rest some (omega arith)) in
     let left = ap length here in
     let front : length (take at words) ≡ at = omega (arith, length-take at words, length-drop at words) in
     record {
@@ -57,7 +57,7 @@ refused_at cores room at words rest word choices fault some few room_is here is 
       split = sym (take-append-drop at words);
       items = items;
       few = few;
-      at_fault = rw front (subst (λ (ws : List (List ℕ)). IsFault cores (length choices) (at + 1) ws fault) (sym here) read);
+      at_fault = rw front (subst (λ (ws : List (List ℕ)). IsItemAtFault cores (length choices) (at + 1) ws fault) (sym here) read);
     }
 
 -- where no word is left, the choices are those of all words

@@ -14,7 +14,7 @@ use Rattle.decimals.specs.Decimals.{decimal_value}
 use Rattle.scheduler.specs.Words.{words_of}
 use Rattle.scheduler.specs.Limits.{most_choices}
 use Rattle.scheduler.specs.Grammar.{IsChoiceWord, IsItem, one, seeded, AreItems, none, more, WordsSpell}
-use Rattle.scheduler.specs.Refusals.{IsFault, bad_form, cut_seed, bad_seed, bad_count, no_core, too_many, AreRefused, IsDecided}
+use Rattle.scheduler.specs.Refusals.{IsItemAtFault, bad_form, cut_seed, bad_seed, bad_count, no_core, too_many, AreRefused, IsDecided}
 use Rattle.scheduler.specs.Reading.{made_of, words_in, one_of, seeded_of, item_of}
 use Rattle.scheduler.proofs.ChoiceWords.{number_in, number_out, reads_absent, reads_full, reads_there, word_cases, choice_is_no_seed}
 use Rattle.scheduler.proofs.Found.{IsRead, item_read, length_seeded, seed_in, seed_out}
@@ -100,7 +100,7 @@ cut_item room number [] short = refl
 cut_item room number (seed ∷ []) short = refl
 cut_item room number (seed ∷ count ∷ rest) short = absurd (omega arith)
 
-fault_whole : (cores before number : ℕ) (back : List (List ℕ)) (fault : ChoiceFault) → 0 < cores → before ≤ most_choices → IsFault cores before number back fault → whole cores 0 before number back ≡ Err fault
+fault_whole : (cores before number : ℕ) (back : List (List ℕ)) (fault : ChoiceFault) → 0 < cores → before ≤ most_choices → IsItemAtFault cores before number back fault → whole cores 0 before number back ≡ Err fault
 unfolding whole seeded_of
 fault_whole cores before number _ _ some room (bad_form word rest no_form other) = rw (bad_item cores (most_choices - before) number word rest no_form other) refl
 fault_whole cores before number _ _ some room (cut_seed rest short) = rw (seed_item cores (most_choices - before) number rest, cut_item (most_choices - before) number rest short) refl

@@ -1,4 +1,4 @@
--- What the reader answers for one item. (This project's profile.)
+-- What the reader answers for one item.
 use Rattle.std.specs.Prelude.{◌≡◌, Result, Ok, Err, MatchResult}
 use Rattle.scheduler.specs.declared.fault.ChoiceFault.{ChoiceFault}
 use Rattle.scheduler.specs.declared.item.Item.{Item}

@@ -1,4 +1,4 @@
--- How many choices a text may spell. (This project's profile.)
+-- How many choices a text may spell.
 use Rattle.std.specs.Prelude.{ℕ}
 
 -- choices of a text, at most

@@ -1,4 +1,4 @@
--- The printed text of choices. (This project's profile.)
+-- The printed text of choices.
 use Rattle.std.specs.Prelude.{ℕ, List, [], ◌∷◌, ◌++◌, codes}
 use Rattle.std.specs.Fmt.{decimal}
 use Rattle.tso_model.specs.declared.choice.Choice.{Choice}

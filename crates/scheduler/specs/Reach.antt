@@ -1,4 +1,4 @@
--- Which orders no choices reach at a depth. (This project's profile.)
+-- Which orders no choices reach at a depth.
 use Rattle.std.specs.Prelude.{ℕ, ◌≡◌, ◌≢◌, ◌<◌, List}
 use Rattle.tso_model.specs.Litmus.{Litmus}
 use Rattle.tso_model.specs.Runs.{run}

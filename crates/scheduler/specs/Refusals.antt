@@ -1,4 +1,4 @@
--- Which refusal a text gets that spells no choices: that of its first item at fault. (This project's profile.)
+-- Which refusal a text gets that spells no choices: that of its first item at fault.
 use Rattle.std.specs.Prelude.{◌≡◌, ◌≢◌, ◌⊎◌, ◌<◌, ◌≤◌, ◌^◌, ◌+◌, ◌++◌, ℕ, List, ◌∷◌, length, codes, IsTrue}
 use Rattle.tso_model.specs.FlatMachine.{chosen}
 use Rattle.tso_model.specs.declared.choice.Choice.{Choice}
@@ -10,25 +10,25 @@ use Rattle.scheduler.specs.Limits.{most_choices}
 use Rattle.scheduler.specs.Grammar.{IsChoiceWord, IsItem, AreItems, SpellsChoices}
 
 -- the fault of the item at which words begin, where `before` choices stand before it and its first word has this number
-pub data IsFault (cores before number : ℕ) : List (List ℕ) → ChoiceFault → Type 0 where
+pub data IsItemAtFault (cores before number : ℕ) : List (List ℕ) → ChoiceFault → Type 0 where
   -- the word has none of the forms
   bad_form : (word : List ℕ) (rest : List (List ℕ)) → ((choice : Choice) → ¬ (IsChoiceWord word choice)) → word ≢ codes "seed"
-      → IsFault cores before number (word ∷ rest) (BadWord number)
+      → IsItemAtFault cores before number (word ∷ rest) (BadWord number)
   -- the text ends before the two words of `seed`
-  cut_seed : (rest : List (List ℕ)) → length rest < 2 → IsFault cores before number (codes "seed" ∷ rest) (BadWord number)
+  cut_seed : (rest : List (List ℕ)) → length rest < 2 → IsItemAtFault cores before number (codes "seed" ∷ rest) (BadWord number)
   -- else the seed isn't all digits, or is 2^64 or more
   bad_seed : (seed count : List ℕ) (rest : List (List ℕ)) → ¬ (IsTrue (is_numeral seed) × (decimal_value seed < 2 ^ 64))
-      → IsFault cores before number (codes "seed" ∷ seed ∷ count ∷ rest) (BadWord (number + 1))
+      → IsItemAtFault cores before number (codes "seed" ∷ seed ∷ count ∷ rest) (BadWord (number + 1))
   -- else the count isn't all digits
   bad_count : (seed count : List ℕ) (rest : List (List ℕ))
       → IsTrue (is_numeral seed) → decimal_value seed < 2 ^ 64 → ¬ (IsTrue (is_numeral count))
-      → IsFault cores before number (codes "seed" ∷ seed ∷ count ∷ rest) (BadWord (number + 2))
+      → IsItemAtFault cores before number (codes "seed" ∷ seed ∷ count ∷ rest) (BadWord (number + 2))
   -- the word is a choice of a core that isn't there
   no_core : (word : List ℕ) (choice : Choice) (rest : List (List ℕ)) → IsChoiceWord word choice → cores ≤ chosen choice
-      → IsFault cores before number (word ∷ rest) (NoSuchCore number)
+      → IsItemAtFault cores before number (word ∷ rest) (NoSuchCore number)
   -- the item has none of these faults, and with its choices there are too many
   too_many : (words : List (List ℕ)) (choices : List Choice) (rest : List (List ℕ)) → IsItem cores words choices
-      → most_choices < before + length choices → IsFault cores before number (words ++ rest) (TooMany number)
+      → most_choices < before + length choices → IsItemAtFault cores before number (words ++ rest) (TooMany number)
 
 -- words get a refusal: they are items within the limit, and after these one at fault; words are numbered from 1
 pub record AreRefused (cores : ℕ) (words : List (List ℕ)) (fault : ChoiceFault) : Type 0 where
@@ -38,7 +38,7 @@ pub record AreRefused (cores : ℕ) (words : List (List ℕ)) (fault : ChoiceFau
   pub split : words ≡ front ++ back
   pub items : AreItems cores front choices
   pub few : length choices ≤ most_choices
-  pub at_fault : IsFault cores (length choices) (length front + 1) back fault
+  pub at_fault : IsItemAtFault cores (length choices) (length front + 1) back fault
 
 -- a text gets a refusal in a test with so many cores
 abbrev pub IsRefusedAsChoices : ℕ → List ℕ → ChoiceFault → Type 0

@@ -1,4 +1,4 @@
--- The words of a choice text, and which of them are numbers. (This project's profile.)
+-- The words of a choice text, and which of them are numbers.
 use Rattle.std.specs.Prelude.{ℕ, Bool, List, length, filter, not, ◌==◌, ◌||◌, ◌&&◌, nat_lt}
 use Rattle.std.specs.Char.{is_ascii_digit}
 use Rattle.std.specs.List.{slice_split, list_all}

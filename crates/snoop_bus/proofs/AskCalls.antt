@@ -8,7 +8,7 @@ use Rattle.protocol_tables.specs.declared.asking.Transient.{Transient}
 use Rattle.snoop_bus.specs.declared.holding.Held.{Held}
 use Rattle.snoop_bus.specs.Geometry.{Geometry}
 use Rattle.snoop_bus.specs.Lines.{Words}
-use Rattle.snoop_bus.specs.Rows.{rows_of, table_of}
+use Rattle.snoop_bus.specs.Rows.{rows_of, table_of_rows}
 use Rattle.snoop_bus.specs.CacheContents.{TagSets}
 use Rattle.snoop_bus.specs.Copies.{Sets, cache_of, tags_of}
 use Rattle.snoop_bus.specs.Held.{counted, held_by, stage_for}
@@ -33,7 +33,7 @@ module _ (t : Table) (shape : Geometry) (locations : ℕ) (c0 c2 : List Sets) (m
   abbrev line : ℕ
   line = loc.0 / shape.words
 
-  back : t ≡ table_of (rows_of t)
+  back : t ≡ table_of_rows (rows_of t)
   back = sym (table_of-rows t)
 
   -- the steps of an ask

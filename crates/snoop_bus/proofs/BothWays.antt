@@ -14,7 +14,7 @@ use Rattle.tso_model.specs.declared.instruction.Core.{Core}
 use Rattle.tso_model.specs.declared.instruction.Loc.{Loc}
 use Rattle.snoop_bus.specs.declared.access.Access.{Access}
 use Rattle.snoop_bus.specs.Lines.{Words}
-use Rattle.snoop_bus.specs.Rows.{Rows, table_of}
+use Rattle.snoop_bus.specs.Rows.{Rows, table_of_rows}
 use Rattle.snoop_bus.specs.CacheContents.{TagSets, Accessed}
 use Rattle.snoop_bus.specs.Copies.{Sets, set_at, cache_of, copy_at, tags_of}
 use Rattle.snoop_bus.specs.Held.{counted}
@@ -117,14 +117,14 @@ write-memory t core line caches asked memory valid own = by_copy (copy_at caches
 
 -- what a completion is and leaves, said of the bus before the ask
 pub completed-is : (old between new : Bus) (core : Core) (loc : Loc) (write : Bool) (access : Access) → (h : InHalves old between new core loc write access)
-    → completion_of between core.0 loc.0 ≡ completed (table_of old.rows) core.0 (line_of old loc.0) (ask_of old core.0 loc.0 write).awaited (ask_of old core.0 loc.0 write).caches
+    → completion_of between core.0 loc.0 ≡ completed (table_of_rows old.rows) core.0 (line_of old loc.0) (ask_of old core.0 loc.0 write).awaited (ask_of old core.0 loc.0 write).caches
 completed-is old between new core loc write access h =
     rw (h.machine.rows, h.machine.shape, h.asks.awaited_is, h.asks.contents) refl
 
 pub load-agrees : (old whole between new : Bus) (core : Core) (loc : Loc) (word other : ℕ) (a b : Access) → would_hit old core.0 loc.0 false ≡ false
     → LoadsAt old whole core.0 loc.0 word a → LoadsInHalves old between new core loc other b → LoadsAgree whole new word other a b
 load-agrees old whole between new core loc word other a b misses one two =
-    let t = table_of old.rows in
+    let t = table_of_rows old.rows in
     let line = line_of old loc.0 in
     let halves : load_of old core.0 loc.0 ≡ completion_of between core.0 loc.0 =
     load_halves t core.0 line (contents_of old) misses ∙ sym (completed-is old between new core loc false b two.halves) in
@@ -153,10 +153,10 @@ valid-tag caches memory core line coherent e = by_copy (copy_at caches core line
       | inr l ↦ let none = coherent.within line core l in let z : ⊥ = cc in z
     ]
 
-pub write-agrees : (old whole between new : Bus) (core : Core) (loc : Loc) (word : ℕ) (a b : Access) → WritesInPlace (table_of old.rows).written → IsFree old → IsCoherent old
+pub write-agrees : (old whole between new : Bus) (core : Core) (loc : Loc) (word : ℕ) (a b : Access) → WritesInPlace (table_of_rows old.rows).written → IsFree old → IsCoherent old
     → WritesAt old whole core.0 loc.0 word a → WritesInHalves old between new core loc word b → LeaveTheSame whole new a b
 write-agrees old whole between new core loc word a b law free coherent one two =
-    let t = table_of old.rows in
+    let t = table_of_rows old.rows in
     let line = line_of old loc.0 in
     let unheld = free-held old.held free in
     let real : AllCoherent old.caches old.memory = subst (λ h. AllCoherent (counted h old.caches) old.memory) unheld coherent in

@@ -6,7 +6,7 @@ use Rattle.snoop_bus.specs.declared.access.Access.{Access}
 use Rattle.snoop_bus.specs.declared.access.AccessKind.TheVariants.{Miss}
 use Rattle.snoop_bus.specs.Geometry.{Geometry}
 use Rattle.snoop_bus.specs.Lines.{Words, line_in, words_in}
-use Rattle.snoop_bus.specs.Rows.{rows_of, table_of}
+use Rattle.snoop_bus.specs.Rows.{rows_of, table_of_rows}
 use Rattle.snoop_bus.specs.CacheContents.{Accessed, loaded, written}
 use Rattle.snoop_bus.specs.Copies.{Sets, copy_at, tags_of}
 use Rattle.snoop_bus.specs.declared.holding.Held.{Held}
@@ -56,7 +56,7 @@ module _ (t : Table) (shape : Geometry) (locations : ℕ) (c0 c2 : List Sets) (m
   same_holder : KeepsHolder before after
   same_holder = record { holder_is = refl; awaited_is = refl }
 
-  back : t ≡ table_of (rows_of t)
+  back : t ≡ table_of_rows (rows_of t)
   back = sym (table_of-rows t)
 
   pub load_done : {E : Type 0} (r : Result (ℕ × Access) E) → 0 < shape.words → locations ≤ length m0 * shape.words → loc < locations →
@@ -98,7 +98,7 @@ module _ (t : Table) (shape : Geometry) (locations : ℕ) (c0 c2 : List Sets) (m
   load_refused (Err e) succeeds unchanged = record { miss = by_copy (copy_at c0 core (loc / shape.words)) refl; same = same_bus unchanged.caches unchanged.memory }
     where
       by_copy : (o : Option Line) → copy_at c0 core (loc / shape.words) ≡ o → (load_of before core loc).access.kind ≡ Miss
-      by_copy None absent = ap (λ (a : Accessed). a.access.kind) (loaded-miss (table_of (rows_of t)) c0 core (loc / shape.words) absent)
+      by_copy None absent = ap (λ (a : Accessed). a.access.kind) (loaded-miss (table_of_rows (rows_of t)) c0 core (loc / shape.words) absent)
       by_copy (Some copy) found = let here : IsSome (copy_at c0 core (loc / shape.words)) = rw found refl in let no = succeeds here in cc
 
   pub write_refused : {V E : Type 0} (r : Result V E) → (IsSome (copy_at c0 core (loc / shape.words)) → IsOk r) → OnErr r (IsUnchanged c0 c2 m0 m2) →
@@ -107,7 +107,7 @@ module _ (t : Table) (shape : Geometry) (locations : ℕ) (c0 c2 : List Sets) (m
   write_refused (Err e) succeeds unchanged = record { miss = by_copy (copy_at c0 core (loc / shape.words)) refl; same = same_bus unchanged.caches unchanged.memory }
     where
       by_copy : (o : Option Line) → copy_at c0 core (loc / shape.words) ≡ o → (write_of before core loc).access.kind ≡ Miss
-      by_copy None absent = ap (λ (a : Accessed). a.access.kind) (written-miss (table_of (rows_of t)) c0 core (loc / shape.words) absent)
+      by_copy None absent = ap (λ (a : Accessed). a.access.kind) (written-miss (table_of_rows (rows_of t)) c0 core (loc / shape.words) absent)
       by_copy (Some copy) found = let here : IsSome (copy_at c0 core (loc / shape.words)) = rw found refl in let no = succeeds here in cc
 
 -- once memory has each line that is seen, its own words are the words that are seen

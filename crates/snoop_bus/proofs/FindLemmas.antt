@@ -10,7 +10,7 @@ use Rattle.protocol_tables.specs.declared.state.State.{State}
 use Rattle.protocol_tables.specs.declared.state.Snoop.{Snoop}
 use Rattle.cache_set.specs.declared.Line.{Line}
 use Rattle.snoop_bus.specs.declared.finding.Found.{Found}
-use Rattle.snoop_bus.specs.Limits.{most_bus_cores}
+use Rattle.tso_model.specs.Limits.{most_cores}
 use Rattle.snoop_bus.specs.Lines.{Words}
 use Rattle.snoop_bus.specs.CacheContents.{flusher_from}
 use Rattle.snoop_bus.specs.Copies.{Sets, copy_in, copy_at, tags_in, tags_of}
@@ -34,7 +34,7 @@ pub record FoundBelow (upto : ℕ) (on : State → Snoop) (line : ℕ) (caches :
   pub shared : list_any (has line) caches ≡ (found.shared || list_any (has line) (drop upto caches))
   pub flushed : flusher_from 0 on line (tags_of caches) ≡ option_or found.flushed (flusher_from upto on line (drop upto (tags_of caches)))
   pub states : (i : ℕ) → slice_index_or found.states i None ≡ (if nat_lt i upto then state_in (copy_at caches i line) else None)
-  pub room : length found.states ≡ most_bus_cores
+  pub room : length found.states ≡ most_cores
 
 pub nothing-found : (on : State → Snoop) (line : ℕ) (caches : List Sets) → FoundBelow 0 on line caches nothing_found
 nothing-found on line caches = record {
@@ -51,7 +51,7 @@ nothing-found on line caches = record {
     in_none (suc n) (suc i) = in_none n i
 
     none : (i : ℕ) → slice_index_or nothing_found.states i None ≡ None
-    none i = in_none most_bus_cores i
+    none i = in_none most_cores i
 
 -- a cache that has no copy is passed by
 pub passed-by : (on : State → Snoop) (line n : ℕ) (caches : List Sets) (found : Found) → n < length caches → copy_at caches n line ≡ None →
@@ -82,7 +82,7 @@ passed-by on line n caches found b none h = record {
     by_number i (inr e) = let same : nat_lt i (n + 1) ≡ nat_lt i n = grind (arith, nat_tests) in rw same refl
 
 -- a cache that has a copy is noted
-pub noted : (on : State → Snoop) (line n : ℕ) (caches : List Sets) (found : Found) (copy : Line) → n < length caches → length caches ≤ most_bus_cores →
+pub noted : (on : State → Snoop) (line n : ℕ) (caches : List Sets) (found : Found) (copy : Line) → n < length caches → length caches ≤ most_cores →
     copy_at caches n line ≡ Some copy → FoundBelow n on line caches found → FoundBelow (n + 1) on line caches (noting n copy (on copy.state) found)
 noted on line n caches found copy b few some h = record {
   words = elim h.words [ inl p ↦ first p.0 p.1 (on copy.state).supplies refl | inr p ↦ inr (p.0, already found.words refl p.0 p.1.0 p.1.1) ];

@@ -10,7 +10,7 @@ use Rattle.std.proofs.Math.ListN.{get_or-map}
 use Rattle.cache_set.specs.Contents.{Contents, contents, copy_of}
 use Rattle.protocol_tables.specs.Tables.{Table}
 use Rattle.cache_set.specs.Limits.{most_words}
-use Rattle.snoop_bus.specs.Limits.{most_bus_cores}
+use Rattle.tso_model.specs.Limits.{most_cores}
 use Rattle.snoop_bus.specs.Geometry.{Geometry}
 use Rattle.snoop_bus.specs.Lines.{Words, line_in, word_at, words_in, place_of, line_of_words, lines_of_words}
 use Rattle.snoop_bus.specs.Coherent.{Coherent}
@@ -91,7 +91,7 @@ lines_few lines words n some close few = elim (cases_lt 16 lines) [
   | inr p ↦ p
 ]
 
-pub new-bus : (cores lines : ℕ) (shape : Geometry) (init : List ℕ) → 1 ≤ cores → cores ≤ most_bus_cores → 1 ≤ shape.words → shape.words ≤ most_words → length init ≤ 16 → length init ≤ lines * shape.words → lines * shape.words < length init + shape.words →
+pub new-bus : (cores lines : ℕ) (shape : Geometry) (init : List ℕ) → 1 ≤ cores → cores ≤ most_cores → 1 ≤ shape.words → shape.words ≤ most_words → length init ≤ 16 → length init ≤ lines * shape.words → lines * shape.words < length init + shape.words →
     lines ≡ div_ceil (length init) shape.words → IsBus shape (length init) (empty_caches cores shape) (lines_of_words shape.words init lines) None
 new-bus cores lines shape init some few words small locations enough close exact = record {
   coherent = all_coherent (empty_caches cores shape) memory (λ k. line_in memory k) (λ k b. new-line cores shape (line_in memory k) k) (λ k i b. empty_copy cores shape i k);

@@ -4,7 +4,7 @@ use Rattle.std.proofs.Common.{◌≡◌, Bool, true, false, None, refl}
 use Rattle.protocol_tables.specs.declared.state.State.{State}
 use Rattle.protocol_tables.specs.declared.state.State.TheVariants.{I, S, E, O, M}
 use Rattle.protocol_tables.specs.Tables.{Table, snoop}
-use Rattle.snoop_bus.specs.Rows.{column, entry_at, rows_of, filled_in, table_of}
+use Rattle.snoop_bus.specs.Rows.{column, entry_at, rows_of, filled_in, table_of_rows}
 
 column-entry : {A : Type 0} (none : A) (f : State → A) → entry_at none (column f) ≡ f
 column-entry none f = fun_ext each
@@ -23,5 +23,5 @@ filled-in t = fun_ext each
     each true = refl
     each false = refl
 
-pub table_of-rows : (t : Table) → table_of (rows_of t) ≡ t
+pub table_of-rows : (t : Table) → table_of_rows (rows_of t) ≡ t
 table_of-rows t = rw (filled-in t, column-entry (snoop I false false) t.on_get_s, column-entry (snoop I false false) t.on_get_m, column-entry None t.written, column-entry false t.evicts_dirty) refl

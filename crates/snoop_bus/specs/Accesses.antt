@@ -13,7 +13,7 @@ use Rattle.snoop_bus.specs.declared.access.AccessKind.TheVariants.{Miss}
 use Rattle.snoop_bus.specs.declared.holding.Holder.{Holder}
 use Rattle.snoop_bus.specs.declared.holding.Stage.TheVariants.{Load, Locked}
 use Rattle.snoop_bus.specs.Geometry.{Geometry}
-use Rattle.snoop_bus.specs.Rows.{table_of}
+use Rattle.snoop_bus.specs.Rows.{table_of_rows}
 use Rattle.snoop_bus.specs.Lines.{Words, line_in, words_in, lines_of_words}
 use Rattle.snoop_bus.specs.CacheContents.{TagSets, Accessed, loaded, written, settled}
 use Rattle.snoop_bus.specs.Copies.{cache_of, tags_of}
@@ -52,22 +52,22 @@ line_of b loc = loc / b.shape.words
 
 -- a core's load at a location: what access it is, and the contents after it
 abbrev pub load_of : Bus → ℕ → ℕ → Accessed
-load_of b core loc = loaded (table_of b.rows) core (line_of b loc) (contents_of b)
+load_of b core loc = loaded (table_of_rows b.rows) core (line_of b loc) (contents_of b)
 
 -- a core's write access at a location
 abbrev pub write_of : Bus → ℕ → ℕ → Accessed
-write_of b core loc = written (table_of b.rows) core (line_of b loc) (contents_of b)
+write_of b core loc = written (table_of_rows b.rows) core (line_of b loc) (contents_of b)
 
 -- memory after each of them
 abbrev pub memory_after_load : Bus → ℕ → ℕ → List Words
-memory_after_load b core loc = loaded_memory (table_of b.rows) core (line_of b loc) b.caches b.memory
+memory_after_load b core loc = loaded_memory (table_of_rows b.rows) core (line_of b loc) b.caches b.memory
 
 abbrev pub memory_after_write : Bus → ℕ → ℕ → List Words
-memory_after_write b core loc = written_memory (table_of b.rows) core (line_of b loc) b.caches b.memory
+memory_after_write b core loc = written_memory (table_of_rows b.rows) core (line_of b loc) b.caches b.memory
 
 -- whether a core's access at a location is a hit, which needs no bus
 abbrev pub would_hit : Bus → ℕ → ℕ → Bool → Bool
-would_hit b core loc write = hits (table_of b.rows) core (line_of b loc) write (contents_of b)
+would_hit b core loc write = hits (table_of_rows b.rows) core (line_of b loc) write (contents_of b)
 
 -- a core's access to the line for which another core's write access holds the bus doesn't hit
 abbrev pub KeepsOut : Bus → Core → Loc → Bool → Holder → Type 0
@@ -87,17 +87,17 @@ awaited_of b = awaited_in (transaction_in b.held)
 
 -- the first half of a core's access at a location: what it awaits, the contents after it, and memory after it
 abbrev pub ask_of : Bus → ℕ → ℕ → Bool → Asked
-ask_of b core loc write = asking (table_of b.rows) (request_for write) core (line_of b loc) (contents_of b)
+ask_of b core loc write = asking (table_of_rows b.rows) (request_for write) core (line_of b loc) (contents_of b)
 
 abbrev pub memory_after_ask : Bus → ℕ → Bool → List Words
-memory_after_ask b loc write = asked_memory (table_of b.rows) (request_for write) (line_of b loc) b.caches b.memory
+memory_after_ask b loc write = asked_memory (table_of_rows b.rows) (request_for write) (line_of b loc) b.caches b.memory
 
 -- the second half: what access it is, the contents after it, and memory after it
 abbrev pub completion_of : Bus → ℕ → ℕ → Accessed
-completion_of b core loc = completed (table_of b.rows) core (line_of b loc) (awaited_of b) (contents_of b)
+completion_of b core loc = completed (table_of_rows b.rows) core (line_of b loc) (awaited_of b) (contents_of b)
 
 abbrev pub memory_after_completion : Bus → ℕ → ℕ → List Words
-memory_after_completion b core loc = completed_memory (table_of b.rows) core (line_of b loc) (awaited_of b) b.caches b.memory
+memory_after_completion b core loc = completed_memory (table_of_rows b.rows) core (line_of b loc) (awaited_of b) b.caches b.memory
 
 -- the contents once every dirty line was written to memory
 abbrev pub contents_settled : Bus → List TagSets

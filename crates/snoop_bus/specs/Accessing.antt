@@ -7,7 +7,7 @@ use Rattle.protocol_tables.specs.Tables.{Table}
 use Rattle.cache_set.specs.Copy.{copy_with}
 use Rattle.snoop_bus.specs.declared.access.Access.{Access}
 use Rattle.snoop_bus.specs.declared.holding.Held.{Held}
-use Rattle.snoop_bus.specs.Limits.{most_bus_cores}
+use Rattle.tso_model.specs.Limits.{most_cores}
 use Rattle.snoop_bus.specs.Lines.{Words}
 use Rattle.snoop_bus.specs.CacheContents.{TagSets, loaded, written}
 use Rattle.snoop_bus.specs.Copies.{Sets, copy_at, tags_of, ways_of}
@@ -22,7 +22,7 @@ pub record IsReady (held : Option Held) (core line : ℕ) (caches : List Sets) (
   pub coherent : AllCoherent (counted held caches) memory
   pub awaited : IfSome held (IsHeld caches memory)
   pub core_in : core < length caches
-  pub few_cores : length caches ≤ most_bus_cores
+  pub few_cores : length caches ≤ most_cores
   pub line_in : line < length memory
 
 -- a write access may be made whole: nobody holds the bus, or it hits

@@ -4,7 +4,7 @@ use Rattle.std.specs.Int.{div_ceil}
 use Rattle.std.specs.Option.{option_or}
 use Rattle.cache_set.specs.Contents.{contents}
 use Rattle.tso_model.specs.Limits.{most_locations}
-use Rattle.snoop_bus.specs.Limits.{most_bus_cores}
+use Rattle.tso_model.specs.Limits.{most_cores}
 use Rattle.snoop_bus.specs.Geometry.{Geometry}
 use Rattle.protocol_tables.specs.Tables.{Table}
 use Rattle.snoop_bus.specs.Rows.{Rows, rows_of}
@@ -77,7 +77,7 @@ pub record IsBus (shape : Geometry) (locations : ℕ) (caches : List Sets) (memo
   pub placed : IfSome held (IsPlaced shape locations)
   pub shaped : ways_of caches ≡ replicate (length caches) (replicate shape.sets shape.ways)
   pub some_core : 0 < length caches
-  pub few_cores : length caches ≤ most_bus_cores
+  pub few_cores : length caches ≤ most_cores
   pub few_locations : locations ≤ most_locations
   pub some_word : 1 ≤ shape.words
   pub few_lines : length memory ≤ most_locations

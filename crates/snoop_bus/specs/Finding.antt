@@ -4,11 +4,11 @@ use Rattle.std.specs.Option.{option_or}
 use Rattle.protocol_tables.specs.declared.state.Snoop.{Snoop}
 use Rattle.cache_set.specs.declared.Line.{Line}
 use Rattle.snoop_bus.specs.declared.finding.Found.{Found}
-use Rattle.snoop_bus.specs.Limits.{most_bus_cores}
+use Rattle.tso_model.specs.Limits.{most_cores}
 
 -- before the walk
 abbrev pub nothing_found : Found
-nothing_found = record { words = None; shared = false; flushed = None; states = replicate most_bus_cores None }
+nothing_found = record { words = None; shared = false; flushed = None; states = replicate most_cores None }
 
 -- once this core's copy was seen too, which does this at the request: the first that supplies gives the words, and the
 -- first that is sent is flushed

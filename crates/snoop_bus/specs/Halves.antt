@@ -5,7 +5,7 @@ use Rattle.tso_model.specs.declared.instruction.Core.{Core}
 use Rattle.tso_model.specs.declared.instruction.Loc.{Loc}
 use Rattle.protocol_tables.specs.Laws.{WritesInPlace}
 use Rattle.snoop_bus.specs.declared.access.Access.{Access}
-use Rattle.snoop_bus.specs.Rows.{table_of}
+use Rattle.snoop_bus.specs.Rows.{table_of_rows}
 use Rattle.snoop_bus.specs.Bus.{Bus, IsFree, IsCoherent, IsSameMachine, words_of}
 use Rattle.snoop_bus.specs.Accesses.{contents_of, memory_of, would_hit, IsCurrentWord, LoadsAt, WritesAt, AsksFor, CompletesAt}
 
@@ -49,5 +49,5 @@ LoadsAgreeWithHalves =
 abbrev pub WritesAgreeWithHalves : Type 0
 WritesAgreeWithHalves =
     (old whole between new : Bus) (core : Core) (loc : Loc) (word : ℕ) (a b : Access)
-    → WritesInPlace (table_of old.rows).written → IsFree old → IsCoherent old → WritesAt old whole core.0 loc.0 word a
+    → WritesInPlace (table_of_rows old.rows).written → IsFree old → IsCoherent old → WritesAt old whole core.0 loc.0 word a
     → WritesInHalves old between new core loc word b → LeaveTheSame whole new a b

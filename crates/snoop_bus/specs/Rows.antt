@@ -42,8 +42,8 @@ filled_in r true = r.filled_shared
 filled_in r false = r.filled_alone
 
 -- the table of these rows
-abbrev pub table_of : Rows → Table
-table_of r = record {
+abbrev pub table_of_rows : Rows → Table
+table_of_rows r = record {
   filled = filled_in r;
   on_get_s = entry_at (snoop I false false) r.on_get_s;
   on_get_m = entry_at (snoop I false false) r.on_get_m;

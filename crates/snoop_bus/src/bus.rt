@@ -3,7 +3,7 @@
 ghost use Rattle.std.specs.Prelude.{◌≡◌, ◌+◌, ◌%◌, ◌^◌, ◌<◌, ◌≤◌, true, false};
 ghost use Rattle.std.specs.Prelude.{Some, IfSome, IfOk, OnOk, OnErr, length, slice_get, slice_set};
 ghost use Rattle.tso_model.specs.Limits.{most_locations};
-ghost use Rattle.snoop_bus.specs.Limits.{most_bus_cores};
+ghost use Rattle.tso_model.specs.Limits.{most_cores};
 ghost use Rattle.snoop_bus.specs.Bus.{words_of, holder_of, IsFree, cores_of, IsCoherent, HasLines, IsSameMachine};
 ghost use Rattle.snoop_bus.specs.Held.{holder};
 ghost use Rattle.snoop_bus.specs.Accesses.{new_bus, contents_of, contents_settled, copies_of, memory_of, memory_words_of};
@@ -74,7 +74,7 @@ impl<P: Protocol> SnoopBus<P> {
         shape: Shape,
         init: &[u32],
     ) -> Result<Self, NoMemory>
-        requires cores { (1 ≤ cores) × (cores ≤ most_bus_cores) }
+        requires cores { (1 ≤ cores) × (cores ≤ most_cores) }
         requires init { length init.now ≤ most_locations }
         ensures words { IfOk result (λ b. words_of b ≡ init.now) }
         ensures cores { IfOk result (λ b. cores_of b ≡ cores) }

@@ -2,7 +2,7 @@
 //! copy is sent to memory.
 ghost use Rattle.std.specs.Prelude.{◌≡◌, ◌<◌, ◌≤◌, ℕ, None, length, slice_index_or, is_some};
 ghost use Rattle.std.specs.List.{list_any};
-ghost use Rattle.snoop_bus.specs.Limits.{most_bus_cores};
+ghost use Rattle.tso_model.specs.Limits.{most_cores};
 ghost use Rattle.snoop_bus.specs.CacheContents.{flusher_from};
 ghost use Rattle.snoop_bus.specs.Copies.{copy_in, tags_of, state_at};
 ghost use Rattle.snoop_bus.specs.Requests.{asked, HasSupplied};
@@ -43,7 +43,7 @@ impl Found {
 
     /// One core more has a copy, which does this at the request.
     fn with(self, core: usize, copy: Line, snoop: Snoop) -> Found
-        requires { core < most_bus_cores }
+        requires { core < most_cores }
         ensures { result ≡ noting core copy snoop self }
     {
         let mut states = self.states;
@@ -69,7 +69,7 @@ impl Found {
 
 /// Looks for the line once in each cache.
 pub fn find<P: Protocol>(caches: &[Cache], protocol: &P, request: Request, line: u8) -> Found
-    requires few { length caches.now ≤ most_bus_cores }
+    requires few { length caches.now ≤ most_cores }
     ensures words { HasSupplied (asked (P.table protocol.now) request) caches.now line result.words }
     ensures shared { result.shared ≡ list_any (λ sets. is_some (copy_in sets line)) caches.now }
     ensures flushed { result.flushed ≡ flusher_from 0 (asked (P.table protocol.now) request) line (tags_of caches.now) }

@@ -1,6 +1,6 @@
 //! A bus that begins anew, with its room.
 ghost use Rattle.std.specs.Prelude.{◌≡◌, length, map};
-ghost use Rattle.snoop_bus.specs.Rows.{table_of};
+ghost use Rattle.snoop_bus.specs.Rows.{table_of_rows};
 ghost use Rattle.snoop_bus.specs.Copies.{emptied};
 ghost use Rattle.snoop_bus.specs.Bus.{words_of, cores_of, IsCoherent, IsSameMachine};
 ghost use Rattle.snoop_bus.specs.Accesses.{new_bus};
@@ -16,7 +16,7 @@ impl<P: Protocol> SnoopBus<P> {
     pub fn restart(&mut self, init: &[u32])
         requires { length init.now ≡ length (words_of self.old) }
         ensures words { words_of self.new ≡ init.now }
-        ensures exact { self.new ≡ new_bus (table_of self.old.rows) (cores_of self.old) self.old.shape init.now }
+        ensures exact { self.new ≡ new_bus (table_of_rows self.old.rows) (cores_of self.old) self.old.shape init.now }
         ensures coherent { IsCoherent self.new }
         ensures machine { IsSameMachine self.old self.new }
     {

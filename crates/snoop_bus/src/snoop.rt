@@ -1,7 +1,7 @@
 //! What the other caches make of a core's request for a line, and what memory gets.
 ghost use Rattle.std.specs.Prelude.{◌≡◌, ◌≢◌, ◌<◌, ◌≤◌, ℕ, None, IfSome, length};
 ghost use Rattle.std.specs.Prelude.{slice_set, slice_index_or, is_some, option_map, if◌then◌else◌};
-ghost use Rattle.snoop_bus.specs.Limits.{most_bus_cores};
+ghost use Rattle.tso_model.specs.Limits.{most_cores};
 ghost use Rattle.snoop_bus.specs.CacheContents.{requested, dirty_in};
 ghost use Rattle.snoop_bus.specs.Copies.{tags_of, cache_of, ways_of, ways_in, state_in, state_at, OnlyAt};
 ghost use Rattle.snoop_bus.specs.Requests.{asked, answered, left_by, SeenAt, LeftAt, LeftByOthers};
@@ -79,7 +79,7 @@ pub fn snoop_others<P: Protocol>(
     line: u8,
     states: &[Option<State>; MAX_CORES as usize],
 )
-    requires few { length caches.old ≤ most_bus_cores }
+    requires few { length caches.old ≤ most_cores }
     requires states { (i : ℕ) → i ≢ core → slice_index_or states.now i None ≡ state_at caches.old i line }
     ensures tags { tags_of caches.new ≡ requested (asked (P.table protocol.now) request) core line (tags_of caches.old) }
     ensures own { cache_of caches.new core ≡ cache_of caches.old core }

@@ -1,4 +1,4 @@
--- What a contract sees of a store buffer. (This project's profile.)
+-- What a contract sees of a store buffer.
 use Rattle.std.specs.Prelude.{ℕ, List}
 use Rattle.store_buffer.specs.declared.Pending.{Pending}
 

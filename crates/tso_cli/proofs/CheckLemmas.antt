@@ -3,7 +3,8 @@ use Rattle.std.proofs.Common.{◌≡◌, ◌≢◌, ℕ, false, ◌<◌, ◌≤�
 use Rattle.std.proofs.lemmas.Option.{get_or_from_slice_get, slice_get-get_or, slice_get_within}
 use Rattle.tso_model.specs.Litmus.{Litmus, IsTest}
 use Rattle.tso_model.specs.ProgramEntries.{made}
-use Rattle.tso_model.specs.Axioms.{StandsIn, IsWhole, IsTsoExecution}
+use Rattle.tso_model.specs.Axioms.{IsWhole, IsTsoExecution}
+use Rattle.tso_model.specs.Standing.{StandsIn}
 use Rattle.tso_model.specs.Runs.{Run}
 use Rattle.tso_model.specs.FlatMachine.{program_of}
 use Rattle.tso_model.specs.declared.choice.Choice.{Choice}
@@ -19,7 +20,7 @@ use Rattle.axiom_checker.specs.FirstBreach.{IsFirstBreach}
 use Rattle.axiom_checker.specs.declared.breach.Breach.{Breach}
 use Rattle.axiom_checker.specs.declared.breach.Breach.TheVariants.{Extra, Twice, Missing, WrongValue, ProgramOrder, NotAdjacent, ReadValue, NoMemory}
 use Rattle.protocol_tables.specs.declared.kind.ProtocolKind.{ProtocolKind}
-use Rattle.snoop_bus.specs.Geometry.{IsWithinLimits}
+use Rattle.snoop_bus.specs.Geometry.{IsShapeWithinLimits}
 use Rattle.machine_core.specs.Configuration.{Configuration}
 use Rattle.tso_report.specs.Report.{report}
 use Rattle.tso_report.specs.Shown.{Shown}
@@ -146,8 +147,8 @@ pub order-for : (t : Litmus) (order : List Entry) → IsTest t → ((e : Entry) 
 order-for t order test fits words = λ k d lt.
     entry-for t (slice_index_or order k d) test (fits _ (k, stands-at order k d lt)) (words k d lt)
 
-pub run-spells : (t : Litmus) (kind : ProtocolKind) (c : Configuration) (r : Run) (s : Shown) (text : List ℕ) → IsTest t → c.depth < 2 ^ 64 → IsWithinLimits c.shape
-    → ((t : Litmus) (kind : ProtocolKind) (c : Configuration) (s : Shown) → IsTest t → c.depth < 2 ^ 64 → IsWithinLimits c.shape → IsOrderFor t s.order → SpellsOrder t (report t kind c s) s.order)
+pub run-spells : (t : Litmus) (kind : ProtocolKind) (c : Configuration) (r : Run) (s : Shown) (text : List ℕ) → IsTest t → c.depth < 2 ^ 64 → IsShapeWithinLimits c.shape
+    → ((t : Litmus) (kind : ProtocolKind) (c : Configuration) (s : Shown) → IsTest t → c.depth < 2 ^ 64 → IsShapeWithinLimits c.shape → IsOrderFor t s.order → SpellsOrder t (report t kind c s) s.order)
     → ((t : Litmus) (order : List Entry) (e : Entry) → IsTest t → IsWhole t order → StandsIn order e → FitsTest t e)
     → IsExecution t r → s ≡ shown_of t s.counts r → text ≡ report t kind c s → All HasWord s.order → SpellsOrder t text r.commits
 run-spells t kind c r s text test small shape law fits execution same printed words =

@@ -18,7 +18,7 @@ use Rattle.protocol_tables.specs.declared.kind.ProtocolKind.{ProtocolKind}
 use Rattle.machine_core.specs.Configuration.{Configuration}
 use Rattle.tso_report.specs.declared.named.Named.{Named}
 use Rattle.tso_report.specs.declared.named.Named.TheVariants.{Register, Location}
-use Rattle.tso_report.specs.Tally.{RunCounts, looked_at, value_of, values_in, count_of, with_state, with_verdict, ended_in, runs_in}
+use Rattle.tso_report.specs.Tally.{RunCounts, looked_at, shown_value, values_in, count_of, with_state, with_verdict, ended_in, runs_in}
 use Rattle.tso_cli.specs.Runs.{AnswersFit}
 use Rattle.tso_cli.specs.Simulation.{verdict}
 use Rattle.tso_cli.specs.Sweep.{choices_of, seeded_run, with_one_run, counts_from}
@@ -40,18 +40,18 @@ words-of-core [] i are = All-nil IsWord
 words-of-core (r ∷ rs) zero are = (All-head AreRegisters r rs are).words
 words-of-core (r ∷ rs) (suc i) are = words-of-core rs i (All-tail AreRegisters r rs are)
 
-value-is-word : (registers : List (List ℕ)) (memory : List ℕ) (named : Named) → All AreRegisters registers → All IsWord memory → IsWord (value_of registers memory named)
+value-is-word : (registers : List (List ℕ)) (memory : List ℕ) (named : Named) → All AreRegisters registers → All IsWord memory → IsWord (shown_value registers memory named)
 value-is-word registers memory (Register core reg) are words = word-at (slice_index_or registers core.0 []) (index_of reg) (words-of-core registers core.0 are)
 value-is-word registers memory (Location loc) are words = word-at memory loc.0 words
 
-values-are-words : (registers : List (List ℕ)) (memory : List ℕ) (names : List Named) → All AreRegisters registers → All IsWord memory → All IsWord (map (value_of registers memory) names)
+values-are-words : (registers : List (List ℕ)) (memory : List ℕ) (names : List Named) → All AreRegisters registers → All IsWord memory → All IsWord (map (shown_value registers memory) names)
 values-are-words registers memory [] are words = All-nil IsWord
 values-are-words registers memory (named ∷ names) are words =
-    All-cons IsWord (value_of registers memory named) (map (value_of registers memory) names) (value-is-word registers memory named are words) (values-are-words registers memory names are words)
+    All-cons IsWord (shown_value registers memory named) (map (shown_value registers memory) names) (value-is-word registers memory named are words) (values-are-words registers memory names are words)
 
 is-state : (t : Litmus) (registers : List (List ℕ)) (memory : List ℕ) → All AreRegisters registers → All IsWord memory → IsStateOf t (values_in t registers memory)
 is-state t registers memory are words = record {
-  each = length-map (looked_at t) (value_of registers memory);
+  each = length-map (looked_at t) (shown_value registers memory);
   words = values-are-words registers memory (looked_at t) are words;
 }
 

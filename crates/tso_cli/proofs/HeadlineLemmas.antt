@@ -1,7 +1,8 @@
 -- The headline holds of each answer.
 use Rattle.std.proofs.Common.{◌≡◌, ◌<◌, ◌^◌, ℕ, Bool, List, length, true, false, Option, Some, None, IfSome, subst, refl, arith}
 use Rattle.tso_model.specs.Litmus.{Litmus, IsTest}
-use Rattle.tso_model.specs.Axioms.{IsWhole, StandsIn}
+use Rattle.tso_model.specs.Axioms.{IsWhole}
+use Rattle.tso_model.specs.Standing.{StandsIn}
 use Rattle.tso_model.specs.SequentialConsistency.{KeepsAllOrder}
 use Rattle.tso_model.specs.declared.bus.Bus.{Bus}
 use Rattle.tso_model.specs.declared.bus.Bus.TheVariants.{Atomic}
@@ -14,8 +15,8 @@ use Rattle.scheduler.specs.Refusals.{IsDecided}
 use Rattle.order_builder.specs.Spelling.{IsOrderFor, SpellsOrder}
 use Rattle.protocol_tables.specs.Tables.{Table, table_of}
 use Rattle.protocol_tables.specs.declared.kind.ProtocolKind.{ProtocolKind}
-use Rattle.snoop_bus.specs.Geometry.{IsWithinLimits as IsShape}
-use Rattle.machine_core.specs.Configuration.{Configuration, IsWithinLimits}
+use Rattle.snoop_bus.specs.Geometry.{IsShapeWithinLimits as IsShape}
+use Rattle.machine_core.specs.Configuration.{Configuration, IsConfigurationWithinLimits}
 use Rattle.tso_report.specs.Report.{report}
 use Rattle.tso_report.specs.Shown.{Shown}
 use Rattle.tso_cli.specs.Answers.{run_text, IsRunAnswer, IsAnswerTo, IsInputAnswer, IsAnswer, too_large, refused, answered, ran}
@@ -130,7 +131,7 @@ pub record Runs : Type 0 where
   pub fits : (t : Litmus) (order : List Entry) (e : Entry) → IsTest t → IsWhole t order → StandsIn order e → FitsTest t e
   pub report_spells : (t : Litmus) (kind : ProtocolKind) (c : Configuration) (s : Shown) → IsTest t → c.depth < 2 ^ 64 → IsShape c.shape → IsOrderFor t s.order → SpellsOrder t (report t kind c s) s.order
 
-pub report-spells : (t : Litmus) (kind : ProtocolKind) (c : Configuration) (json : Bool) (choices : List Choice) (out : List ℕ) → Runs → IsTest t → IsWithinLimits c
+pub report-spells : (t : Litmus) (kind : ProtocolKind) (c : Configuration) (json : Bool) (choices : List Choice) (out : List ℕ) → Runs → IsTest t → IsConfigurationWithinLimits c
     → AnswersFit t kind c choices → out ≡ written_of t kind c json choices → HasEnded t kind c choices → Spells t kind c json choices out
 report-spells t kind c true choices out laws test within fit is ended plain = absurd (let no : ⊥ = cc in no)
 report-spells t kind c false choices out laws test within fit is ended plain =

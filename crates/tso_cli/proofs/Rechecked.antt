@@ -24,7 +24,7 @@ use Rattle.tso_laws.specs.EndedRuns.{IsExecution}
 use Rattle.litmus_reader.specs.Spelling.{SpellsTest, IsRefused as IsRefusedTest}
 use Rattle.protocol_tables.specs.Tables.{Table, table_of}
 use Rattle.protocol_tables.specs.declared.kind.ProtocolKind.{ProtocolKind}
-use Rattle.machine_core.specs.Configuration.{Configuration, IsWithinLimits}
+use Rattle.machine_core.specs.Configuration.{Configuration, IsConfigurationWithinLimits}
 use Rattle.tso_report.specs.Report.{report}
 use Rattle.tso_report.specs.Shown.{Shown}
 use Rattle.tso_report.specs.Limits.{longest_report, IsSmall}
@@ -135,7 +135,7 @@ small-run t kind c choices laws runs test few fit ended =
 
 -- what is known of reports, as this file uses it
 abbrev pub AreShort : Type 0
-AreShort = (t : Litmus) (kind : ProtocolKind) (c : Configuration) (s : Shown) → IsTest t → IsWithinLimits c → IsSmall t s → length (report t kind c s) ≤ longest_report
+AreShort = (t : Litmus) (kind : ProtocolKind) (c : Configuration) (s : Shown) → IsTest t → IsConfigurationWithinLimits c → IsSmall t s → length (report t kind c s) ≤ longest_report
 
 record Ended (kind : ProtocolKind) (c : Configuration) (input out : List ℕ) : Type 0 where
   t : Litmus
@@ -182,7 +182,7 @@ checked test out input _ _ t order laws same separated short spelled spells exec
     (subst (λ (u : Litmus). IsCheckAnswer u out answer status) one (subst (λ text. IsCheckAnswer other text answer status) second is))
 
 ended-short : (kind : ProtocolKind) (c : Configuration) (input out : List ℕ) → AreReadOneWay → Runs → RunLaws → AreShort
-    → IsWithinLimits c → Ended kind c input out → length out ≤ longest_report
+    → IsConfigurationWithinLimits c → Ended kind c input out → length out ≤ longest_report
 ended-short kind c input out texts runs laws short within e =
     let test = texts.test (parts_of input).test e.t e.spelled in
     let printed : out ≡ report e.t kind c (shown_of e.t (counts_under e.t kind c e.choices) (run_under e.t kind c e.choices)) = rw e.ended at e.is in
@@ -190,11 +190,11 @@ ended-short kind c input out texts runs laws short within e =
     (short e.t kind c (shown_of e.t (counts_under e.t kind c e.choices) (run_under e.t kind c e.choices)) test within (small-run e.t kind c e.choices runs laws test e.few e.fit e.ended))
 
 pub printed-short : (kind : ProtocolKind) (c : Configuration) (input out : List ℕ) → AreReadOneWay → Runs → RunLaws → AreShort
-    → IsWithinLimits c → IsInputAnswer (tasks.Run kind c false) input out Good → length out ≤ longest_report
+    → IsConfigurationWithinLimits c → IsInputAnswer (tasks.Run kind c false) input out Good → length out ≤ longest_report
 printed-short kind c input out texts runs laws short within is = ended-short kind c input out texts runs laws short within (input-ended kind c input out Good refl is)
 
 pub rechecked : (kind : ProtocolKind) (c : Configuration) (input out answer : List ℕ) (status : Status) → AreReadOneWay → Runs → RunLaws
-    → AreShort → IsWithinLimits c → parts_of (joined (parts_of input).test out) ≡ record { test = (parts_of input).test; rest = out }
+    → AreShort → IsConfigurationWithinLimits c → parts_of (joined (parts_of input).test out) ≡ record { test = (parts_of input).test; rest = out }
     → IsInputAnswer (tasks.Run kind c false) input out Good → IsInputAnswer tasks.Check (joined (parts_of input).test out) answer status → (answer ≡ valid_line) × (status ≡ Good)
 rechecked kind c input out answer status texts runs laws short within separated is answered_so =
     let e = input-ended kind c input out Good refl is in

@@ -18,12 +18,12 @@ use Rattle.scheduler.specs.Printed.{printed_choice, printed_after, printed_choic
 use Rattle.order_builder.specs.Spelling.{SpellsOrder}
 use Rattle.protocol_tables.specs.Tables.{table_of}
 use Rattle.protocol_tables.specs.declared.kind.ProtocolKind.{ProtocolKind}
-use Rattle.machine_core.specs.Configuration.{Configuration, IsWithinLimits}
+use Rattle.machine_core.specs.Configuration.{Configuration, IsConfigurationWithinLimits}
 use Rattle.tso_cli.specs.Parts.{Parts, parts_of, joined}
 use Rattle.tso_cli.specs.Runs.{run_under, counts_under}
 use Rattle.tso_cli.specs.RunTexts.{report_in}
 use Rattle.tso_cli.specs.Simulation.{shown_of}
-use Rattle.tso_cli.specs.Witness.{choices_line, IsWitness, IsWitnessAnswer, ReportsOrder, reached, too_small, invalid, refused, judged}
+use Rattle.tso_cli.specs.Witness.{witness_line, IsWitness, IsWitnessAnswer, ReportsOrder, reached, too_small, invalid, refused, judged}
 use Rattle.tso_cli.specs.Answers.{IsRunAnswer, IsInputAnswer, too_large, refused, answered, ran}
 use Rattle.tso_cli.specs.declared.task.Task.TheVariants as tasks
 use Rattle.tso_cli.specs.declared.answer.Status.{Status}
@@ -55,7 +55,7 @@ choices-short cores (c ∷ cs) few there =
     omega (arith, length-append (printed_choice c) (printed_after cs))
 
 line-short : (t : Litmus) (depth : ℕ) (choices : List Choice) (order : List Entry) → Reaching → IsTest t → LeadTo t depth choices order
-    → length (choices_line choices) ≤ 4000
+    → length (witness_line choices) ≤ 4000
 line-short t depth choices order laws test lead =
     let cores = test.cores in
     let few = choices-few t depth choices order laws test lead in
@@ -71,7 +71,7 @@ record Found (depth : ℕ) (input out : List ℕ) : Type 0 where
   order_spelled : SpellsOrder t (parts_of input).rest order
   execution : IsTsoExecution t order
   enough : needed order ≤ depth
-  is : out ≡ choices_line (choices_along t order)
+  is : out ≡ witness_line (choices_along t order)
 
 order-found : (t : Litmus) (depth : ℕ) (order : List Entry) (input out : List ℕ) (status : Status) → SpellsTest (parts_of input).test t
     → SpellsOrder t (parts_of input).rest order → status ≡ Good → IsWitness t depth order out status → Found depth input out
@@ -124,7 +124,7 @@ replayed-joined kind c json test out input _ _ t order laws same separated short
     replays kind c json t order out answer status laws (laws.test test t spelled) spells atomic ended
     (subst (λ (u : Litmus). IsRunAnswer u kind c json out answer status) one (subst (λ text. IsRunAnswer other kind c json text answer status) second is))
 
-pub replayed : (kind : ProtocolKind) (c : Configuration) (json : Bool) (input out answer : List ℕ) (status : Status) → AreReadOneWay → Reaching → c.bus ≡ Atomic → IsWithinLimits c
+pub replayed : (kind : ProtocolKind) (c : Configuration) (json : Bool) (input out answer : List ℕ) (status : Status) → AreReadOneWay → Reaching → c.bus ≡ Atomic → IsConfigurationWithinLimits c
     → parts_of (joined (parts_of input).test out) ≡ record { test = (parts_of input).test; rest = out }
     → IsInputAnswer (tasks.Witness c.depth) input out Good → IsInputAnswer (tasks.Run kind c json) (joined (parts_of input).test out) answer status
     → ReportsOrder kind c json (parts_of input) answer × (status ≡ Good)

@@ -2,7 +2,7 @@
 use Rattle.std.proofs.Common.{◌≡◌, ◌<◌, ◌-◌, ◌+◌, ◌*◌, ℕ, zero, suc, Bool, true, false, List, [], ◌∷◌, length, All, slice_get, slice_index_or, Option, Some, None, is_some, Result, Ok, Err, IfOk, OnOk, arith, ap, sym, ◌∙◌, refl, subst}
 use Rattle.std.specs.Option.{option_map}
 use Rattle.tso_model.specs.Litmus.{Litmus}
-use Rattle.tso_model.specs.Axioms.{StandsIn}
+use Rattle.tso_model.specs.Standing.{StandsIn}
 use Rattle.tso_model.specs.SequentialConsistency.{KeepsAllOrder}
 use Rattle.tso_model.specs.Condition.{Condition, truth_of}
 use Rattle.tso_model.specs.FlatMachine.{State, registers_in}

@@ -17,7 +17,7 @@ use Rattle.tso_model.specs.declared.execution.Kind.TheVariants.{R, W, F, LR, LW}
 use Rattle.protocol_tables.specs.Tables.{Table}
 use Rattle.protocol_tables.specs.Tables.{table_of as table_of_kind}
 use Rattle.protocol_tables.specs.declared.kind.ProtocolKind.{ProtocolKind}
-use Rattle.snoop_bus.specs.Rows.{Rows, rows_of, table_of}
+use Rattle.snoop_bus.specs.Rows.{Rows, rows_of, table_of_rows}
 use Rattle.snoop_bus.specs.Geometry.{Geometry}
 use Rattle.machine_core.specs.declared.cache_use.CacheUse.TheVariants.{Forwarded}
 use Rattle.machine_core.specs.Caches.{Caches, not_through, load_by, use_by_kind, use_of, attempt_of, is_awaited, used_between}
@@ -88,7 +88,7 @@ goes-back old m choices used stalled d =
     made rows shape d.test d.bus d.depth
   where
     at : Rows → Geometry → Litmus → Bus → ℕ → Running
-    at r g t b n = new_machine (table_of r) (record { depth = n; shape = g; bus = b }) t
+    at r g t b n = new_machine (table_of_rows r) (record { depth = n; shape = g; bus = b }) t
 
     made : m.statistics.caches.rows ≡ old.statistics.caches.rows → m.statistics.caches.shape ≡ old.statistics.caches.shape → m.test ≡ old.test → m.bus ≡ old.bus → m.depth ≡ old.depth
         → restarted m ≡ restarted old
@@ -122,7 +122,7 @@ counted-ended table config t old m choices used stalled registers memory holds c
 -- ---- the run on a new machine
 
 by-rows : (b : Bus) (table : Table) (config : Configuration) (t : Litmus) (choices : List Choice)
-    → run_by b (table_of (rows_of table)) (record { depth = config.depth; shape = config.shape; bus = config.bus }) t choices ≡ run_by b table config t choices
+    → run_by b (table_of_rows (rows_of table)) (record { depth = config.depth; shape = config.shape; bus = config.bus }) t choices ≡ run_by b table config t choices
 by-rows Atomic table config t choices = refl
 by-rows Split table config t choices = refl
 

@@ -21,7 +21,7 @@ use Rattle.scheduler.specs.Words.{is_space}
 use Rattle.tso_cli.specs.Judgement.{WitnessesOrder, WitnessesEachOrder, reached, unreached, broken}
 use Rattle.command_line.specs.Limits.{IsDepth}
 use Rattle.tso_cli.specs.Simulation.{IsEndingOf, drains}
-use Rattle.tso_cli.specs.Witness.{choices_line, IsWitness, IsWitnessAnswer, HasEndedWith, reached, too_small, invalid, refused, judged}
+use Rattle.tso_cli.specs.Witness.{witness_line, IsWitness, IsWitnessAnswer, HasEndedWith, reached, too_small, invalid, refused, judged}
 use Rattle.tso_cli.specs.declared.simulation.Ending.{Ending}
 use Rattle.tso_cli.specs.declared.simulation.Ending.TheVariants.{Ended, Unfinished}
 use Rattle.tso_cli.specs.declared.answer.Status.{Status}
@@ -80,7 +80,7 @@ choices-few t depth choices order laws test lead =
 -- ---- the line of the choices spells them
 
 pub line-spells : (t : Litmus) (depth : ℕ) (choices : List Choice) (order : List Entry) → Reaching → IsTest t → LeadTo t depth choices order
-    → SpellsChoices (length t.programs) (choices_line choices) choices
+    → SpellsChoices (length t.programs) (witness_line choices) choices
 unfolding is_space
 line-spells t depth choices order laws test lead =
     let cores = test.cores in
@@ -121,7 +121,7 @@ led-ends t depth choices order (Unfinished used stalled) lead is = absurd (let b
 -- ---- at the greatest depth
 
 pub found-at-greatest : (t : Litmus) (order : List Entry) (out : List ℕ) (status : Status) → needed order ≤ most_depth → IsReal → IsTsoExecution t order
-    → IsWitness t most_depth order out status → (out ≡ choices_line (choices_along t order)) × (status ≡ Good)
+    → IsWitness t most_depth order out status → (out ≡ witness_line (choices_along t order)) × (status ≡ Good)
 found-at-greatest t order _ _ enough real execution (reached is also) = (refl, refl)
 found-at-greatest t order _ _ enough real execution (too_small is less) = absurd (omega arith)
 found-at-greatest t order _ _ enough real execution (invalid b first) = absurd (real t order b first execution)

@@ -1,4 +1,4 @@
--- The answer to an input: what is written, and the status. (This project's profile.)
+-- The answer to an input: what is written, and the status.
 use Rattle.std.specs.Prelude.{ℕ, ◌+◌, ◌<◌, ◌≤◌, ◌≡◌, Bool, if◌then◌else◌, List, length, Option, IfSome, string_bytes}
 use Rattle.tso_model.specs.Litmus.{Litmus}
 use Rattle.tso_model.specs.Axioms.{IsTsoExecution}

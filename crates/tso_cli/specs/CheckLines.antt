@@ -1,4 +1,4 @@
--- The lines that `check` writes. (This project's profile.)
+-- The lines that `check` writes.
 use Rattle.std.specs.Prelude.{ℕ, List, [], ◌++◌, slice_index_or, codes}
 use Rattle.std.specs.Fmt.{decimal}
 use Rattle.tso_model.specs.Litmus.{Litmus}

@@ -1,5 +1,4 @@
 -- What may be shown of a run of a test, and what may be counted of its runs; and that the runs of a machine keep to it.
--- (This project's profile.)
 use Rattle.std.specs.Prelude.{ℕ, ◌≡◌, ◌+◌, ◌<◌, ◌≤◌, ◌^◌, true, if◌then◌else◌, List, length, All, is_some}
 use Rattle.tso_model.specs.Litmus.{Litmus, IsTest}
 use Rattle.tso_model.specs.Registers.{IsWord}

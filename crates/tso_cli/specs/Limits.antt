@@ -1,8 +1,8 @@
--- How long an input may be, and what a command that reads one may be asked. (This project's profile.)
+-- How long an input may be, and what a command that reads one may be asked.
 use Rattle.std.specs.Prelude.{ℕ}
-use Rattle.machine_core.specs.Configuration.{IsWithinLimits as IsConfigurationWithinLimits}
+use Rattle.machine_core.specs.Configuration.{IsConfigurationWithinLimits}
 use Rattle.command_line.specs.Limits.{IsDepth}
-use Rattle.command_line.specs.Plan.{IsWithinLimits as IsPlanWithinLimits}
+use Rattle.command_line.specs.Plan.{IsPlanWithinLimits}
 use Rattle.tso_cli.specs.declared.task.Task.{Task}
 use Rattle.tso_cli.specs.declared.task.Task.TheVariants.{Run, Sweep, Check, Witness}
 

@@ -1,4 +1,4 @@
--- The lines that are written where no report is. (This project's profile.)
+-- The lines that are written where no report is.
 use Rattle.std.specs.Prelude.{ℕ, List, [], ◌++◌, codes}
 use Rattle.std.specs.Fmt.{decimal}
 use Rattle.tso_report.specs.Report.{line}

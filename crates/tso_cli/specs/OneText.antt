@@ -1,4 +1,4 @@
--- What the headline leaves open: two texts of which it holds. (This project's profile.)
+-- What the headline leaves open: two texts of which it holds.
 use Rattle.std.specs.Prelude.{ℕ, ◌≡◌, ◌⊎◌, Bool, List, length}
 use Rattle.tso_model.specs.Litmus.{Litmus}
 use Rattle.tso_model.specs.declared.choice.Choice.{Choice}

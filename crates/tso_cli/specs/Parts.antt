@@ -1,4 +1,4 @@
--- The two parts of an input: before and after the first line that is `====`. (This project's profile.)
+-- The two parts of an input: before and after the first line that is `====`.
 use Rattle.std.specs.Prelude.{ℕ, suc, ◌≡◌, ◌==◌, Bool, true, if◌then◌else◌, List, [], ◌∷◌, ◌++◌, drop, Option, Some, None, nat_eq, codes}
 use Rattle.std.specs.List.{starts_with}
 

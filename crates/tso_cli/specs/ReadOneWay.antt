@@ -1,4 +1,4 @@
--- What the crates below say of texts and orders, put together: each is read in one way. (This project's profile.)
+-- What the crates below say of texts and orders, put together: each is read in one way.
 use Rattle.std.specs.Prelude.{ℕ, ◌≡◌, ◌<◌, ◌^◌, List, length}
 use Rattle.tso_model.specs.Litmus.{Litmus, IsTest}
 use Rattle.tso_model.specs.Axioms.{IsTsoExecution}

@@ -1,4 +1,4 @@
--- What a simulation answers: the machine's run, as a report shows it. (This project's profile.)
+-- What a simulation answers: the machine's run, as a report shows it.
 use Rattle.std.specs.Prelude.{ℕ, zero, suc, ◌+◌, ◌≡◌, Bool, true, false, List, length, ◌++◌, Option}
 use Rattle.std.specs.Option.{option_map}
 use Rattle.tso_model.specs.Litmus.{Litmus}

@@ -1,4 +1,4 @@
--- What a call does to a reader and a writer. (This project's profile.)
+-- What a call does to a reader and a writer.
 use Rattle.std.specs.Prelude.{ℕ, ◌+◌, ◌-◌, ◌^◌, ◌≡◌, ◌≤◌, ◌==◌, ◌&&◌, nat_lt, min, if◌then◌else◌}
 use Rattle.std.specs.Prelude.{List, length, take, Option, Result, MatchResult, is_ok}
 use Rattle.std.specs.Io.KnownBytes.{Appends, Consumes}

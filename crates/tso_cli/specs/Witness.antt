@@ -1,4 +1,4 @@
--- The answer of `witness`: the choices that reach an order. (This project's profile.)
+-- The answer of `witness`: the choices that reach an order.
 use Rattle.std.specs.Prelude.{ℕ, ◌≡◌, ◌<◌, ◌≤◌, Bool, List}
 use Rattle.tso_model.specs.Litmus.{Litmus}
 use Rattle.tso_model.specs.Axioms.{IsTsoExecution}
@@ -28,12 +28,12 @@ use Rattle.tso_cli.specs.declared.answer.Status.{Status}
 use Rattle.tso_cli.specs.declared.answer.Status.TheVariants.{Good, Refused, Invalid}
 
 -- choices on one line; of no choices the line is empty
-abbrev pub choices_line : List Choice → List ℕ
-choices_line choices = line (printed_choices choices)
+abbrev pub witness_line : List Choice → List ℕ
+witness_line choices = line (printed_choices choices)
 
 -- the answer of `witness` to a test and an order of it, at this depth
 pub data IsWitness (t : Litmus) (depth : ℕ) (order : List Entry) : List ℕ → Status → Type 0 where
-  reached : IsTsoExecution t order → needed order ≤ depth → IsWitness t depth order (choices_line (choices_along t order)) Good
+  reached : IsTsoExecution t order → needed order ≤ depth → IsWitness t depth order (witness_line (choices_along t order)) Good
   too_small : IsTsoExecution t order → depth < needed order → IsWitness t depth order (depth_line (needed order)) Invalid
   invalid : (breach : Breach) → IsFirstBreach t order breach → IsWitness t depth order (invalid_line t breach) Invalid
 

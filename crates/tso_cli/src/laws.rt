@@ -27,7 +27,7 @@ ghost use Rattle.command_line.specs.Limits.{IsWithinLimits};
 ghost use Rattle.tso_cli.specs.Parts.{parts_of, joined, IsJoinable};
 ghost use Rattle.tso_cli.specs.Runs.{run_by, AnswersFitBy, EndsBy};
 ghost use Rattle.tso_cli.specs.Simulation.{IsEndingOf};
-ghost use Rattle.tso_cli.specs.Witness.{choices_line, IsWitness, IsEndingAlong, HasEndedWith, ReportsOrder};
+ghost use Rattle.tso_cli.specs.Witness.{witness_line, IsWitness, IsEndingAlong, HasEndedWith, ReportsOrder};
 ghost use Rattle.tso_cli.specs.declared.simulation.Ending.{Ending};
 ghost use Rattle.tso_cli.specs.declared.answer.Status.{Status};
 ghost use Rattle.tso_cli.specs.declared.answer.Status.TheVariants.{Good};
@@ -186,7 +186,7 @@ pub fn led_simulations_end()
 pub fn greatest_depth_is_enough()
     ensures { (t : Litmus) (order : List Entry) (out : List ℕ) (status : Status)
         → IsTest t → IsTsoExecution t order → IsWitness t most_depth order out status
-        → (out ≡ choices_line (choices_along t order)) × (status ≡ Good) }
+        → (out ≡ witness_line (choices_along t order)) × (status ≡ Good) }
 {
     most_stores_are_depth_enough();
     first_breach_is_real();

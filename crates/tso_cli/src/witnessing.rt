@@ -7,7 +7,7 @@ ghost use Rattle.order_builder.specs.Spelling.{IsOrderFor};
 ghost use Rattle.command_line.specs.Limits.{IsDepth};
 ghost use Rattle.tso_cli.specs.Answers.{Says};
 ghost use Rattle.tso_cli.specs.Lines.{depth_line};
-ghost use Rattle.tso_cli.specs.Witness.{choices_line, IsWitness, IsWitnessAnswer};
+ghost use Rattle.tso_cli.specs.Witness.{witness_line, IsWitness, IsWitnessAnswer};
 
 use crate::answer::{Answer, Status};
 use crate::checking::{invalid, refused_order};
@@ -71,7 +71,7 @@ fn reached(alloc: Global, test: &Test, depth: u8, execution: &Execution) -> Resu
 }
 
 fn found(alloc: Global, choices: &[Choice]) -> Result<Answer, NoMemory>
-    ensures { IfOk result (λ a. Says a (choices_line choices.now) Status.Good) }
+    ensures { IfOk result (λ a. Says a (witness_line choices.now) Status.Good) }
 {
     let choices = choices_text(alloc, choices)?;
     let text = format!(in alloc; "{choices}\n")?;

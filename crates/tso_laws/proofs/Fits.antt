@@ -3,7 +3,8 @@ use Rattle.std.proofs.Common.{◌≡◌, ◌≢◌, ◌<◌, ◌≤◌, ℕ, ◌
 use Rattle.tso_model.specs.Litmus.{Litmus, IsTest, KnownLocation}
 use Rattle.tso_model.specs.Actions.{action_of, location_of}
 use Rattle.tso_model.specs.Thread.{entries_by, entries_of}
-use Rattle.tso_model.specs.Axioms.{IsWhole, StandsIn}
+use Rattle.tso_model.specs.Axioms.{IsWhole}
+use Rattle.tso_model.specs.Standing.{StandsIn}
 use Rattle.tso_model.specs.ProgramEntries.{read_values}
 use Rattle.tso_model.specs.ProgramEntries.{made, made_by}
 use Rattle.tso_model.specs.FlatMachine.{program_of}

@@ -4,7 +4,8 @@ use Rattle.std.specs.Prelude.{filter}
 use Rattle.std.proofs.lemmas.Option.{slice_get-get_or}
 use Rattle.tso_model.specs.Litmus.{Litmus, IsTest, KnownLocation}
 use Rattle.tso_model.specs.ProgramEntries.{made_by}
-use Rattle.tso_model.specs.Axioms.{StandsIn, KeepsProgramOrder}
+use Rattle.tso_model.specs.Axioms.{KeepsProgramOrder}
+use Rattle.tso_model.specs.Standing.{StandsIn}
 use Rattle.tso_model.specs.FinalState.{registers_of}
 use Rattle.tso_model.specs.FlatMachine.{CoreState, State, idle, program_of, core_of, effect_of, after_choice, start}
 use Rattle.tso_model.specs.Runs.{run}

@@ -7,7 +7,8 @@ use Rattle.tso_model.specs.ProgramOrder.{may_be_passed}
 use Rattle.basic_laws.specs.Ranks.{rank}
 use Rattle.basic_laws.proofs.Basics.{part-small}
 use Rattle.tso_laws.proofs.Folds.{due-is, needs, HasLocations}
-use Rattle.tso_model.specs.Axioms.{KeepsProgramOrder, IsAdjacent, StandsIn, IsWhole, IsTsoExecution}
+use Rattle.tso_model.specs.Axioms.{KeepsProgramOrder, IsAdjacent, IsWhole, IsTsoExecution}
+use Rattle.tso_model.specs.Standing.{StandsIn}
 use Rattle.tso_model.specs.ProgramEntries.{read_values}
 use Rattle.tso_model.specs.ProgramOrder.{IsStorePart}
 use Rattle.tso_model.specs.ProgramEntries.{made_by, made_from, made}

@@ -3,7 +3,8 @@ use Rattle.std.specs.Prelude.{ℕ, ◌+◌, ◌*◌, ◌<◌, ◌≤◌, ◌≡�
 use Rattle.tso_model.specs.Limits.{most_depth}
 use Rattle.tso_model.specs.Litmus.{Litmus, IsTest}
 use Rattle.tso_model.specs.ProgramEntries.{made}
-use Rattle.tso_model.specs.Axioms.{StandsIn, IsWhole, IsTsoExecution}
+use Rattle.tso_model.specs.Axioms.{IsWhole, IsTsoExecution}
+use Rattle.tso_model.specs.Standing.{StandsIn}
 use Rattle.tso_model.specs.FlatMachine.{State, start, effect_of, after_choice}
 use Rattle.tso_model.specs.Runs.{run}
 use Rattle.tso_model.specs.declared.execution.Entry.{Entry}

@@ -4,7 +4,8 @@ use Rattle.std.specs.Prelude.{List, [], ◌∷◌, ◌++◌, filter, length, tak
 use Rattle.tso_model.specs.Litmus.{Litmus}
 use Rattle.tso_model.specs.ProgramOrder.{is_read, is_store}
 use Rattle.tso_model.specs.ProgramEntries.{is_at, made_by}
-use Rattle.tso_model.specs.Axioms.{StandsIn, KeepsProgramOrder, IsAdjacent, due_value}
+use Rattle.tso_model.specs.Axioms.{KeepsProgramOrder, IsAdjacent, due_value}
+use Rattle.tso_model.specs.Standing.{StandsIn}
 use Rattle.tso_model.specs.FinalState.{final_words, registers_of}
 use Rattle.tso_model.specs.FlatMachine.{CoreState, State, program_of, core_of}
 use Rattle.tso_model.specs.declared.execution.Entry.{Entry}

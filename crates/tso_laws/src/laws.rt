@@ -5,7 +5,8 @@ ghost use Rattle.std.specs.Prelude.{ℕ, max, ◌≤◌, ◌≡◌, List, [], �
 ghost use Rattle.tso_model.specs.Limits.{most_depth};
 ghost use Rattle.tso_model.specs.Litmus.{Litmus, IsTest};
 ghost use Rattle.tso_model.specs.ProgramEntries.{made};
-ghost use Rattle.tso_model.specs.Axioms.{StandsIn, IsTsoExecution};
+ghost use Rattle.tso_model.specs.Axioms.{IsTsoExecution};
+ghost use Rattle.tso_model.specs.Standing.{StandsIn};
 ghost use Rattle.tso_model.specs.SequentialConsistency.{KeepsAllOrder};
 ghost use Rattle.tso_model.specs.Runs.{run};
 ghost use Rattle.tso_model.specs.declared.execution.Entry.{Entry};

@@ -8,14 +8,11 @@ use Rattle.tso_model.specs.declared.execution.Entry.{Entry}
 use Rattle.tso_model.specs.declared.execution.Kind.TheVariants.{LR}
 use Rattle.tso_model.specs.ProgramEntries.{made}
 
-abbrev pub StandsIn : List Entry → Entry → Type 0
-StandsIn order e = (i : ℕ) × (slice_get order i ≡ Some e)
-
 -- each entry of the programs stands in the order, and the order has no more entries than they have.
 -- Entries of the programs differ from each other, so each stands there once and no other does.
 pub record IsWhole (t : Litmus) (order : List Entry) : Type 0 where
   pub count : length order ≡ length (made t order)
-  pub each : (k : ℕ) (e : Entry) → slice_get (made t order) k ≡ Some e → StandsIn order e
+  pub each : (k : ℕ) (e : Entry) → slice_get (made t order) k ≡ Some e → (i : ℕ) × (slice_get order i ≡ Some e)
 
 -- program order is kept, but a plain store may be passed by a later plain load
 abbrev pub KeepsProgramOrder : List Entry → Type 0

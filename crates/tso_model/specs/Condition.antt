@@ -1,4 +1,4 @@
--- Propositions on a final state, and their truth. (This project's profile.)
+-- Propositions on a final state, and their truth.
 use Rattle.std.specs.Prelude.{ℕ, ◌+◌, ◌<◌, ◌==◌, ◌&&◌, ◌||◌, Bool, not, max, List, [], slice_index, slice_index_or}
 use Rattle.tso_model.specs.Registers.{index_of}
 use Rattle.tso_model.specs.declared.register.Reg.{Reg}

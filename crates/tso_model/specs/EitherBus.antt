@@ -1,5 +1,4 @@
 -- The machine on either bus, and its runs. On the atomic bus each choice is made whole, as on the flat machine.
--- (This project's profile.)
 use Rattle.std.specs.Prelude.{ℕ, ◌≡◌, ◌≢◌, Bool, true, if◌then◌else◌, List, [], ◌∷◌, length, map}
 use Rattle.tso_model.specs.Litmus.{Litmus}
 use Rattle.tso_model.specs.FlatMachine.{State, chosen, effect_of, applied, start}

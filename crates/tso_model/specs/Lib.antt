@@ -20,3 +20,4 @@ pub mod Watched
 pub mod Axioms
 pub mod ProgramEntries
 pub mod SequentialConsistency
+pub mod Standing

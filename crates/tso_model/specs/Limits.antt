@@ -1,4 +1,4 @@
--- How large a test may be, and how deep the store buffer of a core. (This project's profile.)
+-- How large a test may be, and how deep the store buffer of a core.
 use Rattle.std.specs.Prelude.{ℕ}
 
 -- cores of a test, at most

@@ -1,4 +1,4 @@
--- A test, and the limits that every test keeps. (This project's profile.)
+-- A test, and the limits that every test keeps.
 use Rattle.std.specs.Prelude.{ℕ, ◌<◌, ◌≤◌, ◌≡◌, ◌&&◌, Bool, IsTrue, true, not, List, [], ◌∷◌, length, Option, IfSome, All}
 use Rattle.std.specs.Option.{ForSome}
 use Rattle.std.specs.List.{list_all}

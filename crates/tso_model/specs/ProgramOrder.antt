@@ -42,7 +42,7 @@ is_before x y = (x.core.0 == y.core.0) && (nat_lt x.place y.place || is_earlier_
 
 -- the one exception of TSO: a plain store may be passed by a later plain load
 abbrev pub may_be_passed : Entry → Entry → Bool
-may_be_passed x y = is_store x && is_load y
+may_be_passed x y = same_kind x.kind W && same_kind y.kind R
 
 -- y is the store part of the locked instruction whose load part is x
 pub record IsStorePart (x y : Entry) : Type 0 where

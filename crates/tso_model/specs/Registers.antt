@@ -1,4 +1,4 @@
--- Words, and the six general registers: their numbers and their names. (This project's profile.)
+-- Words, and the six general registers: their numbers and their names.
 use Rattle.std.specs.Prelude.{ℕ, ◌<◌, ◌≡◌, ◌^◌, List, length, map, All, Bool, Option, Some, None, if◌then◌else◌, codes}
 use Rattle.std.specs.Str.{bytes_eq}
 use Rattle.std.specs.Char.{to_ascii_lowercase}

@@ -1,5 +1,4 @@
 -- Runs of the flat machine under a list of choices, up to the first moment at which the test has ended.
--- (This project's profile.)
 use Rattle.std.specs.Prelude.{ℕ, ◌+◌, ◌<◌, ◌==◌, ◌&&◌, Bool, true, if◌then◌else◌, List, [], ◌∷◌, ◌++◌, length, suc}
 use Rattle.tso_model.specs.Litmus.{Litmus}
 use Rattle.tso_model.specs.FlatMachine.{CoreState, State, Effect, is_none_pending, effect_of, after_choice, start, chosen}

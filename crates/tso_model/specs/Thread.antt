@@ -56,19 +56,16 @@ entries_by core place (Lock loc reg update) registers word =
 
 -- the registers after it
 abbrev pub registers_by : Action → List ℕ → ℕ → List ℕ
-registers_by (Store loc operand) registers word = registers
 registers_by (Load reg loc) registers word = with_value registers reg word
 registers_by (Move reg operand) registers word = with_value registers reg (value_of registers operand)
-registers_by Fence registers word = registers
 registers_by (Lock loc reg update) registers word = with_value registers reg word
+registers_by _ registers word = registers
 
 -- whether it reads a location
 abbrev pub is_reading : Action → Bool
-is_reading (Store loc operand) = false
 is_reading (Load reg loc) = true
-is_reading (Move reg operand) = false
-is_reading Fence = false
 is_reading (Lock loc reg update) = true
+is_reading _ = false
 
 -- the values that are left for what comes after an action
 abbrev pub values_after : Action → List ℕ → List ℕ

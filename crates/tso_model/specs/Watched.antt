@@ -1,4 +1,4 @@
--- What a contract sees of an order whose looks are counted. (This project's profile.)
+-- What a contract sees of an order whose looks are counted.
 use Rattle.std.specs.Prelude.{ℕ, List}
 use Rattle.tso_model.specs.declared.execution.Entry.{Entry}
 

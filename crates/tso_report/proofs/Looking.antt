@@ -5,7 +5,7 @@ use Rattle.tso_model.specs.Litmus.{Litmus}
 use Rattle.tso_model.specs.declared.register.Reg.{Reg}
 use Rattle.tso_report.specs.declared.named.Named.{Named}
 use Rattle.tso_report.specs.Report.{all_registers}
-use Rattle.tso_report.specs.Tally.{is_looked_at, IsKnown, register_of, location, registers_from, locations_from, looked_at}
+use Rattle.tso_report.specs.Tally.{is_looked_at, IsKnown, register_of, location, named_registers, named_locations, looked_at}
 
 count-next : (i n : ℕ) → i < n → n - i ≡ suc (n - (i + 1))
 count-next i n h = omega arith
@@ -18,18 +18,18 @@ part-noted p list before after part rest is was =
     ∙ (ap (λ further. before ++ further) (sym (filter-append p part rest)) ∙ was))
 
 pub core-noted : (p : Named → Bool) (list before after : List Named) (core n : ℕ) → core < n
-    → after ≡ before ++ filter p (map (register_of core) all_registers) → before ++ filter p (registers_from core (n - core)) ≡ list
-    → after ++ filter p (registers_from (core + 1) (n - (core + 1))) ≡ list
+    → after ≡ before ++ filter p (map (register_of core) all_registers) → before ++ filter p (named_registers core (n - core)) ≡ list
+    → after ++ filter p (named_registers (core + 1) (n - (core + 1))) ≡ list
 core-noted p list before after core n small is was =
-    part-noted p list before after (map (register_of core) all_registers) (registers_from (core + 1) (n - (core + 1))) is
-    (ap (λ count. before ++ filter p (registers_from core count)) (sym (count-next core n small)) ∙ was)
+    part-noted p list before after (map (register_of core) all_registers) (named_registers (core + 1) (n - (core + 1))) is
+    (ap (λ count. before ++ filter p (named_registers core count)) (sym (count-next core n small)) ∙ was)
 
 pub location-noted : (p : Named → Bool) (list before after : List Named) (loc n : ℕ) → loc < n
-    → after ≡ before ++ filter p (location loc ∷ []) → before ++ filter p (locations_from loc (n - loc)) ≡ list
-    → after ++ filter p (locations_from (loc + 1) (n - (loc + 1))) ≡ list
+    → after ≡ before ++ filter p (location loc ∷ []) → before ++ filter p (named_locations loc (n - loc)) ≡ list
+    → after ++ filter p (named_locations (loc + 1) (n - (loc + 1))) ≡ list
 location-noted p list before after loc n small is was =
-    part-noted p list before after (location loc ∷ []) (locations_from (loc + 1) (n - (loc + 1))) is
-    (ap (λ count. before ++ filter p (locations_from loc count)) (sym (count-next loc n small)) ∙ was)
+    part-noted p list before after (location loc ∷ []) (named_locations (loc + 1) (n - (loc + 1))) is
+    (ap (λ count. before ++ filter p (named_locations loc count)) (sym (count-next loc n small)) ∙ was)
 
 -- ---- what is looked at is there
 
@@ -37,20 +37,20 @@ core-known : (cores locations core : ℕ) (regs : List Reg) → core < cores →
 core-known cores locations core [] small = All-nil (IsKnown cores locations)
 core-known cores locations core (reg ∷ regs) small = All-cons (IsKnown cores locations) (register_of core reg) (map (register_of core) regs) small (core-known cores locations core regs small)
 
-registers-known : (cores locations core count : ℕ) → core + count ≤ cores → All (IsKnown cores locations) (registers_from core count)
+registers-known : (cores locations core count : ℕ) → core + count ≤ cores → All (IsKnown cores locations) (named_registers core count)
 registers-known cores locations core zero fits = All-nil (IsKnown cores locations)
 registers-known cores locations core (suc count) fits =
-    All-append (IsKnown cores locations) (map (register_of core) all_registers) (registers_from (core + 1) count)
+    All-append (IsKnown cores locations) (map (register_of core) all_registers) (named_registers (core + 1) count)
     (core-known cores locations core all_registers (omega (arith, fits))) (registers-known cores locations (core + 1) count (omega (arith, fits)))
 
-locations-known : (cores locations loc count : ℕ) → loc + count ≤ locations → All (IsKnown cores locations) (locations_from loc count)
+locations-known : (cores locations loc count : ℕ) → loc + count ≤ locations → All (IsKnown cores locations) (named_locations loc count)
 locations-known cores locations loc zero fits = All-nil (IsKnown cores locations)
 locations-known cores locations loc (suc count) fits =
-    All-cons (IsKnown cores locations) (location loc) (locations_from (loc + 1) count) (omega (arith, fits)) (locations-known cores locations (loc + 1) count (omega (arith, fits)))
+    All-cons (IsKnown cores locations) (location loc) (named_locations (loc + 1) count) (omega (arith, fits)) (locations-known cores locations (loc + 1) count (omega (arith, fits)))
 
 pub looked-known : (t : Litmus) → All (IsKnown (length t.programs) (length t.locations)) (looked_at t)
 looked-known t =
     let cores = length t.programs in
     let locations = length t.locations in
-    All-filter (is_looked_at t.condition) (IsKnown cores locations) (registers_from 0 cores ++ locations_from 0 locations)
-    (All-append (IsKnown cores locations) (registers_from 0 cores) (locations_from 0 locations) (registers-known cores locations 0 cores (omega arith)) (locations-known cores locations 0 locations (omega arith)))
+    All-filter (is_looked_at t.condition) (IsKnown cores locations) (named_registers 0 cores ++ named_locations 0 locations)
+    (All-append (IsKnown cores locations) (named_registers 0 cores) (named_locations 0 locations) (registers-known cores locations 0 cores (omega arith)) (locations-known cores locations 0 locations (omega arith)))

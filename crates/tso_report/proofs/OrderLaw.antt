@@ -24,7 +24,7 @@ use Rattle.tso_report.specs.Shown.{Shown}
 use Rattle.protocol_tables.specs.Names.{protocol_name}
 use Rattle.protocol_tables.specs.declared.kind.ProtocolKind.{ProtocolKind}
 use Rattle.protocol_tables.specs.declared.kind.ProtocolKind.TheVariants.{Msi, Mesi, Moesi, Mosi}
-use Rattle.snoop_bus.specs.Geometry.{Geometry, IsLineSize, IsWithinLimits}
+use Rattle.snoop_bus.specs.Geometry.{Geometry, IsLineSize, IsShapeWithinLimits}
 use Rattle.machine_core.specs.Configuration.{Configuration}
 use Rattle.tso_report.specs.Report.{report, line, test_line, shape_text, bus_text, register_lines, memory_line, condition_line, choices_line, cache_lines}
 
@@ -78,7 +78,7 @@ line_size_is_small words (inl e) = omega (arith, e)
 line_size_is_small words (inr (inl e)) = omega (arith, e)
 line_size_is_small words (inr (inr e)) = omega (arith, e)
 
-line_of_shape : (g : Geometry) → IsWithinLimits g → is_line (shape_text g) ≡ true
+line_of_shape : (g : Geometry) → IsShapeWithinLimits g → is_line (shape_text g) ≡ true
 line_of_shape g fits =
     let sets = line_of_number g.sets (omega (arith, fits.few_sets)) in
     let ways = line_of_number g.ways (omega (arith, fits.few_ways)) in
@@ -90,12 +90,12 @@ line_of_bus : (bus : Bus) → is_line (bus_text bus) ≡ true
 line_of_bus Atomic = refl
 line_of_bus Split = refl
 
-line_of_depth : (c : Configuration) → c.depth < 2 ^ 64 → IsWithinLimits c.shape → is_line (codes " depth=" ++ (decimal c.depth ++ (shape_text c.shape ++ bus_text c.bus))) ≡ true
+line_of_depth : (c : Configuration) → c.depth < 2 ^ 64 → IsShapeWithinLimits c.shape → is_line (codes " depth=" ++ (decimal c.depth ++ (shape_text c.shape ++ bus_text c.bus))) ≡ true
 line_of_depth c small fits =
     two_parts (decimal c.depth) (shape_text c.shape ++ bus_text c.bus) (line_of_number c.depth small)
     (two_parts (shape_text c.shape) (bus_text c.bus) (line_of_shape c.shape fits) (line_of_bus c.bus))
 
-line_of_machine : (kind : ProtocolKind) (c : Configuration) → c.depth < 2 ^ 64 → IsWithinLimits c.shape → is_line (machine_text kind c) ≡ true
+line_of_machine : (kind : ProtocolKind) (c : Configuration) → c.depth < 2 ^ 64 → IsShapeWithinLimits c.shape → is_line (machine_text kind c) ≡ true
 unfolding machine_text
 line_of_machine Msi c small fits = line_of_depth c small fits
 line_of_machine Mesi c small fits = line_of_depth c small fits
@@ -114,7 +114,7 @@ before_name t test = record {
   other_returned = λ same. omega (arith, heads 84 79 _ _ same);
 }
 
-before_machine : (kind : ProtocolKind) (c : Configuration) → c.depth < 2 ^ 64 → IsWithinLimits c.shape → IsBefore (machine_text kind c)
+before_machine : (kind : ProtocolKind) (c : Configuration) → c.depth < 2 ^ 64 → IsShapeWithinLimits c.shape → IsBefore (machine_text kind c)
 unfolding machine_text
 before_machine kind c small fits = record {
   whole = line_of_machine kind c small fits;
@@ -139,7 +139,7 @@ joined first second order rest = simp append_assoc
 pub report_spells : ((t : Litmus) (order : List Entry) (front : List (List ℕ)) (rest text : List ℕ)
     → IsTest t → IsOrderFor t order → All IsBefore front
     → text ≡ printed_lines front ++ (printed_order t order ++ rest) → SpellsOrder t text order)
-    → (t : Litmus) (kind : ProtocolKind) (c : Configuration) (s : Shown) → IsTest t → c.depth < 2 ^ 64 → IsWithinLimits c.shape → IsOrderFor t s.order
+    → (t : Litmus) (kind : ProtocolKind) (c : Configuration) (s : Shown) → IsTest t → c.depth < 2 ^ 64 → IsShapeWithinLimits c.shape → IsOrderFor t s.order
     → SpellsOrder t (report t kind c s) s.order
 unfolding front_of machine_text
 report_spells amid t kind c s test small fits are =

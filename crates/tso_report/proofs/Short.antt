@@ -26,8 +26,8 @@ use Rattle.order_builder.specs.Spelling.{HasAccess, IsEntryFor, IsOrderFor}
 use Rattle.protocol_tables.specs.Names.{protocol_name}
 use Rattle.protocol_tables.specs.declared.kind.ProtocolKind.{ProtocolKind}
 use Rattle.protocol_tables.specs.declared.kind.ProtocolKind.TheVariants.{Msi, Mesi, Moesi, Mosi}
-use Rattle.snoop_bus.specs.Geometry.{Geometry, IsWithinLimits as IsShape, IsLineSize}
-use Rattle.machine_core.specs.Configuration.{Configuration, IsWithinLimits}
+use Rattle.snoop_bus.specs.Geometry.{Geometry, IsShapeWithinLimits as IsShape, IsLineSize}
+use Rattle.machine_core.specs.Configuration.{Configuration, IsConfigurationWithinLimits}
 use Rattle.machine_core.specs.Kept.{IsAtMost}
 use Rattle.machine_core.specs.declared.counts.Counts.{Counts}
 use Rattle.tso_report.specs.Shown.{Shown}
@@ -216,7 +216,7 @@ bus_short : (bus : Bus) → length (bus_text bus) ≤ 10
 bus_short Atomic = omega arith
 bus_short Split = omega arith
 
-machine_short : (kind : ProtocolKind) (c : Configuration) → IsWithinLimits c → length (machine_line kind c) ≤ 55
+machine_short : (kind : ProtocolKind) (c : Configuration) → IsConfigurationWithinLimits c → length (machine_line kind c) ≤ 55
 machine_short kind c h =
     joined (codes "Machine ") _ 8 47 (omega arith)
     (joined (protocol_name kind) _ 5 42 (protocol_short kind)
@@ -276,7 +276,7 @@ cache_lines_short core (c ∷ cs) few h =
     let both = joined (cache_line core c) (cache_lines (core + 1) cs) 125 (125 * length cs) first further in
     omega arith
 
-pub report_short : (t : Litmus) (kind : ProtocolKind) (c : Configuration) (s : Shown) → IsTest t → IsWithinLimits c → IsSmall t s → length (report t kind c s) ≤ longest_report
+pub report_short : (t : Litmus) (kind : ProtocolKind) (c : Configuration) (s : Shown) → IsTest t → IsConfigurationWithinLimits c → IsSmall t s → length (report t kind c s) ≤ longest_report
 report_short t kind c s test within small =
     let name = test_name_short t.name test.name_spelled in
     let locations = test.location_count in

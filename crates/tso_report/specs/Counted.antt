@@ -1,4 +1,4 @@
--- How a tally keeps its counts. (This project's profile.)
+-- How a tally keeps its counts.
 use Rattle.std.specs.Prelude.{ℕ, ◌≡◌, ◌+◌, ◌<◌, ◌^◌, Bool, List, map, sum, Vec, if◌then◌else◌}
 use Rattle.std.specs.Map.{values_of}
 use Rattle.std.specs.declared.alloc.Global.{Global}

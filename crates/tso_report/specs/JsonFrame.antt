@@ -1,4 +1,4 @@
--- A report as JSON, of which the members `cache` and `machine` are left open. (This project's profile.)
+-- A report as JSON, of which the members `cache` and `machine` are left open.
 use Rattle.std.specs.Prelude.{ℕ, List, codes}
 use Rattle.serde_json.specs.Data.{Data, string, object, no_members, member}
 use Rattle.serde_json.specs.Written.{compact_text}

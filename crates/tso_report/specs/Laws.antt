@@ -4,7 +4,7 @@ use Rattle.tso_model.specs.Litmus.{Litmus, IsTest}
 use Rattle.order_builder.specs.Spelling.{IsOrderFor, SpellsOrder}
 use Rattle.protocol_tables.specs.declared.kind.ProtocolKind.{ProtocolKind}
 use Rattle.snoop_bus.specs.Geometry as shape
-use Rattle.machine_core.specs.Configuration.{Configuration, IsWithinLimits}
+use Rattle.machine_core.specs.Configuration.{Configuration, IsConfigurationWithinLimits}
 use Rattle.tso_report.specs.Shown.{Shown}
 use Rattle.tso_report.specs.Report.{report}
 use Rattle.tso_report.specs.Limits.{longest_report, IsSmall}
@@ -13,13 +13,13 @@ use Rattle.tso_report.specs.Tally.{count_of, with_values, Ascend}
 abbrev pub ReportSpellsItsOrder : Type 0
 ReportSpellsItsOrder =
     (t : Litmus) (kind : ProtocolKind) (c : Configuration) (s : Shown)
-    → IsTest t → c.depth < 2 ^ 64 → shape.IsWithinLimits c.shape → IsOrderFor t s.order
+    → IsTest t → c.depth < 2 ^ 64 → shape.IsShapeWithinLimits c.shape → IsOrderFor t s.order
     → SpellsOrder t (report t kind c s) s.order
 
 abbrev pub ReportsAreShort : Type 0
 ReportsAreShort =
     (t : Litmus) (kind : ProtocolKind) (c : Configuration) (s : Shown)
-    → IsTest t → IsWithinLimits c → IsSmall t s → length (report t kind c s) ≤ longest_report
+    → IsTest t → IsConfigurationWithinLimits c → IsSmall t s → length (report t kind c s) ≤ longest_report
 
 -- of one more run with these values: their own count grows by one, no other changes, and the lists stay in order
 pub record OneMoreRunIsCounted : Type 0 where

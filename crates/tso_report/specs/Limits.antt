@@ -1,4 +1,4 @@
--- How long a report is, at most. (This project's profile.)
+-- How long a report is, at most.
 use Rattle.std.specs.Prelude.{ℕ, ◌*◌, ◌-◌, ◌<◌, ◌≤◌, ◌^◌, length, All}
 use Rattle.tso_model.specs.Limits.{most_cores, most_instructions}
 use Rattle.tso_model.specs.Litmus.{Litmus}

@@ -1,4 +1,4 @@
--- The text of a run that ended. (This project's profile.)
+-- The text of a run that ended.
 use Rattle.std.specs.Prelude.{ℕ, ◌+◌, Bool, true, false, List, [], ◌∷◌, ◌++◌, Option, Some, None, codes}
 use Rattle.std.specs.Fmt.{decimal}
 use Rattle.tso_model.specs.Litmus.{Litmus}

@@ -1,4 +1,4 @@
--- What a report shows of a run. (This project's profile.)
+-- What a report shows of a run.
 use Rattle.std.specs.Prelude.{ℕ, ◌≡◌, Bool, List, length, Option, is_some, All}
 use Rattle.tso_model.specs.Litmus.{Litmus}
 use Rattle.tso_model.specs.declared.execution.Entry.{Entry}

@@ -1,4 +1,4 @@
--- What is counted of a sweep, the runs of one test under many lists of choices, and its text. (This project's profile.)
+-- What is counted of a sweep, the runs of one test under many lists of choices, and its text.
 use Rattle.std.specs.Prelude.{ℕ, zero, suc, ◌+◌, ◌≡◌, ◌<◌, ◌==◌, ◌&&◌, ◌||◌, Bool, true, false, if◌then◌else◌, Option, Some, None}
 use Rattle.std.specs.Prelude.{List, [], ◌∷◌, ◌++◌, map, filter, sum, length, slice_index, slice_index_or, codes}
 use Rattle.std.specs.Fmt.{decimal}
@@ -56,22 +56,22 @@ abbrev pub location : ℕ → Named
 location loc = Location (record { 0 = loc })
 
 -- the registers of so many cores from this one on: core by core, in their order
-abbrev pub registers_from : ℕ → ℕ → List Named
-registers_from core zero = []
-registers_from core (suc count) = map (register_of core) all_registers ++ registers_from (core + 1) count
+abbrev pub named_registers : ℕ → ℕ → List Named
+named_registers core zero = []
+named_registers core (suc count) = map (register_of core) all_registers ++ named_registers (core + 1) count
 
 -- so many locations from this one on
-abbrev pub locations_from : ℕ → ℕ → List Named
-locations_from loc zero = []
-locations_from loc (suc count) = location loc ∷ locations_from (loc + 1) count
+abbrev pub named_locations : ℕ → ℕ → List Named
+named_locations loc zero = []
+named_locations loc (suc count) = location loc ∷ named_locations (loc + 1) count
 
 -- what is looked at of the test's final states, registers first
 abbrev pub looked_at : Litmus → List Named
-looked_at t = filter (is_looked_at t.condition) (registers_from 0 (length t.programs) ++ locations_from 0 (length t.locations))
+looked_at t = filter (is_looked_at t.condition) (named_registers 0 (length t.programs) ++ named_locations 0 (length t.locations))
 
-abbrev pub value_of : List (List ℕ) → List ℕ → Named → ℕ
-value_of registers memory (Register core reg) = value_in (slice_index_or registers core.0 []) reg
-value_of registers memory (Location loc) = slice_index memory loc.0
+abbrev pub shown_value : List (List ℕ) → List ℕ → Named → ℕ
+shown_value registers memory (Register core reg) = value_in (slice_index_or registers core.0 []) reg
+shown_value registers memory (Location loc) = slice_index memory loc.0
 
 -- the core or the location is below these numbers
 abbrev pub IsKnown : ℕ → ℕ → Named → Type 0
@@ -80,7 +80,7 @@ IsKnown cores locations (Location loc) = loc.0 < locations
 
 -- the values that a final state has there
 abbrev pub values_in : Litmus → List (List ℕ) → List ℕ → List ℕ
-values_in t registers memory = map (value_of registers memory) (looked_at t)
+values_in t registers memory = map (shown_value registers memory) (looked_at t)
 
 -- ---- what is counted
 

@@ -5,7 +5,7 @@ ghost use Rattle.std.specs.Prelude.{◌≡◌, ◌<◌, ◌∷◌, [], IfOk, OnO
 ghost use Rattle.tso_model.specs.Condition.{claim_of};
 ghost use Rattle.tso_report.specs.Report.{all_registers};
 ghost use Rattle.tso_report.specs.Tally.{names_register, names_location, is_looked_at, AreNoted, register_of};
-ghost use Rattle.tso_report.specs.Tally.{registers_from, locations_from, looked_at, value_of, IsKnown};
+ghost use Rattle.tso_report.specs.Tally.{named_registers, named_locations, looked_at, shown_value, IsKnown};
 
 use std::alloc::Global;
 use tso_model::{Core, Loc, NoMemory, Prop, Reg, Test};
@@ -33,7 +33,7 @@ pub fn looked_at(alloc: Global, test: &Test) -> Result<Vec<Named>, NoMemory>
 }
 
 fn note_registers(list: &mut Vec<Named>, test: &Test) -> Result<(), NoMemory>
-    ensures { OnOk result (AreNoted test.now.condition (registers_from 0 (length test.now.programs)) list.old.items list.new.items) }
+    ensures { OnOk result (AreNoted test.now.condition (named_registers 0 (length test.now.programs)) list.old.items list.new.items) }
 {
     for core in 0..test.cores() {
         note_core(list, test, core)?;
@@ -58,7 +58,7 @@ fn note_each(list: &mut Vec<Named>, test: &Test, core: u8, regs: &[Reg]) -> Resu
 }
 
 fn note_locations(list: &mut Vec<Named>, test: &Test) -> Result<(), NoMemory>
-    ensures { OnOk result (AreNoted test.now.condition (locations_from 0 (length test.now.locations)) list.old.items list.new.items) }
+    ensures { OnOk result (AreNoted test.now.condition (named_locations 0 (length test.now.locations)) list.old.items list.new.items) }
 {
     for loc in 0..test.locations() {
         note(list, test, Named::Location(Loc(loc)))?;
@@ -122,7 +122,7 @@ pub fn values_at(
     memory: &[u32],
 ) -> Result<Vec<u32>, NoMemory>
     requires { All (IsKnown (length registers.now) (length memory.now)) list.now }
-    ensures { IfOk result (λ values. values.items ≡ map (value_of registers.now memory.now) list.now) }
+    ensures { IfOk result (λ values. values.items ≡ map (shown_value registers.now memory.now) list.now) }
 {
     let mut values = Vec::new(alloc);
     for named in list {
@@ -133,7 +133,7 @@ pub fn values_at(
 
 fn value_at(named: Named, registers: &[[u32; 6]], memory: &[u32]) -> u32
     requires { IsKnown (length registers.now) (length memory.now) named }
-    ensures { result ≡ value_of registers.now memory.now named }
+    ensures { result ≡ shown_value registers.now memory.now named }
 {
     match named {
         Named::Register(core, reg) => registers[core.0 as usize][reg.index()],

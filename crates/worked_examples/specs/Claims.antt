@@ -1,5 +1,4 @@
 -- Propositions on one final state, in which all registers and words differ:
---
 --   Registers P0 EAX=11 EBX=12 ECX=13 EDX=14 ESI=15 EDI=16
 --   Registers P1 EAX=21 EBX=22 ECX=23 EDX=24 ESI=25 EDI=26
 --   Memory x=3 y=4

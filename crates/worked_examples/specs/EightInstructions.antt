@@ -1,5 +1,4 @@
 -- A thread of all eight instructions, each with a register, a location and values of its own.
---
 --   X86 eight
 --   { x=3; y=4; z=5;
 --     0:EAX=1;  0:EBX=2;  0:ECX=7;  0:EDX=8;  0:ESI=9;  0:EDI=10;

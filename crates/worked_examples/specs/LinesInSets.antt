@@ -63,14 +63,11 @@ abbrev pub asked : Option Awaited → List TagSets → Asked
 asked awaited caches = record { awaited = awaited; caches = caches }
 
 -- ---- where a location lies
---
 --   location       0   1   2   3   4   5   6   7
 --   word          10  11  12  13  14  15  16  17
---
 --   of two words   line 0  line 1  line 2  line 3
 --   in two sets    set 0   set 1   set 0   set 1
 --   in three sets  set 0   set 1   set 2   set 0
---
 --   of four words  line 0          line 1
 --   in two sets    set 0           set 1
 
@@ -93,7 +90,6 @@ abbrev pub five_words : List ℕ
 five_words = 10 ∷ 11 ∷ 12 ∷ 13 ∷ 14 ∷ []
 
 -- ---- copies with words of their own
---
 -- Lines of two words in two sets for one line each. P0 has line 1, locations 2 and 3, in S; P1 has line 2, locations 4 and 5, in M
 -- with words that memory doesn't have.
 
@@ -128,7 +124,6 @@ abbrev pub under_way : Bus
 under_way = bus_with msi two_words 8 (held_by_p0 ∷ (copies_for 1 [] ∷ copies_for 1 [] ∷ []) ∷ []) eight_in_memory (Some write_of_p0)
 
 -- ---- lines in the order of their use
---
 -- Two caches of one set. P0 used line 2, then line 4, then line 7.
 
 -- these lines of P0, and these of P1, in sets for four lines

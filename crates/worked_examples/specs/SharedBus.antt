@@ -1,6 +1,5 @@
 -- One choice of one of two cores on a split bus, after others. Each choice is given with the caches' answer whether its access
 -- hits.
---
 --   X86 shared
 --   { x=3; y=4;
 --     0:EAX=11; 0:EBX=12; 0:ECX=13; 0:EDX=14; 0:ESI=15; 0:EDI=16;

@@ -1,5 +1,4 @@
 -- One choice of one core, after others.
---
 --   X86 alone
 --   { x=3; y=4; 0:EAX=11; 0:EBX=12; 0:ECX=13; 0:EDX=14; 0:ESI=15; 0:EDI=16; }
 --    P0  ;

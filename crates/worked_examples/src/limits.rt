@@ -6,7 +6,7 @@ ghost use Rattle.tso_model.specs.Registers.{IsWord};
 ghost use Rattle.tso_model.specs.Limits.{most_cores, most_locations, most_instructions, most_atoms, most_open};
 ghost use Rattle.tso_model.specs.Limits.{longest_name, longest_test_name, least_depth, most_depth};
 ghost use Rattle.cache_set.specs.Limits.{most_ways, most_words};
-ghost use Rattle.snoop_bus.specs.Limits.{most_bus_cores, most_sets};
+ghost use Rattle.snoop_bus.specs.Limits.{most_sets};
 ghost use Rattle.snoop_bus.specs.Geometry.{IsLineSize};
 ghost use Rattle.scheduler.specs.Limits.{most_choices};
 ghost use Rattle.litmus_reader.specs.Limits.{longest_text};
@@ -32,7 +32,6 @@ pub fn numbers_of_tests()
 pub fn numbers_of_machines()
     ensures shallowest { least_depth ≡ 1 }
     ensures deepest { most_depth ≡ 32 }
-    ensures bus_cores { most_bus_cores ≡ 8 }
     ensures sets { most_sets ≡ 8 }
     ensures ways { most_ways ≡ 8 }
     ensures room_for_words { most_words ≡ 4 }

@@ -1,6 +1,6 @@
 use Rattle.std.proofs.Common.{◌≡◌, ◌/◌, true, false}
 use Rattle.protocol_tables.specs.declared.asking.Request.TheVariants.{GetM}
-use Rattle.snoop_bus.specs.Rows.{table_of}
+use Rattle.snoop_bus.specs.Rows.{table_of_rows}
 use Rattle.snoop_bus.specs.CacheContents.{loaded, written}
 use Rattle.snoop_bus.specs.Accesses.{contents_of}
 use Rattle.snoop_bus.specs.Asks.{hits, in_halves}
@@ -9,8 +9,8 @@ use Rattle.bus_laws.proofs.hits_are_told_beforehand.Goals as goal
 
 pub returns : goal.returns
 returns c = record {
-  loads = λ b core loc. load-told (table_of b.rows) core (loc / b.shape.words) (contents_of b);
-  writes = λ b core loc. write-told (table_of b.rows) core (loc / b.shape.words) (contents_of b);
+  loads = λ b core loc. load-told (table_of_rows b.rows) core (loc / b.shape.words) (contents_of b);
+  writes = λ b core loc. write-told (table_of_rows b.rows) core (loc / b.shape.words) (contents_of b);
   loads_in_halves = λ t core line caches misses is.
       not-both (hits t core line false caches) misses
       ((told-as (loaded t core line caches) _ (hits t core line false caches ≡ true)

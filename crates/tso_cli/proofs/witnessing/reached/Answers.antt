@@ -2,7 +2,7 @@ use Rattle.std.proofs.Common.{◌≡◌}
 use Rattle.tso_laws.specs.Along.{choices_along}
 use Rattle.tso_laws.specs.Depth.{needed}
 use Rattle.tso_cli.specs.Lines.{depth_line}
-use Rattle.tso_cli.specs.Witness.{choices_line, IsWitness, reached, too_small}
+use Rattle.tso_cli.specs.Witness.{witness_line, IsWitness, reached, too_small}
 use Rattle.tso_cli.specs.declared.answer.Status.TheVariants.{Good, Invalid}
 use Rattle.tso_cli.proofs.AnswerLemmas.{answer-is}
 use Rattle.tso_cli.proofs.witnessing.reached.Goals as goal
@@ -11,7 +11,7 @@ pub returns-in-Ok : goal.returns-in-Ok
 returns-in-Ok c =
     let t = c.args.test.now in
     let order = c.args.execution.now.order.items in
-    answer-is (IsWitness t c.args.depth order) c.found.result (choices_line (choices_along t order)) Good
+    answer-is (IsWitness t c.args.depth order) c.found.result (witness_line (choices_along t order)) Good
     (rw (c.deref.ensures.value, c.in-Ok.ensures.exact) at c.found.ensures)
     (reached c.requires.order c.in-Ok.ensures.depth)
 

@@ -1,5 +1,5 @@
 use Rattle.std.proofs.Common.{◌++◌, length, filter, arith}
-use Rattle.tso_report.specs.Tally.{is_looked_at, locations_from}
+use Rattle.tso_report.specs.Tally.{is_looked_at, named_locations}
 use Rattle.tso_report.proofs.Looking.{location-noted}
 use Rattle.tso_report.proofs.named.note_locations.Goals as goal
 
@@ -7,5 +7,5 @@ pub loop-loc-preserved : goal.loop-loc-preserved
 loop-loc-preserved c =
     let p = is_looked_at c.args.test.now.condition in
     let n = length c.args.test.now.locations in
-    location-noted p (c.args.list.now.items ++ filter p (locations_from 0 n)) c.loop-loc.list.items c.note.new.list.items c.loop-loc.loc n
+    location-noted p (c.args.list.now.items ++ filter p (named_locations 0 n)) c.loop-loc.list.items c.note.new.list.items c.loop-loc.loc n
     (omega (arith, c.loop-loc-test.true, c.locations-loc-end.ensures.value)) c.in_ok-note.ensures c.loop-loc.invariant

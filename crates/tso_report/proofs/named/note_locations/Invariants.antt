@@ -1,8 +1,8 @@
 use Rattle.std.proofs.Common.{◌≡◌, ◌-◌, ◌++◌, length, filter}
-use Rattle.tso_report.specs.Tally.{is_looked_at, locations_from}
+use Rattle.tso_report.specs.Tally.{is_looked_at, named_locations}
 use Rattle.tso_report.proofs.named.note_locations.Given as goal
 
 abbrev pub invariant-loop-loc : goal.invariant-loop-loc
 invariant-loop-loc l =
-    l.list.items ++ filter (is_looked_at l.test.condition) (locations_from l.loc (length l.test.locations - l.loc))
-    ≡ l.initial.list.items ++ filter (is_looked_at l.test.condition) (locations_from 0 (length l.test.locations))
+    l.list.items ++ filter (is_looked_at l.test.condition) (named_locations l.loc (length l.test.locations - l.loc))
+    ≡ l.initial.list.items ++ filter (is_looked_at l.test.condition) (named_locations 0 (length l.test.locations))

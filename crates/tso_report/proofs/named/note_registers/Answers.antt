@@ -1,5 +1,5 @@
 use Rattle.std.proofs.Common.{◌++◌, length, filter, arith}
-use Rattle.tso_report.specs.Tally.{is_looked_at, registers_from}
+use Rattle.tso_report.specs.Tally.{is_looked_at, named_registers}
 use Rattle.tso_report.proofs.Looking.{core-noted}
 use Rattle.tso_report.proofs.named.note_registers.Goals as goal
 
@@ -7,5 +7,5 @@ pub loop-core-preserved : goal.loop-core-preserved
 loop-core-preserved c =
     let p = is_looked_at c.args.test.now.condition in
     let n = length c.args.test.now.programs in
-    core-noted p (c.args.list.now.items ++ filter p (registers_from 0 n)) c.loop-core.list.items c.note_core.new.list.items c.loop-core.core n
+    core-noted p (c.args.list.now.items ++ filter p (named_registers 0 n)) c.loop-core.list.items c.note_core.new.list.items c.loop-core.core n
     (omega (arith, c.loop-core-test.true, c.cores-core-end.ensures.value)) c.in_ok-note_core.ensures c.loop-core.invariant

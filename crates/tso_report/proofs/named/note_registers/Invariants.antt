@@ -1,8 +1,8 @@
 use Rattle.std.proofs.Common.{◌≡◌, ◌-◌, ◌++◌, length, filter}
-use Rattle.tso_report.specs.Tally.{is_looked_at, registers_from}
+use Rattle.tso_report.specs.Tally.{is_looked_at, named_registers}
 use Rattle.tso_report.proofs.named.note_registers.Given as goal
 
 abbrev pub invariant-loop-core : goal.invariant-loop-core
 invariant-loop-core l =
-    l.list.items ++ filter (is_looked_at l.test.condition) (registers_from l.core (length l.test.programs - l.core))
-    ≡ l.initial.list.items ++ filter (is_looked_at l.test.condition) (registers_from 0 (length l.test.programs))
+    l.list.items ++ filter (is_looked_at l.test.condition) (named_registers l.core (length l.test.programs - l.core))
+    ≡ l.initial.list.items ++ filter (is_looked_at l.test.condition) (named_registers 0 (length l.test.programs))

@@ -1,7 +1,7 @@
 use Rattle.std.proofs.Common.{◌≡◌, ◌++◌, drop, map}
-use Rattle.tso_report.specs.Tally.{value_of}
+use Rattle.tso_report.specs.Tally.{shown_value}
 use Rattle.tso_report.proofs.named.values_at.Given as goal
 
 abbrev pub invariant-loop-named : goal.invariant-loop-named
 invariant-loop-named l =
-    l.values.items ++ map (value_of l.registers l.memory) (drop l.named-index l.list) ≡ map (value_of l.registers l.memory) l.list
+    l.values.items ++ map (shown_value l.registers l.memory) (drop l.named-index l.list) ≡ map (shown_value l.registers l.memory) l.list

@@ -1,7 +1,7 @@
 use Rattle.std.proofs.Common.{◌≡◌, [], false, IsTrue, IfOk, map, refl, ap, ◌∙◌, sym, subst, length}
 use Rattle.tso_model.specs.FlatMachine.{start}
 use Rattle.tso_model.specs.EitherBus.{unheld}
-use Rattle.snoop_bus.specs.Rows.{table_of}
+use Rattle.snoop_bus.specs.Rows.{table_of_rows}
 use Rattle.machine_core.specs.Running.{is_ended, restarted}
 use Rattle.machine_core.specs.Kept.{state_in, statistics_in}
 use Rattle.machine_core.specs.Statistics.{no_statistics}
@@ -48,7 +48,7 @@ returns-clause-restarted g c =
     let mid = c.final_state-state.new.parts in
     let new = c.restart.new.parts in
     let config = r.config ∙ left.config in
-    let statistics = r.statistics ∙ ap (λ rows. no_statistics (table_of rows) mid.bus.shape t) left.machine.rows ∙ ap (λ shape. no_statistics (table_of old.bus.rows) shape t) left.machine.shape in
+    let statistics = r.statistics ∙ ap (λ rows. no_statistics (table_of_rows rows) mid.bus.shape t) left.machine.rows ∙ ap (λ shape. no_statistics (table_of_rows old.bus.rows) shape t) left.machine.shape in
     Running-same _ t old.config.bus new.config.bus old.config.depth new.config.depth (unheld (start t)) (state_in new) [] new.commits.entries _ (statistics_in new) false false
     refl (ap (λ config. config.bus) config) (ap (λ config. config.depth) config) r.begun.state r.begun.commits statistics refl
     ∙ ap restarted c.self.view_is

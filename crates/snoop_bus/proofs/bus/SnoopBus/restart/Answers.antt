@@ -1,6 +1,6 @@
 use Rattle.std.proofs.Common.{◌≡◌, ◌∙◌, ap, sym, rules, length}
 use Rattle.std.proofs.lemmas.List.{with_items_is}
-use Rattle.snoop_bus.specs.Rows.{table_of}
+use Rattle.snoop_bus.specs.Rows.{table_of_rows}
 use Rattle.snoop_bus.specs.Bus.{Bus, cores_of}
 use Rattle.snoop_bus.specs.Accesses.{new_bus}
 use Rattle.snoop_bus.proofs.Emptied.{count-words, begins-anew}
@@ -38,7 +38,7 @@ returns-clause-exact g c =
     rw (cs, ms)
     ((begins-anew (g.P.Protocol.table c.self.inside.protocol) c.self.inside.shape c.self.inside.locations c.self.inside.caches.items c.clear_caches.new.caches c.self.inside.memory.items c.put_lines.new.lines
     c.self.inside.held c.args.init.now c.self.invariant c.put_lines.ensures.size.1 same caches memory).exact
-    ∙ ap (λ (b : Bus). new_bus (table_of b.rows) (cores_of b) b.shape c.args.init.now) c.self.view_is)
+    ∙ ap (λ (b : Bus). new_bus (table_of_rows b.rows) (cores_of b) b.shape c.args.init.now) c.self.view_is)
 
 pub returns-clause-coherent : goal.returns-clause-coherent
 returns-clause-coherent g c = (invariant_of-self g c).coherent
