@@ -1,0 +1,33 @@
+# Completions of tso for bash.
+
+_tso_options() {
+  case $1 in
+    run) echo --protocol --depth --sets --ways --words --bus --json --help ;;
+    sweep) echo --protocol --depth --sets --ways --words --bus --from --seeds --length --help ;;
+    check) echo --help ;;
+    witness) echo --depth --help ;;
+    tables) echo --protocol --help ;;
+    help) echo run sweep check witness tables help ;;
+    *) echo run sweep check witness tables help --help --version ;;
+  esac
+}
+
+_tso_values() {
+  case $1 in
+    --protocol) echo msi mesi moesi mosi ;;
+    --bus) echo atomic split ;;
+    --words) echo 1 2 4 ;;
+    --depth | --sets | --ways | --from | --seeds | --length) echo ;;
+    *) return 1 ;;
+  esac
+}
+
+_tso() {
+  local word=${COMP_WORDS[COMP_CWORD]} before=${COMP_WORDS[COMP_CWORD - 1]} command= words
+  [ "$COMP_CWORD" -lt 2 ] || command=${COMP_WORDS[1]}
+  words=$(_tso_values "$before") || words=$(_tso_options "$command")
+  COMPREPLY=($(compgen -W "$words" -- "$word"))
+}
+
+# After < a file is wanted, which is no word of tso.
+complete -o bashdefault -o default -F _tso tso

@@ -1,0 +1,39 @@
+# Completions of tso for fish: a line for each command, and one for each option of a command.
+
+complete -c tso -f -n __fish_use_subcommand -l help
+complete -c tso -f -n __fish_use_subcommand -l version
+complete -c tso -f -n __fish_use_subcommand -a run
+complete -c tso -f -n __fish_use_subcommand -a sweep
+complete -c tso -f -n __fish_use_subcommand -a check
+complete -c tso -f -n __fish_use_subcommand -a witness
+complete -c tso -f -n __fish_use_subcommand -a tables
+complete -c tso -f -n __fish_use_subcommand -a help
+complete -c tso -f -n "__fish_seen_subcommand_from help" -a "run sweep check witness tables help"
+
+complete -c tso -f -n "__fish_seen_subcommand_from run" -l protocol -x -a "msi mesi moesi mosi"
+complete -c tso -f -n "__fish_seen_subcommand_from run" -l depth -x
+complete -c tso -f -n "__fish_seen_subcommand_from run" -l sets -x
+complete -c tso -f -n "__fish_seen_subcommand_from run" -l ways -x
+complete -c tso -f -n "__fish_seen_subcommand_from run" -l words -x -a "1 2 4"
+complete -c tso -f -n "__fish_seen_subcommand_from run" -l bus -x -a "atomic split"
+complete -c tso -f -n "__fish_seen_subcommand_from run" -l json
+complete -c tso -f -n "__fish_seen_subcommand_from run" -l help
+
+complete -c tso -f -n "__fish_seen_subcommand_from sweep" -l protocol -x -a "msi mesi moesi mosi"
+complete -c tso -f -n "__fish_seen_subcommand_from sweep" -l depth -x
+complete -c tso -f -n "__fish_seen_subcommand_from sweep" -l sets -x
+complete -c tso -f -n "__fish_seen_subcommand_from sweep" -l ways -x
+complete -c tso -f -n "__fish_seen_subcommand_from sweep" -l words -x -a "1 2 4"
+complete -c tso -f -n "__fish_seen_subcommand_from sweep" -l bus -x -a "atomic split"
+complete -c tso -f -n "__fish_seen_subcommand_from sweep" -l from -x
+complete -c tso -f -n "__fish_seen_subcommand_from sweep" -l seeds -x
+complete -c tso -f -n "__fish_seen_subcommand_from sweep" -l length -x
+complete -c tso -f -n "__fish_seen_subcommand_from sweep" -l help
+
+complete -c tso -f -n "__fish_seen_subcommand_from check" -l help
+
+complete -c tso -f -n "__fish_seen_subcommand_from witness" -l depth -x
+complete -c tso -f -n "__fish_seen_subcommand_from witness" -l help
+
+complete -c tso -f -n "__fish_seen_subcommand_from tables" -l protocol -x -a "msi mesi moesi mosi"
+complete -c tso -f -n "__fish_seen_subcommand_from tables" -l help
