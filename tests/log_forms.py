@@ -68,10 +68,27 @@ State 156 0:EAX=1 1:EAX=1
 Observation SB Sometimes 171 829
 """
 
+OUTCOMES = """Test SB
+Outcomes depth=32 states=4 against=0
+State 0:EAX=0 1:EAX=0 against=no
+By 0s 0s 1s 1s 0d 1d
+State 0:EAX=0 1:EAX=1 against=yes
+By 0s 0s 0d 1s 1s 1d
+State 0:EAX=1 1:EAX=0 against=yes
+By 1s 1s 1d 0s 0s 0d
+State 0:EAX=1 1:EAX=1 against=yes
+By 0s 0d 1s 1d 0s 1s
+Observation SB Sometimes 1 3
+"""
+
 # Each: a name, whether the first is to be within the second, the two logs, the lines that are printed, and the status.
 COMPARED = [
     ("a log and itself", False, HERD, HERD, ["2 tests in both logs, 0 differences"], 0),
     ("herd's and this project's", False, SWEPT, HERD, ["2+2W: only in the second log", "1 tests in both logs, 1 differences"], 1),
+    ("all that is allowed, and what a sweep found", False, OUTCOMES, SWEPT, ["1 tests in both logs, 0 differences"], 0),
+    ("all without a depth beside it", False, OUTCOMES.replace(" against=no", "").replace(" against=yes", ""), OUTCOMES,
+     ["1 tests in both logs, 0 differences"], 0),
+    ("a search that found no end", False, "Test SB\nUnfinished states=10\n", OUTCOMES, [], 2),
     ("what was seen is within what is allowed", True, LITMUS, SWEPT,
      ["SB: only in the second log: 0:EAX=1 1:EAX=1", "1 tests in both logs, 0 differences that count"], 0),
     ("what was seen isn't all", False, LITMUS, SWEPT,
