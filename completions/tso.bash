@@ -4,11 +4,12 @@ _tso_options() {
   case $1 in
     run) echo --protocol --depth --sets --ways --words --bus --json --help ;;
     sweep) echo --protocol --depth --sets --ways --words --bus --from --seeds --length --help ;;
+    outcomes) echo --depth --states --json --help ;;
     check) echo --help ;;
     witness) echo --depth --help ;;
     tables) echo --protocol --help ;;
-    help) echo run sweep check witness tables help ;;
-    *) echo run sweep check witness tables help --help --version ;;
+    help) echo run sweep outcomes check witness tables help ;;
+    *) echo run sweep outcomes check witness tables help --help --version ;;
   esac
 }
 
@@ -17,7 +18,7 @@ _tso_values() {
     --protocol) echo msi mesi moesi mosi ;;
     --bus) echo atomic split ;;
     --words) echo 1 2 4 ;;
-    --depth | --sets | --ways | --from | --seeds | --length) echo ;;
+    --depth | --sets | --ways | --from | --seeds | --length | --states) echo ;;
     *) return 1 ;;
   esac
 }

@@ -4,11 +4,12 @@ complete -c tso -f -n __fish_use_subcommand -l help
 complete -c tso -f -n __fish_use_subcommand -l version
 complete -c tso -f -n __fish_use_subcommand -a run
 complete -c tso -f -n __fish_use_subcommand -a sweep
+complete -c tso -f -n __fish_use_subcommand -a outcomes
 complete -c tso -f -n __fish_use_subcommand -a check
 complete -c tso -f -n __fish_use_subcommand -a witness
 complete -c tso -f -n __fish_use_subcommand -a tables
 complete -c tso -f -n __fish_use_subcommand -a help
-complete -c tso -f -n "__fish_seen_subcommand_from help" -a "run sweep check witness tables help"
+complete -c tso -f -n "__fish_seen_subcommand_from help" -a "run sweep outcomes check witness tables help"
 
 complete -c tso -f -n "__fish_seen_subcommand_from run" -l protocol -x -a "msi mesi moesi mosi"
 complete -c tso -f -n "__fish_seen_subcommand_from run" -l depth -x
@@ -29,6 +30,11 @@ complete -c tso -f -n "__fish_seen_subcommand_from sweep" -l from -x
 complete -c tso -f -n "__fish_seen_subcommand_from sweep" -l seeds -x
 complete -c tso -f -n "__fish_seen_subcommand_from sweep" -l length -x
 complete -c tso -f -n "__fish_seen_subcommand_from sweep" -l help
+
+complete -c tso -f -n "__fish_seen_subcommand_from outcomes" -l depth -x
+complete -c tso -f -n "__fish_seen_subcommand_from outcomes" -l states -x
+complete -c tso -f -n "__fish_seen_subcommand_from outcomes" -l json
+complete -c tso -f -n "__fish_seen_subcommand_from outcomes" -l help
 
 complete -c tso -f -n "__fish_seen_subcommand_from check" -l help
 

@@ -124,16 +124,19 @@ def holds(claim, values):
     return (all if kind == "and" else any)(holds(part, values) for part in parts[0])
 
 
+def observed(test):
+    """The places that a final state names: those of the condition, registers first, or without a condition each location."""
+    if test.condition is None:
+        return test.locations()
+    asked = set(claim_places(test.condition[1]))
+    registers = sorted((place for place in asked if not isinstance(place, str)), key=lambda place: (place[0], REGISTERS.index(place[1])))
+    return registers + [name for name in test.locations() if name in asked]
+
+
 # ---- reading
 
 TOKEN = re.compile(r"\s*(?:(\d+)|([A-Za-z_]\w*)|(/\\|\\/|[=;:\[\]{}|,$~()])|(\S))")
 COMMENT = re.compile(r"\(\*.*?\*\)", re.S)
-
-
-def split_stream(text):
-    """The tests of a text that has several one after the other, each from its line `X86 ..` on."""
-    pieces = re.split(r"^(?=X86[ \t])", text, flags=re.M)
-    return [piece for piece in pieces if piece.startswith("X86")]
 
 
 def read_test(text):

@@ -62,8 +62,14 @@ def settings_of(words):
         given.add(name)
         settings[name] = value
     if settings["words"] not in WORDS:
-        raise BadLine("lines of three words", b"fault range\n")
+        hint = b"hint: --words is 1, 2 or 4\n" if spells_three(words) else b""
+        raise BadLine("lines of three words", b"fault range\n" + hint)
     return command, settings
+
+
+def spells_three(words):
+    """Whether the value of `--words` is the one digit; `03` gets no hint."""
+    return "--words=3" in words or ("--words", "3") in zip(words, words[1:])
 
 
 def option_of(command, rest):

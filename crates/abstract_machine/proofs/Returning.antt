@@ -11,7 +11,7 @@ use Rattle.tso_model.specs.declared.execution.Entry.{Entry}
 use Rattle.tso_model.specs.declared.choice.Choice.{Choice}
 use Rattle.tso_laws.specs.Choices.{IsPossible}
 use Rattle.tso_laws.specs.EndedRuns.{End, IsExecution}
-use Rattle.tso_laws.specs.Stopping.{StopsAtTheEnd}
+use Rattle.tso_laws.specs.inner.Stopping.{StopsAtTheEnd}
 use Rattle.abstract_machine.specs.Machine.{HardwareThread, Machine, first}
 use Rattle.abstract_machine.specs.Steps.{Step, Runs, rests, goes_on}
 use Rattle.abstract_machine.specs.Ended.{IsFinished, HasEnded, registers_of, EndsWith}

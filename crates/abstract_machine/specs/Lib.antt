@@ -14,3 +14,4 @@ pub use Rattle.tso_model.specs.Examples
 pub use Rattle.tso_laws.specs.Counting
 pub use Rattle.tso_laws.specs.Reached
 pub use Rattle.tso_laws.specs.WorkedRuns
+pub use Rattle.tso_laws.specs.inner.WorkedRuns as InnerWorkedRuns

@@ -10,8 +10,8 @@ use Rattle.tso_model.specs.declared.instruction.Instr.{Instr}
 use Rattle.tso_model.specs.declared.action.Action.{Action}
 use Rattle.tso_model.specs.declared.action.Action.TheVariants.{Store, Load, Move, Fence, Lock}
 use Rattle.tso_model.specs.declared.execution.Entry.{Entry}
-use Rattle.axiom_checker.specs.Programs.{shape_from}
-use Rattle.axiom_checker.specs.Slots.{slot_of, Ascends, slots_of_a_core}
+use Rattle.axiom_checker.specs.inner.Programs.{shape_from}
+use Rattle.axiom_checker.specs.inner.Slots.{slot_of, Ascends, slots_of_a_core}
 use Rattle.axiom_checker.proofs.Firsts.{three-ways}
 
 ascends-within : (low high new_low new_high : ℕ) (es : List Entry) → new_low ≤ low → high ≤ new_high → Ascends low high es → Ascends new_low new_high es

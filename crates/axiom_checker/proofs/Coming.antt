@@ -9,8 +9,8 @@ use Rattle.tso_model.specs.ProgramEntries.{is_at}
 use Rattle.tso_model.specs.declared.execution.Entry.{Entry}
 use Rattle.axiom_checker.specs.First.{IsFirst, IsNowhere}
 use Rattle.axiom_checker.specs.Entries.{same_action, same_but_value, IsExtra, IsTwice, IsStray, IsMissing}
-use Rattle.axiom_checker.specs.Programs.{kept_in}
-use Rattle.axiom_checker.specs.Slots.{slot_of, Ascends, IsIndex, HasCome, HasNotCome, slots_of_a_core}
+use Rattle.axiom_checker.specs.inner.Programs.{kept_in}
+use Rattle.axiom_checker.specs.inner.Slots.{slot_of, Ascends, IsIndex, HasCome, HasNotCome, slots_of_a_core}
 use Rattle.axiom_checker.proofs.Actions.{SameAction, same-parts, same-from, same-turned, same_but_value-parts, entry-is, NoneTwice}
 use Rattle.axiom_checker.proofs.Shapes.{AreAlike, alike-at, all-turned}
 use Rattle.axiom_checker.proofs.Keeps.{equal-or-not}

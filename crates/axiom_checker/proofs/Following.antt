@@ -11,9 +11,9 @@ use Rattle.tso_model.specs.declared.execution.Entry.{Entry}
 use Rattle.tso_model.specs.declared.execution.Kind.{Kind}
 use Rattle.tso_model.specs.declared.execution.Kind.TheVariants.{R, W, F, LR, LW}
 use Rattle.axiom_checker.specs.AxiomBreaches.{due_at}
-use Rattle.axiom_checker.specs.Slots.{slots_of_a_core}
-use Rattle.axiom_checker.specs.Sources.{IsLastOwn, IsSource}
-use Rattle.axiom_checker.specs.Passing.{due_from}
+use Rattle.axiom_checker.specs.inner.Slots.{slots_of_a_core}
+use Rattle.axiom_checker.specs.inner.Sources.{IsLastOwn, IsSource}
+use Rattle.axiom_checker.specs.inner.Passing.{due_from}
 use Rattle.axiom_checker.proofs.Firsts.{three-ways}
 use Rattle.axiom_checker.proofs.OwnReads.{made-read}
 use Rattle.axiom_checker.proofs.Actions.{apart-none, SameAction, one-place}

@@ -8,10 +8,10 @@ use Rattle.tso_model.specs.Axioms.{IsTsoExecution, IsWhole}
 use Rattle.tso_model.specs.declared.execution.Entry.{Entry}
 use Rattle.axiom_checker.specs.First.{IsFirst, IsEarliest, IsNowhere}
 use Rattle.axiom_checker.specs.Entries.{IsExtra, IsStray, IsWrongWrite}
-use Rattle.axiom_checker.specs.Programs.{shape_from, reads_that_came}
-use Rattle.axiom_checker.specs.Slots.{Ascends, IsIndex, HasCome, HasNotCome, NamesStray, slots_of_a_core}
+use Rattle.axiom_checker.specs.inner.Programs.{shape_from, reads_that_came}
+use Rattle.axiom_checker.specs.inner.Slots.{Ascends, IsIndex, HasCome, HasNotCome, NamesStray, slots_of_a_core}
 use Rattle.axiom_checker.specs.AxiomBreaches.{Overtakes, IsLate, IsSeparated, IsWrongRead, due_at}
-use Rattle.axiom_checker.specs.Passing.{IsMatched, HasMet, AreOfPrograms}
+use Rattle.axiom_checker.specs.inner.Passing.{IsMatched, HasMet, AreOfPrograms}
 use Rattle.axiom_checker.specs.FirstBreach.{IsFirstBreach}
 use Rattle.axiom_checker.specs.declared.passing.Met.{Met}
 use Rattle.axiom_checker.specs.declared.breach.Breach.{Breach}

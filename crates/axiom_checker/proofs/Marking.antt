@@ -9,7 +9,7 @@ use Rattle.basic_laws.specs.Ranks.{rank}
 use Rattle.tso_model.specs.Axioms.{last_value}
 use Rattle.tso_model.specs.declared.execution.Entry.{Entry}
 use Rattle.axiom_checker.specs.AxiomBreaches.{must_stand_before, IsLate}
-use Rattle.axiom_checker.specs.Progress.{reached, settled, written, is_late}
+use Rattle.axiom_checker.specs.inner.Progress.{reached, settled, written, is_late}
 use Rattle.axiom_checker.proofs.Keeps.{equal-or-not}
 use Rattle.axiom_checker.proofs.Coming.{true-or-false, some-is}
 use Rattle.axiom_checker.proofs.Finds.{last_value-append, filter-append}

@@ -13,9 +13,9 @@ use Rattle.tso_model.specs.declared.execution.Kind.TheVariants.{LR, LW}
 use Rattle.axiom_checker.specs.First.{NoneBefore, IsFirst, IsEarliest}
 use Rattle.axiom_checker.specs.Entries.{IsWrongWrite, written_value}
 use Rattle.axiom_checker.specs.AxiomBreaches.{IsLate, IsSeparated, IsWrongRead, due_at}
-use Rattle.axiom_checker.specs.Progress.{is_late}
-use Rattle.axiom_checker.specs.Sources.{IsSource}
-use Rattle.axiom_checker.specs.Passing.{HasMet, IsFirstWrongWrite, IsFirstWrongRead, NamesWrongWrite, NamesWrongRead, IsDueFrom, first_of, due_from}
+use Rattle.axiom_checker.specs.inner.Progress.{is_late}
+use Rattle.axiom_checker.specs.inner.Sources.{IsSource}
+use Rattle.axiom_checker.specs.inner.Passing.{HasMet, IsFirstWrongWrite, IsFirstWrongRead, NamesWrongWrite, NamesWrongRead, IsDueFrom, first_of, due_from}
 use Rattle.axiom_checker.proofs.Marking.{AreMarks, AreWords, of_core, past_loads, late-tells}
 use Rattle.axiom_checker.proofs.Following.{due-right}
 use Rattle.axiom_checker.specs.declared.passing.Met.{Met}

@@ -5,9 +5,9 @@ use Rattle.std.proofs.lemmas.Option.{slice_get-get_or}
 use Rattle.tso_model.specs.ProgramOrder.{is_write, writes_to}
 use Rattle.basic_laws.specs.Ranks.{rank}
 use Rattle.tso_model.specs.declared.execution.Entry.{Entry}
-use Rattle.axiom_checker.specs.Programs.{kept_in}
-use Rattle.axiom_checker.specs.Slots.{slot_of, Ascends, slots_of_a_core}
-use Rattle.axiom_checker.specs.Sources.{own_write, noted_write, IsSource}
+use Rattle.axiom_checker.specs.inner.Programs.{kept_in}
+use Rattle.axiom_checker.specs.inner.Slots.{slot_of, Ascends, slots_of_a_core}
+use Rattle.axiom_checker.specs.inner.Sources.{own_write, noted_write, IsSource}
 use Rattle.axiom_checker.proofs.Firsts.{three-ways}
 use Rattle.axiom_checker.proofs.Actions.{SameAction}
 use Rattle.axiom_checker.proofs.Ascending.{slots-rise}

@@ -14,8 +14,8 @@ use Rattle.tso_model.specs.declared.action.Action.TheVariants.{Store, Load, Move
 use Rattle.tso_model.specs.declared.execution.Entry.{Entry}
 use Rattle.axiom_checker.specs.First.{IsNowhere}
 use Rattle.axiom_checker.specs.Entries.{IsStray}
-use Rattle.axiom_checker.specs.Programs.{shape_from, reads_of_all, made_reading, kept_in, reads_that_came}
-use Rattle.axiom_checker.specs.Slots.{HasCome, HasNotCome}
+use Rattle.axiom_checker.specs.inner.Programs.{shape_from, reads_of_all, made_reading, kept_in, reads_that_came}
+use Rattle.axiom_checker.specs.inner.Slots.{HasCome, HasNotCome}
 use Rattle.axiom_checker.proofs.Actions.{SameAction, same-parts, same-turned, NoneTwice, value-at, looked-up}
 use Rattle.axiom_checker.proofs.Whole.{none-twice}
 use Rattle.axiom_checker.proofs.Coming.{there-or-not}

@@ -15,7 +15,7 @@ use Rattle.tso_model.specs.declared.execution.Entry.{Entry}
 use Rattle.tso_model.specs.declared.execution.Kind.{Kind}
 use Rattle.tso_model.specs.declared.execution.Kind.TheVariants.{R, W, F, LR, LW}
 use Rattle.axiom_checker.specs.Entries.{same_action, same_but_value, IsExtra}
-use Rattle.axiom_checker.specs.Programs.{shape_from}
+use Rattle.axiom_checker.specs.inner.Programs.{shape_from}
 use Rattle.axiom_checker.proofs.Actions.{SameAction, same-parts}
 
 -- two entries that differ at most in the value that they read or write

@@ -11,7 +11,7 @@ use Rattle.tso_model.specs.ProgramEntries.{made, made_from}
 use Rattle.tso_model.specs.ProgramEntries.{read_values}
 use Rattle.tso_model.specs.declared.instruction.Instr.{Instr}
 use Rattle.tso_model.specs.declared.execution.Entry.{Entry}
-use Rattle.axiom_checker.specs.Slots.{slot_of, slots_of_a_core}
+use Rattle.axiom_checker.specs.inner.Slots.{slot_of, slots_of_a_core}
 use Rattle.axiom_checker.proofs.Slots.{Each, each-append, each-at, entries-from, IsFrom}
 use Rattle.axiom_checker.proofs.Ascending.{core-ascends, slot-within, all-first, all-rest}
 use Rattle.axiom_checker.proofs.Marking.{and-parts}

@@ -1,7 +1,7 @@
 -- Which breach of the axioms is the first in an order.
 -- Breaches come in the order of the variants of `Breach`, extra and twice together: the first is of the first kind that
 -- occurs, and of that kind it is the earliest.
-use Rattle.std.specs.Prelude.{ℕ, ◌≡◌, ◌≢◌, List, Option, IfSome, IsNone, Result, OnOk, IfErr, IsOkUnless}
+use Rattle.std.specs.Prelude.{ℕ, ◌≡◌, ◌≢◌, List, Result, OnOk, IfErr, IsOkUnless}
 use Rattle.tso_model.specs.Litmus.{Litmus}
 use Rattle.tso_model.specs.Thread.{entry}
 use Rattle.tso_model.specs.ProgramEntries.{made}
@@ -11,8 +11,8 @@ use Rattle.axiom_checker.specs.Entries.{IsExtra, IsStray, IsMissing, IsWrongWrit
 use Rattle.axiom_checker.specs.AxiomBreaches.{Overtakes, IsLate, IsSeparated, IsWrongRead, due_at}
 use Rattle.tso_model.specs.declared.execution.Entry.{Entry}
 use Rattle.axiom_checker.specs.declared.breach.Breach.{Breach}
-use Rattle.axiom_checker.specs.declared.breach.Breach.TheVariants.{Extra, Twice, Missing, WrongValue}
-use Rattle.axiom_checker.specs.declared.breach.Breach.TheVariants.{ProgramOrder, NotAdjacent, ReadValue, NoMemory}
+use Rattle.axiom_checker.specs.declared.breach.Breach.TheVariants.{Extra, Twice, Missing, WrongValue, ProgramOrder}
+use Rattle.axiom_checker.specs.declared.breach.Breach.TheVariants.{NotAdjacent, ReadValue, NoMemory}
 
 -- An entry that is both extra and there twice is extra. `made` goes core by core and in program order, the load part of
 -- a locked instruction before its store part, so the first of its entries that is missing is the first by core, place
@@ -36,11 +36,6 @@ IsFirstBreach t order (ReadValue x due) =
     IsWhole t order × KeepsProgramOrder order × IsAdjacent order
     × ((at : ℕ) × IsFirst order (IsWrongRead t order) at x × (due ≡ due_at t order at x))
 IsFirstBreach t order NoMemory = ⊥
-
--- it is the first breach of the order, or there is none and the order is a TSO execution
-pub record TellsFirstBreach (t : Litmus) (order : List Entry) (breach : Option Breach) : Type 0 where
-  pub found : IfSome breach (IsFirstBreach t order)
-  pub none : IsNone breach → IsTsoExecution t order
 
 -- the answer is Ok of TSO executions alone, and of each of them where memory doesn't run out; else it is the first breach
 pub record IsJudged {X : Type 0} (t : Litmus) (order : List Entry) (result : Result X Breach) : Type 0 where

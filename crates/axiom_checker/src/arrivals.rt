@@ -3,8 +3,8 @@ ghost use Rattle.std.specs.Prelude.{◌≡◌, ◌+◌, ◌<◌, ◌≤◌, ℕ,
 ghost use Rattle.tso_model.specs.declared.execution.Entry.{Entry};
 ghost use Rattle.axiom_checker.specs.First.{NoneBefore, IsFirst, IsNowhere};
 ghost use Rattle.axiom_checker.specs.Entries.{IsStray};
-ghost use Rattle.axiom_checker.specs.Programs.{kept_in};
-ghost use Rattle.axiom_checker.specs.Slots.{IsIndex, HasCome, NamesStray, HasNotCome};
+ghost use Rattle.axiom_checker.specs.inner.Programs.{kept_in};
+ghost use Rattle.axiom_checker.specs.inner.Slots.{IsIndex, HasCome, NamesStray, HasNotCome};
 
 use crate::breach::Breach;
 use crate::index::{find, kept};

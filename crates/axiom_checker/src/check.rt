@@ -6,10 +6,11 @@ ghost use Rattle.tso_model.specs.ProgramEntries as execution_programentries;
 ghost use Rattle.tso_model.specs.Axioms as execution_axioms;
 ghost use Rattle.tso_model.specs.ProgramOrder as execution_axioms_programorder;
 ghost use Rattle.tso_model.specs.SequentialConsistency as execution_sequentialconsistency;
-ghost use Rattle.axiom_checker.specs.Passing.{IsMatched, HasMet};
-ghost use Rattle.axiom_checker.specs.Programs.{shape_from, kept_in};
-ghost use Rattle.axiom_checker.specs.Slots.{IsIndex};
-ghost use Rattle.axiom_checker.specs.FirstBreach.{IsFirstBreach, TellsFirstBreach, IsJudged};
+ghost use Rattle.axiom_checker.specs.inner.Passing.{IsMatched, HasMet};
+ghost use Rattle.axiom_checker.specs.inner.Programs.{shape_from, kept_in};
+ghost use Rattle.axiom_checker.specs.inner.Slots.{IsIndex};
+ghost use Rattle.axiom_checker.specs.FirstBreach.{IsFirstBreach, IsJudged};
+ghost use Rattle.axiom_checker.specs.inner.FirstBreach.{TellsFirstBreach};
 
 use crate::arrivals::{first_missing, first_stray};
 use crate::breach::Breach;

@@ -1,8 +1,8 @@
 //! The table by which an order's entries are found among the programs'.
 ghost use Rattle.std.specs.Prelude.{◌≡◌, ◌*◌, ◌≤◌, length, IfOk, IfSome, IsNone, ℕ, slice_get, Some, true};
-ghost use Rattle.axiom_checker.specs.Programs.{kept_in};
+ghost use Rattle.axiom_checker.specs.inner.Programs.{kept_in};
 ghost use Rattle.axiom_checker.specs.Entries.{same_but_value, IsExtra};
-ghost use Rattle.axiom_checker.specs.Slots.{slot_of, slots_of_a_core, Ascends, IsIndex};
+ghost use Rattle.axiom_checker.specs.inner.Slots.{slot_of, slots_of_a_core, Ascends, IsIndex};
 ghost use Rattle.tso_model.specs.declared.execution.Entry.{Entry};
 
 use crate::entries::{is_same_but_value, rank};

@@ -6,11 +6,11 @@ ghost use Rattle.tso_model.specs.ProgramOrder.{IsStorePart};
 ghost use Rattle.axiom_checker.specs.First.{IsEarliest};
 ghost use Rattle.axiom_checker.specs.Entries.{IsExtra, IsWrongWrite};
 ghost use Rattle.axiom_checker.specs.AxiomBreaches.{Overtakes, IsLate};
-ghost use Rattle.axiom_checker.specs.Slots.{IsIndex};
-ghost use Rattle.axiom_checker.specs.Sources.{HasSources};
+ghost use Rattle.axiom_checker.specs.inner.Slots.{IsIndex};
+ghost use Rattle.axiom_checker.specs.inner.Sources.{HasSources};
 ghost use Rattle.tso_model.specs.declared.execution.Kind.TheVariants.{LR};
-ghost use Rattle.axiom_checker.specs.Progress as progress;
-ghost use Rattle.axiom_checker.specs.Passing.{AreOfPrograms, HasMetFor, IsDueFrom, NamesWrongWrite, NamesWrongRead, due_from, first_of};
+ghost use Rattle.axiom_checker.specs.inner.Progress as progress;
+ghost use Rattle.axiom_checker.specs.inner.Passing.{AreOfPrograms, HasMetFor, IsDueFrom, NamesWrongWrite, NamesWrongRead, due_from, first_of};
 
 use crate::entries::{is_read, is_store_part, is_write, must_stand_before, rank};
 use crate::progress::{is_late, reach, settle, write};

@@ -1,7 +1,7 @@
 //! What the programs make, for reads that return 0 and for given values.
 ghost use Rattle.std.specs.Prelude.{◌≡◌, ◌≤◌, length, IfOk};
 ghost use Rattle.tso_model.specs.Litmus.{IsTest};
-ghost use Rattle.axiom_checker.specs.Programs.{shape_from, reads_that_came, reads_of_all, made_reading};
+ghost use Rattle.axiom_checker.specs.inner.Programs.{shape_from, reads_that_came, reads_of_all, made_reading};
 
 use crate::entries::is_read;
 use crate::index::kept;

@@ -1,7 +1,7 @@
 //! How far each core has come in an order.
 ghost use Rattle.std.specs.Prelude.{◌≡◌, ◌+◌, ◌<◌, true, false, length, slice_index, slice_set, nat_lt, if◌then◌else◌};
 ghost use Rattle.tso_model.specs.ProgramOrder as program_order;
-ghost use Rattle.axiom_checker.specs.Progress as progress;
+ghost use Rattle.axiom_checker.specs.inner.Progress as progress;
 
 use crate::entries::{is_write, rank};
 use tso_model::{Entry, Kind};

@@ -4,9 +4,9 @@ ghost use Rattle.tso_model.specs.ProgramOrder as program_order;
 ghost use Rattle.basic_laws.specs.Ranks as ranks;
 ghost use Rattle.tso_model.specs.declared.execution.Entry.{Entry};
 ghost use Rattle.axiom_checker.specs.Entries.{IsExtra, written_value};
-ghost use Rattle.axiom_checker.specs.Programs.{kept_in};
-ghost use Rattle.axiom_checker.specs.Slots.{slots_of_a_core, Ascends, IsIndex};
-ghost use Rattle.axiom_checker.specs.Sources.{own_write, IsSource, HasSources, noted_write};
+ghost use Rattle.axiom_checker.specs.inner.Programs.{kept_in};
+ghost use Rattle.axiom_checker.specs.inner.Slots.{slots_of_a_core, Ascends, IsIndex};
+ghost use Rattle.axiom_checker.specs.inner.Sources.{own_write, IsSource, HasSources, noted_write};
 
 use crate::entries::is_write;
 use crate::index::{find, kept};

@@ -16,7 +16,7 @@ use Rattle.tso_model.specs.declared.execution.Entry.{Entry}
 use Rattle.tso_model.specs.declared.execution.Kind.TheVariants.{W}
 use Rattle.tso_model.specs.declared.choice.Choice.{Choice}
 use Rattle.tso_model.specs.declared.choice.Choice.TheVariants.{Step, Drain}
-use Rattle.split_laws.specs.Pending.{IsStoreOf, PendingIsOwn}
+use Rattle.split_laws.specs.inner.Pending.{IsStoreOf, PendingIsOwn}
 use Rattle.snoop_bus.specs.Rows.{table_of_rows}
 use Rattle.machine_core.specs.declared.cache_use.CacheUse.TheVariants.{Unused, Forwarded}
 use Rattle.machine_core.specs.Caches.{Caches, Used, not_through, load_by, write_by, load_after, use_of, hits_by}

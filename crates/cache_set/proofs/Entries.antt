@@ -5,7 +5,7 @@ use Rattle.std.proofs.lemmas.Bool.{eq-eqb}
 use Rattle.std.specs.Map.{lookup, lookup_entry, remove_entry, set_value}
 use Rattle.protocol_tables.specs.declared.state.State.TheVariants.{I}
 use Rattle.cache_set.specs.declared.Line.{Line}
-use Rattle.cache_set.specs.Contents.{NoLineTwice, NoneInvalid, changed_at}
+use Rattle.cache_set.specs.inner.Contents.{NoLineTwice, NoneInvalid, changed_at}
 
 abbrev none : Option Line
 none = None

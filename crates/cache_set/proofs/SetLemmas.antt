@@ -1,6 +1,6 @@
 -- The contents of a set after each call: what holds of them, what is found in them, and that the list
 -- which `lru` ends with is theirs.
-use Rattle.std.proofs.Common.{arith, ◌≡◌, ◌≢◌, ◌<◌, ◌-◌, ℕ, zero, suc, List, ◌∷◌, take, slice_get, Option, Some, None, IfSome, option_map, nat_eq, if◌then◌else◌, inl, inr, refl}
+use Rattle.std.proofs.Common.{arith, ◌≡◌, ◌≢◌, ◌<◌, ◌-◌, ℕ, zero, suc, List, ◌∷◌, take, slice_get, Option, Some, None, IfSome, option_map, nat_eq, if◌then◌else◌, inl, inr, refl, sym}
 use Rattle.std.proofs.lemmas.Bool.Decides.{eqb_tells}
 use Rattle.std.proofs.lemmas.List.{length-map}
 use Rattle.std.specs.Option.{option_map_or}
@@ -9,7 +9,8 @@ use Rattle.lru.specs.LruCache.{lru_cache, promoted, put_entries}
 use Rattle.protocol_tables.specs.declared.state.State.TheVariants.{I}
 use Rattle.cache_set.specs.declared.Line.{Line}
 use Rattle.cache_set.specs.declared.Victim.{Victim}
-use Rattle.cache_set.specs.Contents.{Contents, contents, IsCacheSet, copy_of, to_front, with_new, as_victim, victim_of, changed_at, with_changed, without, after_fill}
+use Rattle.cache_set.specs.Contents.{Contents, contents, copy_of, as_victim, victim_of}
+use Rattle.cache_set.specs.inner.Contents.{IsCacheSet, to_front, with_new, changed_at, with_changed, without, after_fill}
 use Rattle.cache_set.proofs.Entries.{lookup_entry-is, valid-found, lookup-remove, absent-remove, once-remove, valid-remove, length-remove, length-remove-found, once-take, valid-take, length-cut, lookup-at, lookup-cut, take-short, lookup-changed, once-changed, valid-changed, set_value-changed}
 
 -- A line goes to the front.
@@ -125,3 +126,8 @@ copy_of-valid k s h = found (copy_of s k) refl
     found : (o : Option Line) → copy_of s k ≡ o → IfSome o (λ copy. copy.state ≢ I)
     found None e = tt
     found (Some copy) e = valid-found k copy s.copies h.valid e
+
+-- what is found at a rank of the list is that line's copy
+pub ranked_found : (s : Contents) (rank : ℕ) (r : Option (ℕ × Line)) → IsCacheSet s → r ≡ slice_get s.copies rank → IfSome r (λ x. copy_of s x.0 ≡ Some x.1)
+ranked_found s rank None h e = tt
+ranked_found s rank (Some x) h e = lookup-at rank x s.copies h.once (sym e)

@@ -1,3 +1,3 @@
 pub mod Limits
 pub mod Contents
-pub mod Copy
+pub mod inner

@@ -3,7 +3,7 @@
 //! the caller's to say: `touch` and `fill` bring a line to the front, and nothing else moves one.
 #![tactic(auto)]
 
-ghost use Rattle.std.specs.Prelude.{◌≡◌, ◌≢◌, ◌<◌, ◌≤◌, ℕ, [], Some, None, IsSome, IfSome, IfOk, OnErr, option_map, option_copied};
+ghost use Rattle.std.specs.Prelude.{◌≡◌, ◌≢◌, ◌<◌, ◌≤◌, ℕ, [], Some, None, IsSome, IfSome, IfOk, OnErr, option_map, option_copied, slice_get};
 ghost use Rattle.cache_set.specs.Limits.{most_ways, most_words};
 
 mod hashing;
@@ -53,7 +53,8 @@ pub struct CacheSet {
 }
 
 impl Model for CacheSet {
-    ghost use Rattle.cache_set.specs.Contents.{Contents, contents, IsCacheSet};
+    ghost use Rattle.cache_set.specs.Contents.{Contents, contents};
+    ghost use Rattle.cache_set.specs.inner.Contents.{IsCacheSet};
 
     ghost Value = { Contents };
 
@@ -63,9 +64,10 @@ impl Model for CacheSet {
 }
 
 impl CacheSet {
-    ghost use Rattle.cache_set.specs.Contents.{contents, IsCacheSet, copy_of, to_front, with_new, victim_of, with_changed, without};
-    ghost use Rattle.cache_set.specs.Contents.{ChangesLine, Fills};
-    ghost use Rattle.cache_set.specs.Copy.{copy_with, with_state, with_word};
+    ghost use Rattle.cache_set.specs.Contents.{contents, copy_of, victim_of};
+    ghost use Rattle.cache_set.specs.inner.Contents.{IsCacheSet, to_front, with_new, with_changed, without};
+    ghost use Rattle.cache_set.specs.inner.Contents.{ChangesLine, Fills};
+    ghost use Rattle.cache_set.specs.inner.Copy.{copy_with, with_state, with_word};
 
     /// An empty set for `ways` lines, from 1 to `MAX_WAYS`. Of the other calls only `fill` takes
     /// memory.
@@ -93,6 +95,15 @@ impl CacheSet {
             }
         }
         None
+    }
+
+    /// The line of this rank with its copy, where rank 0 is the most recently used; `None` where there are
+    /// no more lines than that. Nothing moves.
+    pub fn ranked(&self, rank: usize) -> Option<(u8, Line)>
+        ensures value { result ≡ slice_get self.now.copies rank }
+        ensures found { IfSome result (λ r. copy_of self.now r.0 ≡ Some r.1) }
+    {
+        entry_at(&self.lines, rank)
     }
 
     /// A line that is here was used: it goes to the front, and the others stay in their order.
@@ -172,4 +183,11 @@ impl CacheSet {
     {
         self.lines.clear();
     }
+}
+
+/// The entry at this place of the list, if there is one. Nothing moves.
+fn entry_at(lines: &LruCache<u8, Line, LineHasher>, place: usize) -> Option<(u8, Line)>
+    ensures { result ≡ slice_get lines.now.entries place }
+{
+    lines.iter().nth(place).map(|(line, copy)| (*line, *copy))
 }

@@ -4,13 +4,14 @@
 pub const TSO: &str = "\
 Standard input is read whole, and the answer is written to standard output. An input is a test. For\n\
 run, choices follow it after a line ====; for check and witness, an order as run prints it follows\n\
-after such a line. sweep reads the test alone, and tables reads nothing.\n\
+after such a line. sweep and outcomes read the test alone, and tables reads nothing.\n\
 \n\
 Exit status:\n\
-\x20 0  the test ended, the order is valid, choices reach it, or the table is printed\n\
+\x20 0  the test ended, the order is valid, choices reach it, or what was asked for is printed\n\
 \x20 1  a text was refused: standard output names the line or word, standard error has a hint\n\
 \x20 2  the command line was refused, or help or the version was asked for\n\
-\x20 3  the choices ended before the test did; of a sweep, those of one seed or more\n\
+\x20 3  the choices ended before the test did; of a sweep, those of one seed or more; or outcomes\n\
+\x20    would have to keep more states than --states\n\
 \x20 4  the order isn't valid, or needs deeper buffers than --depth\n\
 \x20 5  memory was refused, or standard input or output failed\n\
 \n\
@@ -54,6 +55,22 @@ Exit status: 0 all runs ended, 1 the test was refused, 2 the command line was, 3
 \n\
 Example:\n\
 \x20 tso sweep --seeds 100 --depth 1 < FILE";
+
+/// Of `tso outcomes`.
+pub const OUTCOMES: &str = "\
+Standard input is a test; what follows a line ==== isn't read. Printed is every final state that the\n\
+machine can reach at --depth, once, with choices under which run at that depth ends there, and in how\n\
+many of these states the condition's proposition is true and false. --depth is 32 here and 4 elsewhere:\n\
+no program has more than 32 stores, so at 32 these are all final states that TSO allows, and at 0 all\n\
+that sequential consistency allows. So Never is a proof here: no run of this machine makes the\n\
+proposition true, and at depth 32 no TSO execution does. If more than --states states of the machine\n\
+would have to be kept, only Unfinished is printed: no final state, and no Never.\n\
+\n\
+Exit status: 0 all states are printed, 1 the test was refused, 2 the command line was, 3 --states was\n\
+too few, 5 memory, input or output failed.\n\
+\n\
+Example:\n\
+\x20 tso outcomes --depth 0 < FILE";
 
 /// Of `tso check`.
 pub const CHECK: &str = "\

@@ -4,7 +4,9 @@
 mod help;
 mod options;
 pub mod plan;
+pub mod search;
 pub mod settings;
 
 pub use plan::SweepPlan;
+pub use search::SearchPlan;
 pub use settings::{LineFault, Settings, settings_of};

@@ -15,18 +15,23 @@ static BUSES: [&str; 2] = ["atomic", "split"];
 static MACHINE_DEPTH: &str =
     "How many stores each core's buffer holds, 0 to 32; 0 is a machine without buffers";
 
+/// What the depth of a machine is whose final states are searched for.
+static SEARCH_DEPTH: &str =
+    "How many stores each core's buffer holds, 0 to 32; 32 is TSO's own, 0 sequential consistency";
+
 /// What the depth that a witness may have is.
 static WITNESS_DEPTH: &str = "How many stores each core's buffer holds, 1 to 32";
 
 /// The program with all its commands.
 pub fn command_line<'a>(alloc: Global) -> Result<Command<'a>, AllocError> {
     let program = Command::new(alloc, "tso")
-        .version("1.0")
+        .version("1.0.0")
         .about("Runs x86 litmus tests on a simulated multiprocessor under total store order (TSO)")
         .after_help(help::TSO)
         .subcommand_required(true);
     let program = with(program, run_line(alloc))?;
     let program = with(program, sweep_line(alloc))?;
+    let program = with(program, outcomes_line(alloc))?;
     let program = program.subcommand(check_line(alloc))?;
     let program = with(program, witness_line(alloc))?;
     program.subcommand(tables_line(alloc)?)
@@ -54,6 +59,22 @@ fn sweep_line<'a>(alloc: Global) -> Result<Command<'a>, AllocError> {
     plan_options(alloc, machine_options(alloc, line)?)
 }
 
+fn outcomes_line<'a>(alloc: Global) -> Result<Command<'a>, AllocError> {
+    let states = "How many states of the machine may be kept, 1 to 10000000";
+    Command::new(alloc, "outcomes")
+        .about("Finds all final states of a test, with choices that lead to each")
+        .after_help(help::OUTCOMES)
+        .arg(depth_option(alloc, 0, SEARCH_DEPTH, "32"))?
+        .arg(number_option(
+            alloc,
+            "states",
+            states,
+            clap::value_parser!(u32).range(1..=10000000),
+            "1000000",
+        ))?
+        .arg(json_option(alloc))
+}
+
 fn check_line<'a>(alloc: Global) -> Command<'a> {
     Command::new(alloc, "check")
         .about("Judges an order of a test by the axioms of TSO")
@@ -64,7 +85,7 @@ fn witness_line<'a>(alloc: Global) -> Result<Command<'a>, AllocError> {
     Command::new(alloc, "witness")
         .about("Finds choices that reach an order of a test")
         .after_help(help::WITNESS)
-        .arg(depth_option(alloc, 1, WITNESS_DEPTH))
+        .arg(depth_option(alloc, 1, WITNESS_DEPTH, "4"))
 }
 
 fn tables_line<'a>(alloc: Global) -> Result<Command<'a>, AllocError> {
@@ -80,7 +101,7 @@ fn machine_options<'a>(alloc: Global, line: Command<'a>) -> Result<Command<'a>, 
     let ways = "For how many lines each set has room, 1 to 8";
     let words = "How many words a cache line has: 1, 2 or 4";
     line.arg(protocol_option(alloc, "Coherence protocol of the caches"))?
-        .arg(depth_option(alloc, 0, MACHINE_DEPTH))?
+        .arg(depth_option(alloc, 0, MACHINE_DEPTH, "4"))?
         .arg(number_option(
             alloc,
             "sets",
@@ -127,13 +148,13 @@ fn plan_options<'a>(alloc: Global, line: Command<'a>) -> Result<Command<'a>, All
         ))
 }
 
-fn depth_option<'a>(alloc: Global, least: i64, help: &'a str) -> Arg<'a> {
+fn depth_option<'a>(alloc: Global, least: i64, help: &'a str, default: &'a str) -> Arg<'a> {
     number_option(
         alloc,
         "depth",
         help,
         clap::value_parser!(u8).range(least..=32),
-        "4",
+        default,
     )
 }
 

@@ -5,6 +5,7 @@ ghost use Rattle.command_line.specs.Limits.{IsWithinLimits, HasDepth};
 
 use crate::options::command_line;
 use crate::plan::SweepPlan;
+use crate::search::SearchPlan;
 use clap::ArgMatches;
 use machine_core::{Bus, Config, Shape};
 use protocol_tables::ProtocolKind;
@@ -28,6 +29,12 @@ pub enum Settings {
         protocol: ProtocolKind,
         config: Config,
         plan: SweepPlan,
+    },
+    /// Find all final states of a test, with choices that lead to each, and tell them, as JSON if that
+    /// is asked for.
+    Outcomes {
+        search: SearchPlan,
+        json: bool,
     },
     /// Check an order of a test against the axioms.
     Check,
@@ -74,6 +81,7 @@ fn settings_in(name: &str, matches: &ArgMatches<'_>) -> Option<Settings>
     match name {
         "run" => run_settings(matches),
         "sweep" => sweep_settings(matches),
+        "outcomes" => outcomes_settings(matches),
         "check" => Some(Settings::Check),
         "witness" => witness_settings(matches),
         "tables" => Some(Settings::Tables(protocol_in(matches)?)),
@@ -111,6 +119,16 @@ fn sweep_settings(matches: &ArgMatches<'_>) -> Option<Settings>
     })
 }
 
+fn outcomes_settings(matches: &ArgMatches<'_>) -> Option<Settings>
+    ensures within { IfSome result IsWithinLimits }
+    ensures depth { IfSome result HasDepth }
+{
+    let search = search_in(matches)?;
+    let json = matches.get_flag("json");
+    let _known = search.depth();
+    Some(Settings::Outcomes { search, json })
+}
+
 fn witness_settings(matches: &ArgMatches<'_>) -> Option<Settings>
     ensures within { IfSome result IsWithinLimits }
     ensures depth { IfSome result HasDepth }
@@ -132,6 +150,12 @@ fn plan_in(matches: &ArgMatches<'_>) -> Option<SweepPlan> {
     let seeds = matches.get_one::<u32>("seeds")?;
     let length = matches.get_one::<u32>("length")?;
     SweepPlan::new(from, seeds, length)
+}
+
+fn search_in(matches: &ArgMatches<'_>) -> Option<SearchPlan> {
+    let depth = matches.get_one::<u8>("depth")?;
+    let states = matches.get_one::<u32>("states")?;
+    SearchPlan::new(depth, states)
 }
 
 fn shape_in(matches: &ArgMatches<'_>) -> Option<Shape> {

@@ -5,7 +5,7 @@
 ghost use Rattle.std.specs.Prelude.{◌≡◌, ◌≤◌, IfSome};
 ghost use Rattle.std.specs.List.{list_all};
 ghost use Rattle.std.specs.Char.{is_ascii_digit};
-ghost use Rattle.decimals.specs.Decimals.{number_up_to};
+ghost use Rattle.decimals.specs.inner.Decimals.{number_up_to};
 
 /// Whether each byte is a digit, `0` to `9`.
 pub fn all_digits(text: &[u8]) -> bool

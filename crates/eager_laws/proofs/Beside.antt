@@ -18,7 +18,7 @@ use Rattle.tso_model.specs.declared.choice.Stall.{Stall}
 use Rattle.tso_model.specs.declared.choice.Stall.TheVariants as stall
 use Rattle.basic_laws.proofs.Basics.{decide, lt-or}
 use Rattle.eager_laws.specs.Eager.{Avoids, OthersAvoid, IsEagerBy, IsEagerStep, IsEagerDrain, IsEager}
-use Rattle.eager_laws.specs.Ending.{IsDead, IsSized}
+use Rattle.eager_laws.specs.inner.Ending.{IsDead, IsSized}
 use Rattle.eager_laws.proofs.Places.{set-same, length-memory}
 use Rattle.eager_laws.proofs.Avoiding.{holding, buffered}
 use Rattle.eager_laws.proofs.Waits.{Beside, itself, stalls, commutes}

@@ -5,10 +5,10 @@ use Rattle.tso_model.specs.FlatMachine.{State, start, chosen, after_choice}
 use Rattle.tso_model.specs.Runs.{run}
 use Rattle.tso_model.specs.declared.choice.Choice.{Choice}
 use Rattle.tso_laws.specs.Choices.{state_after}
-use Rattle.tso_laws.specs.Laws.{RunsStopWhereTheyEnd}
+use Rattle.tso_laws.specs.inner.Laws.{RunsStopWhereTheyEnd}
 use Rattle.basic_laws.proofs.Basics.{lt-or}
 use Rattle.eager_laws.specs.Eager.{IsEager}
-use Rattle.eager_laws.specs.Ending.{IsDead, Reaches, IsSized}
+use Rattle.eager_laws.specs.inner.Ending.{IsDead, Reaches, IsSized}
 use Rattle.eager_laws.specs.Closed.{LeadsEagerly, IsIn, AreClosed}
 use Rattle.eager_laws.proofs.Waits.{eager-first}
 use Rattle.eager_laws.proofs.Beside.{beside, eager-alive, sized-after, sized-start, absent-same}

@@ -4,7 +4,7 @@ use Rattle.tso_model.specs.Litmus.{Litmus}
 use Rattle.tso_model.specs.FlatMachine.{State, after_choice}
 use Rattle.tso_model.specs.declared.choice.Choice.{Choice}
 use Rattle.eager_laws.specs.Eager.{IsEager}
-use Rattle.eager_laws.specs.Ending.{IsDead, Reaches, IsSized}
+use Rattle.eager_laws.specs.inner.Ending.{IsDead, Reaches, IsSized}
 
 -- the other choice leaves it eager, and the two may be made in either order
 pub record Commutes (d : ℕ) (t : Litmus) (s : State) (e c : Choice) : Type 0 where

@@ -5,12 +5,12 @@ use Rattle.basic_laws.proofs.Basics.{lt-or}
 use Rattle.tso_model.specs.Litmus.{Litmus, IsTest}
 use Rattle.tso_model.specs.FlatMachine.{registers_in}
 use Rattle.tso_model.specs.Runs.{run, has_ended}
-use Rattle.tso_laws.specs.Laws.{RunsStopWhereTheyEnd}
+use Rattle.tso_laws.specs.inner.Laws.{RunsStopWhereTheyEnd}
 use Rattle.eager_laws.specs.Closed.{ClosedStatesMissNone}
 use Rattle.explorer.specs.State.{state_of}
-use Rattle.explorer.specs.Kept.{HaveCores, IsSearched}
+use Rattle.explorer.specs.inner.Kept.{HaveCores, IsSearched}
 use Rattle.explorer.specs.FinalStates.{AreReached, Have, HaveEveryEnd, AreDistinct}
-use Rattle.explorer.specs.Collected.{IsMadeOf, AreFinalsOf}
+use Rattle.explorer.specs.inner.Collected.{IsMadeOf, AreFinalsOf}
 use Rattle.explorer.specs.declared.snapshot.Snapshot.{Snapshot}
 use Rattle.explorer.specs.declared.link.Link.{Link}
 use Rattle.explorer.specs.declared.final_states.FinalState.{FinalState}

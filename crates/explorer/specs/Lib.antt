@@ -1,7 +1,7 @@
 pub mod State
 pub mod Kept
 pub mod FinalStates
-pub mod Collected
+pub mod inner
 pub use Rattle.tso_model.specs.FlatMachine
 pub use Rattle.tso_model.specs.Litmus
 pub use Rattle.tso_model.specs.Runs

@@ -1,6 +1,6 @@
 //! How the search reached a state.
 ghost use Rattle.std.specs.Prelude.{◌<◌, length, IfOk};
-ghost use Rattle.explorer.specs.Kept.{GoBack, IsPath};
+ghost use Rattle.explorer.specs.inner.Kept.{GoBack, IsPath};
 
 use std::alloc::Global;
 use tso_model::{Choice, NoMemory};

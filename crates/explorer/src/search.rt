@@ -3,7 +3,7 @@ ghost use Rattle.std.specs.Prelude.{◌≡◌, ◌<◌, IfOk, IfErr, OnOk, map, 
 ghost use Rattle.tso_model.specs.FlatMachine.{chosen, start};
 ghost use Rattle.eager_laws.specs.Closed.{IsCovered, IsExpanded};
 ghost use Rattle.explorer.specs.State.{state_of};
-ghost use Rattle.explorer.specs.Kept.{Grows, HaveCores, IsVisited, AreVisited, AreLinked, IsSearched};
+ghost use Rattle.explorer.specs.inner.Kept.{Grows, HaveCores, IsVisited, AreVisited, AreLinked, IsSearched};
 ghost use Rattle.explorer.specs.FinalStates.{HasMoreStates};
 ghost use Rattle.explorer.specs.declared.snapshot.Snapshot.{Snapshot};
 ghost use Rattle.explorer.specs.declared.fault.ExploreFault.{ExploreFault};

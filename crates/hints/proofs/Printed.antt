@@ -11,26 +11,27 @@ use Rattle.std.proofs.lemmas.List.{length-map, length-append, length-take}
 use Rattle.std.proofs.lemmas.Str.{IsUtf8-from_ascii}
 use Rattle.std.proofs.lemmas.Str.Ascii.{IsAscii-from_all}
 use Rattle.tso_model.specs.Names.{is_printable}
-use Rattle.hints.specs.Hint.{IsHint, most_words, printable}
+use Rattle.hints.specs.Hint.{IsHint}
+use Rattle.hints.specs.inner.Hint.{most_words, shown_byte}
 
-shown_is_printable : (c : ℕ) → is_printable (printable c) ≡ true
-unfolding printable
+shown_is_printable : (c : ℕ) → is_printable (shown_byte c) ≡ true
+unfolding shown_byte
 shown_is_printable c = grind (arith, nat_tests)
 
-pub shown_are_printable : (bytes : List ℕ) → list_all is_printable (map printable bytes) ≡ true
+pub shown_are_printable : (bytes : List ℕ) → list_all is_printable (map shown_byte bytes) ≡ true
 shown_are_printable [] = refl
-shown_are_printable (b ∷ bs) = and_from (is_printable (printable b)) _ (shown_is_printable b) (shown_are_printable bs)
+shown_are_printable (b ∷ bs) = and_from (is_printable (shown_byte b)) _ (shown_is_printable b) (shown_are_printable bs)
 
 printable_ascii : (c : ℕ) → is_printable c ≡ true → c < 128
 printable_ascii c h = grind (arith, nat_tests)
 
-pub words_are_text : (bytes words : List ℕ) → words ≡ map printable (take most_words bytes) → IsUtf8 words
+pub words_are_text : (bytes words : List ℕ) → words ≡ map shown_byte (take most_words bytes) → IsUtf8 words
 words_are_text bytes words is =
     rw is (IsUtf8-from_ascii _ (IsAscii-from_all _ (All-weaker (λ c. is_printable c ≡ true) (λ c. c < 128) printable_ascii _ (AllPass-from_list_all is_printable _ (shown_are_printable (take most_words bytes))))))
 
-pub is_hint : (bytes words text : List ℕ) → words ≡ map printable (take most_words bytes) → text ≡ codes "hint: " ++ words ++ (10 ∷ []) → IsHint text
+pub is_hint : (bytes words text : List ℕ) → words ≡ map shown_byte (take most_words bytes) → text ≡ codes "hint: " ++ words ++ (10 ∷ []) → IsHint text
 is_hint bytes words text shown is =
-    let many : length words ≤ most_words = rw (shown, length-map (take most_words bytes) printable, length-take most_words bytes) (min-le_left most_words (length bytes)) in
+    let many : length words ≤ most_words = rw (shown, length-map (take most_words bytes) shown_byte, length-take most_words bytes) (min-le_left most_words (length bytes)) in
     record {
       words = words;
       is = is;

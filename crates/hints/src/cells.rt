@@ -1,7 +1,7 @@
 //! What is said of a cell that spells no instruction.
 
 use crate::quotes::{token, up_to, without_end};
-use crate::words::{Piece, Words, around, naming, plain};
+use crate::words::{Piece, Words, around, listed, naming, plain};
 use litmus_tokens::{Lexeme, Symbol, Token, is_symbol, tokens_of};
 use std::alloc::Global;
 use tso_model::names::is_location_name;
@@ -66,6 +66,11 @@ fn single_words<'a>(cell: &'a [u8], name: &[u8], tokens: &[Token<'a>]) -> Words<
         operand_words("XCHG has the forms XCHG [x],EAX  XCHG EAX,[x]", tokens)
     } else if name.eq_ignore_ascii_case(b"MFENCE") {
         plain("MFENCE stands alone in its cell")
+    } else if name.eq_ignore_ascii_case(b"SFENCE") || name.eq_ignore_ascii_case(b"LFENCE") {
+        naming(
+            token(cell),
+            " isn't read: it changes nothing between plain loads and stores, so leave it out",
+        )
     } else {
         naming(token(cell), NO_INSTRUCTION)
     }
@@ -75,13 +80,36 @@ fn single_words<'a>(cell: &'a [u8], name: &[u8], tokens: &[Token<'a>]) -> Words<
 /// the instruction has.
 fn operand_words<'a>(forms: &'a str, tokens: &[Token<'a>]) -> Words<'a> {
     let mut in_brackets = false;
+    let mut after_zero = false;
     for token in tokens {
-        if let Some(words) = misfit(in_brackets, name_of(token)) {
+        let name = name_of(token);
+        if after_zero && (name.starts_with(b"x") || name.starts_with(b"X")) {
+            return hexadecimal(name);
+        }
+        if let Some(words) = misfit(in_brackets, name) {
             return words;
         }
         in_brackets = is_symbol(Symbol::OpenSquare, token);
+        after_zero = is_zero(token);
     }
     plain(forms)
+}
+
+/// Of a number that is written with `0x`: what stands after the zero.
+fn hexadecimal<'a>(name: &'a [u8]) -> Words<'a> {
+    listed(
+        Piece::Text("0"),
+        Piece::Shown(name),
+        Piece::Text(": numbers are decimal"),
+        Piece::Text(""),
+    )
+}
+
+fn is_zero(token: &Token<'_>) -> bool {
+    match token.lexeme {
+        Lexeme::Number(digits) => digits.is_empty(),
+        _ => false,
+    }
 }
 
 fn misfit<'a>(in_brackets: bool, name: &'a [u8]) -> Option<Words<'a>> {

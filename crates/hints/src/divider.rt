@@ -1,6 +1,6 @@
 //! A dividing line that isn't there.
 
-use crate::hinting::Asked;
+use crate::cause::Asked;
 use crate::quotes::{is_choice, word};
 use crate::words::{Words, naming};
 

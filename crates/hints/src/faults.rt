@@ -1,9 +1,9 @@
 //! What is said of a fault in a test.
 
+use crate::cause::Asked;
 use crate::cells::bad_instruction;
-use crate::conditions::bad_condition;
+use crate::conditions::{bad_condition, foreign_form};
 use crate::divider::missing_divider;
-use crate::hinting::Asked;
 use crate::numbers::bad_number;
 use crate::openings::{bad_init, bad_token, no_header, unclosed};
 use crate::place::Place;
@@ -35,7 +35,7 @@ pub fn test_words<'a>(
         Why::BadNumber => bad_number(alloc, place.rest),
         Why::TwiceInit => Ok(twice_given(place)),
         Why::NoSuchCore => Ok(no_such_core(place)),
-        Why::TooLarge => Ok(too_large(place)),
+        Why::TooLarge => too_large(alloc, place),
         Why::BadCondition => Ok(bad_condition(place)),
         Why::Trailing => Ok(trailing(asked, is_divided, place)),
         Why::NoMemory => Err(NoMemory),
@@ -58,11 +58,14 @@ fn no_such_core<'a>(place: Place<'a>) -> Words<'a> {
 }
 
 fn trailing<'a>(asked: Asked, is_divided: bool, place: Place<'a>) -> Words<'a> {
-    match missing_divider(asked, is_divided, place.rest) {
-        Some(words) => words,
-        None => naming(
+    if let Some(words) = missing_divider(asked, is_divided, place.rest) {
+        words
+    } else if let Some(words) = foreign_form(place) {
+        words
+    } else {
+        naming(
             place.token(),
             " stands after the end of the test, where nothing may",
-        ),
+        )
     }
 }

@@ -4,15 +4,18 @@
 //! stand there. What is promised of it is its form; which words it has is held by tests.
 #![tactic(auto)]
 
+mod cause;
 mod cells;
 mod choices;
 mod conditions;
 mod divider;
 mod faults;
 mod hinting;
+mod lines;
 mod numbers;
 mod openings;
 mod orders;
+mod passed;
 mod place;
 mod printing;
 mod quotes;
@@ -20,5 +23,7 @@ mod rows;
 mod unended;
 mod words;
 
-pub use hinting::{Asked, general_hint, refusal_hint, size_hint, unended_hint};
+pub use cause::{Asked, Cause};
+pub use hinting::hint_of;
+pub use lines::line_hint;
 pub use printing::{MAX_HINT, limits_are_as_defined};

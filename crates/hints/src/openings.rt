@@ -1,10 +1,11 @@
 //! What is said of a fault before the rows of a test.
 
+use crate::cause::Asked;
+use crate::conditions::CONNECTIVES;
 use crate::divider::missing_divider;
-use crate::hinting::Asked;
 use crate::numbers::GREATEST;
 use crate::place::Place;
-use crate::quotes::{is_bare, word};
+use crate::quotes::{begins_with_letter, is_bare, word};
 use crate::words::{Piece, Words, around, naming, plain, six};
 use tso_model::limits::MAX_NAME;
 use tso_model::names::is_location_name;
@@ -78,6 +79,22 @@ fn nearly_keyword<'a>(token: &'a [u8]) -> Option<Words<'a>> {
     } else if token.eq_ignore_ascii_case(b"location") || token.eq_ignore_ascii_case(b"locations") {
         Some(naming(token, " is no instruction: write locations"))
     } else {
+        foreign_keyword(token)
+    }
+}
+
+/// What is said of a word that stands after the rows in tests of other programs.
+fn foreign_keyword<'a>(token: &'a [u8]) -> Option<Words<'a>> {
+    if token == b"not".as_slice() {
+        Some(plain("not exists isn't read: write ~exists"))
+    } else if token.eq_ignore_ascii_case(b"forbidden") {
+        Some(naming(token, " isn't read: write ~exists"))
+    } else if token.eq_ignore_ascii_case(b"filter") || token.eq_ignore_ascii_case(b"final") {
+        Some(naming(
+            token,
+            " isn't read: a condition is exists, ~exists or forall",
+        ))
+    } else {
         None
     }
 }
@@ -141,13 +158,16 @@ fn bad_byte<'a>(place: Place<'a>, byte: u8) -> Words<'a> {
             Piece::Number(GREATEST),
             "",
         ),
+        b'#' if place.last_word() == b",".as_slice() => {
+            plain("a value is written with $: MOV [x],$1")
+        }
         b'#' => plain("a comment is written (* .. *)"),
+        b'*' if place.rest.starts_with(b"*)") => {
+            plain("*) ends no comment here: a comment ends at its first *), and has none within it")
+        }
         b'/' if place.rest.starts_with(b"//") => plain("a comment is written (* .. *)"),
         b'%' => plain("a register is written without %: EAX"),
-        b'&' | b'!' | b'/' | b'\\' | b'<' | b'>' => naming(
-            place.token(),
-            ": in a condition write /\\ for and, \\/ for or, ~ for not, and = alone",
-        ),
+        b'&' | b'!' | b'/' | b'\\' | b'<' | b'>' => naming(place.token(), CONNECTIVES),
         b'!'..=b'~' => naming(place.token(), " begins nothing that a test has"),
         _ => around(
             "the byte ",
@@ -161,7 +181,7 @@ fn bad_byte<'a>(place: Place<'a>, byte: u8) -> Words<'a> {
 pub fn bad_init<'a>(place: Place<'a>) -> Words<'a> {
     let token = place.token();
     let last = place.last_word();
-    if is_hexadecimal(place) {
+    if place.is_hexadecimal() {
         return naming(place.with_last_byte(), ": numbers are decimal");
     }
     if is_type(last) {
@@ -170,14 +190,16 @@ pub fn bad_init<'a>(place: Place<'a>) -> Words<'a> {
     if place.is_register() {
         return naming(token, " is none of EAX, EBX, ECX, EDX, ESI, EDI");
     }
+    if last == b"=".as_slice() && begins_with_letter(token) {
+        return naming(
+            token,
+            " is no number: addresses aren't read, a program names its locations as [x]",
+        );
+    }
     naming(
         token,
         " doesn't fit: an item is x=1, [x]=1 or 0:EAX=1, and ; stands between items",
     )
-}
-
-fn is_hexadecimal(place: Place<'_>) -> bool {
-    place.before.ends_with(b"0") && (place.rest.starts_with(b"x") || place.rest.starts_with(b"X"))
 }
 
 fn is_type(word: &[u8]) -> bool {

@@ -1,16 +1,18 @@
 //! What is said of orders.
 
 use crate::printing::Where;
-use crate::quotes::{is_choice, is_space, up_to, word};
+use crate::quotes::{is_all_digits, is_choice, is_space, up_to, word};
 use crate::words::{Piece, Words, around, listed, naming, plain};
+use litmus_tokens::word as word_value;
 use order_builder::OrderFault;
 use tso_model::{Loc, NoMemory, Test};
 
-/// The place and the words of a fault in an order of a test.
+/// The place and the words of a fault in an order; of a line whether it names a location that the test
+/// hasn't.
 ///
 /// Errors: out of memory only.
 pub fn order_words<'a>(
-    test: &Test,
+    unknown_location: bool,
     text: &'a [u8],
     fault: OrderFault,
 ) -> Result<(Where, Words<'a>), NoMemory> {
@@ -18,7 +20,7 @@ pub fn order_words<'a>(
         OrderFault::NoOrder => Ok((Where::Input, no_order(text))),
         OrderFault::BadLine(number) => Ok((
             Where::LineAfter(number),
-            bad_line(test, nth_line(text, number)),
+            bad_line(unknown_location, nth_line(text, number)),
         )),
         OrderFault::BadCount => Ok(bad_count(text)),
         OrderFault::NoMemory => Err(NoMemory),
@@ -71,7 +73,7 @@ fn nth_line(text: &[u8], number: usize) -> &[u8] {
     &[]
 }
 
-fn bad_line<'a>(test: &Test, line: &'a [u8]) -> Words<'a> {
+fn bad_line<'a>(unknown_location: bool, line: &'a [u8]) -> Words<'a> {
     if line.is_empty() {
         return plain("an empty line stands in the order");
     }
@@ -81,13 +83,41 @@ fn bad_line<'a>(test: &Test, line: &'a [u8]) -> Words<'a> {
             ": the order ends with Endorder, one space and the number of entries",
         );
     }
+    if let Some(number) = number_out_of_range(line) {
+        return naming(number, ": a core and a place are numbers from 0 to 255");
+    }
     match location_in(line) {
-        Some(name) if !is_location(test, name) => naming(name, " is no location of the test"),
+        Some(name) if unknown_location => naming(name, " is no location of the test"),
         _ => naming(
             line,
             " is no entry: P0:1 R x=0 with R, W, LR or LW, or P0:1 F",
         ),
     }
+}
+
+/// The core or the place of an entry that is over 255.
+fn number_out_of_range(line: &[u8]) -> Option<&[u8]> {
+    let (first, digits) = line.split_first()?;
+    if *first != b'P' {
+        return None;
+    }
+    let core = up_to(digits, b':');
+    let place = up_to(after_byte(digits, b':')?, b' ');
+    if is_over_a_byte(core) {
+        Some(core)
+    } else if is_over_a_byte(place) {
+        Some(place)
+    } else {
+        None
+    }
+}
+
+fn is_over_a_byte(digits: &[u8]) -> bool {
+    is_all_digits(digits)
+        && match word_value(digits) {
+            Some(value) => value > 255,
+            None => true,
+        }
 }
 
 /// What stands before `=` in the third of three pieces, which one space separates.
@@ -105,6 +135,17 @@ fn after_byte(text: &[u8], byte: u8) -> Option<&[u8]> {
     let (_, rest) = text.split_at(up_to(text, byte).len().min(text.len()));
     let (_, after) = rest.split_first()?;
     Some(after)
+}
+
+/// Whether a fault of an order is a line with a location that the test hasn't.
+pub fn names_no_location(test: &Test, text: &[u8], fault: OrderFault) -> bool {
+    let OrderFault::BadLine(number) = fault else {
+        return false;
+    };
+    match location_in(nth_line(text, number)) {
+        Some(name) => !is_location(test, name),
+        None => false,
+    }
 }
 
 fn is_location(test: &Test, name: &[u8]) -> bool {

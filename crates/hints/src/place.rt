@@ -18,8 +18,19 @@ impl<'a> Place<'a> {
         Place { text, before, rest }
     }
 
+    /// The line on which it is, from 1.
     pub fn line(self) -> usize {
         line_of(self.text, self.rest.len())
+    }
+
+    /// The line on which it is; where that is an empty one at the text's end, the line before it.
+    pub fn line_with_bytes(self) -> usize {
+        let line = self.line();
+        if self.rest.is_empty() && self.before.ends_with(b"\n") {
+            line.saturating_sub(1).max(1)
+        } else {
+            line
+        }
     }
 
     /// The token that stands there.
@@ -41,6 +52,11 @@ impl<'a> Place<'a> {
     /// The word or the byte that stands before it.
     pub fn last_word(self) -> &'a [u8] {
         last_word(self.before)
+    }
+
+    /// Whether `x` follows a zero there, as in a hexadecimal number.
+    pub fn is_hexadecimal(self) -> bool {
+        self.before.ends_with(b"0") && (self.rest.starts_with(b"x") || self.rest.starts_with(b"X"))
     }
 
     /// Whether a letter follows a colon there, as that of a register does.

@@ -2,8 +2,8 @@
 
 ghost use Rattle.std.specs.Prelude.{◌≡◌, IfOk, map, take, string_bytes};
 ghost use Rattle.std.specs.Str.{IsUtf8};
-ghost use Rattle.hints.specs.Hint as spec;
-ghost use Rattle.hints.specs.Hint.{IsHint, longest_hint, most_words};
+ghost use Rattle.hints.specs.Hint.{IsHint, longest_hint};
+ghost use Rattle.hints.specs.inner.Hint.{most_words, shown_byte};
 
 use crate::quotes::{first_bytes, is_bare};
 use crate::words::{Piece, Words};
@@ -64,19 +64,19 @@ fn string_of(alloc: Global, bytes: &[u8]) -> Result<String, AllocError>
 }
 
 fn printable_words(alloc: Global, words: &[u8]) -> Result<Vec<u8>, AllocError>
-    ensures { IfOk result (λ v. v.items ≡ map spec.printable (take most_words words.now)) }
+    ensures { IfOk result (λ v. v.items ≡ map shown_byte (take most_words words.now)) }
 {
     words
         .iter()
         .take(249)
-        .map(|byte| printable(*byte))
+        .map(|byte| as_shown(*byte))
         .collect(alloc)
 }
 
 /// The byte itself from space to tilde, a space for white space, and a question mark for any other.
-#[tactic(auto, unfolding(crate::specs::Hint::printable))]
-fn printable(byte: u8) -> u8
-    ensures { result ≡ spec.printable byte }
+#[tactic(auto, unfolding(crate::specs::inner::Hint::shown_byte))]
+fn as_shown(byte: u8) -> u8
+    ensures { result ≡ shown_byte byte }
 {
     match byte {
         b' '..=b'~' => byte,

@@ -14,7 +14,7 @@ pub fn first_bytes(bytes: &[u8], count: usize) -> &[u8] {
 }
 
 /// The last so many bytes, or all where there are fewer.
-fn last_bytes(bytes: &[u8], count: usize) -> &[u8] {
+pub fn last_bytes(bytes: &[u8], count: usize) -> &[u8] {
     let (_, last) = bytes.split_at(bytes.len().saturating_sub(count));
     last
 }

@@ -1,10 +1,13 @@
 //! What is said of a row of a test, and of a test that is too large.
 
+use crate::passed::{Limit, limit_at};
 use crate::place::Place;
 use crate::quotes::{up_to, without_end};
 use crate::words::{Piece, Words, around, listed, naming, plain, six};
 use litmus_reader::MAX_TEXT;
 use litmus_tokens::after_gap;
+use std::alloc::Global;
+use tso_model::NoMemory;
 use tso_model::limits::{
     MAX_ATOMS, MAX_CORES, MAX_INSTRUCTIONS, MAX_LOCATIONS, MAX_OPEN, MAX_TEST_NAME,
 };
@@ -39,22 +42,24 @@ pub fn wrong_cells<'a>(place: Place<'a>) -> Words<'a> {
 }
 
 /// Of what passes a limit.
-pub fn too_large<'a>(place: Place<'a>) -> Words<'a> {
+///
+/// Errors: out of memory only.
+pub fn too_large<'a>(alloc: Global, place: Place<'a>) -> Result<Words<'a>, NoMemory> {
     let token = place.token();
     if place.text.len() > MAX_TEXT {
-        too_long_text(place.text)
+        Ok(too_long_text(place.text))
     } else if begins_text(place) {
-        around(
+        Ok(around(
             "the test's name has more than ",
             Piece::Number(MAX_TEST_NAME),
             " bytes",
-        )
+        ))
     } else if place.last_word() == b"|".as_slice() && token.starts_with(b"P") {
-        too_many_cores(token)
+        Ok(too_many_cores(token))
     } else if opens(token) {
-        too_deep(token)
+        Ok(too_deep(token))
     } else {
-        one_too_many(item(place.rest))
+        Ok(one_too_many(item(place.rest), limit_at(alloc, place)?))
     }
 }
 
@@ -78,18 +83,30 @@ fn too_deep<'a>(token: &'a [u8]) -> Words<'a> {
     )
 }
 
-fn one_too_many<'a>(item: &'a [u8]) -> Words<'a> {
-    let pieces = [
+fn one_too_many<'a>(item: &'a [u8], limit: Limit) -> Words<'a> {
+    let (whose, number, of_what) = match limit {
+        Limit::Locations => (
+            " is one too many: a test has at most ",
+            MAX_LOCATIONS,
+            " locations",
+        ),
+        Limit::Instructions => (
+            " is one too many: a core has at most ",
+            MAX_INSTRUCTIONS,
+            " instructions",
+        ),
+        Limit::Atoms => (
+            " is one too many: a condition has at most ",
+            MAX_ATOMS,
+            " atoms",
+        ),
+    };
+    listed(
         Piece::Named(item),
-        Piece::Text(" is one too many: a test has at most "),
-        Piece::Number(MAX_LOCATIONS),
-        Piece::Text(" locations, "),
-        Piece::Number(MAX_INSTRUCTIONS),
-        Piece::Text(" instructions of a core, "),
-        Piece::Number(MAX_ATOMS),
-        Piece::Text(" atoms"),
-    ];
-    Words { pieces }
+        Piece::Text(whose),
+        Piece::Number(number),
+        Piece::Text(of_what),
+    )
 }
 
 /// Whether nothing stands before a place but white space and comments.

@@ -1,4 +1,4 @@
-//! What is said of a run that didn't end.
+//! What is said of a run or a search that didn't end.
 
 use crate::orders::first_word;
 use crate::words::{Piece, Words, around, plain, six};
@@ -13,6 +13,15 @@ pub fn sweep_ends<'a>(length: u32) -> Words<'a> {
     )
 }
 
+/// Of a search that may keep no more than so many states.
+pub fn search_ends<'a>(most: u32) -> Words<'a> {
+    around(
+        "the machine can reach more than ",
+        Piece::Number(most as usize),
+        " states, which is --states: raise it, or lower --depth",
+    )
+}
+
 /// Whether nothing but white space stands where choices may.
 pub fn has_no_choices(choices: &[u8]) -> bool {
     first_word(choices).is_empty()
@@ -20,17 +29,11 @@ pub fn has_no_choices(choices: &[u8]) -> bool {
 
 /// Of a run without choices.
 pub fn no_choices<'a>() -> Words<'a> {
-    plain("no choices: give some after a line ====, or use --help")
+    plain("no choices: give some after a line ====, or use sweep or outcomes, which take none")
 }
 
-/// Of a run under choices that are too few.
-pub fn choices_end<'a>(test: &Test, buffered: bool) -> Words<'a> {
-    let steps = count(test, false);
-    let drains = if buffered { count(test, true) } else { 0 };
-    taking_at_least(steps, drains)
-}
-
-fn taking_at_least<'a>(steps: usize, drains: usize) -> Words<'a> {
+/// Of a run under choices that are too few, of a test that takes at least so many steps and drains.
+pub fn choices_end<'a>(steps: usize, drains: usize) -> Words<'a> {
     let opening = Piece::Text("the choices end before the test, which takes at least ");
     let number = Piece::Number(steps);
     let unit = unit_of_steps(steps);
@@ -69,7 +72,16 @@ fn closing<'a>(drains: usize) -> Piece<'a> {
     }
 }
 
-/// How many instructions the cores have; or how many plain stores.
+/// How many instructions the cores have.
+pub fn count_instructions(test: &Test) -> usize {
+    count(test, false)
+}
+
+/// How many plain stores the cores have.
+pub fn count_plain_stores(test: &Test) -> usize {
+    count(test, true)
+}
+
 fn count(test: &Test, only_stores: bool) -> usize {
     let mut all = 0usize;
     for core in 0..test.cores() {

@@ -3,12 +3,12 @@ use Rattle.std.proofs.Common.{◌≡◌, ℕ, zero, suc, ◌≤◌, ◌<◌, Lis
 use Rattle.tso_model.specs.Condition.{Claim}
 use Rattle.litmus_tokens.specs.declared.token.Symbol.{Symbol}
 use Rattle.litmus_tokens.specs.Pieces.{Piece}
-use Rattle.litmus_tokens.specs.Front.{symbol_at}
+use Rattle.litmus_tokens.specs.inner.Front.{symbol_at}
 use Rattle.litmus_reader.specs.declared.fault.Fault.{Fault}
 use Rattle.litmus_reader.specs.declared.fault.ReadError.{ReadError}
 use Rattle.litmus_reader.specs.declared.fault.ReadError.TheVariants as errors
-use Rattle.litmus_reader.specs.Faults.{◌>>=◌, Fails}
-use Rattle.litmus_reader.specs.Conditions.{Claimed, claimed, Proposition, joined_to, chain, chain_of}
+use Rattle.litmus_reader.specs.inner.Faults.{◌>>=◌, Fails}
+use Rattle.litmus_reader.specs.inner.Conditions.{Claimed, claimed, Proposition, joined_to, chain, chain_of}
 
 -- the total is what has been read and then what the rest gives, in some number of steps that is enough
 pub record ChainAfter (symbol : Symbol) (join : Claim → Claim → Claim) (unit : Proposition) (c : Claimed) (total : Result Claimed Fault) : Type 0 where

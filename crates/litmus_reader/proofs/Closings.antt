@@ -6,9 +6,9 @@ use Rattle.std.proofs.lemmas.Bool.Decides.{nat_tests}
 use Rattle.std.proofs.lemmas.List.{length-drop, take_all}
 use Rattle.litmus_tokens.specs.declared.token.Symbol.TheVariants.{CloseSquare}
 use Rattle.litmus_tokens.specs.declared.token.Token.{Token}
-use Rattle.litmus_tokens.specs.Pieces.{piece_of, pieces}
+use Rattle.litmus_tokens.specs.inner.Pieces.{piece_of, pieces}
 use Rattle.litmus_tokens.specs.Front.{is_symbol}
-use Rattle.litmus_reader.specs.Remaining.{after_closing}
+use Rattle.litmus_reader.specs.inner.Remaining.{after_closing}
 use Rattle.litmus_reader.proofs.Maps.{chosen}
 
 abbrev closes : Token → Bool

@@ -4,8 +4,8 @@ use Rattle.tso_model.specs.Limits.{most_cores}
 use Rattle.litmus_tokens.specs.declared.token.Stop.{Stop}
 use Rattle.litmus_tokens.specs.Pieces.{Piece}
 use Rattle.litmus_reader.specs.declared.fault.Why.TheVariants.{TooLarge}
-use Rattle.litmus_reader.specs.Faults.{◌>>=◌, or_unfit}
-use Rattle.litmus_reader.specs.Columns.{columns, core_at, separator_at, in_columns}
+use Rattle.litmus_reader.specs.inner.Faults.{◌>>=◌, or_unfit}
+use Rattle.litmus_reader.specs.inner.Columns.{columns, core_at, separator_at, in_columns}
 use Rattle.litmus_reader.specs.Places.{fault, left_of}
 
 pub columns_next : (stop : Stop) (core : ℕ) (ps : List Piece) → core < most_cores → columns stop (most_cores - core) core ps ≡

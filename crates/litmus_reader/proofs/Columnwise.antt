@@ -11,8 +11,8 @@ use Rattle.litmus_tokens.specs.Pieces.{Piece}
 use Rattle.litmus_reader.specs.declared.cell.CoreInstr.{CoreInstr}
 use Rattle.litmus_reader.specs.declared.fault.Why.{Why}
 use Rattle.litmus_reader.specs.declared.fault.Fault.{Fault}
-use Rattle.litmus_reader.specs.Cells.{of_core}
-use Rattle.litmus_reader.specs.Reading.{program_of, programs_from}
+use Rattle.litmus_reader.specs.inner.Cells.{of_core}
+use Rattle.litmus_reader.specs.inner.Reading.{program_of, programs_from}
 use Rattle.litmus_reader.specs.GrammarNames.{numbered}
 use Rattle.litmus_reader.specs.GrammarTable.{in_rows, column, location_in, instr_with, ValueFits, AreWithin, in_field}
 use Rattle.litmus_reader.specs.RefusedTable.{AreSpelled, none, more, add_cells, IsCellFault, IsRowFault}

@@ -1,12 +1,16 @@
 -- A text spells a test or is refused.
-use Rattle.std.proofs.Common.{◌≡◌, ◌≢◌, ℕ, List, Some, Result, Ok, Err, IfErr, refl, sym, ap, ◌∙◌, ◌⊎◌, inl, inr}
+use Rattle.std.proofs.Common.{◌≡◌, ◌≢◌, ℕ, List, Some, Result, Ok, Err, IfErr, MatchResult, refl, sym, ap, ◌∙◌, ◌⊎◌, inl, inr}
 use Rattle.tso_model.specs.Litmus.{Litmus}
 use Rattle.litmus_tokens.specs.Line.{line_of}
 use Rattle.litmus_reader.specs.declared.fault.Why.{Why}
 use Rattle.litmus_reader.specs.declared.fault.Why.TheVariants.{NoMemory}
 use Rattle.litmus_reader.specs.declared.fault.Fault.{Fault}
 use Rattle.litmus_reader.specs.declared.fault.TextFault.{TextFault}
-use Rattle.litmus_reader.specs.Reading.{reading_of, refusal, refusal_in, refusal_of}
+use Rattle.litmus_reader.specs.declared.fault.ReadError.{ReadError}
+use Rattle.litmus_reader.specs.declared.fault.ReadError.TheVariants as errors
+use Rattle.litmus_reader.specs.Reading.{refusal}
+use Rattle.litmus_reader.specs.inner.Faults.{Gives}
+use Rattle.litmus_reader.specs.inner.Reading.{reading_of, refusal_in, refusal_of}
 use Rattle.litmus_reader.specs.Refusals.{IsFault}
 use Rattle.litmus_reader.specs.Spelling.{SpellsTest, IsRefused, IsDecided}
 
@@ -45,6 +49,13 @@ refused_where_read (Err r) text refused h = λ other. refused_so text r refused 
 
 same_test : (t other : Litmus) → (let r : Result Litmus Fault = Ok t in r) ≡ Ok other → t ≡ other
 same_test t other e = cc
+
+-- what is returned where the reading gives a test
+pub read_only : (result : Result Litmus ReadError) (t : Litmus) (read : Result Litmus Fault) → read ≡ Ok t → Gives (λ test. test) result read
+    → MatchResult result (λ test. test ≡ t) (λ e. e ≡ errors.NoMemory)
+read_only (Ok test) t read is gives = same_test test t (sym gives ∙ is)
+read_only (Err errors.NoMemory) t read is gives = refl
+read_only (Err (errors.Fault f)) t read is gives = absurd (let never = sym gives ∙ is in cc)
 
 pub decided : (text : List ℕ) → ((t : Litmus) → SpellsTest text t → reading_of text ≡ Ok t) → ((t : Litmus) → reading_of text ≡ Ok t → SpellsTest text t) → Refuses text → Refused text → IsDecided text
 decided text again takes refuses refused = record {

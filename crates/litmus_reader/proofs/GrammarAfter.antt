@@ -11,15 +11,16 @@ use Rattle.litmus_tokens.specs.declared.token.Symbol.{Symbol}
 use Rattle.litmus_tokens.specs.declared.token.Symbol.TheVariants.{Equals, Semicolon, Colon, OpenSquare, CloseSquare, OpenCurly, CloseCurly, Bar}
 use Rattle.litmus_tokens.specs.Terms.{Term, number, name, symbol}
 use Rattle.litmus_tokens.specs.Pieces.{Piece}
-use Rattle.litmus_tokens.specs.Front.{is_symbol, symbol_at, name_then, name_at, number_then, number_at}
+use Rattle.litmus_tokens.specs.Front.{is_symbol}
+use Rattle.litmus_tokens.specs.inner.Front.{symbol_at, name_then, name_at, number_then, number_at}
 use Rattle.litmus_reader.specs.declared.fault.Fault.{Fault}
 use Rattle.litmus_reader.specs.declared.fault.Part.{Part}
 use Rattle.litmus_reader.specs.declared.cell.CoreInstr.{CoreInstr}
-use Rattle.litmus_reader.specs.Faults.{◌>>=◌, or_unfit}
-use Rattle.litmus_reader.specs.Items.{if_location, location_at, if_register, register_at, value_at, register_setting, square_setting, plain_setting, setting_at}
-use Rattle.litmus_reader.specs.Initial.{before_initial, Initial, initial, judged, item_in, step_in, items_within, items_at, initial_at, ends_item}
-use Rattle.litmus_reader.specs.Columns.{if_core, core_at, separator_at, columns, columns_at, in_columns}
-use Rattle.litmus_reader.specs.Rows.{Rows, row_at, row_in, rows_within, rows_at}
+use Rattle.litmus_reader.specs.inner.Faults.{◌>>=◌, or_unfit}
+use Rattle.litmus_reader.specs.inner.Items.{if_location, location_at, if_register, register_at, value_at, register_setting, square_setting, plain_setting, setting_at}
+use Rattle.litmus_reader.specs.inner.Initial.{before_initial, Initial, initial, judged, item_in, step_in, items_within, items_at, initial_at, ends_item}
+use Rattle.litmus_reader.specs.inner.Columns.{if_core, core_at, separator_at, columns, columns_at, in_columns}
+use Rattle.litmus_reader.specs.inner.Rows.{Rows, row_at, row_in, rows_within, rows_at}
 use Rattle.litmus_reader.proofs.Keeps.{Any, ok_any, some_any, ok_is, bind_keeps, there_keeps, cond_keeps, or_unfit_keeps}
 use Rattle.litmus_reader.proofs.Readings.{AreLast}
 use Rattle.litmus_reader.specs.Places.{left_of, in_initial}

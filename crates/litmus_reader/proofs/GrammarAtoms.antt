@@ -13,13 +13,14 @@ use Rattle.litmus_tokens.specs.declared.token.Symbol.TheVariants.{Equals, Colon,
 use Rattle.decimals.specs.Decimals.{decimal_value}
 use Rattle.litmus_tokens.specs.Terms.{Term, number, name, symbol}
 use Rattle.litmus_tokens.specs.Pieces.{Piece}
-use Rattle.litmus_tokens.specs.Front.{is_symbol, symbol_at, name_at}
+use Rattle.litmus_tokens.specs.Front.{is_symbol}
+use Rattle.litmus_tokens.specs.inner.Front.{symbol_at, name_at}
 use Rattle.litmus_reader.specs.declared.fault.Why.TheVariants.{TooLarge, NoSuchCore}
-use Rattle.litmus_reader.specs.Faults.{there}
-use Rattle.litmus_reader.specs.Keywords.{if_word, word_after}
-use Rattle.litmus_reader.specs.Locations.{located}
-use Rattle.litmus_reader.specs.Items.{setting_at, or_bad_number, word_at, core_of}
-use Rattle.litmus_reader.specs.Conditions.{claim_in, Claimed, claimed, one_more, truth_at, truth_atom, setting_atom, atom_at, negation_at, in_condition}
+use Rattle.litmus_reader.specs.inner.Faults.{there}
+use Rattle.litmus_reader.specs.inner.Keywords.{if_word, word_after}
+use Rattle.litmus_reader.specs.inner.Locations.{located}
+use Rattle.litmus_reader.specs.inner.Items.{setting_at, or_bad_number, word_at, core_of}
+use Rattle.litmus_reader.specs.inner.Conditions.{claim_in, Claimed, claimed, one_more, truth_at, truth_atom, setting_atom, atom_at, negation_at, in_condition}
 use Rattle.litmus_reader.specs.Grammar.{terms}
 use Rattle.litmus_reader.specs.GrammarItems.{IsSetting, sets_register, sets_location, sets_in_squares}
 use Rattle.litmus_reader.specs.GrammarInitial.{names_in, is_allowed}

@@ -6,11 +6,12 @@ use Rattle.litmus_tokens.specs.declared.token.Stop.{Stop}
 use Rattle.litmus_tokens.specs.declared.token.Symbol.TheVariants.{OpenRound, CloseRound, And, Or, Tilde}
 use Rattle.litmus_tokens.specs.Terms.{Term, name, symbol, number}
 use Rattle.litmus_tokens.specs.Pieces.{Piece}
-use Rattle.litmus_tokens.specs.Front.{is_symbol, symbol_at, name_at, is_symbol_term}
+use Rattle.litmus_tokens.specs.Front.{is_symbol, is_symbol_term}
+use Rattle.litmus_tokens.specs.inner.Front.{symbol_at, name_at}
 use Rattle.litmus_reader.specs.declared.fault.Why.TheVariants.{TooLarge}
-use Rattle.litmus_reader.specs.Faults.{there, or_unfit}
-use Rattle.litmus_reader.specs.Keywords.{word_after}
-use Rattle.litmus_reader.specs.Conditions.{Claimed, claimed, atom_at, Proposition, disjunction, negation_at, opens_unit, negated, bracketed, unit_by, unit_at, proposition_at, in_condition}
+use Rattle.litmus_reader.specs.inner.Faults.{there, or_unfit}
+use Rattle.litmus_reader.specs.inner.Keywords.{word_after}
+use Rattle.litmus_reader.specs.inner.Conditions.{Claimed, claimed, atom_at, Proposition, disjunction, negation_at, opens_unit, negated, bracketed, unit_by, unit_at, proposition_at, in_condition}
 use Rattle.litmus_reader.specs.Grammar.{terms}
 use Rattle.litmus_reader.specs.GrammarNames.{numbered}
 use Rattle.litmus_reader.specs.GrammarConditions.{IsAtom, says_true, says_false, says_setting, IsProposition, plain, negated as negated_by, in_brackets, is_negation, IsUnit, locations_in, atoms_of, claim_by, IsWithin}

@@ -8,9 +8,9 @@ use Rattle.std.proofs.lemmas.List.Folds.{list_any-append, list_all-append}
 use Rattle.tso_model.specs.declared.register.Reg.{Reg}
 use Rattle.tso_model.specs.declared.instruction.Loc.{Loc}
 use Rattle.litmus_reader.specs.declared.fault.Why.TheVariants.{TwiceInit}
-use Rattle.litmus_reader.specs.Locations.{located}
-use Rattle.litmus_reader.specs.Items.{or_bad_number, word_at}
-use Rattle.litmus_reader.specs.Initial.{Given, given, Initial, initial, gives, judged}
+use Rattle.litmus_reader.specs.inner.Locations.{located}
+use Rattle.litmus_reader.specs.inner.Items.{or_bad_number, word_at}
+use Rattle.litmus_reader.specs.inner.Initial.{Given, given, Initial, initial, gives, judged}
 use Rattle.litmus_reader.specs.GrammarInitial.{given_value, same_place, each_once, names_in, Fits}
 use Rattle.litmus_reader.proofs.Maps.{list_any_map}
 use Rattle.litmus_reader.proofs.GrammarNames.{place_below, place_none}

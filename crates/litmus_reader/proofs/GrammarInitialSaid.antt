@@ -14,9 +14,9 @@ use Rattle.tso_model.specs.declared.register.Reg.TheVariants.{Eax, Ebx, Ecx, Edx
 use Rattle.decimals.specs.Decimals.{decimal_value}
 use Rattle.litmus_reader.specs.declared.fault.Fault.{Fault}
 use Rattle.litmus_reader.specs.declared.fault.Why.TheVariants.{NoSuchCore}
-use Rattle.litmus_reader.specs.Faults.{◌>>=◌}
-use Rattle.litmus_reader.specs.Items.{core_of}
-use Rattle.litmus_reader.specs.Initial.{Given, Initial, no_registers, with_register, registers_with, words_of}
+use Rattle.litmus_reader.specs.inner.Faults.{◌>>=◌}
+use Rattle.litmus_reader.specs.inner.Items.{core_of}
+use Rattle.litmus_reader.specs.inner.Initial.{Given, Initial, no_registers, with_register, registers_with, words_of}
 use Rattle.litmus_reader.specs.GrammarInitial.{same_place, each_once, names_in, Fits, has_core, value_in, names_register, first_words, first_registers_of, first_registers}
 use Rattle.litmus_reader.proofs.GrammarTokens.{bind_ok}
 use Rattle.litmus_reader.specs.GrammarNames.{numbered, with_name}

@@ -9,14 +9,14 @@ use Rattle.litmus_tokens.specs.declared.token.Stop.{Stop}
 use Rattle.litmus_tokens.specs.declared.token.Symbol.{Symbol}
 use Rattle.litmus_tokens.specs.declared.token.Symbol.TheVariants.{OpenRound, CloseRound, And, Or, Tilde}
 use Rattle.litmus_tokens.specs.Pieces.{Piece}
-use Rattle.litmus_tokens.specs.Front.{symbol_at, name_at}
+use Rattle.litmus_tokens.specs.inner.Front.{symbol_at, name_at}
 use Rattle.litmus_reader.specs.declared.fault.Fault.{Fault}
 use Rattle.tso_model.specs.Limits.{most_open}
-use Rattle.litmus_reader.specs.Faults.{◌>>=◌, or_unfit}
-use Rattle.litmus_reader.specs.Keywords.{if_word, word_after}
-use Rattle.litmus_reader.specs.Items.{setting_at}
-use Rattle.litmus_reader.specs.Conditions as reading
-use Rattle.litmus_reader.specs.Conditions.{claim_in, Claimed, one_more, truth_at, truth_atom, setting_atom, atom_at, Proposition, joined_to, chain, chain_of, conjunction, disjunction, negation_at, opens_unit, negated, bracketed, unit_by, unit_at, proposition_at, Conditioned, quantified, not_exists, condition_at, in_condition}
+use Rattle.litmus_reader.specs.inner.Faults.{◌>>=◌, or_unfit}
+use Rattle.litmus_reader.specs.inner.Keywords.{if_word, word_after}
+use Rattle.litmus_reader.specs.inner.Items.{setting_at}
+use Rattle.litmus_reader.specs.inner.Conditions as reading
+use Rattle.litmus_reader.specs.inner.Conditions.{claim_in, Claimed, one_more, truth_at, truth_atom, setting_atom, atom_at, Proposition, joined_to, chain, chain_of, conjunction, disjunction, negation_at, opens_unit, negated, bracketed, unit_by, unit_at, proposition_at, Conditioned, quantified, not_exists, condition_at, in_condition}
 use Rattle.litmus_reader.proofs.Keeps.{Any, ok_any, bind_keeps, there_keeps, cond_keeps, or_unfit_keeps}
 use Rattle.litmus_reader.proofs.GrammarAfter.{all_last, last_further, Leaves, symbol_leaves, name_leaves, setting_leaves}
 use Rattle.litmus_reader.proofs.Readings.{AreLast}

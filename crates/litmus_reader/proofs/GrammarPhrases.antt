@@ -9,10 +9,11 @@ use Rattle.litmus_tokens.specs.declared.token.Symbol.{Symbol}
 use Rattle.litmus_tokens.specs.declared.token.Symbol.TheVariants.{And, Or}
 use Rattle.litmus_tokens.specs.Terms.{Term, symbol}
 use Rattle.litmus_tokens.specs.Pieces.{Piece}
-use Rattle.litmus_tokens.specs.Front.{is_symbol, symbol_at, is_symbol_term}
-use Rattle.litmus_reader.specs.Faults.{◌>>=◌}
-use Rattle.litmus_reader.specs.Conditions as reading
-use Rattle.litmus_reader.specs.Conditions.{claim_in, Claimed, claimed, one_more, truth_at, truth_atom, setting_atom, atom_at, Proposition, joined_to, chain, chain_of, conjunction, disjunction, negation_at, opens_unit, negated, bracketed, unit_by, unit_at, proposition_at}
+use Rattle.litmus_tokens.specs.Front.{is_symbol, is_symbol_term}
+use Rattle.litmus_tokens.specs.inner.Front.{symbol_at}
+use Rattle.litmus_reader.specs.inner.Faults.{◌>>=◌}
+use Rattle.litmus_reader.specs.inner.Conditions as reading
+use Rattle.litmus_reader.specs.inner.Conditions.{claim_in, Claimed, claimed, one_more, truth_at, truth_atom, setting_atom, atom_at, Proposition, joined_to, chain, chain_of, conjunction, disjunction, negation_at, opens_unit, negated, bracketed, unit_by, unit_at, proposition_at}
 use Rattle.litmus_reader.specs.Grammar.{terms}
 use Rattle.litmus_reader.specs.GrammarNames.{numbered}
 use Rattle.litmus_reader.specs.GrammarInitial.{names_in, is_allowed}

@@ -7,11 +7,12 @@ use Rattle.litmus_tokens.specs.declared.token.Stop.{Stop}
 use Rattle.litmus_tokens.specs.declared.token.Symbol.TheVariants.{And, Or, Tilde}
 use Rattle.litmus_tokens.specs.Terms.{Term, name, symbol}
 use Rattle.litmus_tokens.specs.Pieces.{Piece}
-use Rattle.litmus_tokens.specs.Front.{is_symbol, symbol_at, name_at, is_symbol_term}
+use Rattle.litmus_tokens.specs.Front.{is_symbol, is_symbol_term}
+use Rattle.litmus_tokens.specs.inner.Front.{symbol_at, name_at}
 use Rattle.tso_model.specs.Limits.{most_open}
-use Rattle.litmus_reader.specs.Faults.{there, or_unfit}
-use Rattle.litmus_reader.specs.Keywords.{word_after}
-use Rattle.litmus_reader.specs.Conditions.{Conditioned, conditioned, with_claim, quantified, not_exists, condition_at, proposition_at, in_condition}
+use Rattle.litmus_reader.specs.inner.Faults.{there, or_unfit}
+use Rattle.litmus_reader.specs.inner.Keywords.{word_after}
+use Rattle.litmus_reader.specs.inner.Conditions.{Conditioned, conditioned, with_claim, quantified, not_exists, condition_at, proposition_at, in_condition}
 use Rattle.litmus_reader.specs.Grammar.{terms}
 use Rattle.litmus_reader.specs.GrammarConditions.{IsUnit, IsProposition, IsWithin, IsQuantifier, says_exists, says_forall, says_not_exists, IsCondition, condition}
 use Rattle.litmus_reader.proofs.GrammarTokens.{there_is, ok_is, bind_ok, or_unfit_ok, opened, symbol_takes}

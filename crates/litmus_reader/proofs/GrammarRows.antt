@@ -9,11 +9,12 @@ use Rattle.litmus_tokens.specs.declared.token.Symbol.{Symbol}
 use Rattle.litmus_tokens.specs.declared.token.Symbol.TheVariants.{OpenSquare, CloseSquare, Comma, Dollar, Semicolon, Bar}
 use Rattle.litmus_tokens.specs.Terms.{Term, symbol}
 use Rattle.litmus_tokens.specs.Pieces.{Piece}
-use Rattle.litmus_tokens.specs.Front.{is_symbol_term, is_symbol, name_at}
+use Rattle.litmus_tokens.specs.Front.{is_symbol_term, is_symbol}
+use Rattle.litmus_tokens.specs.inner.Front.{name_at}
 use Rattle.tso_model.specs.declared.register.Reg.{Reg}
 use Rattle.litmus_reader.specs.declared.fault.Why.TheVariants.{Unclosed}
-use Rattle.litmus_reader.specs.Forms.{spelled_in}
-use Rattle.litmus_reader.specs.Rows.{row_at}
+use Rattle.litmus_reader.specs.inner.Forms.{spelled_in}
+use Rattle.litmus_reader.specs.inner.Rows.{row_at}
 use Rattle.litmus_reader.specs.Grammar.{terms}
 use Rattle.litmus_reader.specs.GrammarCells.{IsConstant, plain, with_dollar, IsMemory, in_squares, IsRegister, named, IsMnemonic, spelled, separated, IsExchange, memory_first, register_first, IsCell, stores_constant, stores_register, loads, sets_constant, sets_register, fences, exchanges, locks_exchange, locks_add, moves}
 use Rattle.litmus_reader.specs.GrammarRows.{IsField, empty, full, AreFields, last, more, IsRow, row}

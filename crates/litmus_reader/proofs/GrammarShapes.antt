@@ -5,7 +5,7 @@ use Rattle.litmus_reader.specs.declared.cell.CoreInstr.{CoreInstr}
 use Rattle.litmus_reader.specs.GrammarNames.{numbered, location}
 use Rattle.litmus_reader.specs.GrammarTable.{instr_with, location_in}
 use Rattle.litmus_reader.proofs.Placed.{Placed, instrs_with, locations_of}
-use Rattle.litmus_reader.specs.Cells.{of_core}
+use Rattle.litmus_reader.specs.inner.Cells.{of_core}
 use Rattle.litmus_reader.proofs.GrammarNames.{Known, known_more, number_more, known_with, numbered_append}
 use Rattle.litmus_reader.specs.Written.{Shape, store_imm, store_reg, load, set_imm, set_reg, fence, xchg, xadd}
 

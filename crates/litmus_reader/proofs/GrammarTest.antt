@@ -9,12 +9,12 @@ use Rattle.litmus_tokens.specs.declared.token.Stop.{Stop}
 use Rattle.litmus_tokens.specs.Terms.{Term}
 use Rattle.litmus_tokens.specs.Pieces.{Piece, pieces_of}
 use Rattle.litmus_reader.specs.Limits.{longest_text}
-use Rattle.litmus_reader.specs.Header.{sized, header_at}
-use Rattle.litmus_reader.specs.Information.{braces_at}
-use Rattle.litmus_reader.specs.Initial.{Initial, words_of, registers_of, initial_at}
-use Rattle.litmus_reader.specs.Columns.{columns_at}
-use Rattle.litmus_reader.specs.Rows.{Rows, Table, table, table_at, rows_at}
-use Rattle.litmus_reader.specs.Reading.{programs_from, test_of, tail_at, body_of, reading_of}
+use Rattle.litmus_reader.specs.inner.Header.{sized, header_at}
+use Rattle.litmus_reader.specs.inner.Information.{braces_at}
+use Rattle.litmus_reader.specs.inner.Initial.{Initial, words_of, registers_of, initial_at}
+use Rattle.litmus_reader.specs.inner.Columns.{columns_at}
+use Rattle.litmus_reader.specs.inner.Rows.{Rows, Table, table, table_at, rows_at}
+use Rattle.litmus_reader.specs.inner.Reading.{programs_from, test_of, tail_at, body_of, reading_of}
 use Rattle.litmus_reader.specs.Grammar.{terms, Passes}
 use Rattle.litmus_reader.specs.GrammarNames.{numbered, with_name}
 use Rattle.litmus_reader.specs.GrammarText.{IsHeaderLine, AreInformationLines}

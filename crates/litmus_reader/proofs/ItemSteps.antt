@@ -4,14 +4,14 @@ use Rattle.litmus_tokens.specs.declared.token.Stop.{Stop}
 use Rattle.litmus_tokens.specs.declared.token.Symbol.{Symbol}
 use Rattle.litmus_tokens.specs.declared.token.Symbol.TheVariants.{CloseCurly}
 use Rattle.litmus_tokens.specs.Pieces.{Piece}
-use Rattle.litmus_tokens.specs.Front.{symbol_at, name_at, number_at}
+use Rattle.litmus_tokens.specs.inner.Front.{symbol_at, name_at, number_at}
 use Rattle.litmus_reader.specs.declared.fault.Fault.{Fault}
 use Rattle.litmus_reader.specs.declared.fault.Part.{Part}
 use Rattle.litmus_reader.specs.declared.fault.ReadError.{ReadError}
 use Rattle.litmus_reader.specs.declared.fault.ReadError.TheVariants as errors
-use Rattle.litmus_reader.specs.Faults.{◌>>=◌, Fails}
-use Rattle.litmus_reader.specs.Items.{location_at, plain_setting, setting_at}
-use Rattle.litmus_reader.specs.Initial.{Initial, initial, item_in, step_in, items_within, items_at, opened_at, initial_at}
+use Rattle.litmus_reader.specs.inner.Faults.{◌>>=◌, Fails}
+use Rattle.litmus_reader.specs.inner.Items.{location_at, plain_setting, setting_at}
+use Rattle.litmus_reader.specs.inner.Initial.{Initial, initial, item_in, step_in, items_within, items_at, opened_at, initial_at}
 use Rattle.litmus_reader.specs.Places.{unfit, left_of, in_initial}
 
 abbrev pub ReadItems : Type 0

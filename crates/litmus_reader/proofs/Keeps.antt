@@ -5,8 +5,8 @@ use Rattle.decimals.specs.Decimals.{decimal_value}
 use Rattle.litmus_tokens.specs.Pieces.{Piece}
 use Rattle.litmus_reader.specs.declared.fault.Fault.{Fault}
 use Rattle.litmus_reader.specs.declared.fault.Part.{Part}
-use Rattle.litmus_reader.specs.Faults.{◌>>=◌, or_unfit, there}
-use Rattle.litmus_reader.specs.Items.{core_of}
+use Rattle.litmus_reader.specs.inner.Faults.{◌>>=◌, or_unfit, there}
+use Rattle.litmus_reader.specs.inner.Items.{core_of}
 
 pub bind_keeps : {A B : Type 0} (R : A → Type 0) (Q : B → Type 0) (r : Result A Fault) (f : A → Result B Fault)
     → IfOk r R → ((x : A) → R x → IfOk (f x) Q) → IfOk (r >>= f) Q

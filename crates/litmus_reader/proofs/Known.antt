@@ -9,7 +9,7 @@ use Rattle.tso_model.specs.Litmus.{are_distinct}
 use Rattle.tso_model.specs.Names.{is_among}
 use Rattle.tso_model.specs.declared.instruction.Loc.{Loc}
 use Rattle.litmus_reader.specs.declared.fault.Fault.{Fault}
-use Rattle.litmus_reader.specs.Locations.{located}
+use Rattle.litmus_reader.specs.inner.Locations.{located}
 use Rattle.litmus_reader.proofs.Keeps.{cond_keeps}
 use Rattle.litmus_reader.proofs.Named.{IsLocation}
 use Rattle.litmus_reader.specs.GrammarNames.{number_of, location}

@@ -7,7 +7,7 @@ use Rattle.litmus_tokens.specs.Gap.{gap_end}
 use Rattle.litmus_tokens.specs.Terms.{Term, term_at}
 use Rattle.litmus_tokens.specs.Pieces.{Piece, piece_at, onto, pieces_within, pieces_of}
 use Rattle.litmus_reader.specs.Places.{from_place}
-use Rattle.litmus_reader.specs.Remaining.{HasTokens}
+use Rattle.litmus_reader.specs.inner.Remaining.{HasTokens}
 use Rattle.litmus_reader.proofs.Readings.{AreLast}
 use Rattle.litmus_reader.proofs.TokensRead.{AreEnd, end_further, end_within, end_placed, GapRead, gap_read, gap_stops, ok_both, TokenRead, closing, other, term_read, TermStops, at_end, at_bad, term_stops}
 

@@ -10,8 +10,8 @@ use Rattle.tso_model.specs.declared.register.Reg.{Reg}
 use Rattle.litmus_reader.specs.declared.fault.Why.TheVariants.{TwiceInit}
 use Rattle.litmus_reader.specs.declared.fault.Fault.{Fault}
 use Rattle.litmus_reader.specs.declared.initial.RegisterWord.{RegisterWord}
-use Rattle.litmus_reader.specs.Items.{word_at, core_of}
-use Rattle.litmus_reader.specs.Initial.{Given, given_of, named_by_key, named_by_word, initial, gives, judged, with_register, registers_with}
+use Rattle.litmus_reader.specs.inner.Items.{word_at, core_of}
+use Rattle.litmus_reader.specs.inner.Initial.{Given, given_of, named_by_key, named_by_word, initial, gives, judged, with_register, registers_with}
 use Rattle.litmus_reader.proofs.Maps.{list_any_map}
 use Rattle.litmus_reader.specs.Places.{fault}
 use Rattle.litmus_reader.specs.Written.{of_register}

@@ -5,13 +5,13 @@ use Rattle.tso_model.specs.Names.{is_location_name}
 use Rattle.tso_model.specs.Registers.{same_letters}
 use Rattle.litmus_tokens.specs.declared.token.Symbol.TheVariants.{Colon, OpenSquare, CloseSquare, Comma, Dollar}
 use Rattle.litmus_tokens.specs.Pieces.{Piece}
-use Rattle.litmus_tokens.specs.Front.{symbol_at, name_at, number_at}
+use Rattle.litmus_tokens.specs.inner.Front.{symbol_at, name_at, number_at}
 use Rattle.litmus_reader.specs.declared.fault.Fault.{Fault}
 use Rattle.litmus_reader.specs.declared.fault.Part.{Part}
-use Rattle.litmus_reader.specs.Faults.{or_unfit, there}
-use Rattle.litmus_reader.specs.Items.{if_location, location_at, register_at, value_at, register_setting, square_setting, plain_setting, setting_at}
-use Rattle.litmus_reader.specs.Operands.{Place, in_memory, in_register, constant, as_constant, dollar_at, closed_memory, memory_at, as_register, operand_at, if_last, second_of, after_operand, two_operands}
-use Rattle.litmus_reader.specs.Forms.{mov_of, xchg_of, xadd_of, no_more, locked_by, locked_at, by_mnemonic, spelled_in}
+use Rattle.litmus_reader.specs.inner.Faults.{or_unfit, there}
+use Rattle.litmus_reader.specs.inner.Items.{if_location, location_at, register_at, value_at, register_setting, square_setting, plain_setting, setting_at}
+use Rattle.litmus_reader.specs.inner.Operands.{Place, in_memory, in_register, constant, as_constant, dollar_at, closed_memory, memory_at, as_register, operand_at, if_last, second_of, after_operand, two_operands}
+use Rattle.litmus_reader.specs.inner.Forms.{mov_of, xchg_of, xadd_of, no_more, locked_by, locked_at, by_mnemonic, spelled_in}
 use Rattle.litmus_reader.proofs.Keeps.{Any, ok_any, some_any, bind_keeps, there_keeps, cond_keeps, or_unfit_keeps}
 use Rattle.litmus_reader.specs.Written.{Setting, of_register, of_location, Shape, store_imm, store_reg, load, set_imm, set_reg, fence, xchg, xadd}
 

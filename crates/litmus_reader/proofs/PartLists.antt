@@ -5,8 +5,8 @@ use Rattle.std.proofs.Math.Seq.{take-suc}
 use denote.Ref.{Bor}
 use Rattle.tso_model.specs.declared.instruction.Instr.{Instr}
 use Rattle.litmus_reader.specs.declared.cell.CoreInstr.{CoreInstr}
-use Rattle.litmus_reader.specs.Locations.{texts}
-use Rattle.litmus_reader.specs.Reading.{program_of, programs_from}
+use Rattle.litmus_reader.specs.inner.Locations.{texts}
+use Rattle.litmus_reader.specs.inner.Reading.{program_of, programs_from}
 
 programs_from-suc : (core n : ℕ) (instrs : List CoreInstr) → programs_from core (suc n) instrs ≡ programs_from core n instrs ++ program_of instrs (core + n) ∷ []
 programs_from-suc core zero instrs = let e : core + 0 ≡ core = omega arith in rw e refl

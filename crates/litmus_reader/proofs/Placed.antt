@@ -2,7 +2,7 @@
 use Rattle.std.specs.Prelude.{◌≤◌, ℕ, ◌+◌, List, [], ◌∷◌, ◌++◌, length, map, count_by, Option, Some, None, ◌==◌}
 use Rattle.tso_model.specs.Limits.{most_instructions, most_locations}
 use Rattle.litmus_reader.specs.declared.cell.CoreInstr.{CoreInstr}
-use Rattle.litmus_reader.specs.Cells.{of_core}
+use Rattle.litmus_reader.specs.inner.Cells.{of_core}
 use Rattle.litmus_reader.specs.GrammarNames.{numbered}
 use Rattle.litmus_reader.specs.GrammarTable.{location_in, instr_with, ValueFits}
 use Rattle.litmus_reader.specs.Written.{Shape}

@@ -7,14 +7,14 @@ use Rattle.litmus_tokens.specs.declared.token.Stop.{Stop}
 use Rattle.decimals.specs.Decimals.{decimal_value}
 use Rattle.litmus_tokens.specs.Terms.{Term, name}
 use Rattle.litmus_tokens.specs.Pieces.{Piece}
-use Rattle.litmus_tokens.specs.Front.{name_at}
+use Rattle.litmus_tokens.specs.inner.Front.{name_at}
 use Rattle.litmus_reader.specs.declared.fault.Why.TheVariants.{BadNumber, NoSuchCore, TooLarge}
 use Rattle.litmus_reader.specs.declared.fault.Fault.{Fault}
-use Rattle.litmus_reader.specs.Faults.{there}
-use Rattle.litmus_reader.specs.Keywords.{word_after}
-use Rattle.litmus_reader.specs.Locations.{located}
-use Rattle.litmus_reader.specs.Items.{setting_at}
-use Rattle.litmus_reader.specs.Conditions.{claim_in, one_more, truth_at, truth_atom, setting_atom, atom_at, in_condition}
+use Rattle.litmus_reader.specs.inner.Faults.{there}
+use Rattle.litmus_reader.specs.inner.Keywords.{word_after}
+use Rattle.litmus_reader.specs.inner.Locations.{located}
+use Rattle.litmus_reader.specs.inner.Items.{setting_at}
+use Rattle.litmus_reader.specs.inner.Conditions.{claim_in, one_more, truth_at, truth_atom, setting_atom, atom_at, in_condition}
 use Rattle.litmus_reader.specs.Grammar.{terms}
 use Rattle.litmus_reader.specs.GrammarNames.{numbered, number_of, with_name, location}
 use Rattle.litmus_reader.specs.GrammarInitial.{given_value, has_core}

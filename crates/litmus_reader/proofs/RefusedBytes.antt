@@ -9,9 +9,9 @@ use Rattle.litmus_tokens.specs.declared.token.Stop.TheVariants as stops
 use Rattle.litmus_tokens.specs.Gap.{is_space, opens_comment, closes_comment, gap_end}
 use Rattle.litmus_reader.specs.declared.fault.Why.TheVariants.{NoHeader, Unclosed, BadToken, TooLarge}
 use Rattle.litmus_reader.specs.declared.fault.Fault.{Fault}
-use Rattle.litmus_reader.specs.Header.{judged, header_at}
-use Rattle.litmus_reader.specs.Information.{quotation_end, closed_quotation, key_value, key_line_end, information_end, begins_initial, braces_within, braces_at}
-use Rattle.litmus_reader.specs.Observed.{square_by, square_within, square_end}
+use Rattle.litmus_reader.specs.inner.Header.{judged, header_at}
+use Rattle.litmus_reader.specs.inner.Information.{quotation_end, closed_quotation, key_value, key_line_end, information_end, begins_initial, braces_within, braces_at}
+use Rattle.litmus_reader.specs.inner.Observed.{square_by, square_within, square_end}
 use Rattle.litmus_reader.specs.GrammarText.{first_line, IsAfterGap, is_quoted, IsInformation, name_in, continues_key}
 use Rattle.litmus_reader.specs.RefusedBytes as refused
 use Rattle.litmus_reader.specs.RefusedBytes.{IsUnclosed, is_long, IsHeaderFault, PassesInformation, none, more, IsLineFault, IsBracketsFault}

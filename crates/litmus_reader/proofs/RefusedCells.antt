@@ -8,15 +8,14 @@ use Rattle.litmus_tokens.specs.Pieces.{Piece}
 use Rattle.litmus_reader.specs.declared.fault.Why.{Why}
 use Rattle.litmus_reader.specs.declared.fault.Why.TheVariants.{BadInstruction, BadNumber, TooLarge}
 use Rattle.litmus_reader.specs.declared.fault.Fault.{Fault}
-use Rattle.litmus_reader.specs.Faults.{◌>>=◌}
-use Rattle.litmus_reader.specs.Locations.{located}
-use Rattle.litmus_reader.specs.Forms.{spelled_in}
-use Rattle.litmus_reader.specs.Cells.{instr_of, count_of, cell_in, cells_in}
+use Rattle.litmus_reader.specs.inner.Faults.{◌>>=◌}
+use Rattle.litmus_reader.specs.inner.Locations.{located}
+use Rattle.litmus_reader.specs.inner.Forms.{spelled_in}
+use Rattle.litmus_reader.specs.inner.Cells.{instr_of, count_of, cell_in, cells_in, of_core}
 use Rattle.litmus_reader.specs.Grammar.{terms}
 use Rattle.litmus_reader.specs.GrammarRows.{empty, full}
 use Rattle.litmus_reader.specs.GrammarTable.{ValueFits}
 use Rattle.litmus_reader.proofs.Placed.{Placed, placed, placed_from, EntriesWithin}
-use Rattle.litmus_reader.specs.Cells.{of_core}
 use Rattle.litmus_reader.specs.RefusedTable.{AreSpelled, none, more}
 use Rattle.litmus_reader.proofs.PlacedFaults.{IsEntryFault, bad_instruction, bad_number, one_too_many}
 use Rattle.litmus_reader.proofs.GrammarTokens.{chosen, some_is}

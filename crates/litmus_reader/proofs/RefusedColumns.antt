@@ -7,12 +7,13 @@ use Rattle.litmus_tokens.specs.declared.token.Stop.{Stop}
 use Rattle.litmus_tokens.specs.declared.token.Symbol.TheVariants.{Semicolon, Bar}
 use Rattle.litmus_tokens.specs.Terms.{Term, number, name, symbol}
 use Rattle.litmus_tokens.specs.Pieces.{Piece}
-use Rattle.litmus_tokens.specs.Front.{is_symbol_term, is_symbol, symbol_at, name_at}
+use Rattle.litmus_tokens.specs.Front.{is_symbol_term, is_symbol}
+use Rattle.litmus_tokens.specs.inner.Front.{symbol_at, name_at}
 use Rattle.litmus_reader.specs.declared.fault.Why.TheVariants.{TooLarge}
 use Rattle.litmus_reader.specs.declared.fault.Fault.{Fault}
 use Rattle.litmus_reader.specs.declared.fault.Part.{Part}
-use Rattle.litmus_reader.specs.Faults.{or_unfit}
-use Rattle.litmus_reader.specs.Columns.{core_at, separator_at, columns, in_columns}
+use Rattle.litmus_reader.specs.inner.Faults.{or_unfit}
+use Rattle.litmus_reader.specs.inner.Columns.{core_at, separator_at, columns, in_columns}
 use Rattle.litmus_reader.specs.Misfits.{ends_column, is_word, begins_with}
 use Rattle.litmus_reader.specs.RefusedTable.{IsColumnsFault, no_name, one_too_many, no_end, further}
 use Rattle.litmus_reader.proofs.GrammarTokens.{symbol_is}

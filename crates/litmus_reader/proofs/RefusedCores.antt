@@ -10,15 +10,16 @@ use Rattle.litmus_tokens.specs.declared.token.Symbol.TheVariants.{OpenCurly, Clo
 use Rattle.decimals.specs.Decimals.{decimal_value}
 use Rattle.litmus_tokens.specs.Terms.{Term, symbol}
 use Rattle.litmus_tokens.specs.Pieces.{Piece}
-use Rattle.litmus_tokens.specs.Front.{is_symbol, symbol_at}
+use Rattle.litmus_tokens.specs.Front.{is_symbol}
+use Rattle.litmus_tokens.specs.inner.Front.{symbol_at}
 use Rattle.litmus_reader.specs.declared.fault.Why.TheVariants.{NoSuchCore, TwiceInit}
 use Rattle.litmus_reader.specs.declared.fault.Fault.{Fault}
 use Rattle.litmus_reader.specs.declared.fault.Part.{Part}
 use Rattle.litmus_reader.specs.declared.fault.ReadError.TheVariants as errors
-use Rattle.litmus_reader.specs.Faults.{◌>>=◌}
-use Rattle.litmus_reader.specs.Items.{setting_at, word_at, core_of}
-use Rattle.litmus_reader.specs.Locations.{located}
-use Rattle.litmus_reader.specs.Initial.{Given, given, Initial, initial, gives, judged, item_in, step_in, items_within, items_at, initial_at, no_registers, with_register, registers_with, registers_of, ends_item}
+use Rattle.litmus_reader.specs.inner.Faults.{◌>>=◌}
+use Rattle.litmus_reader.specs.inner.Items.{setting_at, word_at, core_of}
+use Rattle.litmus_reader.specs.inner.Locations.{located}
+use Rattle.litmus_reader.specs.inner.Initial.{Given, given, Initial, initial, gives, judged, item_in, step_in, items_within, items_at, initial_at, no_registers, with_register, registers_with, registers_of, ends_item}
 use Rattle.litmus_reader.specs.Grammar.{terms}
 use Rattle.litmus_reader.specs.GrammarItems.{IsSetting}
 use Rattle.litmus_reader.specs.GrammarInitial.{Fits, has_core, has_cores}

@@ -7,13 +7,14 @@ use Rattle.litmus_tokens.specs.declared.token.Symbol.{Symbol}
 use Rattle.litmus_tokens.specs.declared.token.Symbol.TheVariants.{OpenSquare}
 use Rattle.litmus_tokens.specs.Terms.{Term, number, name, symbol}
 use Rattle.litmus_tokens.specs.Pieces.{Piece, pieces_of}
-use Rattle.litmus_tokens.specs.Front.{is_symbol_term, is_symbol, symbol_at, name_then, name_at}
+use Rattle.litmus_tokens.specs.Front.{is_symbol_term, is_symbol}
+use Rattle.litmus_tokens.specs.inner.Front.{symbol_at, name_then, name_at}
 use Rattle.litmus_reader.specs.declared.fault.Fault.{Fault}
 use Rattle.litmus_reader.specs.declared.fault.Part.{Part}
-use Rattle.litmus_reader.specs.Faults.{◌>>=◌, or_unfit, there}
-use Rattle.litmus_reader.specs.Keywords.{if_word, word_after}
-use Rattle.litmus_reader.specs.Observed.{square_end, brackets_end, ending_tokens, in_observed}
-use Rattle.litmus_reader.specs.Reading.{ending_at, tail_at}
+use Rattle.litmus_reader.specs.inner.Faults.{◌>>=◌, or_unfit, there}
+use Rattle.litmus_reader.specs.inner.Keywords.{if_word, word_after}
+use Rattle.litmus_reader.specs.inner.Observed.{square_end, brackets_end, ending_tokens, in_observed}
+use Rattle.litmus_reader.specs.inner.Reading.{ending_at, tail_at}
 use Rattle.litmus_reader.specs.Misfits.{begins_with, is_word}
 use Rattle.litmus_reader.specs.RefusedBytes.{IsBracketsFault}
 use Rattle.litmus_reader.specs.RefusedEnding.{IsLastFault, no_bracket, in_brackets, IsEndingFault, last as last_part, after_brackets}

@@ -8,16 +8,17 @@ use Rattle.litmus_tokens.specs.declared.token.Stop.{Stop}
 use Rattle.litmus_tokens.specs.declared.token.Symbol.TheVariants.{OpenCurly, CloseCurly, Semicolon}
 use Rattle.litmus_tokens.specs.Terms.{Term, symbol}
 use Rattle.litmus_tokens.specs.Pieces.{Piece}
-use Rattle.litmus_tokens.specs.Front.{is_symbol, symbol_at}
+use Rattle.litmus_tokens.specs.Front.{is_symbol}
+use Rattle.litmus_tokens.specs.inner.Front.{symbol_at}
 use Rattle.litmus_reader.specs.declared.fault.Why.{Why}
 use Rattle.litmus_reader.specs.declared.fault.Why.TheVariants.{BadNumber, TwiceInit, TooLarge}
 use Rattle.litmus_reader.specs.declared.fault.Fault.{Fault}
 use Rattle.litmus_reader.specs.declared.fault.Part.{Part}
 use Rattle.litmus_reader.specs.declared.fault.ReadError.TheVariants as errors
-use Rattle.litmus_reader.specs.Faults.{◌>>=◌}
-use Rattle.litmus_reader.specs.Locations.{located}
-use Rattle.litmus_reader.specs.Items.{setting_at}
-use Rattle.litmus_reader.specs.Initial.{Initial, initial, gives, judged, item_in, step_in, items_at, initial_at, ends_item}
+use Rattle.litmus_reader.specs.inner.Faults.{◌>>=◌}
+use Rattle.litmus_reader.specs.inner.Locations.{located}
+use Rattle.litmus_reader.specs.inner.Items.{setting_at}
+use Rattle.litmus_reader.specs.inner.Initial.{Initial, initial, gives, judged, item_in, step_in, items_at, initial_at, ends_item}
 use Rattle.litmus_reader.specs.Grammar.{terms}
 use Rattle.litmus_reader.specs.GrammarItems.{IsSetting}
 use Rattle.litmus_reader.specs.GrammarInitial.{empty, given, Fits, given_value, same_place, names_in}

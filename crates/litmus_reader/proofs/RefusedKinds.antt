@@ -17,7 +17,7 @@ use Rattle.litmus_reader.specs.GrammarItems.{IsSetting, sets_register, sets_loca
 use Rattle.litmus_reader.specs.GrammarInitial.{empty, given}
 use Rattle.litmus_reader.specs.GrammarConditions.{IsAtom, says_true, says_false, says_setting}
 use Rattle.litmus_reader.specs.Misfits.{Misfits, is_word, begins_with, ends_setting}
-use Rattle.litmus_reader.specs.Initial.{ends_item}
+use Rattle.litmus_reader.specs.inner.Initial.{ends_item}
 use Rattle.litmus_reader.specs.RefusedInitial.{IsEndedItem, ended}
 use Rattle.litmus_reader.proofs.GrammarTokens.{symbol_is}
 use Rattle.litmus_reader.proofs.GrammarAtoms.{no_keyword}

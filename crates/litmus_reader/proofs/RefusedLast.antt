@@ -8,14 +8,15 @@ use Rattle.litmus_tokens.specs.declared.token.Stop.TheVariants as stops
 use Rattle.litmus_tokens.specs.declared.token.Symbol.TheVariants.{And, Or, Tilde}
 use Rattle.litmus_tokens.specs.Terms.{Term, name, symbol}
 use Rattle.litmus_tokens.specs.Pieces.{Piece}
-use Rattle.litmus_tokens.specs.Front.{is_symbol_term, is_symbol, symbol_at, name_at}
+use Rattle.litmus_tokens.specs.Front.{is_symbol_term, is_symbol}
+use Rattle.litmus_tokens.specs.inner.Front.{symbol_at, name_at}
 use Rattle.tso_model.specs.Limits.{most_open}
 use Rattle.litmus_reader.specs.declared.fault.Why.TheVariants.{BadToken, Unclosed, Trailing}
 use Rattle.litmus_reader.specs.declared.fault.Fault.{Fault}
-use Rattle.litmus_reader.specs.Faults.{◌>>=◌}
-use Rattle.litmus_reader.specs.Keywords.{word_after}
-use Rattle.litmus_reader.specs.Conditions.{Claimed, Conditioned, conditioned, with_claim, quantified, not_exists, condition_at, unit_at, proposition_at, in_condition}
-use Rattle.litmus_reader.specs.Reading.{end_at, ending_at}
+use Rattle.litmus_reader.specs.inner.Faults.{◌>>=◌}
+use Rattle.litmus_reader.specs.inner.Keywords.{word_after}
+use Rattle.litmus_reader.specs.inner.Conditions.{Claimed, Conditioned, conditioned, with_claim, quantified, not_exists, condition_at, unit_at, proposition_at, in_condition}
+use Rattle.litmus_reader.specs.inner.Reading.{end_at, ending_at}
 use Rattle.litmus_reader.specs.Grammar.{terms}
 use Rattle.litmus_reader.specs.GrammarConditions.{IsUnit, IsProposition, IsQuantifier, says_exists, says_forall, says_not_exists, condition, IsCondition}
 use Rattle.litmus_reader.specs.GrammarEnding.{MayAsk, nothing, a_condition, IsAskedWithin}

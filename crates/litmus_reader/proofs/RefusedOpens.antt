@@ -7,11 +7,12 @@ use Rattle.litmus_tokens.specs.declared.token.Symbol.{Symbol}
 use Rattle.litmus_tokens.specs.declared.token.Symbol.TheVariants.{OpenRound, CloseRound, Tilde}
 use Rattle.litmus_tokens.specs.Terms.{Term, number, name, symbol}
 use Rattle.litmus_tokens.specs.Pieces.{Piece}
-use Rattle.litmus_tokens.specs.Front.{is_symbol_term, is_symbol, symbol_at, name_at}
+use Rattle.litmus_tokens.specs.Front.{is_symbol_term, is_symbol}
+use Rattle.litmus_tokens.specs.inner.Front.{symbol_at, name_at}
 use Rattle.litmus_reader.specs.declared.fault.Why.TheVariants.{TooLarge}
 use Rattle.litmus_reader.specs.declared.fault.Fault.{Fault}
-use Rattle.litmus_reader.specs.Keywords.{word_after}
-use Rattle.litmus_reader.specs.Conditions.{Claimed, claimed, atom_at, Proposition, disjunction, negation_at, opens_unit, negated, bracketed, unit_by, unit_at, in_condition}
+use Rattle.litmus_reader.specs.inner.Keywords.{word_after}
+use Rattle.litmus_reader.specs.inner.Conditions.{Claimed, claimed, atom_at, Proposition, disjunction, negation_at, opens_unit, negated, bracketed, unit_by, unit_at, in_condition}
 use Rattle.litmus_reader.specs.Grammar.{terms}
 use Rattle.litmus_reader.specs.GrammarConditions.{IsProposition, IsUnit, IsAtom, is_negation}
 use Rattle.litmus_reader.proofs.Levels as refused

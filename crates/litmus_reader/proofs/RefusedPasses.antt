@@ -2,9 +2,9 @@
 use Rattle.std.proofs.Common.{◌≡◌, ℕ, ◌≤◌, List, [], ◌++◌, length, Option, Ok, IsTrue, sym, ap, subst, ◌∙◌}
 use Rattle.litmus_tokens.specs.declared.token.Stop.{Stop}
 use Rattle.litmus_tokens.specs.Pieces.{Piece}
-use Rattle.litmus_reader.specs.Initial.{Initial, initial_at}
-use Rattle.litmus_reader.specs.Columns.{columns_at}
-use Rattle.litmus_reader.specs.Rows.{Rows, rows_at}
+use Rattle.litmus_reader.specs.inner.Initial.{Initial, initial_at}
+use Rattle.litmus_reader.specs.inner.Columns.{columns_at}
+use Rattle.litmus_reader.specs.inner.Rows.{Rows, rows_at}
 use Rattle.litmus_reader.specs.Grammar.{terms, Passes}
 use Rattle.litmus_reader.specs.GrammarInitial.{IsInitialState, Fits}
 use Rattle.litmus_reader.specs.GrammarColumns.{IsHeaderRow}

@@ -10,8 +10,8 @@ use Rattle.litmus_tokens.specs.Front.{is_symbol}
 use Rattle.litmus_reader.specs.declared.fault.Why.TheVariants.{Unclosed, WrongCells}
 use Rattle.litmus_reader.specs.declared.fault.Fault.{Fault}
 use Rattle.litmus_reader.specs.declared.fault.ReadError.TheVariants as errors
-use Rattle.litmus_reader.specs.Cells.{cells_in}
-use Rattle.litmus_reader.specs.Rows.{row_at, row_in, Rows, rows_at}
+use Rattle.litmus_reader.specs.inner.Cells.{cells_in}
+use Rattle.litmus_reader.specs.inner.Rows.{row_at, row_in, Rows, rows_at}
 use Rattle.litmus_reader.specs.Grammar.{terms}
 use Rattle.litmus_reader.specs.GrammarNames.{numbered}
 use Rattle.litmus_reader.specs.GrammarTable.{AreRows, none as no_rows, more as more_rows, ends_rows}

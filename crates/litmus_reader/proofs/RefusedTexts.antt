@@ -10,13 +10,13 @@ use Rattle.litmus_tokens.specs.Pieces.{Piece, piece_at, pieces_within, pieces_of
 use Rattle.litmus_reader.specs.declared.fault.Why.TheVariants.{TooLarge}
 use Rattle.litmus_reader.specs.declared.fault.Fault.{Fault}
 use Rattle.litmus_reader.specs.Limits.{longest_text}
-use Rattle.litmus_reader.specs.Faults.{◌>>=◌}
-use Rattle.litmus_reader.specs.Header.{sized, header_at}
-use Rattle.litmus_reader.specs.Information.{braces_at}
-use Rattle.litmus_reader.specs.Initial.{initial_at, registers_of}
-use Rattle.litmus_reader.specs.Columns.{columns_at}
-use Rattle.litmus_reader.specs.Rows.{Rows, Table, table, table_at, rows_at}
-use Rattle.litmus_reader.specs.Reading.{test_of, tail_at, body_of, reading_of}
+use Rattle.litmus_reader.specs.inner.Faults.{◌>>=◌}
+use Rattle.litmus_reader.specs.inner.Header.{sized, header_at}
+use Rattle.litmus_reader.specs.inner.Information.{braces_at}
+use Rattle.litmus_reader.specs.inner.Initial.{initial_at, registers_of}
+use Rattle.litmus_reader.specs.inner.Columns.{columns_at}
+use Rattle.litmus_reader.specs.inner.Rows.{Rows, Table, table, table_at, rows_at}
+use Rattle.litmus_reader.specs.inner.Reading.{test_of, tail_at, body_of, reading_of}
 use Rattle.litmus_reader.specs.GrammarText.{AreInformationLines, none, more, IsHeaderLine}
 use Rattle.litmus_reader.specs.GrammarInitial.{Fits, names_in, first_registers}
 use Rattle.litmus_reader.specs.GrammarNames.{numbered}

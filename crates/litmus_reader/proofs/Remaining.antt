@@ -4,18 +4,19 @@ use Rattle.litmus_tokens.specs.declared.token.Stop.{Stop}
 use Rattle.litmus_tokens.specs.declared.token.Symbol.TheVariants.{OpenSquare, CloseSquare}
 use Rattle.litmus_tokens.specs.Gap.{gap_end}
 use Rattle.litmus_tokens.specs.Pieces.{Piece, piece_at, pieces_of}
-use Rattle.litmus_tokens.specs.Front.{is_symbol, is_symbol_term, symbol_at}
+use Rattle.litmus_tokens.specs.Front.{is_symbol, is_symbol_term}
+use Rattle.litmus_tokens.specs.inner.Front.{symbol_at}
 use Rattle.litmus_reader.specs.declared.fault.Why.TheVariants as whys
 use Rattle.litmus_reader.specs.declared.fault.Fault.{Fault}
-use Rattle.litmus_reader.specs.Faults.{◌>>=◌}
-use Rattle.litmus_reader.specs.Header.{from_gap}
-use Rattle.litmus_reader.specs.Keywords.{word_after}
-use Rattle.litmus_reader.specs.Initial.{Initial, Given, initial_at, registers_of}
-use Rattle.litmus_reader.specs.Columns.{columns_at}
-use Rattle.litmus_reader.specs.Rows.{Table, table, rows_at, table_at}
-use Rattle.litmus_reader.specs.Observed.{square_by, square_within, square_end, opened_at, brackets_end, brackets_tokens, in_observed}
+use Rattle.litmus_reader.specs.inner.Faults.{◌>>=◌}
+use Rattle.litmus_reader.specs.inner.Header.{from_gap}
+use Rattle.litmus_reader.specs.inner.Keywords.{word_after}
+use Rattle.litmus_reader.specs.inner.Initial.{Initial, Given, initial_at, registers_of}
+use Rattle.litmus_reader.specs.inner.Columns.{columns_at}
+use Rattle.litmus_reader.specs.inner.Rows.{Table, table, rows_at, table_at}
+use Rattle.litmus_reader.specs.inner.Observed.{square_by, square_within, square_end, opened_at, brackets_end, brackets_tokens, in_observed}
 use Rattle.litmus_reader.specs.Places.{fault, left_of, from_place}
-use Rattle.litmus_reader.specs.Remaining.{HasTokens, after_closing, past_stop}
+use Rattle.litmus_reader.specs.inner.Remaining.{HasTokens, after_closing, past_stop}
 use Rattle.litmus_reader.proofs.GrammarTokens.{ok_is, bind_ok, or_unfit_ok}
 use Rattle.litmus_reader.proofs.GrammarGaps.{gap_within}
 use Rattle.litmus_reader.proofs.GrammarAfter.{last_further, initial_leaves, header_row_leaves, all_rows_leave}

@@ -6,10 +6,11 @@ use Rattle.std.proofs.lemmas.List.{length-drop, length-map, take-map, drop-map, 
 use Rattle.litmus_tokens.specs.declared.token.Symbol.TheVariants.{Semicolon}
 use Rattle.litmus_tokens.specs.declared.token.Stop.{Stop}
 use Rattle.litmus_tokens.specs.declared.token.Token.{Token}
-use Rattle.litmus_tokens.specs.Pieces.{Piece, piece_of, pieces}
+use Rattle.litmus_tokens.specs.Pieces.{Piece}
+use Rattle.litmus_tokens.specs.inner.Pieces.{piece_of, pieces}
 use Rattle.litmus_tokens.specs.Front.{is_symbol}
 use Rattle.litmus_reader.specs.declared.fault.Why.TheVariants.{Unclosed}
-use Rattle.litmus_reader.specs.Rows.{row_at}
+use Rattle.litmus_reader.specs.inner.Rows.{row_at}
 use Rattle.litmus_reader.proofs.Maps.{chosen, prefix_len-map}
 use Rattle.litmus_reader.specs.Places.{fault, at_stop, left_of}
 

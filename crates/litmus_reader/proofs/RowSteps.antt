@@ -6,10 +6,10 @@ use Rattle.litmus_reader.specs.declared.fault.Fault.{Fault}
 use Rattle.litmus_reader.specs.declared.fault.ReadError.{ReadError}
 use Rattle.litmus_reader.specs.declared.fault.ReadError.TheVariants as errors
 use Rattle.litmus_reader.specs.declared.cell.CoreInstr.{CoreInstr}
-use Rattle.litmus_reader.specs.Faults.{◌>>=◌, Fails}
-use Rattle.litmus_reader.specs.Initial.{Given, registers_of}
-use Rattle.litmus_reader.specs.Columns.{columns_at}
-use Rattle.litmus_reader.specs.Rows.{Rows, rows, row_at, row_in, rows_within, rows_at, table, table_at}
+use Rattle.litmus_reader.specs.inner.Faults.{◌>>=◌, Fails}
+use Rattle.litmus_reader.specs.inner.Initial.{Given, registers_of}
+use Rattle.litmus_reader.specs.inner.Columns.{columns_at}
+use Rattle.litmus_reader.specs.inner.Rows.{Rows, rows, row_at, row_in, rows_within, rows_at, table, table_at}
 use Rattle.litmus_reader.specs.Places.{left_of}
 use Rattle.litmus_reader.specs.GrammarTable.{ends_rows}
 

@@ -3,8 +3,8 @@ use Rattle.std.proofs.Common.{◌≡◌, ℕ, zero, suc, ◌<◌, false, eqb, Li
 use Rattle.litmus_tokens.specs.Gap.{gap_end}
 use Rattle.litmus_reader.specs.declared.fault.Why.TheVariants.{Unclosed}
 use Rattle.litmus_reader.specs.declared.fault.Fault.{Fault}
-use Rattle.litmus_reader.specs.Header.{from_gap}
-use Rattle.litmus_reader.specs.Observed.{square_within, square_end}
+use Rattle.litmus_reader.specs.inner.Header.{from_gap}
+use Rattle.litmus_reader.specs.inner.Observed.{square_within, square_end}
 use Rattle.litmus_reader.specs.Places.{fault}
 
 -- the total is what the rest gives, in some number of steps that is enough

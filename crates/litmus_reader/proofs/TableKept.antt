@@ -14,24 +14,23 @@ use Rattle.litmus_tokens.specs.declared.token.Stop.{Stop}
 use Rattle.litmus_tokens.specs.Pieces.{Piece}
 use Rattle.litmus_reader.specs.declared.fault.Fault.{Fault}
 use Rattle.litmus_reader.specs.declared.cell.CoreInstr.{CoreInstr}
-use Rattle.litmus_reader.specs.Faults.{◌>>=◌, or_unfit}
-use Rattle.litmus_reader.specs.Locations.{located}
-use Rattle.litmus_reader.specs.Items.{word_at}
-use Rattle.litmus_reader.specs.Forms.{spelled_in}
-use Rattle.litmus_reader.specs.Columns.{core_at, separator_at, columns, in_columns}
-use Rattle.litmus_reader.specs.Cells.{instr_of, count_of, or_bad_instruction, cell_in, cells_in}
-use Rattle.litmus_reader.specs.Rows.{row_at, counted, row_in, Rows, rows_within, rows_at, Table, table_at}
+use Rattle.litmus_reader.specs.inner.Faults.{◌>>=◌, or_unfit}
+use Rattle.litmus_reader.specs.inner.Locations.{located}
+use Rattle.litmus_reader.specs.inner.Items.{word_at}
+use Rattle.litmus_reader.specs.inner.Forms.{spelled_in}
+use Rattle.litmus_reader.specs.inner.Columns.{core_at, separator_at, columns, in_columns}
+use Rattle.litmus_reader.specs.inner.Cells.{instr_of, count_of, or_bad_instruction, cell_in, cells_in, of_core}
+use Rattle.litmus_reader.specs.inner.Rows.{row_at, counted, row_in, Rows, rows_within, rows_at, Table, table_at}
 use Rattle.litmus_reader.proofs.Keeps.{Any, ok_any, bind_keeps, cond_keeps}
 use Rattle.litmus_reader.proofs.Named.{NamedShape, IfNamed, spelled_named}
-use Rattle.litmus_reader.specs.Initial.{Given, registers_of}
+use Rattle.litmus_reader.specs.inner.Initial.{Given, registers_of}
 use Rattle.litmus_reader.proofs.InitialKept.{HasLength, all_registers_keep}
 use Rattle.litmus_reader.proofs.Known.{AreNames, Grown, same_names, LocatesIn, located_keeps, All-one}
 use Rattle.litmus_reader.specs.Places.{left_of}
 use Rattle.litmus_reader.specs.Written.{Shape, store_imm, store_reg, load, set_imm, set_reg, fence, xchg, xadd}
 use Rattle.litmus_reader.specs.GrammarTable.{ends_rows}
-use Rattle.litmus_reader.specs.Cells.{of_core}
 use Rattle.litmus_reader.specs.RefusedTable.{cells_of}
-use Rattle.litmus_reader.specs.Reading.{program_of, programs_from}
+use Rattle.litmus_reader.specs.inner.Reading.{program_of, programs_from}
 
 -- ---- the header row
 

@@ -3,7 +3,7 @@ use Rattle.std.proofs.Common.{◌≡◌, ℕ, zero, suc, ◌-◌, ◌<◌, List,
 use Rattle.litmus_tokens.specs.declared.token.Stop.{Stop}
 use Rattle.litmus_tokens.specs.Pieces.{Piece}
 use Rattle.litmus_reader.specs.declared.fault.Why.TheVariants.{TooLarge}
-use Rattle.litmus_reader.specs.Conditions.{opens_unit, atom_at, unit_by, unit_at}
+use Rattle.litmus_reader.specs.inner.Conditions.{opens_unit, atom_at, unit_by, unit_at}
 use Rattle.litmus_reader.specs.Places.{fault, left_of}
 
 pub unit_last : (stop : Stop) (cores opens atoms : ℕ) (names : List (List ℕ)) (ps : List Piece) → opens ≡ 0

@@ -17,13 +17,13 @@ use Rattle.litmus_tokens.specs.Pieces.{Piece, pieces_of}
 use Rattle.litmus_tokens.specs.Gap.{gap_end}
 use Rattle.litmus_reader.specs.declared.fault.Fault.{Fault}
 use Rattle.litmus_reader.specs.declared.cell.CoreInstr.{CoreInstr}
-use Rattle.litmus_reader.specs.Header.{sized, from_gap, judged, header_at}
-use Rattle.litmus_reader.specs.Information.{braces_at}
-use Rattle.litmus_reader.specs.Initial.{Initial, Given, initial_at}
-use Rattle.litmus_reader.specs.Rows.{Table, table_at}
-use Rattle.litmus_reader.specs.Observed.{ending_tokens}
-use Rattle.litmus_reader.specs.Conditions.{conditioned, condition_at}
-use Rattle.litmus_reader.specs.Reading.{end_at, ending_at, tail_at, test_of, body_of, reading_of}
+use Rattle.litmus_reader.specs.inner.Header.{sized, from_gap, judged, header_at}
+use Rattle.litmus_reader.specs.inner.Information.{braces_at}
+use Rattle.litmus_reader.specs.inner.Initial.{Initial, Given, initial_at}
+use Rattle.litmus_reader.specs.inner.Rows.{Table, table_at}
+use Rattle.litmus_reader.specs.inner.Observed.{ending_tokens}
+use Rattle.litmus_reader.specs.inner.Conditions.{conditioned, condition_at}
+use Rattle.litmus_reader.specs.inner.Reading.{end_at, ending_at, tail_at, test_of, body_of, reading_of, programs_from}
 use Rattle.litmus_reader.proofs.Keeps.{Any, ok_any, bind_keeps, cond_keeps, ok_is}
 use Rattle.litmus_reader.proofs.Named.{IsLocation}
 use Rattle.litmus_reader.proofs.Known.{AreNames}
@@ -31,7 +31,6 @@ use Rattle.litmus_reader.proofs.InitialKept.{KeptInitial, initial_keeps, length-
 use Rattle.litmus_reader.proofs.TableKept.{Kept, KeptTable, table_keeps, known_further, programs_fit, length-programs}
 use Rattle.litmus_reader.proofs.ClaimsKept.{KeptCondition, condition_keeps}
 use Rattle.litmus_reader.specs.GrammarText.{first_line, name_in}
-use Rattle.litmus_reader.specs.Reading.{programs_from}
 
 -- ---- names are text
 

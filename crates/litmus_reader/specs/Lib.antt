@@ -2,22 +2,6 @@ pub mod Limits
 pub mod Written
 pub mod Places
 pub mod Why
-pub mod Faults
-pub mod Header
-pub mod Information
-pub mod Keywords
-pub mod Locations
-pub mod Items
-pub mod Initial
-pub mod Columns
-pub mod Operands
-pub mod Forms
-pub mod Cells
-pub mod Rows
-pub mod Returned
-pub mod Observed
-pub mod Remaining
-pub mod Conditions
 pub mod Reading
 pub mod Grammar
 pub mod GrammarCells
@@ -39,3 +23,4 @@ pub mod RefusedConditions
 pub mod RefusedEnding
 pub mod Refusals
 pub mod Spelling
+pub mod inner

@@ -1,13 +1,13 @@
 //! Cells of a row, and the instructions that their forms say.
 
 ghost use Rattle.std.specs.Prelude.{◌≡◌, ◌<◌, ◌∷◌, length, position, IfSome};
-ghost use Rattle.litmus_tokens.specs.Pieces.{piece_of, pieces};
+ghost use Rattle.litmus_tokens.specs.inner.Pieces.{piece_of, pieces};
 ghost use Rattle.litmus_tokens.specs.Front as front;
-ghost use Rattle.litmus_reader.specs.Returned.{GivesNamed, GivesCells};
-ghost use Rattle.litmus_reader.specs.Locations.{texts};
-ghost use Rattle.litmus_reader.specs.Forms.{shape_of};
-ghost use Rattle.litmus_reader.specs.Cells as spec;
-ghost use Rattle.litmus_reader.specs.Cells.{cells_after};
+ghost use Rattle.litmus_reader.specs.inner.Returned.{GivesNamed, GivesCells};
+ghost use Rattle.litmus_reader.specs.inner.Locations.{texts};
+ghost use Rattle.litmus_reader.specs.inner.Forms.{shape_of};
+ghost use Rattle.litmus_reader.specs.inner.Cells as spec;
+ghost use Rattle.litmus_reader.specs.inner.Cells.{cells_after};
 ghost use Rattle.litmus_reader.specs.RefusedTable.{cells_of};
 
 use crate::fault::{Fault, ReadError, Why};
@@ -29,7 +29,7 @@ pub struct CoreInstr {
 /// The instruction of a form, with its location's number.
 ///
 /// `BadNumber` for a value over a word, `TooLarge` for a location too many, both at `left`.
-#[tactic(auto, unfolding(crate::specs::Cells::instr_of))]
+#[tactic(auto, unfolding(crate::specs::inner::Cells::instr_of))]
 fn instr_of<'a>(
     names: &mut IndexSet<&'a [u8]>,
     left: usize,
@@ -77,7 +77,7 @@ fn count_of(core: usize, instrs: &[CoreInstr]) -> usize
 /// Reads a core's cell: its instruction goes after the others.
 ///
 /// `BadInstruction`, then `BadNumber`, then `TooLarge`, at the cell's first token.
-#[tactic(auto, unfolding(crate::specs::Cells::cell_in))]
+#[tactic(auto, unfolding(crate::specs::inner::Cells::cell_in))]
 pub fn read_cell<'a>(
     core: usize,
     instrs: &mut Vec<CoreInstr>,

@@ -3,14 +3,15 @@
 ghost use Rattle.std.specs.Prelude.{◌≡◌, ◌≤◌, ◌<◌, ◌+◌, length, codes, Some, None, Ok, IfOk, IfSome};
 ghost use Rattle.std.specs.Option.{option_map};
 ghost use Rattle.tso_model.specs.Limits.{most_cores};
-ghost use Rattle.tso_model.specs.Condition.{claim_of, condition_of, NotClaim};
-ghost use Rattle.litmus_tokens.specs.Pieces.{pieces};
-ghost use Rattle.litmus_reader.specs.Faults.{Gives};
-ghost use Rattle.litmus_tokens.specs.Mapped.{mapped};
-ghost use Rattle.litmus_reader.specs.Locations.{texts};
-ghost use Rattle.litmus_reader.specs.Items.{setting_of};
-ghost use Rattle.litmus_reader.specs.Conditions as spec;
-ghost use Rattle.litmus_reader.specs.Returned.{GivesNamed, GivesClaim, GivesCondition};
+ghost use Rattle.tso_model.specs.Condition.{NotClaim};
+ghost use Rattle.tso_model.specs.inner.Condition.{claim_of, condition_of};
+ghost use Rattle.litmus_tokens.specs.inner.Pieces.{pieces};
+ghost use Rattle.litmus_reader.specs.inner.Faults.{Gives};
+ghost use Rattle.litmus_tokens.specs.inner.Mapped.{mapped};
+ghost use Rattle.litmus_reader.specs.inner.Locations.{texts};
+ghost use Rattle.litmus_reader.specs.inner.Items.{setting_of};
+ghost use Rattle.litmus_reader.specs.inner.Conditions as spec;
+ghost use Rattle.litmus_reader.specs.inner.Returned.{GivesNamed, GivesClaim, GivesCondition};
 
 use crate::fault::{Fault, Part, ReadError, Why, at_stop, left_of};
 use crate::item::{Item, core_of, item_at, word_at};
@@ -39,7 +40,7 @@ fn in_condition(stop: Stop) -> Part
 /// The proposition of an atom.
 ///
 /// `NoSuchCore`, then `BadNumber`, then `TooLarge` for a location too many, at `left`.
-#[tactic(auto, unfolding(crate::specs::Conditions::claim_in))]
+#[tactic(auto, unfolding(crate::specs::inner::Conditions::claim_in))]
 fn prop_of<'a>(
     cores: usize,
     left: usize,
@@ -78,7 +79,7 @@ fn count_atom(left: usize, atoms: &mut usize) -> Result<(), Fault>
 }
 
 /// Whether `true` or `false` is at the front, and the tokens after it.
-#[tactic(auto, unfolding(crate::specs::Conditions::truth_at))]
+#[tactic(auto, unfolding(crate::specs::inner::Conditions::truth_at))]
 fn truth_at<'a, 'b>(tokens: &'b [Token<'a>]) -> Option<(bool, &'b [Token<'a>])>
     ensures value { option_map (λ x. (x.0, pieces x.1.now)) result ≡ spec.truth_at (pieces tokens.now) }
     ensures shorter { IfSome result (λ x. length x.1.now < length tokens.now) }
@@ -91,7 +92,7 @@ fn truth_at<'a, 'b>(tokens: &'b [Token<'a>]) -> Option<(bool, &'b [Token<'a>])>
 }
 
 /// The atom of a register or a location at the front, and the tokens after it.
-#[tactic(auto, unfolding(crate::specs::Conditions::setting_atom))]
+#[tactic(auto, unfolding(crate::specs::inner::Conditions::setting_atom))]
 fn setting_atom<'a, 'b>(
     stop: Stop,
     cores: usize,
@@ -114,7 +115,7 @@ fn setting_atom<'a, 'b>(
 ///
 /// `BadCondition` at a token that doesn't fit; then, at the atom's first token, `NoSuchCore`,
 /// `BadNumber`, and `TooLarge` for a location or an atom too many.
-#[tactic(auto, unfolding(crate::specs::Conditions::atom_at))]
+#[tactic(auto, unfolding(crate::specs::inner::Conditions::atom_at))]
 fn atom_at<'a, 'b>(
     stop: Stop,
     cores: usize,
@@ -155,7 +156,7 @@ fn or(alloc: Global, left: Prop, right: Prop) -> Result<Prop, ReadError>
 }
 
 /// What stands after a `~` or a `not`.
-#[tactic(auto, unfolding(crate::specs::Conditions::negation_at))]
+#[tactic(auto, unfolding(crate::specs::inner::Conditions::negation_at))]
 fn after_negation<'a, 'b>(tokens: &'b [Token<'a>]) -> Option<&'b [Token<'a>]>
     ensures value { option_map (λ x. pieces x.now) result ≡ spec.negation_at (pieces tokens.now) }
     ensures shorter { IfSome result (λ x. length x.now < length tokens.now) }
@@ -167,7 +168,7 @@ fn after_negation<'a, 'b>(tokens: &'b [Token<'a>]) -> Option<&'b [Token<'a>]>
 }
 
 /// Whether a negation or a bracket begins here.
-#[tactic(auto, unfolding(crate::specs::Conditions::opens_unit))]
+#[tactic(auto, unfolding(crate::specs::inner::Conditions::opens_unit))]
 fn opens_unit(tokens: &[Token<'_>]) -> bool
     ensures { result ≡ spec.opens_unit (pieces tokens.now) }
 {
@@ -179,7 +180,7 @@ fn opens_unit(tokens: &[Token<'_>]) -> bool
 ///
 /// `TooLarge` at a negation or a bracket too many.
 #[cycle(condition)]
-#[tactic(auto, using(crate::proofs::Units::unit_last, crate::proofs::Units::unit_next), unfolding(crate::specs::Conditions::unit_by))]
+#[tactic(auto, using(crate::proofs::Units::unit_last, crate::proofs::Units::unit_next), unfolding(crate::specs::inner::Conditions::unit_by))]
 fn unit_at<'a, 'b>(
     alloc: Global,
     stop: Stop,
@@ -263,7 +264,7 @@ fn proposition_at<'a, 'b>(
 }
 
 /// The condition of this quantifier, and the tokens after it.
-#[tactic(auto, unfolding(crate::specs::Conditions::quantified))]
+#[tactic(auto, unfolding(crate::specs::inner::Conditions::quantified))]
 fn quantified<'a, 'b>(
     alloc: Global,
     stop: Stop,
@@ -283,7 +284,7 @@ fn quantified<'a, 'b>(
 /// The condition, if there is one, and the tokens after it.
 ///
 /// What stands in a condition and doesn't fit is `BadCondition`.
-#[tactic(auto, unfolding(crate::specs::Conditions::condition_at, crate::specs::Conditions::not_exists))]
+#[tactic(auto, unfolding(crate::specs::inner::Conditions::condition_at, crate::specs::inner::Conditions::not_exists))]
 pub fn condition_at<'a, 'b>(
     alloc: Global,
     stop: Stop,

@@ -2,9 +2,9 @@
 
 ghost use Rattle.std.specs.Prelude.{◌≡◌, ◌++◌, Some, codes};
 ghost use Rattle.std.specs.Fmt.{decimal};
-ghost use Rattle.litmus_tokens.specs.Pieces.{pieces};
+ghost use Rattle.litmus_tokens.specs.inner.Pieces.{pieces};
 ghost use Rattle.litmus_reader.specs.Why.{name_of};
-ghost use Rattle.litmus_reader.specs.Faults as spec;
+ghost use Rattle.litmus_reader.specs.inner.Faults as spec;
 ghost use Rattle.litmus_reader.specs.declared.fault.ReadError.TheVariants as errors;
 ghost use Rattle.litmus_reader.specs.Places as places;
 
@@ -167,10 +167,12 @@ pub fn left_of(tokens: &[Token<'_>]) -> usize
     }
 }
 
-/// Why a reading that takes memory fails.
+/// Why a text is read as no test.
 #[derive(Clone, Copy)]
 pub enum ReadError {
+    /// The allocator refused a growth; nothing is said of the text.
     NoMemory,
+    /// The text spells no test: what is at fault, and where.
     Fault(Fault),
 }
 

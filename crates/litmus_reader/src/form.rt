@@ -3,10 +3,10 @@
 ghost use Rattle.std.specs.Prelude.{◌≡◌};
 ghost use Rattle.std.specs.Option.{option_map};
 ghost use Rattle.tso_model.specs.Registers.{same_letters};
-ghost use Rattle.litmus_tokens.specs.Pieces.{pieces};
-ghost use Rattle.litmus_reader.specs.Operands.{place_of};
-ghost use Rattle.litmus_reader.specs.Forms as spec;
-ghost use Rattle.litmus_reader.specs.Forms.{shape_of};
+ghost use Rattle.litmus_tokens.specs.inner.Pieces.{pieces};
+ghost use Rattle.litmus_reader.specs.inner.Operands.{place_of};
+ghost use Rattle.litmus_reader.specs.inner.Forms as spec;
+ghost use Rattle.litmus_reader.specs.inner.Forms.{shape_of};
 
 use crate::operand::{Operand, two_operands};
 use litmus_tokens::{Token, name_at};
@@ -64,7 +64,7 @@ fn xadd_of<'a>(first: Operand<'a>, second: Operand<'a>) -> Option<Form<'a>>
 }
 
 /// What may stand after `LOCK`.
-#[tactic(auto, unfolding(crate::specs::Forms::locked_at))]
+#[tactic(auto, unfolding(crate::specs::inner::Forms::locked_at))]
 fn locked_form<'a>(tokens: &[Token<'a>]) -> Option<Form<'a>>
     ensures { option_map shape_of result ≡ spec.locked_at (pieces tokens.now) }
 {
@@ -81,7 +81,7 @@ fn locked_form<'a>(tokens: &[Token<'a>]) -> Option<Form<'a>>
 }
 
 /// The instruction that a whole cell spells.
-#[tactic(auto, unfolding(crate::specs::Forms::spelled_in))]
+#[tactic(auto, unfolding(crate::specs::inner::Forms::spelled_in))]
 pub fn form_of<'a>(cell: &[Token<'a>]) -> Option<Form<'a>>
     ensures { option_map shape_of result ≡ spec.spelled_in (pieces cell.now) }
 {

@@ -1,16 +1,16 @@
 //! The initial state: its items, and the first words that they give.
 
-ghost use Rattle.litmus_tokens.specs.Pieces.{pieces};
+ghost use Rattle.litmus_tokens.specs.inner.Pieces.{pieces};
 ghost use Rattle.std.specs.Prelude.{◌≡◌, ◌≤◌, ◌<◌, ◌++◌, ◌∷◌, [], false, length, map, replicate, IfOk, OnOk};
 ghost use Rattle.std.specs.List.{list_any};
 ghost use Rattle.tso_model.specs.Limits.{most_cores};
-ghost use Rattle.litmus_reader.specs.Faults.{Gives};
-ghost use Rattle.litmus_tokens.specs.Mapped.{mapped};
-ghost use Rattle.litmus_reader.specs.Locations.{texts};
-ghost use Rattle.litmus_reader.specs.Items.{setting_of};
-ghost use Rattle.litmus_reader.specs.Initial as spec;
-ghost use Rattle.litmus_reader.specs.Initial.{given_of, KnowsGiven};
-ghost use Rattle.litmus_reader.specs.Returned.{GivesJudged, GivesItem, GivesInitial, so_far};
+ghost use Rattle.litmus_reader.specs.inner.Faults.{Gives};
+ghost use Rattle.litmus_tokens.specs.inner.Mapped.{mapped};
+ghost use Rattle.litmus_reader.specs.inner.Locations.{texts};
+ghost use Rattle.litmus_reader.specs.inner.Items.{setting_of};
+ghost use Rattle.litmus_reader.specs.inner.Initial as spec;
+ghost use Rattle.litmus_reader.specs.inner.Initial.{given_of, KnowsGiven};
+ghost use Rattle.litmus_reader.specs.inner.Returned.{GivesJudged, GivesItem, GivesInitial, so_far};
 ghost use Rattle.litmus_reader.specs.Places as places;
 
 use crate::fault::{Fault, Part, ReadError, Why, at_stop, left_of};
@@ -96,7 +96,7 @@ fn note_register<'a>(state: &mut Initial<'a>, word: RegisterWord<'a>) -> Result<
 /// Notes an item whose first token stands at `left`.
 ///
 /// `BadNumber`, then `TooLarge` for a location too many, then `TwiceInit`, all at `left`.
-#[tactic(auto, using(crate::proofs::Listed::judged_twice, crate::proofs::Listed::judged_new), unfolding(crate::specs::Initial::judged))]
+#[tactic(auto, using(crate::proofs::Listed::judged_twice, crate::proofs::Listed::judged_new), unfolding(crate::specs::inner::Initial::judged))]
 fn note_item<'a>(
     left: usize,
     state: &mut Initial<'a>,
@@ -137,7 +137,7 @@ fn note_item<'a>(
     Ok(())
 }
 
-#[tactic(auto, unfolding(crate::specs::Initial::ends_item))]
+#[tactic(auto, unfolding(crate::specs::inner::Initial::ends_item))]
 fn ends_item(tokens: &[Token<'_>]) -> bool
     ensures { result ≡ spec.ends_item (pieces tokens.now) }
 {
@@ -150,7 +150,7 @@ fn ends_item(tokens: &[Token<'_>]) -> bool
 }
 
 /// Reads the item at the front, and answers the tokens from its `;` or `}` on.
-#[tactic(auto, unfolding(crate::specs::Initial::item_in))]
+#[tactic(auto, unfolding(crate::specs::inner::Initial::item_in))]
 fn read_item<'a, 'b>(
     part: Part,
     state: &mut Initial<'a>,
@@ -171,7 +171,7 @@ fn read_item<'a, 'b>(
 }
 
 /// Reads the `;` or the item at the front, and answers the tokens after it.
-#[tactic(auto, unfolding(crate::specs::Initial::step_in))]
+#[tactic(auto, unfolding(crate::specs::inner::Initial::step_in))]
 fn read_step<'a, 'b>(
     part: Part,
     state: &mut Initial<'a>,

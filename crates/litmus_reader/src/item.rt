@@ -4,10 +4,10 @@ ghost use Rattle.std.specs.Prelude.{◌≡◌, ◌<◌, ◌≤◌, length, None,
 ghost use Rattle.std.specs.Option.{option_map};
 ghost use Rattle.tso_model.specs.Limits.{most_cores};
 ghost use Rattle.decimals.specs.Decimals.{decimal_value};
-ghost use Rattle.litmus_tokens.specs.Pieces.{pieces};
-ghost use Rattle.litmus_tokens.specs.Mapped.{mapped};
-ghost use Rattle.litmus_reader.specs.Items as spec;
-ghost use Rattle.litmus_reader.specs.Items.{setting_of};
+ghost use Rattle.litmus_tokens.specs.inner.Pieces.{pieces};
+ghost use Rattle.litmus_tokens.specs.inner.Mapped.{mapped};
+ghost use Rattle.litmus_reader.specs.inner.Items as spec;
+ghost use Rattle.litmus_reader.specs.inner.Items.{setting_of};
 
 use crate::fault::{Fault, Part, Why};
 use litmus_tokens::{Symbol, Token, after_symbol, name_at, number_at, word};
@@ -23,7 +23,7 @@ pub enum Item<'a> {
 }
 
 /// The name of a location at the front, and the tokens after it.
-#[tactic(auto, unfolding(crate::specs::Items::location_at))]
+#[tactic(auto, unfolding(crate::specs::inner::Items::location_at))]
 pub fn location_at<'a, 'b>(tokens: &'b [Token<'a>]) -> Option<(&'a [u8], &'b [Token<'a>])>
     ensures value { option_map (λ x. (x.0.now, pieces x.1.now)) result ≡ spec.location_at (pieces tokens.now) }
     ensures shorter { IfSome result (λ x. length x.1.now < length tokens.now) }
@@ -37,7 +37,7 @@ pub fn location_at<'a, 'b>(tokens: &'b [Token<'a>]) -> Option<(&'a [u8], &'b [To
 }
 
 /// The register whose name is at the front, and the tokens after it.
-#[tactic(auto, unfolding(crate::specs::Items::register_at))]
+#[tactic(auto, unfolding(crate::specs::inner::Items::register_at))]
 pub fn register_at<'a, 'b>(tokens: &'b [Token<'a>]) -> Option<(Reg, &'b [Token<'a>])>
     ensures value { option_map (λ x. (x.0, pieces x.1.now)) result ≡ spec.register_at (pieces tokens.now) }
     ensures shorter { IfSome result (λ x. length x.1.now < length tokens.now) }
@@ -48,7 +48,7 @@ pub fn register_at<'a, 'b>(tokens: &'b [Token<'a>]) -> Option<(Reg, &'b [Token<'
 }
 
 /// `=v`: the digits of the value, and the tokens after them.
-#[tactic(auto, unfolding(crate::specs::Items::value_at))]
+#[tactic(auto, unfolding(crate::specs::inner::Items::value_at))]
 fn value_at<'a, 'b>(
     part: Part,
     tokens: &'b [Token<'a>],
@@ -60,7 +60,7 @@ fn value_at<'a, 'b>(
     part.expect(rest, number_at(rest))
 }
 
-#[tactic(auto, unfolding(crate::specs::Items::register_setting))]
+#[tactic(auto, unfolding(crate::specs::inner::Items::register_setting))]
 fn register_item<'a, 'b>(
     part: Part,
     core: &'a [u8],
@@ -75,7 +75,7 @@ fn register_item<'a, 'b>(
     Ok((Item::Register(core, reg, value), rest))
 }
 
-#[tactic(auto, unfolding(crate::specs::Items::square_setting))]
+#[tactic(auto, unfolding(crate::specs::inner::Items::square_setting))]
 fn square_item<'a, 'b>(
     part: Part,
     tokens: &'b [Token<'a>],
@@ -89,7 +89,7 @@ fn square_item<'a, 'b>(
     Ok((Item::Location(name, value), rest))
 }
 
-#[tactic(auto, unfolding(crate::specs::Items::plain_setting))]
+#[tactic(auto, unfolding(crate::specs::inner::Items::plain_setting))]
 fn plain_item<'a, 'b>(
     part: Part,
     tokens: &'b [Token<'a>],
@@ -105,7 +105,7 @@ fn plain_item<'a, 'b>(
 /// `c:REG=v`, `[x]=v` or `x=v` at the front, and the tokens after it.
 ///
 /// What doesn't fit is refused as `part` says.
-#[tactic(auto, unfolding(crate::specs::Items::setting_at))]
+#[tactic(auto, unfolding(crate::specs::inner::Items::setting_at))]
 pub fn item_at<'a, 'b>(
     part: Part,
     tokens: &'b [Token<'a>],

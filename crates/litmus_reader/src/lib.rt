@@ -25,7 +25,7 @@ mod reader;
 mod row;
 mod test_parts;
 
-pub use fault::{Fault, TextFault, Why};
+pub use fault::{Fault, ReadError, TextFault, Why};
 pub use laws::texts_are_decided;
 pub use limits::{MAX_OPEN, MAX_TEST_NAME, MAX_TEXT, limits_are_as_defined};
-pub use reader::{fault_in, read_test};
+pub use reader::{read_test, refusal_for, test_or_fault};

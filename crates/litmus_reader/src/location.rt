@@ -1,9 +1,9 @@
 //! Locations by their names, each with its number.
 
 ghost use Rattle.std.specs.Prelude.{◌≡◌, OnOk};
-ghost use Rattle.litmus_reader.specs.Faults.{Gives};
-ghost use Rattle.litmus_reader.specs.Locations as spec;
-ghost use Rattle.litmus_reader.specs.Locations.{texts};
+ghost use Rattle.litmus_reader.specs.inner.Faults.{Gives};
+ghost use Rattle.litmus_reader.specs.inner.Locations as spec;
+ghost use Rattle.litmus_reader.specs.inner.Locations.{texts};
 ghost use Rattle.litmus_reader.specs.GrammarNames as grammar;
 
 use crate::fault::{Fault, ReadError, Why};
@@ -32,7 +32,7 @@ fn note<'a>(names: &mut IndexSet<&'a [u8]>, name: &'a [u8]) -> Result<(), NoMemo
 /// The location of a name, which is put after the other names where it is new.
 ///
 /// `TooLarge` at `left` for one location too many.
-#[tactic(auto, unfolding(crate::specs::Locations::located))]
+#[tactic(auto, unfolding(crate::specs::inner::Locations::located))]
 pub fn located<'a>(
     names: &mut IndexSet<&'a [u8]>,
     left: usize,

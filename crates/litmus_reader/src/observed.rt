@@ -2,11 +2,11 @@
 
 ghost use Rattle.std.specs.Prelude.{◌≡◌, codes};
 ghost use Rattle.std.specs.Option.{option_map};
-ghost use Rattle.litmus_tokens.specs.Pieces.{pieces};
-ghost use Rattle.litmus_tokens.specs.Mapped.{mapped};
-ghost use Rattle.litmus_reader.specs.Observed as spec;
-ghost use Rattle.litmus_reader.specs.Remaining as remaining;
-ghost use Rattle.litmus_reader.specs.Remaining.{HasTokens, tokens_in};
+ghost use Rattle.litmus_tokens.specs.inner.Pieces.{pieces};
+ghost use Rattle.litmus_tokens.specs.inner.Mapped.{mapped};
+ghost use Rattle.litmus_reader.specs.inner.Observed as spec;
+ghost use Rattle.litmus_reader.specs.inner.Remaining as remaining;
+ghost use Rattle.litmus_reader.specs.inner.Remaining.{HasTokens, tokens_in};
 ghost use Rattle.litmus_reader.specs.Places as places;
 
 use crate::cell::place_of;
@@ -122,7 +122,7 @@ fn after_brackets<'a, 'b>(
 ///
 /// `BadToken` where no `[` stands after the word, `Unclosed` at a `[` that doesn't end and at a
 /// comment that doesn't.
-#[tactic(auto, unfolding(crate::specs::Observed::ending_tokens))]
+#[tactic(auto, unfolding(crate::specs::inner::Observed::ending_tokens))]
 pub fn after_observed<'a, 'b>(
     text: &'a [u8],
     stop: Stop,

@@ -2,9 +2,9 @@
 
 ghost use Rattle.std.specs.Prelude.{◌≡◌};
 ghost use Rattle.std.specs.Option.{option_map};
-ghost use Rattle.litmus_tokens.specs.Pieces.{pieces};
-ghost use Rattle.litmus_reader.specs.Operands as spec;
-ghost use Rattle.litmus_reader.specs.Operands.{place_of};
+ghost use Rattle.litmus_tokens.specs.inner.Pieces.{pieces};
+ghost use Rattle.litmus_reader.specs.inner.Operands as spec;
+ghost use Rattle.litmus_reader.specs.inner.Operands.{place_of};
 
 use crate::item::{location_at, register_at};
 use litmus_tokens::{Symbol, Token, after_symbol, number_at};
@@ -19,7 +19,7 @@ pub enum Operand<'a> {
 }
 
 /// The operand at the front, and the tokens after it.
-#[tactic(auto, unfolding(crate::specs::Operands::operand_at))]
+#[tactic(auto, unfolding(crate::specs::inner::Operands::operand_at))]
 pub fn operand_at<'a, 'b>(tokens: &'b [Token<'a>]) -> Option<(Operand<'a>, &'b [Token<'a>])>
     ensures { option_map (λ x. (place_of x.0, pieces x.1.now)) result ≡ spec.operand_at (pieces tokens.now) }
 {
@@ -40,7 +40,7 @@ pub fn operand_at<'a, 'b>(tokens: &'b [Token<'a>]) -> Option<(Operand<'a>, &'b [
 }
 
 /// Two operands with a comma between them, and nothing more.
-#[tactic(auto, unfolding(crate::specs::Operands::two_operands))]
+#[tactic(auto, unfolding(crate::specs::inner::Operands::two_operands))]
 pub fn two_operands<'a>(tokens: &[Token<'a>]) -> Option<(Operand<'a>, Operand<'a>)>
     ensures { option_map (λ x. (place_of x.0, place_of x.1)) result ≡ spec.two_operands (pieces tokens.now) }
 {

@@ -1,6 +1,6 @@
 //! Whole texts: the parts of a test one after the other, and the first fault.
 
-ghost use Rattle.std.specs.Prelude.{◌≡◌, ◌≢◌, ◌≤◌, Some, Ok, IfOk, IfErr, IfSome, MatchResult, IsTrue};
+ghost use Rattle.std.specs.Prelude.{◌≡◌, ◌≢◌, ◌≤◌, Ok, Err, IfOk, IfErr, MatchResult, IsTrue};
 ghost use Rattle.std.specs.Option.{option_map};
 ghost use Rattle.std.specs.Str.{IsUtf8};
 ghost use Rattle.tso_model.specs.Limits.{most_cores};
@@ -8,16 +8,16 @@ ghost use Rattle.tso_model.specs.Litmus.{Litmus, IsTest};
 ghost use Rattle.litmus_reader.specs.declared.fault.Fault.{Fault};
 ghost use Rattle.litmus_reader.specs.declared.fault.TextFault.{TextFault};
 ghost use Rattle.litmus_reader.specs.Refusals.{IsFault};
-ghost use Rattle.tso_model.specs.Condition.{condition_of};
-ghost use Rattle.tso_model.specs.LitmusParts.{litmus_of};
-ghost use Rattle.litmus_tokens.specs.Pieces.{pieces};
-ghost use Rattle.litmus_reader.specs.Faults.{Gives};
-ghost use Rattle.litmus_tokens.specs.Mapped.{mapped};
-ghost use Rattle.litmus_reader.specs.Locations.{texts};
-ghost use Rattle.litmus_reader.specs.Reading as spec;
+ghost use Rattle.tso_model.specs.inner.Condition.{condition_of};
+ghost use Rattle.tso_model.specs.inner.LitmusParts.{litmus_of};
+ghost use Rattle.litmus_tokens.specs.inner.Pieces.{pieces};
+ghost use Rattle.litmus_reader.specs.inner.Faults.{Gives};
+ghost use Rattle.litmus_tokens.specs.inner.Mapped.{mapped};
+ghost use Rattle.litmus_reader.specs.inner.Locations.{texts};
+ghost use Rattle.litmus_reader.specs.inner.Reading as spec;
 ghost use Rattle.litmus_reader.specs.Reading.{refusal};
-ghost use Rattle.litmus_reader.specs.Remaining.{HasTokens};
-ghost use Rattle.litmus_reader.specs.Returned.{GivesEnding, IsUnlessMemory};
+ghost use Rattle.litmus_reader.specs.inner.Remaining.{HasTokens};
+ghost use Rattle.litmus_reader.specs.inner.Returned.{GivesEnding, IsUnlessMemory};
 ghost use Rattle.litmus_reader.specs.Spelling.{SpellsTest, IsRefused};
 
 use crate::condition::condition_at;
@@ -35,7 +35,7 @@ use std::alloc::Global;
 use tso_model::{Cond, NoMemory, Test, TestParts};
 
 /// The end of the text has to follow.
-#[tactic(auto, unfolding(crate::specs::Reading::end_at))]
+#[tactic(auto, unfolding(crate::specs::inner::Reading::end_at))]
 fn end_at(stop: Stop, tokens: &[Token<'_>]) -> Result<(), Fault>
     ensures { result ≡ spec.end_at stop (pieces tokens.now) }
 {
@@ -59,7 +59,7 @@ fn end_at(stop: Stop, tokens: &[Token<'_>]) -> Result<(), Fault>
 }
 
 /// The condition, if there is one; the end of the text has to follow.
-#[tactic(auto, unfolding(crate::specs::Reading::ending_at))]
+#[tactic(auto, unfolding(crate::specs::inner::Reading::ending_at))]
 fn ending_at<'a>(
     alloc: Global,
     stop: Stop,
@@ -77,7 +77,7 @@ fn ending_at<'a>(
 
 /// What stands after the rows: `locations [..]`, the condition and the end. The tokens are ones of
 /// this text's end, and are not made anew.
-#[tactic(auto, unfolding(crate::specs::Reading::tail_at))]
+#[tactic(auto, unfolding(crate::specs::inner::Reading::tail_at))]
 fn tail_at<'a>(
     alloc: Global,
     text: &'a [u8],
@@ -100,7 +100,7 @@ fn tail_at<'a>(
 }
 
 /// The initial state, the table and what stands after it.
-#[tactic(auto, using(crate::proofs::Within::names_are_text), unfolding(crate::specs::Reading::body_of))]
+#[tactic(auto, using(crate::proofs::Within::names_are_text), unfolding(crate::specs::inner::Reading::body_of))]
 fn body_of<'a>(
     alloc: Global,
     name: &[u8],
@@ -129,7 +129,7 @@ fn body_of<'a>(
 }
 
 /// The parts of the test that the text spells.
-#[tactic(auto, using(crate::proofs::Within::name_is_text, crate::proofs::Lexed::all_tokens), unfolding(crate::specs::Reading::reading_of))]
+#[tactic(auto, using(crate::proofs::Within::name_is_text, crate::proofs::Lexed::all_tokens), unfolding(crate::specs::inner::Reading::reading_of))]
 fn read_parts(alloc: Global, text: &[u8]) -> Result<TestParts, ReadError>
     ensures { Gives (λ parts. litmus_of parts) result (spec.reading_of text.now) }
 {
@@ -157,40 +157,47 @@ pub fn read_test(alloc: Global, text: &[u8]) -> Result<Test, TextFault>
 {
     texts_are_read_as_they_are_spelled();
     texts_are_refused_as_they_are_read();
+    with_line(text, read_whole(alloc, text))
+}
+
+/// The test that a text spells, or what is at fault in it, with its place: what [`read_test`] refuses the
+/// text for, on the line of that place.
+///
+/// Out of memory aside, a text that spells no test is refused, and no other text is.
+pub fn test_or_fault(alloc: Global, text: &[u8]) -> Result<Test, ReadError>
+    ensures found { IfOk result (λ test. SpellsTest text.now test) }
+    ensures only { (t : Litmus) → SpellsTest text.now t → MatchResult result (λ test. test ≡ t) (λ e. e ≡ ReadError.NoMemory) }
+    // What is answered is at fault, and a text in which something is at fault is answered with it.
+    ensures fault { (fault : Fault) → result ≡ Err (ReadError.Fault fault) → IsFault text.now fault }
+    ensures faults { (fault : Fault) → IsFault text.now fault
+        → MatchResult result (λ _. ⊥) (λ e. e ≢ ReadError.NoMemory → e ≡ ReadError.Fault fault) }
+{
+    texts_are_read_as_they_are_spelled();
+    texts_are_refused_as_they_are_read();
     read_whole(alloc, text)
 }
 
-/// What is at fault in a text, with its place: what [`read_test`] refuses the text for, on the line of
-/// that place. `None` where the text spells a test.
-///
-/// Fails only where it is out of memory.
-pub fn fault_in(alloc: Global, text: &[u8]) -> Result<Option<Fault>, NoMemory>
-    // What is answered is at fault, and what is at fault is answered.
-    ensures found { IfOk result (λ found. IfSome found (λ fault. IsFault text.now fault)) }
-    ensures only { (fault : Fault) → IsFault text.now fault → IfOk result (λ found. found ≡ Some fault) }
+#[tactic(auto, using(crate::proofs::Within::spelled_is_test))]
+fn read_whole(alloc: Global, text: &[u8]) -> Result<Test, ReadError>
+    ensures { Gives (λ test. test) result (spec.reading_of text.now) }
 {
-    texts_are_refused_as_they_are_read();
-    match read_parts(alloc, text) {
-        Ok(_) => Ok(None),
-        Err(ReadError::Fault(fault)) => Ok(Some(fault)),
-        Err(ReadError::NoMemory) => Err(NoMemory),
-    }
+    texts_are_read_as_they_are_spelled();
+    let parts = read_parts(alloc, text)?;
+    Ok(Test::new(parts).unwrap())
 }
 
-#[tactic(auto, using(crate::proofs::Within::spelled_is_test), unfolding(crate::specs::Reading::refusal_of))]
-fn read_whole(alloc: Global, text: &[u8]) -> Result<Test, TextFault>
+/// What a reading of a text answers, with the line of a refusal.
+#[tactic(auto, unfolding(crate::specs::inner::Reading::refusal_of))]
+fn with_line(text: &[u8], read: Result<Test, ReadError>) -> Result<Test, TextFault>
+    requires { Gives (λ test. test) read (spec.reading_of text.now) }
     ensures found { IfOk result (λ test. spec.reading_of text.now ≡ Ok test) }
     ensures only { (t : Litmus) → spec.reading_of text.now ≡ Ok t → MatchResult result (λ test. test ≡ t) (λ f. f.why ≡ Why.NoMemory) }
     ensures refused { IfErr result (λ f. f.why ≢ Why.NoMemory → spec.refusal_of text.now ≡ Some f) }
     ensures refuses { (fault : TextFault) → spec.refusal_of text.now ≡ Some fault → MatchResult result (λ _. ⊥) (IsUnlessMemory fault) }
     ensures no_memory { IfErr result (λ f. f.why ≡ Why.NoMemory → f.line ≡ 0) }
 {
-    texts_are_read_as_they_are_spelled();
-    match read_parts(alloc, text) {
-        Ok(parts) => {
-            let test = Test::new(parts).unwrap();
-            Ok(test)
-        }
+    match read {
+        Ok(test) => Ok(test),
         Err(ReadError::NoMemory) => Err(TextFault {
             line: 0,
             why: Why::NoMemory,
@@ -199,8 +206,8 @@ fn read_whole(alloc: Global, text: &[u8]) -> Result<Test, TextFault>
     }
 }
 
-/// The refusal for a fault, with the line of its place; out of memory stands at no line.
-fn refusal_for(text: &[u8], fault: Fault) -> TextFault
+/// The refusal for a fault of a text, with the line of its place; out of memory stands at no line.
+pub fn refusal_for(text: &[u8], fault: Fault) -> TextFault
     ensures refusal { fault.why ≢ Why.NoMemory → result ≡ refusal text.now fault }
     ensures why { result.why ≡ fault.why }
     ensures no_memory { result.why ≡ Why.NoMemory → result.line ≡ 0 }

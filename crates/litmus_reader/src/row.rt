@@ -2,13 +2,13 @@
 
 ghost use Rattle.std.specs.Prelude.{◌≡◌, ◌<◌, ◌≤◌, length, map, IfOk};
 ghost use Rattle.tso_model.specs.Limits.{most_cores};
-ghost use Rattle.litmus_tokens.specs.Pieces.{pieces};
-ghost use Rattle.litmus_tokens.specs.Terms.{term_of};
-ghost use Rattle.litmus_tokens.specs.Mapped.{mapped};
-ghost use Rattle.litmus_reader.specs.Locations.{texts};
-ghost use Rattle.litmus_reader.specs.Initial.{given_of};
-ghost use Rattle.litmus_reader.specs.Rows as spec;
-ghost use Rattle.litmus_reader.specs.Returned.{GivesCells, GivesTable};
+ghost use Rattle.litmus_tokens.specs.inner.Pieces.{pieces};
+ghost use Rattle.litmus_tokens.specs.inner.Terms.{term_of};
+ghost use Rattle.litmus_tokens.specs.inner.Mapped.{mapped};
+ghost use Rattle.litmus_reader.specs.inner.Locations.{texts};
+ghost use Rattle.litmus_reader.specs.inner.Initial.{given_of};
+ghost use Rattle.litmus_reader.specs.inner.Rows as spec;
+ghost use Rattle.litmus_reader.specs.inner.Returned.{GivesCells, GivesTable};
 ghost use Rattle.litmus_reader.specs.Places.{left_of};
 ghost use Rattle.litmus_reader.specs.RefusedTable as refused;
 ghost use Rattle.litmus_reader.specs.GrammarTable as grammar;
@@ -53,7 +53,7 @@ fn cell_count(row: &[Token<'_>]) -> usize
 /// Reads a row whose first token stands at `left`.
 ///
 /// `WrongCells` at `left` where it hasn't a cell for each core, and then what its cells refuse.
-#[tactic(auto, unfolding(crate::specs::Rows::row_in))]
+#[tactic(auto, unfolding(crate::specs::inner::Rows::row_in))]
 fn read_row<'a>(
     cores: usize,
     left: usize,

@@ -1,7 +1,8 @@
 -- A comment's end, and the gap after it.
 use Rattle.std.proofs.Common.{◌≡◌, ℕ, Bool, true, false, cond, eqb, ◌&&◌, List, [], ◌∷◌, length, Some, None, Err, refl, sym, ap, inl, inr, ◌⊎◌}
 use Rattle.litmus_tokens.specs.declared.token.Stop.TheVariants.{Unclosed}
-use Rattle.litmus_tokens.specs.Gap.{is_space, comment_end, gap_end}
+use Rattle.litmus_tokens.specs.Gap.{is_space, gap_end}
+use Rattle.litmus_tokens.specs.inner.Gap.{comment_end}
 
 -- which way a test went
 pub chosen : {A : Type 0} (b : Bool) (x y z : A) → cond b x y ≡ z → ((b ≡ true) × (x ≡ z)) ⊎ ((b ≡ false) × (y ≡ z))

@@ -7,7 +7,7 @@ use Rattle.std.proofs.lemmas.Slice.Eq.{bytes_eq-Decides}
 use Rattle.litmus_tokens.specs.declared.token.Symbol.{Symbol}
 use Rattle.litmus_tokens.specs.declared.token.Symbol.TheVariants.{Equals, Semicolon, Colon, OpenSquare, CloseSquare, OpenCurly, CloseCurly, Bar, Comma, Dollar, Tilde, OpenRound, CloseRound, And, Or}
 use Rattle.litmus_tokens.specs.Terms.{spelling_of, symbols, symbol_among, symbol_of}
-use Rattle.litmus_tokens.specs.SymbolSteps.{single, wedge_at, single_or}
+use Rattle.litmus_tokens.specs.inner.SymbolSteps.{single, wedge_at, single_or}
 
 turned : (a b : ℕ) → nat_eq a b ≡ eqb b a
 turned a b = grind (arith, nat_tests)

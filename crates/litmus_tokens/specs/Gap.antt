@@ -1,7 +1,6 @@
 -- White space and comments.
-use Rattle.std.specs.Prelude.{◌≡◌, ◌<◌, ℕ, Bool, List, [], ◌∷◌, length, Option, Some, None, Result}
-use Rattle.std.specs.Prelude.{Ok, Err, ◌==◌, ◌&&◌, ◌||◌, if◌then◌else◌}
-use denote.Ref.{Bor}
+use Rattle.std.specs.Prelude.{ℕ, Bool, List, [], ◌∷◌, length, Option, Some, None, Result, Ok, Err, ◌==◌, ◌&&◌, ◌||◌}
+use Rattle.std.specs.Prelude.{if◌then◌else◌}
 use Rattle.litmus_tokens.specs.declared.token.Stop.{Stop}
 use Rattle.litmus_tokens.specs.declared.token.Stop.TheVariants.{Unclosed}
 
@@ -17,12 +16,6 @@ opens_comment b c = (b == 40) && (c == 42)
 abbrev pub closes_comment : ℕ → ℕ → Bool
 closes_comment b c = (b == 42) && (c == 41)
 
--- what stands after the first `*)`
-unfoldable pub comment_end : List ℕ → Option (List ℕ)
-comment_end [] = None
-comment_end (b ∷ []) = None
-comment_end (b ∷ c ∷ bs) = if closes_comment b c then Some bs else comment_end (c ∷ bs)
-
 -- What stands after white space and comments. A comment begins with `(*`, ends with the first `*)` after these two
 -- bytes, and has no comments in it. Inside one the number says how many bytes of the text stand from its `(*` on.
 unfoldable pub gap_end : Option ℕ → List ℕ → Result (List ℕ) Stop
@@ -35,9 +28,3 @@ gap_end None (b ∷ c ∷ bs) =
 gap_end (Some opener) [] = Err (Unclosed opener)
 gap_end (Some opener) (b ∷ []) = Err (Unclosed opener)
 gap_end (Some opener) (b ∷ c ∷ bs) = if closes_comment b c then gap_end None bs else gap_end (Some opener) (c ∷ bs)
-
--- One step over a gap from some bytes, whose whole gap is total: to a shorter rest with the same end, to nothing more, or to a stop.
-abbrev pub Steps : Result (Option (Bor (List ℕ))) Stop → List ℕ → Result (List ℕ) Stop → Type 0
-Steps (Ok (Some after)) bytes total = (total ≡ gap_end None after.now) × (length after.now < length bytes)
-Steps (Ok None) bytes total = total ≡ Ok bytes
-Steps (Err stop) bytes total = total ≡ Err stop

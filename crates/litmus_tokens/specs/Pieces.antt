@@ -1,21 +1,14 @@
 -- The tokens of a text with their places, and why there are no more.
-use Rattle.std.specs.Prelude.{ℕ, zero, suc, List, [], ◌∷◌, length, map, None, Result, Ok, Err}
+use Rattle.std.specs.Prelude.{ℕ, zero, suc, List, [], ◌∷◌, length, None, Result, Ok, Err}
 use Rattle.litmus_tokens.specs.declared.token.Stop.{Stop}
 use Rattle.litmus_tokens.specs.declared.token.Stop.TheVariants.{End}
-use Rattle.litmus_tokens.specs.declared.token.Token.{Token}
 use Rattle.litmus_tokens.specs.Gap.{gap_end}
-use Rattle.litmus_tokens.specs.Terms.{Term, term_of, term_at}
+use Rattle.litmus_tokens.specs.Terms.{Term, term_at}
 
 -- a token, and how many bytes of the text stand from its first byte on
 pub record Piece : Type 0 where
   pub left : ℕ
   pub term : Term
-
-abbrev pub piece_of : Token → Piece
-piece_of t = record { left = t.left; term = term_of t.lexeme }
-
-abbrev pub pieces : List Token → List Piece
-pieces tokens = map piece_of tokens
 
 infixl 10 ◌>>=◌
 abbrev pub ◌>>=◌ : {A B : Type 0} → Result A Stop → (A → Result B Stop) → Result B Stop

@@ -1,6 +1,6 @@
 -- Single tokens: numbers, names and symbols.
-use Rattle.std.specs.Prelude.{ℕ, ◌^◌, Bool, List, [], ◌∷◌, length, take, drop, Option, Some, None, Result, Ok, Err, nat_lt, nat_eq}
-use Rattle.std.specs.Prelude.{codes, ◌==◌, if◌then◌else◌}
+use Rattle.std.specs.Prelude.{ℕ, ◌^◌, Bool, List, [], ◌∷◌, length, take, drop, Option, Some, None, Result, Ok, Err}
+use Rattle.std.specs.Prelude.{nat_lt, nat_eq, codes, ◌==◌, if◌then◌else◌}
 use Rattle.std.specs.List.{prefix_len, starts_with}
 use Rattle.std.specs.Char.{is_ascii_digit}
 use Rattle.tso_model.specs.Limits.{longest_name}
@@ -8,10 +8,9 @@ use Rattle.tso_model.specs.Names.{begins_name, continues_name}
 use Rattle.litmus_tokens.specs.declared.token.Stop.{Stop}
 use Rattle.litmus_tokens.specs.declared.token.Stop.TheVariants.{End, BadToken}
 use Rattle.litmus_tokens.specs.declared.token.Symbol.{Symbol}
-use Rattle.litmus_tokens.specs.declared.token.Symbol.TheVariants.{Equals, Semicolon, Colon, OpenSquare, CloseSquare, OpenCurly, CloseCurly}
-use Rattle.litmus_tokens.specs.declared.token.Symbol.TheVariants.{Bar, Comma, Dollar, Tilde, OpenRound, CloseRound, And, Or}
-use Rattle.litmus_tokens.specs.declared.token.Lexeme.{Lexeme}
-use Rattle.litmus_tokens.specs.declared.token.Lexeme.TheVariants as code
+use Rattle.litmus_tokens.specs.declared.token.Symbol.TheVariants.{Equals, Semicolon, Colon, OpenSquare, CloseSquare}
+use Rattle.litmus_tokens.specs.declared.token.Symbol.TheVariants.{OpenCurly, CloseCurly, Bar, Comma, Dollar, Tilde}
+use Rattle.litmus_tokens.specs.declared.token.Symbol.TheVariants.{OpenRound, CloseRound, And, Or}
 
 -- A token without its place. A number is of any size, and is its digits without leading zeros: equal numbers have equal
 -- digits.
@@ -27,12 +26,6 @@ without_zeros digits = drop (prefix_len (λ d. d == 48) digits) digits
 -- the number, if a word has room for it
 abbrev pub word_of : ℕ → Option ℕ
 word_of n = if nat_lt n (2 ^ 32) then Some n else None
-
--- what a lexeme of the code says
-abbrev pub term_of : Lexeme → Term
-term_of (code.Number digits) = number digits.now
-term_of (code.Name bytes) = name bytes.now
-term_of (code.Symbol s) = symbol s
 
 -- how each symbol is spelled; no spelling is the beginning of another
 abbrev pub spelling_of : Symbol → List ℕ

@@ -3,8 +3,9 @@
 ghost use Rattle.std.specs.Prelude.{◌≡◌, ◌≤◌, ◌<◌, length, None, IfOk, IfSome};
 ghost use Rattle.std.specs.Option.{option_map};
 ghost use Rattle.litmus_tokens.specs.Gap as gap;
-ghost use Rattle.litmus_tokens.specs.Gap.{gap_end, comment_end, Steps};
-ghost use Rattle.litmus_tokens.specs.Mapped.{mapped};
+ghost use Rattle.litmus_tokens.specs.Gap.{gap_end};
+ghost use Rattle.litmus_tokens.specs.inner.Gap.{comment_end, Steps};
+ghost use Rattle.litmus_tokens.specs.inner.Mapped.{mapped};
 
 use crate::token::Stop;
 
@@ -16,7 +17,7 @@ fn is_space(byte: u8) -> bool
 }
 
 /// What stands after the first `*)`.
-#[tactic(auto, unfolding(crate::specs::Gap::comment_end))]
+#[tactic(auto, unfolding(crate::specs::inner::Gap::comment_end))]
 fn after_comment(bytes: &[u8]) -> Option<&[u8]>
     ensures value { option_map (λ x. x.now) result ≡ comment_end bytes.now }
     ensures shorter { IfSome result (λ x. length x.now < length bytes.now) }

@@ -6,13 +6,15 @@ ghost use Rattle.std.specs.List.{prefix_len};
 ghost use Rattle.std.specs.Char as char;
 ghost use Rattle.tso_model.specs.Limits.{longest_name};
 ghost use Rattle.tso_model.specs.Names as names;
-ghost use Rattle.litmus_tokens.specs.Mapped.{mapped};
+ghost use Rattle.litmus_tokens.specs.inner.Mapped.{mapped};
 ghost use Rattle.litmus_tokens.specs.Terms as terms;
-ghost use Rattle.litmus_tokens.specs.SymbolSteps as steps;
+ghost use Rattle.litmus_tokens.specs.inner.SymbolSteps as steps;
 ghost use Rattle.decimals.specs.Decimals.{decimal_value};
-ghost use Rattle.litmus_tokens.specs.Terms.{word_of, term_of};
+ghost use Rattle.litmus_tokens.specs.Terms.{word_of};
+ghost use Rattle.litmus_tokens.specs.inner.Terms.{term_of};
 ghost use Rattle.litmus_tokens.specs.Pieces as spec;
-ghost use Rattle.litmus_tokens.specs.Pieces.{piece_of, pieces, pieces_of};
+ghost use Rattle.litmus_tokens.specs.Pieces.{pieces_of};
+ghost use Rattle.litmus_tokens.specs.inner.Pieces.{piece_of, pieces};
 
 use crate::gap::after_gap;
 use crate::token::{Lexeme, Stop, Symbol, Token, Tokens};
@@ -70,7 +72,7 @@ pub fn word(digits: &[u8]) -> Option<u32>
     Some(number as u32)
 }
 
-#[tactic(auto, unfolding(crate::specs::SymbolSteps::single))]
+#[tactic(auto, unfolding(crate::specs::inner::SymbolSteps::single))]
 fn single(byte: u8) -> Option<Symbol>
     ensures { result ≡ steps.single byte }
 {
@@ -93,7 +95,7 @@ fn single(byte: u8) -> Option<Symbol>
 }
 
 /// The symbol at the very front, and what stands after it.
-#[tactic(auto, using(crate::proofs::Symbols::symbol_by_bytes), unfolding(crate::specs::SymbolSteps::wedge_at))]
+#[tactic(auto, using(crate::proofs::Symbols::symbol_by_bytes), unfolding(crate::specs::inner::SymbolSteps::wedge_at))]
 fn symbol_of(bytes: &[u8]) -> Option<(Symbol, &[u8])>
     ensures value { option_map (λ x. (x.0, x.1.now)) result ≡ terms.symbol_of bytes.now }
     ensures shorter { IfSome result (λ x. length x.1.now < length bytes.now) }

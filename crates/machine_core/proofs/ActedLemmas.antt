@@ -6,15 +6,16 @@ use Rattle.tso_model.specs.declared.choice.Outcome.{Outcome}
 use Rattle.tso_model.specs.declared.choice.Outcome.TheVariants.{Committed, Stalled}
 use Rattle.store_buffer.specs.declared.Pending.{Pending}
 use Rattle.store_buffer.specs.Stores.{Stores}
-use Rattle.order_builder.specs.Noted.{Noted}
+use Rattle.order_builder.specs.inner.Noted.{Noted}
 use Rattle.snoop_bus.specs.Bus.{Bus, words_of}
 use Rattle.machine_core.specs.declared.processor.Processor.{Processor}
 use Rattle.machine_core.specs.declared.cache_use.CacheUse.{CacheUse}
 use Rattle.machine_core.specs.declared.cache_use.CacheUse.TheVariants.{Unused}
-use Rattle.machine_core.specs.Cores.{store_of, core_state, pending_in, drain_by}
+use Rattle.machine_core.specs.Cores.{store_of, core_state}
+use Rattle.machine_core.specs.inner.Cores.{pending_in, drain_by}
 use Rattle.machine_core.specs.Caches.{caches_of, write_by}
 use Rattle.machine_core.specs.Performed.{HasUsed}
-use Rattle.machine_core.specs.Acted.{HasActed, Waits, IsStored}
+use Rattle.machine_core.specs.inner.Acted.{HasActed, Waits, IsStored}
 use Rattle.machine_core.proofs.CacheUses.{rests}
 use Rattle.basic_laws.proofs.WithPending.{drain_with}
 

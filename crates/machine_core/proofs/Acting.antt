@@ -9,7 +9,7 @@ use Rattle.store_buffer.specs.declared.Pending.{Pending}
 use Rattle.snoop_bus.specs.Bus.{Bus, IsFree}
 use Rattle.snoop_bus.specs.Accesses.{would_hit}
 use Rattle.machine_core.specs.Cores.{store_of}
-use Rattle.machine_core.specs.Performed.{MayAct}
+use Rattle.machine_core.specs.inner.Performed.{MayAct}
 
 pub none-kept : (f : Entry → Bool) (xs : List Entry) → list_any f xs ≡ false → filter f xs ≡ []
 none-kept f [] h = refl

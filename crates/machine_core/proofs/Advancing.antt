@@ -20,7 +20,7 @@ use Rattle.tso_model.specs.declared.choice.Choice.TheVariants.{Step, Drain}
 use Rattle.split_laws.specs.Holders.{HasRead, HolderFits}
 use Rattle.machine_core.specs.declared.cache_use.CacheUse.TheVariants.{Unused}
 use Rattle.machine_core.specs.Caches.{Caches, is_awaited, use_of, use_with, at_access, ask_by, not_through}
-use Rattle.machine_core.specs.Kept.{IsIssued}
+use Rattle.machine_core.specs.inner.Kept.{IsIssued}
 use Rattle.machine_core.proofs.CountBounds.{effect-advances}
 use Rattle.machine_core.proofs.CountsOnBus.{AdvancesOn, advances-acts, advances-frees, advances-reads, advances-writes, advances-rests}
 use Rattle.machine_core.proofs.Accessing.{commits-at-once}

@@ -5,11 +5,11 @@ use Rattle.tso_model.specs.SplitMachine.{HeldBetween}
 use Rattle.tso_model.specs.declared.execution.Entry.{Entry}
 use Rattle.snoop_bus.specs.Bus.{holder_of}
 use Rattle.snoop_bus.specs.Held.{holder}
-use Rattle.snoop_bus.specs.Accesses.{StandsAlone}
+use Rattle.snoop_bus.specs.inner.Accesses.{StandsAlone}
 use Rattle.snoop_bus.specs.declared.holding.Stage.TheVariants.{Load, Locked}
 use Rattle.machine_core.specs.declared.machine_parts.MachineParts.{MachineParts}
 use Rattle.machine_core.specs.Kept.{IsHeldAs, held_as, state_in}
-use Rattle.machine_core.specs.Made.{IsAloneIn}
+use Rattle.machine_core.specs.inner.Made.{IsAloneIn}
 
 pub alone-in : {P : Type 0} (t : Litmus) (m : MachineParts P) → IsHeldAs t m → IfSome (holder_of m.bus) (StandsAlone m.bus) → IsAloneIn m
 alone-in t m held alone e between =

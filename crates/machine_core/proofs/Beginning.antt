@@ -7,13 +7,14 @@ use Rattle.tso_model.specs.EitherBus.{unheld}
 use Rattle.tso_model.specs.declared.bus.Bus as kind
 use Rattle.tso_model.specs.declared.instruction.Instr.{Instr}
 use Rattle.split_laws.specs.BusChoices.{IsPossibleOn}
-use Rattle.store_buffer.specs.Stores.{stores}
+use Rattle.store_buffer.specs.inner.Stores.{stores}
 use Rattle.snoop_bus.specs.Rows.{table_of_rows}
 use Rattle.snoop_bus.specs.Bus.{Bus, cores_of}
 use Rattle.snoop_bus.specs.Accesses.{new_bus}
 use Rattle.machine_core.proofs.Overwriting.{written}
 use Rattle.machine_core.specs.declared.processor.Processor.{Processor}
-use Rattle.machine_core.specs.Cores.{core_states, core_state, state_of, at_start}
+use Rattle.machine_core.specs.Cores.{core_states, core_state, state_of}
+use Rattle.machine_core.specs.inner.Cores.{at_start}
 use Rattle.machine_core.specs.declared.counts.Counts.{Counts}
 use Rattle.machine_core.specs.Statistics.{no_counts, no_statistics}
 use Rattle.machine_core.specs.Caches.{caches_of}

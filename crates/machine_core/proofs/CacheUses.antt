@@ -9,14 +9,15 @@ use Rattle.tso_model.specs.declared.instruction.Loc.{Loc}
 use Rattle.tso_model.specs.declared.action.Update.{Update}
 use Rattle.tso_model.specs.declared.execution.Entry.{Entry}
 use Rattle.store_buffer.specs.declared.Pending.{Pending}
-use Rattle.store_buffer.specs.Newest.{newest_for}
+use Rattle.store_buffer.specs.inner.Newest.{newest_for}
 use Rattle.snoop_bus.specs.declared.access.Access.{Access}
 use Rattle.snoop_bus.specs.Bus.{Bus, words_of, IsSameMachine}
 use Rattle.snoop_bus.specs.Accesses.{LoadsAt, WritesAt}
 use Rattle.machine_core.specs.declared.processor.Processor.{Processor}
 use Rattle.machine_core.specs.declared.cache_use.CacheUse.{CacheUse}
 use Rattle.machine_core.specs.declared.cache_use.CacheUse.TheVariants.{Unused, Forwarded, Through}
-use Rattle.machine_core.specs.Cores.{store_of, core_state, pending_in, lock_by, drain_by}
+use Rattle.machine_core.specs.Cores.{store_of, core_state}
+use Rattle.machine_core.specs.inner.Cores.{pending_in, lock_by, drain_by}
 use Rattle.machine_core.specs.Caches.{Caches, caches_of, not_through, load_after, write_by, use_of}
 use Rattle.machine_core.specs.Performed.{HasUsed}
 use Rattle.basic_laws.proofs.WithPending.{drain_with, fenced_with, locked_with}

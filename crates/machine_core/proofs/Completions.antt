@@ -15,7 +15,7 @@ use Rattle.snoop_bus.specs.Bus.{words_of, holder_of}
 use Rattle.machine_core.specs.declared.processor.Processor.{Processor}
 use Rattle.machine_core.specs.declared.cache_use.CacheUse.TheVariants.{Unused}
 use Rattle.machine_core.specs.declared.machine_parts.MachineParts.{MachineParts}
-use Rattle.machine_core.specs.Cores.{pending_in, drain_by}
+use Rattle.machine_core.specs.inner.Cores.{pending_in, drain_by}
 use Rattle.machine_core.specs.Caches.{caches_of, at_access, not_through, completion_by, is_awaited, used_between}
 use Rattle.machine_core.specs.Kept.{IsHeldAs, held_as, held_for, core_in, state_in}
 use Rattle.machine_core.specs.Split.{completes_in, use_by}

@@ -13,10 +13,11 @@ use Rattle.tso_model.specs.declared.instruction.Instr.{Instr}
 use Rattle.tso_model.specs.declared.action.Update.{Update}
 use Rattle.tso_model.specs.declared.choice.Stall.TheVariants as stall
 use Rattle.store_buffer.specs.declared.Pending.{Pending}
-use Rattle.store_buffer.specs.Newest.{newest_for}
+use Rattle.store_buffer.specs.inner.Newest.{newest_for}
 use Rattle.machine_core.specs.declared.processor.Processor.{Processor}
-use Rattle.store_buffer.specs.Stores.{stores}
-use Rattle.machine_core.specs.Cores.{store_of, core_state, core_states, lock_by}
+use Rattle.store_buffer.specs.inner.Stores.{stores}
+use Rattle.machine_core.specs.Cores.{store_of, core_state, core_states}
+use Rattle.machine_core.specs.inner.Cores.{lock_by}
 use Rattle.machine_core.specs.Kept.{IsCore}
 use Rattle.basic_laws.proofs.WithPending.{drain_with, fenced_with, locked_with}
 

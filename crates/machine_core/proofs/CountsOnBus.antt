@@ -28,7 +28,8 @@ use Rattle.machine_core.specs.declared.cache_use.CacheUse.{CacheUse}
 use Rattle.machine_core.specs.declared.cache_use.CacheUse.TheVariants.{Unused, Forwarded}
 use Rattle.machine_core.specs.Caches.{Caches, Used, not_through, load_by, use_by_kind, use_of, used_between}
 use Rattle.machine_core.specs.Statistics.{Statistics, counted}
-use Rattle.machine_core.specs.Kept.{IsIssued, IsAtMost, IsAmong, IsFlusherAmong, IsSenderAmong, IsTallied, done_by, done_in, half_done, most_counted}
+use Rattle.machine_core.specs.Kept.{IsAtMost}
+use Rattle.machine_core.specs.inner.Kept.{IsIssued, IsAmong, IsFlusherAmong, IsSenderAmong, IsTallied, done_by, done_in, half_done, most_counted}
 use Rattle.machine_core.proofs.CountBounds.{Advances, IsAtMost-more, counted-within, length-counted, flusher-among, use_of-among}
 
 -- who sent what is awaited

@@ -12,9 +12,11 @@ use Rattle.split_laws.specs.Holders.{HolderFits}
 use Rattle.snoop_bus.specs.Bus.{holder_of}
 use Rattle.machine_core.specs.declared.machine_parts.MachineParts.{MachineParts}
 use Rattle.machine_core.specs.Kept.{IsHeldAs, held_as, state_in}
-use Rattle.machine_core.specs.Performed.{Answer, MayActIn, attempt_in, effect_in}
-use Rattle.machine_core.specs.Split.{split_effect_in}
-use Rattle.machine_core.specs.Made.{HasMade, IsUndone, whole_effect_in}
+use Rattle.machine_core.specs.Performed.{Answer}
+use Rattle.machine_core.specs.inner.Performed.{MayActIn, attempt_in, effect_in}
+use Rattle.machine_core.specs.inner.Split.{split_effect_in}
+use Rattle.machine_core.specs.Made.{HasMade, IsUndone}
+use Rattle.machine_core.specs.inner.Made.{whole_effect_in}
 
 -- on the atomic bus nobody holds it
 free-holder : (bus : Bus) (t : Litmus) (depth : ℕ) (state : State) (holder : Holder) → bus ≡ Atomic → HolderFits bus t depth state holder → holder ≡ Free

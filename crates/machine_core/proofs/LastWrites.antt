@@ -25,7 +25,8 @@ use Rattle.machine_core.specs.Cores.{core_state}
 use Rattle.machine_core.specs.Caches.{caches_of, not_through, is_awaited, used_between}
 use Rattle.machine_core.specs.Kept.{state_in}
 use Rattle.machine_core.specs.Performed.{HasUsed}
-use Rattle.machine_core.specs.Split.{writes_last_in, use_by, IsLock, WritesAs}
+use Rattle.machine_core.specs.Split.{use_by}
+use Rattle.machine_core.specs.inner.Split.{writes_last_in, IsLock, WritesAs}
 use Rattle.machine_core.proofs.Finishing.{free-awaits}
 use Rattle.machine_core.proofs.Performing.{core_of-state_in}
 use Rattle.machine_core.proofs.StepCompletions.{IsNext, access-next, effect-next}

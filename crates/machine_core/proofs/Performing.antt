@@ -15,13 +15,16 @@ use Rattle.tso_model.specs.declared.choice.Stall.TheVariants as stall
 use Rattle.snoop_bus.specs.Bus.{words_of, cores_of}
 use Rattle.machine_core.specs.declared.processor.Processor.{Processor}
 use Rattle.machine_core.specs.declared.machine_parts.MachineParts.{MachineParts}
-use Rattle.machine_core.specs.Cores.{core_state, core_states, pending_in, step_by, drain_by}
+use Rattle.machine_core.specs.Cores.{core_state, core_states}
+use Rattle.machine_core.specs.inner.Cores.{pending_in, step_by, drain_by}
 use Rattle.machine_core.specs.Caches.{caches_of, use_of}
 use Rattle.machine_core.specs.Kept.{IsCore, PartsFitTest, state_in}
-use Rattle.machine_core.specs.Performed.{Answer, HasUsed, Performs, flat_effect_in}
-use Rattle.machine_core.specs.Acted.{HasActed}
+use Rattle.machine_core.specs.Performed.{Answer, HasUsed, Performs}
+use Rattle.machine_core.specs.inner.Performed.{flat_effect_in}
+use Rattle.machine_core.specs.inner.Acted.{HasActed}
 use Rattle.machine_core.specs.Split.{use_by}
-use Rattle.machine_core.specs.Made.{HasMade, whole_effect_in}
+use Rattle.machine_core.specs.Made.{HasMade}
+use Rattle.machine_core.specs.inner.Made.{whole_effect_in}
 use Rattle.machine_core.proofs.CoreLemmas.{core_states-get_or, core_states-set}
 use Rattle.machine_core.proofs.Splitting.{use-acts}
 

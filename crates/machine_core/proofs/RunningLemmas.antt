@@ -6,12 +6,12 @@ use Rattle.tso_model.specs.Access.{access_of}
 use Rattle.tso_model.specs.SplitMachine.{Free, Attempt}
 use Rattle.tso_model.specs.EitherBus.{BusState, effect_on, after_on, HitFits}
 use Rattle.tso_model.specs.declared.out_of_memory.NoMemory.{NoMemory}
-use Rattle.tso_model.specs.declared.choice.Outcome.{Outcome}
 use Rattle.split_laws.specs.BusChoices.{IsPossibleOn}
 use Rattle.machine_core.specs.declared.machine_parts.MachineParts.{MachineParts}
 use Rattle.snoop_bus.specs.Bus.{IsFree}
 use Rattle.machine_core.specs.Kept.{IsHeldAs, held_as, state_in}
-use Rattle.machine_core.specs.Performed.{Performs, attempt_in, effect_in}
+use Rattle.machine_core.specs.Performed.{Answer, Performs}
+use Rattle.machine_core.specs.inner.Performed.{attempt_in, effect_in}
 use Rattle.tso_model.specs.declared.bus.Bus.{Bus}
 use Rattle.tso_model.specs.declared.execution.Entry.{Entry}
 use Rattle.tso_model.specs.declared.choice.Choice.{Choice}
@@ -45,10 +45,10 @@ on-ok (Ok x) Q q = q
 on-ok (Err e) Q q = tt
 
 -- what a machine has come to is possible after a choice too
-pub possible-next : {P : Type 0} (r : Result Outcome NoMemory) (t : Litmus) (m new : MachineParts P) (choice : Choice) → IsPossibleOn m.config.bus t m.config.depth m.commits.entries (state_in m)
+pub possible-next : {P : Type 0} (r : Result Answer NoMemory) (t : Litmus) (m new : MachineParts P) (choice : Choice) → IsPossibleOn m.config.bus t m.config.depth m.commits.entries (state_in m)
     → ((a : Attempt) → IsPossibleOn m.config.bus t m.config.depth m.commits.entries (state_in m) → HitFits t m.config.depth (state_in m).flat a (state_in m).holder
     → IsPossibleOn m.config.bus t m.config.depth (m.commits.entries ++ (effect_on m.config.bus t m.config.depth (state_in m) a).effect.commits) (after_on m.config.bus t m.config.depth (state_in m) a))
-    → HitFits t m.config.depth (state_in m).flat (attempt_in t m choice) (state_in m).holder → IfOk r (λ o. Performs m new choice (effect_in t m choice) o)
+    → HitFits t m.config.depth (state_in m).flat (attempt_in t m choice) (state_in m).holder → IfOk r (λ o. Performs m new choice (effect_in t m choice) o.0)
     → OnErr r (state_in new ≡ state_in m) → OnErr r (new.commits.entries ≡ m.commits.entries) → new.config ≡ m.config → IsPossibleOn new.config.bus t new.config.depth new.commits.entries (state_in new)
 possible-next (Ok o) t m new choice possible next fits done state commits config =
     subst (λ c. IsPossibleOn c.bus t c.depth new.commits.entries (state_in new)) (sym config)

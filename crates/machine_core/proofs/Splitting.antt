@@ -25,9 +25,12 @@ use Rattle.machine_core.specs.declared.cache_use.CacheUse.TheVariants.{Unused}
 use Rattle.machine_core.specs.declared.machine_parts.MachineParts.{MachineParts}
 use Rattle.machine_core.specs.Caches.{Caches, Used, caches_of, at_access, ask_by, not_through, hits_by, is_awaited, used_between, use_of}
 use Rattle.machine_core.specs.Kept.{PartsFitTest, IsHeldAs, held_as, held_for, core_in, state_in}
-use Rattle.machine_core.specs.Performed.{Answer, HasUsed, MayAct, Performs, attempt_in, flat_effect_in}
-use Rattle.machine_core.specs.Split.{IsOther, begins_in, use_by}
-use Rattle.machine_core.specs.Made.{HasMade, IsUndone, whole_effect_in}
+use Rattle.machine_core.specs.Performed.{Answer, HasUsed, Performs}
+use Rattle.machine_core.specs.inner.Performed.{MayAct, attempt_in, flat_effect_in}
+use Rattle.machine_core.specs.Split.{use_by}
+use Rattle.machine_core.specs.inner.Split.{IsOther, begins_in}
+use Rattle.machine_core.specs.Made.{HasMade, IsUndone}
+use Rattle.machine_core.specs.inner.Made.{whole_effect_in}
 
 -- whether it needs the bus
 abbrev pub needs_in : {P : Type 0} → Litmus → MachineParts P → Choice → Bool

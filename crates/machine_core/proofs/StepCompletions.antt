@@ -25,9 +25,10 @@ use Rattle.tso_model.specs.declared.choice.Choice.TheVariants.{Step}
 use Rattle.snoop_bus.specs.Bus.{words_of}
 use Rattle.machine_core.specs.declared.processor.Processor.{Processor}
 use Rattle.machine_core.specs.declared.machine_parts.MachineParts.{MachineParts}
-use Rattle.machine_core.specs.Cores.{core_state, pending_in, action_by}
+use Rattle.machine_core.specs.Cores.{core_state}
+use Rattle.machine_core.specs.inner.Cores.{pending_in, action_by}
 use Rattle.machine_core.specs.Kept.{PartsFitTest, state_in}
-use Rattle.machine_core.specs.Performed.{flat_effect_in}
+use Rattle.machine_core.specs.inner.Performed.{flat_effect_in}
 use Rattle.machine_core.specs.Split.{completes_in}
 use Rattle.machine_core.proofs.Performing.{core_of-state_in, effect_in-step, access_of-step, access_of-done, IsCore-at, within-cores}
 

@@ -3,7 +3,7 @@ use Rattle.std.proofs.Common.{◌≡◌, ◌<◌, ℕ, zero, suc, Bool, true, fa
 use Rattle.tso_model.specs.Access.{Writes, store_access}
 use Rattle.tso_model.specs.declared.instruction.Loc.{Loc}
 use Rattle.snoop_bus.specs.Bus.{Bus}
-use Rattle.machine_core.specs.Performed.{MayAct}
+use Rattle.machine_core.specs.inner.Performed.{MayAct}
 
 pub unbuffered : (b : Bool) (depth : ℕ) → (0 < depth → IsTrue b) → b ≡ false → depth ≡ 0
 unbuffered b zero some none = refl

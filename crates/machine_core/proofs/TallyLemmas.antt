@@ -18,8 +18,10 @@ use Rattle.machine_core.specs.declared.cache_use.CacheUse.{CacheUse}
 use Rattle.machine_core.specs.declared.machine_parts.MachineParts.{MachineParts}
 use Rattle.machine_core.specs.Caches.{caches_of, is_awaited}
 use Rattle.machine_core.specs.Statistics.{Statistics, counted, no_counts}
-use Rattle.machine_core.specs.Kept.{PartsFitTest, IsIssued, IsTallied, IsFlusherAmong, IsAtMost, done_in, most_counted, state_in, statistics_in}
-use Rattle.machine_core.specs.Performed.{HasUsed, Performs, attempt_in, effect_in}
+use Rattle.machine_core.specs.Kept.{PartsFitTest, IsAtMost, state_in}
+use Rattle.machine_core.specs.inner.Kept.{IsIssued, IsTallied, IsFlusherAmong, done_in, most_counted, statistics_in}
+use Rattle.machine_core.specs.Performed.{HasUsed, Performs}
+use Rattle.machine_core.specs.inner.Performed.{attempt_in, effect_in}
 use Rattle.machine_core.specs.Split.{use_by}
 use Rattle.machine_core.proofs.Advancing.{advances-on}
 use Rattle.machine_core.proofs.CoreLemmas.{length-core_states}

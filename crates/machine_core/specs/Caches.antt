@@ -1,7 +1,7 @@
 -- The caches of a run, without their words, and what the choices have to do with them: they go along by the bus's own
 -- definitions of a load, of a write access, and of their two halves on a split bus. (Primer, chapters 2, 6 and 7; which
 -- copies are sent to memory is this project's profile.)
-use Rattle.std.specs.Prelude.{ℕ, ◌/◌, ◌≡◌, ◌≢◌, Bool, true, false, if◌then◌else◌, List, [], ◌∷◌, Option, Some, None}
+use Rattle.std.specs.Prelude.{ℕ, ◌/◌, Bool, true, false, if◌then◌else◌, List, [], ◌∷◌, Option, None}
 use Rattle.std.specs.List.{list_any}
 use Rattle.tso_model.specs.Litmus.{Litmus}
 use Rattle.tso_model.specs.ProgramOrder.{writes_to}
@@ -9,21 +9,20 @@ use Rattle.tso_model.specs.FlatMachine.{State, chosen, core_of}
 use Rattle.tso_model.specs.Access.{Access, NoAccess, Reads, Writes, Locks, access_of}
 use Rattle.tso_model.specs.SplitMachine.{Holder, Free, HeldBy, HeldBetween, Attempt, BusEffect}
 use Rattle.tso_model.specs.EitherBus.{BusState, effect_on, after_on}
-use Rattle.tso_model.specs.declared.bus.Bus as kind
 use Rattle.tso_model.specs.declared.instruction.Loc.{Loc}
 use Rattle.tso_model.specs.declared.execution.Entry.{Entry}
 use Rattle.tso_model.specs.declared.execution.Kind.{Kind}
 use Rattle.tso_model.specs.declared.execution.Kind.TheVariants.{R, W, F, LR, LW}
 use Rattle.tso_model.specs.declared.choice.Choice.{Choice}
-use Rattle.protocol_tables.specs.declared.state.State.TheVariants.{M}
 use Rattle.snoop_bus.specs.Geometry.{Geometry}
 use Rattle.snoop_bus.specs.Rows.{Rows, table_of_rows}
 use Rattle.snoop_bus.specs.CacheContents.{TagSets, Accessed, loaded, written}
-use Rattle.snoop_bus.specs.Asks.{Awaited, Asked, tag_at, hits, request_for, asking, completed}
+use Rattle.snoop_bus.specs.Asks.{Awaited, Asked, hits, request_for, asking, completed}
 use Rattle.snoop_bus.specs.Bus.{Bus}
 use Rattle.snoop_bus.specs.Accesses.{contents_of, awaited_of}
 use Rattle.machine_core.specs.declared.cache_use.CacheUse.{CacheUse}
 use Rattle.machine_core.specs.declared.cache_use.CacheUse.TheVariants.{Unused, Forwarded, Through}
+use Rattle.tso_model.specs.declared.bus.Bus as kind
 
 -- the caches without their words: the protocol's table row by row, their shape, the lines and states in them, and what an
 -- action that holds the bus awaits
@@ -59,11 +58,6 @@ write_by c core loc = through c c.awaited (written (table_of_rows c.rows) core (
 -- whether such an access, a load or a write access, is a hit
 abbrev pub would_hit : Caches → ℕ → ℕ → Bool → Bool
 would_hit c core loc write = hits (table_of_rows c.rows) core (loc / c.shape.words) write c.contents
-
--- between the two parts of a locked instruction, whose load part this is: its core has the line in M, and no other core has it
-pub record HasLineAlone (c : Caches) (e : Entry) : Type 0 where
-  pub own : tag_at e.core.0 (e.loc.0 / c.shape.words) c.contents ≡ Some M
-  pub others : (core : ℕ) → core ≢ e.core.0 → tag_at core (e.loc.0 / c.shape.words) c.contents ≡ None
 
 -- what is so of an access at a location, a read or a write access, and what where there is none
 abbrev pub at_access : {A : Type 0} → A → (Loc → Bool → A) → Access → A

@@ -3,15 +3,13 @@ pub mod Caches
 pub mod Statistics
 pub mod Answered
 pub mod Running
-pub mod Buffers
 pub mod Cores
 pub mod Kept
 pub mod Performed
-pub mod Acted
 pub mod Split
 pub mod Made
-pub mod Machine
 pub mod WorkedCounts
+pub mod inner
 pub use Rattle.tso_model.specs.FlatMachine
 pub use Rattle.tso_model.specs.Runs
 pub use Rattle.tso_model.specs.Access

@@ -1,61 +1,18 @@
 -- A choice made on the parts of a machine with a split bus. (This project's profile; what a choice does is the split
 -- machine's.)
-use Rattle.std.specs.Prelude.{◌≡◌, ◌<◌, ℕ, false, List}
 use Rattle.tso_model.specs.Litmus.{Litmus}
-use Rattle.tso_model.specs.Access.{Access, NoAccess, Reads, Writes, Locks, access_of}
-use Rattle.tso_model.specs.SplitMachine.{Holder, Free, HeldBy, HeldBetween, BusEffect, same_choice}
-use Rattle.tso_model.specs.SplitMachine.{begins, completes, writes_last, split_effect}
-use Rattle.tso_model.specs.Thread.{value_in, updated}
-use Rattle.tso_model.specs.declared.register.Reg.{Reg}
-use Rattle.tso_model.specs.declared.action.Action.{Action}
-use Rattle.tso_model.specs.declared.action.Action.TheVariants.{Lock}
-use Rattle.tso_model.specs.declared.execution.Entry.{Entry}
+use Rattle.tso_model.specs.Access.{access_of}
+use Rattle.tso_model.specs.SplitMachine.{BusEffect, completes}
 use Rattle.tso_model.specs.declared.choice.Choice.{Choice}
-use Rattle.tso_model.specs.declared.choice.Choice.TheVariants.{Step}
 use Rattle.machine_core.specs.declared.machine_parts.MachineParts.{MachineParts}
 use Rattle.machine_core.specs.Caches.{Used, caches_of, use_with}
 use Rattle.machine_core.specs.Kept.{state_in}
-use Rattle.machine_core.specs.Performed.{attempt_in}
-
--- what a choice does, and how it uses the caches then
-abbrev pub split_effect_in : {P : Type 0} → Litmus → MachineParts P → Choice → BusEffect
-split_effect_in t m choice = split_effect t m.config.depth (state_in m).flat (attempt_in t m choice) (state_in m).holder
-
--- what a choice does that isn't the holder's next one
-abbrev pub begins_in : {P : Type 0} → Litmus → MachineParts P → Choice → BusEffect
-begins_in t m choice = begins t m.config.depth (state_in m).flat (attempt_in t m choice) (state_in m).holder
 
 -- how a choice with this effect uses the caches
 abbrev pub use_by : {P : Type 0} → Litmus → MachineParts P → Choice → BusEffect → Used
 use_by t m choice f = use_with t m.config.depth (state_in m) choice f (caches_of m.bus)
 
--- the access is at one of so many locations
-abbrev pub IsAccessAmong : ℕ → Access → Type 0
-IsAccessAmong locations NoAccess = Unit {0}
-IsAccessAmong locations (Reads loc) = loc.0 < locations
-IsAccessAmong locations (Writes loc) = loc.0 < locations
-IsAccessAmong locations (Locks loc) = loc.0 < locations
-
 -- what the holder's next choice does: it completes what it asked for; a locked instruction with this load part writes
 abbrev pub completes_in : {P : Type 0} → Litmus → MachineParts P → Choice → BusEffect
 completes_in t m choice =
     completes t m.config.depth (state_in m).flat choice (access_of t m.config.depth (state_in m).flat choice)
-
-abbrev pub writes_last_in : {P : Type 0} → Litmus → MachineParts P → Entry → BusEffect
-writes_last_in t m e = writes_last t m.config.depth (state_in m).flat e
-
--- the choice isn't the holder's next one
-abbrev pub IsOther : Holder → Choice → Type 0
-IsOther Free choice = Unit {0}
-IsOther (HeldBy asked) choice = same_choice asked choice ≡ false
-IsOther (HeldBetween e) choice = same_choice (Step e.core) choice ≡ false
-
--- the action is a locked read and write
-abbrev pub IsLock : Action → Type 0
-IsLock (Lock loc reg update) = Unit {0}
-IsLock _ = ⊥
-
--- with these registers a locked instruction that read this word writes this value, and the word goes to this register
-abbrev pub WritesAs : Action → List ℕ → ℕ → Reg → ℕ → Type 0
-WritesAs (Lock loc reg update) registers word into due = (into ≡ reg) × (due ≡ updated update word (value_in registers reg))
-WritesAs _ registers word into due = ⊥

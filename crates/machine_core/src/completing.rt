@@ -13,12 +13,14 @@ ghost use Rattle.tso_model.specs.declared.bus.Bus.TheVariants as Bus;
 ghost use Rattle.snoop_bus.specs.Bus.{words_of, cores_of, holder_of};
 ghost use Rattle.snoop_bus.specs.Held.{holder};
 ghost use Rattle.snoop_bus.specs.declared.holding.Stage.TheVariants as Stage;
-ghost use Rattle.machine_core.specs.Cores.{AreKnown, core_state, pending_in, word_at, at_next};
+ghost use Rattle.machine_core.specs.Cores.{AreKnown, core_state};
+ghost use Rattle.machine_core.specs.inner.Cores.{pending_in, word_at, at_next};
 ghost use Rattle.machine_core.specs.Caches.{caches_of, completion_by};
 ghost use Rattle.machine_core.specs.Kept.{held_for, state_in};
 ghost use Rattle.machine_core.specs.Performed.{HasUsed};
-ghost use Rattle.machine_core.specs.Acted.{Completes, IsStored, IsDrained, Notes, AreUnchanged, HasSameSizes};
-ghost use Rattle.machine_core.specs.Split.{completes_in, writes_last_in, IsLock, WritesAs};
+ghost use Rattle.machine_core.specs.inner.Acted.{Completes, IsStored, IsDrained, Notes, AreUnchanged, HasSameSizes};
+ghost use Rattle.machine_core.specs.Split.{completes_in};
+ghost use Rattle.machine_core.specs.inner.Split.{writes_last_in, IsLock, WritesAs};
 ghost use Rattle.machine_core.specs.Made.{AreConsistent, AreOfTest, HasMade, Makes, IsUndone, KeepsParts};
 
 use crate::cache_use::CacheUse;

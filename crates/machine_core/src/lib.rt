@@ -7,25 +7,30 @@
 #![tactic(auto)]
 
 mod asking;
-mod cache_use;
+pub mod cache_use;
 mod completing;
 pub mod config;
 pub mod counts;
 pub mod ending;
 mod holding;
 mod locked;
+pub mod looking;
 pub mod machine;
 mod machine_parts;
-mod memory_access;
+pub mod memory_access;
 mod pending_stores;
 mod processor;
 mod restarting;
 mod tallying;
+pub mod telling;
 pub mod worked;
 
+pub use cache_use::CacheUse;
 pub use config::Config;
 pub use counts::Counts;
 pub use ending::FinalState;
+pub use looking::BusHolder;
 pub use machine::{Final, Machine};
-pub use snoop_bus::Shape;
+pub use memory_access::MemoryAccess;
+pub use snoop_bus::{CachedLine, Shape};
 pub use tso_model::{Bus, Choice, Outcome, Stall};

@@ -1,19 +1,17 @@
 //! A locked instruction made whole: its word is read and written at one choice, with nothing between.
-ghost use Rattle.std.specs.Prelude.{◌≡◌, ◌<◌, ◌≤◌, ◌++◌, ◌⊎◌, true, Some, IsTrue, IsOk, IfOk, OnOk, OnErr, length, slice_get};
+ghost use Rattle.std.specs.Prelude.{◌≡◌, ◌<◌, ◌≤◌, ◌++◌, IsOk, IfOk, OnOk, OnErr};
 ghost use Rattle.tso_model.specs.Limits.{most_instructions};
-ghost use Rattle.tso_model.specs.Thread.{updated};
 ghost use Rattle.tso_model.specs.Access.{locked_access};
-ghost use Rattle.snoop_bus.specs.Bus.{words_of, cores_of, IsFree, IsSameMachine};
-ghost use Rattle.snoop_bus.specs.Accesses.{WritesAt, would_hit};
-ghost use Rattle.machine_core.specs.Cores.{pending_in, lock_by, both_parts};
-ghost use Rattle.machine_core.specs.Performed.{MayAccess};
-ghost use Rattle.machine_core.specs.Acted.{Acts, SucceedsUnlessCommitting, AreUnchanged, KeepsBus};
+ghost use Rattle.snoop_bus.specs.Bus.{words_of};
+ghost use Rattle.machine_core.specs.inner.Cores.{pending_in, lock_by, both_parts};
+ghost use Rattle.machine_core.specs.inner.Performed.{MayAccess};
+ghost use Rattle.machine_core.specs.inner.Acted.{Acts, SucceedsUnlessCommitting, AreUnchanged, KeepsBus};
 
 use crate::cache_use::CacheUse;
 use crate::processor::{Processor, advance};
 use order_builder::Commits;
 use protocol_tables::Protocol;
-use snoop_bus::{Access, SnoopBus};
+use snoop_bus::SnoopBus;
 use tso_model::{Action, Core, Entry, Kind, Loc, NoMemory, Outcome, Reg, Stall, Update};
 
 /// A locked instruction waits until nothing is buffered. Then it reads the word into the register and
@@ -41,43 +39,17 @@ pub fn read_and_write<P: Protocol>(
     }
     let value = processor.register(reg);
     commits.make_room(2)?;
-    let (word, access) = put_updated(bus, core, loc, update, value)?;
+    let updated = bus.update(core, loc, update, value)?;
     note_locked(
         commits,
         core,
         processor.place,
         loc,
-        word,
-        update.apply(word, value),
+        updated.before,
+        updated.after,
     )?;
-    advance(processor, reg, word);
-    Ok((Outcome::Committed, CacheUse::Through(access)))
-}
-
-/// Writes what the update makes of the word at a location and of this value. Answers the word that was
-/// there, and what the one write access was.
-///
-/// Errors: out of memory only; then nothing has changed.
-fn put_updated<P: Protocol>(
-    bus: &mut SnoopBus<P>,
-    core: Core,
-    loc: Loc,
-    update: Update,
-    value: u32,
-) -> Result<(u32, Access), NoMemory>
-    requires core { core.0 < cores_of bus.old }
-    requires known { loc.0 < length (words_of bus.old) }
-    requires free { IsFree bus.old ⊎ IsTrue (would_hit bus.old core.0 loc.0 true) }
-
-    ensures word { IfOk result (λ r. slice_get (words_of bus.old) loc.0 ≡ Some r.0) }
-    ensures done { IfOk result (λ r. WritesAt bus.old bus.new core.0 loc.0 (updated update r.0 value) r.1) }
-    ensures machine { IsSameMachine bus.old bus.new }
-    ensures err { OnErr result (bus.new ≡ bus.old) }
-{
-    match update {
-        Update::Exchange => bus.swap(core, loc, value),
-        Update::Add => bus.add(core, loc, value),
-    }
+    advance(processor, reg, updated.before);
+    Ok((Outcome::Committed, CacheUse::Through(updated.access)))
 }
 
 /// Notes both parts of a locked instruction that read this word and wrote this value.

@@ -3,15 +3,15 @@
 ghost use Rattle.std.specs.Prelude.{◌≡◌, ◌≢◌, ◌<◌, true, false, IsTrue, IsOk, IsErr, IfOk, OnOk, OnErr, length, map};
 ghost use Rattle.tso_model.specs.FlatMachine.{chosen};
 ghost use Rattle.tso_model.specs.Together.{put_together};
-ghost use Rattle.machine_core.specs.Running.{new_machine, effect_by, machine_after, is_ended, restarted};
-ghost use Rattle.machine_core.specs.Running.{AnswerFits, IsAloneBetween, HasFailed};
+ghost use Rattle.machine_core.specs.Running.{new_machine, restarted};
+ghost use Rattle.machine_core.specs.inner.Running.{effect_by, use_by, machine_after, is_ended};
+ghost use Rattle.machine_core.specs.inner.Running.{AnswerFits, IsAloneBetween, HasFailed};
 
+use crate::cache_use::CacheUse;
 use crate::config::Config;
 use crate::counts::Counts;
 use crate::ending::{FinalState, final_state};
-use crate::machine_parts::{
-    MachineParts, are_done, begin, line_is_alone, memory_of, perform, registers_of,
-};
+use crate::machine_parts::{MachineParts, are_done, begin, line_is_alone, perform};
 use crate::restarting::restart;
 use order_builder::build;
 use protocol_tables::Protocol;
@@ -29,10 +29,8 @@ pub struct Final {
     /// The entries in the order of their commits, but for each load part of a locked instruction, which
     /// stands directly before its store part.
     pub execution: Execution,
-    /// The registers of each core, in the order of `Reg::ALL`.
-    pub registers: Vec<[u32; 6]>,
-    /// The word of each location.
-    pub memory: Vec<u32>,
+    /// The registers of each core, and the word of each location.
+    pub state: FinalState,
     /// What the accesses of each core's cache were.
     pub counts: Vec<Counts>,
 }
@@ -42,21 +40,21 @@ pub struct Final {
 /// choice does but in what is counted of its accesses; on a split bus an access that hits needs no bus.
 #[derive(Drop)]
 pub struct Machine<'a, P: Protocol> {
-    test: &'a Test,
-    parts: MachineParts<P>,
+    pub(crate) test: &'a Test,
+    pub(crate) parts: MachineParts<P>,
     failed: bool,
 }
 
 impl<'a, P: Protocol> Model for Machine<'a, P> {
     ghost use Rattle.std.specs.Coded.{codes};
-    ghost use Rattle.tso_model.specs.ConditionCode.{claim_code};
+    ghost use Rattle.tso_model.specs.inner.ConditionCode.{claim_code};
     ghost use Rattle.machine_core.specs.Running.{Running};
 
     ghost Value = { Running };
 
     ghost coded = { Prim.hlevel (codes, claim_code) };
 
-    ghost use Rattle.machine_core.specs.Machine.{running_of, IsMachine};
+    ghost use Rattle.machine_core.specs.inner.Machine.{running_of, IsMachine};
 
     ghost view = { λ m. running_of m.test.now m.parts m.failed };
 
@@ -105,16 +103,43 @@ impl<'a, P: Protocol> Machine<'a, P> {
         ensures refused { OnErr result (HasFailed self.old self.new) }
         ensures stays_refused { self.old.failed ≡ true → IsErr result }
     {
+        let (outcome, _) = self.choose_telling(choice)?;
+        Ok(outcome)
+    }
+
+    /// Makes a choice as `choose` does, and tells beside its outcome what it had to do with the caches.
+    ///
+    /// Errors: out of memory only, which a choice takes only where it commits; then the machine
+    /// has failed, and each later call fails as well.
+    pub fn choose_telling(&mut self, choice: Choice) -> Result<(Outcome, CacheUse), NoMemory>
+        requires { chosen choice < length self.old.test.programs }
+
+        ensures outcome { IfOk result (λ r. r.0 ≡ (effect_by self.old choice).effect.outcome) }
+        ensures how { IfOk result (λ r. r.1 ≡ (use_by self.old choice).how) }
+        ensures after { OnOk result (self.new ≡ machine_after self.old choice) }
+        ensures stall { (why : Stall) (how : CacheUse) → result ≡ Ok (Outcome.Stalled why, how) → self.new ≡ self.old }
+
+        // Between the two parts of a locked instruction no write of another core to its location hits.
+        ensures answer { OnOk result (AnswerFits self.old choice) }
+
+        // And no other core has its line then.
+        ensures alone { OnOk result (IsAloneBetween self.new) }
+
+        // Only a choice that commits takes memory, and a machine that was refused it stays so.
+        ensures succeeds { self.old.failed ≡ false → (effect_by self.old choice).effect.outcome ≢ Outcome.Committed → IsOk result }
+        ensures refused { OnErr result (HasFailed self.old self.new) }
+        ensures stays_refused { self.old.failed ≡ true → IsErr result }
+    {
         attempts_lead_from_state_to_state();
         what_holds_so_far_on_either_bus();
         stalls_on_either_bus_change_nothing();
         if self.failed {
             return Err(NoMemory);
         }
-        let outcome = perform(&mut self.parts, self.test, choice);
-        self.failed = outcome.is_err();
+        let made = perform(&mut self.parts, self.test, choice);
+        self.failed = made.is_err();
         line_is_alone(&self.parts, self.test);
-        outcome
+        made
     }
 
     /// Whether the test has ended: each core is at the end of its program with nothing buffered, and
@@ -164,24 +189,21 @@ impl<'a, P: Protocol> Machine<'a, P> {
         requires { IsTrue (is_ended self) }
 
         ensures order { IfOk result (λ f. f.execution.order.items ≡ put_together self.entry.commits) }
-        ensures registers { IfOk result (λ f. f.registers.items ≡ map (λ c. c.registers) self.entry.state.flat.cores) }
-        ensures memory { IfOk result (λ f. f.memory.items ≡ self.entry.state.flat.memory) }
+        ensures registers { IfOk result (λ f. f.state.registers.items ≡ map (λ c. c.registers) self.entry.state.flat.cores) }
+        ensures memory { IfOk result (λ f. f.state.memory.items ≡ self.entry.state.flat.memory) }
         ensures counts { IfOk result (λ f. f.counts.items ≡ self.entry.statistics.counts) }
 
         // As many registers as the test has cores, and as many words as it has locations.
-        ensures cores { IfOk result (λ f. length f.registers.items ≡ length self.entry.test.programs) }
-        ensures locations { IfOk result (λ f. length f.memory.items ≡ length self.entry.test.locations) }
+        ensures cores { IfOk result (λ f. length f.state.registers.items ≡ length self.entry.test.programs) }
+        ensures locations { IfOk result (λ f. length f.state.memory.items ≡ length self.entry.test.locations) }
     {
         what_holds_so_far_on_either_bus();
         let mut parts = self.parts;
-        parts.bus.settle();
         let execution = build(alloc, &parts.commits)?;
-        let registers = registers_of(alloc, &parts.processors)?;
-        let memory = memory_of(alloc, &parts.bus, self.test.locations())?;
+        let state = final_state(alloc, &mut parts, self.test)?;
         Ok(Final {
             execution,
-            registers,
-            memory,
+            state,
             counts: parts.counts,
         })
     }

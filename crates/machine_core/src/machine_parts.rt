@@ -5,14 +5,17 @@ ghost use Rattle.tso_model.specs.Limits.{most_depth};
 ghost use Rattle.tso_model.specs.FlatMachine.{chosen, started};
 ghost use Rattle.tso_model.specs.Runs.{all_done};
 ghost use Rattle.snoop_bus.specs.Bus.{words_of, holder_of};
-ghost use Rattle.snoop_bus.specs.Accesses.{memory_words_of};
+ghost use Rattle.snoop_bus.specs.inner.Accesses.{memory_words_of};
 ghost use Rattle.machine_core.specs.Cores.{core_states};
 ghost use Rattle.machine_core.specs.Statistics.{no_counts, no_statistics};
-ghost use Rattle.machine_core.specs.Kept.{IsCore, PartsFitTest, IsHeldAs, IsTallied, core_in, state_in, statistics_in};
-ghost use Rattle.machine_core.specs.Performed.{Performs, MayActIn, effect_in, flat_effect_in};
-ghost use Rattle.machine_core.specs.Acted.{SucceedsUnlessCommitting};
-ghost use Rattle.machine_core.specs.Made.{AreAtStart, AreConsistent, AreOfTest, AnswerFitsIn, IsAloneIn};
-ghost use Rattle.machine_core.specs.Made.{whole_effect_in, Makes, IsUndone, KeepsParts, statistics_next};
+ghost use Rattle.machine_core.specs.Kept.{IsCore, PartsFitTest, IsHeldAs, core_in, state_in};
+ghost use Rattle.machine_core.specs.inner.Kept.{IsTallied, statistics_in};
+ghost use Rattle.machine_core.specs.Performed.{Performs};
+ghost use Rattle.machine_core.specs.inner.Performed.{MayActIn, effect_in, flat_effect_in};
+ghost use Rattle.machine_core.specs.inner.Acted.{SucceedsUnlessCommitting};
+ghost use Rattle.machine_core.specs.Made.{AreConsistent, AreOfTest};
+ghost use Rattle.machine_core.specs.inner.Made.{AreAtStart, AnswerFitsIn, IsAloneIn, whole_effect_in, use_in, statistics_next};
+ghost use Rattle.machine_core.specs.Made.{Makes, IsUndone, KeepsParts};
 
 use crate::asking::act_on_split;
 use crate::cache_use::CacheUse;
@@ -102,19 +105,20 @@ fn processors_of(alloc: Global, test: &Test, depth: u8) -> Result<Vec<Processor>
     Ok(processors)
 }
 
-/// Makes a choice, and counts what it had to do with the caches.
+/// Makes a choice, counts what it had to do with the caches, and answers its outcome and that.
 ///
 /// Errors: out of memory only; nothing is changed then.
 pub fn perform<P: Protocol>(
     parts: &mut MachineParts<P>,
     test: &Test,
     choice: Choice,
-) -> Result<Outcome, NoMemory>
+) -> Result<(Outcome, CacheUse), NoMemory>
     requires core { chosen choice < length test.now.programs }
     requires consistent { AreConsistent parts.old.config.bus test.now parts.old }
     requires tallied { IsTallied test.now (state_in parts.old) (statistics_in parts.old) }
 
-    ensures ok { IfOk result (Performs parts.old parts.new choice (effect_in test.now parts.old choice)) }
+    ensures ok { IfOk result (λ r. Performs parts.old parts.new choice (effect_in test.now parts.old choice) r.0) }
+    ensures how { IfOk result (λ r. r.1 ≡ (use_in test.now parts.old choice).how) }
     ensures answer { AnswerFitsIn test.now parts.old choice }
     ensures statistics { OnOk result (statistics_in parts.new ≡ statistics_next test.now parts.old choice) }
     ensures succeeds { SucceedsUnlessCommitting result (effect_in test.now parts.old choice).effect }
@@ -127,7 +131,7 @@ pub fn perform<P: Protocol>(
 {
     let (outcome, cache_use) = act_on_bus(parts, test, choice)?;
     tally(&mut parts.counts, core_of(choice), cache_use);
-    Ok(outcome)
+    Ok((outcome, cache_use))
 }
 
 /// Between the two parts of a locked instruction its core has the line in M, and no other core has it: so much is

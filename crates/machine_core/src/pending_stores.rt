@@ -17,7 +17,7 @@ pub struct PendingStores {
 
 impl Model for PendingStores {
     ghost use Rattle.store_buffer.specs.Stores.{Stores};
-    ghost use Rattle.machine_core.specs.Buffers.{pending_stores, HasRoom};
+    ghost use Rattle.machine_core.specs.inner.Buffers.{pending_stores, HasRoom};
 
     ghost Value = { Stores };
 
@@ -27,8 +27,8 @@ impl Model for PendingStores {
 }
 
 impl PendingStores {
-    ghost use Rattle.store_buffer.specs.Stores.{stores};
-    ghost use Rattle.store_buffer.specs.Newest.{newest_for};
+    ghost use Rattle.store_buffer.specs.inner.Stores.{stores};
+    ghost use Rattle.store_buffer.specs.inner.Newest.{newest_for};
 
     /// Nothing pending, with a buffer of this depth, up to `MAX_DEPTH` of `tso_model`; at depth 0 with
     /// none. No other call takes memory.
@@ -75,6 +75,16 @@ impl PendingStores {
         match &self.buffer {
             None => None,
             Some(buffer) => buffer.oldest(),
+        }
+    }
+
+    /// The store with this number, counted from the oldest, which has 0; `None` where fewer are pending.
+    pub fn get(&self, number: usize) -> Option<Pending>
+        ensures { result ≡ slice_get self.now.items number }
+    {
+        match &self.buffer {
+            None => None,
+            Some(buffer) => buffer.get(number),
         }
     }
 

@@ -1,6 +1,6 @@
 //! A core, its steps and its drains.
 
-ghost use Rattle.std.specs.Prelude.{◌≡◌, ℕ, ◌<◌, List, [], IfOk, OnOk, OnErr, length, filter};
+ghost use Rattle.std.specs.Prelude.{◌≡◌, ℕ, ◌<◌, List, [], IfOk, OnOk, OnErr, length, filter, slice_get};
 ghost use Rattle.tso_model.specs.Limits.{most_instructions};
 ghost use Rattle.tso_model.specs.Actions.{action_of};
 ghost use Rattle.tso_model.specs.Litmus.{KnownLocation};
@@ -8,11 +8,13 @@ ghost use Rattle.tso_model.specs.ProgramOrder.{writes_to};
 ghost use Rattle.tso_model.specs.Thread.{value_in, with_value};
 ghost use Rattle.tso_model.specs.Access.{Writes, store_access, load_access, drain_access};
 ghost use Rattle.snoop_bus.specs.Bus.{Bus, words_of, cores_of, holder_of};
-ghost use Rattle.machine_core.specs.Cores.{entries_in, pending_in, seen_by, AreKnown, at_next, own_access};
-ghost use Rattle.machine_core.specs.Cores.{load_by, store_by, fence_by, step_by, drain_by};
-ghost use Rattle.machine_core.specs.Performed.{HasUsed, MayAccess, MayAct};
+ghost use Rattle.machine_core.specs.Cores.{AreKnown};
+ghost use Rattle.machine_core.specs.inner.Cores.{entries_in, pending_in, seen_by, at_next, own_access};
+ghost use Rattle.machine_core.specs.inner.Cores.{load_by, store_by, fence_by, step_by, drain_by};
+ghost use Rattle.machine_core.specs.Performed.{HasUsed};
+ghost use Rattle.machine_core.specs.inner.Performed.{MayAccess, MayAct};
 ghost use Rattle.machine_core.specs.Caches.{caches_of, load_after, write_by};
-ghost use Rattle.machine_core.specs.Acted.{Acts, Waits, IsStored, SucceedsUnlessCommitting, AreUnchanged, KeepsBus};
+ghost use Rattle.machine_core.specs.inner.Acted.{Acts, Waits, IsStored, SucceedsUnlessCommitting, AreUnchanged, KeepsBus};
 
 use crate::cache_use::CacheUse;
 use crate::locked::read_and_write;
@@ -34,13 +36,29 @@ pub struct Processor {
 
 impl Processor {
     ghost use Rattle.tso_model.specs.Runs.{is_done};
-    ghost use Rattle.machine_core.specs.Cores.{core_state, at_start};
+    ghost use Rattle.machine_core.specs.Cores.{core_state};
+    ghost use Rattle.machine_core.specs.inner.Cores.{at_start};
 
     /// The value of a register.
     pub fn register(&self, reg: Reg) -> u32
         ensures { result ≡ value_in self.now.registers reg }
     {
         self.registers[reg.index()]
+    }
+
+    /// The pending store with this number, counted from the oldest, as the entry that it commits when it goes
+    /// to memory; `None` where fewer are pending.
+    pub fn pending(&self, core: Core, number: usize) -> Option<Entry>
+        ensures { result ≡ slice_get (pending_in core.0 self.now) number }
+    {
+        let store = self.stores.get(number)?;
+        Some(Entry {
+            core,
+            place: store.place,
+            kind: Kind::W,
+            loc: store.loc,
+            value: store.value,
+        })
     }
 
     /// The core goes back before its first instruction, with these registers and nothing pending.

@@ -5,8 +5,9 @@ ghost use Rattle.tso_model.specs.FlatMachine.{started};
 ghost use Rattle.snoop_bus.specs.Rows.{table_of_rows};
 ghost use Rattle.machine_core.specs.Cores.{core_states};
 ghost use Rattle.machine_core.specs.Statistics.{no_counts, no_statistics};
-ghost use Rattle.machine_core.specs.Kept.{IsCore, PartsFitTest, statistics_in};
-ghost use Rattle.machine_core.specs.Made.{AreAtStart};
+ghost use Rattle.machine_core.specs.Kept.{IsCore, PartsFitTest};
+ghost use Rattle.machine_core.specs.inner.Kept.{statistics_in};
+ghost use Rattle.machine_core.specs.inner.Made.{AreAtStart};
 
 use crate::counts::Counts;
 use crate::holding::Holding;

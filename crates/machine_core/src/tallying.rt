@@ -1,7 +1,8 @@
 //! How the accesses of a run are counted.
 ghost use Rattle.std.specs.Prelude.{◌≡◌, ◌<◌, All, IfSome, length};
 ghost use Rattle.machine_core.specs.Statistics.{counted, at_core, with_access, with_write_back, with_forward, with_flush};
-ghost use Rattle.machine_core.specs.Kept.{IsFlusherAmong, IsAtMost, most_counted};
+ghost use Rattle.machine_core.specs.Kept.{IsAtMost};
+ghost use Rattle.machine_core.specs.inner.Kept.{IsFlusherAmong, most_counted};
 
 use crate::cache_use::CacheUse;
 use crate::counts::Counts;

@@ -9,7 +9,8 @@ use Rattle.order_builder.specs.PrintedOrder.{IsLocationFor, HasLocation}
 use Rattle.std.proofs.lemmas.List.Elements.{All-weaker}
 use Rattle.tso_model.specs.declared.execution.Kind.{Kind}
 use Rattle.tso_model.specs.declared.execution.Kind.TheVariants.{R, W, F, LR, LW}
-use Rattle.order_builder.specs.Reading.{order_of, order_start, entries_in, entries_of, Gives}
+use Rattle.order_builder.specs.Reading.{entries_of, Gives}
+use Rattle.order_builder.specs.inner.Reading.{order_of, order_start, entries_in}
 use Rattle.order_builder.specs.Lines.{lines_of}
 use Rattle.order_builder.specs.declared.fault.OrderFault.{OrderFault}
 use Rattle.order_builder.specs.declared.fault.OrderFault.TheVariants.{NoOrder, BadLine, BadCount, NoMemory}

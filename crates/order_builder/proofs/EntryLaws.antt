@@ -10,10 +10,11 @@ use Rattle.tso_model.specs.Litmus.{Litmus, IsTest}
 use Rattle.tso_model.specs.declared.execution.Entry.{Entry}
 use Rattle.tso_model.specs.declared.execution.Kind.{Kind}
 use Rattle.tso_model.specs.declared.execution.Kind.TheVariants.{R, W, F, LR, LW}
-use Rattle.order_builder.specs.Numbers.{is_number, number_in}
+use Rattle.order_builder.specs.Numbers.{is_number}
+use Rattle.order_builder.specs.inner.Numbers.{number_in}
 use Rattle.order_builder.specs.PrintedOrder.{letters_of, printed_access, printed_entry}
 use Rattle.order_builder.specs.Spelling.{HasAccess, IsEntryFor}
-use Rattle.order_builder.specs.Reading.{◌>>=◌, split_once, without_prefix, kind_of, location_named, entry_at, place_in, access_in, action_in, entry_in, numeral, end_in}
+use Rattle.order_builder.specs.inner.Reading.{◌>>=◌, split_once, without_prefix, kind_of, location_named, entry_at, place_in, access_in, action_in, entry_in, numeral, end_in}
 use Rattle.order_builder.proofs.Choosing.{chosen, same_bytes, bytes_eq-same}
 use Rattle.order_builder.proofs.LineLemmas.{Lacks, split_once-at, split_once-Some}
 use Rattle.order_builder.proofs.NumberLaws.{number_again, number_found}

@@ -10,7 +10,7 @@ use Rattle.order_builder.specs.Lines.{lines_of}
 use Rattle.decimals.specs.Decimals.{decimal_value}
 use Rattle.order_builder.specs.PrintedOrder.{printed_entry}
 use Rattle.order_builder.specs.Spelling.{IsEntryFor, IsOrderFor, BeginsOrder, IsNoEntry, IsNoEnd, HasNoCount, HasFault}
-use Rattle.order_builder.specs.Reading.{entries_in, entry_in, end_in, order_start, order_of}
+use Rattle.order_builder.specs.inner.Reading.{entries_in, entry_in, end_in, order_start, order_of}
 use Rattle.order_builder.specs.declared.fault.OrderFault.{OrderFault}
 use Rattle.order_builder.specs.declared.fault.OrderFault.TheVariants.{NoOrder, BadLine, BadCount, NoMemory}
 use Rattle.order_builder.proofs.Choosing.{chosen}

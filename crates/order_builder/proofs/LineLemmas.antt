@@ -12,7 +12,7 @@ use Rattle.std.proofs.lemmas.List.Quantifiers.{position-Some}
 use Rattle.std.proofs.lemmas.List.Sums.{position_or_len_is, fails_before_first, count_by-le-length}
 use Rattle.std.proofs.lemmas.List.Splits.{slice_split_none, slice_split_at, length-slice_split}
 use Rattle.order_builder.specs.Lines.{lines_in, lines_of, is_line_feed}
-use Rattle.order_builder.specs.Reading.{split_once, halves_at}
+use Rattle.order_builder.specs.inner.Reading.{split_once, halves_at}
 use Rattle.order_builder.proofs.Choosing.{chosen}
 
 -- no byte of the text is this one

@@ -5,7 +5,7 @@ use Rattle.tso_model.specs.Litmus.{Litmus}
 use Rattle.tso_model.specs.declared.execution.Entry.{Entry}
 use Rattle.order_builder.specs.Lines.{lines_of}
 use Rattle.decimals.specs.Decimals.{decimal_value}
-use Rattle.order_builder.specs.Reading.{onto, entries_in, entry_in, end_in}
+use Rattle.order_builder.specs.inner.Reading.{onto, entries_in, entry_in, end_in}
 use Rattle.order_builder.specs.declared.fault.OrderFault.{OrderFault}
 use Rattle.order_builder.specs.declared.fault.OrderFault.TheVariants.{BadLine, BadCount}
 

@@ -10,7 +10,7 @@ use Rattle.std.proofs.lemmas.List.Quantifiers.{position-Some}
 use Rattle.std.proofs.lemmas.List.Elements.{All-cons, All-nil}
 use Rattle.tso_model.specs.Litmus.{Litmus, IsTest, are_distinct}
 use Rattle.tso_model.specs.Names.{is_name, is_location_name, begins_name, continues_name, is_among}
-use Rattle.order_builder.specs.Reading.{location_named}
+use Rattle.order_builder.specs.inner.Reading.{location_named}
 use Rattle.order_builder.proofs.Choosing.{same_bytes, bytes_eq-same, bytes_eq-other}
 use Rattle.order_builder.proofs.LineLemmas.{Lacks, named_at}
 use Rattle.order_builder.proofs.NumberLaws.{is_digits-decimal}

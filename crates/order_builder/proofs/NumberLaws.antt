@@ -7,8 +7,10 @@ use Rattle.std.proofs.lemmas.Bool.{le-leb, leb-true}
 use Rattle.std.proofs.lemmas.Bool.Decides.{nat_tests}
 use Rattle.std.proofs.lemmas.Fmt.{digits_decimal, digits_value-decimal, decimal_nonempty, first_decimal, decimal_digit, decimal-digits_value}
 use Rattle.std.proofs.lemmas.Str.Parse.{IsNumeralModel, numerals_by_fold}
-use Rattle.decimals.specs.Decimals.{decimal_from, decimal_value, number_up_to}
-use Rattle.order_builder.specs.Numbers.{is_number, number_in}
+use Rattle.decimals.specs.Decimals.{decimal_from, decimal_value}
+use Rattle.decimals.specs.inner.Decimals.{number_up_to}
+use Rattle.order_builder.specs.Numbers.{is_number}
+use Rattle.order_builder.specs.inner.Numbers.{number_in}
 use Rattle.order_builder.proofs.Choosing.{chosen}
 
 own : IsNumeralModel (λ ds. list_all is_ascii_digit ds ≡ true) (decimal_from 0)

@@ -13,7 +13,7 @@ use Rattle.order_builder.specs.Lines.{lines_of}
 use Rattle.decimals.specs.Decimals.{decimal_value}
 use Rattle.order_builder.specs.PrintedOrder.{printed_entry, printed_end, order_lines}
 use Rattle.order_builder.specs.Spelling.{IsEntryFor, IsOrderFor, IsOther, SpellsOrder}
-use Rattle.order_builder.specs.Reading.{onto, entries_in, entry_in, end_in, order_start, order_of}
+use Rattle.order_builder.specs.inner.Reading.{onto, entries_in, entry_in, end_in, order_start, order_of}
 use Rattle.order_builder.specs.declared.fault.OrderFault.{OrderFault}
 use Rattle.order_builder.specs.declared.fault.OrderFault.TheVariants.{NoOrder, BadLine, BadCount}
 use Rattle.order_builder.proofs.Choosing.{chosen, same_bytes, bytes_eq-same, bytes_eq-other}

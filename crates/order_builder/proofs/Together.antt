@@ -8,7 +8,7 @@ use Rattle.tso_model.specs.declared.execution.Entry.{Entry}
 use Rattle.tso_model.specs.declared.execution.Kind.{Kind}
 use Rattle.tso_model.specs.declared.execution.Kind.TheVariants.{R, W, F, LR, LW}
 use Rattle.order_builder.specs.Pairs.{is_answered, are_answered}
-use Rattle.order_builder.specs.Waiting.{all_put, first_of, others_of, IsNoneOf, AreWaiting, IsBuiltSoFar}
+use Rattle.order_builder.specs.inner.Waiting.{all_put, first_of, others_of, IsNoneOf, AreWaiting, IsBuiltSoFar}
 
 pub same-core : (m n : ℕ) → m ≡ n → (m == n) ≡ true
 same-core m n h = grind (arith, nat_tests, h)

@@ -1,11 +1,10 @@
 pub mod Pairs
-pub mod Waiting
-pub mod Noted
 pub mod PrintedOrder
 pub mod Lines
 pub mod Numbers
 pub mod Spelling
 pub mod Reading
+pub mod inner
 pub use Rattle.tso_model.specs.Litmus
 pub use Rattle.tso_model.specs.ProgramEntries
 pub use Rattle.tso_model.specs.Axioms

@@ -1,13 +1,8 @@
 -- Numbers as an order is written with them: decimal, without leading zeros.
-use Rattle.std.specs.Prelude.{ℕ, ◌==◌, ◌&&◌, ◌||◌, nat_lt, Bool, not, List, length, slice_index, Option, None, if◌then◌else◌}
+use Rattle.std.specs.Prelude.{ℕ, ◌==◌, ◌&&◌, ◌||◌, nat_lt, Bool, not, List, length, slice_index}
 use Rattle.std.specs.List.{list_all}
 use Rattle.std.specs.Char.{is_ascii_digit}
-use Rattle.decimals.specs.Decimals.{number_up_to}
 
 -- some digits, the first of them no `0` unless it is the only one
 abbrev pub is_number : List ℕ → Bool
 is_number text = nat_lt 0 (length text) && list_all is_ascii_digit text && (not (slice_index text 0 == 48) || (length text == 1))
-
--- the number that a text is, if it is one and no greater than the most that there may be
-unfoldable pub number_in : ℕ → List ℕ → Option ℕ
-number_in most text = if is_number text then number_up_to most text else None

@@ -5,7 +5,7 @@ ghost use Rattle.tso_model.specs.ProgramOrder.{same_kind};
 ghost use Rattle.tso_model.specs.Together.{put_together};
 ghost use Rattle.tso_model.specs.declared.execution.Kind.TheVariants.{LR};
 ghost use Rattle.order_builder.specs.Pairs.{IsPaired};
-ghost use Rattle.order_builder.specs.Waiting.{first_of, others_of};
+ghost use Rattle.order_builder.specs.inner.Waiting.{first_of, others_of};
 
 use crate::commits::Commits;
 use std::alloc::Global;

@@ -12,7 +12,7 @@ pub struct Commits {
 }
 
 impl Model for Commits {
-    ghost use Rattle.order_builder.specs.Noted.{Noted, noted};
+    ghost use Rattle.order_builder.specs.inner.Noted.{Noted, noted};
 
     ghost Value = { Noted };
 

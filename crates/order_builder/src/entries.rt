@@ -2,14 +2,14 @@
 
 ghost use Rattle.std.specs.Prelude.{◌≡◌, ◌<◌, length, IfSome, ◌^◌, ◌-◌};
 ghost use Rattle.std.specs.Option.{option_map};
-ghost use Rattle.order_builder.specs.Reading.{kind_of, location_named, place_in, access_in, action_in, entry_in, end_in};
+ghost use Rattle.order_builder.specs.inner.Reading.{kind_of, location_named, place_in, access_in, action_in, entry_in, end_in};
 
 use crate::lines::{split_once, without_prefix};
 use crate::numbers::{is_number, number_in};
 use tso_model::{Core, Entry, Kind, Loc, Test};
 
 /// The entry of a test that a line is, if it is one. Its core and its place needn't be the test's.
-#[tactic(auto, unfolding(crate::specs::Reading::entry_in))]
+#[tactic(auto, unfolding(crate::specs::inner::Reading::entry_in))]
 pub fn entry_in(test: &Test, line: &[u8]) -> Option<Entry>
     ensures { result ≡ entry_in test.now line.now }
 {
@@ -19,7 +19,7 @@ pub fn entry_in(test: &Test, line: &[u8]) -> Option<Entry>
 }
 
 /// The digits of a line that is `Endorder` and a number of any size.
-#[tactic(auto, unfolding(crate::specs::Reading::end_in))]
+#[tactic(auto, unfolding(crate::specs::inner::Reading::end_in))]
 pub fn end_in(line: &[u8]) -> Option<&[u8]>
     ensures { option_map (λ digits. digits.now) result ≡ end_in line.now }
 {
@@ -31,7 +31,7 @@ pub fn end_in(line: &[u8]) -> Option<&[u8]>
     }
 }
 
-#[tactic(auto, unfolding(crate::specs::Reading::place_in))]
+#[tactic(auto, unfolding(crate::specs::inner::Reading::place_in))]
 fn place_in(text: &[u8]) -> Option<(u8, u8)>
     ensures { result ≡ place_in text.now }
 {
@@ -42,7 +42,7 @@ fn place_in(text: &[u8]) -> Option<(u8, u8)>
     Some((core as u8, place as u8))
 }
 
-#[tactic(auto, unfolding(crate::specs::Reading::action_in))]
+#[tactic(auto, unfolding(crate::specs::inner::Reading::action_in))]
 fn action_in(test: &Test, core: u8, place: u8, text: &[u8]) -> Option<Entry>
     ensures { result ≡ action_in test.now (core, place) text.now }
 {
@@ -67,7 +67,7 @@ fn action_in(test: &Test, core: u8, place: u8, text: &[u8]) -> Option<Entry>
     })
 }
 
-#[tactic(auto, unfolding(crate::specs::Reading::kind_of))]
+#[tactic(auto, unfolding(crate::specs::inner::Reading::kind_of))]
 fn kind_of(letters: &[u8]) -> Option<Kind>
     ensures { result ≡ kind_of letters.now }
 {
@@ -84,7 +84,7 @@ fn kind_of(letters: &[u8]) -> Option<Kind>
     }
 }
 
-#[tactic(auto, unfolding(crate::specs::Reading::access_in))]
+#[tactic(auto, unfolding(crate::specs::inner::Reading::access_in))]
 fn access_in(test: &Test, text: &[u8]) -> Option<(u8, u32)>
     ensures { result ≡ access_in test.now text.now }
 {
@@ -94,7 +94,7 @@ fn access_in(test: &Test, text: &[u8]) -> Option<(u8, u32)>
     Some((loc, value as u32))
 }
 
-#[tactic(auto, unfolding(crate::specs::Reading::location_named))]
+#[tactic(auto, unfolding(crate::specs::inner::Reading::location_named))]
 fn location_named(test: &Test, name: &[u8]) -> Option<u8>
     ensures { result ≡ location_named test.now name.now }
 {

@@ -4,7 +4,7 @@ ghost use Rattle.std.specs.Prelude.{◌≡◌, ◌↔◌, ◌<◌, ◌^◌, ◌+
 ghost use Rattle.tso_model.specs.Litmus.{Litmus, IsTest};
 ghost use Rattle.tso_model.specs.declared.execution.Entry.{Entry};
 ghost use Rattle.order_builder.specs.PrintedOrder.{HasLocation, printed_lines, printed_order};
-ghost use Rattle.order_builder.specs.Reading.{order_of};
+ghost use Rattle.order_builder.specs.inner.Reading.{order_of};
 ghost use Rattle.order_builder.specs.Spelling.{HasFault, IsBefore, IsOrderFor, SpellsOrder};
 ghost use Rattle.order_builder.specs.declared.fault.OrderFault.{OrderFault};
 

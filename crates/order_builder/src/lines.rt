@@ -4,10 +4,10 @@ ghost use Rattle.std.specs.Prelude.{◌≡◌, ◌<◌, ◌∷◌, [], ◌==◌,
 ghost use Rattle.std.specs.Option.{option_map};
 ghost use Rattle.std.specs.Str.Lines.{strip_carriage_return};
 ghost use Rattle.order_builder.specs.Lines.{lines_of};
-ghost use Rattle.order_builder.specs.Reading.{split_once, without_prefix};
+ghost use Rattle.order_builder.specs.inner.Reading.{split_once, without_prefix};
 
 /// What stands before the first such byte, and what after it; `None` where there is no such byte.
-#[tactic(auto, unfolding(crate::specs::Reading::split_once))]
+#[tactic(auto, unfolding(crate::specs::inner::Reading::split_once))]
 pub fn split_once(text: &[u8], byte: u8) -> Option<(&[u8], &[u8])>
     ensures value { option_map (λ halves. (halves.0.now, halves.1.now)) result ≡ split_once byte text.now }
     ensures shorter { IfSome result (λ halves. length halves.1.now < length text.now) }
@@ -24,7 +24,7 @@ fn position_of(text: &[u8], byte: u8) -> Option<usize>
 }
 
 /// What stands after the prefix, where the text begins with it.
-#[tactic(auto, unfolding(crate::specs::Reading::without_prefix))]
+#[tactic(auto, unfolding(crate::specs::inner::Reading::without_prefix))]
 pub fn without_prefix<'a>(text: &'a [u8], prefix: &[u8]) -> Option<&'a [u8]>
     ensures { option_map (λ rest. rest.now) result ≡ without_prefix prefix.now text.now }
 {

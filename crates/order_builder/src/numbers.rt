@@ -2,7 +2,8 @@
 
 ghost use Rattle.std.specs.Prelude.{◌≡◌, ◌≤◌, ◌==◌, IfSome};
 ghost use Rattle.decimals.specs.Decimals.{decimal_value};
-ghost use Rattle.order_builder.specs.Numbers.{is_number, number_in};
+ghost use Rattle.order_builder.specs.Numbers.{is_number};
+ghost use Rattle.order_builder.specs.inner.Numbers.{number_in};
 
 use decimals::{all_digits, number_up_to};
 
@@ -14,7 +15,7 @@ pub fn is_number(text: &[u8]) -> bool
 }
 
 /// Whether digits say this number.
-#[tactic(auto, unfolding(decimals::specs::Decimals::number_up_to))]
+#[tactic(auto, unfolding(decimals::specs::inner::Decimals::number_up_to))]
 pub fn number_is(digits: &[u8], number: u64) -> bool
     ensures { result ≡ (decimal_value digits.now == number) }
 {
@@ -22,7 +23,7 @@ pub fn number_is(digits: &[u8], number: u64) -> bool
 }
 
 /// The number that a text is, if it is one and no greater than `most`.
-#[tactic(auto, unfolding(crate::specs::Numbers::number_in))]
+#[tactic(auto, unfolding(crate::specs::inner::Numbers::number_in))]
 pub fn number_in(text: &[u8], most: u64) -> Option<u64>
     ensures value { result ≡ number_in most text.now }
     ensures within { IfSome result (λ number. number ≤ most) }

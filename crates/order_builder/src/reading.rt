@@ -10,7 +10,8 @@ ghost use Rattle.tso_model.specs.declared.execution.Entry.{Entry};
 ghost use Rattle.order_builder.specs.Spelling.{SpellsOrder, HasFault};
 ghost use Rattle.order_builder.specs.declared.fault.OrderFault.{OrderFault};
 ghost use Rattle.order_builder.specs.declared.fault.OrderFault.TheVariants.{NoMemory};
-ghost use Rattle.order_builder.specs.Reading.{entries_in, entries_of, order_start, Gives};
+ghost use Rattle.order_builder.specs.Reading.{entries_of, Gives};
+ghost use Rattle.order_builder.specs.inner.Reading.{entries_in, order_start};
 
 use crate::entries::{end_in, entry_in};
 use crate::fault::OrderFault;
@@ -44,7 +45,7 @@ pub fn read_order(alloc: Global, test: &Test, text: &[u8]) -> Result<Execution, 
 }
 
 /// What stands after the first line that is `Order`, and how many lines there are up to it.
-#[tactic(auto, unfolding(crate::specs::Reading::order_start))]
+#[tactic(auto, unfolding(crate::specs::inner::Reading::order_start))]
 fn after_order_line(text: &[u8]) -> Option<(&[u8], usize)>
     ensures value { option_map (λ found. (found.1, lines_of found.0.now)) result ≡ order_start 0 (lines_of text.now) }
     ensures within { IfSome result (λ found. found.1 + length found.0.now ≤ length text.now) }

@@ -3,7 +3,8 @@ use Rattle.std.proofs.Common.{◌≡◌, ◌<◌, ◌+◌, ℕ, List, length, ar
 use Rattle.tso_model.specs.Litmus.{Litmus}
 use Rattle.tso_model.specs.declared.choice.Choice.{Choice}
 use Rattle.tso_laws.specs.Counting.{instructions, stores}
-use Rattle.tso_laws.specs.Laws.{RunsAreCounted, RunsStopWhereTheyEnd}
+use Rattle.tso_laws.specs.Laws.{RunsAreCounted}
+use Rattle.tso_laws.specs.inner.Laws.{RunsStopWhereTheyEnd}
 use Rattle.outcome_laws.specs.Outcomes.{LeadToEnd, ChoicesToAnEndAreCounted}
 
 module _ (count : RunsAreCounted) (stop : RunsStopWhereTheyEnd) where

@@ -20,7 +20,7 @@ use Rattle.tso_model.specs.declared.choice.Outcome.TheVariants.{Committed, Buffe
 use Rattle.tso_model.specs.Runs.{CoresExist}
 use Rattle.tso_laws.specs.Choices.{state_after, commits_of}
 use Rattle.tso_laws.specs.Along.{steps}
-use Rattle.tso_laws.specs.Laws.{StallsChangeNothing}
+use Rattle.tso_laws.specs.inner.Laws.{StallsChangeNothing}
 use Rattle.outcome_laws.proofs.Behind.{Moves, moves-more, holding, IsBehind, Trails, Follows, length-set, set-same, set-set, moves-made, steps-exist}
 
 -- ---- one choice is followed

@@ -20,7 +20,8 @@ use Rattle.tso_model.specs.declared.choice.Choice.TheVariants.{Step, Drain}
 use Rattle.tso_laws.specs.Choices.{state_after, commits_of}
 use Rattle.tso_laws.specs.EndedRuns.{End, IsExecution}
 use Rattle.tso_laws.specs.Reached.{IsReached}
-use Rattle.tso_laws.specs.Laws.{StallsChangeNothing, RunsStopWhereTheyEnd, RunsReachExactlyTheExecutions}
+use Rattle.tso_laws.specs.Laws.{RunsReachExactlyTheExecutions}
+use Rattle.tso_laws.specs.inner.Laws.{StallsChangeNothing, RunsStopWhereTheyEnd}
 use Rattle.outcome_laws.specs.Outcomes.{IsSequentiallyConsistent, UnbufferedRunsReachExactlyTheSequentiallyConsistent}
 use Rattle.outcome_laws.proofs.Passing.{keeps-rest, needs-one}
 use Rattle.outcome_laws.proofs.Draining.{pending-committed}

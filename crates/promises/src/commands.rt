@@ -11,7 +11,7 @@ ghost use Rattle.tso_cli.specs.Streams.{Writes, WritesAnswer, WritesBeginning, C
 use protocol_tables::ProtocolKind;
 use std::alloc::Global;
 use std::io::{Read, Write};
-use tso_cli::{Counted, RunFault, Settings, Status, hint, run_command};
+use tso_cli::{Answer, Counted, RunFault, Settings, Status, hint, run_command};
 use tso_model::NoMemory;
 
 /// What a command writes is the answer to what its reader has, and keeps the headline.
@@ -79,15 +79,10 @@ pub fn check_reads_one_byte_too_many<R: Read, W: Write>(
 }
 
 /// A hint is told only where an input was refused or a run didn't end, and has at most 256 bytes.
-pub fn a_hint_is_told(
-    alloc: Global,
-    settings: &Settings,
-    status: Status,
-    input: &[u8],
-) -> Result<String, NoMemory>
-    ensures told { IfOk result (λ text. IsTold status (string_bytes text)) }
-    ensures refused { status ≡ Status.Refused → IfOk result (λ text. length (string_bytes text) ≤ 256) }
-    ensures unended { status ≡ Status.Unended → IfOk result (λ text. length (string_bytes text) ≤ 256) }
+pub fn a_hint_is_told(alloc: Global, answer: &Answer, input: &[u8]) -> Result<String, NoMemory>
+    ensures told { IfOk result (λ text. IsTold answer.now.status (string_bytes text)) }
+    ensures refused { answer.now.status ≡ Status.Refused → IfOk result (λ text. length (string_bytes text) ≤ 256) }
+    ensures unended { answer.now.status ≡ Status.Unended → IfOk result (λ text. length (string_bytes text) ≤ 256) }
 {
-    hint(alloc, settings, status, input)
+    hint(alloc, answer, input)
 }

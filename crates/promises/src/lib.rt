@@ -12,6 +12,7 @@ pub mod limits;
 pub mod machines;
 pub mod orders;
 pub mod readings;
+pub mod searches;
 pub mod sets;
 pub mod simulations;
 pub mod streams;

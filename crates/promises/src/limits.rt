@@ -1,9 +1,10 @@
-//! The limits, as numbers: each shape, configuration and plan within them is made, and none just over one.
+//! The limits, as numbers: each shape, configuration, plan and search within them is made, and none just over one.
 
 ghost use Rattle.std.specs.Prelude.{◌≡◌, ◌≤◌, ◌↔◌, ◌⊎◌, IsSome, IfSome};
 
-use command_line::SweepPlan;
 use command_line::plan::{MAX_LENGTH, MAX_SEEDS};
+use command_line::search::MAX_STATES;
+use command_line::{SearchPlan, SweepPlan};
 use litmus_reader::MAX_TEXT;
 use machine_core::{Bus, Config, Shape};
 use snoop_bus::bus::MAX_CORES as MAX_BUS_CORES;
@@ -30,6 +31,7 @@ pub fn limits_are_these_numbers()
     ensures ways { MAX_WAYS ≡ 8 }
     ensures words { MAX_WORDS ≡ 4 }
     ensures seeds { MAX_SEEDS ≡ 1000 }
+    ensures states { MAX_STATES ≡ 10000000 }
     ensures choices { MAX_LENGTH ≡ 100000 }
     ensures text { MAX_TEXT ≡ 65536 }
     ensures input { MAX_INPUT ≡ 1048576 }
@@ -74,4 +76,13 @@ pub fn a_plan_within_limits_is_made(from: u32, seeds: u32, length: u32) -> Optio
     ensures length { IfSome result (λ p. p.length ≡ length) }
 {
     SweepPlan::new(from, seeds, length)
+}
+
+/// A search keeps from 1 to 10,000,000 states, with store buffers of from 0 to 32 stores.
+pub fn a_search_within_limits_is_made(depth: u8, states: u32) -> Option<SearchPlan>
+    ensures made { IsSome result ↔ ((depth ≤ 32) × (1 ≤ states) × (states ≤ 10000000)) }
+    ensures depth { IfSome result (λ p. p.depth ≡ depth) }
+    ensures states { IfSome result (λ p. p.states ≡ states) }
+{
+    SearchPlan::new(depth, states)
 }

@@ -1,6 +1,6 @@
 //! What is read of texts: what they spell, and how they are refused, memory aside.
 
-ghost use Rattle.std.specs.Prelude.{◌≡◌, ◌≢◌, ◌<◌, List, Some, Ok, Err, IfOk, IfErr, IfSome, MatchResult};
+ghost use Rattle.std.specs.Prelude.{◌≡◌, ◌≢◌, ◌<◌, List, Ok, Err, IfOk, IfErr, MatchResult};
 ghost use Rattle.tso_model.specs.Litmus.{Litmus};
 ghost use Rattle.tso_model.specs.declared.choice.Choice.{Choice as ChoiceMade};
 ghost use Rattle.tso_model.specs.declared.execution.Entry.{Entry};
@@ -16,7 +16,7 @@ ghost use Rattle.scheduler.specs.Refusals.{IsRefusedAsChoices};
 ghost use Rattle.scheduler.specs.Seeds.{seeded_choices};
 ghost use Rattle.scheduler.specs.declared.fault.ChoiceFault.{ChoiceFault as ChoicesRefused};
 
-use litmus_reader::{Fault, TextFault, Why, fault_in, read_test};
+use litmus_reader::{ReadError, TextFault, Why, read_test, test_or_fault};
 use order_builder::{OrderFault, read_order};
 use scheduler::{ChoiceFault, read_choices, seeded_choices};
 use std::alloc::Global;
@@ -34,12 +34,15 @@ pub fn a_test_is_read(alloc: Global, text: &[u8]) -> Result<Test, TextFault>
     read_test(alloc, text)
 }
 
-/// The fault of a text is found, where it has one.
-pub fn a_fault_is_found(alloc: Global, text: &[u8]) -> Result<Option<Fault>, NoMemory>
-    ensures found { IfOk result (λ found. IfSome found (λ fault. IsFault text.now fault)) }
-    ensures only { (fault : FaultFound) → IsFault text.now fault → IfOk result (λ found. found ≡ Some fault) }
+/// A test is read exactly where a text spells it, and what is at fault in any other text is found.
+pub fn a_fault_is_found(alloc: Global, text: &[u8]) -> Result<Test, ReadError>
+    ensures found { IfOk result (λ test. SpellsTest text.now test) }
+    ensures only { (t : Litmus) → SpellsTest text.now t → MatchResult result (λ test. test ≡ t) (λ e. e ≡ ReadError.NoMemory) }
+    ensures fault { (fault : FaultFound) → result ≡ Err (ReadError.Fault fault) → IsFault text.now fault }
+    ensures faults { (fault : FaultFound) → IsFault text.now fault
+        → MatchResult result (λ _. ⊥) (λ e. e ≢ ReadError.NoMemory → e ≡ ReadError.Fault fault) }
 {
-    fault_in(alloc, text)
+    test_or_fault(alloc, text)
 }
 
 /// Choices are read exactly where a text spells them, and refused exactly as the text is.

@@ -3,3 +3,4 @@ pub mod Tables
 pub mod Names
 pub mod PrintedTable
 pub mod Asking
+pub mod inner

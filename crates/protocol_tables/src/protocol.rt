@@ -2,8 +2,9 @@
 
 ghost use Rattle.std.specs.Prelude.{◌≡◌, List, ℕ};
 ghost use Rattle.protocol_tables.specs.Tables.{Table};
-ghost use Rattle.protocol_tables.specs.Laws.{FillsExclusiveOnlyAlone, GivesUp, Shares, CleansByMemory, Supplies};
-ghost use Rattle.protocol_tables.specs.Laws.{WritesInPlace, WritesBackDirty};
+ghost use Rattle.protocol_tables.specs.inner.Laws.{FillsExclusiveOnlyAlone, GivesUp, Shares, CleansByMemory, Supplies};
+ghost use Rattle.protocol_tables.specs.Laws.{WritesInPlace};
+ghost use Rattle.protocol_tables.specs.inner.Laws.{WritesBackDirty};
 
 use crate::state::{Snoop, State};
 

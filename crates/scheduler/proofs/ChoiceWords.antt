@@ -10,10 +10,11 @@ use Rattle.scheduler.specs.declared.fault.ChoiceFault.TheVariants.{BadWord, NoSu
 use Rattle.scheduler.specs.declared.item.Action.{Action}
 use Rattle.scheduler.specs.declared.item.Action.TheVariants.{Step, Drain}
 use Rattle.scheduler.specs.declared.item.Item.TheVariants.{One}
-use Rattle.decimals.specs.Decimals.{decimal_value, number_up_to}
+use Rattle.decimals.specs.Decimals.{decimal_value}
+use Rattle.decimals.specs.inner.Decimals.{number_up_to}
 use Rattle.scheduler.specs.Words.{is_numeral}
 use Rattle.scheduler.specs.Grammar.{IsChoiceWord, step, drain}
-use Rattle.scheduler.specs.Reading.{action_of, choice_by, one_at, one_of}
+use Rattle.scheduler.specs.inner.Reading.{action_of, choice_by, one_at, one_of}
 use Rattle.scheduler.proofs.Items.{one_is, one_none}
 
 -- which way a test went

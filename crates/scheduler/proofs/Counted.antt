@@ -8,8 +8,9 @@ use Rattle.std.proofs.lemmas.List.Sums.{sum_by-set, get_or-le-sum_by}
 use Rattle.std.specs.Ordering.{ord_max, nat_cmp}
 use borrow.Author.Tests.{tests}
 use Rattle.tso_model.specs.ProgramOrder.{same_kind, is_store, is_load, is_before}
-use Rattle.tso_laws.specs.Depth.{asked, needed}
-use Rattle.scheduler.specs.Passed.{HaveCounted, stores_below}
+use Rattle.tso_laws.specs.Depth.{needed}
+use Rattle.tso_laws.specs.inner.Depth.{asked}
+use Rattle.scheduler.specs.inner.Passed.{HaveCounted, stores_below}
 use Rattle.tso_model.specs.declared.execution.Entry.{Entry}
 use Rattle.tso_model.specs.declared.execution.Kind.{Kind}
 use Rattle.tso_model.specs.declared.execution.Kind.TheVariants.{R, W, F, LR, LW}

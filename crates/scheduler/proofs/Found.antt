@@ -19,7 +19,7 @@ use Rattle.scheduler.specs.Seeds.{seeded_choices, drawn_words, generator, choice
 use Rattle.scheduler.specs.Limits.{most_choices}
 use Rattle.scheduler.specs.Grammar.{IsChoiceWord, IsItem, one, seeded}
 use Rattle.scheduler.specs.Refusals.{IsItemAtFault, bad_form, cut_seed, bad_seed, bad_count, no_core, too_many}
-use Rattle.scheduler.specs.Reading.{made_of, words_in, one_of, seed_of, seeded_from, seeded_of, item_of}
+use Rattle.scheduler.specs.inner.Reading.{made_of, words_in, one_of, seed_of, seeded_from, seeded_of, item_of}
 use Rattle.scheduler.proofs.ChoiceWords.{either, number_in, number_out, reads_absent, reads_full, reads_there, not_a_choice, word_cases}
 
 -- as many words as one asks for, and as many choices

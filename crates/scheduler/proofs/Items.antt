@@ -4,9 +4,9 @@ use Rattle.std.proofs.lemmas.List.{take_at, get_or_at, length-append}
 use Rattle.scheduler.specs.declared.fault.ChoiceFault.TheVariants.{BadWord, NoSuchCore, TooMany}
 use Rattle.scheduler.specs.declared.item.Action.{Action}
 use Rattle.scheduler.specs.declared.item.Item.TheVariants.{One, Seeded}
-use Rattle.decimals.specs.Decimals.{number_up_to}
+use Rattle.decimals.specs.inner.Decimals.{number_up_to}
 use Rattle.scheduler.specs.Words.{is_numeral}
-use Rattle.scheduler.specs.Reading.{action_of, choice_by, one_from, one_of, seed_of, seeded_from, seeded_of}
+use Rattle.scheduler.specs.inner.Reading.{action_of, choice_by, one_from, one_of, seed_of, seeded_from, seeded_of}
 
 pub one_is : (cores room number : ℕ) (word digits : List ℕ) (letter : ℕ) → word ≡ digits ++ letter ∷ [] → one_of cores room number word ≡ one_from cores room number digits (action_of letter)
 unfolding one_of

@@ -9,7 +9,7 @@ use Rattle.scheduler.specs.declared.item.Item.TheVariants.{One, Seeded}
 use Rattle.scheduler.specs.Limits.{most_choices}
 use Rattle.scheduler.specs.Grammar.{IsItem, AreItems, none, more}
 use Rattle.scheduler.specs.Refusals.{IsItemAtFault, AreRefused}
-use Rattle.scheduler.specs.Reading.{made_of, words_in, item_of}
+use Rattle.scheduler.specs.inner.Reading.{made_of, words_in, item_of}
 use Rattle.scheduler.proofs.Found.{Fits, IsRead, item_read}
 
 -- an item after items

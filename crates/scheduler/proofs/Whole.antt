@@ -15,7 +15,7 @@ use Rattle.scheduler.specs.Words.{words_of}
 use Rattle.scheduler.specs.Limits.{most_choices}
 use Rattle.scheduler.specs.Grammar.{IsChoiceWord, IsItem, one, seeded, AreItems, none, more, WordsSpell}
 use Rattle.scheduler.specs.Refusals.{IsItemAtFault, bad_form, cut_seed, bad_seed, bad_count, no_core, too_many, AreRefused, IsDecided}
-use Rattle.scheduler.specs.Reading.{made_of, words_in, one_of, seeded_of, item_of}
+use Rattle.scheduler.specs.inner.Reading.{made_of, words_in, one_of, seeded_of, item_of}
 use Rattle.scheduler.proofs.ChoiceWords.{number_in, number_out, reads_absent, reads_full, reads_there, word_cases, choice_is_no_seed}
 use Rattle.scheduler.proofs.Found.{IsRead, item_read, length_seeded, seed_in, seed_out}
 use Rattle.scheduler.proofs.Loop.{one_more}

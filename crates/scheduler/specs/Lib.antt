@@ -1,11 +1,8 @@
 pub mod Limits
 pub mod Words
 pub mod Seeds
-pub mod Coming
 pub mod Grammar
 pub mod Refusals
-pub mod Reading
-pub mod ItemsRead
 pub mod Reach
-pub mod Passed
 pub mod Printed
+pub mod inner

@@ -3,7 +3,7 @@
 ghost use Rattle.std.specs.Prelude.{◌≡◌, ◌<◌, List, length, map};
 ghost use Rattle.tso_model.specs.Runs.{CoresExist};
 ghost use Rattle.tso_model.specs.declared.choice.Choice.{Choice};
-ghost use Rattle.scheduler.specs.Coming.{IsNext};
+ghost use Rattle.scheduler.specs.inner.Coming.{IsNext};
 ghost use Rattle.scheduler.specs.Seeds.{choice_of_word, drawn_words, seeded_choices};
 
 use crate::seeds::choice_of_word;

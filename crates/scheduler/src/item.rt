@@ -2,8 +2,8 @@
 
 ghost use Rattle.std.specs.Prelude.{◌≡◌, ◌<◌, ◌≤◌, ◌+◌, ◌-◌, ◌^◌, ◌++◌, length, drop, IfOk, OnOk};
 ghost use Rattle.scheduler.specs.Words.{words_of};
-ghost use Rattle.scheduler.specs.Reading.{made_of, words_in, action_of, choice_by, one_of, seed_of, seeded_of, item_of};
-ghost use Rattle.scheduler.specs.ItemsRead.{IsItemRead};
+ghost use Rattle.scheduler.specs.inner.Reading.{made_of, words_in, action_of, choice_by, one_of, seed_of, seeded_of, item_of};
+ghost use Rattle.scheduler.specs.inner.ItemsRead.{IsItemRead};
 
 use crate::fault::ChoiceFault;
 use crate::numbers::is_numeral;
@@ -20,7 +20,7 @@ pub enum Action {
 }
 
 impl Action {
-    #[tactic(auto, unfolding(crate::specs::Reading::action_of))]
+    #[tactic(auto, unfolding(crate::specs::inner::Reading::action_of))]
     fn of(letter: u8) -> Option<Action>
         ensures { result ≡ action_of letter }
     {
@@ -105,7 +105,7 @@ fn read_one(cores: u8, room: usize, number: usize, word: &[u8]) -> Result<Item, 
 }
 
 /// The seed that a word says, if it is a number below 2^64.
-#[tactic(auto, unfolding(crate::specs::Reading::seed_of))]
+#[tactic(auto, unfolding(crate::specs::inner::Reading::seed_of))]
 fn seed_of(word: &[u8]) -> Option<u64>
     ensures { result ≡ seed_of word.now }
 {
@@ -145,7 +145,7 @@ fn read_seeded(room: usize, number: usize, text: &[u8]) -> Result<ItemRead<'_>, 
 
 /// Reads the item that begins with a word, whose number is `number`, where `room` choices more are allowed. After the
 /// word stands this text.
-#[tactic(auto, unfolding(crate::specs::Reading::item_of))]
+#[tactic(auto, unfolding(crate::specs::inner::Reading::item_of))]
 pub fn read_item<'a>(
     cores: u8,
     room: usize,

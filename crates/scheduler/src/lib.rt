@@ -18,6 +18,6 @@ pub use choices::{MAX_CHOICES, read_choices};
 pub use coming::{Choices, Listed, Seeded};
 pub use fault::{ChoiceFault, WitnessFault};
 pub use laws::{printed_choices_are_spelled, spelled_cores_exist, texts_are_decided};
-pub use printing::choices_text;
+pub use printing::{choices_text, write_after};
 pub use reaching::witness;
 pub use seeds::seeded_choices;

@@ -21,8 +21,10 @@ pub fn choices_text(alloc: Global, choices: &[Choice]) -> Result<String, NoMemor
     Ok(text)
 }
 
-/// The choices that come after another, each after a space.
-fn write_after(text: &mut String, choices: &[Choice]) -> Result<(), NoMemory>
+/// ` 0s 1d ..`: choices that come after something else, each after a space.
+///
+/// Errors: out of memory only.
+pub fn write_after(text: &mut String, choices: &[Choice]) -> Result<(), NoMemory>
     ensures { OnOk result (string_bytes text.new ≡ string_bytes text.old ++ printed_after choices.now) }
 {
     for choice in choices {

@@ -6,16 +6,18 @@ use Rattle.protocol_tables.specs.declared.state.State.TheVariants.{M}
 use Rattle.protocol_tables.specs.declared.asking.Transient.{Transient}
 use Rattle.protocol_tables.specs.declared.asking.Transient.TheVariants.{IsD, ImD, SmD}
 use Rattle.cache_set.specs.declared.Line.{Line}
-use Rattle.cache_set.specs.Copy.{copy_with, with_state, with_word}
+use Rattle.cache_set.specs.inner.Copy.{copy_with, with_state, with_word}
 use Rattle.snoop_bus.specs.Lines.{Words}
 use Rattle.snoop_bus.specs.Coherent.{state_of}
-use Rattle.snoop_bus.specs.Copies.{Sets, copy_at, cache_of, ways_of}
+use Rattle.snoop_bus.specs.Copies.{Sets, copy_at, cache_of}
+use Rattle.snoop_bus.specs.inner.Copies.{ways_of}
 use Rattle.snoop_bus.specs.Bus.{current_words, AllCoherent}
-use Rattle.snoop_bus.specs.Requests.{ChangesCopy}
-use Rattle.snoop_bus.specs.Accessing.{KeepsWords, SetsWord}
+use Rattle.snoop_bus.specs.inner.Requests.{ChangesCopy}
+use Rattle.snoop_bus.specs.inner.Accessing.{KeepsWords, SetsWord}
 use Rattle.snoop_bus.specs.declared.holding.Transaction.{Transaction}
 use Rattle.snoop_bus.specs.declared.holding.Stage.TheVariants.{Write}
-use Rattle.snoop_bus.specs.Held.{counting, AskedOf, Awaits}
+use Rattle.snoop_bus.specs.Held.{counting}
+use Rattle.snoop_bus.specs.inner.Held.{AskedOf, Awaits}
 use Rattle.snoop_bus.proofs.Numbers.{differ, itself}
 use Rattle.snoop_bus.proofs.CurrentWords.{same-coherent, same-seen}
 use Rattle.snoop_bus.proofs.HeldLemmas.{counting-at, ways-counting}

@@ -11,10 +11,12 @@ use Rattle.snoop_bus.specs.Lines.{Words}
 use Rattle.snoop_bus.specs.Rows.{rows_of, table_of_rows}
 use Rattle.snoop_bus.specs.CacheContents.{TagSets}
 use Rattle.snoop_bus.specs.Copies.{Sets, cache_of, tags_of}
-use Rattle.snoop_bus.specs.Held.{counted, held_by, stage_for}
+use Rattle.snoop_bus.specs.Held.{counted, stage_for}
+use Rattle.snoop_bus.specs.inner.Held.{held_by}
 use Rattle.snoop_bus.specs.Bus.{current_words, bus_with}
-use Rattle.snoop_bus.specs.Accessing.{KeepsWords}
-use Rattle.snoop_bus.specs.Asks.{awaiting, transacting, asked_for, request_for, transaction_of, asking, asked_caches, asked_memory, awaited_in}
+use Rattle.snoop_bus.specs.inner.Accessing.{KeepsWords}
+use Rattle.snoop_bus.specs.Asks.{awaiting, asked_for, request_for, asking, asked_caches, asked_memory, awaited_in}
+use Rattle.snoop_bus.specs.inner.Asks.{transacting, transaction_of}
 use Rattle.snoop_bus.specs.Accesses.{AsksFor}
 use Rattle.snoop_bus.proofs.RowLemmas.{table_of-rows}
 use Rattle.snoop_bus.proofs.WordLemmas.{words-same}

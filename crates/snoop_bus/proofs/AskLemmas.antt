@@ -1,7 +1,7 @@
 -- What an ask answers and leaves.
 use Rattle.std.proofs.Common.{◌≡◌, ℕ, ◌<◌, false, Option, None, is_some, List, length, refl, ◌∙◌, slice_set, if◌then◌else◌}
 use Rattle.std.specs.List.{list_any}
-use Rattle.protocol_tables.specs.Laws.{GivesUp, Shares, CleansByMemory, Supplies, FillsExclusiveOnlyAlone, WritesBackDirty}
+use Rattle.protocol_tables.specs.inner.Laws.{GivesUp, Shares, CleansByMemory, Supplies, FillsExclusiveOnlyAlone, WritesBackDirty}
 use Rattle.protocol_tables.specs.Tables.{Table}
 use Rattle.protocol_tables.specs.declared.state.State.{State}
 use Rattle.protocol_tables.specs.declared.state.State.TheVariants.{M}
@@ -9,15 +9,17 @@ use Rattle.protocol_tables.specs.declared.asking.Request.TheVariants.{GetS, GetM
 use Rattle.protocol_tables.specs.declared.asking.Transient.TheVariants.{IsD, ImD}
 use Rattle.tso_model.specs.declared.instruction.Core.{Core}
 use Rattle.cache_set.specs.declared.Victim.{Victim}
-use Rattle.cache_set.specs.Copy.{copy_with}
+use Rattle.cache_set.specs.inner.Copy.{copy_with}
 use Rattle.snoop_bus.specs.Lines.{Words, line_in}
 use Rattle.snoop_bus.specs.CacheContents.{flusher_from}
-use Rattle.snoop_bus.specs.Copies.{Sets, in_set, copy_in, copy_at, cache_of, tags_of, ways_of}
+use Rattle.snoop_bus.specs.Copies.{Sets, in_set, copy_in, copy_at, cache_of, tags_of}
+use Rattle.snoop_bus.specs.inner.Copies.{ways_of}
 use Rattle.snoop_bus.specs.Bus.{current_words, AllCoherent}
-use Rattle.snoop_bus.specs.Requests.{LeftByOthers, Supplied}
-use Rattle.snoop_bus.specs.Accessing.{KeepsWords}
+use Rattle.snoop_bus.specs.inner.Requests.{LeftByOthers, Supplied}
+use Rattle.snoop_bus.specs.inner.Accessing.{KeepsWords}
 use Rattle.snoop_bus.specs.Held.{with_copy, counting}
-use Rattle.snoop_bus.specs.Asks.{transacting, asked_memory}
+use Rattle.snoop_bus.specs.Asks.{asked_memory}
+use Rattle.snoop_bus.specs.inner.Asks.{transacting}
 use Rattle.snoop_bus.proofs.NewLemmas.{same_cores}
 use Rattle.snoop_bus.proofs.HeldLemmas.{copy_in-with, left-counting, ways-counting, same_sets}
 use Rattle.snoop_bus.proofs.WriteMiss.{Basis as WriteBasis, words_are as write_words_are, coherent_after as write_coherent_after, seen_after as write_seen_after}

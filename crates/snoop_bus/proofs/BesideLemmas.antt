@@ -8,13 +8,15 @@ use Rattle.protocol_tables.specs.declared.asking.Transient.TheVariants.{IsD, ImD
 use Rattle.cache_set.specs.declared.Line.{Line}
 use Rattle.snoop_bus.specs.Lines.{Words}
 use Rattle.snoop_bus.specs.Coherent.{state_of}
-use Rattle.snoop_bus.specs.Copies.{Sets, copy_at, ways_of}
-use Rattle.snoop_bus.specs.Requests.{ChangesCopy}
+use Rattle.snoop_bus.specs.Copies.{Sets, copy_at}
+use Rattle.snoop_bus.specs.inner.Copies.{ways_of}
+use Rattle.snoop_bus.specs.inner.Requests.{ChangesCopy}
 use Rattle.snoop_bus.specs.declared.holding.Held.{Held}
 use Rattle.snoop_bus.specs.declared.holding.Stage.{Stage}
 use Rattle.snoop_bus.specs.declared.holding.Stage.TheVariants.{Load, Write, Locked}
 use Rattle.snoop_bus.specs.declared.holding.Transaction.{Transaction}
-use Rattle.snoop_bus.specs.Held.{counted_in, counted, IsHeld, Awaits, AskedOf}
+use Rattle.snoop_bus.specs.Held.{counted_in, counted}
+use Rattle.snoop_bus.specs.inner.Held.{IsHeld, Awaits, AskedOf}
 use Rattle.snoop_bus.proofs.Numbers.{differ, itself}
 use Rattle.snoop_bus.proofs.NewLemmas.{same_cores}
 use Rattle.snoop_bus.proofs.HeldLemmas.{counting-at, ways-counting, same_sets}

@@ -3,6 +3,7 @@ use Rattle.std.proofs.Common.{◌≡◌, ◌⊎◌, inl, inr, ℕ, ◌<◌, ◌�
 use Rattle.protocol_tables.specs.Tables.{Table}
 use Rattle.cache_set.specs.declared.Line.{Line}
 use Rattle.snoop_bus.specs.declared.access.Access.{Access}
+use Rattle.snoop_bus.specs.declared.access.Updated.{Updated}
 use Rattle.snoop_bus.specs.declared.access.AccessKind.TheVariants.{Miss}
 use Rattle.snoop_bus.specs.Geometry.{Geometry}
 use Rattle.snoop_bus.specs.Lines.{Words, line_in, words_in}
@@ -11,10 +12,12 @@ use Rattle.snoop_bus.specs.CacheContents.{Accessed, loaded, written}
 use Rattle.snoop_bus.specs.Copies.{Sets, copy_at, tags_of}
 use Rattle.snoop_bus.specs.declared.holding.Held.{Held}
 use Rattle.snoop_bus.specs.Held.{counted}
-use Rattle.snoop_bus.specs.Bus.{Bus, bus_with, current_words, program_words, IsBus}
-use Rattle.snoop_bus.specs.Accesses.{load_of, write_of, MayGoOn, IsCurrentWord, LoadsAt, WritesAt, KeepsHolder, IsOutOfMemory}
+use Rattle.snoop_bus.specs.Bus.{Bus, bus_with, current_words, program_words}
+use Rattle.snoop_bus.specs.inner.Bus.{IsBus}
+use Rattle.snoop_bus.specs.Accesses.{load_of, write_of, IsCurrentWord, LoadsAt, WritesAt, KeepsHolder}
+use Rattle.snoop_bus.specs.inner.Accesses.{MayGoOn, IsOutOfMemory}
 use Rattle.snoop_bus.specs.MemoryAfter.{loaded_memory, written_memory}
-use Rattle.snoop_bus.specs.Accessing.{IsReady, KeepsWords, Loads, Writes, IsUnchanged}
+use Rattle.snoop_bus.specs.inner.Accessing.{IsReady, KeepsWords, Loads, Updates, IsUnchanged}
 use Rattle.snoop_bus.proofs.RowLemmas.{table_of-rows}
 use Rattle.snoop_bus.specs.Asks.{hits}
 use Rattle.snoop_bus.proofs.HolderLemmas.{free-held}
@@ -72,17 +75,17 @@ module _ (t : Table) (shape : Geometry) (locations : ℕ) (c0 c2 : List Sets) (m
   }
 
   -- the word that was there
-  pub write_word : {E : Type 0} (new : ℕ → ℕ) (r : Result (ℕ × Access) E) → loc < locations → IfOk r (λ r. Writes t held core (loc / shape.words) (loc % shape.words) (new r.0) c0 c2 m0 m2 r.0 r.1) →
-      IfOk r (λ r. IsCurrentWord before loc r.0)
-  write_word new (Err e) within h = tt
-  write_word new (Ok x) within h = words-get shape.words (current_words (counted held c0) m0) locations loc within ∙ ap (λ (w : ℕ). Some w) (sym h.word_is)
+  pub write_word : {E : Type 0} (r : Result Updated E) → loc < locations → IfOk r (Updates t held core (loc / shape.words) (loc % shape.words) c0 c2 m0 m2) →
+      IfOk r (λ r. IsCurrentWord before loc r.before)
+  write_word (Err e) within h = tt
+  write_word (Ok x) within h = words-get shape.words (current_words (counted held c0) m0) locations loc within ∙ ap (λ (w : ℕ). Some w) (sym h.word_is)
 
   -- the word that is written may rest on the one that was there
-  pub write_done : {E : Type 0} (new : ℕ → ℕ) (r : Result (ℕ × Access) E) → 0 < shape.words → locations ≤ length m0 * shape.words → loc < locations →
-      IfOk r (λ r. Writes t held core (loc / shape.words) (loc % shape.words) (new r.0) c0 c2 m0 m2 r.0 r.1) → IfOk r (λ r. WritesAt before after core loc (new r.0) r.1)
-  write_done new (Err e) some enough within h = tt
-  write_done new (Ok x) some enough within h = record {
-    words = words-set shape.words locations (length m0) (current_words (counted held c0) m0) (current_words (counted held c2) m2) loc (new x.0) some enough within h.place_in h.lines;
+  pub write_done : {E : Type 0} (r : Result Updated E) → 0 < shape.words → locations ≤ length m0 * shape.words → loc < locations →
+      IfOk r (Updates t held core (loc / shape.words) (loc % shape.words) c0 c2 m0 m2) → IfOk r (λ r. WritesAt before after core loc r.after r.access)
+  write_done (Err e) some enough within h = tt
+  write_done (Ok x) some enough within h = record {
+    words = words-set shape.words locations (length m0) (current_words (counted held c0) m0) (current_words (counted held c2) m2) loc x.after some enough within h.place_in h.lines;
     access_is = h.access_is ∙ ap (λ (u : Table). (written u core (loc / shape.words) (tags_of c0)).access) back;
     contents = h.tags ∙ ap (λ (u : Table). (written u core (loc / shape.words) (tags_of c0)).caches) back;
     memory = h.memory ∙ ap (λ (u : Table). written_memory u core (loc / shape.words) c0 m0) back;

@@ -11,8 +11,10 @@ use Rattle.cache_set.specs.Contents.{contents, copy_of}
 use Rattle.snoop_bus.specs.Geometry.{Geometry}
 use Rattle.snoop_bus.specs.Rows.{rows_of}
 use Rattle.snoop_bus.specs.Lines.{Words, words_in, lines_of_words}
-use Rattle.snoop_bus.specs.Copies.{Sets, emptied, ways_of, AtHome}
-use Rattle.snoop_bus.specs.Bus.{Bus, IsBus, words_of, current_words, empty_caches}
+use Rattle.snoop_bus.specs.Copies.{Sets}
+use Rattle.snoop_bus.specs.inner.Copies.{emptied, ways_of, AtHome}
+use Rattle.snoop_bus.specs.Bus.{Bus, words_of, current_words, empty_caches}
+use Rattle.snoop_bus.specs.inner.Bus.{IsBus}
 use Rattle.snoop_bus.specs.Accesses.{new_bus}
 use Rattle.snoop_bus.specs.declared.holding.Held.{Held}
 use Rattle.snoop_bus.proofs.NewLemmas.{map-replicate, new-bus, new-words}

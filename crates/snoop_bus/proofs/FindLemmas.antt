@@ -14,8 +14,8 @@ use Rattle.tso_model.specs.Limits.{most_cores}
 use Rattle.snoop_bus.specs.Lines.{Words}
 use Rattle.snoop_bus.specs.CacheContents.{flusher_from}
 use Rattle.snoop_bus.specs.Copies.{Sets, copy_in, copy_at, tags_in, tags_of}
-use Rattle.snoop_bus.specs.Requests.{supplied_of, Supplied}
-use Rattle.snoop_bus.specs.Finding.{nothing_found, noting}
+use Rattle.snoop_bus.specs.inner.Requests.{supplied_of, Supplied}
+use Rattle.snoop_bus.specs.inner.Finding.{nothing_found, noting}
 use Rattle.snoop_bus.proofs.SnoopLemmas.{flusher-at}
 
 abbrev pub state_in : Option Line → Option State

@@ -8,9 +8,10 @@ use Rattle.protocol_tables.specs.declared.state.State.{State}
 use Rattle.protocol_tables.specs.declared.state.Snoop.{Snoop}
 use Rattle.cache_set.specs.declared.Line.{Line}
 use Rattle.cache_set.specs.Contents.{Contents, contents, copy_of}
-use Rattle.snoop_bus.specs.Copies.{Sets, set_at, in_set, copy_in, copy_at, cache_of, ways_of}
+use Rattle.snoop_bus.specs.Copies.{Sets, set_at, in_set, copy_in, copy_at, cache_of}
+use Rattle.snoop_bus.specs.inner.Copies.{ways_of}
 use Rattle.snoop_bus.specs.Held.{with_copy, counting}
-use Rattle.snoop_bus.specs.Requests.{left_by, LeftByOthers, ChangesCopy}
+use Rattle.snoop_bus.specs.inner.Requests.{left_by, LeftByOthers, ChangesCopy}
 use Rattle.snoop_bus.proofs.Numbers.{differ, itself}
 use Rattle.snoop_bus.proofs.CurrentWords.{copy_at-set}
 use Rattle.snoop_bus.proofs.UseLemmas.{ways-set_cache}

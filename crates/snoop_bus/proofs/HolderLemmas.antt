@@ -11,13 +11,14 @@ use Rattle.snoop_bus.specs.Lines.{Words}
 use Rattle.snoop_bus.specs.Coherent.{Coherent, state_of}
 use Rattle.snoop_bus.specs.Copies.{Sets, copy_at, cache_of, tags_of}
 use Rattle.snoop_bus.specs.Bus.{AllCoherent, bus_with}
-use Rattle.snoop_bus.specs.Accesses.{StandsAlone}
+use Rattle.snoop_bus.specs.inner.Accesses.{StandsAlone}
 use Rattle.snoop_bus.specs.declared.holding.Held.{Held}
 use Rattle.snoop_bus.specs.declared.holding.Holder.{Holder}
 use Rattle.snoop_bus.specs.declared.holding.Stage.{Stage}
 use Rattle.snoop_bus.specs.declared.holding.Stage.TheVariants.{Load, Write, Locked}
 use Rattle.snoop_bus.specs.declared.holding.Transaction.{Transaction}
-use Rattle.snoop_bus.specs.Held.{counting, counted, IsHeld, IsPlaced, Awaits, holder, held_by, holder_in}
+use Rattle.snoop_bus.specs.Held.{counting, counted, holder, holder_in}
+use Rattle.snoop_bus.specs.inner.Held.{IsHeld, IsPlaced, Awaits, held_by}
 use Rattle.snoop_bus.specs.Asks.{hits, hit_in}
 use Rattle.snoop_bus.proofs.Numbers.{differ, itself}
 use Rattle.snoop_bus.proofs.Coherence.{alone}

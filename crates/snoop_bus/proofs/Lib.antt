@@ -2,6 +2,7 @@ pub mod Numbers
 pub mod RowLemmas
 pub mod Coherence
 pub mod CurrentWords
+pub mod StateLemmas
 pub mod TagLemmas
 pub mod CacheTags
 pub mod UseLemmas
@@ -35,3 +36,4 @@ pub mod Emptied
 pub mod CallLemmas
 pub mod AskCalls
 pub mod BothWays
+pub mod LookingLemmas

@@ -1,7 +1,8 @@
 -- What a load that misses answers and leaves.
 use Rattle.std.proofs.lemmas.List.{get_or-set_same, get_or-set_other, length-set}
 use Rattle.std.proofs.Common.{◌≡◌, ◌≢◌, ◌⊎◌, inl, inr, ℕ, ◌<◌, Bool, true, false, Option, Some, None, is_some, option_map, IfSome, List, [], map, length, refl, sym, ap, subst, ◌∙◌, slice_set, slice_index, if◌then◌else◌}
-use Rattle.protocol_tables.specs.Laws.{is_dirty, Shares, CleansByMemory, Supplies, FillsExclusiveOnlyAlone, WritesBackDirty}
+use Rattle.protocol_tables.specs.Laws.{is_dirty}
+use Rattle.protocol_tables.specs.inner.Laws.{Shares, CleansByMemory, Supplies, FillsExclusiveOnlyAlone, WritesBackDirty}
 use Rattle.protocol_tables.specs.Tables.{Table}
 use Rattle.protocol_tables.specs.declared.state.State.{State}
 use Rattle.protocol_tables.specs.declared.state.State.TheVariants.{I}
@@ -9,18 +10,19 @@ use Rattle.protocol_tables.specs.declared.state.Snoop.{Snoop}
 use Rattle.tso_model.specs.declared.instruction.Core.{Core}
 use Rattle.cache_set.specs.declared.Line.{Line}
 use Rattle.cache_set.specs.declared.Victim.{Victim}
-use Rattle.cache_set.specs.Contents.{with_new, after_fill}
-use Rattle.cache_set.specs.Copy.{copy_with}
+use Rattle.cache_set.specs.inner.Contents.{with_new, after_fill}
+use Rattle.cache_set.specs.inner.Copy.{copy_with}
 use Rattle.snoop_bus.specs.Lines.{Words, line_in}
 use Rattle.snoop_bus.specs.Coherent.{Coherent, state_of}
 use Rattle.std.specs.List.{list_any}
 use Rattle.snoop_bus.specs.declared.access.AccessKind.TheVariants.{Miss}
 use Rattle.snoop_bus.specs.declared.access.Access.{Access}
 use Rattle.snoop_bus.specs.CacheContents.{Accessed, is_held, flusher_from, dirty_in, requested, filled_by, writes_back, loaded}
-use Rattle.snoop_bus.specs.Copies.{Sets, in_set, copy_in, copy_at, cache_of, tags_of, ways_of}
+use Rattle.snoop_bus.specs.Copies.{Sets, in_set, copy_in, copy_at, cache_of, tags_of}
+use Rattle.snoop_bus.specs.inner.Copies.{ways_of}
 use Rattle.snoop_bus.specs.Bus.{current_words, AllCoherent}
-use Rattle.snoop_bus.specs.Requests.{left_by, LeftByOthers, Supplied}
-use Rattle.snoop_bus.specs.Accessing.{KeepsWords, Loads}
+use Rattle.snoop_bus.specs.inner.Requests.{left_by, LeftByOthers, Supplied}
+use Rattle.snoop_bus.specs.inner.Accessing.{KeepsWords, Loads}
 use Rattle.snoop_bus.specs.MemoryAfter.{written_back, flushed, sent_words, victim_at, loaded_memory}
 use Rattle.snoop_bus.proofs.CacheTags.{is_held-copies}
 use Rattle.snoop_bus.proofs.UseLemmas.{ways-set_cache, tags-filled}

@@ -14,13 +14,16 @@ use Rattle.tso_model.specs.Limits.{most_cores}
 use Rattle.snoop_bus.specs.Geometry.{Geometry}
 use Rattle.snoop_bus.specs.Lines.{Words, line_in, word_at, words_in, place_of, line_of_words, lines_of_words}
 use Rattle.snoop_bus.specs.Coherent.{Coherent}
-use Rattle.snoop_bus.specs.Copies.{Sets, copy_in, copy_at, cache_of, ways_of}
-use Rattle.snoop_bus.specs.Bus.{current_words, AllCoherent, HasWholeLines, IsBus, empty_caches}
+use Rattle.snoop_bus.specs.Copies.{Sets, copy_in, copy_at, cache_of}
+use Rattle.snoop_bus.specs.inner.Copies.{ways_of}
+use Rattle.snoop_bus.specs.Bus.{current_words, AllCoherent, empty_caches}
+use Rattle.snoop_bus.specs.inner.Bus.{HasWholeLines, IsBus}
 use Rattle.snoop_bus.proofs.CurrentWords.{seen_is, all_coherent}
-use Rattle.snoop_bus.specs.declared.access.Access.{Access}
+use Rattle.snoop_bus.specs.declared.access.Updated.{Updated}
 use Rattle.snoop_bus.specs.declared.holding.Held.{Held}
-use Rattle.snoop_bus.specs.Held.{counted, IsHeld, IsPlaced}
-use Rattle.snoop_bus.specs.Accessing.{KeepsWords, SetsWord, Writes, IsUnchanged}
+use Rattle.snoop_bus.specs.Held.{counted}
+use Rattle.snoop_bus.specs.inner.Held.{IsHeld, IsPlaced}
+use Rattle.snoop_bus.specs.inner.Accessing.{KeepsWords, SetsWord, Updates, IsUnchanged}
 use Rattle.snoop_bus.proofs.LineLemmas.{lines-same, lines-set}
 use Rattle.snoop_bus.proofs.WordLemmas.{words-same, line_below}
 
@@ -154,12 +157,12 @@ bus-set shape locations c0 c2 m0 m2 h0 loc value h size within sets ways = bus-a
     (λ k b. lines-set shape.words locations (length m0) (current_words (counted h0 c0) m0) (current_words c2 m2) loc value h.some_word h.enough_lines within sets.place_in sets.lines h.lines k (rw size at b)) tt tt
 
 -- a bus once a write access was made, or was refused
-pub bus-written : {E : Type 0} (t : Table) (held : Option Held) (new : ℕ → ℕ) (r : Result (ℕ × Access) E) (shape : Geometry) (locations : ℕ) (c0 c2 : List Sets) (m0 m2 : List Words) (core loc : ℕ) →
+pub bus-written : {E : Type 0} (t : Table) (held : Option Held) (r : Result Updated E) (shape : Geometry) (locations : ℕ) (c0 c2 : List Sets) (m0 m2 : List Words) (core loc : ℕ) →
     IsBus shape locations c0 m0 held → length m2 ≡ length m0 → loc < locations → AllCoherent (counted held c2) m2 → IfSome held (IsHeld c2 m2) → ways_of c2 ≡ ways_of c0 →
-    IfOk r (λ r. Writes t held core (loc / shape.words) (loc % shape.words) (new r.0) c0 c2 m0 m2 r.0 r.1) → OnErr r (IsUnchanged c0 c2 m0 m2) → IsBus shape locations c2 m2 held
-bus-written t held new (Ok x) shape locations c0 c2 m0 m2 core loc h size within coherent awaited ways writes unchanged = bus-after shape locations c0 c2 m0 m2 held held h size coherent ways
-    (λ k b. lines-set shape.words locations (length m0) (current_words (counted held c0) m0) (current_words (counted held c2) m2) loc (new x.0) h.some_word h.enough_lines within writes.place_in writes.lines h.lines k (rw size at b)) awaited h.placed
-bus-written t held new (Err e) shape locations c0 c2 m0 m2 core loc h size within coherent awaited ways writes unchanged = rw (unchanged.caches, unchanged.memory) h
+    IfOk r (Updates t held core (loc / shape.words) (loc % shape.words) c0 c2 m0 m2) → OnErr r (IsUnchanged c0 c2 m0 m2) → IsBus shape locations c2 m2 held
+bus-written t held (Ok x) shape locations c0 c2 m0 m2 core loc h size within coherent awaited ways writes unchanged = bus-after shape locations c0 c2 m0 m2 held held h size coherent ways
+    (λ k b. lines-set shape.words locations (length m0) (current_words (counted held c0) m0) (current_words (counted held c2) m2) loc x.after h.some_word h.enough_lines within writes.place_in writes.lines h.lines k (rw size at b)) awaited h.placed
+bus-written t held (Err e) shape locations c0 c2 m0 m2 core loc h size within coherent awaited ways writes unchanged = rw (unchanged.caches, unchanged.memory) h
 
 -- each core has as many sets as the shape says
 pub cache-sets : (shape : Geometry) (locations : ℕ) (caches : List Sets) (memory : List Words) (held : Option Held) (core : ℕ) → IsBus shape locations caches memory held → core < length caches → length (cache_of caches core) ≡ shape.sets

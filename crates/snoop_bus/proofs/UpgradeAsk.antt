@@ -2,7 +2,7 @@
 use Rattle.std.proofs.Common.{◌≡◌, ◌≢◌, ◌⊎◌, inl, inr, ℕ, ◌<◌, Bool, true, false, not, IsTrue, IsSome, is_some, Option, Some, None, option_map, List, length, refl, sym, ap, ◌∙◌}
 use Rattle.tso_model.specs.declared.instruction.Core.{Core}
 use Rattle.tso_model.specs.declared.instruction.Loc.{Loc}
-use Rattle.protocol_tables.specs.Laws.{GivesUp}
+use Rattle.protocol_tables.specs.inner.Laws.{GivesUp}
 use Rattle.protocol_tables.specs.Tables.{Table}
 use Rattle.protocol_tables.specs.Asking.{transient_of}
 use Rattle.protocol_tables.specs.declared.state.State.{State}
@@ -11,20 +11,23 @@ use Rattle.protocol_tables.specs.declared.asking.Request.TheVariants.{GetS, GetM
 use Rattle.protocol_tables.specs.declared.asking.Transient.{Transient}
 use Rattle.protocol_tables.specs.declared.asking.Transient.TheVariants.{IsD, ImD}
 use Rattle.cache_set.specs.declared.Line.{Line}
-use Rattle.cache_set.specs.Copy.{copy_with, with_state}
+use Rattle.cache_set.specs.inner.Copy.{copy_with, with_state}
 use Rattle.snoop_bus.specs.Lines.{Words}
 use Rattle.snoop_bus.specs.Coherent.{state_of}
 use Rattle.snoop_bus.specs.CacheContents.{TagSets, requested}
-use Rattle.snoop_bus.specs.Copies.{Sets, copy_at, cache_of, tags_of, ways_of}
+use Rattle.snoop_bus.specs.Copies.{Sets, copy_at, cache_of, tags_of}
+use Rattle.snoop_bus.specs.inner.Copies.{ways_of}
 use Rattle.snoop_bus.specs.Bus.{current_words, AllCoherent}
-use Rattle.snoop_bus.specs.Requests.{LeftByOthers, ChangesCopy}
-use Rattle.snoop_bus.specs.Accessing.{KeepsWords}
+use Rattle.snoop_bus.specs.inner.Requests.{LeftByOthers, ChangesCopy}
+use Rattle.snoop_bus.specs.inner.Accessing.{KeepsWords}
 use Rattle.snoop_bus.specs.declared.holding.Held.{Held}
 use Rattle.snoop_bus.specs.declared.holding.Transaction.{Transaction}
 use Rattle.snoop_bus.specs.declared.holding.Stage.{Stage}
 use Rattle.snoop_bus.specs.declared.holding.Stage.TheVariants.{Load, Write}
-use Rattle.snoop_bus.specs.Held.{counting, Awaits, IsHeld, held_by, stage_for}
-use Rattle.snoop_bus.specs.Asks.{hits, hit_in, request_for, asked_for, asked_caches, transacting, transaction_of, or_invalid}
+use Rattle.snoop_bus.specs.Held.{counting, stage_for}
+use Rattle.snoop_bus.specs.inner.Held.{Awaits, IsHeld, held_by}
+use Rattle.snoop_bus.specs.Asks.{hits, hit_in, request_for, asked_for, asked_caches, or_invalid}
+use Rattle.snoop_bus.specs.inner.Asks.{transacting, transaction_of}
 use Rattle.snoop_bus.proofs.Numbers.{itself}
 use Rattle.snoop_bus.proofs.NewLemmas.{same_cores}
 use Rattle.snoop_bus.proofs.AccessLemmas.{tag_here}

@@ -1,20 +1,21 @@
 -- What a write access that misses answers and leaves.
 use Rattle.std.proofs.Common.{◌≡◌, ℕ, ◌<◌, Bool, Option, Some, None, IfSome, option_map, List, length, map, refl, sym, ap, subst, ◌∙◌, slice_set}
-use Rattle.protocol_tables.specs.Laws.{GivesUp, Supplies, WritesBackDirty}
+use Rattle.protocol_tables.specs.inner.Laws.{GivesUp, Supplies, WritesBackDirty}
 use Rattle.protocol_tables.specs.Tables.{Table}
 use Rattle.protocol_tables.specs.declared.state.State.TheVariants.{M}
 use Rattle.cache_set.specs.declared.Victim.{Victim}
-use Rattle.cache_set.specs.Contents.{with_new, after_fill}
-use Rattle.cache_set.specs.Copy.{copy_with}
+use Rattle.cache_set.specs.inner.Contents.{with_new, after_fill}
+use Rattle.cache_set.specs.inner.Copy.{copy_with}
 use Rattle.snoop_bus.specs.declared.access.AccessKind.TheVariants.{Miss}
 use Rattle.snoop_bus.specs.declared.access.Access.{Access}
 use Rattle.snoop_bus.specs.Lines.{Words, line_in}
 use Rattle.snoop_bus.specs.Coherent.{Coherent}
 use Rattle.snoop_bus.specs.CacheContents.{Accessed, dirty_in, requested, written}
-use Rattle.snoop_bus.specs.Copies.{Sets, in_set, copy_in, copy_at, cache_of, tags_of, ways_of}
+use Rattle.snoop_bus.specs.Copies.{Sets, in_set, copy_in, copy_at, cache_of, tags_of}
+use Rattle.snoop_bus.specs.inner.Copies.{ways_of}
 use Rattle.snoop_bus.specs.Bus.{current_words, AllCoherent}
-use Rattle.snoop_bus.specs.Requests.{LeftByOthers, Supplied}
-use Rattle.snoop_bus.specs.Accessing.{KeepsWords, Acquires}
+use Rattle.snoop_bus.specs.inner.Requests.{LeftByOthers, Supplied}
+use Rattle.snoop_bus.specs.inner.Accessing.{KeepsWords, Acquires}
 use Rattle.snoop_bus.specs.MemoryAfter.{written_back, victim_at, written_memory}
 use Rattle.snoop_bus.proofs.UseLemmas.{ways-set_cache, tags-filled}
 use Rattle.snoop_bus.proofs.AccessLemmas.{written-miss, writes_back-tags}

@@ -1,26 +1,22 @@
 -- What each call makes of a bus, in words of the bus's own: whoever stands above it needs no others. (Primer,
 -- chapters 2, 6 and 7; which line gives way, and which copies are sent to memory, is this project's profile.)
-use Rattle.std.specs.Prelude.{◌≡◌, ◌≢◌, ◌⊎◌, ℕ, ◌/◌, Bool, false, IsTrue, Option, Some, None}
-use Rattle.std.specs.Prelude.{List, [], length, slice_get, slice_set, slice_index_or}
+use Rattle.std.specs.Prelude.{◌≡◌, ℕ, ◌/◌, Bool, Option, Some, None, List, length, slice_get, slice_set}
 use Rattle.std.specs.Int.{div_ceil}
 use Rattle.tso_model.specs.declared.instruction.Core.{Core}
 use Rattle.tso_model.specs.declared.instruction.Loc.{Loc}
-use Rattle.protocol_tables.specs.declared.state.State.TheVariants.{M}
 use Rattle.protocol_tables.specs.Tables.{Table}
-use Rattle.cache_set.specs.Contents.{Contents, contents}
+use Rattle.cache_set.specs.Contents.{contents}
 use Rattle.snoop_bus.specs.declared.access.Access.{Access}
-use Rattle.snoop_bus.specs.declared.access.AccessKind.TheVariants.{Miss}
-use Rattle.snoop_bus.specs.declared.holding.Holder.{Holder}
-use Rattle.snoop_bus.specs.declared.holding.Stage.TheVariants.{Load, Locked}
 use Rattle.snoop_bus.specs.Geometry.{Geometry}
 use Rattle.snoop_bus.specs.Rows.{table_of_rows}
-use Rattle.snoop_bus.specs.Lines.{Words, line_in, words_in, lines_of_words}
-use Rattle.snoop_bus.specs.CacheContents.{TagSets, Accessed, loaded, written, settled}
+use Rattle.snoop_bus.specs.Lines.{Words, lines_of_words}
+use Rattle.snoop_bus.specs.CacheContents.{TagSets, Accessed, loaded, written}
 use Rattle.snoop_bus.specs.Copies.{cache_of, tags_of}
-use Rattle.snoop_bus.specs.Bus.{Bus, bus_with, words_of, holder_of, IsFree, empty_caches}
+use Rattle.snoop_bus.specs.Bus.{Bus, bus_with, words_of, holder_of, empty_caches}
 use Rattle.snoop_bus.specs.MemoryAfter.{loaded_memory, written_memory}
 use Rattle.snoop_bus.specs.Held.{transaction_in, holder, stage_for}
-use Rattle.snoop_bus.specs.Asks.{Awaited, Asked, tag_at, hits, request_for, asking, asked_memory, awaited_in, completed, completed_memory}
+use Rattle.snoop_bus.specs.Asks.{Awaited, Asked, hits, request_for, asking, asked_memory, awaited_in, completed}
+use Rattle.snoop_bus.specs.Asks.{completed_memory}
 
 -- memory with these words: as many lines as they need
 abbrev pub lines_with : Geometry → List ℕ → List Words
@@ -35,16 +31,9 @@ new_bus table cores shape init =
 abbrev pub contents_of : Bus → List TagSets
 contents_of b = tags_of b.caches
 
--- the copies of a core's set with this number, with their words
-abbrev pub copies_of : Bus → ℕ → ℕ → Contents
-copies_of b core set = slice_index_or (cache_of b.caches core) set (contents [] 1)
-
 -- the lines in memory, after the caches, and memory's own word at each location
 abbrev pub memory_of : Bus → List Words
 memory_of b = b.memory
-
-abbrev pub memory_words_of : Bus → List ℕ
-memory_words_of b = words_in b.shape.words (line_in b.memory) b.locations
 
 -- the line in which a location lies
 abbrev pub line_of : Bus → ℕ → ℕ
@@ -69,14 +58,6 @@ memory_after_write b core loc = written_memory (table_of_rows b.rows) core (line
 abbrev pub would_hit : Bus → ℕ → ℕ → Bool → Bool
 would_hit b core loc write = hits (table_of_rows b.rows) core (line_of b loc) write (contents_of b)
 
--- a core's access to the line for which another core's write access holds the bus doesn't hit
-abbrev pub KeepsOut : Bus → Core → Loc → Bool → Holder → Type 0
-KeepsOut b core loc hit h = line_of b h.loc.0 ≡ line_of b loc.0 → h.stage ≢ Load → h.core ≢ core → hit ≡ false
-
--- an access that may be made whole: nobody holds the bus, or it hits
-abbrev pub MayGoOn : Bus → ℕ → ℕ → Bool → Type 0
-MayGoOn b core loc write = IsFree b ⊎ IsTrue (would_hit b core loc write)
-
 -- the word that a program sees at a location
 abbrev pub IsCurrentWord : Bus → ℕ → ℕ → Type 0
 IsCurrentWord b loc word = slice_get (words_of b) loc ≡ Some word
@@ -98,10 +79,6 @@ completion_of b core loc = completed (table_of_rows b.rows) core (line_of b loc)
 
 abbrev pub memory_after_completion : Bus → ℕ → ℕ → List Words
 memory_after_completion b core loc = completed_memory (table_of_rows b.rows) core (line_of b loc) (awaited_of b) b.caches b.memory
-
--- the contents once every dirty line was written to memory
-abbrev pub contents_settled : Bus → List TagSets
-contents_settled b = settled (contents_of b)
 
 -- who holds the bus, and what is awaited, is as it was
 pub record KeepsHolder (old new : Bus) : Type 0 where
@@ -137,19 +114,8 @@ pub record AsksFor (old new : Bus) (core : Core) (loc : Loc) (write : Bool) : Ty
   pub contents : contents_of new ≡ (ask_of old core.0 loc.0 write).caches
   pub memory : memory_of new ≡ memory_after_ask old loc.0 write
 
--- while a core's write access holds the bus, or its locked instruction, no other core has its line; and where a locked
--- instruction has read, its core has the line in M
-pub record StandsAlone (b : Bus) (h : Holder) : Type 0 where
-  pub others : h.stage ≢ Load → (core : ℕ) → core ≢ h.core.0 → tag_at core (line_of b h.loc.0) (contents_of b) ≡ None
-  pub own : h.stage ≡ Locked → tag_at h.core.0 (line_of b h.loc.0) (contents_of b) ≡ Some M
-
 -- a core's action at a location was completed and was this access: contents and memory are those after the completion
 pub record CompletesAt (old new : Bus) (core loc : ℕ) (access : Access) : Type 0 where
   pub access_is : access ≡ (completion_of old core loc).access
   pub contents : contents_of new ≡ (completion_of old core loc).caches
   pub memory : memory_of new ≡ memory_after_completion old core loc
-
--- an access was out of memory: it was a miss, since no other takes any, and nothing has changed
-pub record IsOutOfMemory (old new : Bus) (refused : Access) : Type 0 where
-  pub miss : refused.kind ≡ Miss
-  pub same : new ≡ old

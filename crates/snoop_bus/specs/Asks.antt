@@ -3,7 +3,6 @@
 -- which copies are sent or written to memory, and when, is this project's profile.)
 use Rattle.std.specs.Prelude.{◌≡◌, ◌≢◌, ℕ, Bool, true, false, List, Option, Some, None, is_some, option_map}
 use Rattle.tso_model.specs.declared.instruction.Core.{Core}
-use Rattle.tso_model.specs.declared.instruction.Loc.{Loc}
 use Rattle.protocol_tables.specs.declared.state.State.{State}
 use Rattle.protocol_tables.specs.declared.state.State.TheVariants.{I, M}
 use Rattle.protocol_tables.specs.declared.asking.Request.{Request}
@@ -12,16 +11,12 @@ use Rattle.protocol_tables.specs.declared.asking.Transient.{Transient}
 use Rattle.protocol_tables.specs.declared.asking.Transient.TheVariants.{IsD, ImD, SmD}
 use Rattle.protocol_tables.specs.Tables.{Table}
 use Rattle.protocol_tables.specs.Asking.{transient_of}
-use Rattle.cache_set.specs.Copy.{copy_with}
 use Rattle.snoop_bus.specs.declared.access.AccessKind.TheVariants.{Hit, Upgrade, Miss}
 use Rattle.snoop_bus.specs.declared.holding.Transaction.{Transaction}
-use Rattle.snoop_bus.specs.declared.holding.Held.{Held}
 use Rattle.snoop_bus.specs.Lines.{Words}
 use Rattle.snoop_bus.specs.CacheContents.{TagSets, tag_in, sets_of, requested, is_held, flusher_from, writes_back}
 use Rattle.snoop_bus.specs.CacheContents.{used_by, filled_by, Accessed, accessed, loaded, written}
-use Rattle.snoop_bus.specs.Copies.{Sets, tags_of}
-use Rattle.snoop_bus.specs.Held.{held_by, stage_for}
-use Rattle.snoop_bus.specs.Bus.{current_words}
+use Rattle.snoop_bus.specs.Copies.{Sets}
 use Rattle.snoop_bus.specs.Requests.{asked}
 use Rattle.snoop_bus.specs.MemoryAfter.{written_back, flushed, sent_words, victim_at}
 
@@ -116,36 +111,12 @@ abbrev pub WritesAreHalves : Table → Type 0
 WritesAreHalves t = (core line : ℕ) (caches : List TagSets) → tag_at core line caches ≢ Some I →
     written t core line caches ≡ in_halves t GetM core line caches
 
--- the transaction of a request, where the line has these words, and what it awaits
-unfoldable pub transacting : Table → Request → ℕ → Words → List TagSets → Transient → Transaction
-transacting t request line words caches transient =
-    record { transient = transient; copy = copy_with (to_fill t request line caches) words; flushed = flusher_of t request line caches }
-
 abbrev pub awaited_by : Transaction → Awaited
 awaited_by x = record { transient = x.transient; state = x.copy.state; flushed = x.flushed }
 
 abbrev pub awaited_in : Option Transaction → Option Awaited
 awaited_in None = None
 awaited_in (Some x) = Some (awaited_by x)
-
--- the transaction that an ask begins; a write access that hits has none
-abbrev pub transaction_of : Table → Request → ℕ → ℕ → Words → List TagSets → Option Transaction
-transaction_of t request core line words caches =
-    option_map (transacting t request line words caches) (asked_for request core line caches)
-
--- the same of a line of these caches and this memory, with its current words
-abbrev pub transacting_at : Table → Request → ℕ → List Sets → List Words → Transient → Transaction
-transacting_at t request line caches memory transient =
-    transacting t request line (current_words caches memory line) (tags_of caches) transient
-
-abbrev pub transaction_at : Table → Request → ℕ → ℕ → List Sets → List Words → Option Transaction
-transaction_at t request core line caches memory =
-    transaction_of t request core line (current_words caches memory line) (tags_of caches)
-
--- what holds the bus after a core's ask for an access at a location of this line
-abbrev pub held_after_ask : Table → Core → Loc → ℕ → Bool → List Sets → List Words → Held
-held_after_ask t core loc line write caches memory =
-    held_by core loc (stage_for write) line (transaction_at t (request_for write) core.0 line caches memory)
 
 -- memory after an ask: on GetS the copy that is sent
 abbrev pub asked_memory : Table → Request → ℕ → List Sets → List Words → List Words

@@ -1,17 +1,14 @@
 -- What a contract sees of a bus: the caches of all cores and memory, and the words that a program sees.
-use Rattle.std.specs.Prelude.{◌≡◌, ◌*◌, ◌≤◌, ◌<◌, ℕ, List, [], ◌∷◌, length, replicate, Option, None, IfSome, unwrap_or, option_map}
-use Rattle.std.specs.Int.{div_ceil}
+use Rattle.std.specs.Prelude.{◌≡◌, ◌≤◌, ◌<◌, ℕ, List, [], ◌∷◌, length, replicate, Option, None, unwrap_or, option_map}
 use Rattle.std.specs.Option.{option_or}
 use Rattle.cache_set.specs.Contents.{contents}
-use Rattle.tso_model.specs.Limits.{most_locations}
-use Rattle.tso_model.specs.Limits.{most_cores}
 use Rattle.snoop_bus.specs.Geometry.{Geometry}
 use Rattle.protocol_tables.specs.Tables.{Table}
 use Rattle.snoop_bus.specs.Rows.{Rows, rows_of}
-use Rattle.snoop_bus.specs.Lines.{Words, line_in, words_in, line_of_words}
-use Rattle.snoop_bus.specs.Copies.{Sets, copy_in, copy_at, ways_of}
+use Rattle.snoop_bus.specs.Lines.{Words, line_in, words_in}
+use Rattle.snoop_bus.specs.Copies.{Sets, copy_in, copy_at}
 use Rattle.snoop_bus.specs.Coherent.{Coherent}
-use Rattle.snoop_bus.specs.Held.{counted, holder_in, IsHeld, IsPlaced}
+use Rattle.snoop_bus.specs.Held.{counted, holder_in}
 use Rattle.snoop_bus.specs.declared.holding.Holder.{Holder}
 use Rattle.snoop_bus.specs.declared.holding.Held.{Held}
 
@@ -63,27 +60,6 @@ pub record AllCoherent (caches : List Sets) (memory : List Words) : Type 0 where
   pub each : (k : ℕ) → k < length memory → Coherent (current_words caches memory k) (line_in memory k) (λ i. copy_at caches i k)
   pub within : (line i : ℕ) → length memory ≤ line → copy_at caches i line ≡ None
 
--- each line has its words of the list of words that a program sees, and 0 at every other place
-abbrev pub HasWholeLines : Geometry → ℕ → List Sets → List Words → Type 0
-HasWholeLines shape locations caches memory =
-    (k : ℕ) → k < length memory → current_words caches memory k ≡ line_of_words shape.words (program_words shape locations caches memory) k
-
--- what holds of every bus: the copies that count are coherent, the holder's own copy is as its action has left it, each
--- cache of the bus's shape, cores and locations within their limits, and a line for each location
-pub record IsBus (shape : Geometry) (locations : ℕ) (caches : List Sets) (memory : List Words) (held : Option Held) : Type 0 where
-  pub coherent : AllCoherent (counted held caches) memory
-  pub lines : HasWholeLines shape locations (counted held caches) memory
-  pub awaited : IfSome held (IsHeld caches memory)
-  pub placed : IfSome held (IsPlaced shape locations)
-  pub shaped : ways_of caches ≡ replicate (length caches) (replicate shape.sets shape.ways)
-  pub some_core : 0 < length caches
-  pub few_cores : length caches ≤ most_cores
-  pub few_locations : locations ≤ most_locations
-  pub some_word : 1 ≤ shape.words
-  pub few_lines : length memory ≤ most_locations
-  pub enough_lines : locations ≤ length memory * shape.words
-  pub as_many_lines : length memory ≡ div_ceil locations shape.words
-
 -- how many cores there are
 abbrev pub cores_of : Bus → ℕ
 cores_of b = length b.caches
@@ -91,10 +67,6 @@ cores_of b = length b.caches
 -- the copies that count are coherent with memory
 abbrev pub IsCoherent : Bus → Type 0
 IsCoherent b = AllCoherent (counted_copies b) b.memory
-
--- each line has its words, and 0 at every other place
-abbrev pub HasLines : Bus → Type 0
-HasLines b = HasWholeLines b.shape b.locations (counted_copies b) b.memory
 
 -- empty caches of this shape for so many cores
 abbrev pub empty_caches : ℕ → Geometry → List Sets

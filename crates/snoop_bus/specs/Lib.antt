@@ -11,8 +11,6 @@ pub mod Bus
 pub mod MemoryAfter
 pub mod Requests
 pub mod Asks
-pub mod Accessing
-pub mod Completing
 pub mod Accesses
 pub mod Halves
-pub mod Finding
+pub mod inner

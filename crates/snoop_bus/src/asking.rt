@@ -1,11 +1,14 @@
 //! The first half of an access that needs the bus: the other caches see the request, and the bus keeps
 //! the words for the core's line.
 ghost use Rattle.std.specs.Prelude.{◌≡◌, ◌<◌, Some, None, false, length};
-ghost use Rattle.snoop_bus.specs.Asks.{hits, request_for, transacting_at, transaction_at, held_after_ask, asked_caches, asked_memory};
-ghost use Rattle.snoop_bus.specs.Held.{Awaits, IsHeld, counting, counted_in, counted};
+ghost use Rattle.snoop_bus.specs.Asks.{hits, request_for, asked_caches, asked_memory};
+ghost use Rattle.snoop_bus.specs.inner.Asks.{transacting_at, transaction_at, held_after_ask};
+ghost use Rattle.snoop_bus.specs.Held.{counting, counted_in, counted};
+ghost use Rattle.snoop_bus.specs.inner.Held.{Awaits, IsHeld};
 ghost use Rattle.snoop_bus.specs.CacheContents.{requested};
-ghost use Rattle.snoop_bus.specs.Copies.{cache_of, copy_at, tags_of, ways_of};
-ghost use Rattle.snoop_bus.specs.Accessing.{IsReady, KeepsWords};
+ghost use Rattle.snoop_bus.specs.Copies.{cache_of, copy_at, tags_of};
+ghost use Rattle.snoop_bus.specs.inner.Copies.{ways_of};
+ghost use Rattle.snoop_bus.specs.inner.Accessing.{IsReady, KeepsWords};
 ghost use Rattle.snoop_bus.specs.declared.holding.Stage.TheVariants.{Write};
 ghost use Rattle.protocol_tables.specs.declared.asking.Request.TheVariants.{GetS, GetM};
 ghost use Rattle.protocol_tables.specs.declared.asking.Transient.TheVariants.{IsD, ImD};

@@ -1,16 +1,19 @@
 //! The caches of all cores on one bus, and the calls of it.
 
 ghost use Rattle.std.specs.Prelude.{◌≡◌, ◌+◌, ◌%◌, ◌^◌, ◌<◌, ◌≤◌, true, false};
-ghost use Rattle.std.specs.Prelude.{Some, IfSome, IfOk, OnOk, OnErr, length, slice_get, slice_set};
+ghost use Rattle.std.specs.Prelude.{Some, IfSome, IfOk, OnOk, OnErr, length, slice_set};
+ghost use Rattle.tso_model.specs.Thread.{updated};
 ghost use Rattle.tso_model.specs.Limits.{most_locations};
 ghost use Rattle.tso_model.specs.Limits.{most_cores};
-ghost use Rattle.snoop_bus.specs.Bus.{words_of, holder_of, IsFree, cores_of, IsCoherent, HasLines, IsSameMachine};
+ghost use Rattle.snoop_bus.specs.Bus.{words_of, holder_of, IsFree, cores_of, IsCoherent, IsSameMachine};
 ghost use Rattle.snoop_bus.specs.Held.{holder};
-ghost use Rattle.snoop_bus.specs.Accesses.{new_bus, contents_of, contents_settled, copies_of, memory_of, memory_words_of};
+ghost use Rattle.snoop_bus.specs.Accesses.{new_bus, contents_of, memory_of};
+ghost use Rattle.snoop_bus.specs.inner.Accesses.{contents_settled, memory_words_of};
 ghost use Rattle.snoop_bus.specs.Accesses.{load_of, write_of, would_hit, awaited_of, completion_of};
-ghost use Rattle.snoop_bus.specs.Accesses.{MayGoOn, IsCurrentWord, LoadsAt, WritesAt, KeepsOut, AsksFor, CompletesAt, IsOutOfMemory};
+ghost use Rattle.snoop_bus.specs.Accesses.{IsCurrentWord, LoadsAt, WritesAt, AsksFor, CompletesAt};
+ghost use Rattle.snoop_bus.specs.inner.Accesses.{MayGoOn, KeepsOut, IsOutOfMemory};
 
-use crate::access::Access;
+use crate::access::{Access, Updated};
 use crate::asking::{ask, hits};
 use crate::cache::Cache;
 use crate::completing::{complete_load, complete_read, complete_store};
@@ -19,12 +22,12 @@ use crate::lines::lines_of;
 use crate::loading::load;
 use crate::settling::settle;
 use crate::shape::Shape;
-use crate::writing::{add, swap, write};
-use cache_set::{CacheSet, MAX_WORDS};
+use crate::writing::{self, write};
+use cache_set::MAX_WORDS;
 use protocol_tables::Protocol;
 use std::alloc::Global;
 use std::marker::Model;
-use tso_model::{Core, Loc, NoMemory};
+use tso_model::{Core, Loc, NoMemory, Update};
 
 /// How many cores a bus has, at most.
 pub const MAX_CORES: u8 = 8;
@@ -53,7 +56,8 @@ pub struct SnoopBus<P: Protocol> {
 }
 
 impl<P: Protocol> Model for SnoopBus<P> {
-    ghost use Rattle.snoop_bus.specs.Bus.{Bus, bus_with, IsBus};
+    ghost use Rattle.snoop_bus.specs.Bus.{Bus, bus_with};
+    ghost use Rattle.snoop_bus.specs.inner.Bus.{IsBus};
 
     ghost Value = { Bus };
 
@@ -155,18 +159,8 @@ impl<P: Protocol> SnoopBus<P> {
         ensures coherent { IsCoherent self.new }
         ensures machine { IsSameMachine self.old self.new }
     {
-        let line = self.shape.line_of(loc);
-        let place = self.shape.place_of(loc);
-        swap(
-            &mut self.caches,
-            &mut self.memory,
-            &self.protocol,
-            self.held,
-            usize::from(core.0),
-            line,
-            place,
-            value,
-        )
+        let updated = self.update(core, loc, Update::Exchange, value)?;
+        Ok((updated.before, updated.access))
     }
 
     /// Adds to the word at a location, modulo 2^32. Answers the word that was there, and what the one
@@ -184,9 +178,34 @@ impl<P: Protocol> SnoopBus<P> {
         ensures coherent { IsCoherent self.new }
         ensures machine { IsSameMachine self.old self.new }
     {
+        let updated = self.update(core, loc, Update::Add, value)?;
+        Ok((updated.before, updated.access))
+    }
+
+    /// Makes of the word at a location what the update makes of it and of this value, by one write access.
+    ///
+    /// Errors: out of memory only, which a hit and an upgrade don't take; nothing is changed then.
+    pub fn update(
+        &mut self,
+        core: Core,
+        loc: Loc,
+        update: Update,
+        value: u32,
+    ) -> Result<Updated, NoMemory>
+        requires core { core.0 < cores_of self.old }
+        requires loc { loc.0 < length (words_of self.old) }
+        requires free { MayGoOn self.old core.0 loc.0 true }
+
+        ensures before { IfOk result (λ u. IsCurrentWord self.old loc.0 u.before) }
+        ensures after { IfOk result (λ u. u.after ≡ updated update u.before value) }
+        ensures done { IfOk result (λ u. WritesAt self.old self.new core.0 loc.0 u.after u.access) }
+        ensures refused { OnErr result (IsOutOfMemory self.old self.new (write_of self.old core.0 loc.0).access) }
+        ensures coherent { IsCoherent self.new }
+        ensures machine { IsSameMachine self.old self.new }
+    {
         let line = self.shape.line_of(loc);
         let place = self.shape.place_of(loc);
-        add(
+        writing::update(
             &mut self.caches,
             &mut self.memory,
             &self.protocol,
@@ -194,6 +213,7 @@ impl<P: Protocol> SnoopBus<P> {
             usize::from(core.0),
             line,
             place,
+            update,
             value,
         )
     }
@@ -369,27 +389,5 @@ impl<P: Protocol> SnoopBus<P> {
         ensures free { IsFree self.new }
     {
         settle(&mut self.caches, &mut self.memory, &self.protocol);
-    }
-
-    /// Memory's own word at a location, which may be stale where a cache has a dirty copy.
-    pub fn memory_word(&self, loc: Loc) -> u32
-        requires { loc.0 < length (words_of self.now) }
-        ensures { slice_get (memory_words_of self.now) loc.0 ≡ Some result }
-    {
-        let line = self.shape.line_of(loc);
-        let place = self.shape.place_of(loc);
-        self.memory[usize::from(line)][usize::from(place)]
-    }
-
-    /// A core's set with this number, in which its copies stand with their words: all those of their lines,
-    /// and 0 past them.
-    pub fn set_of(&self, core: Core, set: u8) -> &CacheSet
-        requires core { core.0 < cores_of self.now }
-        requires set { set < self.now.shape.sets }
-        ensures set { result.now ≡ copies_of self.now core.0 set }
-        ensures coherent { IsCoherent self.now }
-        ensures lines { HasLines self.now }
-    {
-        self.caches[usize::from(core.0)].set(set)
     }
 }

@@ -3,9 +3,11 @@
 ghost use Rattle.std.specs.Prelude.{◌≡◌, ◌≢◌, ◌<◌, ℕ, [], Some, None, IsSome, IfOk, IfSome, OnErr};
 ghost use Rattle.std.specs.Prelude.{length, map, replicate, slice_index_or, option_copied, option_map};
 ghost use Rattle.cache_set.specs.Limits.{most_words};
-ghost use Rattle.cache_set.specs.Contents.{contents, IsCacheSet, to_front, with_new, victim_of, with_changed, without};
-ghost use Rattle.cache_set.specs.Copy.{copy_with, with_state, with_word};
-ghost use Rattle.snoop_bus.specs.Copies.{set_at, in_set, copy_in, emptied, ways_in, AtHome, OnlyAt, IsAfterFill};
+ghost use Rattle.cache_set.specs.Contents.{contents, victim_of};
+ghost use Rattle.cache_set.specs.inner.Contents.{IsCacheSet, to_front, with_new, with_changed, without};
+ghost use Rattle.cache_set.specs.inner.Copy.{copy_with, with_state, with_word};
+ghost use Rattle.snoop_bus.specs.Copies.{set_at, in_set, copy_in};
+ghost use Rattle.snoop_bus.specs.inner.Copies.{emptied, ways_in, AtHome, OnlyAt, IsAfterFill};
 
 use crate::shape::Shape;
 use cache_set::{CacheSet, Line, MAX_WORDS, Victim};
@@ -28,7 +30,7 @@ impl Model for Cache {
 
     ghost view = { λ c. c.sets.items };
 
-    ghost use Rattle.snoop_bus.specs.Copies.{AtHome};
+    ghost use Rattle.snoop_bus.specs.inner.Copies.{AtHome};
 
     ghost invariant = { λ c. (0 < length c.sets.items) × AtHome c.sets.items };
 }

@@ -1,16 +1,17 @@
 //! The second half of an access that needs the bus: the core's own line is filled.
 ghost use Rattle.std.specs.Prelude.{◌≡◌, ◌≢◌, ◌<◌, Some, None, IsOk, IfOk, OnOk, OnErr, length, slice_index};
 ghost use Rattle.cache_set.specs.Limits.{most_words};
-ghost use Rattle.cache_set.specs.Copy.{copy_with};
+ghost use Rattle.cache_set.specs.inner.Copy.{copy_with};
 ghost use Rattle.snoop_bus.specs.declared.holding.Stage.TheVariants.{Load, Write};
 ghost use Rattle.protocol_tables.specs.declared.state.State.TheVariants.{M};
 ghost use Rattle.snoop_bus.specs.CacheContents.{writes_back, filled_by};
 ghost use Rattle.snoop_bus.specs.MemoryAfter.{written_back, victim_at};
-ghost use Rattle.snoop_bus.specs.Completing.{IsAwaited, Completes, words_due, completion_at};
+ghost use Rattle.snoop_bus.specs.inner.Completing.{IsAwaited, Completes, words_due, completion_at};
 ghost use Rattle.snoop_bus.specs.Held.{counting, counted_in};
-ghost use Rattle.snoop_bus.specs.Copies.{cache_of, copy_at, tags_of, ways_of};
+ghost use Rattle.snoop_bus.specs.Copies.{cache_of, copy_at, tags_of};
+ghost use Rattle.snoop_bus.specs.inner.Copies.{ways_of};
 ghost use Rattle.snoop_bus.specs.Bus.{AllCoherent};
-ghost use Rattle.snoop_bus.specs.Accessing.{KeepsWords, SetsWord, IsUnchanged};
+ghost use Rattle.snoop_bus.specs.inner.Accessing.{KeepsWords, SetsWord, IsUnchanged};
 ghost use Rattle.snoop_bus.specs.Coherent.{state_of};
 ghost use Rattle.snoop_bus.specs.declared.access.AccessKind.TheVariants.{Miss};
 

@@ -4,9 +4,11 @@ ghost use Rattle.std.specs.Prelude.{◌≡◌, ◌<◌, ◌≤◌, ℕ, None, le
 ghost use Rattle.std.specs.List.{list_any};
 ghost use Rattle.tso_model.specs.Limits.{most_cores};
 ghost use Rattle.snoop_bus.specs.CacheContents.{flusher_from};
-ghost use Rattle.snoop_bus.specs.Copies.{copy_in, tags_of, state_at};
-ghost use Rattle.snoop_bus.specs.Requests.{asked, HasSupplied};
-ghost use Rattle.snoop_bus.specs.Finding.{nothing_found, noting};
+ghost use Rattle.snoop_bus.specs.Copies.{copy_in, tags_of};
+ghost use Rattle.snoop_bus.specs.inner.Copies.{state_at};
+ghost use Rattle.snoop_bus.specs.Requests.{asked};
+ghost use Rattle.snoop_bus.specs.inner.Requests.{HasSupplied};
+ghost use Rattle.snoop_bus.specs.inner.Finding.{nothing_found, noting};
 
 use crate::bus::MAX_CORES;
 use crate::cache::Cache;

@@ -2,7 +2,7 @@
 
 ghost use Rattle.std.specs.Prelude.{◌≡◌, IfSome};
 ghost use Rattle.snoop_bus.specs.Bus.{holder_of};
-ghost use Rattle.snoop_bus.specs.Accesses.{StandsAlone};
+ghost use Rattle.snoop_bus.specs.inner.Accesses.{StandsAlone};
 
 use crate::bus::SnoopBus;
 use cache_set::Line;

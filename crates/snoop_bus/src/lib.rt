@@ -17,13 +17,16 @@ pub mod halves;
 pub mod holding;
 mod lines;
 mod loading;
+pub mod looking;
 mod restarting;
 mod settling;
 pub mod shape;
 mod snoop;
+mod states;
 mod writing;
 
-pub use access::{Access, AccessKind};
+pub use access::{Access, AccessKind, Updated};
 pub use bus::SnoopBus;
 pub use holding::{Held, Holder, Stage, Transaction};
+pub use looking::CachedLine;
 pub use shape::Shape;

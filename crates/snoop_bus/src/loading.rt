@@ -2,9 +2,11 @@
 
 ghost use Rattle.std.specs.Prelude.{◌≡◌, ◌<◌, ◌⊎◌, None, IsSome, IfSome, IsOk, IfOk, OnErr};
 ghost use Rattle.cache_set.specs.Limits.{most_words};
-ghost use Rattle.snoop_bus.specs.Copies.{copy_at, ways_of};
-ghost use Rattle.snoop_bus.specs.Held.{counted, IsHeld};
-ghost use Rattle.snoop_bus.specs.Accessing.{IsReady, Loads, KeepsWords, IsUnchanged};
+ghost use Rattle.snoop_bus.specs.Copies.{copy_at};
+ghost use Rattle.snoop_bus.specs.inner.Copies.{ways_of};
+ghost use Rattle.snoop_bus.specs.Held.{counted};
+ghost use Rattle.snoop_bus.specs.inner.Held.{IsHeld};
+ghost use Rattle.snoop_bus.specs.inner.Accessing.{IsReady, Loads, KeepsWords, IsUnchanged};
 
 use crate::access::{Access, AccessKind};
 use crate::cache::Cache;

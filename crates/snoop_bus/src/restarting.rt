@@ -1,7 +1,7 @@
 //! A bus that begins anew, with its room.
 ghost use Rattle.std.specs.Prelude.{◌≡◌, length, map};
 ghost use Rattle.snoop_bus.specs.Rows.{table_of_rows};
-ghost use Rattle.snoop_bus.specs.Copies.{emptied};
+ghost use Rattle.snoop_bus.specs.inner.Copies.{emptied};
 ghost use Rattle.snoop_bus.specs.Bus.{words_of, cores_of, IsCoherent, IsSameMachine};
 ghost use Rattle.snoop_bus.specs.Accesses.{new_bus};
 

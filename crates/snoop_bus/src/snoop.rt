@@ -3,8 +3,10 @@ ghost use Rattle.std.specs.Prelude.{◌≡◌, ◌≢◌, ◌<◌, ◌≤◌, �
 ghost use Rattle.std.specs.Prelude.{slice_set, slice_index_or, is_some, option_map, if◌then◌else◌};
 ghost use Rattle.tso_model.specs.Limits.{most_cores};
 ghost use Rattle.snoop_bus.specs.CacheContents.{requested, dirty_in};
-ghost use Rattle.snoop_bus.specs.Copies.{tags_of, cache_of, ways_of, ways_in, state_in, state_at, OnlyAt};
-ghost use Rattle.snoop_bus.specs.Requests.{asked, answered, left_by, SeenAt, LeftAt, LeftByOthers};
+ghost use Rattle.snoop_bus.specs.Copies.{tags_of, cache_of};
+ghost use Rattle.snoop_bus.specs.inner.Copies.{ways_of, ways_in, state_in, state_at, OnlyAt};
+ghost use Rattle.snoop_bus.specs.Requests.{asked};
+ghost use Rattle.snoop_bus.specs.inner.Requests.{answered, left_by, SeenAt, LeftAt, LeftByOthers};
 ghost use Rattle.snoop_bus.specs.MemoryAfter.{written_back};
 
 use crate::bus::MAX_CORES;

@@ -1,28 +1,32 @@
 //! Stores and locked accesses: what writes a word of a line.
 
 ghost use Rattle.std.specs.Prelude.{◌≡◌, ◌≢◌, ◌<◌, None, IsSome, IfSome, IsOk, IfOk, OnErr, length, option_map};
+ghost use Rattle.tso_model.specs.Thread.{updated};
 ghost use Rattle.cache_set.specs.Limits.{most_words};
-ghost use Rattle.cache_set.specs.Copy.{with_state, with_word};
+ghost use Rattle.cache_set.specs.inner.Copy.{with_state, with_word};
 ghost use Rattle.snoop_bus.specs.CacheContents.{used_by};
-ghost use Rattle.snoop_bus.specs.Copies.{copy_at, tags_of, ways_of};
-ghost use Rattle.snoop_bus.specs.Held.{counted, IsHeld};
+ghost use Rattle.snoop_bus.specs.Copies.{copy_at, tags_of};
+ghost use Rattle.snoop_bus.specs.inner.Copies.{ways_of};
+ghost use Rattle.snoop_bus.specs.Held.{counted};
+ghost use Rattle.snoop_bus.specs.inner.Held.{IsHeld};
 ghost use Rattle.snoop_bus.specs.Bus.{AllCoherent};
-ghost use Rattle.snoop_bus.specs.Requests.{ChangesCopy};
-ghost use Rattle.snoop_bus.specs.Accessing.{IsReady, MayWrite, Acquires, Swaps, Adds, KeepsWords, IsUnchanged};
+ghost use Rattle.snoop_bus.specs.inner.Requests.{ChangesCopy};
+ghost use Rattle.snoop_bus.specs.inner.Accessing.{IsReady, MayWrite, Acquires, Updates, KeepsWords, IsUnchanged};
 
-use crate::access::{Access, AccessKind};
+use crate::access::{Access, AccessKind, Updated};
 use crate::cache::Cache;
 use crate::finding::find;
 use crate::holding::Held;
 use crate::snoop::{snoop_others, write_back};
 use cache_set::MAX_WORDS;
 use protocol_tables::{Protocol, Request, State};
-use tso_model::NoMemory;
+use tso_model::{NoMemory, Update};
 
-/// A core's write of a word of a line. Answers the word that was there, and what the access was.
+/// A core's write access to a line, which makes of the word at this place what the update makes of it and of
+/// this value. Answers the word before and after, and what the access was.
 ///
 /// Errors: out of memory only, which only a miss takes; nothing is changed then.
-pub fn swap<P: Protocol>(
+pub fn update<P: Protocol>(
     caches: &mut [Cache],
     memory: &mut [[u32; MAX_WORDS]],
     protocol: &P,
@@ -30,13 +34,15 @@ pub fn swap<P: Protocol>(
     core: usize,
     line: u8,
     place: u8,
+    update: Update,
     value: u32,
-) -> Result<(u32, Access), NoMemory>
+) -> Result<Updated, NoMemory>
     requires ready { IsReady held core line caches.old memory.old }
     requires place { place < most_words }
     requires free { MayWrite (P.table protocol.now) held core line (tags_of caches.old) }
 
-    ensures ok { IfOk result (Swaps (P.table protocol.now) held core line place value caches.old caches.new memory.old memory.new) }
+    ensures ok { IfOk result (Updates (P.table protocol.now) held core line place caches.old caches.new memory.old memory.new) }
+    ensures after { IfOk result (λ u. u.after ≡ updated update u.before value) }
     ensures coherent { AllCoherent (counted held caches.new) memory.new }
     ensures awaited { IfSome held (IsHeld caches.new memory.new) }
     ensures ways { ways_of caches.new ≡ ways_of caches.old }
@@ -45,39 +51,14 @@ pub fn swap<P: Protocol>(
     ensures refused { OnErr result (IsUnchanged caches.old caches.new memory.old memory.new) }
 {
     let (words, access) = acquire(caches, memory, protocol, held, core, line)?;
-    write(caches, core, line, place, value);
-    Ok((words[usize::from(place)], access))
-}
-
-/// A core's addition to a word of a line, modulo 2^32. Answers the word that was there, and what the access was.
-///
-/// Errors: out of memory only, which only a miss takes; nothing is changed then.
-pub fn add<P: Protocol>(
-    caches: &mut [Cache],
-    memory: &mut [[u32; MAX_WORDS]],
-    protocol: &P,
-    held: Option<Held>,
-    core: usize,
-    line: u8,
-    place: u8,
-    value: u32,
-) -> Result<(u32, Access), NoMemory>
-    requires ready { IsReady held core line caches.old memory.old }
-    requires place { place < most_words }
-    requires free { MayWrite (P.table protocol.now) held core line (tags_of caches.old) }
-
-    ensures ok { IfOk result (Adds (P.table protocol.now) held core line place value caches.old caches.new memory.old memory.new) }
-    ensures coherent { AllCoherent (counted held caches.new) memory.new }
-    ensures awaited { IfSome held (IsHeld caches.new memory.new) }
-    ensures ways { ways_of caches.new ≡ ways_of caches.old }
-
-    ensures succeeds { IsSome (copy_at caches.old core line) → IsOk result }
-    ensures refused { OnErr result (IsUnchanged caches.old caches.new memory.old memory.new) }
-{
-    let (words, access) = acquire(caches, memory, protocol, held, core, line)?;
-    let word = words[usize::from(place)];
-    write(caches, core, line, place, word.wrapping_add(value));
-    Ok((word, access))
+    let before = words[usize::from(place)];
+    let after = update.apply(before, value);
+    write(caches, core, line, place, after);
+    Ok(Updated {
+        before,
+        after,
+        access,
+    })
 }
 
 /// A core's write access to a line, but for the word that it writes: the core's copy is then in M, and

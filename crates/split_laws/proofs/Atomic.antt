@@ -9,7 +9,7 @@ use Rattle.tso_model.specs.Together.{put_together}
 use Rattle.tso_model.specs.declared.bus.Bus.TheVariants.{Atomic}
 use Rattle.tso_model.specs.declared.choice.Choice.{Choice}
 use Rattle.tso_laws.specs.Choices.{commits_of}
-use Rattle.tso_laws.specs.Stopping.{StopsAtTheEnd}
+use Rattle.tso_laws.specs.inner.Stopping.{StopsAtTheEnd}
 use Rattle.split_laws.proofs.Waiting.{AllStores, choice-stores, start-stores}
 use Rattle.split_laws.proofs.Following.{choice-whole}
 

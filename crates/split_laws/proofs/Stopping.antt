@@ -15,9 +15,10 @@ use Rattle.tso_model.specs.declared.choice.Choice.TheVariants.{Step, Drain}
 use Rattle.tso_model.specs.declared.choice.Stall.{Stall}
 use Rattle.tso_model.specs.declared.choice.Outcome.TheVariants.{Stalled}
 use Rattle.split_laws.specs.BusChoices.{state_on, commits_on, IsPossibleOn}
-use Rattle.split_laws.specs.BusRuns.{EndOn, left_by, ChangesNothingOn, StopsAtTheEndOn}
+use Rattle.split_laws.specs.BusRuns.{EndOn, left_by}
+use Rattle.split_laws.specs.inner.BusRuns.{ChangesNothingOn, StopsAtTheEndOn}
 use Rattle.split_laws.specs.BusSoFar.{SoFarOn}
-use Rattle.split_laws.specs.Pending.{PendingIsOwn}
+use Rattle.split_laws.specs.inner.Pending.{PendingIsOwn}
 use Rattle.basic_laws.proofs.Lists.{Each, each-at}
 use Rattle.split_laws.proofs.Steps.{IsStore}
 use Rattle.split_laws.proofs.Cores.{done-pending, done-next, done-anywhere}

@@ -1,9 +1,9 @@
 -- What runs on either bus leave, and where they stop.
-use Rattle.std.specs.Prelude.{ℕ, ◌+◌, ◌<◌, ◌≡◌, true, false, if◌then◌else◌, List, [], ◌∷◌, ◌++◌, length, take}
+use Rattle.std.specs.Prelude.{ℕ, ◌+◌, ◌≡◌, true, if◌then◌else◌, List, [], ◌∷◌, ◌++◌, length, take}
 use Rattle.tso_model.specs.Litmus.{Litmus}
 use Rattle.tso_model.specs.ProgramOrder.{same_kind}
 use Rattle.tso_model.specs.FlatMachine.{Effect, start}
-use Rattle.tso_model.specs.Runs.{has_ended, run, CoresExist}
+use Rattle.tso_model.specs.Runs.{run, CoresExist}
 use Rattle.tso_model.specs.SplitMachine.{Holder, Free, HeldBy, HeldBetween, Attempt}
 use Rattle.tso_model.specs.EitherBus.{BusState, BusRun, unheld, run_on, effect_on, after_on, choices_in}
 use Rattle.tso_model.specs.Together.{put_together}
@@ -12,10 +12,9 @@ use Rattle.tso_model.specs.declared.execution.Entry.{Entry}
 use Rattle.tso_model.specs.declared.execution.Kind.TheVariants.{LR}
 use Rattle.tso_model.specs.declared.choice.Choice.{Choice}
 use Rattle.tso_model.specs.declared.choice.Stall.{Stall}
-use Rattle.tso_model.specs.declared.choice.Stall.TheVariants as stall
 use Rattle.tso_model.specs.declared.choice.Outcome.{Outcome}
 use Rattle.tso_model.specs.declared.choice.Outcome.TheVariants.{Asked, Stalled}
-use Rattle.split_laws.specs.BusChoices.{state_on, commits_on}
+use Rattle.tso_model.specs.declared.choice.Stall.TheVariants as stall
 
 -- the choices end the test
 abbrev pub EndOn : Bus → Litmus → ℕ → List Attempt → Type 0
@@ -81,20 +80,3 @@ pub record IsFlatRun (bus : Bus) (t : Litmus) (depth : ℕ) (attempts : List Att
   pub used : (run t depth choices).used + made_for_bus bus t depth (unheld (start t)) (take r.run.used attempts) ≡ r.run.used
   pub stalled : (run t depth choices).stalled + wait_for_bus bus t depth (unheld (start t)) (take r.run.used attempts) ≡ r.run.stalled
   pub unused : (run t depth choices).unused ≡ 0
-
--- the choice leaves the state as it is, and commits nothing
-pub record ChangesNothingOn (bus : Bus) (t : Litmus) (depth : ℕ) (state : BusState) (a : Attempt) : Type 0 where
-  pub same : after_on bus t depth state a ≡ state
-  pub none : (effect_on bus t depth state a).effect.commits ≡ []
-
--- the choices are used one after the other up to the first moment at which the test has ended, and the others are
--- unused; making these too would commit nothing and change nothing
-pub record StopsAtTheEndOn (bus : Bus) (t : Litmus) (depth : ℕ) (attempts : List Attempt) (r : BusRun) : Type 0 where
-  pub count : r.run.used + r.run.unused ≡ length attempts
-  pub ended : r.run.ended ≡ has_ended t r.run.state
-  pub first : (n : ℕ) → n < r.run.used → has_ended t (state_on bus t depth (unheld (start t)) (take n attempts)).flat ≡ false
-  pub over : 0 < r.run.unused → r.run.ended ≡ true
-  pub used_state : left_by r ≡ state_on bus t depth (unheld (start t)) (take r.run.used attempts)
-  pub used_commits : r.run.commits ≡ commits_on bus t depth (unheld (start t)) (take r.run.used attempts)
-  pub all_state : left_by r ≡ state_on bus t depth (unheld (start t)) attempts
-  pub all_commits : r.run.commits ≡ commits_on bus t depth (unheld (start t)) attempts

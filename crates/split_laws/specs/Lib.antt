@@ -1,11 +1,11 @@
 pub mod BusChoices
 pub mod Holders
-pub mod Pending
 pub mod Between
 pub mod BusSoFar
 pub mod BusRuns
 pub mod BusLaws
 pub mod WorkedSplitRuns
+pub mod inner
 pub use Rattle.tso_model.specs.Litmus
 pub use Rattle.tso_model.specs.ProgramEntries
 pub use Rattle.tso_model.specs.Axioms

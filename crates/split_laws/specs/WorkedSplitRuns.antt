@@ -1,5 +1,5 @@
 -- Worked runs on the split bus.
-use Rattle.std.specs.Prelude.{ℕ, true, false, List, [], ◌∷◌, ◌++◌, None, codes}
+use Rattle.std.specs.Prelude.{ℕ, true, false, List, [], ◌∷◌, None, codes}
 use Rattle.tso_model.specs.FlatMachine.{step, drain}
 use Rattle.tso_model.specs.Litmus.{Litmus}
 use Rattle.tso_model.specs.Thread.{entry}
@@ -78,16 +78,6 @@ abbrev pub load_between_order : List Entry
 load_between_order =
     entry 1 0 R loc_y 0 ∷ (entry 1 1 R loc_y 0 ∷ (entry 0 0 LR loc_x 0 ∷ (entry 0 0 LW loc_x 1 ∷ [])))
 
--- beside a store to x, 0s 0s 1s 1d 0s, where the store is said to hit between the two parts of the addition
-abbrev pub added_and_stored : Litmus
-added_and_stored = added_beside (StoreImm loc_x 1 ∷ [])
-
-abbrev pub store_between : List Attempt
-store_between = missing (step 0) ∷ (missing (step 0) ∷ (missing (step 1) ∷ (hitting (drain 1) ∷ (missing (step 0) ∷ []))))
-
-abbrev pub store_between_order : List Entry
-store_between_order = entry 1 0 W loc_x 1 ∷ (entry 0 0 LR loc_x 0 ∷ (entry 0 0 LW loc_x 1 ∷ []))
-
 -- in n6, 1s 1d 0s 0s: while the second core's drain holds the bus, the first core's load is answered by its own store
 abbrev pub load_forwards : List Attempt
 load_forwards = missing (step 1) ∷ (missing (drain 1) ∷ (missing (step 0) ∷ (missing (step 0) ∷ [])))
@@ -134,16 +124,3 @@ stored_twice = alone zeros (StoreImm loc_x 1 ∷ (StoreImm loc_x 2 ∷ []))
 
 abbrev pub store_hits : List Attempt
 store_hits = missing (step 0) ∷ (missing (step 0) ∷ (hitting (step 0) ∷ []))
-
--- a locked addition of 1 alone, and rounds of it: 0d 0s, twice and three times
-abbrev pub added_alone : Litmus
-added_alone = alone one (Xadd loc_x Eax ∷ [])
-
-abbrev pub one_round : List Attempt
-one_round = missing (drain 0) ∷ (missing (step 0) ∷ [])
-
-abbrev pub two_rounds : List Attempt
-two_rounds = one_round ++ one_round
-
-abbrev pub three_rounds : List Attempt
-three_rounds = one_round ++ (one_round ++ one_round)

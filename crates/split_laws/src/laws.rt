@@ -1,9 +1,13 @@
 //! The laws of the machine on either bus. Each stands in `specs/BusLaws.antt`, under the name of its function.
 
-ghost use Rattle.split_laws.specs.BusLaws.{AttemptsLeadFromStateToState, WhatHoldsSoFarOnEitherBus, RunsOnEitherBusStopWhereTheyEnd};
-ghost use Rattle.split_laws.specs.BusLaws.{StallsOnEitherBusChangeNothing, EndedRunsOnEitherBusAreExecutions};
-ghost use Rattle.split_laws.specs.BusLaws.{RunsOnEitherBusAreFlatRuns, NoBufferNoReorderingOnEitherBus, FairRoundsEndOnEitherBus};
-ghost use Rattle.split_laws.specs.BusLaws.{AccessesWait, AtomicRunsAreFlatRuns, PendingStoresAreOwn};
+ghost use Rattle.split_laws.specs.BusLaws.{WhatHoldsSoFarOnEitherBus};
+ghost use Rattle.split_laws.specs.inner.BusLaws.{AttemptsLeadFromStateToState, RunsOnEitherBusStopWhereTheyEnd};
+ghost use Rattle.split_laws.specs.BusLaws.{EndedRunsOnEitherBusAreExecutions};
+ghost use Rattle.split_laws.specs.inner.BusLaws.{StallsOnEitherBusChangeNothing};
+ghost use Rattle.split_laws.specs.BusLaws.{RunsOnEitherBusAreFlatRuns, FairRoundsEndOnEitherBus};
+ghost use Rattle.split_laws.specs.inner.BusLaws.{NoBufferNoReorderingOnEitherBus};
+ghost use Rattle.split_laws.specs.BusLaws.{AtomicRunsAreFlatRuns};
+ghost use Rattle.split_laws.specs.inner.BusLaws.{AccessesWait, PendingStoresAreOwn};
 
 use tso_laws::{ended_runs_are_executions, no_buffer_no_reordering, runs_stop_where_they_end};
 

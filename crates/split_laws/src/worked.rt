@@ -20,9 +20,10 @@ ghost use Rattle.split_laws.specs.BusRuns.{EndOn, made_for_bus, wait_for_bus};
 ghost use Rattle.split_laws.specs.WorkedSplitRuns.{missing, one, sb_waits, sb_asks, added_and_loaded, load_waits, load_waits_order};
 ghost use Rattle.split_laws.specs.WorkedSplitRuns.{added_and_loaded_elsewhere, load_between, load_between_run};
 ghost use Rattle.split_laws.specs.WorkedSplitRuns.{load_between_commits, load_between_order, load_forwards, drain_holding};
-ghost use Rattle.split_laws.specs.WorkedSplitRuns.{added_and_stored, store_between, store_between_order};
+ghost use Rattle.split_laws.specs.inner.WorkedSplitRuns.{added_and_stored, store_between, store_between_order};
 ghost use Rattle.split_laws.specs.WorkedSplitRuns.{exchanged, exchange_asks, exchange_order, stored, store_asks};
-ghost use Rattle.split_laws.specs.WorkedSplitRuns.{stored_twice, store_hits, added_alone, two_rounds, three_rounds};
+ghost use Rattle.split_laws.specs.WorkedSplitRuns.{stored_twice, store_hits};
+ghost use Rattle.split_laws.specs.inner.WorkedSplitRuns.{added_alone, two_rounds, three_rounds};
 
 use crate::laws::ended_runs_on_either_bus_are_executions;
 

@@ -2,7 +2,7 @@
 use Rattle.std.proofs.Common.{◌≡◌, ℕ, List, [], ◌∷◌, fold, filter, ◌==◌, true, false, if◌then◌else◌, Option, None, Some, refl}
 use Rattle.std.specs.Option.{option_map}
 use Rattle.std.specs.List.{last_or}
-use Rattle.store_buffer.specs.Newest.{newest_for, newer}
+use Rattle.store_buffer.specs.inner.Newest.{newest_for, newer}
 use Rattle.store_buffer.specs.declared.Pending.{Pending}
 
 fold-newer : (loc : ℕ) (o : Option Pending) (items : List Pending)

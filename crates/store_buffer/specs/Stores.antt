@@ -6,6 +6,3 @@ use Rattle.store_buffer.specs.declared.Pending.{Pending}
 pub record Stores : Type 0 where
   pub items : List Pending
   pub depth : ℕ
-
-abbrev pub stores : List Pending → ℕ → Stores
-stores items depth = record { items = items; depth = depth }

@@ -5,7 +5,7 @@
 
 ghost use Rattle.std.specs.Prelude.{◌≡◌, ◌<◌, ◌≤◌, ◌↔◌, [], ◌∷◌, ◌++◌, IsTrue, IfOk, OnOk, IfErr, length, drop, fold, slice_get};
 ghost use Rattle.tso_model.specs.Limits.{least_depth, most_depth};
-ghost use Rattle.store_buffer.specs.Newest.{newer};
+ghost use Rattle.store_buffer.specs.inner.Newest.{newer};
 
 use circular_buffer::HeapCircularBuffer;
 use std::alloc::Global;
@@ -29,7 +29,8 @@ pub struct StoreBuffer {
 
 impl Model for StoreBuffer {
     ghost use Rattle.std.specs.Prelude.{◌<◌, ◌≤◌, length};
-    ghost use Rattle.store_buffer.specs.Stores.{Stores, stores};
+    ghost use Rattle.store_buffer.specs.Stores.{Stores};
+    ghost use Rattle.store_buffer.specs.inner.Stores.{stores};
 
     ghost Value = { Stores };
 
@@ -39,8 +40,8 @@ impl Model for StoreBuffer {
 }
 
 impl StoreBuffer {
-    ghost use Rattle.store_buffer.specs.Stores.{stores};
-    ghost use Rattle.store_buffer.specs.Newest.{newest_for};
+    ghost use Rattle.store_buffer.specs.inner.Stores.{stores};
+    ghost use Rattle.store_buffer.specs.inner.Newest.{newest_for};
 
     /// An empty buffer for `depth` stores, from `MIN_DEPTH` to `MAX_DEPTH` of `tso_model`. No other call takes memory.
     ///
@@ -69,6 +70,13 @@ impl StoreBuffer {
         ensures { result ≡ slice_get self.now.items 0 }
     {
         self.ring.front().copied()
+    }
+
+    /// The store with this number, counted from the oldest, which has 0; `None` where fewer are pending.
+    pub fn get(&self, number: usize) -> Option<Pending>
+        ensures { result ≡ slice_get self.now.items number }
+    {
+        self.ring.get(number).copied()
     }
 
     /// Takes the oldest store out of the buffer, if any is pending.

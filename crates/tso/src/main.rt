@@ -1,20 +1,20 @@
 //! `tso`: runs x86 litmus tests on a simulated multiprocessor under total store order.
 //!
 //! The command reads standard input and writes standard output. What it answers is proved of
-//! `tso_cli::run_command`; here stand the streams, the words of the line and the exit status.
+//! `tso_cli::answer_command`, as of `run_command`; here stand the streams, the words of the line and the exit status.
 #![tactic(auto)]
 
 ghost use Rattle.std.specs.Prelude.{◌≡◌, IfOk};
 ghost use Rattle.command_line.specs.Limits.{HasDepth};
 
-mod kept;
-
-use kept::Kept;
 use std::alloc::AllocError;
 use std::io::Write;
 use std::process::ExitCode;
 use std::{env, io};
-use tso_cli::{Counted, LineFault, RunFault, Settings, Status, hint, run_command, settings_of};
+use tso_cli::{
+    Answered, Counted, LineFault, RunFault, Settings, Status, answer_command, hint, line_hint,
+    settings_of,
+};
 
 /// The exit status of a line that is refused; `--help` is such a line too.
 const BAD_LINE: u8 = 2;
@@ -36,20 +36,34 @@ fn settings_of_line(rt: &HostRuntime) -> Result<Settings, u8>
 {
     match words_of_line(rt) {
         Ok(settings) => Ok(settings),
-        Err(LineError::Refused(LineFault::Words(error))) => {
-            let _ = rt.eprint(&error);
+        Err(LineError::Refused { fault, hint }) => {
+            tell_refusal(rt, &fault);
+            tell(rt, &hint);
             Err(BAD_LINE)
         }
-        Err(LineError::Refused(LineFault::Range)) | Err(LineError::NotText) => {
-            Err(fault(rt, "fault range", BAD_LINE))
-        }
+        Err(LineError::NotText) => Err(fault(rt, "fault range", BAD_LINE)),
         Err(LineError::NoMemory) => Err(fault(rt, "fault memory", FAULT)),
+    }
+}
+
+/// Tells why a line is refused.
+fn tell_refusal(rt: &HostRuntime, refusal: &LineFault) {
+    match refusal {
+        LineFault::Words(error) => {
+            let _ = rt.eprint(error);
+        }
+        LineFault::Range => {
+            let _ = rt.eprintln("fault range");
+        }
     }
 }
 
 #[derive(Debug, Drop)]
 enum LineError {
-    Refused(LineFault),
+    Refused {
+        fault: LineFault,
+        hint: Option<String>,
+    },
     NotText,
     NoMemory,
 }
@@ -69,6 +83,7 @@ impl From<io::Error> for LineError {
     }
 }
 
+/// The settings that the process's words give. Whatever name the program's file has, it is called `tso`.
 fn words_of_line(rt: &HostRuntime) -> Result<Settings, LineError>
     ensures { IfOk result HasDepth }
 {
@@ -78,23 +93,33 @@ fn words_of_line(rt: &HostRuntime) -> Result<Settings, LineError>
     }
     let mut words = Vec::new(rt.alloc());
     for word in &lines {
-        words.push(word.as_str()).map_err(AllocError::from)?;
+        let word = if words.is_empty() {
+            "tso"
+        } else {
+            word.as_str()
+        };
+        words.push(word).map_err(AllocError::from)?;
     }
-    settings_of(rt.alloc(), &words).map_err(LineError::Refused)
+    match settings_of(rt.alloc(), &words) {
+        Ok(settings) => Ok(settings),
+        Err(fault) => Err(LineError::Refused {
+            fault,
+            hint: line_hint(rt.alloc(), &words).unwrap_or(None),
+        }),
+    }
 }
 
 /// Runs the command over the standard streams, and answers the exit status.
 fn run(rt: &HostRuntime, settings: &Settings) -> u8
     requires { HasDepth settings.now }
 {
-    let mut reader = Counted::new(Kept::new(rt.alloc(), rt.reader()));
+    let mut reader = Counted::new(rt.reader());
     let mut writer = Counted::new(io::writer(rt));
-    match run_command(rt.alloc(), &mut reader, &mut writer, settings) {
-        Ok(status) => match writer.flush() {
+    match answer_command(rt.alloc(), &mut reader, &mut writer, settings) {
+        Ok(answered) => match writer.flush() {
             Ok(()) => {
-                let kept = reader.into_inner();
-                tell_hint(rt, settings, status, kept.bytes());
-                exit_status(status)
+                tell_hint(rt, &answered);
+                exit_status(answered.answer.status)
             }
             Err(_) => fault(rt, "fault device", FAULT),
         },
@@ -104,14 +129,18 @@ fn run(rt: &HostRuntime, settings: &Settings) -> u8
 }
 
 /// Tells the hint of an answer on standard error, if there is one, and memory for it.
-fn tell_hint(rt: &HostRuntime, settings: &Settings, status: Status, input: Option<&[u8]>) {
-    let Some(input) = input else {
-        return;
-    };
-    if let Ok(hint) = hint(rt.alloc(), settings, status, input) {
+fn tell_hint(rt: &HostRuntime, answered: &Answered) {
+    if let Ok(hint) = hint(rt.alloc(), &answered.answer, &answered.input) {
         if !hint.is_empty() {
             let _ = rt.eprint(hint.as_str());
         }
+    }
+}
+
+/// Tells the hint of a line that is refused, if there is one.
+fn tell(rt: &HostRuntime, hint: &Option<String>) {
+    if let Some(hint) = hint {
+        let _ = rt.eprint(hint.as_str());
     }
 }
 

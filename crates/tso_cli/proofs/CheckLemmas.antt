@@ -26,7 +26,8 @@ use Rattle.tso_report.specs.Report.{report}
 use Rattle.tso_report.specs.Shown.{Shown}
 use Rattle.tso_cli.specs.Simulation.{shown_of}
 use Rattle.tso_cli.specs.Answers.{IsCheckAnswer, IsJudgement, refused, judged, valid, invalid}
-use Rattle.tso_cli.specs.CheckLines.{valid_line, invalid_line, CanBeNamed}
+use Rattle.tso_cli.specs.CheckLines.{valid_line, invalid_line}
+use Rattle.tso_cli.specs.inner.CheckLines.{CanBeNamed}
 use Rattle.tso_cli.specs.Judgement.{JudgesOrder, JudgesEachOrder}
 use Rattle.tso_cli.specs.RunHeadline.{PrintsExecution}
 use Rattle.tso_cli.specs.declared.answer.Status.{Status}

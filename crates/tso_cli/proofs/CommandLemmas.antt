@@ -3,9 +3,10 @@ use Rattle.std.proofs.Common.{◌≡◌, ◌+◌, ℕ, ◌≤◌, ◌<◌, List,
 use Rattle.litmus_reader.specs.Spelling.{SpellsTest, IsRefused as IsRefusedTest}
 use Rattle.tso_cli.specs.Limits.{longest_input}
 use Rattle.tso_cli.specs.Parts.{parts_of}
-use Rattle.tso_cli.specs.Answers.{IsInputAnswer, IsAnswerTo, too_large, refused, answered}
-use Rattle.tso_cli.specs.Headline.{InputHeadline, PartsHeadline}
-use Rattle.tso_cli.specs.declared.task.Task.{Task}
+use Rattle.tso_cli.specs.Answers.{IsInputAnswer, IsAnswerTo, IsAnswer, most_read, too_large, refused, answered}
+use Rattle.tso_cli.specs.Headline.{InputHeadline, PartsHeadline, Headline}
+use Rattle.command_line.specs.declared.settings.Settings.{Settings}
+use Rattle.command_line.specs.declared.settings.Settings.TheVariants as settings
 use Rattle.tso_cli.specs.declared.answer.Status.{Status}
 
 take-short : (n : ℕ) (xs : List ℕ) → length xs ≤ n → take n xs ≡ xs
@@ -27,33 +28,35 @@ long input h = omega (arith, length-take (longest_input + 1) input)
 whole : (input : List ℕ) → length input ≤ longest_input → read input ≡ input
 whole input h = take-short (longest_input + 1) input (omega arith)
 
-IsInputAnswer-from_read : (task : Task) (input out : List ℕ) (status : Status) → IsInputAnswer task (read input) out status → IsInputAnswer task input out status
-IsInputAnswer-from_read task input _ _ (too_large large) = too_large (omega (arith, length-take (longest_input + 1) input))
-IsInputAnswer-from_read task input _ _ (refused fault small is) =
+IsInputAnswer-from_read : (s : Settings) (input out : List ℕ) (status : Status) → IsInputAnswer s (read input) out status → IsInputAnswer s input out status
+IsInputAnswer-from_read s input _ _ (too_large large) = too_large (omega (arith, length-take (longest_input + 1) input))
+IsInputAnswer-from_read s input _ _ (refused fault small is) =
     let fits = short input small in
     refused fault fits (subst (λ i. IsRefusedTest (parts_of i).test fault) (whole input fits) is)
-IsInputAnswer-from_read task input _ _ (answered t out status small spelled answer) =
+IsInputAnswer-from_read s input _ _ (answered t out status small spelled answer) =
     let fits = short input small in
     answered t out status fits (subst (λ i. SpellsTest (parts_of i).test t) (whole input fits) spelled)
-    (subst (λ i. IsAnswerTo task t (parts_of i).rest out status) (whole input fits) answer)
+    (subst (λ i. IsAnswerTo s t (parts_of i).rest out status) (whole input fits) answer)
 
-InputHeadline-from_read : (task : Task) (input out : List ℕ) → InputHeadline task (read input) out → InputHeadline task input out
-InputHeadline-from_read task input out h = record {
+InputHeadline-from_read : (s : Settings) (input out : List ℕ) → InputHeadline s (read input) out → InputHeadline s input out
+InputHeadline-from_read s input out h = record {
   within = λ fits.
       let first : length (read input) ≤ longest_input = rw (whole input fits) fits in
-      subst (λ i. PartsHeadline task (parts_of i) out) (whole input fits) (h.within first);
+      subst (λ i. PartsHeadline s (parts_of i) out) (whole input fits) (h.within first);
   above = λ large. h.above (long input large);
 }
 
 -- what is said of the first bytes of an input is said of the input
-pub answer-read : (task : Task) (known : Option (List ℕ)) (items out : List ℕ) (status : Status)
-    → IfSome known (λ input. items ≡ take (longest_input + 1) input) → IsInputAnswer task items out status → IfSome known (λ input. IsInputAnswer task input out status)
-answer-read task None items out status is-read is = tt
-answer-read task (Some input) items out status is-read is =
-    IsInputAnswer-from_read task input out status (subst (λ i. IsInputAnswer task i out status) is-read is)
+pub answer-read : (s : Settings) (known : Option (List ℕ)) (items out : List ℕ) (status : Status)
+    → IfSome known (λ input. items ≡ take (most_read s) input) → IsAnswer s (Some items) out status → IsAnswer s known out status
+answer-read (settings.Tables kind) known items out status is-read is = is
+answer-read s None items out status is-read is = tt
+answer-read s (Some input) items out status is-read is =
+    IsInputAnswer-from_read s input out status (subst (λ i. IsInputAnswer s i out status) is-read is)
 
-pub headline-read : (task : Task) (known : Option (List ℕ)) (items out : List ℕ)
-    → IfSome known (λ input. items ≡ take (longest_input + 1) input) → InputHeadline task items out → IfSome known (λ input. InputHeadline task input out)
-headline-read task None items out is-read h = tt
-headline-read task (Some input) items out is-read h =
-    InputHeadline-from_read task input out (subst (λ i. InputHeadline task i out) is-read h)
+pub headline-read : (s : Settings) (known : Option (List ℕ)) (items out : List ℕ)
+    → IfSome known (λ input. items ≡ take (most_read s) input) → Headline s (Some items) out → Headline s known out
+headline-read (settings.Tables kind) known items out is-read h = h
+headline-read s None items out is-read h = tt
+headline-read s (Some input) items out is-read h =
+    InputHeadline-from_read s input out (subst (λ i. InputHeadline s i out) is-read h)

@@ -10,10 +10,12 @@ use Rattle.tso_model.specs.declared.choice.Outcome.{Outcome}
 use Rattle.tso_model.specs.declared.choice.Outcome.TheVariants.{Committed, Buffered, Moved, Asked}
 use Rattle.tso_model.specs.declared.execution.Entry.{Entry}
 use Rattle.split_laws.specs.BusChoices.{IsPossibleOn}
-use Rattle.split_laws.specs.BusRuns.{EndOn, left_by, ChangesNothingOn, StopsAtTheEndOn}
-use Rattle.machine_core.specs.Running.{Running, attempt_on, effect_by, machine_after, AnswerFits}
+use Rattle.split_laws.specs.BusRuns.{EndOn, left_by}
+use Rattle.split_laws.specs.inner.BusRuns.{ChangesNothingOn, StopsAtTheEndOn}
+use Rattle.machine_core.specs.Running.{Running}
+use Rattle.machine_core.specs.inner.Running.{attempt_on, effect_by, machine_after, AnswerFits}
 use Rattle.machine_core.specs.Statistics.{Statistics, statistics_from}
-use Rattle.tso_cli.specs.Simulation.{answers_of, run_of, HaveFittingAnswers, Drives}
+use Rattle.tso_cli.specs.inner.Simulation.{answers_of, run_of, HaveFittingAnswers, Drives}
 
 -- what the laws of either bus say of states and of the end
 pub record Laws : Type 0 where

@@ -20,8 +20,7 @@ use Rattle.machine_core.specs.Configuration.{Configuration, IsConfigurationWithi
 use Rattle.tso_report.specs.Report.{report}
 use Rattle.tso_report.specs.Shown.{Shown}
 use Rattle.tso_cli.specs.Answers.{run_text, IsRunAnswer, IsAnswerTo, IsInputAnswer, IsAnswer, too_large, refused, answered, ran}
-use Rattle.tso_cli.specs.Limits.{IsTaskWithinLimits}
-use Rattle.command_line.specs.Limits.{IsWithinLimits as IsSettingsWithinLimits}
+use Rattle.command_line.specs.Limits.{IsWithinLimits}
 use Rattle.tso_cli.specs.Parts.{parts_of}
 use Rattle.command_line.specs.Plan.{Plan}
 use Rattle.tso_cli.specs.RunHeadline.{PrintsExecution, PrintsEachRun, HeadlineOfRuns}
@@ -30,14 +29,13 @@ use Rattle.tso_cli.specs.Headline.{HeadlineOf, InputHeadline, Headline}
 use Rattle.tso_cli.specs.Runs.{run_by, run_under, AnswersFitBy, AnswersFit, counts_under}
 use Rattle.tso_cli.specs.RunTexts.{report_in, unfinished_in}
 use Rattle.tso_cli.specs.Simulation.{shown_of}
-use Rattle.tso_cli.specs.declared.task.Task.{Task}
-use Rattle.tso_cli.specs.declared.task.Task.TheVariants as tasks
 use Rattle.command_line.specs.declared.settings.Settings.{Settings}
 use Rattle.command_line.specs.declared.settings.Settings.TheVariants as settings
 use Rattle.tso_cli.specs.declared.answer.Status.{Status}
 use Rattle.tso_cli.proofs.CheckLemmas.{check-means, run-spells}
-use Rattle.tso_cli.specs.ReadOneWay.{AreReadOneWay}
+use Rattle.tso_cli.specs.inner.ReadOneWay.{AreReadOneWay}
 use Rattle.tso_cli.proofs.OneAnswer.{short_rest}
+use Rattle.tso_cli.proofs.OutcomesLemmas.{Searches, outcomes-mean}
 use Rattle.tso_cli.proofs.SweepLemmas.{sweep-means}
 use Rattle.tso_cli.proofs.WitnessLemmas.{Reaching, witness-means}
 
@@ -139,49 +137,49 @@ report-spells t kind c false choices out laws test within fit is ended plain =
     run-spells t kind c (run_under t kind c choices) (shown_of t (counts_under t kind c choices) (run_under t kind c choices)) out test depth within.1 laws.report_spells laws.fits
     (laws.executions (table_of kind) c t choices test fit ended) refl (rw ended at is) (laws.words (table_of kind) c t choices test fit ended).values
 
-answer-means : (task : Task) (t : Litmus) (text out : List ℕ) (status : Status) → AreReadOneWay → Runs → Reaching → IsTaskWithinLimits task → IsTest t → length text < 2 ^ 64
-    → IsAnswerTo task t text out status → HeadlineOf task t text out
-answer-means (tasks.Run kind c json) t text out status texts runs reaching within test short is =
+answer-means : (s : Settings) (t : Litmus) (text out : List ℕ) (status : Status) → AreReadOneWay → Runs → Reaching → Searches → IsWithinLimits s → IsTest t → length text < 2 ^ 64
+    → IsAnswerTo s t text out status → HeadlineOf s t text out
+answer-means (settings.Run kind c json) t text out status texts runs reaching searches within test short is =
     runs-by-bus t kind c json text out
     (run-means t kind c json text out status (texts.decided (length t.programs) text test.some_core) (λ choices. runs.executions (table_of kind) c t choices test)
     (λ choices none. runs.unbuffered (table_of kind) c t choices none test)
     (λ choices out. report-spells t kind c json choices out runs test within) is)
-answer-means (tasks.Sweep kind c plan) t text out status texts runs reaching within test short is =
+answer-means (settings.Sweep kind c plan) t text out status texts runs reaching searches within test short is =
     sweeps-by-bus t kind c plan out
     (sweep-means t kind c plan out status (λ choices. runs.executions (table_of kind) c t choices test) (λ choices none. runs.unbuffered (table_of kind) c t choices none test) (runs.atomic (table_of kind) c t) is)
-answer-means tasks.Check t text out status texts runs reaching within test short is =
+answer-means (settings.Outcomes search json) t text out status texts runs reaching searches within test short is =
+    outcomes-mean t search json out status reaching searches test is
+answer-means settings.Check t text out status texts runs reaching searches within test short is =
     check-means t text out status texts.real texts.one texts.once texts.never_both test short is
-answer-means (tasks.Witness depth) t text out status texts runs reaching within test short is =
+answer-means (settings.Witness depth) t text out status texts runs reaching searches within test short is =
     witness-means t depth text out status texts reaching test within short is
+answer-means (settings.Tables kind) t text out status texts runs reaching searches within test short is = is.text
 
-pub input-means : (task : Task) (input out : List ℕ) (status : Status) → AreReadOneWay → Runs → Reaching → IsTaskWithinLimits task
-    → IsInputAnswer task input out status → InputHeadline task input out
-input-means task input _ _ texts runs reaching within (too_large large) = record { within = λ small. absurd (omega arith); above = λ _. refl }
-input-means task input _ _ texts runs reaching within (refused fault small is) = record {
+pub input-means : (s : Settings) (input out : List ℕ) (status : Status) → AreReadOneWay → Runs → Reaching → Searches → IsWithinLimits s
+    → IsInputAnswer s input out status → InputHeadline s input out
+input-means s input _ _ texts runs reaching searches within (too_large large) = record { within = λ small. absurd (omega arith); above = λ _. refl }
+input-means s input _ _ texts runs reaching searches within (refused fault small is) = record {
   within = λ _. record {
     every_test = λ t spelled. absurd (texts.refused_or_not _ t fault spelled is);
     every_other = λ none. (fault, is, refl);
   };
   above = λ large. absurd (omega arith);
 }
-input-means task input _ _ texts runs reaching within (answered t out status small spelled is) = record {
+input-means s input _ _ texts runs reaching searches within (answered t out status small spelled is) = record {
   within = λ _. record {
-    every_test = λ other too. subst (λ (t : Litmus). HeadlineOf task t (parts_of input).rest out) (texts.one_test _ t other spelled too)
-        (answer-means task t (parts_of input).rest out status texts runs reaching within (texts.test _ t spelled) (short_rest input small) is);
+    every_test = λ other too. subst (λ (t : Litmus). HeadlineOf s t (parts_of input).rest out) (texts.one_test _ t other spelled too)
+        (answer-means s t (parts_of input).rest out status texts runs reaching searches within (texts.test _ t spelled) (short_rest input small) is);
     every_other = λ none. absurd (none t spelled);
   };
   above = λ large. absurd (omega arith);
 }
 
-known-means : (task : Task) (known : Option (List ℕ)) (out : List ℕ) (status : Status) → AreReadOneWay → Runs → Reaching → IsTaskWithinLimits task
-    → IfSome known (λ input. IsInputAnswer task input out status) → IfSome known (λ input. InputHeadline task input out)
-known-means task None out status texts runs reaching within is = tt
-known-means task (Some input) out status texts runs reaching within is = input-means task input out status texts runs reaching within is
+known-means : (s : Settings) (known : Option (List ℕ)) (out : List ℕ) (status : Status) → AreReadOneWay → Runs → Reaching → Searches → IsWithinLimits s
+    → IfSome known (λ input. IsInputAnswer s input out status) → IfSome known (λ input. InputHeadline s input out)
+known-means s None out status texts runs reaching searches within is = tt
+known-means s (Some input) out status texts runs reaching searches within is = input-means s input out status texts runs reaching searches within is
 
-pub command-means : (s : Settings) (known : Option (List ℕ)) (out : List ℕ) (status : Status) → AreReadOneWay → Runs → Reaching → IsSettingsWithinLimits s
+pub command-means : (s : Settings) (known : Option (List ℕ)) (out : List ℕ) (status : Status) → AreReadOneWay → Runs → Reaching → Searches → IsWithinLimits s
     → IsAnswer s known out status → Headline s known out
-command-means (settings.Run kind c json) known out status texts runs reaching within is = known-means (tasks.Run kind c json) known out status texts runs reaching within is
-command-means (settings.Sweep kind c plan) known out status texts runs reaching within is = known-means (tasks.Sweep kind c plan) known out status texts runs reaching within is
-command-means settings.Check known out status texts runs reaching within is = known-means tasks.Check known out status texts runs reaching within is
-command-means (settings.Witness depth) known out status texts runs reaching within is = known-means (tasks.Witness depth) known out status texts runs reaching within is
-command-means (settings.Tables kind) known out status texts runs reaching within is = is.text
+command-means (settings.Tables kind) known out status texts runs reaching searches within is = is.text
+command-means s known out status texts runs reaching searches within is = known-means s known out status texts runs reaching searches within is

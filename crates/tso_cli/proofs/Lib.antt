@@ -10,6 +10,8 @@ pub mod PartLemmas
 mod Lines
 pub mod OneAnswer
 pub mod WitnessLemmas
+pub mod OutcomesLemmas
+pub mod Revisited
 pub mod HeadlineLemmas
 pub mod CheckLemmas
 pub mod CommandLemmas

@@ -13,7 +13,7 @@ use Rattle.order_builder.specs.PrintedOrder.{printed_order}
 use Rattle.tso_report.specs.Shown.{Shown}
 use Rattle.tso_report.specs.Report.{line, test_line, machine_line, register_lines, memory_line, condition_line, choices_line, cache_lines, report}
 use Rattle.tso_report.specs.Json.{json_report}
-use Rattle.tso_report.specs.JsonFrame.{other_members}
+use Rattle.tso_report.specs.inner.JsonFrame.{other_members}
 use Rattle.tso_report.specs.Tally.{RunCounts, tally_text}
 use Rattle.command_line.specs.Plan.{Plan}
 use Rattle.command_line.specs.declared.settings.Settings.TheVariants as settings
@@ -25,9 +25,8 @@ use Rattle.tso_cli.specs.Simulation.{shown_of}
 use Rattle.tso_cli.specs.Sweep.{choices_of, seeded_run, with_one_run, counts_from, sweep_counts, sweep_status, IsSweepAnswer}
 use Rattle.tso_cli.specs.Answers.{run_text, run_status, text_under, status_under, IsRunAnswer, IsAnswerTo, IsInputAnswer, IsAnswer, too_large, refused, answered, ran}
 use Rattle.tso_cli.specs.Machines.{AreAtomicAtOneDepth, DifferInLines, DifferInMembers, ReportsDiffer, RunsAnswerAlike, SweepsAnswerAlike}
-use Rattle.tso_cli.specs.ReadOneWay.{AreReadOneWay}
-use Rattle.tso_cli.specs.declared.task.Task.{Task}
-use Rattle.tso_cli.specs.declared.task.Task.TheVariants as tasks
+use Rattle.tso_cli.specs.inner.ReadOneWay.{AreReadOneWay}
+use Rattle.command_line.specs.declared.settings.Settings.{Settings}
 use Rattle.tso_cli.specs.declared.answer.Status.{Status}
 use Rattle.tso_cli.specs.declared.answer.Status.TheVariants.{Good, Refused, Unended}
 use Rattle.tso_cli.proofs.BusLemmas.{atomic-run}
@@ -173,29 +172,29 @@ sweep-answers-alike t kind other c d plan out again status too shape is is_too =
       refused = λ is_refused. absurd (never-refused ((sweep_counts t kind c plan).unfinished == 0) (sym is.status_is ∙ is_refused));
     }
 
--- of whole inputs: two tasks answer alike, where they do so of each test and of what is refused
-inputs-alike : (task other : Task) (Alike : List ℕ → List ℕ → Status → Status → Type 0) (input out again : List ℕ) (status too : Status) → AreReadOneWay
+-- of whole inputs: two commands answer alike, where they do so of each test and of what is refused
+inputs-alike : (s other : Settings) (Alike : List ℕ → List ℕ → Status → Status → Type 0) (input out again : List ℕ) (status too : Status) → AreReadOneWay
     → ((text : List ℕ) → Alike text text Refused Refused)
-    → ((t : Litmus) (text out again : List ℕ) (status too : Status) → IsTest t → IsAnswerTo task t text out status → IsAnswerTo other t text again too → Alike out again status too)
-    → IsInputAnswer task input out status → IsInputAnswer other input again too → Alike out again status too
-inputs-alike task other Alike input _ _ _ _ law same step (too_large l) (too_large m) = same input_refusal
-inputs-alike task other Alike input _ _ _ _ law same step (too_large l) (refused f small h) = absurd (omega arith)
-inputs-alike task other Alike input _ _ _ _ law same step (too_large l) (answered t out status small spelled is) = absurd (omega arith)
-inputs-alike task other Alike input _ _ _ _ law same step (refused f small h) (too_large m) = absurd (omega arith)
-inputs-alike task other Alike input _ _ _ _ law same step (refused f small h) (refused g less k) =
+    → ((t : Litmus) (text out again : List ℕ) (status too : Status) → IsTest t → IsAnswerTo s t text out status → IsAnswerTo other t text again too → Alike out again status too)
+    → IsInputAnswer s input out status → IsInputAnswer other input again too → Alike out again status too
+inputs-alike s other Alike input _ _ _ _ law same step (too_large l) (too_large m) = same input_refusal
+inputs-alike s other Alike input _ _ _ _ law same step (too_large l) (refused f small h) = absurd (omega arith)
+inputs-alike s other Alike input _ _ _ _ law same step (too_large l) (answered t out status small spelled is) = absurd (omega arith)
+inputs-alike s other Alike input _ _ _ _ law same step (refused f small h) (too_large m) = absurd (omega arith)
+inputs-alike s other Alike input _ _ _ _ law same step (refused f small h) (refused g less k) =
     subst (λ (text : List ℕ). Alike (test_refusal f) text Refused Refused) (ap test_refusal (law.one_refusal _ f g h k)) (same (test_refusal f))
-inputs-alike task other Alike input _ _ _ _ law same step (refused f small h) (answered t out status less spelled is) = absurd (law.refused_or_not _ t f spelled h)
-inputs-alike task other Alike input _ _ _ _ law same step (answered t out status small spelled is) (too_large m) = absurd (omega arith)
-inputs-alike task other Alike input _ _ _ _ law same step (answered t out status small spelled is) (refused f less h) = absurd (law.refused_or_not _ t f spelled h)
-inputs-alike task other Alike input _ _ _ _ law same step (answered t out status small spelled is) (answered t2 out2 status2 less spelled2 is2) =
+inputs-alike s other Alike input _ _ _ _ law same step (refused f small h) (answered t out status less spelled is) = absurd (law.refused_or_not _ t f spelled h)
+inputs-alike s other Alike input _ _ _ _ law same step (answered t out status small spelled is) (too_large m) = absurd (omega arith)
+inputs-alike s other Alike input _ _ _ _ law same step (answered t out status small spelled is) (refused f less h) = absurd (law.refused_or_not _ t f spelled h)
+inputs-alike s other Alike input _ _ _ _ law same step (answered t out status small spelled is) (answered t2 out2 status2 less spelled2 is2) =
     step t2 (parts_of input).rest out out2 status status2 (law.test _ t2 spelled2)
-    (subst (λ t. IsAnswerTo task t (parts_of input).rest out status) (law.one_test _ t t2 spelled spelled2) is) is2
+    (subst (λ t. IsAnswerTo s t (parts_of input).rest out status) (law.one_test _ t t2 spelled spelled2) is) is2
 
 pub runs-alike : (kind other : ProtocolKind) (c d : Configuration) (json : Bool) (input out again : List ℕ) (status too : Status) → AreReadOneWay → AreAtomicAtOneDepth c d
     → IsAnswer (settings.Run kind c json) (Some input) out status → IsAnswer (settings.Run other d json) (Some input) again too
     → RunsAnswerAlike json kind other c d out again status too
 runs-alike kind other c d json input out again status too law shape is is_too =
-    inputs-alike (tasks.Run kind c json) (tasks.Run other d json) (RunsAnswerAlike json kind other c d) input out again status too law
+    inputs-alike (settings.Run kind c json) (settings.Run other d json) (RunsAnswerAlike json kind other c d) input out again status too law
     (λ text. refusals-alike json kind other c d text text refl)
     (λ t text out again status too test. run-answers-alike t kind other c d json text out again status too (law.decided (length t.programs) text test.some_core) shape) is is_too
 
@@ -203,6 +202,6 @@ pub sweeps-alike : (kind other : ProtocolKind) (c d : Configuration) (plan : Pla
     → IsAnswer (settings.Sweep kind c plan) (Some input) out status → IsAnswer (settings.Sweep other d plan) (Some input) again too
     → SweepsAnswerAlike kind other c d out again status too
 sweeps-alike kind other c d plan input out again status too law shape is is_too =
-    inputs-alike (tasks.Sweep kind c plan) (tasks.Sweep other d plan) (SweepsAnswerAlike kind other c d) input out again status too law
+    inputs-alike (settings.Sweep kind c plan) (settings.Sweep other d plan) (SweepsAnswerAlike kind other c d) input out again status too law
     (λ text. record { status = refl; swept = λ not_refused. absurd (not_refused refl); refused = λ is_refused. refl })
     (λ t text out again status too test. sweep-answers-alike t kind other c d plan out again status too shape) is is_too

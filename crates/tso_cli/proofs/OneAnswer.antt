@@ -11,12 +11,11 @@ use Rattle.tso_cli.specs.Lines.{test_refusal, choices_refusal}
 use Rattle.tso_cli.specs.CheckLines.{order_refusal, invalid_line}
 use Rattle.tso_cli.specs.Answers.{run_text, run_status, IsRunAnswer, IsJudgement, IsCheckAnswer, IsAnswerTo, IsInputAnswer, IsAnswer, too_large, refused, answered, ran, judged, valid, invalid}
 use Rattle.tso_cli.specs.Witness.{IsWitness, IsWitnessAnswer, reached, too_small, invalid, refused, judged}
-use Rattle.tso_cli.specs.declared.task.Task.{Task}
-use Rattle.tso_cli.specs.declared.task.Task.TheVariants as tasks
 use Rattle.command_line.specs.declared.settings.Settings.{Settings}
 use Rattle.command_line.specs.declared.settings.Settings.TheVariants as settings
 use Rattle.tso_cli.specs.declared.answer.Status.{Status}
-use Rattle.tso_cli.specs.ReadOneWay.{AreReadOneWay}
+use Rattle.tso_cli.specs.OneText.{GivesOneAnswer}
+use Rattle.tso_cli.specs.inner.ReadOneWay.{AreReadOneWay}
 use Rattle.tso_cli.proofs.CheckLemmas.{IsReal, IsOne}
 use Rattle.tso_cli.proofs.PartLemmas.{rest_within}
 
@@ -67,34 +66,33 @@ one_witness_answer t depth text _ _ _ _ law test short (judged order out status 
 one_witness_answer t depth text _ _ _ _ law test short (judged order out status spelled is) (judged order2 out2 status2 spelled2 is2) =
     one_witness t depth order2 out out2 status status2 law.real law.one (subst (λ o. IsWitness t depth o out status) (law.once t text order order2 test short spelled spelled2) is) is2
 
-one_answer_to : (task : Task) (t : Litmus) (text out other : List ℕ) (status again : Status) → AreReadOneWay → IsTest t → length text < 2 ^ 64
-    → IsAnswerTo task t text out status → IsAnswerTo task t text other again → Same out other status again
-one_answer_to (tasks.Run kind c json) t text out other status again law test short is too = one_run_answer t kind c json text out other status again (law.decided (length t.programs) text test.some_core) is too
-one_answer_to (tasks.Sweep kind c plan) t text out other status again law test short is too = (is.text ∙ sym too.text, is.status_is ∙ sym too.status_is)
-one_answer_to tasks.Check t text out other status again law test short is too = one_check_answer t text out other status again law test short is too
-one_answer_to (tasks.Witness depth) t text out other status again law test short is too = one_witness_answer t depth text out other status again law test short is too
+one_answer_to : (s : Settings) (t : Litmus) (text out other : List ℕ) (status again : Status) → AreReadOneWay → GivesOneAnswer s → IsTest t → length text < 2 ^ 64
+    → IsAnswerTo s t text out status → IsAnswerTo s t text other again → Same out other status again
+one_answer_to (settings.Run kind c json) t text out other status again law one test short is too = one_run_answer t kind c json text out other status again (law.decided (length t.programs) text test.some_core) is too
+one_answer_to (settings.Sweep kind c plan) t text out other status again law one test short is too = (is.text ∙ sym too.text, is.status_is ∙ sym too.status_is)
+one_answer_to (settings.Outcomes search json) t text out other status again law one test short is too = absurd one
+one_answer_to settings.Check t text out other status again law one test short is too = one_check_answer t text out other status again law test short is too
+one_answer_to (settings.Witness depth) t text out other status again law one test short is too = one_witness_answer t depth text out other status again law test short is too
+one_answer_to (settings.Tables kind) t text out other status again law one test short is too = (is.text ∙ sym too.text, is.status_is ∙ sym too.status_is)
 
 pub short_rest : (input : List ℕ) → length input ≤ 1048576 → length (parts_of input).rest < 2 ^ 64
 short_rest input small = let within = rest_within input in omega arith
 
-pub one_input_answer : (task : Task) (input out other : List ℕ) (status again : Status) → AreReadOneWay
-    → IsInputAnswer task input out status → IsInputAnswer task input other again → Same out other status again
-one_input_answer task input _ _ _ _ law (too_large l) (too_large m) = (refl, refl)
-one_input_answer task input _ _ _ _ law (too_large l) (refused f small h) = absurd (omega arith)
-one_input_answer task input _ _ _ _ law (too_large l) (answered t out status small spelled is) = absurd (omega arith)
-one_input_answer task input _ _ _ _ law (refused f small h) (too_large m) = absurd (omega arith)
-one_input_answer task input _ _ _ _ law (refused f small h) (refused g less k) = (ap test_refusal (law.one_refusal _ f g h k), refl)
-one_input_answer task input _ _ _ _ law (refused f small h) (answered t out status less spelled is) = absurd (law.refused_or_not _ t f spelled h)
-one_input_answer task input _ _ _ _ law (answered t out status small spelled is) (too_large m) = absurd (omega arith)
-one_input_answer task input _ _ _ _ law (answered t out status small spelled is) (refused f less h) = absurd (law.refused_or_not _ t f spelled h)
-one_input_answer task input _ _ _ _ law (answered t out status small spelled is) (answered t2 out2 status2 less spelled2 is2) =
-    one_answer_to task t2 (parts_of input).rest out out2 status status2 law (law.test _ t2 spelled2) (short_rest input small)
-    (subst (λ t. IsAnswerTo task t (parts_of input).rest out status) (law.one_test _ t t2 spelled spelled2) is) is2
+pub one_input_answer : (s : Settings) (input out other : List ℕ) (status again : Status) → AreReadOneWay → GivesOneAnswer s
+    → IsInputAnswer s input out status → IsInputAnswer s input other again → Same out other status again
+one_input_answer s input _ _ _ _ law one (too_large l) (too_large m) = (refl, refl)
+one_input_answer s input _ _ _ _ law one (too_large l) (refused f small h) = absurd (omega arith)
+one_input_answer s input _ _ _ _ law one (too_large l) (answered t out status small spelled is) = absurd (omega arith)
+one_input_answer s input _ _ _ _ law one (refused f small h) (too_large m) = absurd (omega arith)
+one_input_answer s input _ _ _ _ law one (refused f small h) (refused g less k) = (ap test_refusal (law.one_refusal _ f g h k), refl)
+one_input_answer s input _ _ _ _ law one (refused f small h) (answered t out status less spelled is) = absurd (law.refused_or_not _ t f spelled h)
+one_input_answer s input _ _ _ _ law one (answered t out status small spelled is) (too_large m) = absurd (omega arith)
+one_input_answer s input _ _ _ _ law one (answered t out status small spelled is) (refused f less h) = absurd (law.refused_or_not _ t f spelled h)
+one_input_answer s input _ _ _ _ law one (answered t out status small spelled is) (answered t2 out2 status2 less spelled2 is2) =
+    one_answer_to s t2 (parts_of input).rest out out2 status status2 law one (law.test _ t2 spelled2) (short_rest input small)
+    (subst (λ t. IsAnswerTo s t (parts_of input).rest out status) (law.one_test _ t t2 spelled spelled2) is) is2
 
-pub one_answer : (s : Settings) (input out other : List ℕ) (status again : Status) → AreReadOneWay
+pub one_answer : (s : Settings) (input out other : List ℕ) (status again : Status) → AreReadOneWay → GivesOneAnswer s
     → IsAnswer s (Some input) out status → IsAnswer s (Some input) other again → Same out other status again
-one_answer (settings.Run kind c json) input out other status again law is too = one_input_answer (tasks.Run kind c json) input out other status again law is too
-one_answer (settings.Sweep kind c plan) input out other status again law is too = one_input_answer (tasks.Sweep kind c plan) input out other status again law is too
-one_answer settings.Check input out other status again law is too = one_input_answer tasks.Check input out other status again law is too
-one_answer (settings.Witness depth) input out other status again law is too = one_input_answer (tasks.Witness depth) input out other status again law is too
-one_answer (settings.Tables kind) input out other status again law is too = (is.text ∙ sym too.text, is.status_is ∙ sym too.status_is)
+one_answer (settings.Tables kind) input out other status again law one is too = (is.text ∙ sym too.text, is.status_is ∙ sym too.status_is)
+one_answer s input out other status again law one is too = one_input_answer s input out other status again law one is too

@@ -37,9 +37,9 @@ use Rattle.tso_cli.specs.SplitRun.{split_run}
 use Rattle.tso_cli.specs.Judgement.{JudgesOrder, JudgesEachOrder, WitnessesOrder, WitnessesEachOrder, reached, unreached, broken}
 use Rattle.tso_cli.specs.Headline.{HeadlineOf, PartsHeadline, InputHeadline}
 use Rattle.tso_cli.specs.OneText.{ShowOneExecution, AreOneRun, AreOneWitness}
-use Rattle.tso_cli.specs.ReadOneWay.{AreReadOneWay}
-use Rattle.tso_cli.specs.declared.task.Task.{Task}
-use Rattle.tso_cli.specs.declared.task.Task.TheVariants as tasks
+use Rattle.tso_cli.specs.inner.ReadOneWay.{AreReadOneWay}
+use Rattle.command_line.specs.declared.settings.Settings.{Settings}
+use Rattle.command_line.specs.declared.settings.Settings.TheVariants as settings
 use Rattle.tso_cli.proofs.OneAnswer.{short_rest}
 use Rattle.tso_cli.proofs.SameStates.{one-list}
 
@@ -201,10 +201,10 @@ one-witnessed t depth text out other law decided test short p q = by_text (decid
 sizes : (n m : ℕ) → (n ≤ m) ⊎ (m < n)
 sizes n m = grind arith
 
-parts-one : (task : Task) (Same : List ℕ → List ℕ → Type 0) (parts : Parts) (out other : List ℕ) → AreReadOneWay → AreDecided → ((a b : List ℕ) → a ≡ b → Same a b)
-    → ((t : Litmus) → IsTest t → HeadlineOf task t parts.rest out → HeadlineOf task t parts.rest other → Same out other)
-    → PartsHeadline task parts out → PartsHeadline task parts other → Same out other
-parts-one task Same parts out other law decided same step p q = by_text (decided.tests parts.test).always
+parts-one : (s : Settings) (Same : List ℕ → List ℕ → Type 0) (parts : Parts) (out other : List ℕ) → AreReadOneWay → AreDecided → ((a b : List ℕ) → a ≡ b → Same a b)
+    → ((t : Litmus) → IsTest t → HeadlineOf s t parts.rest out → HeadlineOf s t parts.rest other → Same out other)
+    → PartsHeadline s parts out → PartsHeadline s parts other → Same out other
+parts-one s Same parts out other law decided same step p q = by_text (decided.tests parts.test).always
   where
     by_text : ((t : Litmus) × SpellsTest parts.test t) ⊎ ((fault : TextFault) × IsRefusedTest parts.test fault) → Same out other
     by_text (inl spells) = step spells.0 (law.test parts.test spells.0 spells.1) (p.every_test spells.0 spells.1) (q.every_test spells.0 spells.1)
@@ -214,33 +214,33 @@ parts-one task Same parts out other law decided same step p q = by_text (decided
         let second = q.every_other none in
         same out other (first.2 ∙ ap test_refusal (law.one_refusal parts.test first.0 second.0 first.1 second.1) ∙ sym second.2)
 
-input-one : (task : Task) (Same : List ℕ → List ℕ → Type 0) (input out other : List ℕ) → AreReadOneWay → AreDecided → ((a b : List ℕ) → a ≡ b → Same a b)
-    → ((t : Litmus) → IsTest t → length (parts_of input).rest < 2 ^ 64 → HeadlineOf task t (parts_of input).rest out → HeadlineOf task t (parts_of input).rest other → Same out other)
-    → InputHeadline task input out → InputHeadline task input other → Same out other
-input-one task Same input out other law decided same step p q = by_size (sizes (length input) longest_input)
+input-one : (s : Settings) (Same : List ℕ → List ℕ → Type 0) (input out other : List ℕ) → AreReadOneWay → AreDecided → ((a b : List ℕ) → a ≡ b → Same a b)
+    → ((t : Litmus) → IsTest t → length (parts_of input).rest < 2 ^ 64 → HeadlineOf s t (parts_of input).rest out → HeadlineOf s t (parts_of input).rest other → Same out other)
+    → InputHeadline s input out → InputHeadline s input other → Same out other
+input-one s Same input out other law decided same step p q = by_size (sizes (length input) longest_input)
   where
     by_size : (length input ≤ longest_input) ⊎ (longest_input < length input) → Same out other
     by_size (inl small) =
-        parts-one task Same (parts_of input) out other law decided same (λ t test. step t test (short_rest input small)) (p.within small) (q.within small)
+        parts-one s Same (parts_of input) out other law decided same (λ t test. step t test (short_rest input small)) (p.within small) (q.within small)
     by_size (inr large) = same out other (p.above large ∙ sym (q.above large))
 
 pub runs-one : (kind : ProtocolKind) (c : Configuration) (json : Bool) (input out other : List ℕ) → AreReadOneWay → AreDecided
-    → InputHeadline (tasks.Run kind c json) input out → InputHeadline (tasks.Run kind c json) input other → AreOneRun kind c json out other
+    → InputHeadline (settings.Run kind c json) input out → InputHeadline (settings.Run kind c json) input other → AreOneRun kind c json out other
 runs-one kind c json input out other law decided =
-    input-one (tasks.Run kind c json) (AreOneRun kind c json) input out other law decided (λ a b same. inl same)
+    input-one (settings.Run kind c json) (AreOneRun kind c json) input out other law decided (λ a b same. inl same)
     (λ t test short. one-run-on-either t kind c json out other (parts_of input).rest (law.decided (length t.programs) (parts_of input).rest test.some_core))
 
 pub sweeps-one : (kind : ProtocolKind) (c : Configuration) (plan : Plan) (input out other : List ℕ) → AreReadOneWay → AreDecided
-    → InputHeadline (tasks.Sweep kind c plan) input out → InputHeadline (tasks.Sweep kind c plan) input other → out ≡ other
+    → InputHeadline (settings.Sweep kind c plan) input out → InputHeadline (settings.Sweep kind c plan) input other → out ≡ other
 sweeps-one kind c plan input out other law decided =
-    input-one (tasks.Sweep kind c plan) (λ a b. a ≡ b) input out other law decided (λ a b same. same) (λ t test short. one-sweep-on-either t kind c plan out other)
+    input-one (settings.Sweep kind c plan) (λ a b. a ≡ b) input out other law decided (λ a b same. same) (λ t test short. one-sweep-on-either t kind c plan out other)
 
-pub checks-one : (input out other : List ℕ) → AreReadOneWay → AreDecided → InputHeadline tasks.Check input out → InputHeadline tasks.Check input other → out ≡ other
+pub checks-one : (input out other : List ℕ) → AreReadOneWay → AreDecided → InputHeadline settings.Check input out → InputHeadline settings.Check input other → out ≡ other
 checks-one input out other law decided =
-    input-one tasks.Check (λ a b. a ≡ b) input out other law decided (λ a b same. same) (λ t test short. one-check t (parts_of input).rest out other law decided test short)
+    input-one settings.Check (λ a b. a ≡ b) input out other law decided (λ a b same. same) (λ t test short. one-check t (parts_of input).rest out other law decided test short)
 
 pub witnesses-one : (depth : ℕ) (input out other : List ℕ) → AreReadOneWay → AreDecided
-    → InputHeadline (tasks.Witness depth) input out → InputHeadline (tasks.Witness depth) input other → AreOneWitness depth out other
+    → InputHeadline (settings.Witness depth) input out → InputHeadline (settings.Witness depth) input other → AreOneWitness depth out other
 witnesses-one depth input out other law decided =
-    input-one (tasks.Witness depth) (AreOneWitness depth) input out other law decided (λ a b same. inl same)
+    input-one (settings.Witness depth) (AreOneWitness depth) input out other law decided (λ a b same. inl same)
     (λ t test short. one-witnessed t depth (parts_of input).rest out other law decided test short)

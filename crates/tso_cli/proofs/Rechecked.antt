@@ -33,14 +33,14 @@ use Rattle.tso_cli.specs.CheckLines.{valid_line}
 use Rattle.tso_cli.specs.Runs.{run_by, run_under, AnswersFit, counts_under}
 use Rattle.tso_cli.specs.Simulation.{shown_of}
 use Rattle.tso_cli.specs.Answers.{run_text, run_status, IsRunAnswer, IsCheckAnswer, IsInputAnswer, too_large, refused, answered, ran}
-use Rattle.tso_cli.specs.declared.task.Task.TheVariants as tasks
+use Rattle.command_line.specs.declared.settings.Settings.TheVariants as settings
 use Rattle.tso_cli.specs.declared.answer.Status.{Status}
 use Rattle.tso_cli.specs.declared.answer.Status.TheVariants.{Good, Unended}
 use Rattle.tso_cli.proofs.BusLemmas.{attempts_in, length-in, run-is}
 use Rattle.tso_cli.proofs.SimulationLemmas.{RunLaws}
 use Rattle.tso_cli.proofs.CountLemmas.{counts-each, counts-few}
 use Rattle.tso_cli.proofs.CheckLemmas.{order-for, valid-answer}
-use Rattle.tso_cli.specs.ReadOneWay.{AreReadOneWay}
+use Rattle.tso_cli.specs.inner.ReadOneWay.{AreReadOneWay}
 use Rattle.tso_cli.proofs.HeadlineLemmas.{Runs, report-spells}
 
 -- ---- how much a run leaves
@@ -160,14 +160,14 @@ run-ended t kind c input _ _ spelled good (ran choices read fit) =
     record { t = t; choices = choices; spelled = spelled; few = read.few; fit = fit; ended = good-ended t (run_under t kind c choices) good; is = refl }
 
 input-ended : (kind : ProtocolKind) (c : Configuration) (input out : List ℕ) (status : Status) → status ≡ Good
-    → IsInputAnswer (tasks.Run kind c false) input out status → Ended kind c input out
+    → IsInputAnswer (settings.Run kind c false) input out status → Ended kind c input out
 input-ended kind c input _ _ good (too_large large) = absurd (let no : ⊥ = cc in no)
 input-ended kind c input _ _ good (refused fault small is) = absurd (let no : ⊥ = cc in no)
 input-ended kind c input _ _ good (answered t out status small spelled is) = run-ended t kind c input out status spelled good is
 
 checked : (test out input answer : List ℕ) (status : Status) (t : Litmus) (order : List Entry) → AreReadOneWay → input ≡ joined test out
     → parts_of (joined test out) ≡ record { test = test; rest = out } → length out ≤ longest_report → SpellsTest test t → SpellsOrder t out order → IsTsoExecution t order
-    → IsInputAnswer tasks.Check input answer status → (answer ≡ valid_line) × (status ≡ Good)
+    → IsInputAnswer settings.Check input answer status → (answer ≡ valid_line) × (status ≡ Good)
 checked test out input _ _ t order laws same separated short spelled spells execution (too_large large) =
     let size : length test ≤ 65536 = spelled.is.small in
     absurd (omega (arith, ap (λ (l : List ℕ). length l) same, length-append test (codes "====\n" ++ out), length-append (codes "====\n") out))
@@ -190,12 +190,12 @@ ended-short kind c input out texts runs laws short within e =
     (short e.t kind c (shown_of e.t (counts_under e.t kind c e.choices) (run_under e.t kind c e.choices)) test within (small-run e.t kind c e.choices runs laws test e.few e.fit e.ended))
 
 pub printed-short : (kind : ProtocolKind) (c : Configuration) (input out : List ℕ) → AreReadOneWay → Runs → RunLaws → AreShort
-    → IsConfigurationWithinLimits c → IsInputAnswer (tasks.Run kind c false) input out Good → length out ≤ longest_report
+    → IsConfigurationWithinLimits c → IsInputAnswer (settings.Run kind c false) input out Good → length out ≤ longest_report
 printed-short kind c input out texts runs laws short within is = ended-short kind c input out texts runs laws short within (input-ended kind c input out Good refl is)
 
 pub rechecked : (kind : ProtocolKind) (c : Configuration) (input out answer : List ℕ) (status : Status) → AreReadOneWay → Runs → RunLaws
     → AreShort → IsConfigurationWithinLimits c → parts_of (joined (parts_of input).test out) ≡ record { test = (parts_of input).test; rest = out }
-    → IsInputAnswer (tasks.Run kind c false) input out Good → IsInputAnswer tasks.Check (joined (parts_of input).test out) answer status → (answer ≡ valid_line) × (status ≡ Good)
+    → IsInputAnswer (settings.Run kind c false) input out Good → IsInputAnswer settings.Check (joined (parts_of input).test out) answer status → (answer ≡ valid_line) × (status ≡ Good)
 rechecked kind c input out answer status texts runs laws short within separated is answered_so =
     let e = input-ended kind c input out Good refl is in
     let test = texts.test (parts_of input).test e.t e.spelled in

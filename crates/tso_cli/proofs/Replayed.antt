@@ -25,11 +25,11 @@ use Rattle.tso_cli.specs.RunTexts.{report_in}
 use Rattle.tso_cli.specs.Simulation.{shown_of}
 use Rattle.tso_cli.specs.Witness.{witness_line, IsWitness, IsWitnessAnswer, ReportsOrder, reached, too_small, invalid, refused, judged}
 use Rattle.tso_cli.specs.Answers.{IsRunAnswer, IsInputAnswer, too_large, refused, answered, ran}
-use Rattle.tso_cli.specs.declared.task.Task.TheVariants as tasks
+use Rattle.command_line.specs.declared.settings.Settings.TheVariants as settings
 use Rattle.tso_cli.specs.declared.answer.Status.{Status}
 use Rattle.tso_cli.specs.declared.answer.Status.TheVariants.{Good}
 use Rattle.tso_cli.proofs.BusLemmas.{atomic-run}
-use Rattle.tso_cli.specs.ReadOneWay.{AreReadOneWay}
+use Rattle.tso_cli.specs.inner.ReadOneWay.{AreReadOneWay}
 use Rattle.tso_cli.proofs.WitnessLemmas.{Reaching, choices-few, line-spells}
 
 -- ---- the line of choices is short
@@ -46,7 +46,7 @@ after-short cores (c ∷ cs) few there =
     let others = after-short cores cs few there.1 in
     omega (arith, length-append (printed_choice c) (printed_after cs))
 
-choices-short : (cores : ℕ) (cs : List Choice) → cores ≤ 8 → CoresExist cores cs → length (printed_choices cs) ≤ 6 * length cs
+pub choices-short : (cores : ℕ) (cs : List Choice) → cores ≤ 8 → CoresExist cores cs → length (printed_choices cs) ≤ 6 * length cs
 choices-short cores [] few there = omega arith
 choices-short cores (c ∷ cs) few there =
     let below : chosen c < 8 = let b = there.0 in omega (arith, b, few) in
@@ -85,48 +85,48 @@ test-found : (t : Litmus) (depth : ℕ) (input out : List ℕ) (status : Status)
 test-found t depth input _ _ spelled good (refused fault h) = absurd (let no : ⊥ = cc in no)
 test-found t depth input _ _ spelled good (judged order out status spells is) = order-found t depth order input out status spelled spells good is
 
-found : (depth : ℕ) (input out : List ℕ) (status : Status) → status ≡ Good → IsInputAnswer (tasks.Witness depth) input out status → Found depth input out
+found : (depth : ℕ) (input out : List ℕ) (status : Status) → status ≡ Good → IsInputAnswer (settings.Witness depth) input out status → Found depth input out
 found depth input _ _ good (too_large large) = absurd (let no : ⊥ = cc in no)
 found depth input _ _ good (refused fault small is) = absurd (let no : ⊥ = cc in no)
 found depth input _ _ good (answered t out status small spelled is) = test-found t depth input out status spelled good is
 
 -- ---- what `run` answers to these choices
 
-abbrev Replays : ProtocolKind → Configuration → Bool → Litmus → List Entry → List ℕ → Status → Type 0
-Replays kind c json t order answer status =
-    (answer ≡ report_in json t kind c (shown_of t (counts_under t kind c (choices_along t order)) (run t c.depth (choices_along t order)))) × (status ≡ Good)
+abbrev pub Replays : ProtocolKind → Configuration → Bool → Litmus → List Choice → List ℕ → Status → Type 0
+Replays kind c json t choices answer status =
+    (answer ≡ report_in json t kind c (shown_of t (counts_under t kind c choices) (run t c.depth choices))) × (status ≡ Good)
 
-replays : (kind : ProtocolKind) (c : Configuration) (json : Bool) (t : Litmus) (order : List Entry) (out answer : List ℕ) (status : Status) → AreReadOneWay → IsTest t
-    → SpellsChoices (length t.programs) out (choices_along t order) → c.bus ≡ Atomic → (run t c.depth (choices_along t order)).ended ≡ true
-    → IsRunAnswer t kind c json out answer status → Replays kind c json t order answer status
-replays kind c json t order out _ _ laws test spells atomic ended (refused fault h) =
-    absurd ((laws.decided (length t.programs) out test.some_core).never_both (choices_along t order) fault spells h)
-replays kind c json t order out _ _ laws test spells atomic ended (ran choices read fit) =
-    let same : choices ≡ choices_along t order = (laws.decided (length t.programs) out test.some_core).one_list choices (choices_along t order) read spells in
-    let flat : run_under t kind c choices ≡ run t c.depth (choices_along t order) =
-    atomic-run (table_of kind) c t choices atomic ∙ ap (λ (cs : List Choice). run t c.depth cs) same in
+replays : (kind : ProtocolKind) (c : Configuration) (json : Bool) (t : Litmus) (choices : List Choice) (out answer : List ℕ) (status : Status) → AreReadOneWay → IsTest t
+    → SpellsChoices (length t.programs) out choices → c.bus ≡ Atomic → (run t c.depth choices).ended ≡ true
+    → IsRunAnswer t kind c json out answer status → Replays kind c json t choices answer status
+replays kind c json t choices out _ _ laws test spells atomic ended (refused fault h) =
+    absurd ((laws.decided (length t.programs) out test.some_core).never_both choices fault spells h)
+replays kind c json t choices out _ _ laws test spells atomic ended (ran others read fit) =
+    let same : others ≡ choices = (laws.decided (length t.programs) out test.some_core).one_list others choices read spells in
+    let flat : run_under t kind c others ≡ run t c.depth choices =
+    atomic-run (table_of kind) c t others atomic ∙ ap (λ (cs : List Choice). run t c.depth cs) same in
     rw (flat, same, ended) (refl, refl)
 
-replayed-joined : (kind : ProtocolKind) (c : Configuration) (json : Bool) (test out input answer : List ℕ) (status : Status) (t : Litmus) (order : List Entry) → AreReadOneWay
+pub replayed-joined : (kind : ProtocolKind) (c : Configuration) (json : Bool) (test out input answer : List ℕ) (status : Status) (t : Litmus) (choices : List Choice) → AreReadOneWay
     → input ≡ joined test out → parts_of (joined test out) ≡ record { test = test; rest = out } → length out ≤ 4000 → SpellsTest test t
-    → SpellsChoices (length t.programs) out (choices_along t order) → c.bus ≡ Atomic → (run t c.depth (choices_along t order)).ended ≡ true
-    → IsInputAnswer (tasks.Run kind c json) input answer status → Replays kind c json t order answer status
-replayed-joined kind c json test out input _ _ t order laws same separated short spelled spells atomic ended (too_large large) =
+    → SpellsChoices (length t.programs) out choices → c.bus ≡ Atomic → (run t c.depth choices).ended ≡ true
+    → IsInputAnswer (settings.Run kind c json) input answer status → Replays kind c json t choices answer status
+replayed-joined kind c json test out input _ _ t choices laws same separated short spelled spells atomic ended (too_large large) =
     let size : length test ≤ 65536 = spelled.is.small in
     absurd (omega (arith, ap (λ (l : List ℕ). length l) same, length-append test (codes "====\n" ++ out), length-append (codes "====\n") out))
-replayed-joined kind c json test out input _ _ t order laws same separated short spelled spells atomic ended (refused fault small is) =
+replayed-joined kind c json test out input _ _ t choices laws same separated short spelled spells atomic ended (refused fault small is) =
     let first : (parts_of input).test ≡ test = ap (λ i. (parts_of i).test) same ∙ ap (λ (p : Parts). p.test) separated in
     absurd (laws.refused_or_not test t fault spelled (subst (λ text. IsRefusedTest text fault) first is))
-replayed-joined kind c json test out input _ _ t order laws same separated short spelled spells atomic ended (answered other answer status small too is) =
+replayed-joined kind c json test out input _ _ t choices laws same separated short spelled spells atomic ended (answered other answer status small too is) =
     let first : (parts_of input).test ≡ test = ap (λ i. (parts_of i).test) same ∙ ap (λ (p : Parts). p.test) separated in
     let second : (parts_of input).rest ≡ out = ap (λ i. (parts_of i).rest) same ∙ ap (λ (p : Parts). p.rest) separated in
     let one : other ≡ t = laws.one_test test other t (subst (λ text. SpellsTest text other) first too) spelled in
-    replays kind c json t order out answer status laws (laws.test test t spelled) spells atomic ended
+    replays kind c json t choices out answer status laws (laws.test test t spelled) spells atomic ended
     (subst (λ (u : Litmus). IsRunAnswer u kind c json out answer status) one (subst (λ text. IsRunAnswer other kind c json text answer status) second is))
 
 pub replayed : (kind : ProtocolKind) (c : Configuration) (json : Bool) (input out answer : List ℕ) (status : Status) → AreReadOneWay → Reaching → c.bus ≡ Atomic → IsConfigurationWithinLimits c
     → parts_of (joined (parts_of input).test out) ≡ record { test = (parts_of input).test; rest = out }
-    → IsInputAnswer (tasks.Witness c.depth) input out Good → IsInputAnswer (tasks.Run kind c json) (joined (parts_of input).test out) answer status
+    → IsInputAnswer (settings.Witness c.depth) input out Good → IsInputAnswer (settings.Run kind c json) (joined (parts_of input).test out) answer status
     → ReportsOrder kind c json (parts_of input) answer × (status ≡ Good)
 replayed kind c json input out answer status texts reaching atomic within separated is answered_so =
     let f = found c.depth input out Good refl is in
@@ -136,7 +136,7 @@ replayed kind c json input out answer status texts reaching atomic within separa
     let spells : SpellsChoices (length f.t.programs) out choices =
     subst (λ text. SpellsChoices (length f.t.programs) text choices) (sym f.is) (line-spells f.t c.depth choices f.order reaching test lead) in
     let short : length out ≤ 4000 = subst (λ (text : List ℕ). length text ≤ 4000) (sym f.is) (line-short f.t c.depth choices f.order reaching test lead) in
-    let answers = replayed-joined kind c json (parts_of input).test out (joined (parts_of input).test out) answer status f.t f.order texts refl separated short f.test_spelled spells atomic lead.ended answered_so in (
+    let answers = replayed-joined kind c json (parts_of input).test out (joined (parts_of input).test out) answer status f.t choices texts refl separated short f.test_spelled spells atomic lead.ended answered_so in (
       record {
         t = f.t;
         order = f.order;

@@ -21,18 +21,21 @@ use Rattle.tso_laws.specs.Counting.{instructions, stores}
 use Rattle.tso_laws.specs.EndedRuns.{End}
 use Rattle.tso_laws.specs.Entries.{FitsTest}
 use Rattle.tso_laws.specs.Rounds.{CanBeCutIntoRounds}
-use Rattle.split_laws.specs.BusRuns.{EndOn, StopsAtTheEndOn}
+use Rattle.split_laws.specs.BusRuns.{EndOn}
+use Rattle.split_laws.specs.inner.BusRuns.{StopsAtTheEndOn}
 use Rattle.order_builder.specs.PrintedOrder.{HasLocation, IsLocationFor}
 use Rattle.protocol_tables.specs.Tables.{Table}
 use Rattle.machine_core.specs.declared.counts.Counts.{Counts}
 use Rattle.machine_core.specs.Configuration.{Configuration}
 use Rattle.machine_core.specs.Statistics.{Statistics, counts_of}
-use Rattle.machine_core.specs.Running.{Running, new_machine, is_ended}
+use Rattle.machine_core.specs.Running.{Running, new_machine}
+use Rattle.machine_core.specs.inner.Running.{is_ended}
 use Rattle.tso_report.specs.Shown.{Shown}
 use Rattle.tso_cli.specs.Runs.{run_by, AnswersFitBy}
 use Rattle.tso_cli.specs.declared.simulation.Ending.{Ending}
 use Rattle.tso_cli.specs.declared.simulation.Ending.TheVariants.{Ended, Unfinished}
-use Rattle.tso_cli.specs.Simulation.{Drives, shown_of, verdict, IsEndingOf, IsCounted, HasAllOrder, HasEnded, drains}
+use Rattle.tso_cli.specs.Simulation.{shown_of, verdict, IsEndingOf, IsCounted, HasAllOrder, HasEnded, drains}
+use Rattle.tso_cli.specs.inner.Simulation.{Drives}
 use Rattle.tso_cli.proofs.BusLemmas.{AtomicRuns, attempts_in, bus_run, choices-in, length-in, run-is, atomic-run}
 
 -- what the laws of either bus say of runs

@@ -23,10 +23,13 @@ use Rattle.machine_core.specs.declared.cache_use.CacheUse.TheVariants.{Forwarded
 use Rattle.machine_core.specs.Caches.{Caches, not_through, load_by, use_by_kind, use_of, attempt_of, is_awaited, used_between}
 use Rattle.machine_core.specs.Configuration.{Configuration}
 use Rattle.machine_core.specs.Statistics.{Statistics, statistics_from, statistics_after}
-use Rattle.machine_core.specs.Running.{Running, new_machine, restarted, is_ended}
+use Rattle.machine_core.specs.Running.{Running, new_machine, restarted}
+use Rattle.machine_core.specs.inner.Running.{is_ended}
 use Rattle.tso_report.specs.Tally.{RunCounts, with_state, with_verdict, with_unfinished, values_in}
-use Rattle.tso_cli.specs.Runs.{run_by, run_under, machine_run, AnswersFit, AnswersFitBy, AnswersFitOn}
-use Rattle.tso_cli.specs.Simulation.{Drives, verdict}
+use Rattle.tso_cli.specs.Runs.{run_by, run_under, AnswersFit, AnswersFitBy}
+use Rattle.tso_cli.specs.inner.Runs.{machine_run, AnswersFitOn}
+use Rattle.tso_cli.specs.Simulation.{verdict}
+use Rattle.tso_cli.specs.inner.Simulation.{Drives}
 use Rattle.tso_cli.specs.Sweep.{with_one_run}
 use Rattle.tso_cli.proofs.BusLemmas.{bus_run, run-is}
 use Rattle.tso_cli.proofs.SimulationLemmas.{RunLaws, IsDriven, from-new, ended-as-driven}

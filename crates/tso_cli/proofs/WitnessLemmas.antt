@@ -27,7 +27,7 @@ use Rattle.tso_cli.specs.declared.simulation.Ending.TheVariants.{Ended, Unfinish
 use Rattle.tso_cli.specs.declared.answer.Status.{Status}
 use Rattle.tso_cli.specs.declared.answer.Status.TheVariants.{Good}
 use Rattle.tso_cli.proofs.CheckLemmas.{IsReal}
-use Rattle.tso_cli.specs.ReadOneWay.{AreReadOneWay}
+use Rattle.tso_cli.specs.inner.ReadOneWay.{AreReadOneWay}
 
 -- what the crates below say of choices that reach an order
 pub record Reaching : Type 0 where
@@ -66,11 +66,17 @@ drains-few : (t : Litmus) (depth : ℕ) → drains t depth ≤ stores t.programs
 drains-few t zero = omega arith
 drains-few t (suc n) = omega arith
 
-pub choices-few : (t : Litmus) (depth : ℕ) (choices : List Choice) (order : List Entry) → Reaching → IsTest t → LeadTo t depth choices order → length choices ≤ 512
-choices-few t depth choices order laws test lead =
+-- one choice for each instruction, and one more for each plain store
+pub work-within : (t : Litmus) → IsTest t → instructions t.programs + stores t.programs ≤ 512
+work-within t test =
     let sizes : All (λ p. length p ≤ 32) t.programs = All-weaker (IsProgram (length t.locations)) (λ (p : List Instr). length p ≤ 32) (λ p fits. fits.size) t.programs test.programs_fit in
     let cores = test.cores in
     let work = work-few t.programs sizes in
+    omega arith
+
+pub choices-few : (t : Litmus) (depth : ℕ) (choices : List Choice) (order : List Entry) → Reaching → IsTest t → LeadTo t depth choices order → length choices ≤ 512
+choices-few t depth choices order laws test lead =
+    let work = work-within t test in
     let count = laws.counted t depth choices lead.ended in
     let drained = drains-few t depth in
     let used = lead.used in

@@ -1,5 +1,5 @@
 -- The answer to an input: what is written, and the status.
-use Rattle.std.specs.Prelude.{ℕ, ◌+◌, ◌<◌, ◌≤◌, ◌≡◌, Bool, if◌then◌else◌, List, length, Option, IfSome, string_bytes}
+use Rattle.std.specs.Prelude.{ℕ, ◌+◌, ◌<◌, ◌≤◌, ◌≡◌, Bool, if◌then◌else◌, List, length, Option, IfSome}
 use Rattle.tso_model.specs.Litmus.{Litmus}
 use Rattle.tso_model.specs.Axioms.{IsTsoExecution}
 use Rattle.tso_model.specs.Runs.{Run}
@@ -26,21 +26,14 @@ use Rattle.tso_cli.specs.Lines.{input_refusal, test_refusal, choices_refusal}
 use Rattle.tso_cli.specs.RunTexts.{report_in, unfinished_in}
 use Rattle.tso_cli.specs.Runs.{run_under, counts_under, AnswersFit}
 use Rattle.tso_cli.specs.Sweep.{IsSweepAnswer}
+use Rattle.tso_cli.specs.Outcomes.{IsOutcomesAnswer}
 use Rattle.tso_cli.specs.CheckLines.{order_refusal, valid_line, invalid_line}
 use Rattle.tso_cli.specs.Witness.{IsWitnessAnswer}
 use Rattle.tso_cli.specs.Simulation.{shown_of}
-use Rattle.tso_cli.specs.declared.task.Task.{Task}
-use Rattle.tso_cli.specs.declared.task.Task.TheVariants as tasks
 use Rattle.command_line.specs.declared.settings.Settings.{Settings}
-use Rattle.command_line.specs.declared.settings.Settings.TheVariants as settings
-use Rattle.tso_cli.specs.declared.answer.Answer.{Answer}
 use Rattle.tso_cli.specs.declared.answer.Status.{Status}
 use Rattle.tso_cli.specs.declared.answer.Status.TheVariants.{Good, Refused, Unended, Invalid}
-
--- an answer has these bytes, and this status
-pub record Says (answer : Answer) (out : List ℕ) (how : Status) : Type 0 where
-  pub text : string_bytes answer.text ≡ out
-  pub status : answer.status ≡ how
+use Rattle.command_line.specs.declared.settings.Settings.TheVariants as settings
 
 -- what is written of a run with these counts: the report where it ended, else how far it came
 abbrev pub run_text : Litmus → ProtocolKind → Configuration → Bool → List Counts → Run → List ℕ
@@ -55,10 +48,6 @@ text_under t kind c json choices = run_text t kind c json (counts_under t kind c
 
 abbrev pub status_under : Litmus → ProtocolKind → Configuration → List Choice → Status
 status_under t kind c choices = run_status (run_under t kind c choices)
-
--- an answer is that of this run
-abbrev pub SaysRun : Litmus → ProtocolKind → Configuration → Bool → List Choice → Answer → Type 0
-SaysRun t kind c json choices answer = Says answer (text_under t kind c json choices) (status_under t kind c choices)
 
 -- the answer of `run` to a test and the text of its choices, plain or as JSON; a refusal is the same line either way;
 -- along a run the caches answered as caches may
@@ -79,42 +68,36 @@ pub data IsCheckAnswer (t : Litmus) (text : List ℕ) : List ℕ → Status → 
   judged : (order : List Entry) (out : List ℕ) (status : Status) → SpellsOrder t text order → IsJudgement t order out status
       → IsCheckAnswer t text out status
 
--- the answer to a test and the second part of its input, at which a sweep doesn't look
-abbrev pub IsAnswerTo : Task → Litmus → List ℕ → List ℕ → Status → Type 0
-IsAnswerTo (tasks.Run kind config json) t text out status = IsRunAnswer t kind config json text out status
-IsAnswerTo (tasks.Sweep kind config plan) t text out status = IsSweepAnswer t kind config plan out status
-IsAnswerTo tasks.Check t text out status = IsCheckAnswer t text out status
-IsAnswerTo (tasks.Witness depth) t text out status = IsWitnessAnswer t depth text out status
-
--- the answer to an input: its size is judged first, then its first part, then the second
-pub data IsInputAnswer (task : Task) (input : List ℕ) : List ℕ → Status → Type 0 where
-  too_large : longest_input < length input → IsInputAnswer task input input_refusal Refused
-  refused : (fault : TextFault) → length input ≤ longest_input → IsRefusedTest (parts_of input).test fault
-      → IsInputAnswer task input (test_refusal fault) Refused
-  answered : (t : Litmus) (out : List ℕ) (status : Status) → length input ≤ longest_input → SpellsTest (parts_of input).test t
-      → IsAnswerTo task t (parts_of input).rest out status → IsInputAnswer task input out status
-
 -- the answer of `tables`
 pub record IsTableAnswer (kind : ProtocolKind) (out : List ℕ) (status : Status) : Type 0 where
   pub text : out ≡ printed_table (protocol_name kind) (table_of kind)
   pub status_is : status ≡ Good
 
--- the answer to the bytes that a reader has, where they are known
-abbrev pub IsReadAnswer : Task → Option (List ℕ) → List ℕ → Status → Type 0
-IsReadAnswer task known out status = IfSome known (λ input. IsInputAnswer task input out status)
+-- the answer of a command to a test and the second part of its input; a sweep and a search look at the test alone, and `tables`
+-- at neither
+abbrev pub IsAnswerTo : Settings → Litmus → List ℕ → List ℕ → Status → Type 0
+IsAnswerTo (settings.Run kind config json) t text out status = IsRunAnswer t kind config json text out status
+IsAnswerTo (settings.Sweep kind config plan) t text out status = IsSweepAnswer t kind config plan out status
+IsAnswerTo (settings.Outcomes search json) t text out status = IsOutcomesAnswer t search json out status
+IsAnswerTo settings.Check t text out status = IsCheckAnswer t text out status
+IsAnswerTo (settings.Witness depth) t text out status = IsWitnessAnswer t depth text out status
+IsAnswerTo (settings.Tables kind) t text out status = IsTableAnswer kind out status
 
--- the answer of a command to these bytes; `tables` reads none, and answers the same to every reader
+-- the answer to an input that is read: its size is judged first, then its first part, then the second
+pub data IsInputAnswer (s : Settings) (input : List ℕ) : List ℕ → Status → Type 0 where
+  too_large : longest_input < length input → IsInputAnswer s input input_refusal Refused
+  refused : (fault : TextFault) → length input ≤ longest_input → IsRefusedTest (parts_of input).test fault
+      → IsInputAnswer s input (test_refusal fault) Refused
+  answered : (t : Litmus) (out : List ℕ) (status : Status) → length input ≤ longest_input → SpellsTest (parts_of input).test t
+      → IsAnswerTo s t (parts_of input).rest out status → IsInputAnswer s input out status
+
+-- the answer of a command to the bytes that a reader has, where they are known; `tables` reads none, and answers the same to
+-- every reader
 abbrev pub IsAnswer : Settings → Option (List ℕ) → List ℕ → Status → Type 0
-IsAnswer (settings.Run kind config json) known out status = IsReadAnswer (tasks.Run kind config json) known out status
-IsAnswer (settings.Sweep kind config plan) known out status = IsReadAnswer (tasks.Sweep kind config plan) known out status
-IsAnswer settings.Check known out status = IsReadAnswer tasks.Check known out status
-IsAnswer (settings.Witness depth) known out status = IsReadAnswer (tasks.Witness depth) known out status
 IsAnswer (settings.Tables kind) known out status = IsTableAnswer kind out status
+IsAnswer s known out status = IfSome known (λ input. IsInputAnswer s input out status)
 
 -- how many bytes are read, at most: one more than an input may have shows that it has too many
 abbrev pub most_read : Settings → ℕ
-most_read (settings.Run kind config json) = longest_input + 1
-most_read (settings.Sweep kind config plan) = longest_input + 1
-most_read settings.Check = longest_input + 1
-most_read (settings.Witness depth) = longest_input + 1
 most_read (settings.Tables kind) = 0
+most_read _ = longest_input + 1

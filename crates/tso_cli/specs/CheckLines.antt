@@ -5,13 +5,13 @@ use Rattle.tso_model.specs.Litmus.{Litmus}
 use Rattle.tso_model.specs.declared.execution.Entry.{Entry}
 use Rattle.tso_model.specs.declared.execution.Kind.{Kind}
 use Rattle.tso_model.specs.declared.execution.Kind.TheVariants.{F}
-use Rattle.order_builder.specs.PrintedOrder.{letters_of, printed_entry, HasLocation, IsLocationFor}
+use Rattle.order_builder.specs.PrintedOrder.{letters_of, printed_entry}
 use Rattle.order_builder.specs.declared.fault.OrderFault.{OrderFault}
-use Rattle.order_builder.specs.declared.fault.OrderFault.TheVariants as orders
 use Rattle.axiom_checker.specs.declared.breach.Breach.{Breach}
 use Rattle.axiom_checker.specs.declared.breach.Breach.TheVariants.{Extra, Twice, Missing, WrongValue, ProgramOrder}
 use Rattle.axiom_checker.specs.declared.breach.Breach.TheVariants.{NotAdjacent, ReadValue, NoMemory}
 use Rattle.tso_report.specs.Report.{line}
+use Rattle.order_builder.specs.declared.fault.OrderFault.TheVariants as orders
 
 -- why an order is refused; being out of memory is no refusal and has no line
 abbrev pub order_refusal : OrderFault → List ℕ
@@ -56,14 +56,3 @@ valid_line = line (codes "Check valid")
 -- `Check invalid ..`
 abbrev pub invalid_line : Litmus → Breach → List ℕ
 invalid_line t b = codes "Check invalid " ++ line (breach_text t b)
-
--- the locations of what the breach names are the test's
-abbrev pub CanBeNamed : Litmus → Breach → Type 0
-CanBeNamed t (Extra x) = HasLocation t x
-CanBeNamed t (Twice x) = HasLocation t x
-CanBeNamed t (Missing core place kind loc) = IsLocationFor t kind loc.0
-CanBeNamed t (WrongValue x due) = HasLocation t x
-CanBeNamed t (ProgramOrder x y) = HasLocation t x × HasLocation t y
-CanBeNamed t (NotAdjacent x) = HasLocation t x
-CanBeNamed t (ReadValue x due) = HasLocation t x
-CanBeNamed t NoMemory = Unit {0}

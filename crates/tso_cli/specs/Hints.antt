@@ -4,7 +4,7 @@ use Rattle.hints.specs.Hint.{IsHint}
 use Rattle.tso_cli.specs.declared.answer.Status.{Status}
 use Rattle.tso_cli.specs.declared.answer.Status.TheVariants.{Good, Refused, Unended, Invalid}
 
--- a hint where a text was refused or a run didn't end, and nothing else
+-- a hint where a text was refused, or a run or a search didn't end, and nothing else
 abbrev pub IsTold : Status → List ℕ → Type 0
 IsTold Good text = text ≡ []
 IsTold Invalid text = text ≡ []

@@ -6,6 +6,7 @@ pub mod Simulation
 pub mod Lines
 pub mod RunTexts
 pub mod Sweep
+pub mod Outcomes
 pub mod Fitting
 pub mod CheckLines
 pub mod Witness
@@ -13,9 +14,11 @@ pub mod Answers
 pub mod SplitRun
 pub mod RunHeadline
 pub mod SweepHeadline
+pub mod OutcomesHeadline
 pub mod Judgement
 pub mod Headline
 pub mod OneText
+pub mod Revisited
 pub mod Machines
-pub mod ReadOneWay
 pub mod Hints
+pub mod inner

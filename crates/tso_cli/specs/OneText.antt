@@ -8,7 +8,18 @@ use Rattle.scheduler.specs.Grammar.{SpellsChoices}
 use Rattle.protocol_tables.specs.declared.kind.ProtocolKind.{ProtocolKind}
 use Rattle.machine_core.specs.Configuration.{Configuration}
 use Rattle.tso_report.specs.Shown.{Shown}
+use Rattle.outcome_report.specs.Outcomes.{Outcome}
+use Rattle.outcome_report.specs.Printed.{outcomes_in}
+use Rattle.outcome_report.specs.Laws.{AreAlike}
 use Rattle.tso_cli.specs.RunTexts.{report_in}
+use Rattle.command_line.specs.declared.settings.Settings.{Settings}
+use Rattle.command_line.specs.declared.settings.Settings.TheVariants as settings
+
+-- its answer is one text; of `outcomes` it isn't said which of the choices that lead to a state are printed, nor of which tests the
+-- states are too many, where they are more than may be kept
+abbrev pub GivesOneAnswer : Settings → Type 0
+GivesOneAnswer (settings.Outcomes search json) = ⊥
+GivesOneAnswer _ = Unit {0}
 
 -- two reports show the same order, registers, memory and verdict of one test; the counts of choices and of accesses may differ
 pub record ShowOneExecution (kind : ProtocolKind) (c : Configuration) (json : Bool) (out other : List ℕ) : Type 0 where
@@ -25,6 +36,15 @@ pub record ShowOneExecution (kind : ProtocolKind) (c : Configuration) (json : Bo
 -- two texts of `run` are one text, or such reports
 abbrev pub AreOneRun : ProtocolKind → Configuration → Bool → List ℕ → List ℕ → Type 0
 AreOneRun kind c json out other = (out ≡ other) ⊎ ShowOneExecution kind c json out other
+
+-- two texts of `outcomes` show final states of one test that are alike; which choices lead to them may differ
+pub record ShowTheSameStates (depth : ℕ) (json : Bool) (out other : List ℕ) : Type 0 where
+  pub t : Litmus
+  pub outcomes : List Outcome
+  pub others : List Outcome
+  pub first : out ≡ outcomes_in json t depth outcomes
+  pub second : other ≡ outcomes_in json t depth others
+  pub alike : AreAlike t outcomes others
 
 -- two texts spell choices of one test that lead to one order at this depth; which choices they are may differ
 pub record ReachOneOrder (depth : ℕ) (out other : List ℕ) : Type 0 where

@@ -1,5 +1,6 @@
 -- The two parts of an input: before and after the first line that is `====`.
-use Rattle.std.specs.Prelude.{ℕ, suc, ◌≡◌, ◌==◌, Bool, true, if◌then◌else◌, List, [], ◌∷◌, ◌++◌, drop, Option, Some, None, nat_eq, codes}
+use Rattle.std.specs.Prelude.{ℕ, ◌≡◌, ◌==◌, Bool, true, if◌then◌else◌, List, [], ◌∷◌, ◌++◌, drop, Option, Some, None}
+use Rattle.std.specs.Prelude.{nat_eq, codes}
 use Rattle.std.specs.List.{starts_with}
 
 -- what is after a line feed
@@ -37,11 +38,6 @@ parts_from at_line (c ∷ cs) =
 
 abbrev pub parts_of : List ℕ → Parts
 parts_of input = parts_from true input
-
--- how many bytes the first line has, its line feed included
-unfoldable pub line_length : List ℕ → ℕ
-line_length [] = 0
-line_length (c ∷ cs) = if c == 10 then 1 else suc (line_length cs)
 
 -- ---- put together
 

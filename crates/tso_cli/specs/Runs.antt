@@ -1,6 +1,6 @@
 -- The run of a test under choices, on a machine of a protocol and a configuration. (Primer, chapter 4, for the two parts of
 -- a locked instruction, which stand together in the order; the rest is this project's profile.)
-use Rattle.std.specs.Prelude.{◌≡◌, true, List}
+use Rattle.std.specs.Prelude.{List}
 use Rattle.tso_model.specs.Litmus.{Litmus}
 use Rattle.tso_model.specs.FlatMachine.{start}
 use Rattle.tso_model.specs.Runs.{Run, run}
@@ -13,7 +13,6 @@ use Rattle.protocol_tables.specs.Tables.{Table, table_of}
 use Rattle.protocol_tables.specs.declared.kind.ProtocolKind.{ProtocolKind}
 use Rattle.machine_core.specs.Answered.{answered}
 use Rattle.machine_core.specs.Configuration.{Configuration}
-use Rattle.machine_core.specs.Running.{Running, table_in, configuration_of}
 use Rattle.machine_core.specs.Statistics.{counts_of}
 use Rattle.machine_core.specs.declared.counts.Counts.{Counts}
 
@@ -26,10 +25,6 @@ run_by Split table c t choices = together (run_on Split t c.depth (answered Spli
 
 abbrev pub run_under : Litmus → ProtocolKind → Configuration → List Choice → Run
 run_under t kind c choices = run_by c.bus (table_of kind) c t choices
-
--- the test has ended then
-abbrev pub EndsBy : Table → Configuration → Litmus → List Choice → Type 0
-EndsBy table c t choices = (run_by c.bus table c t choices).ended ≡ true
 
 -- the counts of each core's accesses along the run
 abbrev pub counts_by : Table → Configuration → Litmus → List Choice → List Counts
@@ -45,10 +40,3 @@ AnswersFitBy table c t choices = HitsFit c.bus t c.depth (unheld (start t)) (ans
 
 abbrev pub AnswersFit : Litmus → ProtocolKind → Configuration → List Choice → Type 0
 AnswersFit t kind c choices = AnswersFitBy (table_of kind) c t choices
-
--- the same of a machine at the beginning of its test
-abbrev pub machine_run : Running → List Choice → Run
-machine_run m choices = run_by m.bus (table_in m) (configuration_of m) m.test choices
-
-abbrev pub AnswersFitOn : Running → List Choice → Type 0
-AnswersFitOn m choices = AnswersFitBy (table_in m) (configuration_of m) m.test choices

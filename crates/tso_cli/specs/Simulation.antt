@@ -1,21 +1,15 @@
 -- What a simulation answers: the machine's run, as a report shows it.
-use Rattle.std.specs.Prelude.{ℕ, zero, suc, ◌+◌, ◌≡◌, Bool, true, false, List, length, ◌++◌, Option}
+use Rattle.std.specs.Prelude.{ℕ, zero, suc, ◌+◌, ◌≡◌, Bool, true, false, List, length, Option}
 use Rattle.std.specs.Option.{option_map}
 use Rattle.tso_model.specs.Litmus.{Litmus}
 use Rattle.tso_model.specs.Condition.{truth_of}
 use Rattle.tso_model.specs.SequentialConsistency.{KeepsAllOrder}
 use Rattle.tso_model.specs.FlatMachine.{registers_in}
 use Rattle.tso_model.specs.Runs.{Run}
-use Rattle.tso_model.specs.EitherBus.{BusRun, run_on_from, HitsFit}
-use Rattle.tso_model.specs.SplitMachine.{Attempt}
 use Rattle.tso_model.specs.declared.choice.Choice.{Choice}
 use Rattle.tso_laws.specs.Counting.{instructions, stores}
 use Rattle.tso_laws.specs.Rounds.{CanBeCutIntoRounds}
-use Rattle.split_laws.specs.BusRuns.{left_by}
 use Rattle.machine_core.specs.declared.counts.Counts.{Counts}
-use Rattle.machine_core.specs.Statistics.{statistics_from}
-use Rattle.machine_core.specs.Answered.{answered_from}
-use Rattle.machine_core.specs.Running.{Running}
 use Rattle.tso_report.specs.Shown.{Shown, shown, IsOf}
 use Rattle.tso_cli.specs.declared.simulation.Ending.{Ending}
 use Rattle.tso_cli.specs.declared.simulation.Ending.TheVariants.{Ended, Unfinished}
@@ -39,32 +33,8 @@ shown_of t counts r = record {
 
 -- the answer is that of this run of the test, whatever the counts
 abbrev pub IsEndingOf : Litmus → Run → Ending → Type 0
-IsEndingOf t r (Ended run) = (r.ended ≡ true) × (shown run ≡ shown_of t run.counts.items r)
+IsEndingOf t r (Ended run) = (r.ended ≡ true) × (shown run ≡ shown_of t run.left.counts.items r)
 IsEndingOf t r (Unfinished used stalled) = (r.ended ≡ false) × (used ≡ r.used) × (stalled ≡ r.stalled)
-
--- the choices with the answers of a machine's caches along them, and the run under them from the machine's state on
-abbrev pub answers_of : Running → List Choice → List Attempt
-answers_of m choices = answered_from m.bus m.test m.depth m.state m.statistics.caches choices
-
-abbrev pub run_of : Running → List Choice → BusRun
-run_of m choices = run_on_from m.bus m.test m.depth m.state (answers_of m choices)
-
--- the answers are such as caches may give
-abbrev pub HaveFittingAnswers : Running → List Choice → Type 0
-HaveFittingAnswers m choices = HitsFit m.bus m.test m.depth m.state (answers_of m choices)
-
--- a machine is driven through these choices, up to the first moment at which the test has ended
-pub record Drives (old new : Running) (choices : List Choice) (uses stalls : ℕ) : Type 0 where
-  pub test : new.test ≡ old.test
-  pub bus : new.bus ≡ old.bus
-  pub depth : new.depth ≡ old.depth
-  pub failed : new.failed ≡ false
-  pub state : new.state ≡ left_by (run_of old choices)
-  pub commits : new.commits ≡ old.commits ++ (run_of old choices).run.commits
-  pub statistics : new.statistics ≡ statistics_from old.bus old.test old.depth old.state choices old.statistics
-  pub used : uses ≡ (run_of old choices).run.used
-  pub stalled : stalls ≡ (run_of old choices).run.stalled
-  pub answers : HaveFittingAnswers old choices
 
 -- the choices can be cut into so many rounds of the test's cores, in each of which every core has its turn
 abbrev pub HasRounds : Litmus → ℕ → List Choice → Type 0
@@ -72,7 +42,7 @@ HasRounds t rounds choices = CanBeCutIntoRounds (length t.programs) rounds choic
 
 -- a run that ended gives these counts, core by core
 abbrev pub HasCounts : List Counts → Ending → Type 0
-HasCounts counts (Ended run) = run.counts.items ≡ counts
+HasCounts counts (Ended run) = run.left.counts.items ≡ counts
 HasCounts counts (Unfinished used stalled) = Unit {0}
 
 -- a run that ended is one of the test
@@ -92,7 +62,7 @@ IsCounted t depth (Unfinished used stalled) = Unit {0}
 
 -- the order of a run that ended keeps program order without exception
 abbrev pub HasAllOrder : Ending → Type 0
-HasAllOrder (Ended run) = KeepsAllOrder run.execution.order.items
+HasAllOrder (Ended run) = KeepsAllOrder run.left.execution.order.items
 HasAllOrder (Unfinished used stalled) = Unit {0}
 
 abbrev pub HasEnded : Ending → Type 0

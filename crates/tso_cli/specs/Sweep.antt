@@ -5,11 +5,11 @@ use Rattle.tso_model.specs.FlatMachine.{registers_in}
 use Rattle.tso_model.specs.Runs.{Run}
 use Rattle.tso_model.specs.declared.choice.Choice.{Choice}
 use Rattle.scheduler.specs.Seeds.{seeded_choices}
-use Rattle.protocol_tables.specs.Tables.{Table, table_of}
 use Rattle.protocol_tables.specs.declared.kind.ProtocolKind.{ProtocolKind}
 use Rattle.machine_core.specs.Configuration.{Configuration}
 use Rattle.tso_report.specs.Report.{head}
-use Rattle.tso_report.specs.Tally.{RunCounts, nothing_counted, with_state, with_verdict, with_unfinished, values_in, tally_text}
+use Rattle.tso_report.specs.Tally.{RunCounts, nothing_counted, with_state, with_verdict, with_unfinished, values_in}
+use Rattle.tso_report.specs.Tally.{tally_text}
 use Rattle.command_line.specs.Plan.{Plan}
 use Rattle.tso_cli.specs.Runs.{run_under, AnswersFit}
 use Rattle.tso_cli.specs.Simulation.{verdict}
@@ -47,10 +47,6 @@ AnswersFitFrom t kind c count from seeds = (n : ℕ) → n < seeds → AnswersFi
 -- in the run of each seed of a plan they are
 abbrev pub SweepAnswersFit : Litmus → ProtocolKind → Configuration → Plan → Type 0
 SweepAnswersFit t kind c plan = AnswersFitFrom t kind c plan.length plan.from plan.seeds
-
--- of each protocol that has this table
-abbrev pub EachKindWith : Table → (ProtocolKind → Type 0) → Type 0
-EachKindWith table P = (kind : ProtocolKind) → table ≡ table_of kind → P kind
 
 -- the lines of a sweep in which this was counted
 abbrev pub sweep_lines : Litmus → ProtocolKind → Configuration → Plan → RunCounts → List ℕ

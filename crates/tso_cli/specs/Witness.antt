@@ -49,7 +49,7 @@ IsEndingAlong t depth order ending = IsEndingOf t (run t depth (choices_along t 
 
 -- a simulation has ended with this very order; none of its choices stalled, and none was left over
 abbrev pub HasEndedWith : List Entry → Ending → Type 0
-HasEndedWith order (Ended run) = (run.execution.order.items ≡ order) × (run.stalled ≡ 0) × (run.unused ≡ 0)
+HasEndedWith order (Ended run) = (run.left.execution.order.items ≡ order) × (run.stalled ≡ 0) × (run.unused ≡ 0)
 HasEndedWith order (Unfinished used stalled) = ⊥
 
 -- what is written is the report of a run that ended with the very order that the second part spells; none of its choices

@@ -1,20 +1,24 @@
 //! The answer to an input: its size first, then the test, then the second part.
 
-ghost use Rattle.std.specs.Prelude.{◌≢◌, IfOk, OnOk, string_bytes};
-ghost use Rattle.tso_cli.specs.Answers.{Says, IsTableAnswer, IsAnswerTo, IsInputAnswer};
-ghost use Rattle.tso_cli.specs.Headline.{InputHeadline};
-ghost use Rattle.tso_cli.specs.Limits.{IsTaskWithinLimits, HasTaskDepth};
+ghost use Rattle.std.specs.Prelude.{Some, IfOk, string_bytes};
+ghost use Rattle.litmus_reader.specs.Reading.{refusal};
+ghost use Rattle.tso_cli.specs.Answers.{IsTableAnswer, IsAnswerTo, IsInputAnswer, IsAnswer};
+ghost use Rattle.tso_cli.specs.inner.Answers.{Says};
+ghost use Rattle.tso_cli.specs.Headline.{Headline};
+ghost use Rattle.command_line.specs.Limits.{IsWithinLimits, HasDepth};
 ghost use Rattle.tso_cli.specs.Lines.{test_refusal, input_refusal};
 
 use crate::checking::check_answer;
 use crate::laws::answers_meet_the_headline;
+use crate::outcomes::outcomes_answer;
 use crate::parts::parts_of;
 use crate::running::run_answer;
 use crate::streams::MAX_INPUT;
 use crate::sweeping::sweep_answer;
-use crate::task::Task;
 use crate::witnessing::witness_answer;
-use litmus_reader::{TextFault, Why, read_test};
+use command_line::Settings;
+use hints::{Asked, Cause};
+use litmus_reader::{Fault, ReadError, Why, refusal_for, test_or_fault};
 use protocol_tables::{ProtocolKind, table_text};
 use std::alloc::Global;
 use tso_model::{NoMemory, Test};
@@ -26,33 +30,56 @@ pub enum Status {
     Good,
     /// A text was refused.
     Refused,
-    /// The choices were too few to end the test; of a sweep, those of one seed or more.
+    /// The choices were too few to end the test; of a sweep, those of one seed or more. Of a search, the
+    /// machine can reach more states than may be kept.
     Unended,
     /// The order isn't valid, or needs deeper store buffers than a witness was asked for.
     Invalid,
 }
 
-/// What is to be written, and how the command ended.
+/// What is to be written, how the command ended, and of what a hint can be made.
 #[derive(Drop)]
 pub struct Answer {
     pub text: String,
     pub status: Status,
+    pub cause: Cause,
 }
 
-fn refused_test(alloc: Global, fault: TextFault) -> Result<Answer, NoMemory>
-    ensures says { IfOk result (λ a. Says a (test_refusal fault) Status.Refused) }
-    ensures real { OnOk result (fault.why ≢ Why.NoMemory) }
+/// The answer to a text that spells no test, for what is at fault in it.
+fn refused_test(
+    alloc: Global,
+    settings: &Settings,
+    text: &[u8],
+    fault: Fault,
+) -> Result<Answer, NoMemory>
+    ensures { IfOk result (λ a. Says a (test_refusal (refusal text.now fault)) Status.Refused) }
 {
-    if fault.why == Why::NoMemory {
+    let refusal = refusal_for(text, fault);
+    if refusal.why == Why::NoMemory {
         return Err(NoMemory);
     }
-    let line = fault.line;
-    let name = fault.why.name();
+    let cause = Cause::Test {
+        asked: asked(settings),
+        length: text.len(),
+        fault,
+    };
+    let line = refusal.line;
+    let name = refusal.why.name();
     let text = format!(in alloc; "Refused test line {line} {name}\n")?;
     Ok(Answer {
         text,
         status: Status::Refused,
+        cause,
     })
+}
+
+/// What a command reads after the dividing line.
+fn asked(settings: &Settings) -> Asked {
+    match settings {
+        Settings::Run { .. } => Asked::Choices,
+        Settings::Check | Settings::Witness { .. } => Asked::Order,
+        Settings::Sweep { .. } | Settings::Outcomes { .. } | Settings::Tables(_) => Asked::Nothing,
+    }
 }
 
 fn refused_input(alloc: Global) -> Result<Answer, NoMemory>
@@ -62,84 +89,109 @@ fn refused_input(alloc: Global) -> Result<Answer, NoMemory>
     Ok(Answer {
         text,
         status: Status::Refused,
+        cause: Cause::Size { most: MAX_INPUT },
     })
 }
 
-/// The answer to an input: its size is judged first, then the test that is its first part, then the
-/// second part. The depth of a witness is 1 to 32.
+/// The answer of a command to an input: its size is judged first, then the test that is its first part,
+/// then the second part; `tables` looks at none of it. The depth of a witness is 1 to 32.
 ///
 /// Errors: out of memory only.
-pub fn answer_to(alloc: Global, task: &Task, input: &[u8]) -> Result<Answer, NoMemory>
-    requires { HasTaskDepth task.now }
-    ensures exact { IfOk result (λ a. IsInputAnswer task.now input.now (string_bytes a.text) a.status) }
-    ensures headline { IfOk result (λ a. InputHeadline task.now input.now (string_bytes a.text)) }
+pub fn answer_to(alloc: Global, settings: &Settings, input: &[u8]) -> Result<Answer, NoMemory>
+    requires { HasDepth settings.now }
+    ensures exact { IfOk result (λ a. IsAnswer settings.now (Some input.now) (string_bytes a.text) a.status) }
+    ensures headline { IfOk result (λ a. Headline settings.now (Some input.now) (string_bytes a.text)) }
 {
     answers_meet_the_headline();
-    know_limits(task);
-    judged_answer(alloc, task, input)
+    know_limits(settings);
+    exact_answer(alloc, settings, input)
 }
 
-/// A task is within its limits: a configuration and a plan are, and so is the depth of a witness. Nothing
-/// is done.
-fn know_limits(task: &Task)
-    requires { HasTaskDepth task.now }
-    ensures { IsTaskWithinLimits task.now }
+fn exact_answer(alloc: Global, settings: &Settings, input: &[u8]) -> Result<Answer, NoMemory>
+    requires { HasDepth settings.now }
+    ensures { IfOk result (λ a. IsAnswer settings.now (Some input.now) (string_bytes a.text) a.status) }
 {
-    match task {
-        Task::Run { config, .. } => {
-            // What the call ensures is that the configuration is within its limits: it is made for this alone.
-            let _known = config.depth();
-        }
-        Task::Sweep { config, plan, .. } => {
-            let _known = (config.depth(), plan.seeds());
-        }
-        Task::Check | Task::Witness { .. } => {}
+    match settings {
+        Settings::Run { .. }
+        | Settings::Sweep { .. }
+        | Settings::Outcomes { .. }
+        | Settings::Check
+        | Settings::Witness { .. } => judged_answer(alloc, settings, input),
+        Settings::Tables(kind) => table_answer(alloc, *kind),
     }
 }
 
-fn judged_answer(alloc: Global, task: &Task, input: &[u8]) -> Result<Answer, NoMemory>
-    requires { HasTaskDepth task.now }
-    ensures { IfOk result (λ a. IsInputAnswer task.now input.now (string_bytes a.text) a.status) }
+/// Settings are within its limits: a configuration, a plan and a search are, and so is the depth of a
+/// witness. Nothing is done.
+fn know_limits(settings: &Settings)
+    requires { HasDepth settings.now }
+    ensures { IsWithinLimits settings.now }
+{
+    match settings {
+        Settings::Run { config, .. } => {
+            // What the call ensures is that the configuration is within its limits: it is made for this alone.
+            let _known = config.depth();
+        }
+        Settings::Sweep { config, plan, .. } => {
+            let _known = (config.depth(), plan.seeds());
+        }
+        Settings::Outcomes { search, .. } => {
+            let _known = search.depth();
+        }
+        Settings::Check | Settings::Witness { .. } | Settings::Tables(_) => {}
+    }
+}
+
+fn judged_answer(alloc: Global, settings: &Settings, input: &[u8]) -> Result<Answer, NoMemory>
+    requires { HasDepth settings.now }
+    ensures { IfOk result (λ a. IsInputAnswer settings.now input.now (string_bytes a.text) a.status) }
 {
     if input.len() > MAX_INPUT {
         return refused_input(alloc);
     }
     let parts = parts_of(input);
-    match read_test(alloc, parts.test) {
-        Ok(test) => answer_of(alloc, task, &test, parts.rest),
-        Err(fault) => refused_test(alloc, fault),
+    match test_or_fault(alloc, parts.test) {
+        Ok(test) => answer_of(alloc, settings, &test, parts.rest),
+        Err(ReadError::Fault(fault)) => refused_test(alloc, settings, parts.test, fault),
+        Err(ReadError::NoMemory) => Err(NoMemory),
     }
 }
 
-fn answer_of(alloc: Global, task: &Task, test: &Test, text: &[u8]) -> Result<Answer, NoMemory>
-    requires { HasTaskDepth task.now }
-    ensures { IfOk result (λ a. IsAnswerTo task.now test.now text.now (string_bytes a.text) a.status) }
+fn answer_of(
+    alloc: Global,
+    settings: &Settings,
+    test: &Test,
+    text: &[u8],
+) -> Result<Answer, NoMemory>
+    requires { HasDepth settings.now }
+    ensures { IfOk result (λ a. IsAnswerTo settings.now test.now text.now (string_bytes a.text) a.status) }
 {
-    match task {
-        Task::Run {
+    match settings {
+        Settings::Run {
             protocol,
             config,
             json,
         } => run_answer(alloc, test, *protocol, *config, *json, text),
-        Task::Sweep {
+        Settings::Sweep {
             protocol,
             config,
             plan,
         } => sweep_answer(alloc, test, *protocol, *config, *plan),
-        Task::Check => check_answer(alloc, test, text),
-        Task::Witness { depth } => witness_answer(alloc, test, *depth, text),
+        Settings::Outcomes { search, json } => outcomes_answer(alloc, test, *search, *json),
+        Settings::Check => check_answer(alloc, test, text),
+        Settings::Witness { depth } => witness_answer(alloc, test, *depth, text),
+        Settings::Tables(kind) => table_answer(alloc, *kind),
     }
 }
 
 /// The answer of `tables`.
-///
-/// Errors: out of memory only.
-pub fn table_answer(alloc: Global, kind: ProtocolKind) -> Result<Answer, NoMemory>
+fn table_answer(alloc: Global, kind: ProtocolKind) -> Result<Answer, NoMemory>
     ensures { IfOk result (λ a. IsTableAnswer kind (string_bytes a.text) a.status) }
 {
     let text = table_text(alloc, kind)?;
     Ok(Answer {
         text,
         status: Status::Good,
+        cause: Cause::Nothing,
     })
 }

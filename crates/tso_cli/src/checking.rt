@@ -3,12 +3,16 @@
 ghost use Rattle.std.specs.Prelude.{◌≡◌, ◌≢◌, ◌++◌, IfOk, OnOk, string_bytes, codes};
 ghost use Rattle.order_builder.specs.PrintedOrder.{printed_entry, HasLocation, IsLocationFor};
 ghost use Rattle.order_builder.specs.Spelling.{IsOrderFor};
-ghost use Rattle.tso_cli.specs.Answers.{Says, IsCheckAnswer, IsJudgement};
+ghost use Rattle.tso_cli.specs.Answers.{IsCheckAnswer, IsJudgement};
+ghost use Rattle.tso_cli.specs.inner.Answers.{Says};
 ghost use Rattle.tso_cli.specs.CheckLines.{order_refusal, missing_action, missing_access, entry_with_due, entry_after};
-ghost use Rattle.tso_cli.specs.CheckLines.{breach_text, valid_line, invalid_line, CanBeNamed};
+ghost use Rattle.tso_cli.specs.CheckLines.{breach_text, valid_line, invalid_line};
+ghost use Rattle.tso_cli.specs.inner.CheckLines.{CanBeNamed};
 
 use crate::answer::{Answer, Status};
+use crate::known::know_test;
 use axiom_checker::{Breach, check_order};
+use hints::Cause;
 use order_builder::laws::order_can_be_printed;
 use order_builder::{OrderFault, entry_text, letters_of, read_order};
 use std::alloc::Global;
@@ -23,14 +27,20 @@ pub fn check_answer(alloc: Global, test: &Test, text: &[u8]) -> Result<Answer, N
 {
     match read_order(alloc, test, text) {
         Ok(execution) => judgement(alloc, test, &execution),
-        Err(fault) => refused_order(alloc, fault),
+        Err(fault) => refused_order(alloc, test, text, fault),
     }
 }
 
-pub(crate) fn refused_order(alloc: Global, fault: OrderFault) -> Result<Answer, NoMemory>
+pub(crate) fn refused_order(
+    alloc: Global,
+    test: &Test,
+    text: &[u8],
+    fault: OrderFault,
+) -> Result<Answer, NoMemory>
     ensures says { IfOk result (λ a. Says a (order_refusal fault) Status.Refused) }
     ensures real { OnOk result (fault ≢ OrderFault.NoMemory) }
 {
+    let cause = Cause::of_order(test, text, fault);
     let text = match fault {
         OrderFault::NoOrder => String::from_str(alloc, "Refused order NoOrder\n")?,
         OrderFault::BadLine(line) => format!(in alloc; "Refused order line {line} BadLine\n")?,
@@ -40,6 +50,7 @@ pub(crate) fn refused_order(alloc: Global, fault: OrderFault) -> Result<Answer, 
     Ok(Answer {
         text,
         status: Status::Refused,
+        cause,
     })
 }
 
@@ -49,8 +60,7 @@ fn judgement(alloc: Global, test: &Test, execution: &Execution) -> Result<Answer
 {
     order_can_be_printed();
     made_entries_fit_the_test();
-    // What the call ensures is that the test is within the limits: it is made for this alone.
-    let _known = test.cores();
+    know_test(test);
     match check_order(alloc, test, execution) {
         Ok(()) => valid(alloc),
         Err(breach) => invalid(alloc, test, breach),
@@ -64,6 +74,7 @@ fn valid(alloc: Global) -> Result<Answer, NoMemory>
     Ok(Answer {
         text,
         status: Status::Good,
+        cause: Cause::Nothing,
     })
 }
 
@@ -77,6 +88,7 @@ pub(crate) fn invalid(alloc: Global, test: &Test, breach: Breach) -> Result<Answ
     Ok(Answer {
         text,
         status: Status::Invalid,
+        cause: Cause::Nothing,
     })
 }
 

@@ -3,7 +3,7 @@
 ghost use Rattle.std.specs.Prelude.{◌≡◌, ℕ, ◌-◌, ◌<◌};
 ghost use Rattle.std.specs.Io.KnownBytes.{ReadConsumes, WriteAppends, Keeps};
 ghost use Rattle.std.specs.Io.{ReadsAtMost, WritesAtMost};
-ghost use Rattle.tso_cli.specs.Streams.{counts_error, CountsWrite};
+ghost use Rattle.tso_cli.specs.inner.Streams.{counts_error, CountsWrite};
 
 use std::io;
 use std::io::{Read, Write};

@@ -6,7 +6,7 @@ ghost use Rattle.machine_core.specs.Configuration.{Configuration};
 ghost use Rattle.command_line.specs.Plan.{Plan};
 ghost use Rattle.tso_cli.specs.Headline.{InputHeadline};
 ghost use Rattle.tso_cli.specs.OneText.{AreOneRun, AreOneWitness};
-ghost use Rattle.tso_cli.specs.declared.task.Task.{Task};
+ghost use Rattle.command_line.specs.declared.settings.Settings.{Settings};
 
 use crate::laws::texts_are_read_one_way;
 use axiom_checker::laws::each_order_is_judged;
@@ -19,14 +19,14 @@ use order_builder::laws::order_is_spelled_once;
 /// order, which they are.
 pub fn headlines_leave_one_text()
     ensures runs { (kind : ProtocolKind) (c : Configuration) (json : Bool) (input out other : List ℕ)
-        → InputHeadline (Task.Run kind c json) input out → InputHeadline (Task.Run kind c json) input other
+        → InputHeadline (Settings.Run kind c json) input out → InputHeadline (Settings.Run kind c json) input other
         → AreOneRun kind c json out other }
     ensures sweeps { (kind : ProtocolKind) (c : Configuration) (plan : Plan) (input out other : List ℕ)
-        → InputHeadline (Task.Sweep kind c plan) input out → InputHeadline (Task.Sweep kind c plan) input other → out ≡ other }
+        → InputHeadline (Settings.Sweep kind c plan) input out → InputHeadline (Settings.Sweep kind c plan) input other → out ≡ other }
     ensures checks { (input out other : List ℕ)
-        → InputHeadline Task.Check input out → InputHeadline Task.Check input other → out ≡ other }
+        → InputHeadline Settings.Check input out → InputHeadline Settings.Check input other → out ≡ other }
     ensures witnesses { (depth : ℕ) (input out other : List ℕ)
-        → InputHeadline (Task.Witness depth) input out → InputHeadline (Task.Witness depth) input other → AreOneWitness depth out other }
+        → InputHeadline (Settings.Witness depth) input out → InputHeadline (Settings.Witness depth) input other → AreOneWitness depth out other }
 {
     texts_are_read_one_way();
     texts_are_decided();

@@ -16,27 +16,31 @@ ghost use Rattle.tso_laws.specs.Words.{HoldsWords};
 ghost use Rattle.protocol_tables.specs.Tables.{Table};
 ghost use Rattle.protocol_tables.specs.declared.kind.ProtocolKind.{ProtocolKind};
 ghost use Rattle.machine_core.specs.Configuration.{Configuration};
-ghost use Rattle.tso_cli.specs.Answers.{IsCheckAnswer, IsInputAnswer, IsAnswer};
+ghost use Rattle.tso_cli.specs.Answers.{IsCheckAnswer, IsAnswer};
 ghost use Rattle.tso_cli.specs.CheckLines.{valid_line};
 ghost use Rattle.tso_cli.specs.Fitting.{ChoicesAreCounted, EndedRunsFit, SweptCountsFit};
-ghost use Rattle.tso_cli.specs.Headline.{InputHeadline, Headline};
+ghost use Rattle.tso_cli.specs.Headline.{Headline};
 ghost use Rattle.tso_cli.specs.RunHeadline.{PrintsExecution};
-ghost use Rattle.tso_cli.specs.Limits.{IsTaskWithinLimits};
-ghost use Rattle.tso_cli.specs.ReadOneWay.{AreReadOneWay};
+ghost use Rattle.tso_cli.specs.inner.ReadOneWay.{AreReadOneWay};
 ghost use Rattle.command_line.specs.Limits.{IsWithinLimits};
+ghost use Rattle.tso_cli.specs.OneText.{GivesOneAnswer, ShowTheSameStates};
+ghost use Rattle.tso_cli.specs.Revisited.{AreRevisited};
+ghost use Rattle.command_line.specs.Search.{Search};
 ghost use Rattle.tso_cli.specs.Parts.{parts_of, joined, IsJoinable};
-ghost use Rattle.tso_cli.specs.Runs.{run_by, AnswersFitBy, EndsBy};
+ghost use Rattle.tso_cli.specs.Runs.{run_by, AnswersFitBy};
+ghost use Rattle.tso_cli.specs.inner.Runs.{EndsBy};
 ghost use Rattle.tso_cli.specs.Simulation.{IsEndingOf};
 ghost use Rattle.tso_cli.specs.Witness.{witness_line, IsWitness, IsEndingAlong, HasEndedWith, ReportsOrder};
 ghost use Rattle.tso_cli.specs.declared.simulation.Ending.{Ending};
 ghost use Rattle.tso_cli.specs.declared.answer.Status.{Status};
 ghost use Rattle.tso_cli.specs.declared.answer.Status.TheVariants.{Good};
 ghost use Rattle.command_line.specs.declared.settings.Settings.{Settings};
-ghost use Rattle.tso_cli.specs.declared.task.Task.{Task};
 
 use axiom_checker::laws::{first_breach_is_one, first_breach_is_real};
 use litmus_reader::laws::test_is_spelled_once;
 use order_builder::laws::{order_can_be_printed, order_is_spelled_once};
+use outcome_laws::{choices_to_an_end_are_counted, ends_are_what_tso_allows};
+use outcome_report::laws::outcomes_of_the_same_values_are_alike;
 use scheduler::{printed_choices_are_spelled, texts_are_decided};
 use split_laws::{
     atomic_runs_are_flat_runs, no_buffer_no_reordering_on_either_bus,
@@ -100,21 +104,23 @@ pub(crate) fn texts_are_read_one_way()
     first_breach_is_real();
 }
 
-/// There is one answer to an input: the same bytes, and the same status.
+/// There is one answer to an input: the same bytes, and the same status. Of `outcomes` it isn't said which of the choices that
+/// lead to a state are printed; nor, where the machine can reach more states than may be kept, whether they are told as too many.
+/// Where they aren't, the states are the same, in the same order, and so are the counts.
 pub fn inputs_have_one_answer()
-    ensures tasks { (task : Task) (input out other : List ℕ) (status again : Status)
-        → IsInputAnswer task input out status → IsInputAnswer task input other again → (out ≡ other) × (status ≡ again) }
     ensures commands { (s : Settings) (input out other : List ℕ) (status again : Status)
-        → IsAnswer s (Some input) out status → IsAnswer s (Some input) other again → (out ≡ other) × (status ≡ again) }
+        → GivesOneAnswer s → IsAnswer s (Some input) out status → IsAnswer s (Some input) other again → (out ≡ other) × (status ≡ again) }
+    ensures searches { (search : Search) (json : Bool) (input out other : List ℕ)
+        → IsAnswer (Settings.Outcomes search json) (Some input) out Good → IsAnswer (Settings.Outcomes search json) (Some input) other Good
+        → ShowTheSameStates search.depth json out other }
 {
     texts_are_read_one_way();
+    outcomes_of_the_same_values_are_alike();
 }
 
 /// The headline holds of each answer that is made within the limits.
 pub fn answers_meet_the_headline()
-    ensures tasks { (task : Task) (input out : List ℕ) (status : Status)
-        → IsTaskWithinLimits task → IsInputAnswer task input out status → InputHeadline task input out }
-    ensures commands { (s : Settings) (known : Option (List ℕ)) (out : List ℕ) (status : Status)
+    ensures { (s : Settings) (known : Option (List ℕ)) (out : List ℕ) (status : Status)
         → IsWithinLimits s → IsAnswer s known out status → Headline s known out }
 {
     texts_are_read_one_way();
@@ -125,6 +131,8 @@ pub fn answers_meet_the_headline()
     smaller_depths_never_reach();
     runs_are_counted();
     printed_choices_are_spelled();
+    ends_are_what_tso_allows();
+    choices_to_an_end_are_counted();
 }
 
 /// A first part that ends in a line feed and has no dividing line, put before a dividing line and a
@@ -209,4 +217,23 @@ pub fn witnesses_reach_their_orders()
     runs_are_counted();
     printed_choices_are_spelled();
     joined_parts_are_separated();
+}
+
+/// The choices that `outcomes` prints for a state, handed to `run` at the same depth on the atomic bus with the same test, are
+/// answered with the report of a run that ended with the printed values, and with the status of success, whatever the protocol and
+/// the shape of the caches: no choice stalled, and none was left over.
+pub fn searches_reach_their_states()
+    ensures { (kind : ProtocolKind) (c : Configuration) (search : Search) (json told : Bool) (input out : List ℕ)
+        → c.bus ≡ Atomic → search.depth ≡ c.depth → IsWithinLimits (Settings.Run kind c json) → IsJoinable (parts_of input).test
+        → IsAnswer (Settings.Outcomes search told) (Some input) out Good
+        → AreRevisited kind c json told (parts_of input).test out }
+{
+    texts_are_read_one_way();
+    every_execution_is_reached();
+    smaller_depths_never_reach();
+    runs_are_counted();
+    printed_choices_are_spelled();
+    joined_parts_are_separated();
+    ends_are_what_tso_allows();
+    choices_to_an_end_are_counted();
 }

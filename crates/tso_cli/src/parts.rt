@@ -3,6 +3,7 @@
 ghost use Rattle.std.specs.Prelude.{◌≡◌, ◌<◌, ◌≤◌, length};
 ghost use Rattle.std.specs.Option.{option_map};
 ghost use Rattle.tso_cli.specs.Parts as words;
+ghost use Rattle.tso_cli.specs.inner.Parts as inner;
 
 /// The two parts of an input: the text of a test, and choices or an order.
 #[derive(Clone, Copy)]
@@ -35,7 +36,7 @@ pub fn parts_of(input: &[u8]) -> Parts<'_>
 /// How many bytes the first line of a text has, its line feed included.
 #[tactic(auto, using(crate::proofs::Lines::line_lengths))]
 fn line_length(text: &[u8]) -> usize
-    ensures exact { result ≡ words.line_length text.now }
+    ensures exact { result ≡ inner.line_length text.now }
     ensures within { result ≤ length text.now }
     ensures some { 0 < length text.now → 0 < result }
 {

@@ -3,13 +3,15 @@
 ghost use Rattle.std.specs.Prelude.{◌≡◌, ◌≢◌, IfOk, OnOk, length, string_bytes};
 ghost use Rattle.tso_model.specs.Runs.{CoresExist};
 ghost use Rattle.tso_report.specs.Shown.{shown, IsOf};
-ghost use Rattle.tso_cli.specs.Answers.{Says, SaysRun, IsRunAnswer};
+ghost use Rattle.tso_cli.specs.Answers.{IsRunAnswer};
+ghost use Rattle.tso_cli.specs.inner.Answers.{Says, SaysRun};
 ghost use Rattle.tso_cli.specs.Lines.{choices_refusal};
 ghost use Rattle.tso_cli.specs.Runs.{AnswersFit};
 ghost use Rattle.tso_cli.specs.RunTexts.{report_in, unfinished_in};
 
 use crate::answer::{Answer, Status};
 use crate::simulation::{Ending, SimFault, simulate};
+use hints::Cause;
 use machine_core::{Choice, Config};
 use protocol_tables::ProtocolKind;
 use scheduler::{ChoiceFault, read_choices, spelled_cores_exist};
@@ -32,15 +34,40 @@ pub fn run_answer(
 {
     spelled_cores_exist();
     match read_choices(alloc, test.cores(), text) {
-        Ok(choices) => run_under(alloc, test, protocol, config, json, &choices),
-        Err(fault) => refused_choices(alloc, fault),
+        Ok(choices) => {
+            let answer = run_under(alloc, test, protocol, config, json, &choices)?;
+            Ok(Answer {
+                text: answer.text,
+                status: answer.status,
+                cause: cause_of(answer.status, test, text, config),
+            })
+        }
+        Err(fault) => refused_choices(alloc, test, text, fault),
     }
 }
 
-fn refused_choices(alloc: Global, fault: ChoiceFault) -> Result<Answer, NoMemory>
+/// Why the run didn't end, if it didn't.
+fn cause_of(status: Status, test: &Test, text: &[u8], config: Config) -> Cause {
+    match status {
+        Status::Unended => Cause::of_unended_run(test, text, config.depth() > 0),
+        Status::Good | Status::Refused | Status::Invalid => Cause::Nothing,
+    }
+}
+
+fn refused_choices(
+    alloc: Global,
+    test: &Test,
+    text: &[u8],
+    fault: ChoiceFault,
+) -> Result<Answer, NoMemory>
     ensures says { IfOk result (λ a. Says a (choices_refusal fault) Status.Refused) }
     ensures real { OnOk result (fault ≢ ChoiceFault.NoMemory) }
 {
+    let cause = Cause::Choices {
+        length: text.len(),
+        cores: test.cores(),
+        fault,
+    };
     let text = match fault {
         ChoiceFault::BadWord(word) => format!(in alloc; "Refused choices word {word} BadWord\n")?,
         ChoiceFault::NoSuchCore(word) => format!(in alloc;
@@ -52,6 +79,7 @@ fn refused_choices(alloc: Global, fault: ChoiceFault) -> Result<Answer, NoMemory
     Ok(Answer {
         text,
         status: Status::Refused,
+        cause,
     })
 }
 
@@ -73,6 +101,7 @@ fn run_under(
             Ok(Answer {
                 text,
                 status: Status::Good,
+                cause: Cause::Nothing,
             })
         }
         Ok(Ending::Unfinished { used, stalled }) => unfinished(alloc, json, used, stalled),
@@ -105,6 +134,7 @@ fn unfinished(alloc: Global, json: bool, used: usize, stalled: usize) -> Result<
     Ok(Answer {
         text,
         status: Status::Unended,
+        cause: Cause::Nothing,
     })
 }
 

@@ -3,10 +3,12 @@
 ghost use Rattle.std.specs.Prelude.{◌≡◌, ◌+◌, ◌*◌, false, IfOk, OnOk, length};
 ghost use Rattle.tso_model.specs.Runs.{CoresExist};
 ghost use Rattle.tso_cli.specs.Runs.{run_by, run_under, counts_by, counts_under, AnswersFit, AnswersFitBy};
-ghost use Rattle.tso_cli.specs.Simulation.{IsEndingOf, FitsEnding, HasCounts, IsCounted, HasAllOrder, HasRounds, HasEnded, Drives, verdict};
+ghost use Rattle.tso_cli.specs.Simulation.{IsEndingOf, FitsEnding, HasCounts, IsCounted, HasAllOrder, HasRounds, HasEnded, verdict};
+ghost use Rattle.tso_cli.specs.inner.Simulation.{Drives};
 ghost use Rattle.split_laws.specs.BusChoices.{IsPossibleOn};
 ghost use Rattle.tso_laws.specs.Counting.{instructions, longest};
 
+use crate::known::know_test;
 use crate::laws::ended_runs_of_machines_are_executions;
 use machine_core::{Bus, Choice, Config, Machine, Outcome};
 use protocol_tables::{Mesi, Moesi, Mosi, Msi, Protocol, ProtocolKind};
@@ -84,8 +86,7 @@ pub fn simulate(
     fair_rounds_end_on_either_bus();
     atomic_runs_are_flat_runs();
     ended_runs_of_machines_are_executions();
-    // What the call ensures is that the test is within the limits: it is made for this alone.
-    let _known = test.cores();
+    know_test(test);
     run_with(alloc, test, protocol, config, Listed::new(choices))
 }
 
@@ -128,7 +129,7 @@ fn run_to_the_end<P: Protocol, C: Choices>(
     runs_on_either_bus_stop_where_they_end();
     ended_runs_of_machines_are_executions();
     whole_orders_have_each_entry_once();
-    let _known = test.cores();
+    know_test(test);
     let mut machine = Machine::new(alloc, protocol, test, config)?;
     let mut choices = choices;
     let progress = drive(&mut machine, &mut choices)?;
@@ -139,12 +140,9 @@ fn run_to_the_end<P: Protocol, C: Choices>(
         });
     }
     let left = machine.finish(alloc)?;
-    let holds = verdict_of(test, &left.registers, &left.memory);
+    let holds = verdict_of(test, &left.state.registers, &left.state.memory);
     Ok(Ending::Ended(Run {
-        execution: left.execution,
-        registers: left.registers,
-        memory: left.memory,
-        counts: left.counts,
+        left,
         holds,
         used: progress.used,
         stalled: progress.stalled,

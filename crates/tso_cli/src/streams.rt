@@ -3,7 +3,8 @@
 ghost use Rattle.std.specs.Prelude.{◌≡◌, ℕ, ◌+◌, ◌-◌, ◌^◌, ◌<◌, ◌≤◌, length, IfOk, OnOk};
 ghost use Rattle.std.specs.Io.KnownBytes.{Consumes, Appends, IsAtEnd};
 ghost use Rattle.tso_cli.specs.Limits.{longest_input};
-ghost use Rattle.tso_cli.specs.Streams.{AppendsBeginning, ConsumesAtMost, CountsReadFaults, CountsWriteFaults};
+ghost use Rattle.tso_cli.specs.Streams.{AppendsBeginning, ConsumesAtMost};
+ghost use Rattle.tso_cli.specs.inner.Streams.{CountsReadFaults, CountsWriteFaults};
 
 use crate::counted::Counted;
 use std::alloc::{AllocError, AllocFailed, Global};
@@ -67,21 +68,25 @@ impl From<NoMemory> for RunFault {
     }
 }
 
-/// All bytes of the reader, or the first [`READ_LIMIT`] of them. No call is tried again.
-pub fn read_input<R: Read>(alloc: Global, reader: &mut Counted<R>) -> Result<Vec<u8>, RunFault>
+/// All bytes of the reader, or so many first ones of them. No call is tried again.
+pub fn read_input<R: Read>(
+    alloc: Global,
+    reader: &mut Counted<R>,
+    most: usize,
+) -> Result<Vec<u8>, RunFault>
     requires { reader.old.1 < 2 ^ 32 - 1 }
 
     ensures bytes { IfOk result (λ v. Consumes (R.remaining reader.old.0) (R.remaining reader.new.0) v.items) }
-    ensures size { IfOk result (λ v. length v.items ≤ longest_input + 1) }
-    ensures end { IfOk result (λ v. length v.items < longest_input + 1 → IsAtEnd (R.remaining reader.new.0)) }
-    ensures most { ConsumesAtMost (R.remaining reader.old.0) (R.remaining reader.new.0) (longest_input + 1) }
+    ensures size { IfOk result (λ v. length v.items ≤ most) }
+    ensures end { IfOk result (λ v. length v.items < most → IsAtEnd (R.remaining reader.new.0)) }
+    ensures most { ConsumesAtMost (R.remaining reader.old.0) (R.remaining reader.new.0) most }
 
     ensures faults { CountsReadFaults result reader.old.1 reader.new.1 }
 {
     let mut input = Vec::new(alloc);
     let mut chunk = [0u8; 4096];
-    while input.len() < READ_LIMIT {
-        let room = (READ_LIMIT - input.len()).min(4096);
+    while input.len() < most {
+        let room = (most - input.len()).min(4096);
         match reader.read(&mut chunk[..room]) {
             Ok(0) => return Ok(input),
             Ok(n) => input.extend_from_slice(&chunk[..n])?,

@@ -4,12 +4,15 @@ ghost use Rattle.std.specs.Prelude.{◌≡◌, ◌<◌, ◌-◌, ◌^◌, ◌==�
 ghost use Rattle.tso_model.specs.Runs.{CoresExist};
 ghost use Rattle.machine_core.specs.Running.{restarted};
 ghost use Rattle.tso_report.specs.Tally.{runs_in};
-ghost use Rattle.tso_cli.specs.Runs.{machine_run, AnswersFitOn};
-ghost use Rattle.tso_cli.specs.Sweep.{with_one_run, sweep_counts, SweepAnswersFit, EachKindWith, IsSweepAnswer};
+ghost use Rattle.tso_cli.specs.inner.Runs.{machine_run, AnswersFitOn};
+ghost use Rattle.tso_cli.specs.Sweep.{with_one_run, sweep_counts, SweepAnswersFit, IsSweepAnswer};
+ghost use Rattle.tso_cli.specs.inner.Sweep.{EachKindWith};
 
 use crate::answer::{Answer, Status};
+use crate::known::know_test;
 use crate::simulation::{drive, verdict_of};
 use command_line::SweepPlan;
+use hints::Cause;
 use machine_core::{Config, Machine};
 use protocol_tables::{Mesi, Moesi, Mosi, Msi, Protocol, ProtocolKind};
 use scheduler::{Choices, Seeded};
@@ -41,7 +44,19 @@ pub fn sweep_answer(
     Ok(Answer {
         text,
         status: status_of(swept.all_ended),
+        cause: cause_of(swept.all_ended, plan),
     })
+}
+
+/// Why not all runs ended, if they didn't.
+fn cause_of(all_ended: bool, plan: SweepPlan) -> Cause {
+    if all_ended {
+        Cause::Nothing
+    } else {
+        Cause::ShortSeeds {
+            length: plan.length(),
+        }
+    }
 }
 
 fn status_of(all_ended: bool) -> Status
@@ -131,8 +146,7 @@ fn count_run<P: Protocol, C: Choices>(
     attempts_lead_from_state_to_state();
     atomic_runs_are_flat_runs();
     runs_on_either_bus_stop_where_they_end();
-    // What the call ensures is that the test is within the limits: it is made for this alone.
-    let _known = test.cores();
+    know_test(test);
     let mut choices = choices;
     drive(machine, &mut choices)?;
     if !machine.is_ended() {

@@ -5,13 +5,15 @@ ghost use Rattle.tso_model.specs.Axioms.{IsTsoExecution};
 ghost use Rattle.tso_model.specs.declared.choice.Choice.{Choice};
 ghost use Rattle.order_builder.specs.Spelling.{IsOrderFor};
 ghost use Rattle.command_line.specs.Limits.{IsDepth};
-ghost use Rattle.tso_cli.specs.Answers.{Says};
+ghost use Rattle.tso_cli.specs.inner.Answers.{Says};
 ghost use Rattle.tso_cli.specs.Lines.{depth_line};
 ghost use Rattle.tso_cli.specs.Witness.{witness_line, IsWitness, IsWitnessAnswer};
 
 use crate::answer::{Answer, Status};
 use crate::checking::{invalid, refused_order};
+use crate::known::know_test;
 use axiom_checker::check_order;
+use hints::Cause;
 use order_builder::laws::order_can_be_printed;
 use order_builder::read_order;
 use scheduler::{WitnessFault, choices_text, witness};
@@ -34,7 +36,7 @@ pub fn witness_answer(
 {
     match read_order(alloc, test, text) {
         Ok(execution) => witnessed(alloc, test, depth, &execution),
-        Err(fault) => refused_order(alloc, fault),
+        Err(fault) => refused_order(alloc, test, text, fault),
     }
 }
 
@@ -50,8 +52,7 @@ fn witnessed(
 {
     order_can_be_printed();
     made_entries_fit_the_test();
-    // What the call ensures is that the test is within the limits: it is made for this alone.
-    let _known = test.cores();
+    know_test(test);
     match check_order(alloc, test, execution) {
         Ok(()) => reached(alloc, test, depth, execution),
         Err(breach) => invalid(alloc, test, breach),
@@ -78,6 +79,7 @@ fn found(alloc: Global, choices: &[Choice]) -> Result<Answer, NoMemory>
     Ok(Answer {
         text,
         status: Status::Good,
+        cause: Cause::Nothing,
     })
 }
 
@@ -88,5 +90,6 @@ fn too_small(alloc: Global, needed: u8) -> Result<Answer, NoMemory>
     Ok(Answer {
         text,
         status: Status::Invalid,
+        cause: Cause::Nothing,
     })
 }

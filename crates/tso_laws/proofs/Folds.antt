@@ -13,7 +13,8 @@ use Rattle.tso_model.specs.declared.execution.Kind.{Kind}
 use Rattle.tso_model.specs.declared.execution.Kind.TheVariants.{R, W, F, LR, LW}
 use Rattle.tso_model.specs.declared.choice.Outcome.TheVariants.{Buffered}
 use Rattle.basic_laws.proofs.Basics.{and-true, and-false}
-use Rattle.tso_laws.specs.Depth.{asked, stores_before, most_passed, one_for_stores, needed}
+use Rattle.tso_laws.specs.Depth.{stores_before, most_passed, one_for_stores, needed}
+use Rattle.tso_laws.specs.inner.Depth.{asked}
 
 -- the word of a location after these entries
 abbrev pub last_word : ℕ → List Entry → ℕ → ℕ

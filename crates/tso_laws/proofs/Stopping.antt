@@ -7,7 +7,7 @@ use Rattle.tso_model.specs.declared.choice.Choice.{Choice}
 use Rattle.tso_model.specs.declared.choice.Stall.{Stall}
 use Rattle.tso_model.specs.declared.choice.Outcome.TheVariants.{Stalled}
 use Rattle.tso_laws.specs.Choices.{state_after, commits_of}
-use Rattle.tso_laws.specs.Stopping.{ChangesNothing, StopsAtTheEnd}
+use Rattle.tso_laws.specs.inner.Stopping.{ChangesNothing, StopsAtTheEnd}
 use Rattle.basic_laws.proofs.Basics.{lt-or}
 use Rattle.tso_laws.proofs.Work.{no-program, no-core, stays-same, Stays, choice-changes, run-ended, done-undone, length-starts}
 use Rattle.tso_laws.proofs.Rounds.{size-kept, size-after}

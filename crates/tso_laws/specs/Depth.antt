@@ -19,7 +19,3 @@ one_for_stores (x ∷ back) = if is_store x then 1 else one_for_stores back
 
 abbrev pub needed : List Entry → ℕ
 needed order = max (one_for_stores order) (most_passed order)
-
--- what one entry asks of the depth, with these after it in the order
-abbrev pub asked : Entry → List Entry → ℕ
-asked x back = if is_load x then length (stores_before x back) else (if is_store x then 1 else 0)

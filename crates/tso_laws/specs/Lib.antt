@@ -2,7 +2,6 @@ pub mod Choices
 pub mod Entries
 pub mod SoFar
 pub mod EndedRuns
-pub mod Stopping
 pub mod Counting
 pub mod Rounds
 pub mod Depth
@@ -11,6 +10,7 @@ pub mod Reached
 pub mod Words
 pub mod Laws
 pub mod WorkedRuns
+pub mod inner
 pub use Rattle.tso_model.specs.Litmus
 pub use Rattle.tso_model.specs.ProgramEntries
 pub use Rattle.tso_model.specs.Axioms

@@ -14,9 +14,12 @@ ghost use Rattle.tso_model.specs.declared.choice.Choice.{Choice};
 ghost use Rattle.tso_laws.specs.Entries.{FitsTest};
 ghost use Rattle.tso_laws.specs.EndedRuns.{End, IsExecution};
 ghost use Rattle.tso_laws.specs.Counting.{most_stores};
-ghost use Rattle.tso_laws.specs.Depth.{needed, asked};
-ghost use Rattle.tso_laws.specs.Laws.{ChoicesLeadFromStateToState, WhatHoldsSoFar, WholeOrdersHaveEachEntryOnce};
-ghost use Rattle.tso_laws.specs.Laws.{RunsStopWhereTheyEnd, StallsChangeNothing, RunsAreCounted, FairRoundsEnd, ValuesAreWords};
+ghost use Rattle.tso_laws.specs.Depth.{needed};
+ghost use Rattle.tso_laws.specs.inner.Depth.{asked};
+ghost use Rattle.tso_laws.specs.Laws.{WhatHoldsSoFar};
+ghost use Rattle.tso_laws.specs.inner.Laws.{ChoicesLeadFromStateToState, WholeOrdersHaveEachEntryOnce};
+ghost use Rattle.tso_laws.specs.Laws.{RunsAreCounted, FairRoundsEnd, ValuesAreWords};
+ghost use Rattle.tso_laws.specs.inner.Laws.{RunsStopWhereTheyEnd, StallsChangeNothing};
 ghost use Rattle.tso_laws.specs.Laws.{EveryExecutionIsReached, SmallerDepthsNeverReach, RunsReachExactlyTheExecutions};
 
 /// The states that choices can lead to, with what was committed on the way: the first state is one,

@@ -13,8 +13,8 @@ ghost use Rattle.tso_laws.specs.Counting.{most_stores, longest};
 ghost use Rattle.tso_laws.specs.Rounds.{CanBeCutIntoRounds};
 ghost use Rattle.tso_laws.specs.Depth.{needed};
 ghost use Rattle.tso_laws.specs.Along.{choices_along};
-ghost use Rattle.tso_laws.specs.WorkedRuns.{n6_along, sb_along, sb_rounds, moved_last, moved_order, moved_along};
-ghost use Rattle.tso_laws.specs.WorkedRuns.{two_stores, two_passed, two_stalled, one_store, one_round, wordless, wordless_choices};
+ghost use Rattle.tso_laws.specs.inner.WorkedRuns.{n6_along, sb_along, sb_rounds, moved_last, moved_order, moved_along};
+ghost use Rattle.tso_laws.specs.inner.WorkedRuns.{two_stores, two_passed, two_stalled, one_store, one_round, wordless, wordless_choices};
 ghost use Rattle.tso_laws.specs.WorkedRuns.{short_order, turned_order, wrong_order};
 
 /// Worked runs, and the choices along worked orders.

@@ -3,8 +3,6 @@ use Rattle.std.specs.Prelude.{ℕ, ◌+◌, ◌<◌, ◌==◌, ◌&&◌, ◌||�
 use Rattle.tso_model.specs.Registers.{index_of}
 use Rattle.tso_model.specs.declared.register.Reg.{Reg}
 use Rattle.tso_model.specs.declared.condition.Quantifier.{Quantifier}
-use Rattle.tso_model.specs.declared.condition.Cond.{Cond}
-use Rattle.tso_model.specs.declared.condition.Prop.{Prop, Truth, RegIs, LocIs, Not', And', Or'}
 
 -- a proposition as a tree, whatever memory it lies in
 pub data Claim : Type 0 where
@@ -15,20 +13,9 @@ pub data Claim : Type 0 where
   AndClaim : (left right : Claim) → Claim
   OrClaim : (left right : Claim) → Claim
 
-abbrev pub claim_of : Prop → Claim
-claim_of (Truth truth) = TruthClaim truth
-claim_of (RegIs core reg value) = RegClaim core.0 reg value
-claim_of (LocIs loc value) = LocClaim loc.0 value
-claim_of (Not' p inner) = NotClaim (claim_of inner)
-claim_of (And' p left q right) = AndClaim (claim_of left) (claim_of right)
-claim_of (Or' p left q right) = OrClaim (claim_of left) (claim_of right)
-
 pub record Condition : Type 0 where
   pub quantifier : Quantifier
   pub claim : Claim
-
-abbrev pub condition_of : Cond → Condition
-condition_of c = record { quantifier = c.quantifier; claim = claim_of c.prop }
 
 -- the truth of a claim in a list of registers for each core and a list of words
 abbrev pub truth_of : List (List ℕ) → List ℕ → Claim → Bool

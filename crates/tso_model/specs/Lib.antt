@@ -4,8 +4,6 @@ pub mod Condition
 pub mod Actions
 pub mod Names
 pub mod Litmus
-pub mod LitmusParts
-pub mod ConditionCode
 pub mod Thread
 pub mod ProgramOrder
 pub mod FinalState
@@ -16,8 +14,8 @@ pub mod SplitMachine
 pub mod EitherBus
 pub mod Together
 pub mod Examples
-pub mod Watched
 pub mod Axioms
 pub mod ProgramEntries
 pub mod SequentialConsistency
 pub mod Standing
+pub mod inner

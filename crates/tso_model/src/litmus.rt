@@ -1,11 +1,11 @@
 //! Litmus tests within the limits.
 ghost use Rattle.std.specs.Prelude.{◌≡◌, ◌<◌, ◌≤◌, ◌↔◌, length, slice_index, slice_index_or, [], IsSome, IfSome, All};
 ghost use Rattle.std.specs.Option.{option_map};
-ghost use Rattle.tso_model.specs.Condition.{condition_of};
+ghost use Rattle.tso_model.specs.inner.Condition.{condition_of};
 ghost use Rattle.tso_model.specs.Limits.{most_instructions};
 ghost use Rattle.tso_model.specs.Registers.{index_of};
 ghost use Rattle.tso_model.specs.Litmus.{IsTest, KnownLocation};
-ghost use Rattle.tso_model.specs.LitmusParts.{litmus_of};
+ghost use Rattle.tso_model.specs.inner.LitmusParts.{litmus_of};
 
 use crate::condition::Cond;
 use crate::instruction::{Core, Instr, Loc};
@@ -35,7 +35,7 @@ pub struct Test {
 
 impl Model for Test {
     ghost use Rattle.std.specs.Coded.{codes};
-    ghost use Rattle.tso_model.specs.ConditionCode.{claim_code};
+    ghost use Rattle.tso_model.specs.inner.ConditionCode.{claim_code};
     ghost use Rattle.tso_model.specs.Litmus.{Litmus};
 
     ghost Value = { Litmus };
@@ -43,7 +43,7 @@ impl Model for Test {
     ghost coded = { Prim.hlevel (codes, claim_code) };
 
     ghost use Rattle.tso_model.specs.Litmus.{IsTest};
-    ghost use Rattle.tso_model.specs.LitmusParts.{litmus_of};
+    ghost use Rattle.tso_model.specs.inner.LitmusParts.{litmus_of};
 
     ghost view = { λ t. litmus_of t.parts };
 

@@ -1,6 +1,6 @@
 //! An order that counts how often an entry of it is looked at.
 ghost use Rattle.std.specs.Prelude.{◌≡◌, ◌+◌, ◌<◌, length, slice_get, Some};
-ghost use Rattle.tso_model.specs.Watched.{watched};
+ghost use Rattle.tso_model.specs.inner.Watched.{watched};
 
 use crate::execution::{Entry, Execution};
 use std::marker::Model;
@@ -17,7 +17,7 @@ pub struct Watched<'a, L: Ledger> {
 
 impl<'a, L: Ledger> Model for Watched<'a, L> {
     ghost use Rattle.std.specs.Prelude.{◌<◌};
-    ghost use Rattle.tso_model.specs.Watched.{WatchedOrder, watched};
+    ghost use Rattle.tso_model.specs.inner.Watched.{WatchedOrder, watched};
 
     ghost Value = { WatchedOrder };
 
@@ -27,7 +27,7 @@ impl<'a, L: Ledger> Model for Watched<'a, L> {
 }
 
 impl<'a, L: Ledger> Watched<'a, L> {
-    ghost use Rattle.tso_model.specs.Watched.{watched};
+    ghost use Rattle.tso_model.specs.inner.Watched.{watched};
 
     /// Watches an order at which nobody has looked yet. The blank is what the count is kept on: `L`
     /// names it, and `Blank::new(1)` makes one.

@@ -1,11 +1,12 @@
 -- What is looked at, one core and one location at a time.
-use Rattle.std.proofs.Common.{◌≡◌, ◌∙◌, ℕ, zero, suc, ◌+◌, ◌-◌, ◌<◌, ◌≤◌, Bool, List, [], ◌∷◌, ◌++◌, length, map, filter, All, ap, sym, append_assoc, arith}
+use Rattle.std.proofs.Common.{◌≡◌, ◌∙◌, ℕ, zero, suc, ◌+◌, ◌-◌, ◌<◌, ◌≤◌, Bool, List, [], ◌∷◌, ◌++◌, length, map, filter, All, ap, sym, subst, append_assoc, arith}
 use Rattle.std.proofs.lemmas.List.Elements.{filter-append, All-filter, All-append, All-cons, All-nil}
 use Rattle.tso_model.specs.Litmus.{Litmus}
 use Rattle.tso_model.specs.declared.register.Reg.{Reg}
 use Rattle.tso_report.specs.declared.named.Named.{Named}
 use Rattle.tso_report.specs.Report.{all_registers}
-use Rattle.tso_report.specs.Tally.{is_looked_at, IsKnown, register_of, location, named_registers, named_locations, looked_at}
+use Rattle.tso_report.specs.Tally.{is_looked_at, register_of, location, named_registers, named_locations, looked_at}
+use Rattle.tso_report.specs.inner.Tally.{IsKnown}
 
 count-next : (i n : ℕ) → i < n → n - i ≡ suc (n - (i + 1))
 count-next i n h = omega arith
@@ -54,3 +55,14 @@ looked-known t =
     let locations = length t.locations in
     All-filter (is_looked_at t.condition) (IsKnown cores locations) (named_registers 0 cores ++ named_locations 0 locations)
     (All-append (IsKnown cores locations) (named_registers 0 cores) (named_locations 0 locations) (registers-known cores locations 0 cores (omega arith)) (locations-known cores locations 0 locations (omega arith)))
+
+-- all of them are noted, registers first, after nothing
+pub all-noted : (t : Litmus) (first middle list : List Named) → first ≡ [] → middle ≡ first ++ filter (is_looked_at t.condition) (named_registers 0 (length t.programs))
+    → list ≡ middle ++ filter (is_looked_at t.condition) (named_locations 0 (length t.locations)) → list ≡ looked_at t
+all-noted t first middle list none registers locations =
+    let p = is_looked_at t.condition in
+    locations ∙ (ap (λ noted. noted ++ filter p (named_locations 0 (length t.locations))) (registers ∙ ap (λ noted. noted ++ filter p (named_registers 0 (length t.programs))) none)
+    ∙ sym (filter-append p (named_registers 0 (length t.programs)) (named_locations 0 (length t.locations))))
+
+pub noted-known : (t : Litmus) (list : List Named) → list ≡ looked_at t → All (IsKnown (length t.programs) (length t.locations)) list
+noted-known t list is = subst (All (IsKnown (length t.programs) (length t.locations))) (sym is) (looked-known t)

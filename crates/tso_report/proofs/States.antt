@@ -13,7 +13,7 @@ use Rattle.std.proofs.lemmas.Cmp.{nat_list_cmp_total, on_total}
 use Rattle.std.proofs.lemmas.Map.Entries.{sum_by-insert_entry}
 use Rattle.std.proofs.lemmas.Map.Steps.{lookup-le-sum}
 use Rattle.tso_report.specs.Tally.{count_of, with_values}
-use Rattle.tso_report.specs.Counted.{states_of}
+use Rattle.tso_report.specs.inner.Counted.{states_of}
 
 -- vectors are compared as lists
 abbrev pub by_items : Vec ℕ Global → Vec ℕ Global → Ordering

@@ -3,8 +3,9 @@ use Rattle.std.proofs.Common.{◌≡◌, ◌∙◌, ℕ, Bool, List, ◌++◌, l
 use Rattle.tso_model.specs.Litmus.{Litmus}
 use Rattle.tso_report.specs.declared.named.Named.{Named}
 use Rattle.tso_report.specs.declared.counters.Counters.{Counters}
-use Rattle.tso_report.specs.Tally.{Tallied, IsKnown, looked_at, sweep_line, state_lines, observation, tally_text}
-use Rattle.tso_report.specs.Counted.{states_of, counts_in, IsKept}
+use Rattle.tso_report.specs.Tally.{looked_at, sweep_line, state_lines, observation, tally_text}
+use Rattle.tso_report.specs.inner.Tally.{Tallied, IsKnown}
+use Rattle.tso_report.specs.inner.Counted.{states_of, counts_in, IsKept}
 use Rattle.tso_report.proofs.Looking.{looked-known}
 
 abbrev tallied_in : Litmus → Counters → Tallied

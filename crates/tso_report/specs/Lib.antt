@@ -3,6 +3,6 @@ pub mod Report
 pub mod Json
 pub mod JsonFrame
 pub mod Tally
-pub mod Counted
 pub mod Limits
 pub mod Laws
+pub mod inner

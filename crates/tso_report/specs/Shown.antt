@@ -19,14 +19,14 @@ pub record Shown : Type 0 where
 
 abbrev pub shown : Run → Shown
 shown r = record {
-  order = r.execution.order.items;
-  registers = r.registers.items;
-  memory = r.memory.items;
+  order = r.left.execution.order.items;
+  registers = r.left.state.registers.items;
+  memory = r.left.state.memory.items;
   holds = r.holds;
   used = r.used;
   stalled = r.stalled;
   unused = r.unused;
-  counts = r.counts.items;
+  counts = r.left.counts.items;
 }
 
 -- a run of this test: registers and counts for each core, a word for each location, a verdict where there is a condition

@@ -1,5 +1,5 @@
 -- What is counted of a sweep, the runs of one test under many lists of choices, and its text.
-use Rattle.std.specs.Prelude.{ℕ, zero, suc, ◌+◌, ◌≡◌, ◌<◌, ◌==◌, ◌&&◌, ◌||◌, Bool, true, false, if◌then◌else◌, Option, Some, None}
+use Rattle.std.specs.Prelude.{ℕ, zero, suc, ◌+◌, ◌==◌, ◌&&◌, ◌||◌, Bool, true, false, if◌then◌else◌, Option, Some, None}
 use Rattle.std.specs.Prelude.{List, [], ◌∷◌, ◌++◌, map, filter, sum, length, slice_index, slice_index_or, codes}
 use Rattle.std.specs.Fmt.{decimal}
 use Rattle.std.specs.Option.{unwrap_or}
@@ -15,7 +15,6 @@ use Rattle.tso_model.specs.Thread.{value_in}
 use Rattle.tso_model.specs.declared.register.Reg.{Reg}
 use Rattle.tso_report.specs.declared.named.Named.{Named}
 use Rattle.tso_report.specs.declared.named.Named.TheVariants.{Register, Location}
-use Rattle.tso_report.specs.Shown.{Shown}
 use Rattle.tso_report.specs.Report.{line, all_registers}
 
 -- ---- what is looked at of a final state
@@ -45,10 +44,6 @@ is_looked_at None (Location loc) = true
 is_looked_at (Some condition) (Register core reg) = names_register condition.claim core.0 reg
 is_looked_at (Some condition) (Location loc) = names_location condition.claim loc.0
 
--- of these names those that are looked at are put after the list
-abbrev pub AreNoted : Option Condition → List Named → List Named → List Named → Type 0
-AreNoted condition names old new = new ≡ old ++ filter (is_looked_at condition) names
-
 abbrev pub register_of : ℕ → Reg → Named
 register_of core reg = Register (record { 0 = core }) reg
 
@@ -72,11 +67,6 @@ looked_at t = filter (is_looked_at t.condition) (named_registers 0 (length t.pro
 abbrev pub shown_value : List (List ℕ) → List ℕ → Named → ℕ
 shown_value registers memory (Register core reg) = value_in (slice_index_or registers core.0 []) reg
 shown_value registers memory (Location loc) = slice_index memory loc.0
-
--- the core or the location is below these numbers
-abbrev pub IsKnown : ℕ → ℕ → Named → Type 0
-IsKnown cores locations (Register core reg) = core.0 < cores
-IsKnown cores locations (Location loc) = loc.0 < locations
 
 -- the values that a final state has there
 abbrev pub values_in : Litmus → List (List ℕ) → List ℕ → List ℕ
@@ -117,13 +107,6 @@ with_verdict (Some false) c = run_counts c.states c.held (c.failed + 1) c.unfini
 
 abbrev pub with_state : List ℕ → RunCounts → RunCounts
 with_state values c = run_counts (with_values values c.states) c.held c.failed c.unfinished
-
--- one more run of the test that ended, in this state, with this truth of the condition's proposition
-abbrev pub with_ended : Litmus → List (List ℕ) → List ℕ → Option Bool → RunCounts → RunCounts
-with_ended t registers memory holds c = with_verdict holds (with_state (values_in t registers memory) c)
-
-abbrev pub with_run : Litmus → Shown → RunCounts → RunCounts
-with_run t s c = with_ended t s.registers s.memory s.holds c
 
 -- one more run that didn't end
 abbrev pub with_unfinished : RunCounts → RunCounts
@@ -188,8 +171,3 @@ abbrev pub tally_text : Litmus → RunCounts → ℕ → ℕ → List ℕ
 tally_text t c from length =
     sweep_line (ended_in c) c.unfinished from length
     ++ (state_lines t c.states ++ observation t.name t.condition c.held c.failed)
-
--- what a tally holds
-pub record Tallied : Type 0 where
-  pub test : Litmus
-  pub counts : RunCounts

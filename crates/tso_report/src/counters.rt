@@ -3,7 +3,7 @@
 ghost use Rattle.std.specs.Prelude.{◌≡◌, ◌+◌, ◌<◌, ◌^◌, ◌-◌, Bool, OnOk, OnErr, sum, is_some};
 ghost use Rattle.std.specs.Map.{values_of};
 ghost use Rattle.tso_report.specs.Tally.{nothing_counted, with_values, with_state, with_verdict, with_unfinished, runs_in};
-ghost use Rattle.tso_report.specs.Counted.{states_of, counts_in, IsKept};
+ghost use Rattle.tso_report.specs.inner.Counted.{states_of, counts_in, IsKept};
 
 use std::alloc::Global;
 use std::collections::BTreeMap;

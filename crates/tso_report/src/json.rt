@@ -49,8 +49,10 @@ pub fn unfinished_json(alloc: Global, used: usize, stalled: usize) -> Result<Str
     line_of(alloc, &value)
 }
 
-/// The compact text of a value, and a line feed.
-fn line_of(alloc: Global, value: &Value) -> Result<String, NoMemory>
+/// The compact text of a value that has no float, and a line feed.
+///
+/// Errors: out of memory only.
+pub fn line_of(alloc: Global, value: &Value) -> Result<String, NoMemory>
     requires { has_float (view value.now) ≡ false }
     ensures { IfOk result (λ text. string_bytes text ≡ line (compact_text (view value.now))) }
 {
@@ -80,7 +82,7 @@ fn run_value(
         &mut members,
         alloc,
         "cache",
-        cache_value(alloc, &run.counts)?,
+        cache_value(alloc, &run.left.counts)?,
     )?;
     put(
         &mut members,
@@ -104,19 +106,19 @@ fn run_value(
         &mut members,
         alloc,
         "memory",
-        memory_value(alloc, test, &run.memory)?,
+        memory_value(alloc, test, &run.left.state.memory)?,
     )?;
     put(
         &mut members,
         alloc,
         "order",
-        order_value(alloc, test, &run.execution.order)?,
+        order_value(alloc, test, &run.left.execution.order)?,
     )?;
     put(
         &mut members,
         alloc,
         "registers",
-        cores_value(alloc, &run.registers)?,
+        cores_value(alloc, &run.left.state.registers)?,
     )?;
     put(
         &mut members,

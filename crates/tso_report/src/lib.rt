@@ -5,6 +5,8 @@ mod counters;
 pub mod json;
 pub mod laws;
 pub mod named;
+pub mod observation;
+pub mod printed_values;
 pub mod report;
 pub mod run;
 pub mod tally;

@@ -1,11 +1,12 @@
-//! What the runs of a sweep are told apart by: the values of the registers and locations that the test's
+//! What final states are told apart by: the values of the registers and locations that the test's
 //! condition names, or of all locations where there is no condition.
 
 ghost use Rattle.std.specs.Prelude.{◌≡◌, ◌<◌, ◌∷◌, [], IfOk, OnOk, All, length, map};
-ghost use Rattle.tso_model.specs.Condition.{claim_of};
+ghost use Rattle.tso_model.specs.inner.Condition.{claim_of};
 ghost use Rattle.tso_report.specs.Report.{all_registers};
-ghost use Rattle.tso_report.specs.Tally.{names_register, names_location, is_looked_at, AreNoted, register_of};
-ghost use Rattle.tso_report.specs.Tally.{named_registers, named_locations, looked_at, shown_value, IsKnown};
+ghost use Rattle.tso_report.specs.Tally.{names_register, names_location, is_looked_at, register_of};
+ghost use Rattle.tso_report.specs.inner.Tally.{AreNoted, IsKnown};
+ghost use Rattle.tso_report.specs.Tally.{named_registers, named_locations, looked_at, shown_value};
 
 use std::alloc::Global;
 use tso_model::{Core, Loc, NoMemory, Prop, Reg, Test};
@@ -20,11 +21,12 @@ pub enum Named {
 }
 
 /// What is looked at of the test's final states: registers by core and then in their order, and then
-/// locations by number.
+/// locations by number. All of them are cores and locations of the test.
 ///
 /// Errors: out of memory only.
 pub fn looked_at(alloc: Global, test: &Test) -> Result<Vec<Named>, NoMemory>
-    ensures { IfOk result (λ list. list.items ≡ looked_at test.now) }
+    ensures known { IfOk result (λ list. All (IsKnown (length test.now.programs) (length test.now.locations)) list.items) }
+    ensures list { IfOk result (λ list. list.items ≡ looked_at test.now) }
 {
     let mut list = Vec::new(alloc);
     note_registers(&mut list, test)?;

@@ -29,15 +29,15 @@ pub fn report_text(
 ) -> Result<String, NoMemory>
     requires { IsOf test.now (shown run.now) }
     ensures text { IfOk result (λ text. string_bytes text ≡ report test.now protocol config (shown run.now)) }
-    ensures words { OnOk result (All HasWord run.now.execution.order.items) }
+    ensures words { OnOk result (All HasWord run.now.left.execution.order.items) }
 {
     let mut text = head_text(alloc, test, protocol, config)?;
-    write_order(&mut text, test, &run.execution)?;
-    write_registers(&mut text, &run.registers)?;
-    write_memory(&mut text, test, &run.memory)?;
+    write_order(&mut text, test, &run.left.execution)?;
+    write_registers(&mut text, &run.left.state.registers)?;
+    write_memory(&mut text, test, &run.left.state.memory)?;
     write_condition(&mut text, test, run.holds)?;
     write_choices(&mut text, run)?;
-    write_caches(&mut text, &run.counts)?;
+    write_caches(&mut text, &run.left.counts)?;
     Ok(text)
 }
 
@@ -59,7 +59,10 @@ pub fn head_text(
     Ok(text)
 }
 
-fn write_test(text: &mut String, test: &Test) -> Result<(), NoMemory>
+/// `Test NAME`.
+///
+/// Errors: out of memory only.
+pub fn write_test(text: &mut String, test: &Test) -> Result<(), NoMemory>
     ensures { OnOk result (string_bytes text.new ≡ string_bytes text.old ++ test_line test.now) }
 {
     let name = test.name();

@@ -1,19 +1,13 @@
 //! A run that ended, as it is reported.
 
-use machine_core::Counts;
-use tso_model::Execution;
+use machine_core::Final;
 
-/// What a run that ended left.
+/// A run that ended.
 #[derive(Drop)]
 pub struct Run {
-    /// The order in which memory saw the run.
-    pub execution: Execution,
-    /// The registers of each core, in the order of `Reg::ALL`.
-    pub registers: Vec<[u32; 6]>,
-    /// The word of each location.
-    pub memory: Vec<u32>,
-    /// What the accesses of each core's cache were.
-    pub counts: Vec<Counts>,
+    /// What it left: the order in which memory saw it, the final state, and what the accesses of each core's
+    /// cache were.
+    pub left: Final,
     /// Whether the condition's proposition is true in that state; `None` where the test has no
     /// condition.
     pub holds: Option<bool>,

@@ -2,7 +2,8 @@
 
 ghost use Rattle.std.specs.Prelude.{◌≡◌, ◌+◌, ◌<◌, ◌^◌, ◌-◌, true, IfOk, OnOk, OnErr, length, string_bytes, is_some};
 ghost use Rattle.tso_report.specs.Shown.{shown};
-ghost use Rattle.tso_report.specs.Tally.{nothing_counted, with_run, with_ended, with_unfinished, runs_in, ended_in, tally_text};
+ghost use Rattle.tso_report.specs.Tally.{nothing_counted, with_unfinished, runs_in, ended_in, tally_text};
+ghost use Rattle.tso_report.specs.inner.Tally.{with_run, with_ended};
 
 use crate::counters::{Counters, count_ended, count_unfinished, no_runs};
 use crate::named::{Named, looked_at, values_at};
@@ -25,8 +26,8 @@ pub struct Tally<'a> {
 
 impl<'a> Model for Tally<'a> {
     ghost use Rattle.std.specs.Coded.{codes};
-    ghost use Rattle.tso_model.specs.ConditionCode.{claim_code};
-    ghost use Rattle.tso_report.specs.Tally.{Tallied};
+    ghost use Rattle.tso_model.specs.inner.ConditionCode.{claim_code};
+    ghost use Rattle.tso_report.specs.inner.Tally.{Tallied};
 
     ghost Value = { Tallied };
 
@@ -34,7 +35,7 @@ impl<'a> Model for Tally<'a> {
 
     ghost use Rattle.std.specs.Prelude.{◌≡◌, is_some};
     ghost use Rattle.tso_report.specs.Tally.{looked_at};
-    ghost use Rattle.tso_report.specs.Counted.{counts_in, IsKept};
+    ghost use Rattle.tso_report.specs.inner.Counted.{counts_in, IsKept};
 
     ghost view = { λ m. record { test = m.test.now; counts = counts_in m.counters } };
 
@@ -71,7 +72,7 @@ impl<'a> Tally<'a> {
         ensures test { self.new.test ≡ self.old.test }
         ensures refused { OnErr result (self.new ≡ self.old) }
     {
-        self.add_state(&run.registers, &run.memory, run.holds)
+        self.add_state(&run.left.state.registers, &run.left.state.memory, run.holds)
     }
 
     /// Counts a run of the test that ended in this state, with this truth of the condition's proposition.

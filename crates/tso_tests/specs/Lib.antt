@@ -1,2 +1,2 @@
-pub mod Small
 pub mod Between
+pub mod inner

@@ -1,7 +1,7 @@
 //! A bus that is taken through calls, each of which answers what is listed with it.
 ghost use Rattle.std.specs.Prelude.{◌≡◌, ◌<◌, Some};
 ghost use Rattle.snoop_bus.specs.Bus.{holder_of, IsFree};
-ghost use Rattle.tso_tests.specs.Small.{IsSmall};
+ghost use Rattle.tso_tests.specs.inner.Small.{IsSmall};
 
 use crate::calls::{Call, HIT};
 use crate::named::{MEMORY, P0};

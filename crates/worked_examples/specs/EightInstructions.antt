@@ -16,11 +16,11 @@ use Rattle.std.specs.Prelude.{ℕ, List, [], ◌∷◌, None, codes}
 use Rattle.tso_model.specs.Litmus.{Litmus}
 use Rattle.tso_model.specs.declared.register.Reg.TheVariants.{Eax, Ebx, Ecx, Edx, Esi, Edi}
 use Rattle.tso_model.specs.declared.instruction.Instr.{Instr}
-use Rattle.tso_model.specs.declared.instruction.Instr.TheVariants.{StoreImm, StoreReg, Load, SetImm, SetReg, Fence, Xchg, Xadd}
+use Rattle.tso_model.specs.declared.instruction.Instr.TheVariants.{StoreImm, StoreReg, Load, SetImm, SetReg, Fence}
+use Rattle.tso_model.specs.declared.instruction.Instr.TheVariants.{Xchg, Xadd}
 use Rattle.tso_model.specs.declared.execution.Entry.{Entry}
 use Rattle.tso_model.specs.declared.execution.Kind.TheVariants.{R, W, F, LR, LW}
-use Rattle.tso_model.specs.declared.choice.Choice.{Choice}
-use Rattle.worked_examples.specs.Written.{loc_x, loc_y, loc_z, step, drain, six, memory_action}
+use Rattle.worked_examples.specs.Written.{loc_x, loc_y, loc_z, six, memory_action}
 
 abbrev pub eight_program : List Instr
 eight_program =
@@ -60,11 +60,6 @@ eight_entries =
     ∷ memory_action 1 7 LR loc_y 4294967290
     ∷ memory_action 1 7 LW loc_y 10
     ∷ []
-
--- a run at depth 2, 0s 0d 1s 1s 1s 1s 1s 1d 1d 1s 1s 1s, and what it commits
-abbrev pub eight_choices : List Choice
-eight_choices =
-    step 0 ∷ drain 0 ∷ step 1 ∷ step 1 ∷ step 1 ∷ step 1 ∷ step 1 ∷ drain 1 ∷ drain 1 ∷ step 1 ∷ step 1 ∷ step 1 ∷ []
 
 abbrev pub eight_order : List Entry
 eight_order =

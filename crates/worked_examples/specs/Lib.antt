@@ -2,8 +2,7 @@ pub mod Written
 pub mod EightInstructions
 pub mod SmallPrograms
 pub mod SharedBus
-pub mod Claims
-pub mod Orders
 pub mod TableRows
 pub mod LinesInSets
 pub mod WriteHits
+pub mod inner

@@ -7,10 +7,10 @@ use Rattle.std.specs.Prelude.{ℕ, List, [], ◌∷◌, None, codes}
 use Rattle.tso_model.specs.Litmus.{Litmus}
 use Rattle.tso_model.specs.FlatMachine.{CoreState, Effect, effect_of}
 use Rattle.tso_model.specs.Runs.{run}
-use Rattle.tso_model.specs.Access.{Access, access_of}
 use Rattle.tso_model.specs.declared.register.Reg.TheVariants.{Eax, Ebx, Ecx, Edx}
 use Rattle.tso_model.specs.declared.instruction.Instr.{Instr}
-use Rattle.tso_model.specs.declared.instruction.Instr.TheVariants.{StoreImm, StoreReg, Load, SetImm, SetReg, Fence, Xchg, Xadd}
+use Rattle.tso_model.specs.declared.instruction.Instr.TheVariants.{StoreImm, StoreReg, SetImm, SetReg, Fence, Xchg}
+use Rattle.tso_model.specs.declared.instruction.Instr.TheVariants.{Xadd}
 use Rattle.tso_model.specs.declared.execution.Entry.{Entry}
 use Rattle.tso_model.specs.declared.execution.Kind.TheVariants.{W}
 use Rattle.tso_model.specs.declared.choice.Choice.{Choice}
@@ -30,10 +30,6 @@ alone program = record {
 abbrev pub comes_of : List Instr → ℕ → List Choice → Choice → Effect
 comes_of program depth before choice = effect_of (alone program) depth (run (alone program) depth before).state choice
 
--- the access of such a choice
-abbrev pub access_after : List Instr → ℕ → List Choice → Choice → Access
-access_after program depth before choice = access_of (alone program) depth (run (alone program) depth before).state choice
-
 -- the registers at the beginning
 abbrev pub first : List ℕ
 first = six 11 12 13 14 15 16
@@ -45,13 +41,6 @@ three_stores = StoreImm loc_x 7 ∷ StoreImm loc_x 8 ∷ StoreImm loc_y 9 ∷ []
 -- what is pending after the first two of them, 0s 0s
 abbrev pub two_pending : List Entry
 two_pending = memory_action 0 0 W loc_x 7 ∷ memory_action 0 1 W loc_x 8 ∷ []
-
--- MOV [x],$7 ; MOV [x],$8 ; MOV EBX,[x], and MOV [x],$7 ; MOV [x],$8 ; MOV EBX,[y]
-abbrev pub load_of_own : List Instr
-load_of_own = StoreImm loc_x 7 ∷ StoreImm loc_x 8 ∷ Load Ebx loc_x ∷ []
-
-abbrev pub load_of_other : List Instr
-load_of_other = StoreImm loc_x 7 ∷ StoreImm loc_x 8 ∷ Load Ebx loc_y ∷ []
 
 -- MOV ECX,$7, and MOV ECX,EDX
 abbrev pub moves : List Instr
@@ -68,9 +57,6 @@ store_waits = core_at 1 first (memory_action 0 0 W loc_x 14 ∷ [])
 -- 0s, and 0s 0d
 abbrev pub stored : List Choice
 stored = step 0 ∷ []
-
-abbrev pub drained : List Choice
-drained = step 0 ∷ drain 0 ∷ []
 
 -- at depth 1 MOV [x],$7 ; MOV [y],$8 ; MFENCE ; XCHG [x],EAX ; MOV [x],EBX ; LOCK XADD [y],EBX, and
 -- 0d 0s 0s 0d 0s 0s 0d 0s 0s 0s 0s 0d 0s: four of these stall

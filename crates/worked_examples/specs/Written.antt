@@ -1,7 +1,6 @@
 -- What worked examples come to, written out by constructors and numerals alone: nothing here is of the definitions that are worked.
 use Rattle.std.specs.Prelude.{ℕ, List, [], ◌∷◌}
 use Rattle.tso_model.specs.FlatMachine.{CoreState, Effect}
-use Rattle.tso_model.specs.SplitMachine.{Holder, BusEffect}
 use Rattle.tso_model.specs.declared.instruction.Loc.{Loc}
 use Rattle.tso_model.specs.declared.execution.Entry.{Entry}
 use Rattle.tso_model.specs.declared.execution.Kind.{Kind}
@@ -42,7 +41,3 @@ core_at place registers pending = record { place = place; registers = registers;
 -- what a choice does: its outcome, its core afterwards, and what it commits
 abbrev pub comes : Outcome → CoreState → List Entry → Effect
 comes outcome after commits = record { outcome = outcome; after = after; commits = commits }
-
--- the same on a split bus, and who holds the bus afterwards
-abbrev pub comes_with : Outcome → CoreState → List Entry → Holder → BusEffect
-comes_with outcome after commits holder = record { effect = comes outcome after commits; holder = holder }

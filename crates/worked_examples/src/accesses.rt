@@ -6,8 +6,9 @@ ghost use Rattle.tso_model.specs.SplitMachine.{needs_bus};
 ghost use Rattle.tso_model.specs.declared.register.Reg.TheVariants.{Ebx};
 ghost use Rattle.tso_model.specs.declared.instruction.Instr.TheVariants as instr;
 ghost use Rattle.worked_examples.specs.Written.{loc_x, loc_y, step, drain};
-ghost use Rattle.worked_examples.specs.SmallPrograms.{access_after, three_stores, load_of_own, load_of_other, moves};
-ghost use Rattle.worked_examples.specs.SmallPrograms.{store_and, stored, drained};
+ghost use Rattle.worked_examples.specs.SmallPrograms.{three_stores, moves};
+ghost use Rattle.worked_examples.specs.inner.SmallPrograms.{access_after, load_of_own, load_of_other, drained};
+ghost use Rattle.worked_examples.specs.SmallPrograms.{store_and, stored};
 
 /// The access of one choice after others.
 pub fn worked_accesses()

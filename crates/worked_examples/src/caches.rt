@@ -10,14 +10,19 @@ ghost use Rattle.snoop_bus.specs.declared.access.AccessKind.TheVariants.{Hit, Up
 ghost use Rattle.protocol_tables.specs.Laws.{is_dirty, in_place};
 ghost use Rattle.snoop_bus.specs.Coherent.{may_share};
 ghost use Rattle.snoop_bus.specs.Lines.{line_of_words, lines_of_words};
-ghost use Rattle.snoop_bus.specs.CacheContents.{loaded, written, settled};
+ghost use Rattle.snoop_bus.specs.CacheContents.{loaded, written};
+ghost use Rattle.snoop_bus.specs.inner.CacheContents.{settled};
 ghost use Rattle.snoop_bus.specs.Asks.{hits, asking, completed};
 ghost use Rattle.snoop_bus.specs.Bus.{words_of};
-ghost use Rattle.snoop_bus.specs.Accesses.{line_of, lines_with, load_of, memory_words_of, memory_after_load, memory_after_write};
-ghost use Rattle.worked_examples.specs.LinesInSets.{shape, set_for, words, was, p1, awaits, asked, eight_words, five_words};
-ghost use Rattle.worked_examples.specs.LinesInSets.{eight_locations, none, alone, stale, eight_in_memory, fresh_in_memory};
+ghost use Rattle.snoop_bus.specs.Accesses.{line_of, lines_with, load_of, memory_after_load, memory_after_write};
+ghost use Rattle.snoop_bus.specs.inner.Accesses.{memory_words_of};
+ghost use Rattle.worked_examples.specs.LinesInSets.{set_for, was, p1};
+ghost use Rattle.worked_examples.specs.inner.LinesInSets.{shape, words, awaits, asked, eight_words, five_words};
+ghost use Rattle.worked_examples.specs.LinesInSets.{alone};
+ghost use Rattle.worked_examples.specs.inner.LinesInSets.{eight_locations, none, stale, eight_in_memory, fresh_in_memory};
 ghost use Rattle.worked_examples.specs.LinesInSets.{two_sets, four_second, four_first, full, dirty_last};
-ghost use Rattle.worked_examples.specs.LinesInSets.{shares_both, shares_seven, has_five, three_sets, by_state, under_way};
+ghost use Rattle.worked_examples.specs.LinesInSets.{shares_both, shares_seven, has_five, three_sets};
+ghost use Rattle.worked_examples.specs.inner.LinesInSets.{by_state, under_way};
 
 /// In which line and which set a location lies: where P1 loads it, that set of P1 has that line.
 pub fn worked_places()

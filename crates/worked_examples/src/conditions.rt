@@ -3,7 +3,7 @@
 ghost use Rattle.std.specs.Prelude.{◌≡◌, true, false};
 ghost use Rattle.tso_model.specs.Condition.{RegClaim, LocClaim, NotClaim, AndClaim, OrClaim, atoms_in, negations_in};
 ghost use Rattle.tso_model.specs.declared.register.Reg.TheVariants.{Eax, Ebx, Ecx, Edx, Esi, Edi};
-ghost use Rattle.worked_examples.specs.Claims.{holds, true_atom, false_atom, nested};
+ghost use Rattle.worked_examples.specs.inner.Claims.{holds, true_atom, false_atom, nested};
 
 /// Atoms: each register of a core and each location, by its value.
 pub fn worked_atoms()

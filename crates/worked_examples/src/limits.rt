@@ -13,6 +13,7 @@ ghost use Rattle.litmus_reader.specs.Limits.{longest_text};
 ghost use Rattle.hints.specs.Hint.{longest_hint};
 ghost use Rattle.tso_report.specs.Limits.{longest_report, most_entries};
 ghost use Rattle.command_line.specs.Plan.{most_seeds};
+ghost use Rattle.command_line.specs.Search.{most_states};
 ghost use Rattle.tso_cli.specs.Limits.{longest_input};
 
 /// How large a test may be.
@@ -38,12 +39,13 @@ pub fn numbers_of_machines()
     ensures line_sizes { (words : ℕ) → IsLineSize words ↔ ((words ≡ 1) ⊎ (words ≡ 2) ⊎ (words ≡ 4)) }
 {}
 
-/// How long a text may be, and how many choices and seeds are taken.
+/// How long a text may be, and how many choices, seeds and states are taken.
 pub fn numbers_of_texts()
     ensures test_text { longest_text ≡ 65536 }
     ensures choices { most_choices ≡ 100000 }
     ensures input { longest_input ≡ 1048576 }
     ensures seeds { most_seeds ≡ 1000 }
+    ensures states { most_states ≡ 10000000 }
     ensures hint { longest_hint ≡ 256 }
     ensures entries { most_entries ≡ 512 }
     ensures report { longest_report ≡ 32768 }

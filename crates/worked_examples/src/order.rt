@@ -7,7 +7,7 @@ ghost use Rattle.tso_model.specs.Together.{put_together};
 ghost use Rattle.tso_model.specs.ProgramOrder.{is_before, may_be_passed, is_read, is_write, writes_to};
 ghost use Rattle.tso_model.specs.declared.execution.Kind.TheVariants.{R, W, F, LR, LW};
 ghost use Rattle.worked_examples.specs.Written.{loc_x, loc_y, memory_action};
-ghost use Rattle.worked_examples.specs.Orders.{some_test, read_of_x, writes_before, writes_after, separated_pairs, pairs_together};
+ghost use Rattle.worked_examples.specs.inner.Orders.{some_test, read_of_x, writes_before, writes_after, separated_pairs, pairs_together};
 
 /// Which of two entries of one core stands first in its program.
 pub fn worked_program_order()

@@ -8,8 +8,9 @@ ghost use Rattle.tso_model.specs.declared.execution.Kind.TheVariants.{R, W, F, L
 ghost use Rattle.tso_model.specs.declared.choice.Stall.TheVariants as stall;
 ghost use Rattle.tso_model.specs.declared.choice.Outcome.TheVariants.{Committed, Buffered, Moved, Stalled};
 ghost use Rattle.worked_examples.specs.Written.{loc_x, loc_y, step, drain, six, memory_action, core_at, comes};
-ghost use Rattle.worked_examples.specs.SmallPrograms.{alone, comes_of, first, three_stores, two_pending, load_of_own, load_of_other};
-ghost use Rattle.worked_examples.specs.SmallPrograms.{moves, store_and, store_waits, stored, drained, stalling, stalling_choices};
+ghost use Rattle.worked_examples.specs.SmallPrograms.{alone, comes_of, first, three_stores, two_pending};
+ghost use Rattle.worked_examples.specs.inner.SmallPrograms.{load_of_own, load_of_other, drained};
+ghost use Rattle.worked_examples.specs.SmallPrograms.{moves, store_and, store_waits, stored, stalling, stalling_choices};
 
 /// What takes effect.
 pub fn worked_outcomes()

@@ -2,9 +2,10 @@
 
 ghost use Rattle.std.specs.Prelude.{◌≡◌, [], ◌∷◌, Some, None};
 ghost use Rattle.protocol_tables.specs.declared.state.State.TheVariants.{S, E, M};
-ghost use Rattle.cache_set.specs.Contents.{copy_of, to_front, with_new, victim_of, with_changed, without};
-ghost use Rattle.cache_set.specs.Copy.{copy_with, with_state, with_word};
-ghost use Rattle.worked_examples.specs.LinesInSets.{words, copy, copies_for, victim, seven, four, two};
+ghost use Rattle.cache_set.specs.Contents.{copy_of, victim_of};
+ghost use Rattle.cache_set.specs.inner.Contents.{to_front, with_new, with_changed, without};
+ghost use Rattle.cache_set.specs.inner.Copy.{copy_with, with_state, with_word};
+ghost use Rattle.worked_examples.specs.inner.LinesInSets.{words, copy, copies_for, victim, seven, four, two};
 
 /// What is found, brought to the front, changed where it stands, and taken away.
 pub fn worked_set_calls()

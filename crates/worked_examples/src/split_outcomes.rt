@@ -8,11 +8,13 @@ ghost use Rattle.tso_model.specs.declared.instruction.Instr.TheVariants as instr
 ghost use Rattle.tso_model.specs.declared.execution.Kind.TheVariants.{R, W, LR, LW};
 ghost use Rattle.tso_model.specs.declared.choice.Stall.TheVariants as stall;
 ghost use Rattle.tso_model.specs.declared.choice.Outcome.TheVariants.{Committed, Buffered, Asked, Stalled};
-ghost use Rattle.worked_examples.specs.Written.{loc_x, loc_y, step, drain, six, memory_action, core_at, comes_with};
-ghost use Rattle.worked_examples.specs.SharedBus.{comes_on, missing, hitting, first_of_p0, first_of_p1, two_loads, load_holds};
-ghost use Rattle.worked_examples.specs.SharedBus.{store_and_load, is_pending, drain_holds, exchange_and_load, exchange_holds};
-ghost use Rattle.worked_examples.specs.SharedBus.{exchange_has_read, load_part, load_beside, held_and_pending, pending_of_p1};
-ghost use Rattle.worked_examples.specs.SharedBus.{load_beside_none, store_before_load, load_holds_over_store};
+ghost use Rattle.worked_examples.specs.Written.{loc_x, loc_y, step, drain, six, memory_action, core_at};
+ghost use Rattle.worked_examples.specs.inner.Written.{comes_with};
+ghost use Rattle.worked_examples.specs.SharedBus.{missing, hitting};
+ghost use Rattle.worked_examples.specs.inner.SharedBus.{comes_on, first_of_p0, first_of_p1, two_loads, load_holds};
+ghost use Rattle.worked_examples.specs.inner.SharedBus.{store_and_load, is_pending, drain_holds, exchange_and_load, exchange_holds};
+ghost use Rattle.worked_examples.specs.inner.SharedBus.{exchange_has_read, load_part, load_beside, held_and_pending, pending_of_p1};
+ghost use Rattle.worked_examples.specs.inner.SharedBus.{load_beside_none, store_before_load, load_holds_over_store};
 
 /// What takes effect, and who holds the bus afterwards.
 pub fn worked_split_outcomes()

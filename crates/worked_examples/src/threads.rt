@@ -15,7 +15,8 @@ ghost use Rattle.tso_model.specs.declared.action.Update.TheVariants.{Exchange, A
 ghost use Rattle.tso_model.specs.declared.action.Action.TheVariants.{Store, Load, Move, Fence, Lock};
 ghost use Rattle.worked_examples.specs.Written.{loc_x, loc_y, loc_z, six};
 ghost use Rattle.worked_examples.specs.EightInstructions.{eight, eight_program, eight_read, eight_entries};
-ghost use Rattle.worked_examples.specs.EightInstructions.{eight_choices, eight_order, eight_registers, eight_memory};
+ghost use Rattle.worked_examples.specs.EightInstructions.{eight_order, eight_registers, eight_memory};
+ghost use Rattle.worked_examples.specs.inner.EightInstructions.{eight_choices};
 
 /// What each of the eight instructions does.
 pub fn worked_actions()

@@ -1,4 +1,4 @@
-use Rattle.axiom_checker.specs.Slots.{HasNotCome}
+use Rattle.axiom_checker.specs.inner.Slots.{HasNotCome}
 use Rattle.axiom_checker.specs.First.{NoneBefore}
 use Rattle.axiom_checker.proofs.arrivals.first_missing.Given as goal
 

@@ -1,6 +1,6 @@
 use Rattle.std.proofs.Common.{◌≡◌, ◌≤◌, ◌+◌}
 use Rattle.axiom_checker.specs.Entries.{IsStray}
-use Rattle.axiom_checker.specs.Slots.{HasCome}
+use Rattle.axiom_checker.specs.inner.Slots.{HasCome}
 use Rattle.axiom_checker.specs.First.{NoneBefore}
 use Rattle.axiom_checker.proofs.arrivals.first_stray.Given as goal
 

@@ -1,8 +1,8 @@
 use Rattle.std.proofs.Common.{◌≤◌, length, ap, sym, ◌∙◌, refl, subst}
 use Rattle.tso_model.specs.ProgramEntries.{made}
-use Rattle.axiom_checker.specs.Programs.{made_reading, reads_of_all}
-use Rattle.axiom_checker.specs.Slots.{IsIndex}
-use Rattle.axiom_checker.specs.Passing.{IsMatched}
+use Rattle.axiom_checker.specs.inner.Programs.{made_reading, reads_of_all}
+use Rattle.axiom_checker.specs.inner.Slots.{IsIndex}
+use Rattle.axiom_checker.specs.inner.Passing.{IsMatched}
 use Rattle.axiom_checker.proofs.Judging.{alike-of, names-first-stray, names-first-missing, all-matched, all-read, made-index}
 use Rattle.axiom_checker.proofs.check.breach_by_shape.Goals as goal
 

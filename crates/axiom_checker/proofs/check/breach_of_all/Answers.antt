@@ -1,5 +1,5 @@
 use Rattle.std.proofs.Common.{◌*◌, ◌++◌, length, slice_get, ap, sym, ◌∙◌, subst, arith}
-use Rattle.axiom_checker.specs.Slots.{Ascends, slots_of_a_core}
+use Rattle.axiom_checker.specs.inner.Slots.{Ascends, slots_of_a_core}
 use Rattle.axiom_checker.proofs.Ascending.{made-ascends}
 use Rattle.axiom_checker.proofs.Sooner.{made-fits}
 use Rattle.axiom_checker.proofs.Known.{writes-known}

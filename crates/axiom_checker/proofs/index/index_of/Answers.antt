@@ -1,7 +1,7 @@
 use Rattle.std.proofs.Common.{◌*◌, Some, ◌∙◌, arith}
 use Rattle.std.proofs.lemmas.List.{length-set}
 use Rattle.std.proofs.lemmas.Grind.{common_steps}
-use Rattle.axiom_checker.specs.Slots.{slots_of_a_core}
+use Rattle.axiom_checker.specs.inner.Slots.{slots_of_a_core}
 use Rattle.axiom_checker.proofs.Coming.{slot-bound, index-step, index-only}
 use Rattle.axiom_checker.proofs.index.index_of.Goals as goal
 

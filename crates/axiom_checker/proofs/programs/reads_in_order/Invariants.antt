@@ -1,5 +1,5 @@
 use Rattle.std.proofs.Common.{◌≡◌, ◌++◌, drop}
-use Rattle.axiom_checker.specs.Programs.{reads_that_came}
+use Rattle.axiom_checker.specs.inner.Programs.{reads_that_came}
 use Rattle.axiom_checker.proofs.programs.reads_in_order.Given as goal
 
 abbrev pub invariant-loop-i : goal.invariant-loop-i

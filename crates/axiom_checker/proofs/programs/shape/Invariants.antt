@@ -1,5 +1,5 @@
 use Rattle.std.proofs.Common.{◌≡◌, ◌++◌, drop}
-use Rattle.axiom_checker.specs.Programs.{shape_from}
+use Rattle.axiom_checker.specs.inner.Programs.{shape_from}
 use Rattle.axiom_checker.proofs.programs.shape.Given as goal
 
 -- the entries so far and those of the cores that are left make all of them

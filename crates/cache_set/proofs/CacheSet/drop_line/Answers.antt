@@ -1,5 +1,5 @@
 use Rattle.std.proofs.Common.{refl}
-use Rattle.cache_set.specs.Contents.{IsCacheSet}
+use Rattle.cache_set.specs.inner.Contents.{IsCacheSet}
 use Rattle.cache_set.proofs.SetLemmas.{IsCacheSet-without, copy_of-without}
 use Rattle.cache_set.proofs.CacheSet.drop_line.Goals as goal
 

@@ -1,7 +1,8 @@
 use Rattle.std.proofs.Common.{rules, ◌≡◌, None, nat_eq, option_map, ◌∙◌, ap}
 use Rattle.std.specs.Map.{lookup}
-use Rattle.cache_set.specs.Contents.{IsCacheSet, as_victim}
-use Rattle.cache_set.specs.Copy.{copy_with}
+use Rattle.cache_set.specs.Contents.{as_victim}
+use Rattle.cache_set.specs.inner.Contents.{IsCacheSet}
+use Rattle.cache_set.specs.inner.Copy.{copy_with}
 use Rattle.cache_set.proofs.SetLemmas.{put_entries-with_new, IsCacheSet-with_new, copy_of-with_new, victim_of-was_here}
 use Rattle.cache_set.proofs.CacheSet.fill.Goals as goal
 

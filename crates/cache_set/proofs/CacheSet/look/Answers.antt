@@ -1,7 +1,8 @@
 use Rattle.std.proofs.Common.{◌≡◌, ap, sym, ◌∙◌, nat_eq, List, ℕ}
 use Rattle.std.specs.Map.{lookup}
 use Rattle.cache_set.specs.declared.Line.{Line}
-use Rattle.cache_set.specs.Contents.{Contents, IsCacheSet}
+use Rattle.cache_set.specs.Contents.{Contents}
+use Rattle.cache_set.specs.inner.Contents.{IsCacheSet}
 use Rattle.cache_set.proofs.Entries.{lookup-first, lookup-later}
 use Rattle.cache_set.proofs.SetLemmas.{copy_of-valid}
 use Rattle.cache_set.proofs.CacheSet.look.Goals as goal

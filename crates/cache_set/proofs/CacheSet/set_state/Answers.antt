@@ -1,6 +1,6 @@
 use Rattle.std.proofs.Common.{◌≡◌, Some, nat_eq, sym}
 use Rattle.std.specs.Map.{lookup}
-use Rattle.cache_set.specs.Copy.{with_state}
+use Rattle.cache_set.specs.inner.Copy.{with_state}
 use Rattle.cache_set.proofs.SetLemmas.{contents-set_value, IsCacheSet-with_changed, copy_of-with_changed}
 use Rattle.cache_set.proofs.CacheSet.set_state.Goals as goal
 

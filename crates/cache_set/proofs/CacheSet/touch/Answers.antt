@@ -1,4 +1,4 @@
-use Rattle.cache_set.specs.Contents.{IsCacheSet}
+use Rattle.cache_set.specs.inner.Contents.{IsCacheSet}
 use Rattle.cache_set.proofs.SetLemmas.{contents-promoted, IsCacheSet-to_front, copy_of-to_front}
 use Rattle.cache_set.proofs.CacheSet.touch.Goals as goal
 

@@ -1,6 +1,6 @@
 use Rattle.std.proofs.Common.{◌≡◌, Some, nat_eq, sym}
 use Rattle.std.specs.Map.{lookup}
-use Rattle.cache_set.specs.Copy.{with_word}
+use Rattle.cache_set.specs.inner.Copy.{with_word}
 use Rattle.cache_set.proofs.SetLemmas.{contents-set_value, IsCacheSet-with_changed, copy_of-with_changed}
 use Rattle.cache_set.proofs.CacheSet.write_word.Goals as goal
 

@@ -1,5 +1,5 @@
 use Rattle.std.proofs.Common.{◌≡◌, ◌≤◌, length}
-use Rattle.litmus_reader.specs.Information.{quotation_end}
+use Rattle.litmus_reader.specs.inner.Information.{quotation_end}
 use Rattle.litmus_reader.proofs.information.after_quotation.Given as goal
 
 abbrev pub invariant-loop-first : goal.invariant-loop-first

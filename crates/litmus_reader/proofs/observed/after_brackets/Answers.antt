@@ -1,7 +1,7 @@
 use Rattle.std.proofs.Common.{ap, ◌∙◌, ℕ}
 use Rattle.std.proofs.lemmas.Result.{err_from_is_err_and}
-use Rattle.litmus_tokens.specs.Pieces.{pieces}
-use Rattle.litmus_reader.specs.Remaining.{past_stop}
+use Rattle.litmus_tokens.specs.inner.Pieces.{pieces}
+use Rattle.litmus_reader.specs.inner.Remaining.{past_stop}
 use Rattle.litmus_reader.proofs.Remaining.{opening_fails, brackets_closed, brackets_fail, brackets_found}
 use Rattle.litmus_reader.proofs.observed.after_brackets.Goals as goal
 

@@ -1,4 +1,4 @@
-use Rattle.litmus_tokens.specs.Pieces.{pieces}
+use Rattle.litmus_tokens.specs.inner.Pieces.{pieces}
 use Rattle.litmus_reader.proofs.Remaining.{tokens_after_word}
 use Rattle.litmus_reader.proofs.observed.after_observed.Goals as goal
 

@@ -1,5 +1,5 @@
 use Rattle.std.proofs.Common.{length}
-use Rattle.litmus_reader.specs.Observed.{square_end}
+use Rattle.litmus_reader.specs.inner.Observed.{square_end}
 use Rattle.litmus_reader.proofs.Squares.{SquareAfter}
 use Rattle.litmus_reader.proofs.observed.after_square.Given as goal
 

@@ -1,7 +1,7 @@
 use Rattle.std.proofs.Common.{◌≡◌, ap, sym, ◌∙◌, [], List, ℕ}
-use Rattle.litmus_tokens.specs.Pieces.{pieces}
-use Rattle.litmus_reader.specs.Locations.{texts}
-use Rattle.litmus_reader.specs.Initial.{initial_at}
+use Rattle.litmus_tokens.specs.inner.Pieces.{pieces}
+use Rattle.litmus_reader.specs.inner.Locations.{texts}
+use Rattle.litmus_reader.specs.inner.Initial.{initial_at}
 use Rattle.litmus_reader.proofs.Within.{names_are_text}
 use Rattle.litmus_reader.proofs.Remaining.{tokens_after_rows}
 use Rattle.litmus_reader.proofs.reader.body_of.Goals as goal

@@ -2,6 +2,6 @@ use Rattle.litmus_reader.proofs.Within.{spelled_is_test}
 use Rattle.litmus_reader.proofs.SpelledWords.{spelled_has_words}
 use Rattle.litmus_reader.proofs.reader.read_whole.Goals as goal
 
-pub unwrap-test-requires : goal.unwrap-test-requires
-unwrap-test-requires c =
-    c.new.ensures.valid.1 (spelled_is_test c.args.text.now _ c.in-Ok.ensures (spelled_has_words c.args.text.now _ (c.texts_are_read_as_they_are_spelled.ensures.takes c.args.text.now _ c.in-Ok.ensures)))
+pub unwrap-requires : goal.unwrap-requires
+unwrap-requires c =
+    c.new.ensures.valid.1 (spelled_is_test c.args.text.now _ c.in_ok-parts.ensures (spelled_has_words c.args.text.now _ (c.texts_are_read_as_they_are_spelled.ensures.takes c.args.text.now _ c.in_ok-parts.ensures)))

@@ -1,5 +1,5 @@
 use Rattle.std.proofs.Common.{◌≡◌, ◌≤◌, length}
-use Rattle.litmus_tokens.specs.Gap.{comment_end}
+use Rattle.litmus_tokens.specs.inner.Gap.{comment_end}
 use Rattle.litmus_tokens.proofs.gap.after_comment.Given as goal
 
 abbrev pub invariant-loop-rest : goal.invariant-loop-rest

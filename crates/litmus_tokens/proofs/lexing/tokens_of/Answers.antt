@@ -1,6 +1,7 @@
 use Rattle.std.proofs.Common.{◌≡◌, ◌++◌, ◌∷◌, [], map}
 use Rattle.std.proofs.lemmas.List.{map_push}
-use Rattle.litmus_tokens.specs.Pieces.{piece_of, pieces_of}
+use Rattle.litmus_tokens.specs.Pieces.{pieces_of}
+use Rattle.litmus_tokens.specs.inner.Pieces.{piece_of}
 use Rattle.litmus_tokens.proofs.Pieces.{goes_on_start, goes_on_step, goes_on_to_stop}
 use Rattle.litmus_tokens.proofs.lexing.tokens_of.Goals as goal
 

@@ -1,5 +1,6 @@
 use Rattle.std.proofs.Common.{length, map}
-use Rattle.litmus_tokens.specs.Pieces.{piece_of, pieces_of}
+use Rattle.litmus_tokens.specs.Pieces.{pieces_of}
+use Rattle.litmus_tokens.specs.inner.Pieces.{piece_of}
 use Rattle.litmus_tokens.proofs.Pieces.{goes_on}
 use Rattle.litmus_tokens.proofs.lexing.tokens_of.Given as goal
 

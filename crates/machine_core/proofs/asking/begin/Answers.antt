@@ -2,8 +2,9 @@ use Rattle.std.proofs.Common.{◌∙◌, refl, sym, ap, subst, IfOk, false, true
 use Rattle.tso_model.specs.FlatMachine.{chosen, core_of, stalled}
 use Rattle.tso_model.specs.declared.choice.Stall.TheVariants as stall
 use Rattle.machine_core.specs.Cores.{state_of}
-use Rattle.machine_core.specs.Kept.{state_in, holder_in, access_in}
-use Rattle.machine_core.specs.Acted.{SucceedsUnlessCommitting}
+use Rattle.machine_core.specs.Kept.{state_in, holder_in}
+use Rattle.machine_core.specs.inner.Kept.{access_in}
+use Rattle.machine_core.specs.inner.Acted.{SucceedsUnlessCommitting}
 use Rattle.machine_core.specs.Made.{HasMade}
 use Rattle.machine_core.proofs.Splitting.{needs-is, may-act, begins-acts, begins-asks, asks-held, asks-between, held-next, held-ask, fits-ask, fits-by, performs-stall, use-rests, performs-ask, use-ask}
 use Rattle.machine_core.proofs.asking.begin.Goals as goal

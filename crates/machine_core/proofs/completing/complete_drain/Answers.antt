@@ -4,7 +4,7 @@ use Rattle.tso_model.specs.declared.choice.Choice.TheVariants.{Drain}
 use Rattle.tso_model.specs.declared.choice.Outcome.TheVariants.{Committed}
 use Rattle.snoop_bus.specs.Bus.{words_of}
 use Rattle.machine_core.specs.declared.cache_use.CacheUse.TheVariants.{Unused, Through}
-use Rattle.machine_core.specs.Cores.{drain_by}
+use Rattle.machine_core.specs.inner.Cores.{drain_by}
 use Rattle.machine_core.specs.Caches.{caches_of, at_access, not_through, completion_by, is_awaited}
 use Rattle.machine_core.specs.Kept.{held_for}
 use Rattle.machine_core.specs.Performed.{HasUsed}

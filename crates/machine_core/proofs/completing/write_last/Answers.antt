@@ -3,9 +3,10 @@ use Rattle.tso_model.specs.SplitMachine.{Free, acts}
 use Rattle.tso_model.specs.declared.choice.Choice.TheVariants.{Step}
 use Rattle.tso_model.specs.declared.choice.Outcome.TheVariants.{Committed}
 use Rattle.machine_core.specs.declared.cache_use.CacheUse.TheVariants.{Unused}
-use Rattle.machine_core.specs.Cores.{core_state, pending_in}
+use Rattle.machine_core.specs.Cores.{core_state}
+use Rattle.machine_core.specs.inner.Cores.{pending_in}
 use Rattle.machine_core.specs.Performed.{HasUsed}
-use Rattle.machine_core.specs.Split.{writes_last_in}
+use Rattle.machine_core.specs.inner.Split.{writes_last_in}
 use Rattle.machine_core.proofs.Performing.{Performs-by, within-cores}
 use Rattle.machine_core.proofs.StepCompletions.{next-some, place-within, IsNext, is-next, access-next}
 use Rattle.machine_core.proofs.LastWrites.{has-read, locks-some, is-lock, last_part, writes-last, use-last, rests-last}

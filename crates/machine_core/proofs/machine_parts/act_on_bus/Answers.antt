@@ -1,7 +1,7 @@
 use Rattle.std.proofs.Common.{◌∙◌, sym, subst, IfOk}
 use Rattle.machine_core.specs.Kept.{state_in}
-use Rattle.machine_core.specs.Performed.{attempt_in}
-use Rattle.machine_core.specs.Acted.{SucceedsUnlessCommitting}
+use Rattle.machine_core.specs.inner.Performed.{attempt_in}
+use Rattle.machine_core.specs.inner.Acted.{SucceedsUnlessCommitting}
 use Rattle.machine_core.specs.Made.{AreConsistent, HasMade}
 use Rattle.machine_core.proofs.EitherBus.{is-free, may-act-free, effect-atomic, effect-split, fits-free, held-free}
 use Rattle.machine_core.proofs.machine_parts.act_on_bus.Goals as goal

@@ -1,9 +1,9 @@
 use Rattle.std.proofs.Common.{sym, refl, subst}
 use Rattle.tso_model.specs.declared.choice.Choice.TheVariants.{Drain}
 use Rattle.snoop_bus.specs.Bus.{words_of}
-use Rattle.machine_core.specs.Cores.{drain_by}
-use Rattle.machine_core.specs.Performed.{MayAct}
-use Rattle.machine_core.specs.Acted.{SucceedsUnlessCommitting}
+use Rattle.machine_core.specs.inner.Cores.{drain_by}
+use Rattle.machine_core.specs.inner.Performed.{MayAct}
+use Rattle.machine_core.specs.inner.Acted.{SucceedsUnlessCommitting}
 use Rattle.machine_core.proofs.Performing.{access_of-drain, effect_in-drain, IfOk-Makes, within-cores}
 use Rattle.machine_core.proofs.machine_parts.drain.Goals as goal
 

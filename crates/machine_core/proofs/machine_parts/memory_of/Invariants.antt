@@ -1,5 +1,5 @@
 use Rattle.std.proofs.Common.{◌≡◌, take}
-use Rattle.snoop_bus.specs.Accesses.{memory_words_of}
+use Rattle.snoop_bus.specs.inner.Accesses.{memory_words_of}
 use Rattle.machine_core.proofs.machine_parts.memory_of.Given as goal
 
 abbrev pub invariant-loop-location : goal.invariant-loop-location

@@ -5,9 +5,10 @@ use Rattle.tso_model.specs.declared.choice.Stall.TheVariants as stall
 use Rattle.tso_model.specs.declared.choice.Outcome.TheVariants.{Stalled}
 use Rattle.snoop_bus.specs.Bus.{words_of}
 use Rattle.machine_core.specs.declared.cache_use.CacheUse.TheVariants.{Unused}
-use Rattle.machine_core.specs.Performed.{MayAct}
-use Rattle.machine_core.specs.Cores.{core_state, step_by}
-use Rattle.machine_core.specs.Acted.{SucceedsUnlessCommitting}
+use Rattle.machine_core.specs.inner.Performed.{MayAct}
+use Rattle.machine_core.specs.Cores.{core_state}
+use Rattle.machine_core.specs.inner.Cores.{step_by}
+use Rattle.machine_core.specs.inner.Acted.{SucceedsUnlessCommitting}
 use Rattle.machine_core.proofs.ActedLemmas.{acts-stalls}
 use Rattle.machine_core.proofs.Performing.{access_of-step, effect_in-step, effect_in-done, IfOk-Makes, PartsFitTest-next, IsCore-at, within-cores}
 use Rattle.machine_core.proofs.machine_parts.step.Goals as goal

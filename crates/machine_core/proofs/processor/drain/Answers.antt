@@ -2,10 +2,11 @@ use Rattle.std.proofs.Common.{◌≡◌, ◌<◌, ap, sym, length, drop, subst, 
 use Rattle.std.proofs.lemmas.List.Elements.{All-drop}
 use Rattle.snoop_bus.specs.Bus.{words_of}
 use Rattle.tso_model.specs.declared.choice.Stall.TheVariants as stall
-use Rattle.machine_core.specs.Cores.{core_state, drain_by}
+use Rattle.machine_core.specs.Cores.{core_state}
+use Rattle.machine_core.specs.inner.Cores.{drain_by}
 use Rattle.machine_core.proofs.CoreLemmas.{drain_of-nothing}
 use Rattle.machine_core.proofs.ActedLemmas.{acts-stalls, acts-drains}
-use Rattle.machine_core.specs.Performed.{MayAct}
+use Rattle.machine_core.specs.inner.Performed.{MayAct}
 use Rattle.machine_core.proofs.Acting.{writes-oldest}
 use Rattle.machine_core.proofs.Finishing.{All-got}
 use Rattle.machine_core.proofs.processor.drain.Goals as goal

@@ -1,7 +1,8 @@
 use Rattle.std.proofs.Common.{sym}
 use Rattle.tso_model.specs.declared.choice.Stall.TheVariants as stall
 use Rattle.snoop_bus.specs.Bus.{words_of}
-use Rattle.machine_core.specs.Cores.{core_state, fence_by}
+use Rattle.machine_core.specs.Cores.{core_state}
+use Rattle.machine_core.specs.inner.Cores.{fence_by}
 use Rattle.machine_core.proofs.CoreLemmas.{holds_some, fenced-waits}
 use Rattle.machine_core.proofs.ActedLemmas.{acts-stalls}
 use Rattle.machine_core.proofs.processor.fence.Goals as goal

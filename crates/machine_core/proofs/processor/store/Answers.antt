@@ -1,5 +1,5 @@
 use Rattle.snoop_bus.specs.Bus.{words_of}
-use Rattle.machine_core.specs.Cores.{store_by}
+use Rattle.machine_core.specs.inner.Cores.{store_by}
 use Rattle.machine_core.proofs.Storing.{unbuffered, may-store}
 use Rattle.machine_core.proofs.ActedLemmas.{acts-waits}
 use Rattle.machine_core.proofs.processor.store.Goals as goal

@@ -1,5 +1,6 @@
 use Rattle.std.proofs.Common.{◌≡◌, ◌<◌, length, slice_index_or, ap, ◌∙◌, subst, sym, All, arith}
-use Rattle.machine_core.specs.Cores.{core_states, at_start}
+use Rattle.machine_core.specs.Cores.{core_states}
+use Rattle.machine_core.specs.inner.Cores.{at_start}
 use Rattle.machine_core.specs.Kept.{IsCore}
 use Rattle.machine_core.proofs.Overwriting.{written, written-next}
 use Rattle.machine_core.proofs.Beginning.{begun, started-begun, depth-begun}

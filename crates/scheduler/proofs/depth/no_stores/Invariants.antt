@@ -1,5 +1,5 @@
 use Rattle.std.proofs.Common.{[]}
-use Rattle.scheduler.specs.Passed.{HaveCounted}
+use Rattle.scheduler.specs.inner.Passed.{HaveCounted}
 use Rattle.scheduler.proofs.depth.no_stores.Given as goal
 
 abbrev pub invariant-loop-core : goal.invariant-loop-core

@@ -1,11 +1,12 @@
-use Rattle.tso_cli.specs.Answers.{IsInputAnswer}
-use Rattle.tso_cli.specs.Headline.{InputHeadline}
+use Rattle.std.specs.Prelude.{Some}
+use Rattle.tso_cli.specs.Answers.{IsAnswer}
+use Rattle.tso_cli.specs.Headline.{Headline}
 use Rattle.tso_cli.proofs.AnswerLemmas.{answer-means}
 use Rattle.tso_cli.proofs.answer.answer_to.Goals as goal
 
 pub returns-clause-headline : goal.returns-clause-headline
 returns-clause-headline c =
-    let task = c.args.task.now in
+    let s = c.args.settings.now in
     let input = c.args.input.now in
-    answer-means (IsInputAnswer task input) (λ out status. InputHeadline task input out) c.judged_answer.result
-    (λ out status. c.answers_meet_the_headline.ensures.tasks task input out status c.know_limits.ensures) c.judged_answer.ensures
+    answer-means (IsAnswer s (Some input)) (λ out status. Headline s (Some input) out) c.exact_answer.result
+    (λ out status. c.answers_meet_the_headline.ensures s (Some input) out status c.know_limits.ensures) c.exact_answer.ensures

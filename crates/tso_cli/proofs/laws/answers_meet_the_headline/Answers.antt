@@ -1,6 +1,7 @@
-use Rattle.tso_cli.proofs.HeadlineLemmas.{Runs, input-means, command-means}
+use Rattle.tso_cli.proofs.HeadlineLemmas.{Runs, command-means}
 use Rattle.tso_cli.proofs.SimulationLemmas.{choices-counted}
 use Rattle.tso_cli.proofs.WitnessLemmas.{Reaching}
+use Rattle.tso_cli.proofs.OutcomesLemmas.{Searches}
 use Rattle.tso_cli.proofs.laws.answers_meet_the_headline.Goals as goal
 
 pub returns : goal.returns
@@ -20,7 +21,8 @@ returns c =
       counted = λ t depth choices. choices-counted t depth choices c.runs_are_counted.ensures.buffered c.runs_are_counted.ensures.unbuffered;
       spelled = c.printed_choices_are_spelled.ensures;
     } in
-    record {
-      tasks = λ task input out status. input-means task input out status texts runs reaching;
-      commands = λ s known out status. command-means s known out status texts runs reaching;
-    }
+    let searches : Searches = record {
+      ends = c.ends_are_what_tso_allows.ensures;
+      counted = c.choices_to_an_end_are_counted.ensures;
+    } in
+    λ s known out status. command-means s known out status texts runs reaching searches

@@ -1,10 +1,11 @@
-use Rattle.tso_cli.proofs.OneAnswer.{one_input_answer, one_answer}
+use Rattle.tso_cli.proofs.OneAnswer.{one_answer}
+use Rattle.tso_cli.proofs.Revisited.{same-states-shown}
 use Rattle.tso_cli.proofs.laws.inputs_have_one_answer.Goals as goal
 
 pub returns : goal.returns
 returns c =
     let texts = c.texts_are_read_one_way.ensures in
     record {
-      tasks = λ task input out other status again. one_input_answer task input out other status again texts;
-      commands = λ s input out other status again. one_answer s input out other status again texts;
+      commands = λ s input out other status again one. one_answer s input out other status again texts one;
+      searches = λ search json input out other. same-states-shown search json input out other texts c.outcomes_of_the_same_values_are_alike.ensures;
     }

@@ -1,5 +1,5 @@
 use Rattle.std.proofs.Common.{◌≡◌, ◌+◌, drop}
-use Rattle.tso_cli.specs.Parts as words
+use Rattle.tso_cli.specs.inner.Parts as words
 use Rattle.tso_cli.proofs.parts.line_length.Given as goal
 
 abbrev pub invariant-loop-at : goal.invariant-loop-at

@@ -1,24 +1,24 @@
-use Rattle.std.proofs.Common.{◌≢◌}
+use Rattle.std.proofs.Common.{◌≢◌, ℕ, Ok}
 use Rattle.scheduler.specs.declared.fault.ChoiceFault.TheVariants as faults
 use Rattle.tso_cli.specs.declared.answer.Status.TheVariants.{Refused}
 use Rattle.tso_cli.specs.Answers.{run_text, run_status, IsRunAnswer, refused, ran}
 use Rattle.tso_cli.specs.Lines.{choices_refusal}
 use Rattle.tso_cli.specs.Runs.{run_under, AnswersFit, counts_under}
-use Rattle.tso_cli.proofs.AnswerLemmas.{refusal-is}
+use Rattle.tso_cli.proofs.AnswerLemmas.{answer-is, refusal-is}
 use Rattle.tso_cli.proofs.running.run_answer.Goals as goal
 
-pub returns-in-Ok : goal.returns-in-Ok
-returns-in-Ok c =
+pub returns-in_ok-answer-in-Ok : goal.returns-in_ok-answer-in-Ok
+returns-in_ok-answer-in-Ok c =
     let t = c.args.test.now in
     let kind = c.args.protocol in
     let config = c.args.config in
     let choices = c.in-Ok.choices.items in
     let r = run_under t kind config choices in
-    refusal-is (IsRunAnswer t kind config c.args.json c.args.text.now) (AnswersFit t kind config choices) c.run_under.result
+    let fit : AnswersFit t kind config choices = rw c.deref.ensures.value at c.in_ok-answer-in-Ok.ensures.answers in
+    answer-is {E = ℕ} (IsRunAnswer t kind config c.args.json c.args.text.now) (Ok c.in_ok-answer-in-Ok.answer)
     (run_text t kind config c.args.json (counts_under t kind config choices) r) (run_status r)
-    (rw c.deref.ensures.value at c.run_under.ensures.says)
-    (rw c.deref.ensures.value at c.run_under.ensures.answers)
-    (λ fit. ran choices (rw c.cores.ensures.value at c.in-Ok.ensures.found) fit)
+    (rw c.deref.ensures.value at c.in_ok-answer-in-Ok.ensures.says)
+    (ran choices (rw c.cores.ensures.value at c.in-Ok.ensures.found) fit)
 
 pub returns-in-Err : goal.returns-in-Err
 returns-in-Err c =

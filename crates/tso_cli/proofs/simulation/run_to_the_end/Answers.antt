@@ -31,8 +31,8 @@ returns-clause-ending g c =
     } in
     let ended : c.is_ended.result ≡ true = grind arith in
     let left = c.in_ok-left.left in
-    let truth : c.verdict_of-holds.result ≡ verdict c.args.test.now left.registers.items left.memory.items =
-    c.verdict_of-holds.ensures ∙ ap (λ r. verdict c.args.test.now r c.deref-2.result.now) c.deref.ensures.value ∙ ap (λ w. verdict c.args.test.now left.registers.items w) c.deref-2.ensures.value in
+    let truth : c.verdict_of-holds.result ≡ verdict c.args.test.now left.state.registers.items left.state.memory.items =
+    c.verdict_of-holds.ensures ∙ ap (λ r. verdict c.args.test.now r c.deref-2.result.now) c.deref.ensures.value ∙ ap (λ w. verdict c.args.test.now left.state.registers.items w) c.deref-2.ensures.value in
     ended-is (g.P.Protocol.table c.args.protocol) c.args.config c.args.test.now _ _ (g.C.Choices.coming c.args.choices) _ _ _ laws (c.in_ok-machine.ensures, c.in_ok-progress.ensures.drives)
     (sym c.is_ended.ensures ∙ ended) c.in_ok-left.ensures.order c.in_ok-left.ensures.registers c.in_ok-left.ensures.memory
     truth refl refl (omega (arith, c.left.ensures, c.in_ok-progress.ensures.left))
@@ -61,11 +61,11 @@ returns-clause-fits g c =
     let ended : c.is_ended.result ≡ true = grind arith in
     let is = ended-order table config t _ _ choices _ _ order laws (c.in_ok-machine.ensures, c.in_ok-progress.ensures.drives) (sym c.is_ended.ensures ∙ ended) c.in_ok-left.ensures.order in
     let fit : AnswersFitBy table config t choices = answers-fit table config t _ _ choices _ _ (c.in_ok-machine.ensures, c.in_ok-progress.ensures.drives) in
-    let execution : IsExecution t r = c.ended_runs_of_machines_are_executions.ensures.executions table config t choices c.cores-known.ensures.test fit is.0 in
+    let execution : IsExecution t r = c.ended_runs_of_machines_are_executions.ensures.executions table config t choices c.know_test.ensures fit is.0 in
     let whole : IsWhole t order = subst (IsWhole t) (sym is.1) execution.order.whole in
     let same : c.drive.new.machine.test ≡ t = c.in_ok-progress.ensures.drives.test ∙ ap (λ m. m.test) c.in_ok-machine.ensures in
     record {
-      locations = locations-known t order (λ e stands. c.whole_orders_have_each_entry_once.ensures.fits t order e c.cores-known.ensures.test whole stands);
+      locations = locations-known t order (λ e stands. c.whole_orders_have_each_entry_once.ensures.fits t order e c.know_test.ensures whole stands);
       registers = c.in_ok-left.ensures.cores ∙ ap (λ u. length u.programs) same;
       memory = c.in_ok-left.ensures.locations ∙ ap (λ u. length u.locations) same;
       counts = ap length (counts-are table config t _ _ choices _ _ c.in_ok-left.left.counts.items (c.in_ok-machine.ensures, c.in_ok-progress.ensures.drives) c.in_ok-left.ensures.counts)

@@ -3,7 +3,7 @@ use Rattle.tso_model.specs.Litmus.{Litmus}
 use Rattle.split_laws.specs.BusChoices.{IsPossibleOn}
 use Rattle.machine_core.specs.Running.{Running, table_in, configuration_of}
 use Rattle.tso_report.specs.Tally.{RunCounts, with_state, with_verdict, values_in}
-use Rattle.tso_cli.specs.Runs.{machine_run}
+use Rattle.tso_cli.specs.inner.Runs.{machine_run}
 use Rattle.tso_cli.specs.Simulation.{verdict}
 use Rattle.tso_cli.specs.Sweep.{with_one_run}
 use Rattle.tso_cli.proofs.SimulationLemmas.{RunLaws, unfinished-is}

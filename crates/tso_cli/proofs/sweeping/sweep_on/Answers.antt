@@ -3,7 +3,8 @@ use Rattle.tso_model.specs.Runs.{Run}
 use Rattle.tso_model.specs.declared.choice.Choice.{Choice}
 use Rattle.scheduler.specs.Seeds.{choice_of_word, drawn_words, seeded_choices}
 use Rattle.tso_report.specs.Tally.{RunCounts, Ascend, runs_in}
-use Rattle.tso_cli.specs.Runs.{run_under, machine_run, AnswersFit}
+use Rattle.tso_cli.specs.Runs.{run_under, AnswersFit}
+use Rattle.tso_cli.specs.inner.Runs.{machine_run}
 use Rattle.tso_cli.specs.Sweep.{choices_of, seeded_run, with_one_run, counts_from}
 use Rattle.tso_cli.proofs.StateLemmas.{ascend-none}
 use Rattle.tso_cli.proofs.SweepLemmas.{ended-with, ascend-run, runs-with, fit-more}

@@ -5,7 +5,7 @@ use Rattle.tso_model.specs.Thread.{entry}
 use Rattle.tso_model.specs.ProgramOrder.{IsStorePart}
 use Rattle.tso_model.specs.declared.execution.Entry.{Entry}
 use Rattle.tso_model.specs.declared.execution.Kind.TheVariants.{R, W, LR, LW}
-use Rattle.tso_laws.specs.WorkedRuns.{n6_along}
+use Rattle.tso_laws.specs.inner.WorkedRuns.{n6_along}
 use Rattle.tso_laws.proofs.SoFar.{test-locations}
 use Rattle.tso_laws.proofs.Beginnings.{run-is-execution}
 use Rattle.tso_laws.proofs.worked.worked_orders.Goals as goal

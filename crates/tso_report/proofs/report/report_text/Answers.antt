@@ -8,8 +8,8 @@ pub returns-clause-text : goal.returns-clause-text
 returns-clause-text c =
     let t = c.args.test.now in
     let r = c.args.run.now in
-    seven_pieces (head t c.args.protocol c.args.config) (printed_order t r.execution.order.items) (register_lines 0 r.registers.items)
-    (memory_line t r.memory.items) (condition_line t r.holds) (choices_line r.used r.stalled r.unused) (cache_lines 0 r.counts.items)
+    seven_pieces (head t c.args.protocol c.args.config) (printed_order t r.left.execution.order.items) (register_lines 0 r.left.state.registers.items)
+    (memory_line t r.left.state.memory.items) (condition_line t r.holds) (choices_line r.used r.stalled r.unused) (cache_lines 0 r.left.counts.items)
     (string_bytes c.write_order.new.text) (string_bytes c.write_registers.new.text) (string_bytes c.write_memory.new.text)
     (string_bytes c.write_condition.new.text) (string_bytes c.write_choices.new.text) (string_bytes c.write_caches.new.text)
     (search rules) (search rules) (search rules) c.in_ok-write_condition.ensures c.in_ok-write_choices.ensures (search rules)

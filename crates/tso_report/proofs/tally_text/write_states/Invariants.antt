@@ -1,6 +1,6 @@
 use Rattle.std.proofs.Common.{◌≡◌, ◌++◌, string_bytes}
 use Rattle.tso_report.specs.Tally.{state_lines}
-use Rattle.tso_report.specs.Counted.{states_of}
+use Rattle.tso_report.specs.inner.Counted.{states_of}
 use Rattle.tso_report.proofs.tally_text.write_states.Given as goal
 
 abbrev pub invariant-loop-values : goal.invariant-loop-values

@@ -1,6 +1,6 @@
 use Rattle.std.proofs.Common.{◌≡◌}
 use Rattle.snoop_bus.specs.Bus.{holder_of}
-use Rattle.tso_tests.specs.Small.{IsSmall}
+use Rattle.tso_tests.specs.inner.Small.{IsSmall}
 use Rattle.tso_tests.proofs.taken.make_all.Given as goal
 
 -- the bus is as it was made, and held by whom the last call answered

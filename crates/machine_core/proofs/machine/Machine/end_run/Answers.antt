@@ -2,8 +2,10 @@ use Rattle.std.proofs.Common.{◌≡◌, [], false, IsTrue, IfOk, map, refl, ap,
 use Rattle.tso_model.specs.FlatMachine.{start}
 use Rattle.tso_model.specs.EitherBus.{unheld}
 use Rattle.snoop_bus.specs.Rows.{table_of_rows}
-use Rattle.machine_core.specs.Running.{is_ended, restarted}
-use Rattle.machine_core.specs.Kept.{state_in, statistics_in}
+use Rattle.machine_core.specs.Running.{restarted}
+use Rattle.machine_core.specs.inner.Running.{is_ended}
+use Rattle.machine_core.specs.Kept.{state_in}
+use Rattle.machine_core.specs.inner.Kept.{statistics_in}
 use Rattle.machine_core.specs.Statistics.{no_statistics}
 use Rattle.machine_core.proofs.Beginning.{possible-first}
 use Rattle.machine_core.proofs.CoreLemmas.{registers-core_states}

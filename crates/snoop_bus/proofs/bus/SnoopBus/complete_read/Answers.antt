@@ -1,7 +1,8 @@
 use Rattle.std.proofs.Common.{rules, ◌≡◌, ◌/◌, ℕ, Some, None, length, refl, sym, ap, ◌∙◌}
 use Rattle.std.proofs.lemmas.List.{with_items_is}
 use Rattle.snoop_bus.specs.declared.holding.Stage.TheVariants.{Write, Locked}
-use Rattle.snoop_bus.specs.Held.{counted_in, held_by}
+use Rattle.snoop_bus.specs.Held.{counted_in}
+use Rattle.snoop_bus.specs.inner.Held.{held_by}
 use Rattle.snoop_bus.specs.Bus.{current_words}
 use Rattle.snoop_bus.proofs.WordLemmas.{words-get, words-same}
 use Rattle.snoop_bus.proofs.NewLemmas.{bus-kept}

@@ -1,7 +1,8 @@
 use Rattle.std.proofs.Common.{rules, ◌≡◌, ◌/◌, Some, length}
 use Rattle.std.proofs.lemmas.List.{with_items_is}
 use Rattle.snoop_bus.specs.declared.holding.Stage.TheVariants.{Write}
-use Rattle.snoop_bus.specs.Held.{counted_in, held_by}
+use Rattle.snoop_bus.specs.Held.{counted_in}
+use Rattle.snoop_bus.specs.inner.Held.{held_by}
 use Rattle.snoop_bus.specs.Bus.{current_words}
 use Rattle.snoop_bus.proofs.WordLemmas.{words-set}
 use Rattle.snoop_bus.proofs.NewLemmas.{bus-set}

@@ -4,7 +4,7 @@ use Rattle.snoop_bus.specs.declared.holding.Stage.TheVariants.{Locked}
 use Rattle.snoop_bus.specs.declared.holding.Transaction.{Transaction}
 use Rattle.snoop_bus.specs.Lines.{words_in}
 use Rattle.snoop_bus.specs.Copies.{copy_at}
-use Rattle.snoop_bus.specs.Held.{held_by}
+use Rattle.snoop_bus.specs.inner.Held.{held_by}
 use Rattle.snoop_bus.specs.Bus.{current_words}
 use Rattle.snoop_bus.proofs.WordLemmas.{words-set}
 use Rattle.snoop_bus.proofs.LineLemmas.{length-line}

@@ -1,0 +1,46 @@
+-- How the checker finds the program's entry of an entry of the order.
+use Rattle.std.specs.Prelude.{ℕ, ◌+◌, ◌*◌, ◌≤◌, ◌<◌, ◌≡◌, true, List, [], ◌∷◌, Option, Some, None, slice_get}
+use Rattle.tso_model.specs.Limits.{most_instructions}
+use Rattle.basic_laws.specs.Ranks.{rank}
+use Rattle.tso_model.specs.declared.execution.Entry.{Entry}
+use Rattle.axiom_checker.specs.First.{IsEarliest}
+use Rattle.axiom_checker.specs.Entries.{same_action, same_but_value, IsExtra, IsStray}
+use Rattle.axiom_checker.specs.declared.breach.Breach.{Breach}
+use Rattle.axiom_checker.specs.declared.breach.Breach.TheVariants.{Extra, Twice}
+use Rattle.axiom_checker.specs.inner.Programs.{kept_in}
+
+-- two slots for each place that a program may have
+abbrev pub slots_of_a_core : ℕ
+slots_of_a_core = 2 * most_instructions
+
+abbrev pub slot_of : Entry → ℕ
+slot_of e = e.core.0 * slots_of_a_core + rank e
+
+-- each entry has a later slot than the one before it, all from `low` on and below `high`
+abbrev pub Ascends : ℕ → ℕ → List Entry → Type 0
+Ascends low high [] = low ≤ high
+Ascends low high (e ∷ es) = (low ≤ slot_of e) × Ascends (slot_of e + 1) high es
+
+-- the table tells of each slot where in the list its entry stands
+pub record IsIndex (list : List Entry) (slots : List (Option ℕ)) : Type 0 where
+  pub has : (k : ℕ) (e : Entry) → slice_get list k ≡ Some e → kept_in slots (slot_of e) ≡ Some k
+  pub only : (s k : ℕ) → kept_in slots s ≡ Some k → (e : Entry) × (slice_get list k ≡ Some e)
+
+-- the first `at` entries of the order came, each one of the programs' but for its value, and the table tells with which
+-- value each of the programs' came
+pub record HasCome (shape order : List Entry) (at : ℕ) (came : List (Option ℕ)) : Type 0 where
+  pub has : (k : ℕ) (x : Entry) → k < at → slice_get order k ≡ Some x
+      → (i : ℕ) × (e : Entry) × (slice_get shape i ≡ Some e) × (same_but_value e x ≡ true) × (kept_in came i ≡ Some x.value)
+  pub only : (i value : ℕ) → kept_in came i ≡ Some value
+      → (k : ℕ) × (x e : Entry) × (k < at) × (slice_get order k ≡ Some x) × (slice_get shape i ≡ Some e)
+      × (same_action e x ≡ true) × (x.value ≡ value)
+
+-- an entry of the programs that didn't come
+abbrev pub HasNotCome : List (Option ℕ) → ℕ → Entry → Type 0
+HasNotCome came i e = kept_in came i ≡ None
+
+-- the breach names the earliest entry of the order that is extra or stands twice
+abbrev pub NamesStray : List Entry → List Entry → Breach → Type 0
+NamesStray shape order (Extra x) = IsExtra shape x × IsEarliest order (IsStray shape order) x
+NamesStray shape order (Twice x) = ¬ IsExtra shape x × IsEarliest order (IsStray shape order) x
+NamesStray shape order _ = ⊥

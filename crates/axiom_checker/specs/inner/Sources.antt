@@ -1,0 +1,32 @@
+-- The write of its own program that an entry comes after.
+use Rattle.std.specs.Prelude.{ℕ, ◌≡◌, ◌≤◌, ◌==◌, true, if◌then◌else◌, List, Option, Some, None, slice_get, slice_set}
+use Rattle.tso_model.specs.ProgramOrder.{is_before, is_write, writes_to}
+use Rattle.basic_laws.specs.Ranks.{rank}
+use Rattle.tso_model.specs.declared.execution.Entry.{Entry}
+use Rattle.axiom_checker.specs.inner.Programs.{kept_in}
+
+-- the latest write if it is of this core
+abbrev pub own_write : ℕ → Option Entry → Option Entry
+own_write core None = None
+own_write core (Some w) = if w.core.0 == core then Some w else None
+
+-- the latest writes by location, once this entry was met
+abbrev pub noted_write : List (Option Entry) → Entry → List (Option Entry)
+noted_write latest e = if is_write e then slice_set latest e.loc.0 (Some e) else latest
+
+-- w is the last write to x's location that x's own program has before it
+pub record IsLastOwn (made : List Entry) (x w : Entry) : Type 0 where
+  pub place : ℕ
+  pub stands : slice_get made place ≡ Some w
+  pub before : is_before w x ≡ true
+  pub writes : writes_to x.loc.0 w ≡ true
+  pub last : (k : ℕ) (y : Entry) → slice_get made k ≡ Some y → is_before y x ≡ true → writes_to x.loc.0 y ≡ true → rank y ≤ rank w
+
+-- the last write to x's location that x's own program has before it, if there is one
+abbrev pub IsSource : List Entry → Entry → Option Entry → Type 0
+IsSource made x None = (k : ℕ) (y : Entry) → slice_get made k ≡ Some y → is_before y x ≡ true → ¬ (writes_to x.loc.0 y ≡ true)
+IsSource made x (Some w) = IsLastOwn made x w
+
+-- the table tells of each of the programs' entries its source
+abbrev pub HasSources : List Entry → List (Option Entry) → Type 0
+HasSources made sources = (k : ℕ) (e : Entry) → slice_get made k ≡ Some e → IsSource made e (kept_in sources k)

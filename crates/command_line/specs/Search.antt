@@ -1,0 +1,16 @@
+-- Which final states are searched for, and how many states of the machine may be kept meanwhile.
+use Rattle.std.specs.Prelude.{ℕ, ◌≤◌}
+use Rattle.tso_model.specs.Limits.{most_depth}
+
+-- the depth of the store buffers, and how many states may be kept
+pub record Search : Type 0 where
+  pub depth : ℕ
+  pub states : ℕ
+
+-- states that a search may keep, at most
+abbrev pub most_states : ℕ
+most_states = 10000000
+
+-- the buffers are no deeper than they may be, and there is room for a state, and for no more than there may be
+abbrev pub IsSearchWithinLimits : Search → Type 0
+IsSearchWithinLimits s = (s.depth ≤ most_depth) × (1 ≤ s.states) × (s.states ≤ most_states)

@@ -1,0 +1,11 @@
+-- How the words of a hint are shown.
+use Rattle.std.specs.Prelude.{ℕ, ◌==◌, ◌||◌, if◌then◌else◌}
+use Rattle.tso_model.specs.Names.{is_printable}
+
+-- bytes of its words, at most: six stand before them, and one after
+abbrev pub most_words : ℕ
+most_words = 249
+
+-- a byte as it is shown: white space as a space, and what isn't printable as a question mark
+unfoldable pub shown_byte : ℕ → ℕ
+shown_byte byte = if is_printable byte then byte else (if ((byte == 9) || (byte == 10) || (byte == 13)) then 32 else 63)

@@ -1,0 +1,94 @@
+//! What a hint is made of: what an answer knew.
+
+use crate::orders::names_no_location;
+use crate::unended::{count_instructions, count_plain_stores, has_no_choices};
+use litmus_reader::Fault;
+use order_builder::OrderFault;
+use scheduler::ChoiceFault;
+use tso_model::Test;
+
+/// What a command reads after the dividing line.
+#[derive(Clone, Copy)]
+pub enum Asked {
+    /// Choices.
+    Choices,
+    /// An order.
+    Order,
+    /// Nothing.
+    Nothing,
+}
+
+/// What an answer knew of which a hint can be made: what was at fault in an input, and where it stands
+/// there; or why a run or a search didn't end.
+#[derive(Clone, Copy)]
+pub enum Cause {
+    /// Nothing.
+    Nothing,
+    /// The input has more bytes than this.
+    Size {
+        most: usize,
+    },
+    /// The test, which is so many first bytes of the input, is at fault.
+    Test {
+        asked: Asked,
+        length: usize,
+        fault: Fault,
+    },
+    /// The choices, which are so many last bytes of the input, are at fault; the test has so many
+    /// cores.
+    Choices {
+        length: usize,
+        cores: u8,
+        fault: ChoiceFault,
+    },
+    /// The order, which is so many last bytes of the input, is at fault. Whether that is a line with a
+    /// location that the test hasn't.
+    Order {
+        length: usize,
+        unknown_location: bool,
+        fault: OrderFault,
+    },
+    /// A run didn't end, since there were no choices.
+    NoChoices,
+    /// A run didn't end, since its choices were too few: the test takes so many steps and drains at
+    /// least.
+    TooFewChoices {
+        steps: usize,
+        drains: usize,
+    },
+    /// A run of a sweep didn't end, whose seeds make so many choices.
+    ShortSeeds {
+        length: u32,
+    },
+    /// A search may keep no more than so many states.
+    TooManyStates {
+        most: u32,
+    },
+}
+
+impl Cause {
+    /// That an order of a test is at fault.
+    pub fn of_order(test: &Test, text: &[u8], fault: OrderFault) -> Cause {
+        Cause::Order {
+            length: text.len(),
+            unknown_location: names_no_location(test, text, fault),
+            fault,
+        }
+    }
+
+    /// That the choices of this text end before the test, on a machine with store buffers or without.
+    pub fn of_unended_run(test: &Test, text: &[u8], is_buffered: bool) -> Cause {
+        if has_no_choices(text) {
+            return Cause::NoChoices;
+        }
+        let drains = if is_buffered {
+            count_plain_stores(test)
+        } else {
+            0
+        };
+        Cause::TooFewChoices {
+            steps: count_instructions(test),
+            drains,
+        }
+    }
+}

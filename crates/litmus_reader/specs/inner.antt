@@ -1,0 +1,18 @@
+-- Words of contracts inside the project.
+pub mod Cells
+pub mod Columns
+pub mod Conditions
+pub mod Faults
+pub mod Forms
+pub mod Header
+pub mod Information
+pub mod Initial
+pub mod Items
+pub mod Keywords
+pub mod Locations
+pub mod Observed
+pub mod Operands
+pub mod Reading
+pub mod Remaining
+pub mod Returned
+pub mod Rows

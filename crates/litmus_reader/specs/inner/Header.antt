@@ -1,0 +1,37 @@
+-- The size of a text and its header line.
+use Rattle.std.specs.Prelude.{ℕ, List, length, Option, Some, None, Result, Ok, Err, nat_lt, ◌&&◌, if◌then◌else◌}
+use Rattle.std.specs.List.{list_all}
+use Rattle.tso_model.specs.Limits.{longest_test_name}
+use Rattle.tso_model.specs.Names.{is_test_name, is_printable}
+use Rattle.litmus_tokens.specs.declared.token.Stop.{Stop}
+use Rattle.litmus_tokens.specs.Gap.{gap_end}
+use Rattle.litmus_reader.specs.Limits.{longest_text}
+use Rattle.litmus_reader.specs.declared.fault.Why.TheVariants.{NoHeader, Unclosed, TooLarge}
+use Rattle.litmus_reader.specs.declared.fault.Fault.{Fault}
+use Rattle.litmus_reader.specs.inner.Faults.{◌>>=◌}
+use Rattle.litmus_reader.specs.Places.{fault, at_stop}
+use Rattle.litmus_reader.specs.GrammarText.{first_line, name_in}
+
+-- the text, if it isn't too large; else the fault has line 1
+abbrev pub sized : List ℕ → Result (List ℕ) Fault
+sized text = if nat_lt longest_text (length text) then Err (fault TooLarge (length text)) else Ok text
+
+-- a comment that doesn't end is a fault; a gap has no other
+abbrev pub from_gap : Result (List ℕ) Stop → Result (List ℕ) Fault
+from_gap (Ok bytes) = Ok bytes
+from_gap (Err stop) = Err (at_stop (fault Unclosed 0) stop)
+
+-- the name of a header line at this place, judged: a name that is too long is too large if its bytes are good
+unfoldable pub judged : ℕ → Option (List ℕ) → Result (List ℕ) Fault
+judged left None = Err (fault NoHeader left)
+judged left (Some name) =
+    if is_test_name name then Ok name
+    else if nat_lt longest_test_name (length name) && list_all is_printable name then Err (fault TooLarge left)
+    else Err (fault NoHeader left)
+
+-- the name of the test, and what stands after the header line
+unfoldable pub header_at : List ℕ → Result (List ℕ × List ℕ) Fault
+header_at text = do
+  at ← from_gap (gap_end None text)
+  name ← judged (length at) (name_in (first_line at).0)
+  Ok (name, (first_line at).1)

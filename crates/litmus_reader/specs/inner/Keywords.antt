@@ -1,0 +1,13 @@
+-- Words of the grammar.
+use Rattle.std.specs.Prelude.{ℕ, List, Option, Some, None, if◌then◌else◌}
+use Rattle.std.specs.Str.{bytes_eq}
+use Rattle.litmus_tokens.specs.Pieces.{Piece}
+use Rattle.litmus_tokens.specs.inner.Front.{name_at}
+use Rattle.litmus_reader.specs.inner.Faults.{there}
+
+abbrev pub if_word : List ℕ → List ℕ × List Piece → Option (List Piece)
+if_word word found = if bytes_eq found.0 word then Some found.1 else None
+
+-- what stands after this word, if it is at the front
+unfoldable pub word_after : List ℕ → List Piece → Option (List Piece)
+word_after word ps = there (name_at ps) (if_word word) None

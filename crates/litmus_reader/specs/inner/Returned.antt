@@ -1,0 +1,96 @@
+-- What the functions that read return: what a reading gives, unless memory ran out.
+use Rattle.std.specs.Prelude.{◌≡◌, ◌≢◌, ℕ, List, map, Option, Result, IfOk}
+use Rattle.std.specs.Option.{option_map}
+use denote.Ref.{Bor}
+use Rattle.tso_model.specs.Condition.{Condition}
+use Rattle.tso_model.specs.inner.Condition.{claim_of, condition_of}
+use Rattle.tso_model.specs.declared.condition.Cond.{Cond}
+use Rattle.tso_model.specs.declared.condition.Prop.{Prop}
+use Rattle.tso_model.specs.declared.out_of_memory.NoMemory.{NoMemory}
+use Rattle.tso_model.specs.declared.litmus.TestParts.{TestParts}
+use Rattle.tso_model.specs.Litmus.{Litmus}
+use Rattle.tso_model.specs.inner.LitmusParts.{litmus_of}
+use Rattle.litmus_tokens.specs.declared.token.Token.{Token}
+use Rattle.litmus_tokens.specs.Pieces.{Piece}
+use Rattle.litmus_tokens.specs.inner.Pieces.{pieces}
+use Rattle.litmus_reader.specs.declared.cell.CoreInstr.{CoreInstr}
+use Rattle.litmus_reader.specs.declared.fault.Fault.{Fault}
+use Rattle.litmus_reader.specs.declared.fault.ReadError.{ReadError}
+use Rattle.litmus_reader.specs.declared.fault.TextFault.{TextFault}
+use Rattle.litmus_reader.specs.inner.Conditions.{claimed, Proposition, Conditioned, conditioned}
+use Rattle.litmus_reader.specs.inner.Faults.{Gives}
+use Rattle.litmus_reader.specs.inner.Initial.{Initial, initial, given_of, judged}
+use Rattle.litmus_reader.specs.inner.Locations.{texts}
+use Rattle.litmus_reader.specs.inner.Rows.{Table, table, rows}
+use Rattle.litmus_reader.specs.Written.{Setting}
+use Rattle.litmus_reader.specs.declared.fault.Why.TheVariants as why
+use Rattle.litmus_reader.specs.declared.initial.Initial as state
+use Rattle.litmus_reader.specs.declared.row.Table as code
+
+-- what is found, and the names of locations with it
+abbrev pub GivesNamed : {X Y : Type 0} → (X → Y) → Result X ReadError → List (Bor (List ℕ)) → Result (Y × List (List ℕ)) Fault → Type 0
+GivesNamed view result names read = Gives (λ x. (view x, texts names)) result read
+
+-- a condition, if there is one
+abbrev pub asked_of : Option Cond → Option Condition
+asked_of cond = option_map condition_of cond
+
+-- a reading of cells, after these instructions and names of locations
+abbrev pub ReadsCells : Type 0
+ReadsCells = List CoreInstr → List (List ℕ) → List Piece → Result (List CoreInstr × List (List ℕ)) Fault
+
+-- The reading of these tokens, after some instructions and names of locations, gives those at the end.
+abbrev pub GivesCells : {X : Type 0} → ReadsCells → List CoreInstr → List (Bor (List ℕ)) → List Token → Result X ReadError
+    → List CoreInstr → List (Bor (List ℕ)) → Type 0
+GivesCells reading old names tokens result new names_new =
+    Gives (λ _. (new, texts names_new)) result (reading old (texts names) (pieces tokens))
+
+-- The reading of these tokens, after so many atoms and these names of locations, gives a claim, how many atoms there are at
+-- the end, the names, and what stands after the claim.
+abbrev pub GivesClaim : Proposition → ℕ → List (Bor (List ℕ)) → List Token → Result (Prop × Bor (List Token)) ReadError
+    → ℕ → List (Bor (List ℕ)) → Type 0
+GivesClaim reading atoms names tokens result atoms_new names_new =
+    Gives (λ x. claimed (claim_of x.0) atoms_new (texts names_new) (pieces x.1.now)) result (reading atoms (texts names) (pieces tokens))
+
+-- a condition, if there is one, the names of locations, and what stands after it
+abbrev pub GivesCondition : Result (Option Cond × Bor (List Token)) ReadError → List (Bor (List ℕ)) → Result Conditioned Fault → Type 0
+GivesCondition result names read = Gives (λ x. conditioned (asked_of x.0) (texts names) (pieces x.1.now)) result read
+
+-- the condition that ends a text, if there is one, and the names of locations
+abbrev pub GivesEnding : Result (Option Cond) ReadError → List (Bor (List ℕ)) → Result (Option Condition × List (List ℕ)) Fault → Type 0
+GivesEnding result names read = GivesNamed (λ c. asked_of c) result names read
+
+-- the initial state as far as it has been read
+abbrev pub so_far : List (Bor (List ℕ)) → state.Initial → Initial
+so_far names i = initial (texts names) i.words.items (map given_of i.registers.items)
+
+-- An item at `left`, judged after what has been read, gives what has been read with it.
+abbrev pub GivesJudged : {X : Type 0} → ℕ → Setting → List (Bor (List ℕ)) → state.Initial → Result X ReadError
+    → List (Bor (List ℕ)) → state.Initial → Type 0
+GivesJudged left s names old result names_new new = Gives (λ _. so_far names_new new) result (judged left (so_far names old) s)
+
+-- the initial state with one item more, and what stands after that item
+abbrev pub GivesItem : Result (Bor (List Token)) ReadError → List (Bor (List ℕ)) → state.Initial
+    → Result (Initial × List Piece) Fault → Type 0
+GivesItem result names i read = Gives (λ rest. (so_far names i, pieces rest.now)) result read
+
+-- the whole initial state, and what stands after it
+abbrev pub GivesInitial : Result (state.Initial × Bor (List Token)) ReadError → List (Bor (List ℕ))
+    → Result (Initial × List Piece) Fault → Type 0
+GivesInitial result names read = Gives (λ x. (so_far names x.0, pieces x.1.now)) result read
+
+-- The reading of these tokens, after these names of locations, gives the header row and all rows, the names, and what stands
+-- after the rows.
+abbrev pub GivesTable : (List (List ℕ) → List Piece → Result Table Fault) → List (Bor (List ℕ)) → List Token
+    → Result (code.Table × Bor (List Token)) ReadError → List (Bor (List ℕ)) → Type 0
+GivesTable reading names tokens result names_new =
+    Gives (λ x. table x.0.cores x.0.registers.items (rows x.0.instrs.items (texts names_new) (pieces x.1.now))) result
+    (reading (texts names) (pieces tokens))
+
+-- the parts of this test
+abbrev pub AreParts : Result TestParts NoMemory → Litmus → Type 0
+AreParts result t = IfOk result (λ parts. litmus_of parts ≡ t)
+
+-- this refusal, unless memory ran out
+abbrev pub IsUnlessMemory : TextFault → TextFault → Type 0
+IsUnlessMemory fault refusal = refusal.why ≢ why.NoMemory → refusal ≡ fault

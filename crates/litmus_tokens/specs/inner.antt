@@ -1,0 +1,7 @@
+-- Words of contracts inside the project.
+pub mod Front
+pub mod Gap
+pub mod Mapped
+pub mod Pieces
+pub mod SymbolSteps
+pub mod Terms

@@ -1,0 +1,11 @@
+-- What the caches hold between the two parts of a locked instruction.
+use Rattle.std.specs.Prelude.{ℕ, ◌/◌, ◌≡◌, ◌≢◌, Some, None}
+use Rattle.tso_model.specs.declared.execution.Entry.{Entry}
+use Rattle.protocol_tables.specs.declared.state.State.TheVariants.{M}
+use Rattle.snoop_bus.specs.Asks.{tag_at}
+use Rattle.machine_core.specs.Caches.{Caches}
+
+-- between the two parts of a locked instruction, whose load part this is: its core has the line in M, and no other core has it
+pub record HasLineAlone (c : Caches) (e : Entry) : Type 0 where
+  pub own : tag_at e.core.0 (e.loc.0 / c.shape.words) c.contents ≡ Some M
+  pub others : (core : ℕ) → core ≢ e.core.0 → tag_at core (e.loc.0 / c.shape.words) c.contents ≡ None

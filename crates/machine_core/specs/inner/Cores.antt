@@ -1,0 +1,79 @@
+-- A core of the code as the flat machine has it, and what each of its calls does.
+use Rattle.std.specs.Prelude.{ℕ, ◌+◌, List, [], ◌∷◌, map, filter, slice_index}
+use Rattle.tso_model.specs.Actions.{action_of}
+use Rattle.tso_model.specs.Access.{Access, access_by}
+use Rattle.tso_model.specs.ProgramOrder.{writes_to}
+use Rattle.tso_model.specs.Axioms.{last_value}
+use Rattle.tso_model.specs.Thread.{entry}
+use Rattle.tso_model.specs.FlatMachine.{Effect, stored, fenced, effect_by, drain_of}
+use Rattle.tso_model.specs.declared.instruction.Loc.{Loc}
+use Rattle.tso_model.specs.declared.instruction.Instr.{Instr}
+use Rattle.tso_model.specs.declared.register.Reg.{Reg}
+use Rattle.tso_model.specs.declared.action.Update.{Update}
+use Rattle.tso_model.specs.declared.action.Action.{Action}
+use Rattle.tso_model.specs.declared.action.Action.TheVariants.{Load, Lock}
+use Rattle.tso_model.specs.declared.execution.Entry.{Entry}
+use Rattle.tso_model.specs.declared.execution.Kind.TheVariants.{W, LR, LW}
+use Rattle.store_buffer.specs.Stores.{Stores}
+use Rattle.store_buffer.specs.inner.Stores.{stores}
+use Rattle.snoop_bus.specs.Bus.{Bus, words_of}
+use Rattle.machine_core.specs.declared.processor.Processor.{Processor}
+use Rattle.machine_core.specs.Cores.{core_state, store_of}
+
+-- the entries of a core's buffered stores, and its pending stores
+abbrev pub entries_in : ℕ → Stores → List Entry
+entries_in core s = map (store_of core) s.items
+
+abbrev pub pending_in : ℕ → Processor → List Entry
+pending_in core p = entries_in core p.stores
+
+-- what the core of this number does with this memory: an action, at the depth of its own buffer
+abbrev pub action_by : Action → ℕ → Processor → List ℕ → Effect
+action_by action core p memory = effect_by p.stores.depth memory core action (core_state core p)
+
+-- a step at this instruction
+abbrev pub step_by : Instr → ℕ → Processor → List ℕ → Effect
+step_by instr = action_by (action_of instr)
+
+-- a load, and a locked instruction
+abbrev pub load_by : Reg → Loc → ℕ → Processor → List ℕ → Effect
+load_by reg loc = action_by (Load reg loc)
+
+abbrev pub lock_by : Loc → Reg → Update → ℕ → Processor → List ℕ → Effect
+lock_by loc reg update = action_by (Lock loc reg update)
+
+-- a plain store of this value
+abbrev pub store_by : Loc → ℕ → ℕ → Processor → List ℕ → Effect
+store_by loc value core p memory = stored p.stores.depth (core_state core p) (entry core p.place W loc value)
+
+-- a fence
+abbrev pub fence_by : ℕ → Processor → List ℕ → Effect
+fence_by core p memory = fenced core (core_state core p)
+
+-- a drain
+abbrev pub drain_by : ℕ → Processor → List ℕ → Effect
+drain_by core p memory = drain_of (core_state core p)
+
+-- the access that an action of the core makes
+abbrev pub own_access : Action → ℕ → Processor → Access
+own_access action core p = access_by p.stores.depth action (pending_in core p)
+
+-- what a core with these buffered stores sees at a location of this memory
+abbrev pub seen_by : ℕ → Stores → List ℕ → Loc → ℕ
+seen_by core s memory loc = last_value (filter (writes_to loc.0) (entries_in core s)) (slice_index memory loc.0)
+
+-- the word at a location of the bus
+abbrev pub word_at : Bus → Loc → ℕ
+word_at b loc = slice_index (words_of b) loc.0
+
+-- both parts of a locked instruction that read this word and wrote this value
+abbrev pub both_parts : ℕ → ℕ → Loc → ℕ → ℕ → List Entry
+both_parts core place loc word value = entry core place LR loc word ∷ (entry core place LW loc value ∷ [])
+
+-- the core at its next instruction, with these registers
+abbrev pub at_next : Processor → List ℕ → Processor
+at_next p registers = record { place = p.place + 1; registers = registers; stores = p.stores }
+
+-- the core before its first instruction, with these registers, and nothing pending in its buffer
+abbrev pub at_start : List ℕ → Processor → Processor
+at_start registers p = record { place = 0; registers = registers; stores = stores [] p.stores.depth }

@@ -1,0 +1,54 @@
+-- A choice made on the parts of a machine: what it needs of them, and what it leaves of a locked instruction.
+use Rattle.std.specs.Prelude.{◌≡◌, ◌≢◌, ℕ, [], true, Some}
+use Rattle.tso_model.specs.Litmus.{Litmus}
+use Rattle.tso_model.specs.FlatMachine.{start}
+use Rattle.tso_model.specs.Access.{Access, Writes}
+use Rattle.tso_model.specs.SplitMachine.{HeldBetween, BusEffect, acts}
+use Rattle.tso_model.specs.EitherBus.{unheld, HitFits}
+use Rattle.tso_model.specs.declared.instruction.Loc.{Loc}
+use Rattle.tso_model.specs.declared.execution.Entry.{Entry}
+use Rattle.tso_model.specs.declared.choice.Choice.{Choice}
+use Rattle.snoop_bus.specs.Bus.{Bus, holder_of}
+use Rattle.snoop_bus.specs.Held.{holder}
+use Rattle.snoop_bus.specs.declared.holding.Stage.TheVariants.{Locked}
+use Rattle.machine_core.specs.declared.machine_parts.MachineParts.{MachineParts}
+use Rattle.machine_core.specs.Caches.{Used, caches_of, hits_by, use_on}
+use Rattle.machine_core.specs.inner.Caches.{HasLineAlone}
+use Rattle.machine_core.specs.Statistics.{Statistics, statistics_after}
+use Rattle.machine_core.specs.Kept.{PartsFitTest, IsHeldAs, state_in}
+use Rattle.machine_core.specs.inner.Kept.{IsTallied, statistics_in}
+use Rattle.machine_core.specs.inner.Performed.{attempt_in, flat_effect_in}
+
+-- the parts are of this test, and it is at its beginning: nobody holds the bus, and nothing is committed or counted
+pub record AreAtStart {P : Type 0} (t : Litmus) (m : MachineParts P) : Type 0 where
+  pub fits : PartsFitTest t m
+  pub held : IsHeldAs t m
+  pub state : state_in m ≡ unheld (start t)
+  pub commits : m.commits.entries ≡ []
+  pub tallied : IsTallied t (state_in m) (statistics_in m)
+
+-- the caches' answer to a choice is one that caches may give
+abbrev pub AnswerFitsIn : {P : Type 0} → Litmus → MachineParts P → Choice → Type 0
+AnswerFitsIn t m choice = HitFits t m.config.depth (state_in m).flat (attempt_in t m choice) (state_in m).holder
+
+-- between the two parts of a locked instruction no other core has its line
+abbrev pub IsAloneIn : {P : Type 0} → MachineParts P → Type 0
+IsAloneIn m = (e : Entry) → (state_in m).holder ≡ HeldBetween e → HasLineAlone (caches_of m.bus) e
+
+-- between the two parts of a locked instruction this access of another core doesn't hit as a write to its location
+abbrev pub LeavesLocked : Bus → ℕ → Access → Type 0
+LeavesLocked b core access =
+    (e : Entry) (loc : Loc) → holder_of b ≡ Some (holder e.core e.loc Locked) → access ≡ Writes loc
+    → hits_by (caches_of b) core access ≡ true → core ≢ e.core.0 → loc.0 ≢ e.loc.0
+
+-- what a choice does that is made at once: who holds the bus stays so
+abbrev pub whole_effect_in : {P : Type 0} → Litmus → MachineParts P → Choice → BusEffect
+whole_effect_in t m choice = acts (flat_effect_in t m choice) (state_in m).holder
+
+-- how a choice uses the caches
+abbrev pub use_in : {P : Type 0} → Litmus → MachineParts P → Choice → Used
+use_in t m choice = use_on m.config.bus t m.config.depth (state_in m) choice (caches_of m.bus)
+
+-- the statistics after a choice
+abbrev pub statistics_next : {P : Type 0} → Litmus → MachineParts P → Choice → Statistics
+statistics_next t m choice = statistics_after m.config.bus t m.config.depth (state_in m) choice (statistics_in m)

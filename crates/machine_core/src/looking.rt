@@ -1,0 +1,132 @@
+//! A machine between two choices, for one who only looks. No call changes anything or takes memory.
+ghost use Rattle.std.specs.Prelude.{◌≡◌, IfSome, is_some, length, nat_lt, option_copied, option_map, slice_get};
+ghost use Rattle.tso_model.specs.Thread.{value_in};
+ghost use Rattle.machine_core.specs.Cores.{core_state};
+ghost use Rattle.machine_core.specs.inner.Looked.{core_at, pending_at, cached_line, IsWordWhereClean, bus_holder_of};
+
+use crate::counts::Counts;
+use crate::holding::Holding;
+use crate::machine::Machine;
+use crate::processor::Processor;
+use protocol_tables::{Protocol, Transient};
+use snoop_bus::CachedLine;
+use tso_model::{Choice, Core, Entry, Loc, Reg};
+
+/// The action that holds a split bus.
+#[derive(Clone, Copy)]
+pub struct BusHolder {
+    /// Its next choice, which names its core.
+    pub choice: Choice,
+    /// The location of its access.
+    pub loc: Loc,
+    /// What its line is in until the words come. `None` where nothing is awaited: the access hits, or a
+    /// locked instruction has made it and is between its two parts.
+    pub transient: Option<Transient>,
+}
+
+impl<'a, P: Protocol> Machine<'a, P> {
+    /// The core of this number. `None` where the test has no such core.
+    fn processor(&self, core: Core) -> Option<&Processor>
+        ensures { option_map (core_state core.0) (option_copied result) ≡ core_at self.now core.0 }
+    {
+        self.parts.processors.get(usize::from(core.0))
+    }
+
+    /// Where a core stands in its program: the number of its next instruction, from 0. `None` where the test
+    /// has no such core.
+    pub fn place(&self, core: Core) -> Option<u8>
+        ensures { result ≡ option_map (λ s. s.place) (core_at self.now core.0) }
+    {
+        let processor = self.processor(core)?;
+        Some(processor.place)
+    }
+
+    /// The registers of a core, in the order of `Reg::ALL`. `None` where the test has no such core.
+    pub fn registers(&self, core: Core) -> Option<[u32; 6]>
+        ensures { result ≡ option_map (λ s. s.registers) (core_at self.now core.0) }
+    {
+        let processor = self.processor(core)?;
+        Some(processor.registers)
+    }
+
+    /// The value of a core's register. `None` where the test has no such core.
+    pub fn register(&self, core: Core, reg: Reg) -> Option<u32>
+        ensures { result ≡ option_map (λ s. value_in s.registers reg) (core_at self.now core.0) }
+    {
+        let processor = self.processor(core)?;
+        Some(processor.register(reg))
+    }
+
+    /// The pending store of a core with this number, counted from the oldest, which has 0: the entry that it
+    /// commits when it is drained. `None` where fewer are pending, or the test has no such core.
+    pub fn pending(&self, core: Core, number: usize) -> Option<Entry>
+        ensures { result ≡ pending_at self.now core.0 number }
+    {
+        let processor = self.processor(core)?;
+        processor.pending(core, number)
+    }
+
+    /// The word that a program sees at a location, whichever cache or memory has it. `None` where the test has
+    /// no such location.
+    pub fn seen(&self, loc: Loc) -> Option<u32>
+        ensures { result ≡ slice_get self.now.state.flat.memory loc.0 }
+    {
+        if loc.0 < self.test.locations() {
+            Some(self.parts.bus.word(loc))
+        } else {
+            None
+        }
+    }
+
+    /// Memory's own word at a location, which may be stale where a cache has a dirty copy, or an action holds
+    /// the bus; else it is the word that a program sees. `None` where the test has no such location.
+    pub fn memory_word(&self, loc: Loc) -> Option<u32>
+        ensures exists { is_some result ≡ nat_lt loc.0 (length self.now.test.locations) }
+        ensures clean { IfSome result (IsWordWhereClean self.now loc.0) }
+    {
+        if loc.0 < self.test.locations() {
+            Some(self.parts.bus.memory_word(loc))
+        } else {
+            None
+        }
+    }
+
+    /// The entries committed so far, in the order of their commits.
+    pub fn committed(&self) -> &[Entry]
+        ensures { result.now ≡ self.now.commits }
+    {
+        self.parts.commits.entries()
+    }
+
+    /// What the accesses of a core's cache were so far. `None` where the test has no such core.
+    pub fn counts(&self, core: Core) -> Option<Counts>
+        ensures { result ≡ slice_get self.now.statistics.counts core.0 }
+    {
+        self.parts.counts.get(usize::from(core.0)).copied()
+    }
+
+    /// The line of this rank in a set of a core's cache, where rank 0 is the most recently used. `None` where
+    /// the set has no more lines than that, or there is no such core or set.
+    pub fn cached_line(&self, core: Core, set: u8, rank: usize) -> Option<CachedLine>
+        ensures { result ≡ cached_line self.now core.0 set rank }
+    {
+        self.parts.bus.ranked(core, set, rank)
+    }
+
+    /// The action that holds the bus. `None` where nobody does, as on the atomic bus at all times.
+    pub fn bus_holder(&self) -> Option<BusHolder>
+        ensures { result ≡ bus_holder_of self.now }
+    {
+        let choice = match self.parts.holding {
+            Holding::Free => return None,
+            Holding::Asked(choice) => choice,
+            Holding::Between(read) => Choice::Step(read.core),
+        };
+        let holder = self.parts.bus.who_holds()?;
+        Some(BusHolder {
+            choice,
+            loc: holder.loc,
+            transient: self.parts.bus.transient(),
+        })
+    }
+}

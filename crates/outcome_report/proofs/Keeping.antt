@@ -1,0 +1,185 @@
+-- What is kept of a list of final states: of those that look alike one.
+use Rattle.std.proofs.Common.{◌≡◌, ◌∙◌, ◌<◌, Bool, true, false, cond, List, [], ◌∷◌, map, length, drop, slice_index_or, ◌+◌, is_some, Some, Vec, Bor, All, Contains, refl, sym, ap, subst, ℕ}
+use Rattle.std.specs.List.{AllByRecursion}
+use Rattle.std.specs.List.Sorted.{IsStrictlySortedBy}
+use Rattle.std.specs.Ordering.{is_eq, match_ordering}
+use Rattle.std.specs.BTreeMap.{insert_entry, is_at}
+use Rattle.std.specs.Map.{lookup, keys_of, values_of}
+use Rattle.std.specs.declared.alloc.Global.{Global}
+use Rattle.std.specs.declared.cmp.Ordering.{Ordering}
+use Rattle.std.specs.declared.cmp.Ordering.TheVariants.{Less, Equal, Greater}
+use Rattle.std.proofs.lemmas.Map.Views.{Contains-keys_from_lookup}
+use Rattle.std.proofs.lemmas.List.Elements.{All-from_recursion, recursion_from_All}
+use Rattle.std.proofs.lemmas.List.{get_or-map, length-map, drop_more}
+use Rattle.tso_model.specs.Litmus.{Litmus}
+use Rattle.explorer.specs.declared.final_states.FinalState.{FinalState}
+use Rattle.tso_report.specs.Tally.{looked_at, shown_value}
+use Rattle.tso_report.specs.declared.named.Named.{Named}
+use Rattle.outcome_report.specs.Outcomes.{Outcome, outcome_of, shown_values, ArePrinted}
+use Rattle.outcome_report.specs.inner.Kept.{IsOf, is_kept, kept_of, with_outcome, kept_after, AreShown}
+use Rattle.outcome_report.proofs.Inserting.{R, same-values, ascends, each-inserted, stands-still, stands-there}
+
+abbrev pub Kept : Type 0
+Kept = List (List ℕ × Outcome)
+
+-- ---- one more
+
+with-ascends : (v : List ℕ) (o : Outcome) (kept : Kept) → IsStrictlySortedBy R (keys_of kept) → IsStrictlySortedBy R (keys_of (with_outcome v o kept))
+with-ascends v o kept h = by_kept (is_kept v kept)
+  where
+    by_kept : (b : Bool) → IsStrictlySortedBy R (keys_of (cond b kept (insert_entry R kept v o)))
+    by_kept true = h
+    by_kept false = ascends v o kept h
+
+with-each : (P : List ℕ × Outcome → Type 0) (v : List ℕ) (o : Outcome) (kept : Kept) → P (v, o) → AllByRecursion P kept → AllByRecursion P (with_outcome v o kept)
+with-each P v o kept p h = by_kept (is_kept v kept)
+  where
+    by_kept : (b : Bool) → AllByRecursion P (cond b kept (insert_entry R kept v o))
+    by_kept true = h
+    by_kept false = each-inserted v o P kept p h
+
+with-still : (w v : List ℕ) (o : Outcome) (kept : Kept) → Contains (keys_of kept) w → Contains (keys_of (with_outcome v o kept)) w
+with-still w v o kept h = by_kept (is_kept v kept)
+  where
+    by_kept : (b : Bool) → Contains (keys_of (cond b kept (insert_entry R kept v o))) w
+    by_kept true = h
+    by_kept false = stands-still v o w kept h
+
+with-there : (v : List ℕ) (o : Outcome) (kept : Kept) → Contains (keys_of (with_outcome v o kept)) v
+with-there v o kept = by_kept (is_kept v kept) refl
+  where
+    by_kept : (b : Bool) → is_kept v kept ≡ b → Contains (keys_of (cond b kept (insert_entry R kept v o))) v
+    by_kept true is = Contains-keys_from_lookup same-values v kept is
+    by_kept false is = stands-there v o kept
+
+-- ---- all of them
+
+after-ascends : (t : Litmus) (kept : Kept) (finals : List FinalState) → IsStrictlySortedBy R (keys_of kept) → IsStrictlySortedBy R (keys_of (kept_after t kept finals))
+after-ascends t kept [] h = h
+after-ascends t kept (f ∷ rest) h = let o = outcome_of f in after-ascends t (with_outcome (shown_values t o) o kept) rest (with-ascends (shown_values t o) o kept h)
+
+after-each : (P : List ℕ × Outcome → Type 0) (t : Litmus) (kept : Kept) (finals : List FinalState) → AllByRecursion (λ f. P (shown_values t (outcome_of f), outcome_of f)) finals
+    → AllByRecursion P kept → AllByRecursion P (kept_after t kept finals)
+after-each P t kept [] p h = h
+after-each P t kept (f ∷ rest) p h =
+    let o = outcome_of f in after-each P t (with_outcome (shown_values t o) o kept) rest p.1 (with-each P (shown_values t o) o kept p.0 h)
+
+after-still : (w : List ℕ) (t : Litmus) (kept : Kept) (finals : List FinalState) → Contains (keys_of kept) w → Contains (keys_of (kept_after t kept finals)) w
+after-still w t kept [] h = h
+after-still w t kept (f ∷ rest) h = let o = outcome_of f in after-still w t (with_outcome (shown_values t o) o kept) rest (with-still w (shown_values t o) o kept h)
+
+after-there : (t : Litmus) (kept : Kept) (finals : List FinalState) → AllByRecursion (λ f. Contains (keys_of (kept_after t kept finals)) (shown_values t (outcome_of f))) finals
+after-there t kept [] = tt
+after-there t kept (f ∷ rest) =
+    let o = outcome_of f in
+    let more = with_outcome (shown_values t o) o kept in
+    (after-still (shown_values t o) t more rest (with-there (shown_values t o) o kept), after-there t more rest)
+
+-- ---- what is kept in the end
+
+abbrev Stands : Litmus → List FinalState → List ℕ × Outcome → Type 0
+Stands t finals k = (k.0 ≡ shown_values t k.1) × IsOf t k.1 × Contains (map outcome_of finals) k.1
+
+each-stands : (t : Litmus) (finals : List FinalState) → All (λ f. IsOf t (outcome_of f)) finals
+    → All (λ f. Stands t finals (shown_values t (outcome_of f), outcome_of f)) finals
+each-stands t finals h k d lt =
+    (refl, h k d lt, (k, subst (λ n. k < n) (sym (length-map finals outcome_of)) lt, get_or-map outcome_of finals k d (outcome_of (slice_index_or finals k d)) lt))
+
+stand : (t : Litmus) (finals : List FinalState) → All (λ f. IsOf t (outcome_of f)) finals → AllByRecursion (Stands t finals) (kept_after t [] finals)
+stand t finals h =
+    after-each (Stands t finals) t [] finals
+    (recursion_from_All (λ f. Stands t finals (shown_values t (outcome_of f), outcome_of f)) finals (each-stands t finals h)) tt
+
+-- weaker of each
+weaker : (P Q : List ℕ × Outcome → Type 0) → ((k : List ℕ × Outcome) → P k → Q k) → (kept : Kept) → AllByRecursion P kept → AllByRecursion Q kept
+weaker P Q f [] h = tt
+weaker P Q f (k ∷ kept) h = (f k h.0, weaker P Q f kept h.1)
+
+of-values : (P : Outcome → Type 0) (kept : Kept) → AllByRecursion (λ k. P k.1) kept → AllByRecursion P (values_of kept)
+of-values P [] h = tt
+of-values P (k ∷ kept) h = (h.0, of-values P kept h.1)
+
+pub keys-shown : (t : Litmus) (kept : Kept) → AllByRecursion (λ k. k.0 ≡ shown_values t k.1) kept → keys_of kept ≡ map (shown_values t) (values_of kept)
+keys-shown t [] h = refl
+keys-shown t (k ∷ kept) h = ap (λ v. v ∷ keys_of kept) h.0 ∙ ap (λ rest. shown_values t k.1 ∷ rest) (keys-shown t kept h.1)
+
+pub kept-shown : (t : Litmus) (finals : List FinalState) → All (λ f. IsOf t (outcome_of f)) finals → AreShown t (kept_after t [] finals)
+kept-shown t finals h =
+    let kept = kept_after t [] finals in
+    All-from_recursion (λ k. (k.0 ≡ shown_values t k.1) × IsOf t k.1) kept
+    (weaker (Stands t finals) (λ k. (k.0 ≡ shown_values t k.1) × IsOf t k.1) (λ k s. (s.0, s.1)) kept (stand t finals h))
+
+none-ascend : IsStrictlySortedBy R []
+unfolding IsStrictlySortedBy
+none-ascend = tt
+
+pub kept-printed : (t : Litmus) (finals : List FinalState) → All (λ f. IsOf t (outcome_of f)) finals → ArePrinted t finals (values_of (kept_after t [] finals))
+kept-printed t finals h =
+    let kept = kept_after t [] finals in
+    let standing = stand t finals h in
+    let keys : keys_of kept ≡ map (shown_values t) (values_of kept) =
+    keys-shown t kept (weaker (Stands t finals) (λ k. k.0 ≡ shown_values t k.1) (λ k s. s.0) kept standing) in
+    record {
+      ascending = subst (IsStrictlySortedBy R) keys (after-ascends t [] finals none-ascend);
+      found = All-from_recursion (Contains (map outcome_of finals)) (values_of kept)
+          (of-values (Contains (map outcome_of finals)) kept (weaker (Stands t finals) (λ k. Contains (map outcome_of finals) k.1) (λ k s. s.2) kept standing));
+      complete = subst (λ values. All (λ f. Contains values (shown_values t (outcome_of f))) finals) keys
+          (All-from_recursion (λ f. Contains (keys_of kept) (shown_values t (outcome_of f))) finals (after-there t [] finals));
+    }
+
+-- ---- the map that keeps them
+
+-- vectors are compared as lists
+abbrev by_items : Vec ℕ Global → Vec ℕ Global → Ordering
+by_items x y = R x.items y.items
+
+lookup-kept_of : (v : List ℕ) (es : List (Vec ℕ Global × Bor FinalState)) → is_some (lookup (λ (k : Vec ℕ Global). is_eq (R v k.items)) es) ≡ is_kept v (kept_of es)
+lookup-kept_of v [] = refl
+lookup-kept_of v (e ∷ es) = by_test (is_eq (R v e.0.items)) (lookup-kept_of v es)
+  where
+    by_test : (b : Bool) → is_some (lookup (λ (k : Vec ℕ Global). is_eq (R v k.items)) es) ≡ is_kept v (kept_of es)
+        → is_some (cond b (Some e.1) (lookup (λ (k : Vec ℕ Global). is_eq (R v k.items)) es)) ≡ is_some (cond b (Some (outcome_of e.1.now)) (lookup (is_at (R v)) (kept_of es)))
+    by_test true further = refl
+    by_test false further = further
+
+insert-kept_of : (k : Vec ℕ Global) (f : Bor FinalState) (es : List (Vec ℕ Global × Bor FinalState))
+    → kept_of (insert_entry by_items es k f) ≡ insert_entry R (kept_of es) k.items (outcome_of f.now)
+insert-kept_of k f [] = refl
+insert-kept_of k f (e ∷ es) = by_order (by_items k e.0) (insert-kept_of k f es)
+  where
+    by_order : (o : Ordering) → kept_of (insert_entry by_items es k f) ≡ insert_entry R (kept_of es) k.items (outcome_of f.now)
+        → kept_of (match_ordering o ((k, f) ∷ e ∷ es) ((e.0, f) ∷ es) (e ∷ insert_entry by_items es k f))
+        ≡ match_ordering o ((k.items, outcome_of f.now) ∷ (e.0.items, outcome_of e.1.now) ∷ kept_of es) ((e.0.items, outcome_of f.now) ∷ kept_of es)
+        ((e.0.items, outcome_of e.1.now) ∷ insert_entry R (kept_of es) k.items (outcome_of f.now))
+    by_order Less further = refl
+    by_order Equal further = refl
+    by_order Greater further = ap (λ rest. (e.0.items, outcome_of e.1.now) ∷ rest) further
+
+pub first-kept : (k : Vec ℕ Global) (f : Bor FinalState) (es new : List (Vec ℕ Global × Bor FinalState)) (there : Bool)
+    → there ≡ is_some (lookup (λ (x : Vec ℕ Global). is_eq (R k.items x.items)) es) → there ≡ false → new ≡ insert_entry by_items es k f
+    → kept_of new ≡ with_outcome k.items (outcome_of f.now) (kept_of es)
+first-kept k f es new there found not_there is =
+    let none : is_kept k.items (kept_of es) ≡ false = sym (lookup-kept_of k.items es) ∙ (sym found ∙ not_there) in
+    ap kept_of is ∙ (insert-kept_of k f es ∙ sym (ap (λ b. cond b (kept_of es) (insert_entry R (kept_of es) k.items (outcome_of f.now))) none))
+
+pub later-left : (k : Vec ℕ Global) (f : Bor FinalState) (es : List (Vec ℕ Global × Bor FinalState)) (there : Bool)
+    → there ≡ is_some (lookup (λ (x : Vec ℕ Global). is_eq (R k.items x.items)) es) → there ≡ true
+    → kept_of es ≡ with_outcome k.items (outcome_of f.now) (kept_of es)
+later-left k f es there found is_there =
+    let one : is_kept k.items (kept_of es) ≡ true = sym (lookup-kept_of k.items es) ∙ (sym found ∙ is_there) in
+    sym (ap (λ b. cond b (kept_of es) (insert_entry R (kept_of es) k.items (outcome_of f.now))) one)
+
+-- ---- one final state after the other
+
+pub one-kept : (t : Litmus) (f : FinalState) (finals : List FinalState) (i : ℕ) (old new whole : Kept) (names : List Named) (registers : List (List ℕ)) (memory values : List ℕ)
+    → i < length finals → f ≡ slice_index_or finals i f → registers ≡ f.registers.items → memory ≡ f.memory.items → names ≡ looked_at t
+    → values ≡ map (shown_value registers memory) names → new ≡ with_outcome values (outcome_of f) old
+    → kept_after t old (drop i finals) ≡ whole → kept_after t new (drop (i + 1) finals) ≡ whole
+one-kept t f finals i old new whole names registers memory values small is_f are_registers are_words are_names are is was =
+    let o = outcome_of f in
+    let rest = drop (i + 1) finals in
+    let shown : values ≡ shown_values t o =
+    are ∙ (ap (λ list. map (shown_value registers memory) list) are_names
+    ∙ (ap (λ r. map (shown_value r memory) (looked_at t)) are_registers ∙ ap (λ m. map (shown_value f.registers.items m) (looked_at t)) are_words)) in
+    let next : drop i finals ≡ f ∷ rest = drop_more finals i f small ∙ ap (λ x. x ∷ rest) (sym is_f) in
+    ap (λ kept. kept_after t kept rest) (is ∙ ap (λ v. with_outcome v o old) shown) ∙ (sym (ap (λ list. kept_after t old list) next) ∙ was)

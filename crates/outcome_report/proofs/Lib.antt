@@ -1,0 +1,9 @@
+pub mod Inserting
+pub mod Keeping
+pub mod Truths
+pub mod Writing
+pub mod NoFloats
+pub mod Printing
+pub mod Members
+pub mod Showing
+pub mod Alike

@@ -1,0 +1,51 @@
+-- The values that are printed have no float, so that their text is known.
+use Rattle.std.proofs.Common.{◌≡◌, ℕ, Bool, true, false, ◌||◌, List, [], ◌∷◌, Option, Some, None, refl}
+use Rattle.std.specs.Ordering.{nat_cmp, match_ordering}
+use Rattle.std.specs.Cmp.Lexicographic.{slice_cmp}
+use Rattle.std.specs.declared.cmp.Ordering.{Ordering}
+use Rattle.std.specs.declared.cmp.Ordering.TheVariants.{Less, Equal, Greater}
+use Rattle.std.proofs.lemmas.Bool.{or_parts}
+use Rattle.serde_json.specs.Data.{Members, no_members, member, put}
+use Rattle.serde_json.specs.Written.{has_float, members_have_float}
+use Rattle.tso_model.specs.Litmus.{Litmus}
+use Rattle.tso_model.specs.Condition.{Condition}
+use Rattle.tso_report.specs.Json.{count}
+use Rattle.tso_report.specs.Tally.{looked_at}
+use Rattle.tso_report.specs.declared.named.Named.{Named}
+use Rattle.outcome_report.specs.Outcomes.{Outcome, shown_values}
+use Rattle.outcome_report.specs.OutcomesJson.{key_of, value_members, state_value, states_value, observation_value, outcomes_value}
+
+neither : (p q : Bool) → p ≡ false → q ≡ false → p || q ≡ false
+neither true q h k = h
+neither false q h k = k
+
+one_more : (k : List ℕ) (n : ℕ) (ms : Members) → members_have_float ms ≡ false → members_have_float (put k (count n) ms) ≡ false
+one_more k n no_members h = refl
+one_more k n (member l d ms) h = by_order (slice_cmp nat_cmp k l) (or_parts (has_float d) (members_have_float ms) h) (one_more k n ms (or_parts (has_float d) (members_have_float ms) h).1)
+  where
+    by_order : (o : Ordering) → (has_float d ≡ false) × (members_have_float ms ≡ false) → members_have_float (put k (count n) ms) ≡ false
+        → members_have_float (match_ordering o (member k (count n) (member l d ms)) (member l (count n) ms) (member l d (put k (count n) ms))) ≡ false
+    by_order Less parts further = neither (has_float d) (members_have_float ms) parts.0 parts.1
+    by_order Equal parts further = parts.1
+    by_order Greater parts further = neither (has_float d) (members_have_float (put k (count n) ms)) parts.0 further
+
+values : (t : Litmus) (names : List Named) (list : List ℕ) → members_have_float (value_members t names list) ≡ false
+values t [] list = refl
+values t (named ∷ names) [] = refl
+values t (named ∷ names) (value ∷ list) = one_more (key_of t named) value (value_members t names list) (values t names list)
+
+states : (t : Litmus) (outcomes : List Outcome) → has_float (states_value t outcomes) ≡ false
+states t [] = refl
+states t (o ∷ outcomes) =
+    neither (has_float (state_value t (shown_values t o) o.choices)) (has_float (states_value t outcomes))
+    (neither (members_have_float (value_members t (looked_at t) (shown_values t o))) false (values t (looked_at t) (shown_values t o)) refl)
+    (states t outcomes)
+
+observation : (o : Option Condition) (outcomes : List Outcome) → has_float (observation_value o outcomes) ≡ false
+observation None outcomes = refl
+observation (Some condition) outcomes = refl
+
+pub outcomes_have_no_float : (t : Litmus) (depth : ℕ) (outcomes : List Outcome) → has_float (outcomes_value t depth outcomes) ≡ false
+outcomes_have_no_float t depth outcomes =
+    neither (has_float (observation_value t.condition outcomes)) _ (observation t.condition outcomes)
+    (neither (has_float (states_value t outcomes)) false (states t outcomes) refl)

@@ -1,0 +1,90 @@
+-- What is written of the states that are kept.
+use Rattle.std.proofs.Common.{◌≡◌, ◌∙◌, ℕ, List, [], ◌∷◌, ◌++◌, map, length, Vec, Bor, refl, sym, ap, subst, append_assoc, append-nil}
+use Rattle.std.specs.Map.{values_of}
+use Rattle.std.specs.declared.alloc.Global.{Global}
+use Rattle.std.proofs.lemmas.List.{length-map, map-append}
+use Rattle.std.proofs.lemmas.List.Elements.{All-head, All-tail}
+use Rattle.serde_json.specs.Data.{array}
+use Rattle.serde_json.specs.declared.value.Value.{Value}
+use Rattle.serde_json.specs.View.{view, items_of}
+use Rattle.tso_model.specs.Litmus.{Litmus}
+use Rattle.tso_model.specs.declared.choice.Choice.{Choice}
+use Rattle.explorer.specs.declared.final_states.FinalState.{FinalState}
+use Rattle.tso_report.specs.Report.{test_line}
+use Rattle.tso_report.specs.Tally.{looked_at, shown_value}
+use Rattle.tso_report.specs.declared.named.Named.{Named}
+use Rattle.outcome_report.specs.Outcomes.{Outcome, outcome_of, shown_values, state_line, by_line, outcome_lines, outcomes_line, observation_line, outcomes_text}
+use Rattle.outcome_report.specs.OutcomesJson.{state_value, states_value}
+use Rattle.outcome_report.specs.inner.Kept.{IsOf, kept_of, AreShown}
+use Rattle.outcome_report.specs.inner.Written.{kept_lines, kept_values}
+use Rattle.outcome_report.proofs.Truths.{Entries, as-many}
+
+abbrev Is : Litmus → List ℕ × Outcome → Type 0
+Is t k = (k.0 ≡ shown_values t k.1) × IsOf t k.1
+
+-- ---- as if the values weren't kept beside the states
+
+lines-shown : (t : Litmus) (kept : List (List ℕ × Outcome)) → AreShown t kept → kept_lines t kept ≡ outcome_lines t (values_of kept)
+lines-shown t [] shown = refl
+lines-shown t (k ∷ kept) shown =
+    ap (λ v. state_line t v ++ (by_line k.1.choices ++ kept_lines t kept)) (All-head (Is t) k kept shown).0
+    ∙ ap (λ rest. state_line t (shown_values t k.1) ++ (by_line k.1.choices ++ rest)) (lines-shown t kept (All-tail (Is t) k kept shown))
+
+values-shown : (t : Litmus) (kept : List (List ℕ × Outcome)) → AreShown t kept → kept_values t kept ≡ map (λ o. state_value t (shown_values t o) o.choices) (values_of kept)
+values-shown t [] shown = refl
+values-shown t (k ∷ kept) shown =
+    ap (λ v. state_value t v k.1.choices ∷ kept_values t kept) (All-head (Is t) k kept shown).0
+    ∙ ap (λ rest. state_value t (shown_values t k.1) k.1.choices ∷ rest) (values-shown t kept (All-tail (Is t) k kept shown))
+
+-- ---- the text, put together from its parts
+
+four-parts : (a b c d first second third all : List ℕ) → first ≡ a → second ≡ first ++ b → third ≡ second ++ c → all ≡ third ++ d → all ≡ a ++ (b ++ (c ++ d))
+four-parts a b c d first second third all is_first is_second is_third is =
+    is ∙ (ap (λ x. x ++ d) (is_third ∙ ap (λ x. x ++ c) (is_second ∙ ap (λ x. x ++ b) is_first))
+    ∙ (append_assoc (a ++ b) c d ∙ append_assoc a b (c ++ d)))
+
+pub text-whole : (t : Litmus) (depth n : ℕ) (es : Entries) (empty first second third all : List ℕ) → AreShown t (kept_of es) → n ≡ length es → empty ≡ []
+    → first ≡ empty ++ test_line t → second ≡ first ++ outcomes_line depth n → third ≡ second ++ kept_lines t (kept_of es)
+    → all ≡ third ++ observation_line t.name t.condition (values_of (kept_of es)) → all ≡ outcomes_text t depth (values_of (kept_of es))
+text-whole t depth n es empty first second third all shown many none is_first is_second is_third is =
+    four-parts (test_line t) (outcomes_line depth (length (values_of (kept_of es)))) (outcome_lines t (values_of (kept_of es)))
+    (observation_line t.name t.condition (values_of (kept_of es))) first second third all
+    (is_first ∙ ap (λ x. x ++ test_line t) none)
+    (is_second ∙ ap (λ k. first ++ outcomes_line depth k) (many ∙ sym (as-many es)))
+    (is_third ∙ ap (λ x. second ++ x) (lines-shown t (kept_of es) shown))
+    is
+
+-- ---- the values of one state after the other
+
+-- those that were made, and the others are there to be made
+abbrev pub Made : Litmus → List Value → Entries → Entries → Type 0
+Made t done rest es =
+    (map view done ++ kept_values t (kept_of rest) ≡ kept_values t (kept_of es)) × AreShown t (kept_of rest)
+
+pub as-named : (t : Litmus) (done : List Value) (all rest es : Entries) (v : Vec ℕ Global) (s : Bor FinalState) (names : List Named) (values : List ℕ)
+    → all ≡ (v, s) ∷ rest → values ≡ v.items → names ≡ looked_at t → Made t done all es → length values ≡ length names
+as-named t done all rest es v s names values steps are_values are_names made =
+    let o = outcome_of s.now in
+    let shown : v.items ≡ shown_values t o = (All-head (Is t) (v.items, o) (kept_of rest) (subst (λ entries. AreShown t (kept_of entries)) steps made.1)).0 in
+    ap length (are_values ∙ shown) ∙ (length-map (looked_at t) (shown_value o.registers o.memory) ∙ ap length (sym are_names))
+
+pub one-made : (t : Litmus) (done more : List Value) (all rest es : Entries) (v : Vec ℕ Global) (s : Bor FinalState) (values : List ℕ) (choices : List Choice) (value : Value)
+    → all ≡ (v, s) ∷ rest → values ≡ v.items → choices ≡ s.now.choices.items → view value ≡ state_value t values choices → more ≡ done ++ value ∷ []
+    → Made t done all es → Made t more rest es
+one-made t done more all rest es v s values choices value steps are_values are_choices is pushed made =
+    let one : view value ≡ state_value t v.items s.now.choices.items =
+    is ∙ (ap (λ x. state_value t x choices) are_values ∙ ap (λ x. state_value t v.items x) are_choices) in
+    let moved : map view more ++ kept_values t (kept_of rest) ≡ map view done ++ (view value ∷ kept_values t (kept_of rest)) =
+    ap (λ x. map view x ++ kept_values t (kept_of rest)) pushed
+    ∙ (ap (λ x. x ++ kept_values t (kept_of rest)) (map-append view done (value ∷ [])) ∙ append_assoc (map view done) (view value ∷ []) (kept_values t (kept_of rest))) in (
+      moved ∙ (ap (λ d. map view done ++ (d ∷ kept_values t (kept_of rest))) one
+          ∙ (sym (ap (λ entries. map view done ++ kept_values t (kept_of entries)) steps) ∙ made.0)),
+      All-tail (Is t) (v.items, outcome_of s.now) (kept_of rest) (subst (λ entries. AreShown t (kept_of entries)) steps made.1),
+    )
+
+pub all-made : (t : Litmus) (done : List Value) (rest es : Entries) → rest ≡ [] → AreShown t (kept_of es) → Made t done rest es
+    → array (items_of (map view done)) ≡ states_value t (values_of (kept_of es))
+all-made t done rest es none shown made =
+    let all : map view done ≡ kept_values t (kept_of es) =
+    sym (append-nil (map view done)) ∙ (sym (ap (λ entries. map view done ++ kept_values t (kept_of entries)) none) ∙ made.0) in
+    ap (λ values. array (items_of values)) (all ∙ values-shown t (kept_of es) shown)

@@ -1,0 +1,10 @@
+use Rattle.std.proofs.Common.{◌∙◌, ap}
+use Rattle.std.specs.Map.{values_of}
+use Rattle.serde_json.specs.Written.{has_float}
+use Rattle.outcome_report.specs.inner.Kept.{kept_of}
+use Rattle.outcome_report.proofs.NoFloats.{outcomes_have_no_float}
+use Rattle.outcome_report.proofs.json.outcomes_json.Goals as goal
+
+pub line_of-requires : goal.line_of-requires
+line_of-requires c =
+    ap has_float c.in_ok-value.ensures ∙ outcomes_have_no_float c.args.test.now c.args.depth (values_of (kept_of c.args.outcomes.now.entries))

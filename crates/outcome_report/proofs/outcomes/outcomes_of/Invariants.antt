@@ -1,0 +1,7 @@
+use Rattle.std.proofs.Common.{◌≡◌, [], drop}
+use Rattle.outcome_report.specs.inner.Kept.{kept_of, kept_after}
+use Rattle.outcome_report.proofs.outcomes.outcomes_of.Given as goal
+
+abbrev pub invariant-loop-state : goal.invariant-loop-state
+invariant-loop-state l =
+    kept_after l.test (kept_of l.outcomes.entries) (drop l.state-index l.finals) ≡ kept_after l.test [] l.finals

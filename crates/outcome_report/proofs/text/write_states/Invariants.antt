@@ -1,0 +1,8 @@
+use Rattle.std.proofs.Common.{◌≡◌, ◌++◌, string_bytes}
+use Rattle.outcome_report.specs.inner.Kept.{kept_of}
+use Rattle.outcome_report.specs.inner.Written.{kept_lines}
+use Rattle.outcome_report.proofs.text.write_states.Given as goal
+
+abbrev pub invariant-loop-values : goal.invariant-loop-values
+invariant-loop-values l =
+    string_bytes l.text ++ kept_lines l.test (kept_of l.values-iterator) ≡ string_bytes l.initial.text ++ kept_lines l.test (kept_of l.outcomes.entries)

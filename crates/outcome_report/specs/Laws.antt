@@ -1,0 +1,38 @@
+-- What the laws say that are too long for a line: each is the contract of the function of the same name.
+use Rattle.std.specs.Prelude.{ℕ, ◌≡◌, ◌↔◌, List, map, Some, Contains}
+use Rattle.std.specs.Option.{ForSome}
+use Rattle.std.specs.Ordering.{nat_cmp}
+use Rattle.std.specs.Cmp.Lexicographic.{slice_cmp}
+use Rattle.std.specs.List.Sorted.{IsStrictlySortedBy}
+use Rattle.tso_model.specs.Litmus.{Litmus, IsTest}
+use Rattle.tso_model.specs.Condition.{Condition, truth_of}
+use Rattle.explorer.specs.FinalStates.{Have}
+use Rattle.explorer.specs.declared.final_states.FinalState.{FinalState}
+use Rattle.outcome_report.specs.Outcomes.{Outcome, shown_values, ArePrinted, held_in, failed_in}
+
+-- of two states that look alike the condition's proposition is true in both, or in none
+abbrev pub TruthIsShown : Type 0
+TruthIsShown =
+    (t : Litmus) (condition : Condition) (o p : Outcome) → IsTest t → t.condition ≡ Some condition → shown_values t o ≡ shown_values t p
+    → truth_of o.registers o.memory condition.claim ≡ truth_of p.registers p.memory condition.claim
+
+-- they have the same values in the same order, and where there is a condition its proposition is true, and false, in as many
+pub record AreAlike (t : Litmus) (outcomes others : List Outcome) : Type 0 where
+  pub values : map (shown_values t) outcomes ≡ map (shown_values t) others
+  pub held : ForSome t.condition (λ c. held_in c.claim outcomes ≡ held_in c.claim others)
+  pub failed : ForSome t.condition (λ c. failed_in c.claim outcomes ≡ failed_in c.claim others)
+
+-- outcomes whose values ascend and are the same values are alike
+abbrev pub OutcomesOfTheSameValuesAreAlike : Type 0
+OutcomesOfTheSameValuesAreAlike =
+    (t : Litmus) (outcomes others : List Outcome) → IsTest t
+    → IsStrictlySortedBy (slice_cmp nat_cmp) (map (shown_values t) outcomes) → IsStrictlySortedBy (slice_cmp nat_cmp) (map (shown_values t) others)
+    → ((values : List ℕ) → Contains (map (shown_values t) outcomes) values ↔ Contains (map (shown_values t) others) values)
+    → AreAlike t outcomes others
+
+-- of the same final states, however they are listed and whichever choices stand with them, what is printed differs in choices alone
+abbrev pub OutcomesAreOneButForChoices : Type 0
+OutcomesAreOneButForChoices =
+    (t : Litmus) (finals others : List FinalState) (outcomes again : List Outcome) → IsTest t
+    → ((registers : List (List ℕ)) (memory : List ℕ) → Have finals registers memory ↔ Have others registers memory)
+    → ArePrinted t finals outcomes → ArePrinted t others again → AreAlike t outcomes again

@@ -1,0 +1,5 @@
+pub mod Outcomes
+pub mod OutcomesJson
+pub mod Printed
+pub mod Laws
+pub mod inner

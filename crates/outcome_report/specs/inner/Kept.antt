@@ -1,0 +1,54 @@
+-- The final states that are kept to be printed, as far as the list of them was gone through.
+use Rattle.std.specs.Prelude.{ℕ, ◌≡◌, Bool, List, [], ◌∷◌, map, length, All, Vec, is_some, if◌then◌else◌}
+use Rattle.std.specs.Borrow.{Bor}
+use Rattle.std.specs.Ordering.{nat_cmp}
+use Rattle.std.specs.Cmp.Lexicographic.{slice_cmp}
+use Rattle.std.specs.BTreeMap.{insert_entry, is_at}
+use Rattle.std.specs.Map.{lookup}
+use Rattle.std.specs.declared.alloc.Global.{Global}
+use Rattle.tso_model.specs.Litmus.{Litmus}
+use Rattle.tso_model.specs.Condition.{Claim, NamesExist}
+use Rattle.explorer.specs.declared.final_states.FinalState.{FinalState}
+use Rattle.tso_report.specs.declared.named.Named.{Named}
+use Rattle.tso_report.specs.Tally.{looked_at}
+use Rattle.tso_report.specs.inner.Tally.{IsKnown}
+use Rattle.outcome_report.specs.Outcomes.{Outcome, outcome_of, shown_values}
+
+-- the names are those that are looked at, and each is of a core or a location of the test
+pub record AreLookedAt (t : Litmus) (names : List Named) : Type 0 where
+  pub list : names ≡ looked_at t
+  pub known : All (IsKnown (length t.programs) (length t.locations)) names
+
+-- a state of the test: it has registers for each core and a word for each location
+pub record IsOf (t : Litmus) (o : Outcome) : Type 0 where
+  pub registers : length o.registers ≡ length t.programs
+  pub memory : length o.memory ≡ length t.locations
+
+-- the outcomes that a map keeps, each with its values
+abbrev pub kept_of : List (Vec ℕ Global × Bor FinalState) → List (List ℕ × Outcome)
+kept_of entries = map (λ e. (e.0.items, outcome_of e.1.now)) entries
+
+-- the outcomes that states are
+abbrev pub outcomes_at : List (Bor FinalState) → List Outcome
+outcomes_at states = map (λ s. outcome_of s.now) states
+
+-- whether one with these values is kept
+abbrev pub is_kept : List ℕ → List (List ℕ × Outcome) → Bool
+is_kept values kept = is_some (lookup (is_at (slice_cmp nat_cmp values)) kept)
+
+-- the outcome is kept too, unless one with these values was
+abbrev pub with_outcome : List ℕ → Outcome → List (List ℕ × Outcome) → List (List ℕ × Outcome)
+with_outcome values o kept = if is_kept values kept then kept else insert_entry (slice_cmp nat_cmp) kept values o
+
+-- those of further final states, one after the other
+abbrev pub kept_after : Litmus → List (List ℕ × Outcome) → List FinalState → List (List ℕ × Outcome)
+kept_after t kept [] = kept
+kept_after t kept (f ∷ rest) = kept_after t (with_outcome (shown_values t (outcome_of f)) (outcome_of f) kept) rest
+
+-- the values of each are those that it shows, and it is a state of the test
+abbrev pub AreShown : Litmus → List (List ℕ × Outcome) → Type 0
+AreShown t kept = All (λ k. (k.0 ≡ shown_values t k.1) × IsOf t k.1) kept
+
+-- each of these states has the cores and the locations that the claim names
+abbrev pub AllHave : Claim → List Outcome → Type 0
+AllHave claim outcomes = All (λ o. NamesExist (length o.registers) (length o.memory) claim) outcomes

@@ -1,0 +1,15 @@
+-- What is written of the states that are kept, with their values beside them.
+use Rattle.std.specs.Prelude.{ℕ, List, [], ◌∷◌, ◌++◌, map}
+use Rattle.serde_json.specs.Data.{Data}
+use Rattle.tso_model.specs.Litmus.{Litmus}
+use Rattle.outcome_report.specs.Outcomes.{Outcome, state_line, by_line}
+use Rattle.outcome_report.specs.OutcomesJson.{state_value}
+
+-- both lines of each
+abbrev pub kept_lines : Litmus → List (List ℕ × Outcome) → List ℕ
+kept_lines t [] = []
+kept_lines t (k ∷ rest) = state_line t k.0 ++ (by_line k.1.choices ++ kept_lines t rest)
+
+-- the value of each
+abbrev pub kept_values : Litmus → List (List ℕ × Outcome) → List Data
+kept_values t kept = map (λ k. state_value t k.0 k.1.choices) kept

@@ -1,0 +1,33 @@
+//! In how many of the states that are printed the condition's proposition is true, and in how many false.
+
+ghost use Rattle.std.specs.Prelude.{◌≡◌};
+ghost use Rattle.std.specs.Map.{values_of};
+ghost use Rattle.tso_model.specs.inner.Condition.{claim_of};
+ghost use Rattle.outcome_report.specs.Outcomes.{held_in, failed_in};
+ghost use Rattle.outcome_report.specs.inner.Kept.{kept_of, AllHave};
+
+use crate::outcomes::Outcomes;
+use tso_model::{Cond, cond_holds};
+
+/// In how many of these states the condition's proposition is true, and in how many it is false.
+pub fn counts_of(cond: &Cond, outcomes: &Outcomes) -> (usize, usize)
+    requires { AllHave (claim_of cond.now.prop) (values_of (kept_of outcomes.now.entries)) }
+    ensures held { result.0 ≡ held_in (claim_of cond.now.prop) (values_of (kept_of outcomes.now.entries)) }
+    ensures failed { result.1 ≡ failed_in (claim_of cond.now.prop) (values_of (kept_of outcomes.now.entries)) }
+{
+    let held = held_in(cond, outcomes);
+    (held, outcomes.len() - held)
+}
+
+fn held_in(cond: &Cond, outcomes: &Outcomes) -> usize
+    requires { AllHave (claim_of cond.now.prop) (values_of (kept_of outcomes.now.entries)) }
+    ensures { result ≡ held_in (claim_of cond.now.prop) (values_of (kept_of outcomes.now.entries)) }
+{
+    let mut held = 0;
+    for state in outcomes.values() {
+        if cond_holds(cond, &state.registers, &state.memory) {
+            held += 1;
+        }
+    }
+    held
+}

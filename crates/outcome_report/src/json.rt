@@ -1,0 +1,193 @@
+//! The final states of a test as JSON, for programs to read. It is one line, and its objects have their keys in the
+//! order of their bytes.
+
+ghost use Rattle.std.specs.Prelude.{◌≡◌, IfOk, All, string_bytes, length};
+ghost use Rattle.std.specs.Map.{values_of};
+ghost use Rattle.serde_json.specs.Data.{object};
+ghost use Rattle.serde_json.specs.View.{view};
+ghost use Rattle.tso_report.specs.inner.Tally.{IsKnown};
+ghost use Rattle.outcome_report.specs.OutcomesJson.{key_of, value_members, state_value, states_value, observed_value};
+ghost use Rattle.outcome_report.specs.OutcomesJson.{observation_value, outcomes_value, unfinished_value, outcomes_json, unfinished_json};
+ghost use Rattle.outcome_report.specs.inner.Kept.{AreLookedAt, kept_of, AreShown};
+
+use crate::counting::counts_of;
+use crate::outcomes::Outcomes;
+use scheduler::choices_text;
+use serde_json::{Map, Value, json, put};
+use std::alloc::Global;
+use tso_model::{Choice, NoMemory, Test};
+use tso_report::json::line_of;
+use tso_report::named::Named;
+use tso_report::observation::frequency;
+
+/// The final states of a test as JSON: an object of the depth, the observation, the states and the
+/// test, printed compact, and a line feed.
+///
+/// Errors: out of memory only.
+pub fn outcomes_json(
+    alloc: Global,
+    test: &Test,
+    depth: u8,
+    names: &[Named],
+    outcomes: &Outcomes,
+) -> Result<String, NoMemory>
+    requires names { AreLookedAt test.now names.now }
+    requires shown { AreShown test.now (kept_of outcomes.now.entries) }
+    ensures { IfOk result (λ text. string_bytes text ≡ outcomes_json test.now depth (values_of (kept_of outcomes.now.entries))) }
+{
+    let value = outcomes_value(alloc, test, depth, names, outcomes)?;
+    line_of(alloc, &value)
+}
+
+/// The line of a search that met its limit, as JSON: the test, and how many states that is.
+///
+/// Errors: out of memory only.
+pub fn unfinished_json(alloc: Global, test: &Test, limit: usize) -> Result<String, NoMemory>
+    ensures { IfOk result (λ text. string_bytes text ≡ unfinished_json test.now limit) }
+{
+    let value = unfinished_value(alloc, test, limit)?;
+    line_of(alloc, &value)
+}
+
+fn unfinished_value(alloc: Global, test: &Test, limit: usize) -> Result<Value, NoMemory>
+    ensures { IfOk result (λ value. view value ≡ unfinished_value test.now limit) }
+{
+    let name = Value::try_from_str(alloc, test.name())?;
+    let mut members = Map::new(alloc);
+    put(&mut members, alloc, "test", name)?;
+    put(
+        &mut members,
+        alloc,
+        "unfinished",
+        json!(in alloc; {"states": limit})?,
+    )?;
+    Ok(Value::Object(members))
+}
+
+fn outcomes_value(
+    alloc: Global,
+    test: &Test,
+    depth: u8,
+    names: &[Named],
+    outcomes: &Outcomes,
+) -> Result<Value, NoMemory>
+    requires names { AreLookedAt test.now names.now }
+    requires shown { AreShown test.now (kept_of outcomes.now.entries) }
+    ensures { IfOk result (λ value. view value ≡ outcomes_value test.now depth (values_of (kept_of outcomes.now.entries))) }
+{
+    let mut members = Map::new(alloc);
+    put(&mut members, alloc, "depth", Value::from(depth))?;
+    put(
+        &mut members,
+        alloc,
+        "observation",
+        observation_value(alloc, test, outcomes)?,
+    )?;
+    put(
+        &mut members,
+        alloc,
+        "states",
+        states_value(alloc, test, names, outcomes)?,
+    )?;
+    put(
+        &mut members,
+        alloc,
+        "test",
+        Value::try_from_str(alloc, test.name())?,
+    )?;
+    Ok(Value::Object(members))
+}
+
+fn observation_value(alloc: Global, test: &Test, outcomes: &Outcomes) -> Result<Value, NoMemory>
+    requires { AreShown test.now (kept_of outcomes.now.entries) }
+    ensures { IfOk result (λ value. view value ≡ observation_value test.now.condition (values_of (kept_of outcomes.now.entries))) }
+{
+    match test.cond() {
+        None => Ok(Value::Null),
+        Some(cond) => {
+            let (held, failed) = counts_of(cond, outcomes);
+            observed_value(alloc, held, failed)
+        }
+    }
+}
+
+fn observed_value(alloc: Global, held: usize, failed: usize) -> Result<Value, NoMemory>
+    ensures { IfOk result (λ value. view value ≡ observed_value held failed) }
+{
+    let word = frequency(held, failed);
+    Ok(json!(in alloc; {"false": failed, "true": held, "word": word})?)
+}
+
+fn states_value(
+    alloc: Global,
+    test: &Test,
+    names: &[Named],
+    outcomes: &Outcomes,
+) -> Result<Value, NoMemory>
+    requires names { AreLookedAt test.now names.now }
+    requires shown { AreShown test.now (kept_of outcomes.now.entries) }
+    ensures { IfOk result (λ value. view value ≡ states_value test.now (values_of (kept_of outcomes.now.entries))) }
+{
+    let mut states = Vec::new(alloc);
+    for (values, state) in outcomes.iter() {
+        states.push(state_value(alloc, test, names, values, &state.choices)?)?;
+    }
+    Ok(Value::Array(states))
+}
+
+fn state_value(
+    alloc: Global,
+    test: &Test,
+    names: &[Named],
+    values: &[u32],
+    choices: &[Choice],
+) -> Result<Value, NoMemory>
+    requires names { AreLookedAt test.now names.now }
+    requires values { length values.now ≡ length names.now }
+    ensures { IfOk result (λ value. view value ≡ state_value test.now values.now choices.now) }
+{
+    let choices = Value::String(choices_text(alloc, choices)?);
+    let mut members = Map::new(alloc);
+    put(&mut members, alloc, "choices", choices)?;
+    put(
+        &mut members,
+        alloc,
+        "values",
+        values_value(alloc, test, names, values)?,
+    )?;
+    Ok(Value::Object(members))
+}
+
+fn values_value(
+    alloc: Global,
+    test: &Test,
+    names: &[Named],
+    values: &[u32],
+) -> Result<Value, NoMemory>
+    requires known { All (IsKnown (length test.now.programs) (length test.now.locations)) names.now }
+    requires values { length values.now ≡ length names.now }
+    ensures { IfOk result (λ value. view value ≡ object (value_members test.now names.now values.now)) }
+{
+    let mut members = Map::new(alloc);
+    for at in (0..names.len()).rev() {
+        let key = key_of(alloc, test, names[at])?;
+        put(&mut members, alloc, &key, Value::from(values[at]))?;
+    }
+    Ok(Value::Object(members))
+}
+
+/// `c:EAX`, or `x`.
+fn key_of(alloc: Global, test: &Test, named: Named) -> Result<String, NoMemory>
+    requires { IsKnown (length test.now.programs) (length test.now.locations) named }
+    ensures { IfOk result (λ key. string_bytes key ≡ key_of test.now named) }
+{
+    let mut key = String::new(alloc);
+    match named {
+        Named::Register(core, reg) => {
+            let (core, name) = (core.0, reg.name());
+            write!(key, "{core}:{name}")?;
+        }
+        Named::Location(loc) => key.push_str(test.location_name(loc))?,
+    }
+    Ok(key)
+}

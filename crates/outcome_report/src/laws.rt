@@ -1,0 +1,23 @@
+//! Laws of what is printed. Each is the contract of a function that does nothing: who calls it knows it. What they say
+//! stands in `specs/Laws.antt`, under the names of the functions.
+
+ghost use Rattle.outcome_report.specs.Laws.{TruthIsShown, OutcomesAreOneButForChoices};
+ghost use Rattle.outcome_report.specs.Laws.{OutcomesOfTheSameValuesAreAlike};
+
+/// Of two states that look alike the condition's proposition is true in both, or in none. So it doesn't matter which of
+/// them is printed.
+pub fn truth_is_shown()
+    ensures { TruthIsShown }
+{}
+
+/// Outcomes that ascend and have the same values are alike: in the order of their values, and in how many of them the
+/// condition's proposition is true and false.
+pub fn outcomes_of_the_same_values_are_alike()
+    ensures { OutcomesOfTheSameValuesAreAlike }
+{}
+
+/// Of the same final states, however they are listed and whichever choices stand with them, what is printed differs in
+/// choices alone.
+pub fn outcomes_are_one_but_for_choices()
+    ensures { OutcomesAreOneButForChoices }
+{}

@@ -1,0 +1,119 @@
+//! The final states of a test as lines of text.
+
+ghost use Rattle.std.specs.Prelude.{◌≡◌, ◌++◌, IfOk, OnOk, string_bytes};
+ghost use Rattle.std.specs.Map.{values_of};
+ghost use Rattle.outcome_report.specs.Outcomes.{outcomes_line, state_line, by_line, observation_line};
+ghost use Rattle.outcome_report.specs.Outcomes.{outcomes_text, unfinished_line};
+ghost use Rattle.outcome_report.specs.inner.Kept.{AreLookedAt, kept_of, AreShown};
+ghost use Rattle.outcome_report.specs.inner.Written.{kept_lines};
+
+use crate::counting::counts_of;
+use crate::outcomes::Outcomes;
+use scheduler::write_after;
+use std::alloc::Global;
+use tso_model::{Choice, NoMemory, Test};
+use tso_report::named::Named;
+use tso_report::observation::write_observed;
+use tso_report::printed_values::write_values;
+use tso_report::report::write_test;
+
+/// The final states of a test as lines: the test; the depth and the number of states; two lines for
+/// each state; and, where the test has a condition, in how many of them its proposition is true and
+/// false.
+///
+/// Errors: out of memory only.
+pub fn outcomes_text(
+    alloc: Global,
+    test: &Test,
+    depth: u8,
+    names: &[Named],
+    outcomes: &Outcomes,
+) -> Result<String, NoMemory>
+    requires names { AreLookedAt test.now names.now }
+    requires shown { AreShown test.now (kept_of outcomes.now.entries) }
+    ensures { IfOk result (λ text. string_bytes text ≡ outcomes_text test.now depth (values_of (kept_of outcomes.now.entries))) }
+{
+    let mut text = String::new(alloc);
+    write_test(&mut text, test)?;
+    write_outcomes(&mut text, depth, outcomes.len())?;
+    write_states(&mut text, test, names, outcomes)?;
+    write_observation(&mut text, test, outcomes)?;
+    Ok(text)
+}
+
+/// The line of a search that met its limit.
+///
+/// Errors: out of memory only.
+pub fn unfinished_text(alloc: Global, limit: usize) -> Result<String, NoMemory>
+    ensures { IfOk result (λ text. string_bytes text ≡ unfinished_line limit) }
+{
+    let mut text = String::new(alloc);
+    write!(text, "Unfinished states={limit}\n")?;
+    Ok(text)
+}
+
+/// `Outcomes depth=D states=N`.
+fn write_outcomes(text: &mut String, depth: u8, states: usize) -> Result<(), NoMemory>
+    ensures { OnOk result (string_bytes text.new ≡ string_bytes text.old ++ outcomes_line depth states) }
+{
+    write!(text, "Outcomes depth={depth} states={states}\n")?;
+    Ok(())
+}
+
+/// Two lines for each state.
+fn write_states(
+    text: &mut String,
+    test: &Test,
+    names: &[Named],
+    outcomes: &Outcomes,
+) -> Result<(), NoMemory>
+    requires { AreLookedAt test.now names.now }
+    ensures { OnOk result (string_bytes text.new ≡ string_bytes text.old ++ kept_lines test.now (kept_of outcomes.now.entries)) }
+{
+    for (values, state) in outcomes.iter() {
+        write_state(text, test, names, values)?;
+        write_by(text, &state.choices)?;
+    }
+    Ok(())
+}
+
+/// `State 0:EAX=v x=v ..`.
+fn write_state(
+    text: &mut String,
+    test: &Test,
+    names: &[Named],
+    values: &[u32],
+) -> Result<(), NoMemory>
+    requires { AreLookedAt test.now names.now }
+    ensures { OnOk result (string_bytes text.new ≡ string_bytes text.old ++ state_line test.now values.now) }
+{
+    text.push_str("State")?;
+    write_values(text, test, names, values)?;
+    text.push('\n')?;
+    Ok(())
+}
+
+/// `By 0s 1s 0d ..`.
+fn write_by(text: &mut String, choices: &[Choice]) -> Result<(), NoMemory>
+    ensures { OnOk result (string_bytes text.new ≡ string_bytes text.old ++ by_line choices.now) }
+{
+    text.push_str("By")?;
+    write_after(text, choices)?;
+    text.push('\n')?;
+    Ok(())
+}
+
+/// `Observation NAME Sometimes P Q`, where the test has a condition.
+fn write_observation(text: &mut String, test: &Test, outcomes: &Outcomes) -> Result<(), NoMemory>
+    requires { AreShown test.now (kept_of outcomes.now.entries) }
+    ensures { OnOk result (string_bytes text.new ≡ string_bytes text.old
+        ++ observation_line test.now.name test.now.condition (values_of (kept_of outcomes.now.entries))) }
+{
+    match test.cond() {
+        None => Ok(()),
+        Some(cond) => {
+            let (held, failed) = counts_of(cond, outcomes);
+            write_observed(text, test.name(), held, failed)
+        }
+    }
+}

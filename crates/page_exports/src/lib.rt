@@ -1,0 +1,119 @@
+//! The answers of `tso` by the C convention, for the page: numbers and bytes in; an answer's bytes, the hint beside it and
+//! the exit status out.
+#![tactic(auto)]
+
+ghost use Rattle.std.specs.Prelude.{◌≡◌, ◌≢◌, ◌<◌, ◌⊎◌, ◌↔◌, true, false, take, length, IfOk};
+ghost use Rattle.command_line.specs.Limits.{HasDepth};
+ghost use Rattle.page_exports.specs.Asked.{AnswersAsked, Answers, IsAskable, number_of};
+
+mod asked;
+
+pub use asked::Asked;
+use asked::{settings_of, status_number};
+use std::alloc::Global;
+use tso_cli::{Settings, answer_to, hint};
+use tso_model::NoMemory;
+
+/// The status where the numbers ask for nothing that there is, as the program's for a command line that is refused.
+pub const NOTHING_ASKED: u8 = 2;
+
+/// The status where memory was refused.
+pub const NO_MEMORY: u8 = 5;
+
+/// How an answer came out.
+#[repr(C)]
+#[derive(Clone, Copy)]
+pub struct Told {
+    /// How many bytes the answer has.
+    pub length: usize,
+    /// How many bytes the hint beside it has; often none.
+    pub hint_length: usize,
+    /// The command's exit status; [`NOTHING_ASKED`] and [`NO_MEMORY`] where there is no answer.
+    pub status: u8,
+    /// Whether answer and hint stand whole at the start of the rooms that were given for them.
+    pub is_whole: bool,
+}
+
+/// Answers what is asked of an input, as the program with these settings answers it on its standard input: the answer
+/// into one room, the hint beside it into another. What a room holds behind them is left open.
+///
+/// `told` has the status [`NOTHING_ASKED`] where the numbers ask for nothing that there is, [`NO_MEMORY`] where memory
+/// was refused, and else the command's own; it isn't whole where there is no answer, and where a room is shorter than
+/// the length that is told: a call with that much room answers.
+#[unsafe(no_mangle)]
+pub extern "C" fn page_answer(
+    alloc: Global,
+    asked: &Asked,
+    input: &[u8],
+    output: &mut [u8],
+    hint_output: &mut [u8],
+    told: &mut Told,
+)
+    ensures answered { told.new.is_whole ≡ true → AnswersAsked asked.now input.now (take told.new.length output.new)
+        (take told.new.hint_length hint_output.new) told.new.status }
+    ensures refused { (told.new.status ≡ 2) ↔ ¬ (IsAskable asked.now) }
+    ensures whole { told.new.is_whole ≡ false → (told.new.status ≡ 2) ⊎ (told.new.status ≡ 5)
+        ⊎ (length output.old < told.new.length) ⊎ (length hint_output.old < told.new.hint_length) }
+{
+    *told = match settings_of(asked) {
+        Some(settings) => match told_under(alloc, &settings, input, output, hint_output) {
+            Ok(told) => told,
+            Err(NoMemory) => nothing(NO_MEMORY),
+        },
+        None => nothing(NOTHING_ASKED),
+    };
+}
+
+fn nothing(status: u8) -> Told
+    ensures whole { result.is_whole ≡ false }
+    ensures status { result.status ≡ status }
+{
+    Told {
+        length: 0,
+        hint_length: 0,
+        status,
+        is_whole: false,
+    }
+}
+
+/// Answers under settings, and tells what fitted into the rooms.
+fn told_under(
+    alloc: Global,
+    settings: &Settings,
+    input: &[u8],
+    output: &mut [u8],
+    hint_output: &mut [u8],
+) -> Result<Told, NoMemory>
+    requires { HasDepth settings.now }
+    ensures answers { IfOk result (λ t. t.is_whole ≡ true
+        → Answers settings.now input.now (take t.length output.new) (take t.hint_length hint_output.new) t.status) }
+    ensures command { IfOk result (λ t. t.status ≢ 2) }
+    ensures whole { IfOk result (λ t. t.is_whole ≡ false
+        → (length output.old < t.length) ⊎ (length hint_output.old < t.hint_length)) }
+{
+    let answer = answer_to(alloc, settings, input)?;
+    let hint = hint(alloc, &answer, input)?;
+    let (text, hint) = (answer.text.as_bytes(), hint.as_bytes());
+    let has_text = put(text, output);
+    let has_hint = put(hint, hint_output);
+    Ok(Told {
+        length: text.len(),
+        hint_length: hint.len(),
+        status: status_number(answer.status),
+        is_whole: has_text && has_hint,
+    })
+}
+
+/// Puts a text at the start of a room, if it has room for all of it.
+#[tactic(auto, using(crate::proofs::Takes::taken_front))]
+fn put(text: &[u8], room: &mut [u8]) -> bool
+    ensures put { result ≡ true → take (length text.now) room.new ≡ text.now }
+    ensures full { result ≡ false → length room.old < length text.now }
+{
+    if room.len() < text.len() {
+        return false;
+    }
+    let (front, _) = room.split_at_mut(text.len());
+    front.copy_from_slice(text);
+    true
+}

@@ -1,0 +1,12 @@
+-- The state of a line in the caches.
+use Rattle.std.proofs.Common.{◌≡◌, ◌∙◌, ℕ, List, Option, option_map, ap}
+use Rattle.protocol_tables.specs.declared.state.State.{State}
+use Rattle.cache_set.specs.declared.Line.{Line}
+use Rattle.snoop_bus.specs.CacheContents.{TagSets, tag_in}
+use Rattle.snoop_bus.specs.Asks.{tag_at}
+use Rattle.snoop_bus.specs.Copies.{Sets, cache_of, copy_at, tags_of}
+use Rattle.snoop_bus.proofs.CacheTags.{tag_at-tags, sets_of-tags}
+
+-- it is that of the copy
+pub tag_at-copy : (caches : List Sets) (core line : ℕ) → tag_at core line (tags_of caches) ≡ option_map (λ copy. copy.state) (copy_at caches core line)
+tag_at-copy caches core line = ap (λ (sets : TagSets). tag_in sets line) (sets_of-tags caches core) ∙ tag_at-tags (cache_of caches core) line

@@ -1,0 +1,7 @@
+use Rattle.std.proofs.Common.{◌≡◌, drop}
+use Rattle.snoop_bus.specs.Bus.{words_among}
+use Rattle.snoop_bus.proofs.looking.copied_words.Given as goal
+
+-- the first copy is among those that are left, if there is one at all
+abbrev pub invariant-loop-cache : goal.invariant-loop-cache
+invariant-loop-cache l = words_among l.caches l.line ≡ words_among (drop l.cache-index l.caches) l.line

@@ -1,0 +1,12 @@
+-- Words of contracts inside the project.
+pub mod Accesses
+pub mod Accessing
+pub mod Asks
+pub mod Bus
+pub mod CacheContents
+pub mod Completing
+pub mod Copies
+pub mod Finding
+pub mod Held
+pub mod Requests
+pub mod Tags

@@ -1,0 +1,89 @@
+-- The caches of all cores and memory at an access that is made whole: what it rests on, and what it leaves.
+use Rattle.std.specs.Prelude.{◌≡◌, ◌<◌, ◌≤◌, ◌⊎◌, ℕ, true, IsTrue, nat_eq, if◌then◌else◌, List, length, slice_set}
+use Rattle.std.specs.Prelude.{slice_index, Option, Some, None, IfSome}
+use Rattle.protocol_tables.specs.declared.state.State.TheVariants.{M}
+use Rattle.protocol_tables.specs.Tables.{Table}
+use Rattle.cache_set.specs.inner.Copy.{copy_with}
+use Rattle.snoop_bus.specs.declared.access.Access.{Access}
+use Rattle.snoop_bus.specs.declared.access.Updated.{Updated}
+use Rattle.snoop_bus.specs.declared.holding.Held.{Held}
+use Rattle.tso_model.specs.Limits.{most_cores}
+use Rattle.snoop_bus.specs.Lines.{Words}
+use Rattle.snoop_bus.specs.CacheContents.{TagSets, loaded, written}
+use Rattle.snoop_bus.specs.Copies.{Sets, copy_at, tags_of}
+use Rattle.snoop_bus.specs.inner.Copies.{ways_of}
+use Rattle.snoop_bus.specs.MemoryAfter.{loaded_memory, written_memory}
+use Rattle.snoop_bus.specs.Held.{counted}
+use Rattle.snoop_bus.specs.inner.Held.{IsHeld}
+use Rattle.snoop_bus.specs.Bus.{AllCoherent, current_words}
+use Rattle.snoop_bus.specs.Asks.{hits}
+
+-- a core may ask for a line of memory, or hit it beside an action that holds the bus: the copies that count are
+-- coherent, and the holder's own copy is as its action has left it
+pub record IsReady (held : Option Held) (core line : ℕ) (caches : List Sets) (memory : List Words) : Type 0 where
+  pub coherent : AllCoherent (counted held caches) memory
+  pub awaited : IfSome held (IsHeld caches memory)
+  pub core_in : core < length caches
+  pub few_cores : length caches ≤ most_cores
+  pub line_in : line < length memory
+
+-- a write access may be made whole: nobody holds the bus, or it hits
+abbrev pub MayWrite : Table → Option Held → ℕ → ℕ → List TagSets → Type 0
+MayWrite t held core line caches = (held ≡ None) ⊎ IsTrue (hits t core line true caches)
+
+-- the caches and memory are coherent, the words that are seen stay, and so does the room in each set
+pub record KeepsWords (old_caches new_caches : List Sets) (old_memory new_memory : List Words) : Type 0 where
+  pub coherent : AllCoherent new_caches new_memory
+  pub words : (k : ℕ) → k < length old_memory → current_words new_caches new_memory k ≡ current_words old_caches old_memory k
+  pub ways : ways_of new_caches ≡ ways_of old_caches
+
+-- so many lines, of which one changes, and of it the word at this place alone
+abbrev pub OnlyWordAt : ℕ → ℕ → ℕ → ℕ → (ℕ → Words) → (ℕ → Words) → Type 0
+OnlyWordAt line place value count old new =
+    (k : ℕ) → k < count → new k ≡ (if nat_eq k line then slice_set (old line) place value else old k)
+
+-- the caches and memory are coherent, and the word at this place of a line alone is seen to change
+pub record SetsWord (line place value : ℕ) (old_caches new_caches : List Sets) (old_memory new_memory : List Words) : Type 0 where
+  pub coherent : AllCoherent new_caches new_memory
+  pub place_in : place < length (current_words old_caches old_memory line)
+  pub lines : OnlyWordAt line place value (length old_memory) (current_words old_caches old_memory) (current_words new_caches new_memory)
+
+-- the current words of a line, where those that the bus keeps count as the holder's
+abbrev pub counted_words : Option Held → List Sets → List Words → ℕ → Words
+counted_words held caches memory line = current_words (counted held caches) memory line
+
+-- nothing has changed, neither the caches nor memory: as where an access is out of memory
+pub record IsUnchanged (old new : List Sets) (before after : List Words) : Type 0 where
+  pub caches : new ≡ old
+  pub memory : after ≡ before
+
+module _ (t : Table) (held : Option Held) (core line : ℕ) where
+  -- a load answered the word at this place of a line and was this access: what it leaves goes by the protocol's table
+  pub record Loads (place : ℕ) (old new : List Sets) (before after : List Words) (word : ℕ) (access : Access) : Type 0 where
+    pub word_is : word ≡ slice_index (counted_words held old before line) place
+    pub access_is : access ≡ (loaded t core line (tags_of old)).access
+    pub tags : tags_of new ≡ (loaded t core line (tags_of old)).caches
+    pub memory : after ≡ loaded_memory t core line old before
+
+  -- a write access found these words and was this access: the core has the line in M, and what is left goes by
+  -- the protocol's table
+  pub record Acquires (old new : List Sets) (before after : List Words) (words : Words) (access : Access) : Type 0 where
+    pub words_are : words ≡ counted_words held old before line
+    pub own : copy_at new core line ≡ Some (copy_with M words)
+    pub access_is : access ≡ (written t core line (tags_of old)).access
+    pub tags : tags_of new ≡ (written t core line (tags_of old)).caches
+    pub memory : after ≡ written_memory t core line old before
+
+  -- a write access wrote this value at a place of a line, found that word there and was this access: that word alone
+  -- is seen to change, and what is left goes by the protocol's table
+  pub record Writes (place value : ℕ) (old new : List Sets) (before after : List Words) (word : ℕ) (access : Access) : Type 0 where
+    pub place_in : place < length (counted_words held old before line)
+    pub word_is : word ≡ slice_index (counted_words held old before line) place
+    pub lines : OnlyWordAt line place value (length before) (counted_words held old before) (counted_words held new after)
+    pub access_is : access ≡ (written t core line (tags_of old)).access
+    pub tags : tags_of new ≡ (written t core line (tags_of old)).caches
+    pub memory : after ≡ written_memory t core line old before
+
+  -- a write access made this of the word that it found
+  abbrev pub Updates : ℕ → List Sets → List Sets → List Words → List Words → Updated → Type 0
+  Updates place old new before after u = Writes place u.after old new before after u.before u.access

@@ -1,0 +1,42 @@
+-- The transaction that an ask opens.
+use Rattle.std.specs.Prelude.{ℕ, Bool, List, Option, option_map}
+use Rattle.tso_model.specs.declared.instruction.Core.{Core}
+use Rattle.tso_model.specs.declared.instruction.Loc.{Loc}
+use Rattle.protocol_tables.specs.declared.asking.Request.{Request}
+use Rattle.protocol_tables.specs.declared.asking.Transient.{Transient}
+use Rattle.protocol_tables.specs.Tables.{Table}
+use Rattle.cache_set.specs.inner.Copy.{copy_with}
+use Rattle.snoop_bus.specs.declared.holding.Transaction.{Transaction}
+use Rattle.snoop_bus.specs.declared.holding.Held.{Held}
+use Rattle.snoop_bus.specs.Lines.{Words}
+use Rattle.snoop_bus.specs.CacheContents.{TagSets}
+use Rattle.snoop_bus.specs.Copies.{Sets, tags_of}
+use Rattle.snoop_bus.specs.Held.{stage_for}
+use Rattle.snoop_bus.specs.inner.Held.{held_by}
+use Rattle.snoop_bus.specs.Bus.{current_words}
+use Rattle.snoop_bus.specs.MemoryAfter.{flushed}
+use Rattle.snoop_bus.specs.Asks.{asked_for, flusher_of, request_for, to_fill}
+
+-- the transaction of a request, where the line has these words, and what it awaits
+unfoldable pub transacting : Table → Request → ℕ → Words → List TagSets → Transient → Transaction
+transacting t request line words caches transient =
+    record { transient = transient; copy = copy_with (to_fill t request line caches) words; flushed = flusher_of t request line caches }
+
+-- the transaction that an ask begins; a write access that hits has none
+abbrev pub transaction_of : Table → Request → ℕ → ℕ → Words → List TagSets → Option Transaction
+transaction_of t request core line words caches =
+    option_map (transacting t request line words caches) (asked_for request core line caches)
+
+-- the same of a line of these caches and this memory, with its current words
+abbrev pub transacting_at : Table → Request → ℕ → List Sets → List Words → Transient → Transaction
+transacting_at t request line caches memory transient =
+    transacting t request line (current_words caches memory line) (tags_of caches) transient
+
+abbrev pub transaction_at : Table → Request → ℕ → ℕ → List Sets → List Words → Option Transaction
+transaction_at t request core line caches memory =
+    transaction_of t request core line (current_words caches memory line) (tags_of caches)
+
+-- what holds the bus after a core's ask for an access at a location of this line
+abbrev pub held_after_ask : Table → Core → Loc → ℕ → Bool → List Sets → List Words → Held
+held_after_ask t core loc line write caches memory =
+    held_by core loc (stage_for write) line (transaction_at t (request_for write) core.0 line caches memory)

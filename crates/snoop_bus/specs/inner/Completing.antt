@@ -1,0 +1,37 @@
+-- The second half of an access, over the caches of all cores and memory: what it begins with, and what it leaves.
+use Rattle.std.specs.Prelude.{◌≡◌, ◌<◌, ℕ, List, length, Option}
+use Rattle.protocol_tables.specs.Tables.{Table}
+use Rattle.snoop_bus.specs.declared.access.Access.{Access}
+use Rattle.snoop_bus.specs.declared.holding.Stage.{Stage}
+use Rattle.snoop_bus.specs.declared.holding.Transaction.{Transaction}
+use Rattle.snoop_bus.specs.Lines.{Words}
+use Rattle.snoop_bus.specs.CacheContents.{Accessed}
+use Rattle.snoop_bus.specs.Copies.{Sets, cache_of, copy_at, tags_of}
+use Rattle.snoop_bus.specs.Held.{counted_in}
+use Rattle.snoop_bus.specs.inner.Held.{Awaits}
+use Rattle.snoop_bus.specs.Bus.{AllCoherent, current_words}
+use Rattle.snoop_bus.specs.Asks.{awaited_in, completed, completed_memory}
+
+-- a core's action is at this stage of an access to a line of memory: the copies that count are coherent, the words that
+-- the bus keeps among them
+pub record IsAwaited (stage : Stage) (x : Option Transaction) (core line : ℕ) (caches : List Sets) (memory : List Words) : Type 0 where
+  pub coherent : AllCoherent (counted_in core line x caches) memory
+  pub core_in : core < length caches
+  pub some_set : 0 < length (cache_of caches core)
+  pub line_in : line < length memory
+  pub awaits : Awaits stage x (copy_at caches core line)
+
+-- the words that are due to the core: those that the bus keeps, or that are seen where it keeps none
+abbrev pub words_due : Option Transaction → ℕ → ℕ → List Sets → List Words → Words
+words_due x core line caches memory = current_words (counted_in core line x caches) memory line
+
+-- the completion: what access it is, and the lines and states after it
+abbrev pub completion_at : Table → Option Transaction → ℕ → ℕ → List Sets → Accessed
+completion_at t x core line caches = completed t core line (awaited_in x) (tags_of caches)
+
+module _ (t : Table) (x : Option Transaction) (core line : ℕ) (old new : List Sets) (before after : List Words) where
+  -- an access was completed and was this one: what is left goes by the protocol's table
+  pub record Completes (access : Access) : Type 0 where
+    pub access_is : access ≡ (completion_at t x core line old).access
+    pub tags : tags_of new ≡ (completion_at t x core line old).caches
+    pub memory : after ≡ completed_memory t core line (awaited_in x) old before

@@ -1,0 +1,121 @@
+-- What a request leaves in each cache that sees it.
+use Rattle.std.specs.Prelude.{◌≡◌, ◌<◌, ◌⊎◌, ℕ, Bool, not, ◌&&◌, nat_eq, nat_lt, if◌then◌else◌, List, length, map}
+use Rattle.std.specs.Prelude.{Option, Some, None, unwrap_or}
+use Rattle.protocol_tables.specs.declared.state.State.{State}
+use Rattle.protocol_tables.specs.declared.state.State.TheVariants.{I, S, E, O, M}
+use Rattle.protocol_tables.specs.declared.state.Snoop.{Snoop}
+use Rattle.protocol_tables.specs.Laws.{is_dirty}
+use Rattle.cache_set.specs.declared.Line.{Line}
+use Rattle.cache_set.specs.Contents.{Contents}
+use Rattle.cache_set.specs.inner.Contents.{with_changed, without}
+use Rattle.cache_set.specs.inner.Copy.{copy_with, with_state}
+use Rattle.snoop_bus.specs.Lines.{Words, line_in}
+use Rattle.snoop_bus.specs.Tags.{TagSet, tag_set}
+use Rattle.snoop_bus.specs.inner.Tags.{clean}
+use Rattle.snoop_bus.specs.Copies.{Sets, in_set, copy_in, copy_at, cache_of}
+
+-- a set once its copy of a line went to this state: in I it leaves
+abbrev pub next_in : ℕ → State → Contents → Contents
+next_in line I s = without line s
+next_in line S s = with_changed (with_state S) line s
+next_in line E s = with_changed (with_state E) line s
+next_in line O s = with_changed (with_state O) line s
+next_in line M s = with_changed (with_state M) line s
+
+abbrev pub answered_in : (State → Snoop) → ℕ → Option Line → Sets → Sets
+answered_in on_request line None sets = sets
+answered_in on_request line (Some copy) sets = in_set line (next_in line (on_request copy.state).next) sets
+
+-- a core's sets once it saw another's request for a line
+abbrev pub answered : (State → Snoop) → ℕ → Sets → Sets
+answered on_request line sets = answered_in on_request line (copy_in sets line) sets
+
+-- a copy in this state, and none in I
+abbrev pub copy_if : State → Words → Option Line
+copy_if I words = None
+copy_if S words = Some (copy_with S words)
+copy_if E words = Some (copy_with E words)
+copy_if O words = Some (copy_with O words)
+copy_if M words = Some (copy_with M words)
+
+-- what another's request leaves of a copy
+abbrev pub left_by : (State → Snoop) → Option Line → Option Line
+left_by on_request None = None
+left_by on_request (Some copy) = copy_if (on_request copy.state).next copy.words
+
+-- a core's sets, and a copy, where the core has seen the request, or hasn't
+abbrev pub answered_if : Bool → (State → Snoop) → ℕ → Sets → Sets
+answered_if has_seen on_request line sets = if has_seen then answered on_request line sets else sets
+
+abbrev pub left_if : Bool → (State → Snoop) → Option Line → Option Line
+left_if has_seen on_request copy = if has_seen then left_by on_request copy else copy
+
+-- one cache has seen the request, unless it is the one of the core that made it; and the copies then
+abbrev pub SeenAt : ℕ → (State → Snoop) → ℕ → ℕ → List Sets → List Sets → Type 0
+SeenAt other on_request core line old new =
+    (i : ℕ) → cache_of new i ≡ answered_if (nat_eq i other && not (nat_eq i core)) on_request line (cache_of old i)
+
+abbrev pub LeftAt : ℕ → (State → Snoop) → ℕ → ℕ → List Sets → List Sets → Type 0
+LeftAt other on_request core line old new =
+    (i k : ℕ) → copy_at new i k ≡ left_if (nat_eq i other && (not (nat_eq i core) && nat_eq k line)) on_request (copy_at old i k)
+
+-- every cache below this number has seen the request, but for the one that made it; and the copies then
+abbrev pub SeenBelow : ℕ → (State → Snoop) → ℕ → ℕ → List Sets → List Sets → Type 0
+SeenBelow upto on_request core line old new =
+    (i : ℕ) → cache_of new i ≡ answered_if (nat_lt i upto && not (nat_eq i core)) on_request line (cache_of old i)
+
+abbrev pub LeftBelow : ℕ → (State → Snoop) → ℕ → ℕ → List Sets → List Sets → Type 0
+LeftBelow upto on_request core line old new =
+    (i k : ℕ) → copy_at new i k ≡ left_if (nat_lt i upto && (not (nat_eq i core) && nat_eq k line)) on_request (copy_at old i k)
+
+-- the copies once every cache but one has seen a request for a line
+abbrev pub LeftByOthers : (State → Snoop) → ℕ → ℕ → List Sets → List Sets → Type 0
+LeftByOthers on_request core line old new =
+    (i k : ℕ) → copy_at new i k ≡ left_if (not (nat_eq i core) && nat_eq k line) on_request (copy_at old i k)
+
+-- one core's copy of one line is this one now, and all others are as they were
+abbrev pub ChangesCopy : ℕ → ℕ → Option Line → List Sets → List Sets → Type 0
+ChangesCopy core line copy old new =
+    (i k : ℕ) → copy_at new i k ≡ (if nat_eq i core && nat_eq k line then copy else copy_at old i k)
+
+-- the copy once its words are in memory too
+abbrev pub clean_copy : Line → Line
+clean_copy copy = copy_with (clean copy.state) copy.words
+
+-- the words that memory gets of a copy: its own where it is dirty, and none of any other
+abbrev pub words_if_dirty : Option Line → Words → Words
+words_if_dirty None memory = memory
+words_if_dirty (Some copy) memory = (if is_dirty copy.state then copy.words else memory)
+
+-- memory once a core's copy of one line has gone there, if it is dirty
+abbrev pub DirtyWrittenAt : ℕ → Sets → List Words → List Words → Type 0
+DirtyWrittenAt line sets old new =
+    (k : ℕ) → line_in new k ≡ (if nat_eq k line then words_if_dirty (copy_in sets k) (line_in old k) else line_in old k)
+
+-- a line and its state once the line with this number was settled, and once all below it were
+abbrev pub clean_tag_at : ℕ → ℕ × State → ℕ × State
+clean_tag_at line t = if nat_eq line t.0 then (t.0, clean t.1) else t
+
+abbrev pub clean_tag_below : ℕ → ℕ × State → ℕ × State
+clean_tag_below line t = if nat_lt t.0 line then (t.0, clean t.1) else t
+
+abbrev pub cleaned_at : ℕ → TagSet → TagSet
+cleaned_at line s = tag_set (map (clean_tag_at line) s.tags) s.ways
+
+abbrev pub cleaned_below : ℕ → TagSet → TagSet
+cleaned_below line s = tag_set (map (clean_tag_below line) s.tags) s.ways
+
+-- the words of a copy that supplies them
+abbrev pub supplied_of : (State → Snoop) → Option Line → Option Words
+supplied_of on_request None = None
+supplied_of on_request (Some copy) = (if (on_request copy.state).supplies then Some copy.words else None)
+
+-- the words of a line: those of a copy that supplies them, or memory's where none does
+abbrev pub Supplied : (State → Snoop) → List Sets → ℕ → Words → Words → Type 0
+Supplied on_request caches line memory words =
+    ((words ≡ memory) × ((i : ℕ) → i < length caches → supplied_of on_request (copy_at caches i line) ≡ None))
+    ⊎ ((i : ℕ) × (supplied_of on_request (copy_at caches i line) ≡ Some words))
+
+-- these words were found, if a copy supplies any: a line's words are these, or memory's where there are none
+abbrev pub HasSupplied : (State → Snoop) → List Sets → ℕ → Option Words → Type 0
+HasSupplied on_request caches line found = (memory : Words) → Supplied on_request caches line memory (unwrap_or found memory)

@@ -1,0 +1,137 @@
+//! What a bus holds, for one who only looks. No call changes anything.
+
+ghost use Rattle.std.specs.Prelude.{◌≡◌, ◌<◌, IfSome, length, option_map, slice_get};
+ghost use Rattle.snoop_bus.specs.Lines.{line_of_words};
+ghost use Rattle.snoop_bus.specs.Bus.{words_of, cores_of, IsFree, IsCoherent, words_among, current_words, AllCoherent};
+ghost use Rattle.snoop_bus.specs.inner.Bus.{HasLines};
+ghost use Rattle.snoop_bus.specs.Held.{counted};
+ghost use Rattle.snoop_bus.specs.inner.Held.{IsHeld, kept_words};
+ghost use Rattle.snoop_bus.specs.Accesses.{awaited_of, contents_of, line_of, IsCurrentWord};
+ghost use Rattle.snoop_bus.specs.inner.Accesses.{copies_of, ranked_line, memory_words_of, IsClean};
+
+use crate::bus::SnoopBus;
+use crate::cache::Cache;
+use crate::holding::Held;
+use cache_set::{CacheSet, Line, MAX_WORDS};
+use protocol_tables::{Protocol, State, Transient};
+use tso_model::{Core, Loc};
+
+/// A line in a cache: its number, its state, and its words. Those past the line's size are 0.
+#[derive(Clone, Copy, PartialEq, Eq)]
+pub struct CachedLine {
+    pub line: u8,
+    pub state: State,
+    pub words: [u32; MAX_WORDS],
+}
+
+impl<P: Protocol> SnoopBus<P> {
+    /// The word that a program sees at a location. This is no access.
+    pub fn word(&self, loc: Loc) -> u32
+        requires { loc.0 < length (words_of self.now) }
+        ensures { IsCurrentWord self.now loc.0 result }
+    {
+        let line = self.shape.line_of(loc);
+        let place = self.shape.place_of(loc);
+        seen(&self.caches, &self.memory, self.held, line)[usize::from(place)]
+    }
+
+    /// Memory's own word at a location, which may be stale where a cache has a dirty copy, or an action holds
+    /// the bus.
+    pub fn memory_word(&self, loc: Loc) -> u32
+        requires { loc.0 < length (words_of self.now) }
+        ensures value { slice_get (memory_words_of self.now) loc.0 ≡ Some result }
+        ensures clean { IsFree self.now → IsClean (contents_of self.now) (line_of self.now loc.0) → IsCurrentWord self.now loc.0 result }
+    {
+        let line = self.shape.line_of(loc);
+        let place = self.shape.place_of(loc);
+        self.memory[usize::from(line)][usize::from(place)]
+    }
+
+    /// A core's set with this number, in which its copies stand with their words: all those of their lines,
+    /// and 0 past them.
+    pub fn set_of(&self, core: Core, set: u8) -> &CacheSet
+        requires core { core.0 < cores_of self.now }
+        requires set { set < self.now.shape.sets }
+        ensures set { result.now ≡ copies_of self.now core.0 set }
+        ensures coherent { IsCoherent self.now }
+        ensures lines { HasLines self.now }
+    {
+        self.caches[usize::from(core.0)].set(set)
+    }
+
+    /// The line of this rank in a core's set, where rank 0 is the most recently used; its words are those that a
+    /// program sees. `None` where the set has no more lines than that, or there is no such core or set.
+    pub fn ranked(&self, core: Core, set: u8, rank: usize) -> Option<CachedLine>
+        ensures { result ≡ ranked_line self.now core.0 set rank }
+    {
+        let (line, copy) = self.ranked_copy(core, set, rank)?;
+        let words = copy.words;
+        Some(CachedLine {
+            line,
+            state: copy.state,
+            words,
+        })
+    }
+
+    /// The line of this rank in a core's set with its copy, if there are so many.
+    fn ranked_copy(&self, core: Core, set: u8, rank: usize) -> Option<(u8, Line)>
+        ensures value { result ≡ slice_get (copies_of self.now core.0 set).copies rank }
+        ensures words { IfSome result (λ r. r.1.words ≡ line_of_words self.now.shape.words (words_of self.now) r.0) }
+    {
+        let cache = self.caches.get(usize::from(core.0))?;
+        // A line lies in its own set alone.
+        if usize::from(set) >= cache.len() {
+            return None;
+        }
+        cache.set(set).ranked(rank)
+    }
+
+    /// What the line of the action that holds the bus is in until its words come; `None` where nobody holds
+    /// the bus, and where nothing is awaited.
+    pub fn transient(&self) -> Option<Transient>
+        ensures { result ≡ option_map (λ awaited. awaited.transient) (awaited_of self.now) }
+    {
+        self.held?
+            .transaction
+            .map(|transaction| transaction.transient)
+    }
+}
+
+/// The words of a line that a program sees: a copy's where there is one, and else memory's. What the bus keeps
+/// for its holder counts as a copy.
+fn seen(
+    caches: &[Cache],
+    memory: &[[u32; MAX_WORDS]],
+    held: Option<Held>,
+    line: u8,
+) -> [u32; MAX_WORDS]
+    requires coherent { AllCoherent (counted held caches.now) memory.now }
+    requires awaited { IfSome held (IsHeld caches.now memory.now) }
+    requires line { line < length memory.now }
+    ensures { result ≡ current_words (counted held caches.now) memory.now line }
+{
+    kept_words(held, line)
+        .or(copied_words(caches, line))
+        .unwrap_or(memory[usize::from(line)])
+}
+
+/// The words that the bus keeps for its holder, if they are this line's.
+fn kept_words(held: Option<Held>, line: u8) -> Option<[u32; MAX_WORDS]>
+    ensures { result ≡ kept_words held line }
+{
+    let held = held?;
+    let transaction = held.transaction?;
+    (held.line == line).then_some(transaction.copy.words)
+}
+
+/// The words of a line in the first cache that has a copy.
+fn copied_words(caches: &[Cache], line: u8) -> Option<[u32; MAX_WORDS]>
+    ensures { result ≡ words_among caches.now line }
+{
+    for cache in caches {
+        if let Some(copy) = cache.look(line) {
+            return Some(copy.words);
+        }
+    }
+    None
+}

@@ -1,0 +1,7 @@
+-- What the code of a store buffer holds, as a list.
+use Rattle.std.specs.Prelude.{ℕ, List}
+use Rattle.store_buffer.specs.declared.Pending.{Pending}
+use Rattle.store_buffer.specs.Stores.{Stores}
+
+abbrev pub stores : List Pending → ℕ → Stores
+stores items depth = record { items = items; depth = depth }

@@ -1,0 +1,90 @@
+-- What is looked up of a core on a machine.
+use Rattle.std.proofs.Common.{◌≡◌, ◌∙◌, ℕ, zero, suc, ◌+◌, ◌<◌, List, [], ◌∷◌, ◌++◌, length, take, Option, Some, None, option_map, slice_get, slice_index_or, refl, sym, ap, arith, length-append}
+use Rattle.std.specs.Option.{option_and_then, unwrap_or}
+use Rattle.tso_model.specs.Actions.{action_of}
+use Rattle.tso_model.specs.Thread.{value_in}
+use Rattle.tso_model.specs.FlatMachine.{CoreState, idle, core_of}
+use Rattle.tso_model.specs.declared.register.Reg.{Reg}
+use Rattle.tso_model.specs.declared.action.Action.{Action}
+use Rattle.tso_model.specs.declared.action.Action.TheVariants.{Move}
+use Rattle.tso_model.specs.declared.action.Operand.{Operand}
+use Rattle.tso_model.specs.declared.instruction.Instr.{Instr}
+use Rattle.tso_model.specs.declared.execution.Entry.{Entry}
+use Rattle.machine_core.specs.Running.{Running}
+use Rattle.machine_core.specs.inner.Looked.{core_at, pending_at}
+use Rattle.trace_report.specs.inner.Steps.{moved_by}
+use Rattle.trace_report.specs.declared.step.Moved.{Moved}
+
+place-in : (cores : List CoreState) (i : ℕ) → unwrap_or (option_map (λ (s : CoreState). s.place) (slice_get cores i)) 0 ≡ (slice_index_or cores i idle).place
+place-in [] i = refl
+place-in (s ∷ ss) zero = refl
+place-in (s ∷ ss) (suc i) = place-in ss i
+
+pub place-of : (m : Running) (core : ℕ) → unwrap_or (option_map (λ (s : CoreState). s.place) (core_at m core)) 0 ≡ (core_of m.state.flat core).place
+place-of m core = place-in m.state.flat.cores core
+
+register-in : (cores : List CoreState) (i : ℕ) (reg : Reg)
+    → unwrap_or (option_map (λ (s : CoreState). value_in s.registers reg) (slice_get cores i)) 0 ≡ value_in (slice_index_or cores i idle).registers reg
+register-in [] i reg = refl
+register-in (s ∷ ss) zero reg = refl
+register-in (s ∷ ss) (suc i) reg = register-in ss i reg
+
+pub register-of : (m : Running) (core : ℕ) (reg : Reg)
+    → unwrap_or (option_map (λ (s : CoreState). value_in s.registers reg) (core_at m core)) 0 ≡ value_in (core_of m.state.flat core).registers reg
+register-of m core reg = register-in m.state.flat.cores core reg
+
+-- what a move set
+pub moved-value : (m : Running) (core : ℕ) (reg : Reg) (operand : Operand) (i : Instr) (found : Option ℕ) (value : ℕ) → Move reg operand ≡ action_of i
+    → found ≡ option_map (λ (s : CoreState). value_in s.registers reg) (core_at m core) → value ≡ unwrap_or found 0
+    → Some (record { reg = reg; value = value }) ≡ moved_by (action_of i) (core_of m.state.flat core).registers
+moved-value m core reg operand i found value is found_is value_is =
+    let made : ℕ → Option Moved = λ v. Some (record { reg = reg; value = v }) in
+    ap made (value_is ∙ (ap (λ o. unwrap_or o 0) found_is ∙ register-of m core reg)) ∙ ap (λ (a : Action). moved_by a (core_of m.state.flat core).registers) is
+
+pending-in : (cores : List CoreState) (i number : ℕ) → option_and_then (λ (s : CoreState). slice_get s.pending number) (slice_get cores i) ≡ slice_get (slice_index_or cores i idle).pending number
+pending-in [] i number = refl
+pending-in (s ∷ ss) zero number = refl
+pending-in (s ∷ ss) (suc i) number = pending-in ss i number
+
+pub pending-of : (m : Running) (core number : ℕ) → pending_at m core number ≡ slice_get (core_of m.state.flat core).pending number
+pending-of m core number = pending-in m.state.flat.cores core number
+
+-- ---- a list read one after the other
+
+pub read-on : (n : ℕ) (xs done : List Entry) (x : Entry) → n ≡ length done → Some x ≡ slice_get xs n → done ≡ take n xs → done ++ x ∷ [] ≡ take (n + 1) xs
+read-on zero (y ∷ ys) done x many found so_far = let e : x ≡ y = cc in ap (λ d. d ++ x ∷ []) so_far ∙ ap (λ z. z ∷ []) e
+read-on zero [] done x many found so_far = absurd cc
+read-on (suc n) [] done x many found so_far = absurd cc
+read-on (suc n) (y ∷ ys) [] x many found so_far = absurd cc
+read-on (suc n) (y ∷ ys) (d ∷ ds) x many found so_far =
+    let first : d ≡ y = cc in
+    let rest : ds ≡ take n ys = cc in
+    let size : n ≡ length ds = omega arith in
+    let next : suc n + 1 ≡ suc (n + 1) = omega arith in
+    ap (λ z. z ∷ (ds ++ x ∷ [])) first ∙ (ap (λ z. y ∷ z) (read-on n ys ds x size found rest) ∙ ap (λ k. take k (y ∷ ys)) (sym next))
+
+pub within : (n : ℕ) (xs : List Entry) (x : Entry) → Some x ≡ slice_get xs n → n < length xs
+within zero [] x found = absurd cc
+within zero (y ∷ ys) x found = omega arith
+within (suc n) [] x found = absurd cc
+within (suc n) (y ∷ ys) x found = let h : n < length ys = within n ys x found in omega arith
+
+pub read-all : (n : ℕ) (xs : List Entry) → None ≡ slice_get xs n → take n xs ≡ xs
+read-all zero [] found = refl
+read-all zero (y ∷ ys) found = absurd cc
+read-all (suc n) [] found = refl
+read-all (suc n) (y ∷ ys) found = ap (λ z. y ∷ z) (read-all n ys found)
+
+-- one more pending store, and that there is none
+pub next-pending : (m : Running) (core n : ℕ) (done : List Entry) (x : Entry) → n ≡ length done → Some x ≡ pending_at m core n
+    → done ≡ take (length done) (core_of m.state.flat core).pending → done ++ x ∷ [] ≡ take (length (done ++ x ∷ [])) (core_of m.state.flat core).pending
+next-pending m core n done x many found so_far =
+    let at : Some x ≡ slice_get (core_of m.state.flat core).pending n = found ∙ pending-of m core n in
+    let size : length (done ++ x ∷ []) ≡ n + 1 = length-append done (x ∷ []) ∙ ap (λ k. k + 1) (sym many) in
+    read-on n (core_of m.state.flat core).pending done x many at (so_far ∙ ap (λ k. take k (core_of m.state.flat core).pending) (sym many))
+    ∙ ap (λ k. take k (core_of m.state.flat core).pending) (sym size)
+
+pub all-pending : (m : Running) (core n : ℕ) (done : List Entry) → n ≡ length done → None ≡ pending_at m core n
+    → done ≡ take (length done) (core_of m.state.flat core).pending → done ≡ (core_of m.state.flat core).pending
+all-pending m core n done many none so_far =
+    so_far ∙ (ap (λ k. take k (core_of m.state.flat core).pending) (sym many) ∙ read-all n (core_of m.state.flat core).pending (none ∙ pending-of m core n))

@@ -1,0 +1,7 @@
+use Rattle.std.proofs.Common.{◌≡◌, ◌++◌, drop, string_bytes}
+use Rattle.trace_report.specs.inner.Lines.{entries_text}
+use Rattle.trace_report.proofs.text.write_entries.Given as goal
+
+abbrev pub invariant-loop-entry : goal.invariant-loop-entry
+invariant-loop-entry l =
+    string_bytes l.text ++ entries_text l.test (drop l.entry-index l.entries) ≡ string_bytes l.initial.text ++ entries_text l.test l.entries

@@ -1,0 +1,98 @@
+//! What a choice puts on the bus, and sends to memory from another core's cache.
+
+ghost use Rattle.std.specs.Prelude.{◌≡◌, ◌<◌, ◌/◌, option_map};
+ghost use Rattle.snoop_bus.specs.Asks.{awaited_by};
+ghost use Rattle.machine_core.specs.inner.Kept.{access_in};
+ghost use Rattle.trace_report.specs.inner.Steps.{request_at, sent_whole, sent_asked, sent_on};
+
+use crate::step::LineRequest;
+use machine_core::{CacheUse, MemoryAccess};
+use protocol_tables::Request;
+use snoop_bus::{AccessKind, Transaction};
+use tso_model::{Bus, Core, Loc, Outcome};
+
+/// What goes on the bus and to memory.
+#[derive(Clone, Copy)]
+pub struct Sent {
+    /// The core's request.
+    pub request: Option<LineRequest>,
+    /// The core whose copy is sent to memory.
+    pub flushed: Option<Core>,
+}
+
+impl Sent {
+    const NOTHING: Sent = Sent {
+        request: None,
+        flushed: None,
+    };
+}
+
+/// What an access asks for, where lines have so many words.
+pub fn request_at(access: MemoryAccess, words: u8) -> Option<LineRequest>
+    requires { 0 < words }
+    ensures { result ≡ request_at words (access_in access) }
+{
+    match access {
+        MemoryAccess::Nothing => None,
+        MemoryAccess::Read(loc) => Some(request_for(Request::GetS, loc, words)),
+        MemoryAccess::Write(loc) | MemoryAccess::Lock(loc) => {
+            Some(request_for(Request::GetM, loc, words))
+        }
+    }
+}
+
+fn request_for(request: Request, loc: Loc, words: u8) -> LineRequest
+    requires { 0 < words }
+    ensures { result ≡ record { request = request; line = loc.0 / words } }
+{
+    LineRequest {
+        request,
+        line: loc.0 / words,
+    }
+}
+
+/// What a choice sends, on either bus: on the atomic bus with its access, on a split bus where it asks.
+pub fn sent_on(
+    bus: Bus,
+    outcome: Outcome,
+    request: Option<LineRequest>,
+    cache_use: CacheUse,
+    awaited: Option<Transaction>,
+) -> Sent
+    ensures { result ≡ sent_on bus outcome request cache_use (option_map awaited_by awaited) }
+{
+    match (bus, outcome) {
+        (Bus::Atomic, _) => sent_whole(request, cache_use),
+        (Bus::Split, Outcome::Asked) => sent_asked(request, awaited),
+        (Bus::Split, _) => Sent::NOTHING,
+    }
+}
+
+/// What an access sends that is made whole. A hit sends nothing.
+fn sent_whole(request: Option<LineRequest>, cache_use: CacheUse) -> Sent
+    ensures { result ≡ sent_whole request cache_use }
+{
+    match cache_use {
+        CacheUse::Unused | CacheUse::Forwarded => Sent::NOTHING,
+        CacheUse::Through(access) => Sent {
+            request: match access.kind {
+                AccessKind::Hit => None,
+                AccessKind::Upgrade | AccessKind::Miss => request,
+            },
+            flushed: access.flushed,
+        },
+    }
+}
+
+/// What is sent where an access is asked for. A write access that hits sends nothing.
+fn sent_asked(request: Option<LineRequest>, awaited: Option<Transaction>) -> Sent
+    ensures { result ≡ sent_asked request (option_map awaited_by awaited) }
+{
+    match awaited {
+        None => Sent::NOTHING,
+        Some(transaction) => Sent {
+            request,
+            flushed: transaction.flushed,
+        },
+    }
+}

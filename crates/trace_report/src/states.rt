@@ -1,0 +1,158 @@
+//! What the lines of all cores are in, and which of them changed.
+
+ghost use Rattle.std.specs.Prelude.{◌≡◌, ◌<◌, ◌++◌, IfOk, OnOk, length};
+ghost use Rattle.std.specs.Int.{div_ceil};
+ghost use Rattle.machine_core.specs.inner.Looked.{bus_holder_of};
+ghost use Rattle.trace_report.specs.inner.Steps.{awaited_at, line_state, placed, line_states, lines_of, states_of, number_of};
+ghost use Rattle.trace_report.specs.inner.Steps.{change_of, changes_in, left_by};
+ghost use Rattle.trace_report.specs.inner.Told.{IsLookedAt};
+
+use crate::step::{LineState, StateChange, core_of};
+use machine_core::Machine;
+use machine_core::looking::BusHolder;
+use protocol_tables::{Protocol, State, Transient};
+use std::alloc::Global;
+use tso_model::{Core, NoMemory, Test};
+
+/// What a core's line is in, by the line's number.
+#[derive(Clone, Copy)]
+pub struct PlacedState {
+    pub core: Core,
+    pub line: u8,
+    pub state: LineState,
+}
+
+/// What each line of each core is in, by core and then by line, where lines have so many words.
+///
+/// Errors: out of memory only.
+pub fn states_of<P: Protocol>(
+    alloc: Global,
+    machine: &Machine<P>,
+    test: &Test,
+    words: u8,
+) -> Result<Vec<PlacedState>, NoMemory>
+    requires { IsLookedAt test.now words machine.now }
+    ensures { IfOk result (λ states. states.items ≡ states_of machine.now) }
+{
+    let mut states = Vec::new(alloc);
+    for core in 0..test.cores() {
+        note_core(&mut states, machine, test, Core(core), words)?;
+    }
+    Ok(states)
+}
+
+/// What each line of a core is in.
+fn note_core<P: Protocol>(
+    states: &mut Vec<PlacedState>,
+    machine: &Machine<P>,
+    test: &Test,
+    core: Core,
+    words: u8,
+) -> Result<(), NoMemory>
+    requires looked { IsLookedAt test.now words machine.now }
+    requires core { core.0 < length test.now.programs }
+    ensures { OnOk result (states.new.items ≡ states.old.items ++ line_states machine.now core.0 0 (lines_of machine.now)) }
+{
+    let holder = machine.bus_holder();
+    let lines = test.locations().div_ceil(words);
+    for line in 0..lines {
+        let state = line_state(machine, holder, words, core, line);
+        states.push(PlacedState { core, line, state })?;
+    }
+    Ok(())
+}
+
+/// What a core's line is in. While the core has asked for it and awaits it, that is a transient.
+fn line_state<P: Protocol>(
+    machine: &Machine<P>,
+    holder: Option<BusHolder>,
+    words: u8,
+    core: Core,
+    line: u8,
+) -> LineState
+    requires core { core.0 < length machine.now.test.programs }
+    requires words { (0 < words) × (machine.now.statistics.caches.shape.words ≡ words) }
+    requires holder { holder ≡ bus_holder_of machine.now }
+    ensures { result ≡ line_state machine.now core.0 line }
+{
+    match awaited_at(holder, words, core, line) {
+        Some(transient) => LineState::Transient(transient),
+        None => LineState::Stable(machine.copy_state(core, line).unwrap_or(State::I)),
+    }
+}
+
+/// What the holder of the bus awaits, if this is its line.
+fn awaited_at(holder: Option<BusHolder>, words: u8, core: Core, line: u8) -> Option<Transient>
+    requires { 0 < words }
+    ensures { result ≡ awaited_at holder words core.0 line }
+{
+    let holder = holder?;
+    if core_of(holder.choice).0 == core.0 && holder.loc.0 / words == line {
+        holder.transient
+    } else {
+        None
+    }
+}
+
+/// The lines whose states changed, in their order.
+///
+/// Errors: out of memory only.
+pub fn changes_in(
+    alloc: Global,
+    before: &[PlacedState],
+    after: &[PlacedState],
+) -> Result<Vec<StateChange>, NoMemory>
+    ensures { IfOk result (λ changes. changes.items ≡ changes_in before.now after.now) }
+{
+    let mut changes = Vec::new(alloc);
+    for at in 0..before.len().min(after.len()) {
+        note_change(&mut changes, before[at], after[at])?;
+    }
+    Ok(changes)
+}
+
+fn note_change(
+    changes: &mut Vec<StateChange>,
+    before: PlacedState,
+    after: PlacedState,
+) -> Result<(), NoMemory>
+    ensures { OnOk result (changes.new.items ≡ changes.old.items ++ change_of before after) }
+{
+    if number_of(before.state) != number_of(after.state) {
+        changes.push(StateChange {
+            core: before.core,
+            line: before.line,
+            before: before.state,
+            after: after.state,
+        })?;
+    }
+    Ok(())
+}
+
+/// A number of each state, by which states are told apart; that of I is 0.
+fn number_of(state: LineState) -> u8
+    ensures { result ≡ number_of state }
+{
+    match state {
+        LineState::Stable(State::I) => 0,
+        LineState::Stable(State::S) => 1,
+        LineState::Stable(State::E) => 2,
+        LineState::Stable(State::O) => 3,
+        LineState::Stable(State::M) => 4,
+        LineState::Transient(Transient::IsD) => 5,
+        LineState::Transient(Transient::ImD) => 6,
+        LineState::Transient(Transient::SmD) => 7,
+    }
+}
+
+/// The first line of this core among these that has left its cache.
+pub fn left_by(core: Core, changes: &[StateChange]) -> Option<u8>
+    ensures { result ≡ left_by core.0 changes.now }
+{
+    for change in changes {
+        if change.core.0 == core.0 && number_of(change.after) == 0 {
+            return Some(change.line);
+        }
+    }
+    None
+}

@@ -1,0 +1,289 @@
+//! The lines of a trace.
+
+ghost use Rattle.std.specs.Prelude.{◌≡◌, ◌++◌, OnOk, All, IfSome, Some, codes, string_bytes};
+ghost use Rattle.order_builder.specs.PrintedOrder.{HasLocation};
+ghost use Rattle.trace_report.specs.inner.Shown.{shown};
+ghost use Rattle.protocol_tables.specs.PrintedTable.{line};
+ghost use Rattle.trace_report.specs.inner.Lines.{line_name, entries_text, moved_text, access_text, outcome_text};
+ghost use Rattle.trace_report.specs.inner.Lines.{request_text, flush_text, write_back_text, change_text, changes_text};
+ghost use Rattle.trace_report.specs.inner.Lines.{store_text, later_stores, stores_text, buffer_text, done_text, bus_text, left_text};
+ghost use Rattle.trace_report.specs.inner.Lines.{step_line, end_line};
+ghost use Rattle.trace_report.specs.inner.Known.{IsLine, IsAt, IsKnown};
+
+use crate::names::{access_name, request_name, stall_name, state_name};
+use crate::step::{LineRequest, Moved, StateChange, Step, core_of};
+use order_builder::entry_text;
+use scheduler::write_after;
+use snoop_bus::AccessKind;
+use std::alloc::Global;
+use tso_model::{Choice, Core, Entry, Loc, NoMemory, Outcome, Test};
+
+/// Writes the first line of a trace, `Trace`.
+///
+/// Errors: out of memory only.
+pub fn write_start(text: &mut String) -> Result<(), NoMemory>
+    ensures { OnOk result (string_bytes text.new ≡ string_bytes text.old ++ line (codes "Trace")) }
+{
+    text.push_str("Trace\n")?;
+    Ok(())
+}
+
+/// Writes the last line of a trace of so many steps, `Endtrace 6`.
+///
+/// Errors: out of memory only.
+pub fn write_end(text: &mut String, count: usize) -> Result<(), NoMemory>
+    ensures { OnOk result (string_bytes text.new ≡ string_bytes text.old ++ end_line count) }
+{
+    write!(text, "Endtrace {count}\n")?;
+    Ok(())
+}
+
+/// Writes the line of a step with this number, on caches whose lines have so many words:
+/// `5 0d committed P0:0 W x=1 miss GetM x P0.x I>M P1.x S>I P0[]`.
+///
+/// Errors: out of memory only; the text may have grown then.
+pub fn write_step(
+    text: &mut String,
+    alloc: Global,
+    test: &Test,
+    words: u8,
+    number: usize,
+    step: &Step,
+) -> Result<(), NoMemory>
+    requires { IsKnown test.now words (shown step.now) }
+    ensures { OnOk result (string_bytes text.new ≡ string_bytes text.old ++ step_line test.now words number (shown step.now)) }
+{
+    write_outcome(text, number, step.choice, step.outcome)?;
+    write_done(text, alloc, test, step)?;
+    write_bus(text, test, words, step)?;
+    write_left(text, test, words, step)?;
+    text.push('\n')?;
+    Ok(())
+}
+
+/// `5 0d committed`.
+fn write_outcome(
+    text: &mut String,
+    number: usize,
+    choice: Choice,
+    outcome: Outcome,
+) -> Result<(), NoMemory>
+    ensures { OnOk result (string_bytes text.new ≡ string_bytes text.old ++ outcome_text number choice outcome) }
+{
+    write!(text, "{number}")?;
+    write_after(text, &[choice])?;
+    match outcome {
+        Outcome::Committed => text.push_str(" committed")?,
+        Outcome::Buffered => text.push_str(" buffered")?,
+        Outcome::Moved => text.push_str(" moved")?,
+        Outcome::Asked => text.push_str(" asked")?,
+        Outcome::Stalled(stall) => {
+            let name = stall_name(stall);
+            write!(text, " stalled {name}")?;
+        }
+    }
+    Ok(())
+}
+
+/// What the choice did to the order and the registers, and by its access.
+fn write_done(text: &mut String, alloc: Global, test: &Test, step: &Step) -> Result<(), NoMemory>
+    requires { All (HasLocation test.now) step.now.entries.items }
+    ensures { OnOk result (string_bytes text.new ≡ string_bytes text.old ++ done_text test.now (shown step.now)) }
+{
+    write_entries(text, alloc, test, &step.entries)?;
+    write_moved(text, step.moved)?;
+    if step.forwarded {
+        text.push_str(" forwarded")?;
+    }
+    write_access(text, step.access)
+}
+
+fn write_entries(
+    text: &mut String,
+    alloc: Global,
+    test: &Test,
+    entries: &[Entry],
+) -> Result<(), NoMemory>
+    requires { All (HasLocation test.now) entries.now }
+    ensures { OnOk result (string_bytes text.new ≡ string_bytes text.old ++ entries_text test.now entries.now) }
+{
+    for entry in entries {
+        let entry = entry_text(alloc, test, entry)?;
+        write!(text, " {entry}")?;
+    }
+    Ok(())
+}
+
+fn write_moved(text: &mut String, moved: Option<Moved>) -> Result<(), NoMemory>
+    ensures { OnOk result (string_bytes text.new ≡ string_bytes text.old ++ moved_text moved) }
+{
+    if let Some(moved) = moved {
+        let (name, value) = (moved.reg.name(), moved.value);
+        write!(text, " {name}={value}")?;
+    }
+    Ok(())
+}
+
+fn write_access(text: &mut String, access: Option<AccessKind>) -> Result<(), NoMemory>
+    ensures { OnOk result (string_bytes text.new ≡ string_bytes text.old ++ access_text access) }
+{
+    if let Some(kind) = access {
+        let name = access_name(kind);
+        write!(text, " {name}")?;
+    }
+    Ok(())
+}
+
+/// What went on the bus and to memory.
+fn write_bus(text: &mut String, test: &Test, words: u8, step: &Step) -> Result<(), NoMemory>
+    requires { IsKnown test.now words (shown step.now) }
+    ensures { OnOk result (string_bytes text.new ≡ string_bytes text.old ++ bus_text test.now words (shown step.now)) }
+{
+    write_request(text, test, words, step.request)?;
+    write_flush(text, step.flushed)?;
+    write_write_back(text, test, words, step.wrote_back)
+}
+
+fn write_request(
+    text: &mut String,
+    test: &Test,
+    words: u8,
+    request: Option<LineRequest>,
+) -> Result<(), NoMemory>
+    requires { IfSome request (λ r. IsLine test.now words r.line) }
+    ensures { OnOk result (string_bytes text.new ≡ string_bytes text.old ++ request_text test.now words request) }
+{
+    if let Some(request) = request {
+        let name = request_name(request.request);
+        write!(text, " {name} ")?;
+        write_line_name(text, test, words, request.line)?;
+    }
+    Ok(())
+}
+
+fn write_flush(text: &mut String, flushed: Option<Core>) -> Result<(), NoMemory>
+    ensures { OnOk result (string_bytes text.new ≡ string_bytes text.old ++ flush_text flushed) }
+{
+    if let Some(core) = flushed {
+        let core = core.0;
+        write!(text, " flush P{core}")?;
+    }
+    Ok(())
+}
+
+fn write_write_back(
+    text: &mut String,
+    test: &Test,
+    words: u8,
+    wrote_back: Option<u8>,
+) -> Result<(), NoMemory>
+    requires { IfSome wrote_back (IsLine test.now words) }
+    ensures { OnOk result (string_bytes text.new ≡ string_bytes text.old ++ write_back_text test.now words wrote_back) }
+{
+    if let Some(number) = wrote_back {
+        text.push_str(" write-back ")?;
+        write_line_name(text, test, words, number)?;
+    }
+    Ok(())
+}
+
+/// The names of the locations of a line, with `+` between them.
+fn write_line_name(text: &mut String, test: &Test, words: u8, number: u8) -> Result<(), NoMemory>
+    requires { IsLine test.now words number }
+    ensures { OnOk result (string_bytes text.new ≡ string_bytes text.old ++ line_name test.now words number) }
+{
+    let locations = test.locations();
+    let first = number * words;
+    let end = locations.min(first.saturating_add(words));
+    text.push_str(test.location_name(Loc(first)))?;
+    for loc in first + 1..end {
+        let name = test.location_name(Loc(loc));
+        write!(text, "+{name}")?;
+    }
+    Ok(())
+}
+
+/// The lines whose state changed, and the core's pending stores where they changed.
+fn write_left(text: &mut String, test: &Test, words: u8, step: &Step) -> Result<(), NoMemory>
+    requires { IsKnown test.now words (shown step.now) }
+    ensures { OnOk result (string_bytes text.new ≡ string_bytes text.old ++ left_text test.now words (shown step.now)) }
+{
+    write_changes(text, test, words, &step.changes)?;
+    if let Some(stores) = &step.buffer {
+        write_buffer(text, test, core_of(step.choice), stores)?;
+    }
+    Ok(())
+}
+
+fn write_changes(
+    text: &mut String,
+    test: &Test,
+    words: u8,
+    changes: &[StateChange],
+) -> Result<(), NoMemory>
+    requires { All (λ c. IsLine test.now words c.line) changes.now }
+    ensures { OnOk result (string_bytes text.new ≡ string_bytes text.old ++ changes_text test.now words changes.now) }
+{
+    for change in changes {
+        write_change(text, test, words, *change)?;
+    }
+    Ok(())
+}
+
+/// ` P1.x S>I`.
+fn write_change(
+    text: &mut String,
+    test: &Test,
+    words: u8,
+    change: StateChange,
+) -> Result<(), NoMemory>
+    requires { IsLine test.now words change.line }
+    ensures { OnOk result (string_bytes text.new ≡ string_bytes text.old ++ change_text test.now words change) }
+{
+    let core = change.core.0;
+    let (before, after) = (state_name(change.before), state_name(change.after));
+    write!(text, " P{core}.")?;
+    write_line_name(text, test, words, change.line)?;
+    write!(text, " {before}>{after}")?;
+    Ok(())
+}
+
+/// ` P0[x=1 y=2]`.
+fn write_buffer(
+    text: &mut String,
+    test: &Test,
+    core: Core,
+    stores: &[Entry],
+) -> Result<(), NoMemory>
+    requires { All (IsAt test.now) stores.now }
+    ensures { OnOk result (string_bytes text.new ≡ string_bytes text.old ++ buffer_text test.now core.0 (Some stores.now)) }
+{
+    let core = core.0;
+    write!(text, " P{core}[")?;
+    if let Some((first, later)) = stores.split_first() {
+        write_store(text, test, first)?;
+        write_later(text, test, later)?;
+    }
+    text.push(']')?;
+    Ok(())
+}
+
+fn write_later(text: &mut String, test: &Test, stores: &[Entry]) -> Result<(), NoMemory>
+    requires { All (IsAt test.now) stores.now }
+    ensures { OnOk result (string_bytes text.new ≡ string_bytes text.old ++ later_stores test.now stores.now) }
+{
+    for store in stores {
+        text.push(' ')?;
+        write_store(text, test, store)?;
+    }
+    Ok(())
+}
+
+fn write_store(text: &mut String, test: &Test, store: &Entry) -> Result<(), NoMemory>
+    requires { IsAt test.now store.now }
+    ensures { OnOk result (string_bytes text.new ≡ string_bytes text.old ++ store_text test.now store.now) }
+{
+    let (name, value) = (test.location_name(store.loc), store.value);
+    write!(text, "{name}={value}")?;
+    Ok(())
+}

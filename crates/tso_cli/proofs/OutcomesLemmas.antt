@@ -1,0 +1,158 @@
+-- What a search answers, and what that means.
+use Rattle.std.proofs.Common.{◌≡◌, ◌∙◌, ◌↔◌, ◌≤◌, ◌<◌, ℕ, zero, suc, Bool, List, [], ◌∷◌, Some, map, length, All, Contains, slice_get, slice_index_or, refl, sym, ap, subst, arith}
+use Rattle.std.specs.List.{AllByRecursion}
+use Rattle.std.proofs.lemmas.List.{append-nil}
+use Rattle.std.proofs.lemmas.List.Elements.{All-weaker, All-contains, All-from_recursion}
+use Rattle.std.proofs.lemmas.Option.{slice_get_within, get_or_from_slice_get}
+use Rattle.tso_model.specs.Limits.{most_depth}
+use Rattle.tso_model.specs.Litmus.{Litmus, IsTest}
+use Rattle.tso_model.specs.Axioms.{IsTsoExecution}
+use Rattle.tso_model.specs.FinalState.{final_words, final_registers}
+use Rattle.tso_model.specs.declared.choice.Choice.{Choice}
+use Rattle.tso_model.specs.declared.execution.Entry.{Entry}
+use Rattle.outcome_laws.specs.Outcomes.{IsEnd, LeadToEnd, IsAllowedByTso, IsAllowedSequentially, IsSequentiallyConsistent, EndsAreWhatTsoAllows, ChoicesToAnEndAreCounted}
+use Rattle.explorer.specs.FinalStates.{AreReached, HaveEveryEnd}
+use Rattle.explorer.specs.declared.final_states.FinalState.{FinalState}
+use Rattle.scheduler.specs.Grammar.{SpellsChoices}
+use Rattle.scheduler.specs.Printed.{printed_choices}
+use Rattle.tso_report.specs.Tally.{values_in}
+use Rattle.outcome_report.specs.Outcomes.{Outcome, outcome_of, shown_values}
+use Rattle.outcome_report.specs.Printed.{PrintsOutcomes}
+use Rattle.command_line.specs.Search.{Search}
+use Rattle.tso_cli.specs.Outcomes.{AreAllOutcomes, IsOutcomesAnswer, found, too_many}
+use Rattle.tso_cli.specs.OutcomesHeadline.{AreExactly, PrintsAllOutcomes, HeadlineOfOutcomes, all, too_many}
+use Rattle.tso_cli.specs.SweepHeadline.{values_after}
+use Rattle.tso_cli.specs.declared.answer.Status.{Status}
+use Rattle.tso_cli.specs.declared.answer.Status.TheVariants.{Good}
+use Rattle.tso_cli.proofs.WitnessLemmas.{Reaching, work-within}
+
+-- what the crates below say of the ends of runs, and of the choices that lead there
+pub record Searches : Type 0 where
+  pub ends : EndsAreWhatTsoAllows
+  pub counted : ChoicesToAnEndAreCounted
+
+-- the choices of an outcome lead to its state
+abbrev pub Leads : Litmus → ℕ → Outcome → Type 0
+Leads t depth o = LeadToEnd t depth o.choices o.registers o.memory
+
+-- ---- from what the search says
+
+each-leads : (t : Litmus) (depth : ℕ) (finals : List FinalState) → AreReached t depth finals → AllByRecursion (Leads t depth) (map outcome_of finals)
+each-leads t depth [] reached = tt
+each-leads t depth (f ∷ fs) reached = (reached 0 f refl, each-leads t depth fs (λ i g stands. reached (suc i) g stands))
+
+all-lead : (t : Litmus) (depth : ℕ) (finals : List FinalState) (outcomes : List Outcome) → AreReached t depth finals
+    → All (Contains (map outcome_of finals)) outcomes → All (Leads t depth) outcomes
+all-lead t depth finals outcomes reached among =
+    let each : All (Leads t depth) (map outcome_of finals) = All-from_recursion (Leads t depth) (map outcome_of finals) (each-leads t depth finals reached) in
+    All-weaker (Contains (map outcome_of finals)) (Leads t depth) (λ o is. All-contains (Leads t depth) (map outcome_of finals) o each is) outcomes among
+
+-- what is so of each element is so of the one at this place
+at-place : {X : Type 0} (P : X → Type 0) (xs : List X) (i : ℕ) (x : X) → All P xs → slice_get xs i ≡ Some x → P x
+at-place P xs i x each stands = subst P (get_or_from_slice_get xs i x x stands) (each i x (slice_get_within xs i x stands))
+
+no-end-missing : (t : Litmus) (depth : ℕ) (finals : List FinalState) (outcomes : List Outcome) → HaveEveryEnd t depth finals
+    → All (λ f. Contains (map (shown_values t) outcomes) (shown_values t (outcome_of f))) finals
+    → (registers : List (List ℕ)) (memory : List ℕ) → IsEnd t depth registers memory → Contains (map (shown_values t) outcomes) (values_in t registers memory)
+no-end-missing t depth finals outcomes every shown registers memory end =
+    let have = every registers memory end in
+    let there = at-place (λ f. Contains (map (shown_values t) outcomes) (shown_values t (outcome_of f))) finals have.at have.final shown have.stands in
+    subst (λ r. Contains (map (shown_values t) outcomes) (values_in t r memory)) have.registers_are
+    (subst (λ m. Contains (map (shown_values t) outcomes) (values_in t have.final.registers.items m)) have.memory_is there)
+
+pub search-answers : (t : Litmus) (s : Search) (json : Bool) (finals : List FinalState) (out : List ℕ) → AreReached t s.depth finals → HaveEveryEnd t s.depth finals
+    → PrintsOutcomes t s.depth json finals out → IsOutcomesAnswer t s json out Good
+search-answers t s json finals out reached every prints =
+    subst (λ text. IsOutcomesAnswer t s json text Good) (sym prints.text)
+    (found prints.outcomes (record {
+      ascending = prints.printed.ascending;
+      reached = all-lead t s.depth finals prints.outcomes reached prints.printed.found;
+      complete = no-end-missing t s.depth finals prints.outcomes every prints.printed.complete;
+    }))
+
+-- ---- what the answer means
+
+pub end-of : (t : Litmus) (depth : ℕ) (o : Outcome) → Leads t depth o → IsEnd t depth o.registers o.memory
+end-of t depth o lead = record {
+  choices = o.choices;
+  cores = lead.cores;
+  ended = lead.ended;
+  registers_are = lead.registers_are;
+  memory_is = lead.memory_is;
+}
+
+-- what a list has that is made by a function is made of an element
+pub made-of : {X Y : Type 0} (f : X → Y) (xs : List X) (y : Y) → Contains (map f xs) y → (x : X) × Contains xs x × (f x ≡ y)
+made-of f [] y (i, small, is) = absurd (omega arith)
+made-of f (x ∷ xs) y (zero, small, is) = (x, (0, omega arith, refl), is)
+made-of f (x ∷ xs) y (suc i, small, is) =
+    let further = made-of f xs y (i, omega arith, is) in
+    (further.0, (suc further.1.0, omega (arith, further.1.1), further.1.2), further.2)
+
+-- values are printed exactly where an end has them
+exactly : (t : Litmus) (depth : ℕ) (outcomes : List Outcome) (Allowed : List Entry → Type 0) → AreAllOutcomes t depth outcomes
+    → ((registers : List (List ℕ)) (memory : List ℕ) → IsEnd t depth registers memory → (order : List Entry) × Allowed order × (final_registers t order ≡ registers) × (final_words t order ≡ memory))
+    → ((order : List Entry) → Allowed order → IsEnd t depth (final_registers t order) (final_words t order))
+    → AreExactly t outcomes Allowed
+exactly t depth outcomes Allowed are from to values = (there, back)
+  where
+    there : Contains (map (shown_values t) outcomes) values → (order : List Entry) × Allowed order × (values_after t order ≡ values)
+    there has =
+        let made = made-of (shown_values t) outcomes values has in
+        let o = made.0 in
+        let allowed = from o.registers o.memory (end-of t depth o (All-contains (Leads t depth) outcomes o are.reached made.1)) in
+        (allowed.0, allowed.1, ap (λ r. values_in t r (final_words t allowed.0)) allowed.2 ∙ (ap (λ m. values_in t o.registers m) allowed.3 ∙ made.2))
+
+    back : (order : List Entry) × Allowed order × (values_after t order ≡ values) → Contains (map (shown_values t) outcomes) values
+    back (order, allowed, is) =
+        subst (λ v. Contains (map (shown_values t) outcomes) v) is (are.complete (final_registers t order) (final_words t order) (to order allowed))
+
+exactly-tso : (t : Litmus) (outcomes : List Outcome) → EndsAreWhatTsoAllows → IsTest t → AreAllOutcomes t most_depth outcomes → AreExactly t outcomes (IsTsoExecution t)
+exactly-tso t outcomes laws test are =
+    exactly t most_depth outcomes (IsTsoExecution t) are
+    (λ registers memory end.
+    let allowed = (laws.at_the_greatest t registers memory test).0 end in
+    (allowed.order, allowed.execution, allowed.registers_are, allowed.memory_is))
+    (λ order is. (laws.at_the_greatest t (final_registers t order) (final_words t order) test).1
+    (record { order = order; execution = is; registers_are = refl; memory_is = refl }))
+
+exactly-sequential : (t : Litmus) (outcomes : List Outcome) → EndsAreWhatTsoAllows → IsTest t → AreAllOutcomes t 0 outcomes → AreExactly t outcomes (IsSequentiallyConsistent t)
+exactly-sequential t outcomes laws test are =
+    exactly t 0 outcomes (IsSequentiallyConsistent t) are
+    (λ registers memory end.
+    let allowed = (laws.unbuffered t registers memory test).0 end in
+    (allowed.order, allowed.consistent, allowed.registers_are, allowed.memory_is))
+    (λ order is. (laws.unbuffered t (final_registers t order) (final_words t order) test).1
+    (record { order = order; consistent = is; registers_are = refl; memory_is = refl }))
+
+pub few-to-end : (t : Litmus) (depth : ℕ) (o : Outcome) → ChoicesToAnEndAreCounted → IsTest t → Leads t depth o → length o.choices ≤ 512
+few-to-end t zero o laws test lead =
+    let work = work-within t test in
+    let count = laws.unbuffered t o.choices o.registers o.memory lead in
+    omega arith
+few-to-end t (suc n) o laws test lead =
+    let work = work-within t test in
+    let count = laws.buffered t (suc n) o.choices o.registers o.memory (omega arith) lead in
+    omega arith
+
+pub choices-spell : (t : Litmus) (depth : ℕ) (o : Outcome) → Reaching → Searches → IsTest t → Leads t depth o
+    → SpellsChoices (length t.programs) (printed_choices o.choices) o.choices
+choices-spell t depth o reaching searches test lead =
+    let cores = test.cores in
+    let few = few-to-end t depth o searches.counted test lead in
+    subst (λ text. SpellsChoices (length t.programs) text o.choices) (append-nil (printed_choices o.choices))
+    (reaching.spelled (length t.programs) o.choices [] (omega arith) lead.cores (omega arith) refl)
+
+pub outcomes-mean : (t : Litmus) (s : Search) (json : Bool) (out : List ℕ) (status : Status) → Reaching → Searches → IsTest t
+    → IsOutcomesAnswer t s json out status → HeadlineOfOutcomes t s json out
+outcomes-mean t s json _ _ reaching searches test (found outcomes are) =
+    all (record {
+      outcomes = outcomes;
+      printed = refl;
+      all = are;
+      tso = λ greatest. exactly-tso t outcomes searches.ends test (subst (λ depth. AreAllOutcomes t depth outcomes) greatest are);
+      sequential = λ none. exactly-sequential t outcomes searches.ends test (subst (λ depth. AreAllOutcomes t depth outcomes) none are);
+      spelled = All-weaker (Leads t s.depth) (λ o. SpellsChoices (length t.programs) (printed_choices o.choices) o.choices)
+          (λ o lead. choices-spell t s.depth o reaching searches test lead) outcomes are.reached;
+    })
+outcomes-mean t s json _ _ reaching searches test (too_many more) = too_many more refl

@@ -1,0 +1,38 @@
+-- The choices that `outcomes` prints, handed to `run`.
+use Rattle.std.specs.Prelude.{◌≡◌, ℕ, Bool, List, All, Some}
+use Rattle.tso_model.specs.Litmus.{Litmus}
+use Rattle.scheduler.specs.Printed.{printed_choices}
+use Rattle.protocol_tables.specs.declared.kind.ProtocolKind.{ProtocolKind}
+use Rattle.machine_core.specs.Configuration.{Configuration}
+use Rattle.tso_report.specs.Shown.{Shown}
+use Rattle.tso_report.specs.Tally.{values_in}
+use Rattle.outcome_report.specs.Outcomes.{Outcome, shown_values}
+use Rattle.outcome_report.specs.Printed.{outcomes_in}
+use Rattle.command_line.specs.declared.settings.Settings.TheVariants as settings
+use Rattle.tso_cli.specs.Answers.{IsAnswer}
+use Rattle.tso_cli.specs.Parts.{joined}
+use Rattle.tso_cli.specs.RunTexts.{report_in}
+use Rattle.tso_cli.specs.declared.answer.Status.{Status}
+use Rattle.tso_cli.specs.declared.answer.Status.TheVariants.{Good}
+
+-- what is written is the report of a run that ended with these values; none of its choices stalled, and none was left over
+pub record ReportsValues (t : Litmus) (kind : ProtocolKind) (c : Configuration) (json : Bool) (values out : List ℕ) : Type 0 where
+  pub shown : Shown
+  pub printed : out ≡ report_in json t kind c shown
+  pub values_are : values_in t shown.registers shown.memory ≡ values
+  pub stalled : shown.stalled ≡ 0
+  pub unused : shown.unused ≡ 0
+
+-- whatever `run` answers to such choices of an outcome, put after the test and a dividing line, is such a report, and a success
+abbrev pub IsRevisited : ProtocolKind → Configuration → Bool → List ℕ → Litmus → Outcome → Type 0
+IsRevisited kind c json test t o =
+    (answer : List ℕ) (status : Status)
+    → IsAnswer (settings.Run kind c json) (Some (joined test (printed_choices o.choices))) answer status
+    → ReportsValues t kind c json (shown_values t o) answer × (status ≡ Good)
+
+-- so it is with each state that was printed
+pub record AreRevisited (kind : ProtocolKind) (c : Configuration) (json told : Bool) (test out : List ℕ) : Type 0 where
+  pub t : Litmus
+  pub outcomes : List Outcome
+  pub printed : out ≡ outcomes_in told t c.depth outcomes
+  pub each : All (IsRevisited kind c json test t) outcomes

@@ -1,0 +1,9 @@
+-- Words of contracts inside the project.
+pub mod Answers
+pub mod CheckLines
+pub mod Parts
+pub mod ReadOneWay
+pub mod Runs
+pub mod Simulation
+pub mod Streams
+pub mod Sweep

@@ -1,0 +1,17 @@
+-- What a breach needs to be printed.
+use Rattle.tso_model.specs.Litmus.{Litmus}
+use Rattle.order_builder.specs.PrintedOrder.{HasLocation, IsLocationFor}
+use Rattle.axiom_checker.specs.declared.breach.Breach.{Breach}
+use Rattle.axiom_checker.specs.declared.breach.Breach.TheVariants.{Extra, Twice, Missing, WrongValue, ProgramOrder}
+use Rattle.axiom_checker.specs.declared.breach.Breach.TheVariants.{NotAdjacent, ReadValue, NoMemory}
+
+-- the locations of what the breach names are the test's
+abbrev pub CanBeNamed : Litmus → Breach → Type 0
+CanBeNamed t (Extra x) = HasLocation t x
+CanBeNamed t (Twice x) = HasLocation t x
+CanBeNamed t (Missing core place kind loc) = IsLocationFor t kind loc.0
+CanBeNamed t (WrongValue x due) = HasLocation t x
+CanBeNamed t (ProgramOrder x y) = HasLocation t x × HasLocation t y
+CanBeNamed t (NotAdjacent x) = HasLocation t x
+CanBeNamed t (ReadValue x due) = HasLocation t x
+CanBeNamed t NoMemory = Unit {0}

@@ -1,0 +1,9 @@
+-- The depth that an order is asked for.
+use Rattle.std.specs.Prelude.{ℕ, if◌then◌else◌, List, length}
+use Rattle.tso_model.specs.ProgramOrder.{is_load, is_store}
+use Rattle.tso_model.specs.declared.execution.Entry.{Entry}
+use Rattle.tso_laws.specs.Depth.{stores_before}
+
+-- what one entry asks of the depth, with these after it in the order
+abbrev pub asked : Entry → List Entry → ℕ
+asked x back = if is_load x then length (stores_before x back) else (if is_store x then 1 else 0)

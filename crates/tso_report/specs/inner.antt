@@ -1,0 +1,4 @@
+-- Words of contracts inside the project.
+pub mod Counted
+pub mod JsonFrame
+pub mod Tally

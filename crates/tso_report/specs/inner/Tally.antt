@@ -1,0 +1,29 @@
+-- What a tally of the code holds, and one more run in it.
+use Rattle.std.specs.Prelude.{ℕ, ◌≡◌, ◌<◌, Bool, Option, List, ◌++◌, filter}
+use Rattle.tso_model.specs.Litmus.{Litmus}
+use Rattle.tso_model.specs.Condition.{Condition}
+use Rattle.tso_report.specs.declared.named.Named.{Named}
+use Rattle.tso_report.specs.declared.named.Named.TheVariants.{Register, Location}
+use Rattle.tso_report.specs.Shown.{Shown}
+use Rattle.tso_report.specs.Tally.{RunCounts, is_looked_at, values_in, with_state, with_verdict}
+
+-- of these names those that are looked at are put after the list
+abbrev pub AreNoted : Option Condition → List Named → List Named → List Named → Type 0
+AreNoted condition names old new = new ≡ old ++ filter (is_looked_at condition) names
+
+-- the core or the location is below these numbers
+abbrev pub IsKnown : ℕ → ℕ → Named → Type 0
+IsKnown cores locations (Register core reg) = core.0 < cores
+IsKnown cores locations (Location loc) = loc.0 < locations
+
+-- one more run of the test that ended, in this state, with this truth of the condition's proposition
+abbrev pub with_ended : Litmus → List (List ℕ) → List ℕ → Option Bool → RunCounts → RunCounts
+with_ended t registers memory holds c = with_verdict holds (with_state (values_in t registers memory) c)
+
+abbrev pub with_run : Litmus → Shown → RunCounts → RunCounts
+with_run t s c = with_ended t s.registers s.memory s.holds c
+
+-- what a tally holds
+pub record Tallied : Type 0 where
+  pub test : Litmus
+  pub counts : RunCounts

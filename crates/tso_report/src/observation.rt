@@ -1,0 +1,45 @@
+//! In how many final states, or runs, the condition's proposition was true and false.
+
+ghost use Rattle.std.specs.Prelude.{◌≡◌, ◌++◌, OnOk, string_bytes};
+ghost use Rattle.tso_report.specs.Tally.{frequency, frequency_text, observed_line};
+
+use tso_model::NoMemory;
+
+/// `Observation NAME Sometimes P Q`, the line of a test of this name whose proposition was true in
+/// `held` of them and false in `failed`.
+///
+/// Errors: out of memory only.
+pub fn write_observed(
+    text: &mut String,
+    name: &str,
+    held: usize,
+    failed: usize,
+) -> Result<(), NoMemory>
+    ensures { OnOk result (string_bytes text.new ≡ string_bytes text.old ++ observed_line name.now held failed) }
+{
+    write!(text, "Observation {name}")?;
+    write_frequency(text, held, failed)?;
+    text.push('\n')?;
+    Ok(())
+}
+
+fn write_frequency(text: &mut String, held: usize, failed: usize) -> Result<(), NoMemory>
+    ensures { OnOk result (string_bytes text.new ≡ string_bytes text.old ++ frequency_text held failed) }
+{
+    let word = frequency(held, failed);
+    write!(text, " {word} {held} {failed}")?;
+    Ok(())
+}
+
+/// In which of them the proposition was true: in none, in all, or in some.
+pub fn frequency(held: usize, failed: usize) -> &'static str
+    ensures { result.now ≡ frequency held failed }
+{
+    if held == 0 {
+        "Never"
+    } else if failed == 0 {
+        "Always"
+    } else {
+        "Sometimes"
+    }
+}

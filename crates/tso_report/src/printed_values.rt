@@ -1,0 +1,44 @@
+//! The values of a final state as they are printed, each with the register or the location that it is of.
+
+ghost use Rattle.std.specs.Prelude.{◌≡◌, ◌++◌, OnOk, All, string_bytes, length};
+ghost use Rattle.tso_report.specs.Tally.{printed_value, printed_values};
+ghost use Rattle.tso_report.specs.inner.Tally.{IsKnown};
+
+use crate::named::Named;
+use tso_model::{NoMemory, Test};
+
+/// ` 0:EAX=v x=v ..`: for each of the names its value; a name or a value that stands alone is left out.
+///
+/// Errors: out of memory only.
+pub fn write_values(
+    text: &mut String,
+    test: &Test,
+    names: &[Named],
+    values: &[u32],
+) -> Result<(), NoMemory>
+    requires { All (IsKnown (length test.now.programs) (length test.now.locations)) names.now }
+    ensures { OnOk result (string_bytes text.new ≡ string_bytes text.old ++ printed_values test.now names.now values.now) }
+{
+    for (named, value) in names.iter().zip(values.iter()) {
+        write_value(text, test, *named, *value)?;
+    }
+    Ok(())
+}
+
+/// ` c:EAX=v`, or ` x=v`.
+fn write_value(text: &mut String, test: &Test, named: Named, value: u32) -> Result<(), NoMemory>
+    requires { IsKnown (length test.now.programs) (length test.now.locations) named }
+    ensures { OnOk result (string_bytes text.new ≡ string_bytes text.old ++ printed_value test.now named value) }
+{
+    match named {
+        Named::Register(core, reg) => {
+            let (core, name) = (core.0, reg.name());
+            write!(text, " {core}:{name}={value}")?;
+        }
+        Named::Location(loc) => {
+            let name = test.location_name(loc);
+            write!(text, " {name}={value}")?;
+        }
+    }
+    Ok(())
+}

@@ -1,0 +1,11 @@
+-- What a choice on a split bus comes to.
+use Rattle.std.specs.Prelude.{List}
+use Rattle.tso_model.specs.FlatMachine.{CoreState}
+use Rattle.tso_model.specs.SplitMachine.{Holder, BusEffect}
+use Rattle.tso_model.specs.declared.execution.Entry.{Entry}
+use Rattle.tso_model.specs.declared.choice.Outcome.{Outcome}
+use Rattle.worked_examples.specs.Written.{comes}
+
+-- the same on a split bus, and who holds the bus afterwards
+abbrev pub comes_with : Outcome → CoreState → List Entry → Holder → BusEffect
+comes_with outcome after commits holder = record { effect = comes outcome after commits; holder = holder }

@@ -1,0 +1,106 @@
+"""tools/campaign on this machine, for tests/batteries."""
+import os
+import signal
+import subprocess
+import sys
+import tempfile
+import time
+
+from tool_runs import GALLERY, TOOLS, described, gallery, heed_interrupts, sorted_lines, stand_in, test_file, tool, write
+
+
+def judge_sweeps(program, tally, room):
+    """One table however the seeds are cut, after a torn line too; and a wrong verdict is told."""
+    source, results = os.path.join(room, "tests"), os.path.join(room, "sweeps")
+    write(source, "".join(text for name, text in gallery() if name in ("SB", "MP")))
+
+    def table(cut, place):
+        done = tool("campaign", "sweep", program, "--results", place, "--seeds", "1000", "--range", str(cut), "--buses", "atomic,split", source)
+        return done.returncode, done.stdout
+
+    whole = table(100, results)
+    tally.add("a campaign of sweeps ends", None if whole[0] == 0 and whole[1].count("same ") == 4 else str(whole))
+    tally.add("seeds cut in another way", None if table(77, results + ".77") == whole else "another table")
+    with open(results, "rb+") as file:
+        file.truncate(os.path.getsize(results) - 5)
+    tally.add("a torn last line", None if table(100, results) == whole else "another table")
+    count = len(sorted_lines(results))
+    tally.add("each result once", None if count == 40 else "%d lines" % count)
+    with open(source, encoding="ascii") as file:
+        text = file.read().replace("TSO=allowed", "TSO=forbidden")
+    write(source, text)
+    status, said = table(100, results + ".wrong")
+    tally.add("a wrong verdict of a sweep", None if status == 1 and said.startswith("DIFFERS SB") else said)
+
+
+def judge_sources(program, tally, room):
+    """A folder, a list and a stream of the same tests make the same table; theory says the same of each."""
+    names = [name for name, _ in gallery() if name.startswith(("SB", "MP", "n6", "CoRR"))]
+    folder, stream = os.path.join(room, "folder"), ""
+    os.mkdir(folder)
+    for name, text in gallery():
+        if name in names:
+            write(os.path.join(folder, name + ".litmus"), text)
+            stream += text + "\n"
+    listed = write(os.path.join(room, "all"), "".join(test_file(name) + "\n" for name in names))
+    tables = []
+    for number, (words, given) in enumerate((([folder], None), (["@" + listed], None), (["-"], stream))):
+        place = os.path.join(room, "sources%d" % number)
+        done = tool("campaign", "outcomes", program, "--theory", "--depths", "32,0", "--results", place, *words, input=given)
+        tally.add("all outcomes, and theory", None if done.returncode == 0 else described(done))
+        tables.append((done.stdout, sorted_lines(place)))
+    tally.add("folder, list and stream", None if tables[0] == tables[1] == tables[2] and tables[0][0] else str(tables)[:900])
+
+
+def judge_differences(program, tally, room):
+    """A wrong verdict, too many states, and a program that refuses are told, each first of the table."""
+    place, tests = os.path.join(room, "differences"), [test_file(name) for name in ("CoRR", "SB")]
+    wrong = write(os.path.join(room, "wrong"), "SB: PodWR Fre PodWR Fre: forbidden\nforbidden CoRR\n")
+    for name, program, words, status, begin in (
+            ("a wrong verdict", program, ["--expected", wrong], 1, "DIFFERS SB --depth 32 expected=forbidden found=allowed"),
+            ("too many states", program, ["--states", "3"], 1, "OPEN"),
+            ("a program that refuses", stand_in(os.path.join(room, "refuses"), program, "echo no; exit 1"), [], 1, "FAULT"),
+            ("as JSON", program, ["--json"], 0, '{"expected": "forbidden", "false": ')):
+        done = tool("campaign", "outcomes", program, "--results", place, *words, *tests)
+        tally.add(name, None if done.returncode == status and done.stdout.startswith(begin) else described(done))
+
+
+def judge_tries(program, tally, room):
+    """A task whose first call fails, or doesn't end, is given out again."""
+    tests = [test_file(name) for name in ("SB", "MP", "CoRR")]
+    place = os.path.join(room, "tries")
+    tool("campaign", "outcomes", program, "--results", place, *tests)
+    # results name the program by a digest in each task's key alone
+    whole = [line.split('"task"')[0] for line in sorted_lines(place)]
+    for name, fault in (("fails", "exit 139"), ("hangs", "sleep 30")):
+        marked = os.path.join(room, name + ".once")
+        first = "case $text in *'X86 MP'*) [ -e '%s' ] || { : > '%s'; %s; };; esac" % (marked, marked, fault)
+        flaky = stand_in(os.path.join(room, name), program, first)
+        done = tool("campaign", "outcomes", flaky, "--limit", "3", "--results", place + name, *tests)
+        again = [line.split('"task"')[0] for line in sorted_lines(place + name)]
+        tally.add("a call that " + name + " once", None if done.returncode == 0 and again == whole else described(done))
+
+
+def judge_stops(program, tally, room):
+    """A campaign that was stopped goes on where it was."""
+    place, slow = os.path.join(room, "stopped"), stand_in(os.path.join(room, "slow"), program, "sleep 0.1")
+    words = [sys.executable, os.path.join(TOOLS, "campaign"), "outcomes", slow, "--processes", "2", "--results", place, GALLERY]
+    with subprocess.Popen(words, stdout=subprocess.DEVNULL, stderr=subprocess.DEVNULL, preexec_fn=heed_interrupts) as running:
+        until = time.monotonic() + 30
+        while time.monotonic() < until and (not os.path.exists(place) or len(sorted_lines(place)) < 5):
+            time.sleep(0.05)
+        running.send_signal(signal.SIGINT)
+        status = running.wait(30)
+    before = sorted_lines(place)
+    done = tool("campaign", "outcomes", slow, "--processes", "8", "--results", place, GALLERY)
+    after = sorted_lines(place)
+    count = len(list(gallery()))
+    tally.add("a campaign that was stopped", None if status == 1 and 5 <= len(before) < count else "status %d, %d results" % (status, len(before)))
+    kept = set(before) <= set(after) and len(after) == len(set(after)) == count
+    tally.add("and went on", None if done.returncode == 0 and kept else "%d results; %s" % (len(after), described(done)))
+
+
+def judge(program, tally):
+    with tempfile.TemporaryDirectory() as room:
+        for part in (judge_sweeps, judge_sources, judge_differences, judge_tries, judge_stops):
+            part(program, tally, room)

@@ -1,0 +1,145 @@
+"""tools/campaign on a cluster of Dask's, for tests/batteries and tests/cluster: four workers of this machine, one of which is ended and
+one paused."""
+import os
+import signal
+import subprocess
+import sys
+import tempfile
+import time
+
+from tool_runs import TESTS, TOOLS, described, heed_interrupts, sorted_lines, stand_in, test_file, tool, write
+
+# So many cycles of six edges in the gate; tests/cluster takes another number.
+CYCLES, SEED = 120, 1
+
+# Seconds that a task may take here: a paused worker has its task for twice as long. Where a worker is ended by its task, others'
+# tasks are lost with it, and wait as long; no task of those may be ended because the machine is busy.
+LIMIT, PATIENT_LIMIT = "2", "10"
+
+
+def dask_python():
+    """A Python that has Dask's distributed, or None."""
+    for python in (sys.executable, "/usr/bin/python3"):
+        if os.path.exists(python) and subprocess.run([python, "-c", "import distributed"], capture_output=True).returncode == 0:
+            return python
+    return None
+
+
+class LocalCluster:
+    """A scheduler and four workers, each a process of its own that is begun anew where it ends."""
+
+    def __init__(self, python):
+        self.python = python
+        # two deaths make a task suspect, so that this is soon tried
+        environment = dict(os.environ, DASK_DISTRIBUTED__SCHEDULER__ALLOWED_FAILURES="1")
+        self.running = subprocess.Popen([python, os.path.join(TESTS, "local_cluster.py")], stdin=subprocess.PIPE,
+                                        stdout=subprocess.PIPE, stderr=subprocess.DEVNULL, text=True, env=environment)
+        self.address = self.running.stdout.readline().strip()
+        self.workers = [int(word) for word in self.running.stdout.readline().split()]
+
+    def __enter__(self):
+        return self
+
+    def __exit__(self, *_):
+        self.running.stdin.close()
+        try:
+            self.running.wait(20)
+        except subprocess.TimeoutExpired:
+            self.running.kill()
+
+
+class Campaign:
+    """A campaign that runs beside this script, so that something can be done to it."""
+
+    def __init__(self, python, words, results):
+        self.results = results
+        self.running = subprocess.Popen([python, os.path.join(TOOLS, "campaign"), *words, "--results", results],
+                                        stdout=subprocess.PIPE, stderr=subprocess.PIPE, text=True, preexec_fn=heed_interrupts)
+
+    def wait_for(self, count):
+        """Waits until there are so many results, or the campaign has ended."""
+        while self.running.poll() is None and (not os.path.exists(self.results) or len(sorted_lines(self.results)) < count):
+            time.sleep(0.05)
+
+    def end(self, seconds=900):
+        """What it said and how it ended; one that doesn't end in so many seconds is ended, and has failed."""
+        try:
+            said, errors = self.running.communicate(timeout=seconds)
+        except subprocess.TimeoutExpired:
+            self.running.kill()
+            said, errors = self.running.communicate()
+            errors += "it didn't end in %d seconds" % seconds
+        return subprocess.CompletedProcess([], self.running.returncode, said, errors)
+
+
+def judge_deaths(cluster, words, whole, tally, room):
+    """One worker is ended in the middle, one paused: the results are those of one process."""
+    place, count = os.path.join(room, "cluster"), len(whole)
+    campaign = Campaign(cluster.python, words + ["--scheduler", cluster.address, "--limit", LIMIT], place)
+    campaign.wait_for(count // 4)
+    os.kill(cluster.workers[0], signal.SIGKILL)
+    campaign.wait_for(count // 2)
+    os.kill(cluster.workers[1], signal.SIGSTOP)
+    before = len(sorted_lines(place))
+    done = campaign.end()
+    os.kill(cluster.workers[1], signal.SIGCONT)
+    tally.add("workers were ended and paused in the middle", None if 0 < before < count else "there were %d results" % before)
+    same = sorted_lines(place) == whole
+    tally.add("the same results by one process and by a cluster", None if done.returncode == 0 and same else described(done))
+
+
+def judge_stops(cluster, words, whole, tally, room):
+    """A campaign on a cluster is stopped, and goes on where it was."""
+    place, words = os.path.join(room, "stopped"), words + ["--scheduler", cluster.address]
+    campaign = Campaign(cluster.python, words, place)
+    campaign.wait_for(len(whole) // 4)
+    campaign.running.send_signal(signal.SIGINT)
+    campaign.end(60)
+    before = len(sorted_lines(place))
+    done = Campaign(cluster.python, words, place).end()
+    tally.add("a campaign on a cluster is stopped", None if 0 < before < len(whole) else "there were %d results" % before)
+    same = sorted_lines(place) == whole
+    tally.add("and goes on", None if done.returncode == 0 and same else described(done))
+
+
+def judge_killer(cluster, program, tally, room):
+    """A test that ends its workers is named, and no other test is."""
+    killer = stand_in(os.path.join(room, "killer"), program, "case $text in *'X86 SB\n'*) kill -9 $PPID; sleep 9;; esac")
+    tests = [test_file(name) for name in ("SB", "MP", "CoRR", "LB", "2+2W")]
+    words = ["outcomes", killer, "--scheduler", cluster.address, "--limit", PATIENT_LIMIT, *tests]
+    done = Campaign(cluster.python, words, os.path.join(room, "killed")).end()
+    named = done.stdout.startswith("FAULT   SB --depth 32 expected=allowed - it ended its workers\n") and done.stdout.count("FAULT") == 1
+    tally.add("a test that ends its workers", None if done.returncode == 1 and named else described(done))
+
+
+def judge_other_python(python, program, tally, room):
+    """Where another Python is first on the path, the tool says which has Dask."""
+    words = ["outcomes", program, "--results", os.path.join(room, "none"), "--scheduler", "tcp://127.0.0.1:1", test_file("SB")]
+    done = tool("campaign", *words)
+    told = done.returncode == 2 and "but %s has" % python in done.stderr
+    tally.add("another Python is first on the path", None if told else described(done))
+
+
+def judge(program, tally, how_many=CYCLES, seed=SEED):
+    python = dask_python()
+    if python is None:
+        print("not tried: campaigns on a cluster, which need Dask's distributed (Debian: python3-distributed)")
+        return
+    with tempfile.TemporaryDirectory() as room:
+        if python != sys.executable:
+            judge_other_python(python, program, tally, room)
+        drawn = tool("cycles", "--length", "6", "--locked", "--some", str(how_many), "--seed", str(seed), "--no-verdict").stdout
+        words = ["outcomes", program, write(os.path.join(room, "cycles"), drawn)]
+        begun, place = time.monotonic(), os.path.join(room, "alone")
+        done = Campaign(sys.executable, words + ["--processes", "1"], place).end(3600)
+        whole = sorted_lines(place)
+        tally.add("a campaign by one process", None if done.returncode == 0 and len(whole) == how_many else described(done))
+        took = [time.monotonic() - begun]
+        with LocalCluster(python) as cluster:
+            for part in (judge_deaths, judge_stops):
+                begun = time.monotonic()
+                part(cluster, words, whole, tally, room)
+                took.append(time.monotonic() - begun)
+            judge_killer(cluster, program, tally, room)
+    print("%d cycles of six edges: by one process %d s, by a cluster of which one worker was ended and one paused %d s, "
+          "and stopped and gone on with %d s" % (how_many, *took))

@@ -1,0 +1,46 @@
+"""tools/hardware, for tests/batteries: short runs of the gallery on this machine's processor, and a wrong table that must be noticed."""
+import os
+import shutil
+import tempfile
+
+from log_forms import OUTCOMES
+from tool_runs import GALLERY, described, test_file, tool, write
+
+# Of each test of the gallery.
+SECONDS = "0.05"
+
+# A state that each processor shows soon: both cores one after the other.
+SEEN_SOON = "State 0:EAX=0 1:EAX=1 against=yes\n"
+
+
+def why_not():
+    """Why tests can't be run on this machine's processor, or None."""
+    if os.uname().machine != "x86_64":
+        return "this is no x86-64"
+    if shutil.which((os.environ.get("CC") or "cc").split()[0]) is None:
+        return "no C compiler is there"
+    if len(os.sched_getaffinity(0)) < 2:
+        return "there is one processor alone"
+    return None
+
+
+def judge(program, tally):
+    missing = why_not()
+    if missing:
+        print("not tried: tests on this machine's processor: %s" % missing)
+        return
+    done = tool("hardware", "--program", program, "--seconds", SECONDS, GALLERY)
+    tally.add("the gallery on this processor", None if done.returncode == 0 and "NOT ALLOWED" not in done.stdout else described(done))
+    print("on this machine's processor: " + done.stdout.splitlines()[-1] if done.stdout else described(done))
+    with tempfile.TemporaryDirectory() as room:
+        log = write(os.path.join(room, "log"), OUTCOMES)
+        wrong = write(os.path.join(room, "wrong"), OUTCOMES.replace(SEEN_SOON, ""))
+        for name, table, status in (("a table of allowed states", log, 0), ("a wrong table of allowed states", wrong, 1)):
+            done = tool("hardware", "--allowed", table, "--seconds", "2", "--runs", "100000", test_file("SB"))
+            told = "NOT ALLOWED, AND SEEN: SB: 0:EAX=0 1:EAX=1\n" in done.stdout
+            tally.add(name, None if done.returncode == status and told == bool(status) else described(done))
+        seen = write(os.path.join(room, "seen"), done.stdout)
+        compared = tool("compare", "--within", seen, log)
+        tally.add("a processor's log beside that of all outcomes", None if compared.returncode == 0 else described(compared))
+        done = tool("hardware", "--allowed", log, test_file("MP"))
+        tally.add("a test that the table hasn't", None if done.returncode == 2 else described(done))

@@ -1,0 +1,453 @@
+"""Rows for the page with its machine: what the page answers, and what a person does there, against the program."""
+import base64
+import glob
+import json
+import os
+import re
+import shlex
+import statistics
+import subprocess
+import sys
+import urllib.parse
+
+TESTS = os.path.dirname(os.path.dirname(os.path.abspath(__file__)))
+sys.path.insert(0, TESTS)
+import made_inputs
+
+EXAMPLES = os.path.join(os.path.dirname(TESTS), "examples")
+DIVIDING_LINE = "====\n"
+FIRST = "store-buffering.litmus"
+MADE, SEED = 200, 4
+BAD_LINE = 2
+FIRST_ANSWER, TYPED_MEDIAN, TYPED_WORST = 100, 16, 50  # milliseconds
+
+READY = "new Promise(done => { const look = () => bench.tso ? done() : setTimeout(look, 5); look(); })"
+# A search that takes long: three cores, each with many plain stores and loads.
+LONG_SEARCH = "X86 long\n{ }\n P0 | P1 | P2 | P3 ;\n" + "".join(
+    " MOV [a%d],$1 | MOV [b%d],$1 | MOV [c%d],$1 | MOV [d],$%d ;\n" % (at, at, at, at) for at in range(5)) + 3 * " MOV EAX,[d] | MOV EBX,[d] | MOV ECX,[d] | MOV EAX,[a0] ;\n"
+
+OVERHANGING = """(() => {
+  const edge = document.documentElement.clientWidth;
+  const over = [...document.querySelectorAll('body *')].filter(each => !each.closest('svg, .scrolls, .paper, figure, #texts')
+    && each.getBoundingClientRect().right > edge + 1);
+  const faults = over.map(each => each.tagName + '#' + each.id + ' hangs over the page');
+  if (document.documentElement.scrollWidth > edge) faults.push('the page is ' + document.documentElement.scrollWidth + ' wide');
+  return faults;
+})()"""
+
+
+def differs(what, got, wanted):
+    return [] if got == wanted else ["%s: %s, and not %s" % (what, repr(got)[:300], repr(wanted)[:300])]
+
+
+def read(*path):
+    with open(os.path.join(*path)) as file:
+        return file.read()
+
+
+class Bench:
+    """The bench of the page, and the program beside it."""
+
+    def __init__(self, page):
+        self.page, self.window = page, page.window
+
+    def open(self, fragment="", width=1400):
+        self.window.resize(width, mobile=width < 500)
+        self.window.open(self.page.address + ("#" + fragment if fragment else ""))
+        self.value(READY)
+
+    def value(self, expression):
+        return self.page.value(expression)
+
+    def text(self, selector):
+        return self.page.text(selector)
+
+    def fill(self, field, text):
+        """Puts a text into a field as one who types does."""
+        self.value("(field => { field.value = %s; field.dispatchEvent(new Event('input', { bubbles: true })); })(byId(%s))"
+                   % (json.dumps(text), json.dumps(field)))
+
+    def choose(self, command):
+        self.window.click("#commands input[value=%s]" % command)
+
+    def program(self, text, *words):
+        done = subprocess.run([self.page.program, *words], input=text if isinstance(text, bytes) else text.encode(), capture_output=True, timeout=300)
+        return done.returncode, done.stdout.decode(), done.stderr.decode()
+
+    def answer(self, text, words):
+        """The module's answer in the page to an input under the words of a command line."""
+        options = {"command": words[0]}
+        if words[0] == "outcomes":
+            options["depth"] = 32
+        rest = words[1:]
+        while rest:
+            name, _, joined = rest.pop(0)[2:].partition("=")
+            value = True if name == "json" else joined or rest.pop(0)
+            options[name] = int(value) if isinstance(value, str) and value.lstrip("+").isdigit() else value
+        given = text if isinstance(text, bytes) else text.encode()
+        found = self.value("(({ status, text, hint }) => [status, text, hint])(bench.tso.answer(%s, Uint8Array.from(atob('%s'), each => each.charCodeAt(0))))"
+                           % (json.dumps(options), base64.b64encode(given).decode()))
+        return tuple(found)
+
+    def wait(self, condition):
+        self.value("new Promise((done, failed) => { const end = Date.now() + 60000; const look = () => (%s) ? done() : Date.now() > end ? "
+                   "failed(new Error('it never came')) : setTimeout(look, 10); look(); })" % condition)
+
+
+def safety(bench):
+    faults = list(bench.window.faults)
+    bench.window.faults.clear()
+    outside = [address for address in bench.window.requests if not address.startswith((bench.page.folder, "about:", "blob:"))]
+    bench.window.requests.clear()
+    return faults + ["asks for " + address for address in outside]
+
+
+def first_row(bench, folder):
+    bench.open()
+    bench.wait("shown.run")
+    text = read(EXAMPLES, FIRST)
+    _, report, _ = bench.program(text, "run")
+    faults = differs("the report", bench.text("#report"), report)
+    faults += differs("the line", bench.value("shown.line"), bench.program(text, "run", "--json")[1].strip())
+    faults += differs("the name", bench.text("#name"), "Test SB")
+    bench.window.screenshot(os.path.join(folder, "bench.png"))
+    return faults + safety(bench)
+
+
+def texts():
+    for path in sorted(glob.glob(os.path.join(EXAMPLES, "*.*")) + glob.glob(os.path.join(EXAMPLES, "gallery", "*.*"))):
+        if path.endswith((".litmus", ".order")):
+            yield os.path.basename(path), read(path)
+
+
+def answers_row(bench):
+    """Every example and every text of the gallery, under each command that reads it."""
+    bench.open()
+    faults = []
+    for name, text in texts():
+        commands = ["check", "witness"] if name.endswith(".order") else ["run", "run --json", "run --bus split --protocol mosi", "outcomes --json", "sweep --seeds 20"]
+        for words in commands:
+            faults += differs("%s of %s" % (words, name), bench.answer(text, words.split()), bench.program(text, *words.split()))
+    return faults + safety(bench)
+
+
+def made_row(bench):
+    """Inputs made at random, valid and damaged, under every command and option."""
+    bench.open()
+    faults = []
+    for number in range(MADE):
+        made = made_inputs.made(SEED, number)
+        done = subprocess.run([bench.page.program, *made.words], input=made.given, capture_output=True, timeout=300)
+        if done.returncode == BAD_LINE:
+            continue
+        wanted = done.returncode, done.stdout.decode(), done.stderr.decode()
+        faults += differs("input %d, %s" % (number, shlex.join(made.words)), bench.answer(made.given, list(made.words)), wanted)
+    return faults + safety(bench)
+
+
+def refused_row(bench, folder):
+    """A refused line is marked while one types, with the hint beside; a word of the choices and a line of an order too."""
+    bench.open()
+    test = read(EXAMPLES, FIRST).partition(DIVIDING_LINE)[0]
+    damaged = test.replace("MOV EAX,[y]", "LFENCE [y] ")
+    bench.fill("test", damaged)
+    _, line, hint = bench.program(damaged, "run")
+    number = re.match(r"Refused test line (\d+) ", line).group(1)
+    faults = differs("the refusal", bench.text("#said"), line.strip()) + differs("the hint", bench.text("#hint"), hint.strip())
+    faults += differs("the mark", bench.text("#test-lines .refused").strip(), "▶" + number)
+    faults += differs("the band", (bench.value("byId('test-band').hidden"), bench.value("byId('test-band').dataset.line")), (False, number))
+    faults += differs("invalid", bench.value("byId('test').getAttribute('aria-invalid')"), "true")
+    faults += differs("a run is shown", bench.page.is_drawn(), False)
+    bench.window.screenshot(os.path.join(folder, "refused.png"), whole=False)
+    bench.fill("test", test)
+    faults += differs("a mark where all is well", bench.value("document.querySelector('.refused') === null && byId('test-band').hidden"), True)
+    bench.fill("choices", "0s 9s 1s")
+    _, line, hint = bench.program(test + DIVIDING_LINE + "0s 9s 1s", "run")
+    faults += differs("choices", [bench.text("#said"), bench.text("#refused-word"), bench.text("#hint")], [line.strip(), "Word 2 is 9s", hint.strip()])
+    bench.choose("check")
+    order = "Order\nP0:1 R y=0\nP0:7 X\nEndorder 2\n"
+    bench.fill("given", order)
+    _, line, hint = bench.program(test + DIVIDING_LINE + order, "check")
+    number = re.match(r"Refused order line (\d+) ", line).group(1)
+    faults += differs("order", [bench.text("#said"), bench.text("#hint"), bench.text("#given-lines .refused").strip()], [line.strip(), hint.strip(), "▶" + number])
+    bench.choose("run")
+    bench.fill("choices", "0s 0s")
+    _, line, hint = bench.program(test + DIVIDING_LINE + "0s 0s", "run")
+    faults += differs("unfinished", [bench.text("#report"), bench.text("#hint")], [line, hint.strip()])
+    return faults + safety(bench)
+
+
+def outcomes_row(bench, folder):
+    """The table of all states, and the choices of each."""
+    bench.open()
+    test = read(EXAMPLES, FIRST).partition(DIVIDING_LINE)[0]
+    bench.choose("outcomes")
+    bench.window.click("#begin")
+    bench.wait("document.querySelector('#states table')")
+    found = json.loads(bench.program(test, "outcomes", "--json")[1])
+    rows = bench.value("[...document.querySelectorAll('#states tbody tr')].map(row => [...row.cells].slice(0, -1).map(cell => cell.textContent))")
+    wanted = [[str(word) for word in state["values"].values()] + [state["choices"]] for state in found["states"]]
+    faults = differs("the states", rows, wanted)
+    faults += [] if "Sometimes" in bench.text("#states p") else ["it says " + bench.text("#states p")]
+    bench.window.screenshot(os.path.join(folder, "outcomes.png"))
+    for at, state in enumerate(found["states"]):
+        bench.choose("outcomes")
+        bench.window.click("#begin")
+        bench.wait("document.querySelector('#states table') && !bench.task")
+        bench.window.click("#states tbody tr:nth-child(%d) button" % (at + 1))
+        registers = bench.value("shown.run.registers.map(file => Object.fromEntries(file))")
+        got = {name: registers[int(name[0])][name[2:]] for name in state["values"] if ":" in name}
+        faults += differs("the run to state %d" % at, got, {name: word for name, word in state["values"].items() if ":" in name})
+        faults += differs("its choices", bench.value("Object.fromEntries(shown.run.choices)"), {"used": len(state["choices"].split()), "stalled": 0, "unused": 0})
+    bench.choose("outcomes")
+    bench.fill("set-states", "3")
+    bench.window.click("#begin")
+    bench.wait("!bench.task && byId('hint').textContent")
+    faults += differs("too few states", bench.text("#hint"), bench.program(test, "outcomes", "--states", "3")[2].strip())
+    return faults + safety(bench)
+
+
+def sweep_row(bench):
+    bench.open()
+    test = read(EXAMPLES, FIRST).partition(DIVIDING_LINE)[0]
+    bench.choose("sweep")
+    bench.fill("set-seeds", "100")
+    bench.window.click("#begin")
+    bench.wait("byId('report').textContent")
+    faults = differs("the sweep", bench.text("#report"), bench.program(test, "sweep", "--seeds", "100")[1])
+    bench.fill("set-seeds", "1001")
+    faults += [] if "from 1 to 1000" in bench.text("#said") else ["1001 seeds: " + bench.text("#said")]
+    faults += differs("the button", bench.value("byId('begin').disabled"), True)
+    return faults + safety(bench)
+
+
+def stop_row(bench):
+    """A long search is stopped, and the page goes on."""
+    bench.open()
+    bench.choose("outcomes")
+    bench.fill("test", LONG_SEARCH)
+    bench.fill("set-states", "10000000")
+    faults = differs("the test is refused", bench.text("#said"), "")
+    bench.window.click("#begin")
+    bench.wait("!byId('stop').hidden")
+    bench.window.click("#stop")
+    faults += differs("stopped", [bench.text("#said"), bench.value("byId('stop').hidden"), bench.value("bench.task")], ["Stopped.", True, None])
+    bench.choose("run")
+    bench.fill("test", read(EXAMPLES, FIRST).partition(DIVIDING_LINE)[0])
+    return faults + differs("a run after it", bench.page.is_drawn(), True) + safety(bench)
+
+
+def comparison_row(bench):
+    """The same choices on other machines, each as the program runs them there; and a machine that is taken."""
+    bench.open()
+    text = read(EXAMPLES, "own-store-first.litmus")
+    bench.value("loadText('own-store-first.litmus')")
+    bench.value("byId('comparison').open = true")
+    bench.wait("document.querySelector('#compared table')")
+    rows = bench.value("[...document.querySelectorAll('#compared tbody tr')].map(row => [...row.cells].map(cell => cell.textContent))")
+    own, faults = json.loads(bench.program(text, "run", "--json")[1]), []
+    faults += differs("machines", [row[0] for row in rows], ["MSI, atomic bus, depth 4", "MESI, atomic bus, depth 4", "MOESI, atomic bus, depth 4",
+                      "MOSI, atomic bus, depth 4", "MSI, split bus, depth 4", *["MSI, atomic bus, depth %d" % depth for depth in (0, 1, 2, 32)]])
+    for row in rows:
+        protocol, bus, depth = re.match(r"(\w+), (\w+) bus, depth (\d+)", row[0]).groups()
+        status, said, _ = bench.program(text, "run", "--json", "--protocol", protocol.lower(), "--bus", bus, "--depth", depth)
+        run = json.loads(said)
+        if status == 3:
+            wanted = ["no", "", str(run["unfinished"]["stalled"]), "", "", "", "", "", "", str(run["unfinished"]["used"])]
+        else:
+            counts = [str(sum(core[name] for core in run["cache"])) for name in ("hits", "misses", "upgrades", "write_backs", "flushes")]
+            wanted = ["yes", "the same" if run["order"] == own["order"] else "another", str(run["choices"]["stalled"]),
+                      str(run["condition"]["holds"]).lower(), *counts, str(run["choices"]["used"])]
+        faults += differs(row[0], row[1:-1], wanted)
+    bench.value("document.querySelector('#compared tbody tr:nth-child(3) button').click()")
+    return faults + differs("taken", bench.value("changedSettings()"), [["protocol", "moesi"]]) + safety(bench)
+
+
+def library_row(bench, folder):
+    bench.open()
+    bench.window.click("#library summary")
+    bench.fill("search", "sb fence locked")
+    found = bench.value("[...document.querySelectorAll('#texts button')].map(each => each.textContent)")
+    faults = differs("found", "SB+mfence+xchg.litmus" in found and "MP.litmus" not in found, True)
+    bench.window.screenshot(os.path.join(folder, "library.png"))
+    bench.fill("search", "")
+    for name, text in texts():
+        bench.value("document.querySelector('#texts [data-file=%s]').click()" % json.dumps(name))
+        depth = re.search(r"^Depth=(\d+)$", text, re.MULTILINE)
+        words = ["check"] if name.endswith(".order") else ["run", "--depth", depth.group(1) if depth else "4"]
+        status, said, _ = bench.program(text, *words)
+        faults += differs(name, bench.text("#report"), said)
+        if words[0] == "run" and status == 0:
+            faults += differs(name + " drawn", bench.value("shown.line"), bench.program(text, *words, "--json")[1].strip())
+    return faults + safety(bench)
+
+
+def addresses_row(bench):
+    """The address of a test opens it with its settings and choices; one that is too long isn't given."""
+    bench.open()
+    bench.fill("test", read(EXAMPLES, "own-store-first.litmus").partition(DIVIDING_LINE)[0])
+    bench.fill("choices", "0s 1s # +%&=\n".replace(" # +%&=", "") + "seed 7 400")
+    bench.value("(field => { field.value = 'moesi'; field.dispatchEvent(new Event('input', { bubbles: true })); })(byId('set-protocol'))")
+    bench.fill("set-depth", "2")
+    report, address = bench.text("#report"), bench.value("byId('share').href")
+    bench.window.open(address)
+    bench.value(READY)
+    bench.wait("byId('report').textContent")
+    faults = differs("opened", bench.text("#report"), report) + differs("settings", bench.value("changedSettings()"), [["protocol", "moesi"], ["depth", "2"]])
+    bench.fill("choices", "0s " * 3000)
+    faults += differs("a long one", [bench.value("byId('share').hidden"), bench.value("byId('too-long').hidden")], [True, False])
+    for foul in ("<script>window.wasRun = 1</script>", '"><img src=x onerror="window.wasRun = 1">', "X86 a\n{ }\n", ""):
+        fragment = urllib.parse.urlencode({"test": foul, "choices": foul, "order": foul, "command": foul, "protocol": foul, "depth": foul, "states": "-1"})
+        bench.window.open(bench.page.address + "#" + fragment)
+        bench.value(READY)
+        faults += differs("made of a foul address", bench.value("[window.wasRun, document.querySelector('img'), byId('set-protocol').value, byId('set-depth').value]"), [None, None, "msi", "4"])
+        faults += differs("its test", bench.value("byId('test').value").strip(), foul.strip())
+        faults += safety(bench)
+    bench.window.open(bench.page.address + "#test=%zz&depth=99999999999999999999")
+    bench.value(READY)
+    return faults + safety(bench)
+
+
+def drops_row(bench):
+    """A file with a test goes to the bench; CR at line ends too."""
+    bench.open()
+    text = read(EXAMPLES, "locked-waits.litmus")
+    faults = []
+    for given in (text, text.replace("\n", "\r\n")):
+        bench.value("putInput('')")
+        bench.value("(() => { const held = new DataTransfer(); held.items.add(new File([%s], 'a.litmus'));"
+                    "document.body.dispatchEvent(new DragEvent('drop', { dataTransfer: held, bubbles: true, cancelable: true }));"
+                    "return new Promise(done => setTimeout(done, 300)); })()" % json.dumps(given))
+        faults += differs("dropped", bench.text("#report"), bench.program(text, "run")[1])
+    return faults + safety(bench)
+
+
+def saves_row(bench):
+    """What is saved: the input, the report and the line as they are, a picture that needs no style, and points."""
+    bench.open()
+    bench.wait("shown.run")
+    bench.value("window.saved = []; saveFile = (name, blob) => saved.push([name, blob]); true")
+    for kind in ("input", "report", "line", "svg", "png"):
+        bench.value("document.querySelector('[data-save=%s]').click()" % kind)
+    bench.wait("saved.length === 5")
+    names = bench.value("saved.map(([name]) => name)")
+    faults = differs("names", sorted(names), ["SB.json", "SB.litmus", "SB.png", "SB.svg", "SB.txt"])
+    held = dict(bench.value("Promise.all(saved.map(async ([name, blob]) => [name, name.endsWith('png') ? [...new Uint8Array(await blob.arrayBuffer())].slice(0, 4) : await blob.text()]))"))
+    text = read(EXAMPLES, FIRST)
+    faults += differs("input", held["SB.litmus"], text) + differs("report", held["SB.txt"], bench.program(text, "run")[1])
+    faults += differs("line", held["SB.json"], bench.program(text, "run", "--json")[1]) + differs("points", held["SB.png"], [0x89, 0x50, 0x4E, 0x47])
+    faults += [] if "<style" not in held["SB.svg"] and "class=\"unseen" not in held["SB.svg"] and "fill=\"rgb(" in held["SB.svg"] else ["the picture needs a style"]
+    return faults + safety(bench)
+
+
+def trap_row(bench):
+    """After a trap the instance is thrown away, the page says so, and goes on."""
+    bench.open()
+    bench.wait("shown.run")
+    bench.value("window.before = bench.tso.exports; bench.tso.writeAsked = () => { throw new WebAssembly.RuntimeError('unreachable'); }; true")
+    bench.fill("choices", "0s")
+    faults = [] if "stopped in the middle" in bench.text("#hint") else ["it says " + bench.text("#hint")]
+    faults += differs("the same instance", bench.value("bench.tso.exports === before"), False) + differs("drawn", bench.page.is_drawn(), False)
+    bench.value("delete bench.tso.writeAsked; true")
+    bench.fill("choices", "0s 1s 0s 1s 0d 1d")
+    return faults + differs("drawn again", bench.page.is_drawn(), True) + safety(bench)
+
+
+def widths_row(bench, folder, width):
+    """Nothing of the bench hangs over, with a refusal, a report and a table of states."""
+    faults = []
+    for name in ("4.SB.litmus", "spinlock.order"):
+        bench.open(width=width)
+        bench.value("byId('library').open = true")
+        bench.value("loadText(%s)" % json.dumps(name))
+        faults += bench.value(OVERHANGING)
+        bench.window.screenshot(os.path.join(folder, "bench-%s-%d.png" % (name, width)))
+    bench.value("loadText('4.SB.litmus')")
+    bench.choose("outcomes")
+    bench.value("begin()")
+    bench.wait("document.querySelector('#states table')")
+    faults += bench.value(OVERHANGING)
+    return faults + safety(bench)
+
+
+def dark_row(bench, folder):
+    """In the dark all texts stand out from their ground."""
+    bench.window.call("Emulation.setEmulatedMedia", features=[{"name": "prefers-color-scheme", "value": "dark"}])
+    faults = []
+    try:
+        bench.open()
+        bench.wait("shown.run")
+        bench.fill("choices", "0s 0s 1s 0d 1s 1d")
+        bench.window.screenshot(os.path.join(folder, "dark.png"))
+        faults += bench.value("(%s)()" % CONTRAST)
+        faults += differs("the ground", bench.value("getComputedStyle(document.body).backgroundColor"), "rgb(22, 24, 27)")
+        bench.fill("choices", "0s 9s")
+        bench.window.screenshot(os.path.join(folder, "dark-refused.png"), whole=False)
+    finally:
+        bench.window.call("Emulation.setEmulatedMedia", features=[{"name": "prefers-color-scheme", "value": "light"}])
+    return faults + safety(bench)
+
+
+CONTRAST = """() => {
+  const parts = colour => colour.match(/[\\d.]+/g).map(Number);
+  const light = colour => { const [r, g, b] = parts(colour).slice(0, 3).map(each => each / 255).map(each => each <= .03928 ? each / 12.92 : ((each + .055) / 1.055) ** 2.4);
+    return .2126 * r + .7152 * g + .0722 * b; };
+  const ground = element => { for (let at = element; at; at = at.parentElement) { const colour = getComputedStyle(at).backgroundColor;
+    if (parts(colour)[3] !== 0 && colour !== 'rgba(0, 0, 0, 0)') return colour; } return 'rgb(255, 255, 255)'; };
+  const faults = [];
+  for (const each of document.querySelectorAll('p, label, legend, td, th, li, h1, h2, h3, pre, summary, code')) {
+    if (each.getClientRects().length === 0 || each.textContent.trim() === '') continue;
+    const [one, two] = [light(getComputedStyle(each).color), light(ground(each))].sort((a, b) => b - a);
+    if ((one + .05) / (two + .05) < 4.5) faults.push(each.tagName + '#' + each.id + ' has a contrast of ' + ((one + .05) / (two + .05)).toFixed(1));
+  }
+  return [...new Set(faults)];
+}"""
+
+
+def names_row(bench):
+    """Each control of the bench has a name for readers of screens, and is reached by keys alone."""
+    bench.open()
+    bench.wait("shown.run")
+    nodes = [node for node in bench.window.call("Accessibility.getFullAXTree")["nodes"] if not node["ignored"]]
+    roles = ("button", "textbox", "link", "combobox", "spinbutton", "radio", "searchbox", "image", "table", "figure", "group", "region")
+    unnamed = [node["role"]["value"] for node in nodes if node["role"]["value"] in roles and not node.get("name", {}).get("value")]
+    faults = differs("elements without a name", [role for role in unnamed if role != "group"], [])
+    reached = bench.value("[...document.querySelectorAll('button, textarea, input, select, summary, a[href]')].filter(each => each.tabIndex < 0).length")
+    return faults + differs("controls that no key reaches", reached, 0) + safety(bench)
+
+
+def speed_row(bench):
+    """The first answer, and from a key to the answer that is shown, drawn picture and all."""
+    bench.open()
+    first = bench.value("(async () => { const start = performance.now(); const tso = await Tso.of(bench.bytes);"
+                        "tso.answer({}, inputOf('run')); return performance.now() - start; })()")
+    bench.value("loadText('4.SB+stores-2.litmus')")
+    times = bench.value("(() => { const times = []; for (let turn = 0; turn < 60; turn++) { byId('choices').value += turn % 2 ? ' ' : '\\n';"
+                        "const start = performance.now(); answerNow(); document.body.offsetHeight; times.push(performance.now() - start); } return times; })()")
+    print("the first answer after %.0f ms; from a key to the picture %.1f ms, %.1f at most" % (first, statistics.median(times), max(times)))
+    faults = [] if first <= FIRST_ANSWER else ["the first answer takes %.0f ms" % first]
+    faults += [] if statistics.median(times) <= TYPED_MEDIAN and max(times) <= TYPED_WORST else ["an answer takes %.1f ms, %.1f at most" % (statistics.median(times), max(times))]
+    return faults + safety(bench)
+
+
+def rows(page, folder):
+    bench = Bench(page)
+    return [
+        ("the first test", lambda: first_row(bench, folder)),
+        ("answers of the module", lambda: answers_row(bench)),
+        ("made inputs", lambda: made_row(bench)),
+        ("what is refused", lambda: refused_row(bench, folder)),
+        ("outcomes", lambda: outcomes_row(bench, folder)),
+        ("a sweep", lambda: sweep_row(bench)),
+        ("a search that is stopped", lambda: stop_row(bench)),
+        ("other machines", lambda: comparison_row(bench)),
+        ("the list of texts", lambda: library_row(bench, folder)),
+        ("addresses of tests", lambda: addresses_row(bench)),
+        ("files that are dropped", lambda: drops_row(bench)),
+        ("what is saved", lambda: saves_row(bench)),
+        ("a trap", lambda: trap_row(bench)),
+        *[("the bench at %d pixels" % width, lambda width=width: widths_row(bench, folder, width)) for width in (360, 768, 1400)],
+        ("the dark", lambda: dark_row(bench, folder)),
+        ("names of controls", lambda: names_row(bench)),
+        ("speed", lambda: speed_row(bench)),
+    ]

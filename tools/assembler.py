@@ -1,0 +1,82 @@
+"""Tests as C programs that run them on the processor: one block of assembler a core, and hardware.c, which runs the blocks."""
+import os
+
+import litmus
+
+TOOLS = os.path.dirname(os.path.abspath(__file__))
+
+# Bytes from one location to the next: two cache lines, since processors fetch lines in pairs.
+APART = 128
+
+# How a block names its two operands: where the locations begin, and where the core's registers are kept.
+BASE, BANK = "%[memory]", "%[bank]"
+
+
+def operand(value):
+    return "$%d" % value if isinstance(value, int) else register(value)
+
+
+def register(name):
+    return "%%" + name.lower()
+
+
+def line_of(instruction, locations):
+    """An instruction in AT&T's order of operands, as a string of an assembler block of C."""
+    place = None if instruction.location is None else "%d(%s)" % (APART * locations.index(instruction.location), BASE)
+    kind = instruction.kind
+    if kind == "store":
+        return "movl %s,%s" % (operand(instruction.operand), place)
+    if kind == "load":
+        return "movl %s,%s" % (place, register(instruction.register))
+    if kind == "move":
+        return "movl %s,%s" % (operand(instruction.operand), register(instruction.register))
+    if kind == "fence":
+        return "mfence"
+    return "%s %s,%s" % ("xchgl" if kind == "xchg" else "lock xaddl", register(instruction.register), place)
+
+
+def block_of(name, program, locations):
+    """The C function of a core: first registers from its bank, its program, last registers back into it."""
+    lines = ["movl %d(%s),%s" % (4 * at, BANK, register(one)) for at, one in enumerate(litmus.REGISTERS)]
+    lines += [line_of(instruction, locations) for instruction in program]
+    lines += ["movl %s,%d(%s)" % (register(one), 4 * at, BANK) for at, one in enumerate(litmus.REGISTERS)]
+    clobbered = ", ".join('"%s"' % one.lower().replace("e", "r", 1) for one in litmus.REGISTERS)
+    return "static void %s(char *memory, uint32_t *bank) {\n  __asm__ volatile(\n%s\n    : : %s, %s : %s, \"memory\", \"cc\");\n}\n" % (
+        name, "\n".join('    "%s\\n\\t"' % line for line in lines), '[memory] "r"(memory)', '[bank] "r"(bank)', clobbered)
+
+
+def table_row(number, test, places):
+    """The row of the table of tests: functions, first words and registers, and the places that a state names."""
+    locations = test.locations()
+    functions = ", ".join("core_%d_%d" % (number, core) for core in range(len(test.programs)))
+    words = ", ".join("%du" % test.initial.get(name, 0) for name in locations) or "0"
+    banks = ", ".join("{%s}" % ", ".join("%du" % test.initial.get((core, name), 0) for name in litmus.REGISTERS)
+                      for core in range(len(test.programs)))
+    shown = ", ".join("{-1, %d}" % locations.index(place) if isinstance(place, str) else
+                      "{%d, %d}" % (place[0], litmus.REGISTERS.index(place[1])) for place in places) or "{-1, 0}"
+    return "  {%d, %d, %d, {%s}, {%s}, {%s}, {%s}}," % (
+        len(test.programs), len(locations), len(places), functions, words, banks, shown)
+
+
+def source_of(tests):
+    """The C program of these tests, each a pair of a test and the places that its states name."""
+    with open(os.path.join(TOOLS, "hardware.c"), encoding="ascii") as file:
+        harness = file.read()
+    blocks = [block_of("core_%d_%d" % (number, core), program, test.locations())
+              for number, (test, _) in enumerate(tests) for core, program in enumerate(test.programs)]
+    most = max([1] + [len(places) for _, places in tests])
+    sizes = "#define APART %d\n#define PLACES %d\n" % (APART, most)
+    rows = "\n".join(table_row(number, *one) for number, one in enumerate(tests))
+    table = "%s\nstatic const struct test tests[] = {\n%s\n};" % ("\n".join(blocks), rows)
+    return (sizes + harness).replace("/* the tests */", table)
+
+
+def read_counts(lines):
+    """How often each tuple of values was seen, of the harness's next test: lines `COUNT VALUE..`, and an empty line at the end."""
+    seen = {}
+    for line in lines:
+        if line == "\n":
+            return seen
+        count, *values = map(int, line.split())
+        seen[tuple(values)] = count
+    raise ValueError("the program that runs the tests ended early")

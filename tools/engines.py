@@ -1,0 +1,240 @@
+"""What carries out the tasks of a campaign: processes of this machine, or a cluster of Dask's."""
+import collections
+import concurrent.futures
+import glob
+import os
+import queue
+import subprocess
+import sys
+import time
+
+import answers
+import tasks
+
+# Seconds for a result to come from the worker that has it.
+FETCH = 5
+
+# A task that failed is tried so often before its fault is the result.
+TRIES = 2
+
+
+def by_processes(program, waiting, processes):
+    """The results of these tasks by processes of this machine, as they come."""
+    waiting, tried = collections.deque(waiting), collections.Counter()
+    running = {}
+    with concurrent.futures.ThreadPoolExecutor(processes) as pool:
+        while waiting or running:
+            while waiting and len(running) < 2 * processes:
+                task = waiting.popleft()
+                tried[task.key] += 1
+                running[pool.submit(task.carry_out, program)] = task
+            done, _ = concurrent.futures.wait(running, return_when=concurrent.futures.FIRST_COMPLETED)
+            for future in done:
+                task, one = running.pop(future), future.result()
+                if "fault" in one and tried[task.key] < TRIES:
+                    waiting.append(task)
+                else:
+                    yield one
+
+
+class NoCluster(Exception):
+    """There is no cluster that can take the tasks."""
+
+
+def dask():
+    """Dask's modules, asked for only where a scheduler is named."""
+    try:
+        import cloudpickle
+        import distributed
+        return distributed, cloudpickle
+    except ImportError:
+        pass
+    for other in ["/usr/bin/python3"] + sorted(glob.glob("/usr/bin/python3.*[0-9]")):
+        if os.path.exists(other) and subprocess.run([other, "-c", "import distributed"], capture_output=True).returncode == 0:
+            raise NoCluster("this Python, %s, has no Dask distributed, but %s has: run `%s tools/campaign ..`" % (
+                sys.executable, other, other))
+    raise NoCluster("this Python, %s, has no Dask distributed; Debian's package python3-distributed has it, for /usr/bin/python3"
+                    % sys.executable)
+
+
+def place_of(worker, digest):
+    return os.path.join(worker.local_directory, "tso-" + digest)
+
+
+class Placer:
+    """Puts the program in the folder of each worker, also of one that comes later, and looks whether it can run there."""
+
+    def __init__(self, program, digest):
+        self.program, self.digest, self.name = program, digest, "tso-" + digest
+        self.wanted = "%d.%d" % sys.version_info[:2]
+
+    def setup(self, worker):
+        """Called by Dask in each worker."""
+        here, library = "%d.%d" % sys.version_info[:2], os.confstr("CS_GNU_LIBC_VERSION") or "no glibc"
+        if here != self.wanted:
+            raise RuntimeError("a worker has Python %s, not %s" % (here, self.wanted))
+        if not library.startswith("glibc ") or tuple(map(int, library[6:].split("."))) < (2, 34):
+            raise RuntimeError("a worker has %s, older than glibc 2.34" % library)
+        path = place_of(worker, self.digest)
+        with open(path + ".new", "wb") as file:
+            file.write(self.program)
+        os.chmod(path + ".new", 0o755)
+        os.replace(path + ".new", path)
+
+
+def function_for(digest):
+    """What a worker is to call. It is no name of a module, and gets plain data: only so Dask sends it by value."""
+    def at_worker(text, words, limit, seeds):
+        import distributed
+        return tasks.Task(digest, text, words, limit, seeds).carry_out(place_of(distributed.get_worker(), digest))
+    return at_worker
+
+
+class Given:
+    """A task that is given out: since when, how often, how often it failed, and its futures."""
+
+    def __init__(self, task):
+        self.task, self.since, self.times, self.failed, self.futures = task, 0.0, 0, 0, []
+
+    def fault(self, why):
+        """The result of a task that failed for good."""
+        return {"fault": why, "task": self.task.key, "test": answers.name_of(self.task.text), "options": " ".join(self.task.words)}
+
+
+class Cluster:
+    """A cluster of Dask's. Program and functions travel by value, so workers need nothing of this project."""
+
+    def __init__(self, address, program, digest):
+        self.distributed, cloudpickle = dask()
+        for module in (answers, tasks, sys.modules[__name__]):
+            cloudpickle.register_pickle_by_value(module)
+        try:
+            self.client = self.distributed.Client(address, timeout=10, set_as_default=False)
+        except (OSError, ValueError) as fault:
+            raise NoCluster("no scheduler answers at %s: %s" % (address, fault)) from None
+        self.check_versions()
+        self.function, self.done, self.given = function_for(digest), queue.SimpleQueue(), {}
+        self.waiting, self.suspects, self.alone = collections.deque(), collections.deque(), False
+        self.place(program, digest)
+
+    def place(self, program, digest):
+        """Has the program put in each worker's folder."""
+        kind = type("Placer", (Placer, self.distributed.WorkerPlugin), {})
+        with open(program, "rb") as file:
+            placer = kind(file.read(), digest)
+        # newer versions of Dask have it under this name
+        register = getattr(self.client, "register_plugin", None) or self.client.register_worker_plugin
+        try:
+            register(placer, name=placer.name)
+        except RuntimeError as fault:
+            raise NoCluster(str(fault)) from None
+
+    def check_versions(self):
+        """Dask asks that its versions are the same all over the cluster."""
+        told = self.client.get_versions()
+        own = told["client"]["packages"]
+        others = dict(told["workers"], scheduler=told["scheduler"])
+        for name in ("python", "dask", "distributed"):
+            for where, one in others.items():
+                if one["packages"][name] != own[name]:
+                    raise NoCluster("%s has %s %s, and here is %s" % (where, name, one["packages"][name], own[name]))
+
+    def threads(self):
+        return sum(self.client.nthreads().values())
+
+    def holders(self, one):
+        """The workers that have this task, or its result."""
+        if not one.futures:
+            return set()
+        keys = {future.key for future in one.futures}
+        found = {worker for worker, having in self.client.processing().items() if keys & set(having)}
+        return found.union(*self.client.who_has(one.futures).values())
+
+    def give(self, one):
+        """Gives a task out, under a new key each time, and not to a worker that holds it already."""
+        holders = self.holders(one)
+        others = [worker for worker in self.client.nthreads() if worker not in holders] if holders else None
+        one.times += 1
+        one.since = time.monotonic()
+        key = "%s-%d" % (one.task.key, one.times)
+        task = one.task
+        future = self.client.submit(self.function, task.text, task.words, task.limit, task.seeds, key=key, pure=False,
+                                    workers=others or None)
+        one.futures.append(future)
+        self.given[one.task.key] = one
+        future.add_done_callback(lambda ended: self.done.put((one.task.key, ended)))
+
+    def settled(self, seconds):
+        """The next task that came back, and its result or what ended it; None where none comes in so many seconds. The first answer to
+        a task counts."""
+        try:
+            key, future = self.done.get(timeout=seconds)
+        except queue.Empty:
+            return None
+        one = self.given.get(key)
+        if one is None or future.status not in ("finished", "error"):
+            return None
+        fault = result = None
+        try:
+            if future.status == "error":
+                fault = future.exception()
+            else:
+                result = future.result(timeout=FETCH)
+        except (self.distributed.TimeoutError, self.distributed.CancelledError):
+            # its worker was paused when it had the result
+            self.give(one)
+            return None
+        del self.given[key]
+        for other in one.futures:
+            other.release()
+        one.futures.clear()
+        return one, result, fault
+
+    def give_again(self):
+        """Gives out once more each task that is past its time: a paused worker may have it, or one that hangs. No more than one other is
+        before a task at its worker, so it has ended in twice its limit or never."""
+        for one in list(self.given.values()):
+            if time.monotonic() - one.since > 2 * one.task.limit + 2:
+                self.give(one)
+
+    def give_more(self, threads):
+        """Keeps each thread with a task and one more before it. What may have ended its workers comes last, and alone."""
+        while self.waiting and len(self.given) < 2 * threads:
+            self.give(self.waiting.popleft())
+        self.alone = self.alone or not self.waiting and not self.given
+        if self.alone and self.suspects and not self.given and threads:
+            self.give(self.suspects.popleft())
+
+    def judge(self, one, result, fault):
+        """The result that a task came back with; None where it is to be tried once more."""
+        if isinstance(fault, self.distributed.KilledWorker):
+            if self.alone:
+                return one.fault("it ended its workers")
+            self.suspects.append(one)
+            return None
+        if result is not None and "fault" not in result:
+            return result
+        one.failed += 1
+        if one.failed < TRIES:
+            self.waiting.append(one)
+            return None
+        return result or one.fault("%s: %s" % (type(fault).__name__, fault))
+
+    def run(self, waiting):
+        """The results of these tasks, as they come."""
+        self.waiting.extend(map(Given, waiting))
+        threads, looked = self.threads(), time.monotonic()
+        while self.waiting or self.suspects or self.given:
+            if time.monotonic() - looked > 1:
+                threads, looked = self.threads(), time.monotonic()
+                self.give_again()
+            if self.client.status != "running":
+                raise NoCluster("the scheduler is gone; the same words go on")
+            self.give_more(threads)
+            found = self.settled(0.5)
+            result = None if found is None else self.judge(*found)
+            if result is not None:
+                yield result
+
+    def close(self):
+        self.client.close(timeout=2)

@@ -1,0 +1,77 @@
+"""What a campaign consists of: tasks, each one call of the program, and rows of its table, each made of one task or of many."""
+import hashlib
+import itertools
+import json
+
+import answers
+
+# Seeds of one call of `tso sweep`, at most.
+MOST_SEEDS = 1000
+
+
+class Task:
+    """One call of the program. Its key is a digest of all that its answer depends on."""
+
+    def __init__(self, digest, text, words, limit, seeds=None):
+        self.text, self.words, self.limit, self.seeds = text, words, limit, seeds
+        self.key = hashlib.sha256(json.dumps([digest, text, words, seeds]).encode()).hexdigest()[:32]
+
+    def carry_out(self, program):
+        """The result of this task: a record for a line of the file of results."""
+        if self.seeds is None:
+            found = answers.outcomes(program, self.text, self.words, self.limit)
+        else:
+            found = answers.sweep(program, self.text, self.words, *self.seeds, self.limit)
+            found = dict(found, seeds="%d+%d" % self.seeds)
+        return dict(found, task=self.key, test=answers.name_of(self.text), options=" ".join(self.words))
+
+
+class Row:
+    """A line of the table: a test with options, and the keys of the tasks that make it."""
+
+    def __init__(self, text, words, depth, keys):
+        self.text, self.words, self.depth, self.keys = text, words, depth, keys
+
+
+def plan_outcomes(digest, texts, depths, states, limit):
+    """Tasks by key, and rows: each test at each depth."""
+    tasks, rows = {}, []
+    for text in texts:
+        for depth in depths:
+            words = ["--depth", str(depth)] + (["--states", str(states)] if states else [])
+            task = Task(digest, text, words, limit)
+            tasks[task.key] = task
+            rows.append(Row(text, words, depth, [task.key]))
+    return tasks, rows
+
+
+def plan_sweep(digest, texts, machines, first, seeds, cut, limit):
+    """Tasks by key, and rows: each test on each machine, its seeds in ranges of `cut`."""
+    tasks, rows = {}, []
+    for text, words in itertools.product(texts, machines):
+        keys = []
+        for begin in range(first, first + seeds, cut):
+            task = Task(digest, text, words, limit, (begin, min(cut, first + seeds - begin)))
+            tasks[task.key] = task
+            keys.append(task.key)
+        rows.append(Row(text, words, None, keys))
+    return tasks, rows
+
+
+def machines(protocols, buses, shapes, depths, options):
+    """All lists of options for `tso sweep`; a shape is SETSxWAYSxWORDS."""
+    parts = [[["--protocol", one] for one in protocols], [["--bus", one] for one in buses], [], [["--depth", one] for one in depths]]
+    for shape in shapes:
+        parts[2].append([word for pair in zip(("--sets", "--ways", "--words"), shape.split("x")) for word in pair])
+    return [sum(picked, []) + options for picked in itertools.product(*(part or [[]] for part in parts))]
+
+
+def merged(parts):
+    """Results of ranges of seeds as one: their counts are added."""
+    total = {"states": {}, "unfinished": 0, "true": 0, "false": 0}
+    for part in parts:
+        for state, count in part["states"].items():
+            total["states"][state] = total["states"].get(state, 0) + count
+        for name in ("unfinished", "true", "false"):
+            total[name] += part[name]
+    return total

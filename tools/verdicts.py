@@ -1,0 +1,115 @@
+"""What is expected of tests, and how what was found differs from it."""
+import re
+
+import answers
+import litmus
+import tasks
+
+# What a row of the table begins with; those that want to be looked at come first.
+DIFFERS, FAULT, OPEN, SAME = "DIFFERS", "FAULT", "OPEN", "same"
+RANKS = (DIFFERS, FAULT, OPEN, SAME)
+
+# No program has so many stores that a deeper buffer allows more.
+DEEPEST = 32
+
+# Theory isn't asked for the states of a test with more candidates.
+MANY_CANDIDATES = 200_000
+
+
+def read_expected(path):
+    """Verdicts by the tests' names: of lines `NAME: ..: VERDICT`, as `tools/cycles --list` prints, or `VERDICT NAME`, as tools/theory."""
+    found = {}
+    with open(path, encoding="latin-1") as file:
+        for line in filter(str.strip, file):
+            listed = re.fullmatch(r"([^:]*):.*: *(allowed|forbidden)\s*", line)
+            said = re.fullmatch(r"(allowed|forbidden)\s+(.*?)\s*", line)
+            if not listed and not said:
+                raise ValueError("%s has a line without a verdict: %s" % (path, line.rstrip()))
+            name, verdict = listed.groups() if listed else said.groups()[::-1]
+            found[name] = verdict
+    return found
+
+
+def expected(text, depth, verdict):
+    """The verdict that is expected at this depth (None: of a sweep), where TSO's own is this one; None where nothing says so."""
+    if verdict != "allowed" or depth in (None, DEEPEST):
+        return verdict
+    least = answers.fact_of(text, "Depth")
+    if least is not None and least.isdigit():
+        return "allowed" if depth >= int(least) else "forbidden"
+    return answers.fact_of(text, "SC") if depth == 0 else None
+
+
+class Theory:
+    """What tools/theory says of a test: its verdict, and all its final states, as sets of pairs; None for these where there are too many
+    candidates to try all."""
+
+    def __init__(self, verdict, states):
+        self.verdict, self.states = verdict, states
+
+
+def by_theory(theory, text):
+    """What theory, the script as a module, says of a test."""
+    test = litmus.read_test(text)
+    if theory.candidates_in(test) > MANY_CANDIDATES:
+        return Theory(theory.verdict(test) if test.condition else None, None)
+    places = litmus.observed(test)
+    ends = list(theory.allowed_ends(test, True))
+    states = {frozenset((litmus.place_text(place), end.get(place, 0)) for place in places) for end in ends}
+    if not test.condition:
+        return Theory(None, states)
+    return Theory("allowed" if any(litmus.holds(test.condition[1], end) for end in ends) else "forbidden", states)
+
+
+class Line:
+    """A line of the table: how the row is judged, and the members of its JSON line."""
+
+    def __init__(self, row, rank, members):
+        self.rank, self.row = rank, row
+        self.members = dict(members, test=answers.name_of(row.text), options=" ".join(row.words), judged=rank)
+
+    def order(self):
+        return RANKS.index(self.rank), self.members["test"], self.members["options"]
+
+    def text(self):
+        shown = ["%-7s %s" % (self.rank, self.members["test"]), self.members["options"]]
+        for name in ("expected", "found", "true", "false", "unfinished"):
+            if self.members.get(name) is not None:
+                shown.append("%s=%s" % (name, self.members[name]))
+        if "states" in self.members:
+            shown.append("states=%d" % len(self.members["states"]))
+        return " ".join(filter(None, shown + ["- " + why for why in self.members.get("why", [])]))
+
+
+def line_of(row, parts, verdict, theory):
+    """The line of a row whose tasks have these results; TSO's own verdict is this one, where something says so."""
+    faults = sorted({part["fault"] for part in parts if "fault" in part})
+    due = expected(row.text, row.depth, verdict)
+    if faults:
+        return Line(row, FAULT, {"expected": due, "why": faults})
+    if row.depth is None:
+        return sweep_line(row, tasks.merged(parts), due)
+    return outcomes_line(row, parts[0], due, theory)
+
+
+def sweep_line(row, total, due):
+    """A sweep claims no 'never': it differs only where something forbidden was seen."""
+    wrong = due == "forbidden" and total["true"]
+    return Line(row, DIFFERS if wrong else SAME, dict(total, expected=due))
+
+
+def outcomes_line(row, one, due, theory):
+    if "unfinished" in one:
+        return Line(row, OPEN, {"expected": due, "why": ["more than %d states" % one["unfinished"]]})
+    found = None if one["true"] + one["false"] == 0 else "allowed" if one["true"] else "forbidden"
+    why = [] if due in (None, found) else ["the verdict differs"]
+    if theory is not None and theory.states is not None and row.depth == DEEPEST:
+        states = {frozenset(state.items()) for state in one["states"]}
+        why += ["not by theory: " + state_text(state) for state in sorted(states - theory.states, key=sorted)]
+        why += ["only by theory: " + state_text(state) for state in sorted(theory.states - states, key=sorted)]
+    members = {"expected": due, "found": found, "true": one["true"], "false": one["false"], "states": one["states"], "why": why}
+    return Line(row, DIFFERS if why else SAME, members)
+
+
+def state_text(state):
+    return " ".join("%s=%d" % pair for pair in sorted(state)) or "(no value)"

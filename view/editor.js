@@ -1,0 +1,76 @@
+'use strict';
+
+// The test, the choices and the order as they are written, and the mark at what is refused.
+
+const DIVIDING_LINE = '====';
+
+const readsOrder = command => command === 'check' || command === 'witness';
+
+/** The texts that a command reads: the test, and behind it the choices or the order. */
+function inputOf(command) {
+  const test = byId('test').value, ended = test.endsWith('\n') || test === '' ? test : test + '\n';
+  if (command !== 'run' && !readsOrder(command)) return ended;
+  return `${ended}${DIVIDING_LINE}\n${byId(readsOrder(command) ? 'given' : 'choices').value}`;
+}
+
+/** The parts of a whole input: what is before the first dividing line, and what is behind it, or null. */
+function partsOf(text) {
+  const lines = text.split('\n'), at = lines.findIndex(line => line.replace(/\r$/, '') === DIVIDING_LINE);
+  if (at < 0) return { test: text, rest: null };
+  const test = lines.slice(0, at).join('\n');
+  return { test: at > 0 ? test + '\n' : test, rest: lines.slice(at + 1).join('\n') };
+}
+
+/** Puts a whole input into the fields: its second part is an order where it has a line `Order`, and choices where not. */
+function putInput(text) {
+  const { test, rest } = partsOf(text.replace(/\r\n/g, '\n'));
+  const isOrder = rest !== null && /^(Order|Endorder\b.*)$/m.test(rest);
+  byId('test').value = test;
+  byId('choices').value = isOrder ? '' : rest ?? '';
+  byId('given').value = isOrder ? rest : '';
+  for (const id of ['test', 'given']) drawLines(id, null);
+  return isOrder;
+}
+
+// A field that marks a line has a column of numbers and, under its text, a band for the line that is marked.
+
+/** Draws the numbers of a field's lines, and marks this one; null marks none. */
+function drawLines(id, marked) {
+  const field = byId(id), [gutter, band] = [byId(id + '-lines'), byId(id + '-band')];
+  const count = field.value.split('\n').length;
+  gutter.replaceChildren(...Array.from({ length: count }, (_, at) =>
+    html('span', at + 1 === marked ? { class: 'refused' } : {}, `${at + 1 === marked ? '▶' : ''}${at + 1}\n`)));
+  band.hidden = marked === null || marked > count;
+  band.dataset.line = marked ?? '';
+  placeLines(id);
+}
+
+/** Keeps numbers and band beside their lines while the field is scrolled. */
+function placeLines(id) {
+  const field = byId(id), band = byId(id + '-band');
+  const pitch = parseFloat(getComputedStyle(field).lineHeight), above = parseFloat(getComputedStyle(field).paddingTop);
+  byId(id + '-lines').scrollTop = field.scrollTop;
+  band.style.top = `${above + (Number(band.dataset.line) - 1) * pitch - field.scrollTop}px`;
+  band.style.height = `${pitch}px`;
+}
+
+/** Where a refusal is: the field and its line, or the field and its word. */
+function placeOfRefusal(line) {
+  const found = /^Refused (test|order) line (\d+) |^Refused choices word (\d+) /.exec(line);
+  if (!found) return null;
+  return found[3] ? { field: 'choices', word: Number(found[3]) } : { field: found[1] === 'order' ? 'given' : 'test', line: Number(found[2]) };
+}
+
+/** The refused word of the choices, as it is written. */
+function wordAt(text, number) {
+  return text.split(/[ \t\n\r]+/).filter(word => word !== '')[number - 1];
+}
+
+/** Marks what is refused, or nothing. */
+function markRefusal(line) {
+  const place = placeOfRefusal(line);
+  for (const id of ['test', 'given']) drawLines(id, place?.field === id && place.line ? place.line : null);
+  for (const id of ['test', 'choices', 'given']) byId(id).setAttribute('aria-invalid', String(place?.field === id));
+  const word = place?.word ? wordAt(byId('choices').value, place.word) : undefined;
+  byId('refused-word').textContent = word === undefined ? '' : `Word ${place.word} is ${word}`;
+}

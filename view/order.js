@@ -1,0 +1,63 @@
+'use strict';
+
+// What the order and the places tell.
+
+const isRead = entry => entry.kind === 'R' || entry.kind === 'LR';
+const isWrite = entry => entry.kind === 'W' || entry.kind === 'LW';
+
+/** Whether one entry is before another in program order; the parts of one locked instruction aren't asked about. */
+const isBefore = (first, second) => first.core === second.core && first.place < second.place;
+
+/**
+ * The write that a read returned, or undefined where it returned the initial word: of the writes to its location that are
+ * before it in memory order or in program order, the one that is last in memory order.
+ */
+function sourceOf(order, read) {
+  const writes = order.filter(entry => isWrite(entry) && entry.location === read.location);
+  return writes.findLast(write => write.index < read.index || isBefore(write, read));
+}
+
+/** The stores that a load passed: earlier in its program, later in memory order. */
+function passedBy(order, load) {
+  return load.kind === 'R' ? order.slice(load.index + 1).filter(entry => entry.kind === 'W' && isBefore(entry, load)) : [];
+}
+
+/**
+ * When a plain store came into its core's buffer. Moment m is the one after m entries of the order.
+ *
+ * A load, a fence and a locked instruction make their entry at their own step, and a core steps in program order; a plain
+ * store's step puts it into the buffer, and its entry is made when it leaves. So it came in after each earlier entry of its
+ * core that is no plain store, and before each later one; and before it left. A buffer has room for `depth` stores and lets
+ * them out in program order, so it came in after the store that is `depth` plain stores before it had left. Nothing else is
+ * told: it came in at some moment from `earliest` to `latest`, each of which is possible. From `latest` to its own entry it
+ * waited for certain. At depth 0 there is no buffer, and a store's entry is made at its step.
+ */
+function waitOf(run, store) {
+  const { depth } = run.machine;
+  if (depth === 0) return { earliest: store.index, latest: store.index };
+  const own = run.order.filter(entry => entry.core === store.core);
+  const steps = own.filter(entry => entry.kind !== 'W');
+  const stores = own.filter(entry => entry.kind === 'W');
+  const madeRoom = stores[stores.indexOf(store) - depth];
+  const after = [...steps.filter(entry => isBefore(entry, store)), ...(madeRoom ? [madeRoom] : [])];
+  const before = [...steps.filter(entry => isBefore(store, entry)), store];
+  return {
+    earliest: Math.max(0, ...after.map(entry => entry.index + 1)),
+    latest: Math.min(...before.map(entry => entry.index)),
+  };
+}
+
+/** The initial words that the line tells: of a location without writes, and of one whose initial word was read. */
+function initialWords({ order, memory }) {
+  const written = new Set(order.filter(isWrite).map(entry => entry.location));
+  const words = new Map([...memory].filter(([location]) => !written.has(location)));
+  for (const read of order.filter(isRead)) if (!sourceOf(order, read)) words.set(read.location, read.value);
+  return words;
+}
+
+/** Memory after so many entries, by location; undefined where the line doesn't tell the word. */
+function memoryAfter(run, count) {
+  const words = new Map([...run.memory.keys()].map(location => [location, run.initial.get(location)]));
+  for (const entry of run.order.slice(0, count)) if (isWrite(entry)) words.set(entry.location, entry.value);
+  return words;
+}

@@ -1,0 +1,90 @@
+'use strict';
+
+// The page: what keys, buttons, fields and files do, and how it begins.
+
+/** Begins an input of the program, and no line of a run. */
+const BEGINS_TEST = /^X86[ \t]/;
+const FIRST_TEXT = 'store-buffering.litmus';
+const WRITTEN = ['test', 'choices', 'given'];
+
+/** A text that came in as a whole: a test goes to the bench, and any other is a line of a run. */
+function takeText(text) {
+  if (!bench.tso || !BEGINS_TEST.test(text)) return showText(text);
+  const isOrder = putInput(text);
+  putCommand(isOrder ? 'check' : 'run');
+  answerNow();
+  byId('bench').scrollIntoView({ block: 'nearest' });
+}
+
+const takeFile = async file => takeText(await file.text());
+
+document.addEventListener('keydown', event => {
+  if (event.ctrlKey && event.key === 'Enter' && bench.tso && !byId('begin').hidden) begin();
+  const isForOthers = event.target.matches('textarea, input, select') || event.ctrlKey || event.altKey || event.metaKey || event.shiftKey;
+  if (!shown.run || isForOthers || !KEYS[event.key]) return;
+  event.preventDefault();
+  move(KEYS[event.key]);
+});
+document.addEventListener('click', event => {
+  const { move: way, choices, file, save, machine } = event.target.dataset;
+  if (way !== undefined) move(way);
+  else if (choices !== undefined) loadChoices(choices);
+  else if (file !== undefined) loadText(file);
+  else if (save !== undefined) SAVES[save]();
+  else if (machine !== undefined) takeMachine(machine);
+});
+byId('line').addEventListener('input', event => show(event.target.value));
+byId('file').addEventListener('change', event => {
+  if (event.target.files.length > 0) takeFile(event.target.files[0]);
+});
+document.addEventListener('dragover', event => event.preventDefault());
+document.addEventListener('drop', event => {
+  event.preventDefault();
+  const { files } = event.dataTransfer;
+  if (files.length > 0) takeFile(files[0]);
+  else takeText(event.dataTransfer.getData('text'));
+});
+for (const id of WRITTEN) byId(id).addEventListener('input', answerNow);
+for (const id of ['test', 'given']) byId(id).addEventListener('scroll', () => placeLines(id));
+byId('commands').addEventListener('change', () => {
+  showSettings(currentCommand());
+  answerNow();
+});
+byId('settings').addEventListener('input', answerNow);
+byId('begin').addEventListener('click', begin);
+byId('stop').addEventListener('click', () => {
+  stopTask();
+  byId('said').textContent = 'Stopped.';
+});
+byId('search').addEventListener('input', showLibrary);
+byId('comparison').addEventListener('toggle', () => bench.tso && compareNow());
+for (const scrolled of [window, byId('frame')]) scrolled.addEventListener('scroll', () => shown.run && placeNames(), { passive: true });
+window.addEventListener('resize', () => {
+  if (shown.run && !matchMedia('print').matches) redraw();
+});
+window.addEventListener('beforeprint', () => {
+  if (shown.run?.order.length > PAPER.whole) byId('frame').replaceChildren(...drawPieces(shown.run, shown.layout));
+});
+window.addEventListener('afterprint', () => shown.run && redraw());
+window.addEventListener('hashchange', showAddress);
+
+/** Fills the bench with the first test, shows what the address tells, and else the first test's run. */
+async function start() {
+  const hasMachine = MODULE !== null, isOfTest = TEST_ADDRESS.test(location.hash.slice(1));
+  byId('bench').hidden = !hasMachine;
+  byId('no-machine').hidden = hasMachine;
+  byId('input').open = !hasMachine || (location.hash.length > 1 && !isOfTest);
+  if (hasMachine) {
+    putInput(EXAMPLES[FIRST_TEXT]);
+    putSettings([]);
+    putCommand('run');
+    showLibrary();
+  }
+  if (!hasMachine || !isOfTest) showAddress();
+  if (!hasMachine) return;
+  await makeBench();
+  if (isOfTest) showAddress();
+  else if (!shown.run && byId('message').textContent === '' && byId('line').value === '') answerNow();
+}
+
+start();

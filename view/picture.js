@@ -1,0 +1,190 @@
+'use strict';
+
+// The picture. All measures are pixels.
+
+const GUTTER = 34, HEAD = 34, ROW = 50, BOX = 38, FRAME = 5, MARGIN = 30, INSET = 6;
+const LANE = { least: 150, most: 300, large: 220, box: 200 };
+const TRACK = { most: 11, room: 44 };
+const PAPER = { whole: 24, piece: 8 }; // rows: of a picture that goes on one page, of a piece of a longer one
+const LEAST_FONT = 9;
+const GLYPH = 0.61; // the width of a letter of the fixed fonts, for a size of 1
+
+/** For each store that may have waited its track: the bars of a core stand side by side. */
+function tracksOf(run) {
+  const tracks = new Map();
+  for (let core = 0; core < run.cores; core++) {
+    const ends = [];
+    for (const store of run.order.filter(entry => entry.core === core && entry.kind === 'W')) {
+      const { earliest } = waitOf(run, store);
+      if (earliest === store.index) continue;
+      const free = ends.findIndex(end => end < earliest);
+      const track = free < 0 ? ends.length : free;
+      ends[track] = store.index;
+      tracks.set(store, track);
+    }
+  }
+  return tracks;
+}
+
+/** Where everything stands in a picture of at most this width, or as narrow as a lane may be. */
+function layoutOf(run, width) {
+  const tracks = tracksOf(run);
+  const count = Math.max(0, ...[...tracks.values()].map(track => track + 1));
+  const pitch = Math.min(TRACK.most, TRACK.room / Math.max(1, count));
+  const lane = Math.min(LANE.most, Math.max(LANE.least, Math.floor((width - GUTTER - 2) / run.cores)));
+  const left = core => GUTTER + core * lane;
+  const top = moment => HEAD + moment * ROW;
+  const inner = INSET + count * pitch + 10;
+  const box = Math.min(LANE.box, lane - inner - MARGIN), large = lane >= LANE.large;
+  return {
+    tracks, pitch, lane, left, top, label: large ? 17 : 13, note: large ? 12 : 10,
+    width: GUTTER + run.cores * lane + 2, height: top(run.order.length) + 2,
+    middle: entry => top(entry.index + 0.5),
+    trackOf: store => left(store.core) + INSET + (tracks.get(store) + 0.5) * pitch,
+    boxOf: entry => ({ x: left(entry.core) + inner, y: top(entry.index) + (ROW - BOX) / 2, width: box, height: BOX }),
+  };
+}
+
+/** Where arrows touch an entry's box, or the frame around a locked instruction. */
+function sidesOf(layout, entry) {
+  const box = layout.boxOf(entry), around = entry.kind === 'LR' || entry.kind === 'LW' ? FRAME : 0;
+  return { left: box.x - around, right: box.x + box.width + around };
+}
+
+const textAt = (attributes, size, text) => svg('text', { 'text-anchor': 'middle', 'font-size': size, ...attributes }, text);
+
+/** A text that is made smaller, and at last cut, so that it fits. */
+function fittingText(attributes, size, text, room) {
+  const fitting = Math.max(Math.min(size, room / (text.length * GLYPH)), LEAST_FONT);
+  const letters = Math.floor(room / (fitting * GLYPH));
+  return textAt(attributes, fitting, text.length <= letters ? text : text.slice(0, Math.max(1, letters - 1)) + '…');
+}
+
+/** `W x=1`, the name cut where the whole is too long. */
+function labelOf(entry, letters) {
+  const around = entry.kind.length + String(entry.value).length + 2;
+  const room = Math.max(3, letters - around);
+  const name = entry.location.length <= room ? entry.location : entry.location.slice(0, room - 1) + '…';
+  return `${entry.kind} ${name}=${entry.value}`;
+}
+
+/** What stands above an entry's label: its name, and what it passed as far as there is room. */
+function noteOf(run, entry, letters) {
+  const passed = passedBy(run.order, entry);
+  if (passed.length === 0) return nameOf(entry);
+  const isOwn = passed.includes(sourceOf(run.order, entry));
+  const passes = ` passed ${passed.length === 1 ? passed[0].location : passed.length}`;
+  const notes = isOwn ? [' own store', ' own'] : [passes, ' passed'];
+  return nameOf(entry) + (notes.find(note => nameOf(entry).length + note.length <= letters) ?? '');
+}
+
+const coresOf = run => Array.from({ length: run.cores }, (_, core) => core);
+
+const drawName = ({ lane, left }, core, y) => textAt({ class: 'head', x: left(core) + lane / 2, y }, 17, `P${core}`);
+
+/** The lanes' names alone, for above the picture. */
+function drawNames(run, layout) {
+  const height = 22;
+  return svg('svg', { width: layout.width, height, viewBox: `0 0 ${layout.width} ${height}` }, ...coresOf(run).map(core => drawName(layout, core, 17)));
+}
+
+function drawGrid(run, layout, entries) {
+  const { width, height, lane, left, top } = layout;
+  const lanes = coresOf(run).map(core => svg('g', {},
+    svg('rect', { class: 'lane', x: left(core), y: 1, width: lane, height: height - 2 }), drawName(layout, core, 23)));
+  const rows = entries.map(({ index }) => svg('g', {},
+    svg('line', { class: 'row', x1: GUTTER, x2: width, y1: top(index), y2: top(index) }),
+    textAt({ class: 'faint', x: GUTTER - 8, y: top(index + 0.5) + 4, 'text-anchor': 'end' }, 12, String(index + 1))));
+  return svg('g', {}, ...lanes, ...rows);
+}
+
+/** The bar of a store, under its place: dashed where it may have waited, full where it did; and its way to its entry. */
+function drawWait(run, layout, store) {
+  const { earliest, latest } = waitOf(run, store);
+  const { top, pitch } = layout;
+  const x = layout.trackOf(store), wide = Math.min(7, pitch * 0.7), head = pitch === TRACK.most ? 13 : 2;
+  const bar = (kind, from, to) => svg('rect', { class: kind, x: x - wide / 2, y: from, width: wide, height: to - from });
+  const way = `M${x} ${top(store.index)}V${layout.middle(store)}H${layout.boxOf(store).x}`;
+  const parts = [svg('title', {}, sentenceOf(run, store)), svg('path', { class: 'leaving', d: way })];
+  if (earliest < latest) parts.push(bar('possible', top(earliest) + head, top(latest)));
+  if (latest < store.index) parts.push(bar('certain', top(latest) + (earliest < latest ? 0 : head), top(store.index)));
+  if (head > 2) parts.push(textAt({ class: 'faint', x, y: top(earliest) + 11 }, 10, String(store.place)));
+  return svg('g', { class: 'wait', 'data-earliest': earliest, 'data-latest': latest, 'data-seen': store.index }, ...parts);
+}
+
+/** From the write's box, or from its bar where it still waits, to the read's box. */
+function arrowPath(layout, source, read) {
+  const from = sidesOf(layout, source), to = sidesOf(layout, read);
+  const start = layout.middle(source), end = layout.middle(read);
+  if (source.index > read.index) return `M${layout.trackOf(source) + 3} ${end}H${to.left - 2}`;
+  const isAhead = source.core < read.core;
+  const x1 = isAhead || source.core === read.core ? from.right : from.left;
+  const x2 = isAhead ? to.left - 2 : to.right + 2;
+  const bend = source.core === read.core ? 26 : Math.max(40, Math.abs(x2 - x1) / 2);
+  const toRight = x1 === from.right ? bend : -bend, toLeft = isAhead ? -bend : bend;
+  return `M${x1} ${start}C${x1 + toRight} ${start} ${x2 + toLeft} ${end} ${x2} ${end}`;
+}
+
+/** Where a read's value came from: an arrow, or the mark of the initial value. */
+function drawSource(run, layout, read) {
+  const source = sourceOf(run.order, read), title = svg('title', {}, sentenceOf(run, read));
+  const arrow = (d, data) => svg('path', { class: 'arrow', d, 'marker-end': 'url(#point)', ...data }, title);
+  if (source) return arrow(arrowPath(layout, source, read), { 'data-from': source.index, 'data-to': read.index });
+  const { right } = sidesOf(layout, read), y = layout.middle(read);
+  return svg('g', { 'data-initial': read.index }, arrow(`M${right + 17} ${y}H${right + 2}`, {}),
+    svg('circle', { class: 'initial', cx: right + 17, cy: y, r: 5 }));
+}
+
+function drawFence(run, layout, entry) {
+  const y = layout.middle(entry), left = layout.left(entry.core);
+  return svg('g', { class: 'fence', 'data-entry': entry.index },
+    svg('title', {}, sentenceOf(run, entry)),
+    svg('rect', { x: left + 3, y: y - 11, width: layout.lane - 6, height: 22 }),
+    textAt({ x: left + layout.lane / 2, y: y + 5 }, layout.label - 1, `${nameOf(entry)} F fence`));
+}
+
+function drawEntry(run, layout, entry) {
+  if (entry.kind === 'F') return drawFence(run, layout, entry);
+  const box = layout.boxOf(entry);
+  const passed = passedBy(run.order, entry);
+  const kind = isWrite(entry) ? 'store' : passed.length > 0 ? 'load passed' : 'load';
+  const room = box.width - 10, letters = Math.floor(room / (LEAST_FONT * GLYPH));
+  const x = box.x + box.width / 2;
+  return svg('g', { class: kind, 'data-entry': entry.index, 'data-passed': passed.map(store => store.index).join(' ') },
+    svg('title', {}, sentenceOf(run, entry)),
+    svg('rect', { ...box, rx: isRead(entry) ? BOX / 2 : 2 }),
+    fittingText({ class: 'note', x, y: box.y + 13 }, layout.note, noteOf(run, entry, letters - 2), room - 10),
+    fittingText({ x, y: box.y + 31 }, layout.label, labelOf(entry, letters), room));
+}
+
+function drawFrame(layout, load) {
+  const { left, right } = sidesOf(layout, load);
+  const place = { x: left, y: layout.top(load.index) + 2, width: right - left, height: 2 * ROW - 4, rx: 4 };
+  return svg('rect', { class: 'frame', 'data-locked': load.index, ...place });
+}
+
+/** The whole picture, or of it the rows from `first` to before `end` with all that goes through them. */
+function drawPicture(run, layout, first = 0, end = run.order.length) {
+  const { width } = layout;
+  const above = first === 0 ? 0 : layout.top(first), height = layout.top(end) + 2 - above;
+  const isIn = (...indexes) => Math.min(...indexes) < end && Math.max(...indexes) >= first;
+  const stores = run.order.filter(entry => layout.tracks.has(entry)).filter(store => isIn(waitOf(run, store).earliest, store.index));
+  const reads = run.order.filter(entry => isRead(entry) && isIn(entry.index, sourceOf(run.order, entry)?.index ?? entry.index));
+  const entries = run.order.filter(entry => isIn(entry.index));
+  const label = `Memory order of ${run.test}: ${run.order.length} entries of ${run.cores} cores. "The order in words" says the same.`;
+  return svg('svg', { class: 'picture', width, height, viewBox: `0 ${above} ${width} ${height}`, role: 'img', 'aria-label': label },
+    svg('rect', { class: 'band', x: 0, width, height: ROW }),
+    drawGrid(run, layout, entries),
+    ...run.order.filter(entry => entry.kind === 'LR' && isIn(entry.index, entry.index + 1)).map(load => drawFrame(layout, load)),
+    ...stores.reverse().map(store => drawWait(run, layout, store)), // a store's way goes over the bars of later ones
+    ...reads.map(read => drawSource(run, layout, read)),
+    ...entries.map(entry => drawEntry(run, layout, entry)),
+    svg('rect', { class: 'unseen', x: 0, width }),
+    svg('line', { class: 'cursor', x1: 0, x2: width }));
+}
+
+/** For paper: a picture that doesn't go on one page, in pieces of whole rows, between which a page may end. */
+function drawPieces(run, layout) {
+  const starts = run.order.map(entry => entry.index).filter(index => index % PAPER.piece === 0);
+  return starts.map(first => drawPicture(run, layout, first, Math.min(first + PAPER.piece, run.order.length)));
+}

@@ -1,0 +1,70 @@
+'use strict';
+
+// Files: the input, the report, the line, and the picture.
+
+/** Hands a file over to the one who looks at the page. */
+function saveFile(name, blob) {
+  const address = URL.createObjectURL(blob);
+  html('a', { href: address, download: name }).click();
+  setTimeout(() => URL.revokeObjectURL(address), 10000);
+}
+
+/** A test's name as that of a file. */
+function fileName(name, ending) {
+  const plain = name.replace(/[^A-Za-z0-9+_-]+/g, '-').replace(/^-+|-+$/g, '').slice(0, 60);
+  return (plain === '' ? 'test' : plain) + ending;
+}
+
+const saveText = (name, text, type = 'text/plain') => saveFile(name, new Blob([text], { type }));
+
+/** What a drawing takes from the page's style, and has to bring with it. */
+const STYLED = ['fill', 'stroke', 'stroke-width', 'stroke-dasharray', 'opacity', 'font-family', 'font-weight', 'font-size', 'text-anchor'];
+const OF_THE_SCREEN = '.unseen, .cursor, .band';
+
+/** The picture alone, with its style in its attributes. */
+function savedPicture(picture) {
+  const copy = picture.cloneNode(true);
+  const [shownParts, parts] = [picture, copy].map(root => [...root.querySelectorAll('*')]);
+  shownParts.forEach((part, at) => {
+    const style = getComputedStyle(part);
+    for (const name of STYLED) parts[at].setAttribute(name, style.getPropertyValue(name));
+  });
+  for (const part of copy.querySelectorAll(OF_THE_SCREEN)) part.remove();
+  const point = byId('point').cloneNode(true);
+  point.firstElementChild.setAttribute('fill', getComputedStyle(byId('point').firstElementChild).fill);
+  const { y, width, height } = picture.viewBox.baseVal;
+  const ground = svg('rect', { y, width, height, fill: getComputedStyle(document.body).backgroundColor });
+  copy.prepend(svg('defs', {}, point), ground);
+  return '<?xml version="1.0" encoding="UTF-8"?>\n' + new XMLSerializer().serializeToString(copy) + '\n';
+}
+
+/** The picture in points, at twice its size. */
+async function pictureInPoints(picture) {
+  const address = URL.createObjectURL(new Blob([savedPicture(picture)], { type: 'image/svg+xml' }));
+  const image = new Image();
+  try {
+    await new Promise((done, failed) => {
+      image.onload = done;
+      image.onerror = () => failed(new Error('the picture can\'t be drawn as points'));
+      image.src = address;
+    });
+    const canvas = html('canvas', { width: 2 * image.width, height: 2 * image.height });
+    canvas.getContext('2d').drawImage(image, 0, 0, canvas.width, canvas.height);
+    return await new Promise(done => canvas.toBlob(done, 'image/png'));
+  } finally {
+    URL.revokeObjectURL(address);
+  }
+}
+
+function saveInput() {
+  const command = currentCommand();
+  saveText(fileName(testName(), readsOrder(command) ? '.order' : '.litmus'), inputOf(command));
+}
+
+const SAVES = {
+  input: saveInput,
+  report: () => saveText(fileName(testName(), '.txt'), bench.answer.text),
+  line: () => saveText(fileName(shown.run.test, '.json'), shown.line + '\n', 'application/json'),
+  svg: () => saveText(fileName(shown.run.test, '.svg'), savedPicture(byId('frame').firstChild), 'image/svg+xml'),
+  png: async () => saveFile(fileName(shown.run.test, '.png'), await pictureInPoints(byId('frame').firstChild)),
+};

@@ -1,0 +1,69 @@
+'use strict';
+
+// In words.
+
+const coreOf = entry => 'P' + entry.core;
+const nameOf = entry => `P${entry.core}:${entry.place}`;
+
+function listed(words) {
+  return words.length < 2 ? words.join('') : words.slice(0, -1).join(', ') + ' and ' + words.at(-1);
+}
+
+/** What a load passed, in sentences: an own store to its location that it was given, and others. */
+function passSentences(order, load) {
+  const source = sourceOf(order, load), passed = passedBy(order, load);
+  const others = passed.filter(store => store !== source);
+  const say = (what, stores) => `${coreOf(load)} read ${what} (${nameOf(load)} passed ${listed(stores.map(nameOf))}).`;
+  const sentences = [];
+  if (passed.includes(source)) sentences.push(say(`${load.location}=${load.value} from its own store before memory saw it`, [source]));
+  const stores = `${others.length === 1 ? 'store' : 'stores'} to ${listed(others.map(store => store.location))}`;
+  if (others.length > 0) sentences.push(say(`${load.location} before memory saw its ${stores}`, others));
+  return sentences;
+}
+
+function readSentences(order, read) {
+  const source = sourceOf(order, read), passes = passSentences(order, read);
+  if (source?.index > read.index) return passes;
+  const reader = read.kind === 'LR' ? coreOf(read) + '\'s locked instruction' : coreOf(read);
+  return [`${reader} read ${read.location}=${read.value}, ${source ? `which ${nameOf(source)} wrote` : 'the initial value'}.`, ...passes];
+}
+
+function storeSentence(run, store) {
+  const { earliest, latest } = waitOf(run, store);
+  const seen = `Memory saw ${coreOf(store)}'s store ${store.location}=${store.value}.`;
+  const loads = run.order.slice(latest, store.index).filter(entry => entry.kind === 'R' && isBefore(store, entry));
+  if (loads.length > 0) return `${seen} It had waited in the store buffer while its core went on with ${listed(loads.map(nameOf))}.`;
+  return latest > earliest ? `${seen} Whether it had waited in the store buffer the order doesn't tell.` : seen;
+}
+
+function sentenceOf(run, entry) {
+  switch (entry.kind) {
+    case 'F': return `${coreOf(entry)}'s fence: memory has seen all its earlier stores.`;
+    case 'LW': return `${coreOf(entry)}'s locked instruction wrote ${entry.location}=${entry.value}, in one step with its read.`;
+    case 'W': return storeSentence(run, entry);
+    default: return readSentences(run.order, entry).join(' ');
+  }
+}
+
+function machineSentence({ machine, choices }) {
+  const many = (number, word) => `${number} ${word}${number === 1 ? '' : 's'}`;
+  const buffers = machine.depth === 0 ? 'no store buffers' : `store buffers of ${many(machine.depth, 'store')}`;
+  const caches = `caches of ${many(machine.sets, 'set')} and ${many(machine.ways, 'way')} with lines of ${many(machine.words, 'word')}`;
+  return `Machine: ${machine.protocol.toUpperCase()}, ${machine.bus} bus, ${buffers}, ${caches}. ` +
+    `Choices: ${choices.get('used')} used, ${choices.get('stalled')} of them stalled, ${choices.get('unused')} left over.`;
+}
+
+function verdictSentence({ condition }) {
+  if (condition === null) return 'Condition: the test has none.';
+  const { kind, holds } = condition;
+  const outcome = kind === 'exists' ? 'the outcome that is asked for' : 'the outcome that should not exist';
+  const shows = `This run ${holds ? 'shows' : 'doesn\'t show'} ${outcome}.`;
+  const ends = `This run ${holds ? 'ended' : 'didn\'t end'} as all should.`;
+  const here = `What it says of a final state is ${holds} here.`;
+  return `Condition: ${kind}. ${here} ${kind === 'forall' ? ends : shows} It tells nothing of other runs.`;
+}
+
+function unfinishedSentence(numbers) {
+  return `This run isn't ended. Choices made: ${numbers.get('used')}, stalled of them: ${numbers.get('stalled')}. An instruction or a ` +
+    'buffered store is left. The program prints no order of such a run, so there is nothing to draw: give it more choices.';
+}

@@ -1,0 +1,85 @@
+'use strict';
+
+// What is set: the command, the machine, and what a sweep or a search goes by.
+
+/** Which settings each command looks at; the others are out of sight. */
+const SETTINGS = {
+  run: ['protocol', 'bus', 'depth', 'sets', 'ways', 'words'],
+  outcomes: ['searched', 'states'],
+  sweep: ['protocol', 'bus', 'depth', 'sets', 'ways', 'words', 'from', 'seeds', 'length'],
+  check: [],
+  witness: ['depth'],
+  tables: ['protocol'],
+};
+const CHOSEN = ['protocol', 'bus'];
+/** The settings by the names of the page: `searched` is the depth of a search, whose default is another than that of a run. */
+const SET_AT_FIRST = { ...Tso.DEFAULTS, searched: 32 };
+const SET_NAMES = ['protocol', 'bus', 'depth', 'sets', 'ways', 'words', 'from', 'seeds', 'length', 'searched', 'states'];
+
+/** The command of a name, or `run`. */
+const commandOf = name => (Object.hasOwn(SETTINGS, name) ? name : 'run');
+
+const settingOf = name => byId('set-' + name);
+
+function currentCommand() {
+  return commandOf(document.querySelector('#commands input:checked')?.value);
+}
+
+/** Whether a setting's field holds a value within its limits. */
+function isSet(name) {
+  return CHOSEN.includes(name) || (settingOf(name).value !== '' && settingOf(name).validity.valid);
+}
+
+const valueOf = name => (CHOSEN.includes(name) ? settingOf(name).value : Number(settingOf(name).value));
+
+/** The options that the module is asked with, or a sentence where a field's number is outside its limits. */
+function readSettings(command) {
+  const wrong = SETTINGS[command].find(name => !isSet(name));
+  if (wrong) return { wrong: `${labelText(wrong)}: this has to be a whole number from ${settingOf(wrong).min} to ${settingOf(wrong).max}.` };
+  const options = { command };
+  for (const name of SETTINGS[command]) options[name === 'searched' ? 'depth' : name] = valueOf(name);
+  if (command === 'witness' && options.depth === 0) return { wrong: `${labelText('depth')}: a witness needs at least 1.` };
+  return { options };
+}
+
+const labelText = name => document.querySelector(`label[for=set-${name}]`).textContent;
+
+/** Shows the settings of a command, and the text that it reads behind the test. */
+function showSettings(command) {
+  for (const name of SET_NAMES) settingOf(name).closest('.setting').hidden = !SETTINGS[command].includes(name);
+  byId('settings').hidden = SETTINGS[command].length === 0;
+  byId('choices-part').hidden = command !== 'run';
+  byId('given-part').hidden = !readsOrder(command);
+  byId('begin').hidden = command !== 'outcomes' && command !== 'sweep';
+  byId('begin').textContent = command === 'outcomes' ? 'Find all outcomes' : 'Run the seeds';
+}
+
+/** The settings that aren't the defaults, as words of an address and of a command line go by them. */
+function changedSettings() {
+  return SET_NAMES.filter(name => isSet(name) && valueOf(name) !== SET_AT_FIRST[name]).map(name => [name, String(valueOf(name))]);
+}
+
+/** Puts settings into the fields: those of the pairs, and the defaults for all others. A value that no field takes is left out. */
+function putSettings(pairs) {
+  const given = new Map(pairs);
+  for (const name of SET_NAMES) {
+    const field = settingOf(name);
+    field.value = given.get(name) ?? SET_AT_FIRST[name];
+    if (field.value === '' || !field.validity.valid) field.value = SET_AT_FIRST[name];
+  }
+}
+
+function putCommand(name) {
+  document.querySelector(`#commands input[value=${commandOf(name)}]`).checked = true;
+  showSettings(commandOf(name));
+}
+
+/** The words of the command line that asks the same. */
+function commandWords(command) {
+  const { options = { command } } = readSettings(command);
+  const changed = Object.entries(options).filter(([name, value]) => {
+    const usual = command === 'outcomes' && name === 'depth' ? SET_AT_FIRST.searched : Tso.DEFAULTS[name];
+    return name !== 'command' && value !== usual;
+  });
+  return ['./tso', command, ...changed.flatMap(([name, value]) => ['--' + name, String(value)])].join(' ');
+}

@@ -1,0 +1,35 @@
+'use strict';
+
+// Tables.
+
+function tableOf(caption, titles, rows) {
+  const head = html('tr', {}, ...titles.map(title => html('th', { scope: 'col' }, title)));
+  return html('div', { class: 'scrolls' }, html('table', {}, html('caption', {}, caption), html('thead', {}, head), html('tbody', {}, ...rows)));
+}
+
+function numbersTable(caption, titles, rows) {
+  return tableOf(caption, titles, rows.map(([name, ...numbers]) => html('tr', {},
+    html('th', { scope: 'row', class: 'wraps' }, name), ...numbers.map(number => html('td', { class: 'number' }, String(number))))));
+}
+
+function finalTables(run) {
+  const cores = run.registers.map((_, core) => `P${core}`);
+  return [
+    numbersTable('Registers', ['', ...cores], REGISTERS.map(name => [name, ...run.registers.map(file => file.get(name))])),
+    numbersTable('Memory', ['Location', 'Word'], [...run.memory]),
+    numbersTable('Cache accesses', ['', ...cores], COUNTS.map(name => [name.replace('_', '-'), ...run.cache.map(counts => counts.get(name))])),
+  ];
+}
+
+function orderTable(run) {
+  return tableOf('The order in words', ['No', 'Entry', 'In words'], run.order.map(entry => html('tr', {},
+    html('th', { scope: 'row' }, String(entry.index + 1)),
+    html('td', { class: 'wraps' }, entry.text),
+    html('td', { class: 'prose' }, sentenceOf(run, entry)))));
+}
+
+function passItems({ order }) {
+  const sentences = order.flatMap(entry => passSentences(order, entry));
+  if (sentences.length === 0) sentences.push('None: each load comes after all earlier stores of its program.');
+  return sentences.map(sentence => html('li', {}, sentence));
+}
