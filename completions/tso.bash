@@ -3,13 +3,14 @@
 _tso_options() {
   case $1 in
     run) echo --protocol --depth --sets --ways --words --bus --json --help ;;
+    trace) echo --protocol --depth --sets --ways --words --bus --help ;;
     sweep) echo --protocol --depth --sets --ways --words --bus --from --seeds --length --help ;;
     outcomes) echo --depth --states --json --help ;;
     check) echo --help ;;
     witness) echo --depth --help ;;
     tables) echo --protocol --help ;;
-    help) echo run sweep outcomes check witness tables help ;;
-    *) echo run sweep outcomes check witness tables help --help --version ;;
+    help) echo run trace sweep outcomes check witness tables help ;;
+    *) echo run trace sweep outcomes check witness tables help --help --version ;;
   esac
 }
 

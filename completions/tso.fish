@@ -3,13 +3,14 @@
 complete -c tso -f -n __fish_use_subcommand -l help
 complete -c tso -f -n __fish_use_subcommand -l version
 complete -c tso -f -n __fish_use_subcommand -a run
+complete -c tso -f -n __fish_use_subcommand -a trace
 complete -c tso -f -n __fish_use_subcommand -a sweep
 complete -c tso -f -n __fish_use_subcommand -a outcomes
 complete -c tso -f -n __fish_use_subcommand -a check
 complete -c tso -f -n __fish_use_subcommand -a witness
 complete -c tso -f -n __fish_use_subcommand -a tables
 complete -c tso -f -n __fish_use_subcommand -a help
-complete -c tso -f -n "__fish_seen_subcommand_from help" -a "run sweep outcomes check witness tables help"
+complete -c tso -f -n "__fish_seen_subcommand_from help" -a "run trace sweep outcomes check witness tables help"
 
 complete -c tso -f -n "__fish_seen_subcommand_from run" -l protocol -x -a "msi mesi moesi mosi"
 complete -c tso -f -n "__fish_seen_subcommand_from run" -l depth -x
@@ -19,6 +20,14 @@ complete -c tso -f -n "__fish_seen_subcommand_from run" -l words -x -a "1 2 4"
 complete -c tso -f -n "__fish_seen_subcommand_from run" -l bus -x -a "atomic split"
 complete -c tso -f -n "__fish_seen_subcommand_from run" -l json
 complete -c tso -f -n "__fish_seen_subcommand_from run" -l help
+
+complete -c tso -f -n "__fish_seen_subcommand_from trace" -l protocol -x -a "msi mesi moesi mosi"
+complete -c tso -f -n "__fish_seen_subcommand_from trace" -l depth -x
+complete -c tso -f -n "__fish_seen_subcommand_from trace" -l sets -x
+complete -c tso -f -n "__fish_seen_subcommand_from trace" -l ways -x
+complete -c tso -f -n "__fish_seen_subcommand_from trace" -l words -x -a "1 2 4"
+complete -c tso -f -n "__fish_seen_subcommand_from trace" -l bus -x -a "atomic split"
+complete -c tso -f -n "__fish_seen_subcommand_from trace" -l help
 
 complete -c tso -f -n "__fish_seen_subcommand_from sweep" -l protocol -x -a "msi mesi moesi mosi"
 complete -c tso -f -n "__fish_seen_subcommand_from sweep" -l depth -x

@@ -13,6 +13,9 @@ ENDED, REFUSED, BAD_LINE, UNFINISHED, INVALID, FAULT = 0, 1, 2, 3, 4, 5
 HINT = re.compile(rb"hint: [ -~]{1,249}\n")
 WITH_HINT = (REFUSED, UNFINISHED)
 
+# Answers with status 0 that have one too: that of a sweep that never saw what the condition asks for.
+MISLEADING = (re.compile(rb"^Sweep .*\n(?:State .*\n)*Observation .* Never 0 [1-9][0-9]*\n\Z", re.MULTILINE),)
+
 MEMORY_FAULT, DEVICE_FAULT = b"fault memory\n", b"fault device\n"
 
 # For so many seconds an answer is waited for.
@@ -90,19 +93,21 @@ def described(done):
     return "status %s, standard output %s, standard error %s" % (done.returncode, shown(done.stdout), shown(done.stderr))
 
 
-def is_told(status, errors):
-    """Whether standard error is as it is beside an answer of this status: a hint where it has one, else nothing."""
-    return HINT.fullmatch(errors) is not None if status in WITH_HINT else errors == b""
+def is_told(status, output, errors):
+    """Whether standard error is as it is beside such an answer: a hint where it has one, else nothing. The conditions of the
+    tests that are given name no location that nothing else of them names."""
+    has_hint = status in WITH_HINT or status == ENDED and any(form.search(output) for form in MISLEADING)
+    return HINT.fullmatch(errors) is not None if has_hint else errors == b""
 
 
 def difference(done, status, output, errors=None):
-    """How an answer differs from what it must be; without `errors`, standard error must be as the status has it."""
+    """How an answer differs from what it must be; without `errors`, standard error must be as such an answer has it."""
     faults = []
     if done.returncode != status:
         faults.append("status %s, and not %d" % (done.returncode, status))
     if done.stdout != output:
         faults.append("standard output %s, and not %s" % (shown(done.stdout), shown(output)))
-    if errors is None and not is_told(status, done.stderr):
+    if errors is None and not is_told(status, output, done.stderr):
         faults.append("standard error %s" % shown(done.stderr))
     if errors is not None and done.stderr != errors:
         faults.append("standard error %s, and not %s" % (shown(done.stderr), shown(errors)))

@@ -2,8 +2,11 @@
 
 // The bench: what is written goes to the module, and its answer is shown.
 
-/** The module and what it was made of, a long task while it runs, and the answer that is shown with its command. */
-const bench = { tso: null, bytes: null, task: null, answer: null };
+/**
+ * The module and what it was made of, a long task while it runs, and the answer that is shown with its command; null while a machine
+ * is driven on from it. `tracing` is what the module tells of steps: `step` alone and the whole trace, the whole `trace`, or null.
+ */
+const bench = { tso: null, bytes: null, task: null, answer: null, tracing: null };
 
 const LONG = ['outcomes', 'sweep'];
 
@@ -12,8 +15,18 @@ const bytesOf = text => Uint8Array.from(atob(text), letter => letter.charCodeAt(
 /** The test's name, as its first line has it. */
 const testName = () => /^X86[ \t]+(.*)/.exec(byId('test').value)?.[1].trim() ?? 'test';
 
-/** Answers what is written: at once, or for a long command only whether the test is refused. */
-function answerNow() {
+/** From so many choices on a run is made in a worker. */
+const LONG_RUN = 10000;
+
+/** How many choices a text spells, where it is well formed. */
+function countChoices(text) {
+  const drawn = [...text.matchAll(/\bseed\s+\d+\s+(\d+)/g)].reduce((sum, [, length]) => sum + Number(length), 0);
+  return drawn + (text.match(/\S+/g)?.length ?? 0);
+}
+
+/** Answers what is written: at once, or for a long command only whether the test is refused. A run that can be driven begins at its
+ * start or is shown at its end. */
+function answerNow(isAtStart = false) {
   if (!bench.tso) return;
   stopTask();
   const command = currentCommand(), { wrong, options } = readSettings(command);
@@ -22,7 +35,8 @@ function answerNow() {
   byId('begin').disabled = wrong !== undefined;
   if (wrong) showSaid({ text: '', hint: '' }, wrong);
   else if (LONG.includes(command)) showRefusalAlone();
-  else if (command === 'run') answerRun(options);
+  else if (command === 'run' && countChoices(byId('choices').value) > LONG_RUN) begin();
+  else if (command === 'run') answerRun(options, isAtStart === true);
   else showOpenAnswer(asked(options, inputOf(command)));
 }
 
@@ -43,15 +57,31 @@ function showRefusalAlone() {
   showAnswer(answer.status === Tso.STATUS.refused ? answer : { status: 0, text: '', hint: '' });
 }
 
-function answerRun(options) {
-  const input = inputOf('run'), answer = asked(options, input), wasDrawn = shown.run !== null, isDrawn = answer.status === Tso.STATUS.good;
+function answerRun(options, isAtStart) {
+  const input = inputOf('run'), answer = asked(options, input), wasDrawn = shown.run !== null || drive.isOn;
+  const isRun = answer.status === Tso.STATUS.good || answer.status === Tso.STATUS.unended;
   showAnswer(answer);
+  if (isRun && showDriven(options, input, isAtStart)) {
+    if (!wasDrawn || isAtStart) byId('report-part').open = false;
+    return isAtStart ? showSaid({ hint: '' }, '') : undefined;
+  }
+  const isDrawn = answer.status === Tso.STATUS.good;
   if (isDrawn !== wasDrawn) byId('report-part').open = !isDrawn; // the picture says the same
-  if (!isDrawn) return;
-  const line = asked({ ...options, json: true }, input).text.trim();
+  if (isDrawn) showLine(asked({ ...options, json: true }, input).text.trim());
+}
+
+function showLine(line) {
   showRun(readLine(line), line);
   compareNow();
 }
+
+/** The report of what is written now. */
+function reportNow() {
+  if (bench.answer === null) bench.answer = asked(readSettings('run').options, inputOf('run'));
+  return bench.answer;
+}
+
+const showReport = () => byId('report').textContent = reportNow().text;
 
 /** Shows an answer: what was refused is marked, and a run that was shown before isn't any more. */
 function showAnswer(answer) {
@@ -94,19 +124,34 @@ function stopTask() {
 async function begin() {
   const command = currentCommand(), { options } = readSettings(command);
   stopTask();
-  const task = bench.task = beginTask(bench.bytes, { ...options, json: command === 'outcomes' }, inputOf(command));
+  const task = bench.task = beginTask(bench.bytes, questionsOf(command, options), inputOf(command));
+  if (command === 'run') showAnswer({ status: 0, text: '', hint: '' });
   byId('stop').hidden = byId('busy').hidden = false;
   try {
-    const answer = await task.answer;
+    const [answer, line] = await task.answers;
     if (bench.task !== task) return;
     stopTask();
-    if (command === 'outcomes' && answer.status === Tso.STATUS.good) showOutcomes(answer);
+    if (command === 'run') showLongRun(answer, line);
+    else if (command === 'outcomes' && answer.status === Tso.STATUS.good) showOutcomes(answer);
     else showOpenAnswer(answer);
   } catch (fault) {
     if (bench.task !== task) return;
     stopTask();
     showAnswer({ status: null, text: '', hint: trapSentence(fault) });
   }
+}
+
+/** What a task is asked: of a run its report and its line. */
+function questionsOf(command, options) {
+  return command === 'run' ? [options, { ...options, json: true }] : [{ ...options, json: command === 'outcomes' }];
+}
+
+function showLongRun(answer, line) {
+  const isDrawn = answer.status === Tso.STATUS.good;
+  showAnswer(answer);
+  byId('report-part').open = !isDrawn;
+  byId('no-steps').hidden = !(bench.tracing && (isDrawn || answer.status === Tso.STATUS.unended));
+  if (isDrawn) showRun(readLine(line.text.trim()), line.text.trim());
 }
 
 function showOutcomes(answer) {
@@ -131,13 +176,28 @@ function loadText(file) {
   const isOrder = putInput(entry.text);
   settingOf('depth').value = entry.depth ?? SET_AT_FIRST.depth;
   putCommand(isOrder ? 'check' : 'run');
-  answerNow();
+  answerNow(true);
+}
+
+/** What a module tells of steps, tried on the first test. */
+function tracingOf(tso) {
+  const tells = command => {
+    try {
+      const { text } = tso.answer({ command, json: true }, EXAMPLES[FIRST_TEXT]);
+      return command === 'step' ? 'outcome' in readStep(text) : readTrace(text).steps.length > 0;
+    } catch {
+      return false;
+    }
+  };
+  return !tells('trace') ? null : tells('step') ? 'step' : 'trace';
 }
 
 /** Makes the machine of the module. */
 async function makeBench() {
   bench.bytes = bytesOf(MODULE.bytes);
-  bench.tso = await Tso.of(bench.bytes);
+  const tso = await Tso.of(bench.bytes);
+  bench.tracing = tracingOf(tso);
+  bench.tso = tso;
   const { version, tools, sources } = MODULE;
   byId('version').textContent = `The machine is of version ${version}: made by ${tools}, of sources with the digest ${sources.slice(0, 16)}.`;
 }

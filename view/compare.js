@@ -45,9 +45,10 @@ function comparisonTable(options, input, order) {
 
 /** Draws the comparison of the run that is shown, where it is looked at. */
 function compareNow() {
-  const { options } = readSettings('run'), isShown = bench.answer?.status === Tso.STATUS.good && currentCommand() === 'run' && shown.run !== null;
+  const { options } = readSettings('run'), isAnswered = drive.isOn || bench.answer?.status === Tso.STATUS.good;
+  const isShown = isAnswered && currentCommand() === 'run' && shown.run !== null;
   byId('comparison').hidden = !isShown;
-  if (isShown && byId('comparison').open) byId('compared').replaceChildren(comparisonTable(options, inputOf('run'), shown.run.order));
+  if (isShown && byId('comparison').open) byId('compared').replaceChildren(comparisonTable(options, drive.isOn ? driveInput() : inputOf('run'), shown.run.order));
 }
 
 function takeMachine(text) {

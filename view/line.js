@@ -52,7 +52,7 @@ function readRun(value) {
     choices: readNumbers(value.choices, 'choices', ['used', 'stalled', 'unused']),
   };
   needExecution(run);
-  return { ...run, initial: initialWords(run) };
+  return tellEntries({ ...run, initial: initialWords(run) });
 }
 
 function readObject(value, what) {

@@ -47,6 +47,36 @@ function waitOf(run, store) {
   };
 }
 
+/** Of each core's stores that may wait the track: bars whose stretches meet stand side by side. Answers how many tracks there are. */
+function layTracks(run) {
+  let count = 0;
+  for (let core = 0; core < run.cores; core++) {
+    const ends = [];
+    for (const store of run.order.filter(entry => entry.core === core && entry.kind === 'W')) {
+      const { earliest } = store.wait;
+      if (earliest === store.index) continue;
+      const free = ends.findIndex(end => end < earliest);
+      store.track = free < 0 ? ends.length : free;
+      ends[store.track] = store.index;
+    }
+    count = Math.max(count, ends.length);
+  }
+  return count;
+}
+
+/**
+ * Puts beside each entry of a run what the order tells of it: of a read the write that it returned (`source`) and the stores
+ * that it passed (`passed`), of a plain store its time in the buffer (`wait`) and the track of its bar.
+ */
+function tellEntries(run) {
+  for (const entry of run.order) {
+    entry.source = isRead(entry) ? sourceOf(run.order, entry) : undefined;
+    entry.passed = passedBy(run.order, entry);
+    if (entry.kind === 'W') entry.wait = waitOf(run, entry);
+  }
+  return { ...run, tracks: layTracks(run) };
+}
+
 /** The initial words that the line tells: of a location without writes, and of one whose initial word was read. */
 function initialWords({ order, memory }) {
   const written = new Set(order.filter(isWrite).map(entry => entry.location));

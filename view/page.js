@@ -20,14 +20,16 @@ const takeFile = async file => takeText(await file.text());
 
 document.addEventListener('keydown', event => {
   if (event.ctrlKey && event.key === 'Enter' && bench.tso && !byId('begin').hidden) begin();
-  const isForOthers = event.target.matches('textarea, input, select') || event.ctrlKey || event.altKey || event.metaKey || event.shiftKey;
-  if (!shown.run || isForOthers || !KEYS[event.key]) return;
+  const isForOthers = event.target.matches('textarea, input, select') || event.ctrlKey || event.altKey || event.metaKey || (event.shiftKey && event.key !== '+');
+  if (isForOthers || !(shown.run || drive.isOn)) return;
+  if (KEYS[event.key]) move(KEYS[event.key]);
+  else if (!drive.isOn || !driveByKey(event.key)) return;
   event.preventDefault();
-  move(KEYS[event.key]);
 });
 document.addEventListener('click', event => {
-  const { move: way, choices, file, save, machine } = event.target.dataset;
+  const { move: way, choices, file, save, machine, choice } = (event.target.closest('[data-choice]') ?? event.target).dataset;
   if (way !== undefined) move(way);
+  else if (choice !== undefined) makeChoice(choice);
   else if (choices !== undefined) loadChoices(choices);
   else if (file !== undefined) loadText(file);
   else if (save !== undefined) SAVES[save]();
@@ -52,20 +54,26 @@ byId('commands').addEventListener('change', () => {
 });
 byId('settings').addEventListener('input', answerNow);
 byId('begin').addEventListener('click', begin);
+byId('play').addEventListener('click', playOrPause);
+byId('draw-seed').addEventListener('click', drawSeed);
+byId('speed').addEventListener('input', () => setSpeed(Number(byId('speed').value)));
+byId('beside-it').addEventListener('change', event => putBeside(event.target.value));
+byId('order-part').addEventListener('toggle', showOrder);
+byId('report-part').addEventListener('toggle', () => byId('report-part').open && showReport());
 byId('stop').addEventListener('click', () => {
   stopTask();
   byId('said').textContent = 'Stopped.';
 });
 byId('search').addEventListener('input', showLibrary);
 byId('comparison').addEventListener('toggle', () => bench.tso && compareNow());
-for (const scrolled of [window, byId('frame')]) scrolled.addEventListener('scroll', () => shown.run && placeNames(), { passive: true });
+for (const scrolled of [window, byId('frame')]) scrolled.addEventListener('scroll', () => (shown.run || drive.isOn) && placeNames(), { passive: true });
 window.addEventListener('resize', () => {
-  if (shown.run && !matchMedia('print').matches) redraw();
+  if ((shown.run || drive.isOn) && !matchMedia('print').matches) redraw();
 });
 window.addEventListener('beforeprint', () => {
-  if (shown.run?.order.length > PAPER.whole) byId('frame').replaceChildren(...drawPieces(shown.run, shown.layout));
+  if (shown.run?.order.length > PAPER.whole && !drive.isOn) byId('frame').replaceChildren(...drawPieces(shown.run, shown.layout));
 });
-window.addEventListener('afterprint', () => shown.run && redraw());
+window.addEventListener('afterprint', () => (shown.run || drive.isOn) && redraw());
 window.addEventListener('hashchange', showAddress);
 
 /** Fills the bench with the first test, shows what the address tells, and else the first test's run. */
@@ -84,7 +92,7 @@ async function start() {
   if (!hasMachine) return;
   await makeBench();
   if (isOfTest) showAddress();
-  else if (!shown.run && byId('message').textContent === '' && byId('line').value === '') answerNow();
+  else if (!shown.run && byId('message').textContent === '' && byId('line').value === '') answerNow(true);
 }
 
 start();

@@ -9,38 +9,19 @@ const PAPER = { whole: 24, piece: 8 }; // rows: of a picture that goes on one pa
 const LEAST_FONT = 9;
 const GLYPH = 0.61; // the width of a letter of the fixed fonts, for a size of 1
 
-/** For each store that may have waited its track: the bars of a core stand side by side. */
-function tracksOf(run) {
-  const tracks = new Map();
-  for (let core = 0; core < run.cores; core++) {
-    const ends = [];
-    for (const store of run.order.filter(entry => entry.core === core && entry.kind === 'W')) {
-      const { earliest } = waitOf(run, store);
-      if (earliest === store.index) continue;
-      const free = ends.findIndex(end => end < earliest);
-      const track = free < 0 ? ends.length : free;
-      ends[track] = store.index;
-      tracks.set(store, track);
-    }
-  }
-  return tracks;
-}
-
 /** Where everything stands in a picture of at most this width, or as narrow as a lane may be. */
-function layoutOf(run, width) {
-  const tracks = tracksOf(run);
-  const count = Math.max(0, ...[...tracks.values()].map(track => track + 1));
-  const pitch = Math.min(TRACK.most, TRACK.room / Math.max(1, count));
-  const lane = Math.min(LANE.most, Math.max(LANE.least, Math.floor((width - GUTTER - 2) / run.cores)));
+function layoutOf({ cores, tracks, order }, width) {
+  const pitch = Math.min(TRACK.most, TRACK.room / Math.max(1, tracks));
+  const lane = Math.min(LANE.most, Math.max(LANE.least, Math.floor((width - GUTTER - 2) / cores)));
   const left = core => GUTTER + core * lane;
   const top = moment => HEAD + moment * ROW;
-  const inner = INSET + count * pitch + 10;
+  const inner = INSET + tracks * pitch + 10;
   const box = Math.min(LANE.box, lane - inner - MARGIN), large = lane >= LANE.large;
   return {
     tracks, pitch, lane, left, top, label: large ? 17 : 13, note: large ? 12 : 10,
-    width: GUTTER + run.cores * lane + 2, height: top(run.order.length) + 2,
+    width: GUTTER + cores * lane + 2, height: top(order.length) + 2,
     middle: entry => top(entry.index + 0.5),
-    trackOf: store => left(store.core) + INSET + (tracks.get(store) + 0.5) * pitch,
+    trackOf: store => left(store.core) + INSET + (store.track + 0.5) * pitch,
     boxOf: entry => ({ x: left(entry.core) + inner, y: top(entry.index) + (ROW - BOX) / 2, width: box, height: BOX }),
   };
 }
@@ -69,10 +50,10 @@ function labelOf(entry, letters) {
 }
 
 /** What stands above an entry's label: its name, and what it passed as far as there is room. */
-function noteOf(run, entry, letters) {
-  const passed = passedBy(run.order, entry);
+function noteOf(entry, letters) {
+  const { passed } = entry;
   if (passed.length === 0) return nameOf(entry);
-  const isOwn = passed.includes(sourceOf(run.order, entry));
+  const isOwn = passed.includes(entry.source);
   const passes = ` passed ${passed.length === 1 ? passed[0].location : passed.length}`;
   const notes = isOwn ? [' own store', ' own'] : [passes, ' passed'];
   return nameOf(entry) + (notes.find(note => nameOf(entry).length + note.length <= letters) ?? '');
@@ -100,7 +81,7 @@ function drawGrid(run, layout, entries) {
 
 /** The bar of a store, under its place: dashed where it may have waited, full where it did; and its way to its entry. */
 function drawWait(run, layout, store) {
-  const { earliest, latest } = waitOf(run, store);
+  const { earliest, latest } = store.wait;
   const { top, pitch } = layout;
   const x = layout.trackOf(store), wide = Math.min(7, pitch * 0.7), head = pitch === TRACK.most ? 13 : 2;
   const bar = (kind, from, to) => svg('rect', { class: kind, x: x - wide / 2, y: from, width: wide, height: to - from });
@@ -127,7 +108,7 @@ function arrowPath(layout, source, read) {
 
 /** Where a read's value came from: an arrow, or the mark of the initial value. */
 function drawSource(run, layout, read) {
-  const source = sourceOf(run.order, read), title = svg('title', {}, sentenceOf(run, read));
+  const { source } = read, title = svg('title', {}, sentenceOf(run, read));
   const arrow = (d, data) => svg('path', { class: 'arrow', d, 'marker-end': 'url(#point)', ...data }, title);
   if (source) return arrow(arrowPath(layout, source, read), { 'data-from': source.index, 'data-to': read.index });
   const { right } = sidesOf(layout, read), y = layout.middle(read);
@@ -146,14 +127,14 @@ function drawFence(run, layout, entry) {
 function drawEntry(run, layout, entry) {
   if (entry.kind === 'F') return drawFence(run, layout, entry);
   const box = layout.boxOf(entry);
-  const passed = passedBy(run.order, entry);
+  const { passed } = entry;
   const kind = isWrite(entry) ? 'store' : passed.length > 0 ? 'load passed' : 'load';
   const room = box.width - 10, letters = Math.floor(room / (LEAST_FONT * GLYPH));
   const x = box.x + box.width / 2;
   return svg('g', { class: kind, 'data-entry': entry.index, 'data-passed': passed.map(store => store.index).join(' ') },
     svg('title', {}, sentenceOf(run, entry)),
     svg('rect', { ...box, rx: isRead(entry) ? BOX / 2 : 2 }),
-    fittingText({ class: 'note', x, y: box.y + 13 }, layout.note, noteOf(run, entry, letters - 2), room - 10),
+    fittingText({ class: 'note', x, y: box.y + 13 }, layout.note, noteOf(entry, letters - 2), room - 10),
     fittingText({ x, y: box.y + 31 }, layout.label, labelOf(entry, letters), room));
 }
 
@@ -168,8 +149,8 @@ function drawPicture(run, layout, first = 0, end = run.order.length) {
   const { width } = layout;
   const above = first === 0 ? 0 : layout.top(first), height = layout.top(end) + 2 - above;
   const isIn = (...indexes) => Math.min(...indexes) < end && Math.max(...indexes) >= first;
-  const stores = run.order.filter(entry => layout.tracks.has(entry)).filter(store => isIn(waitOf(run, store).earliest, store.index));
-  const reads = run.order.filter(entry => isRead(entry) && isIn(entry.index, sourceOf(run.order, entry)?.index ?? entry.index));
+  const stores = run.order.filter(entry => entry.track !== undefined && isIn(entry.wait.earliest, entry.index));
+  const reads = run.order.filter(entry => isRead(entry) && isIn(entry.index, entry.source?.index ?? entry.index));
   const entries = run.order.filter(entry => isIn(entry.index));
   const label = `Memory order of ${run.test}: ${run.order.length} entries of ${run.cores} cores. "The order in words" says the same.`;
   return svg('svg', { class: 'picture', width, height, viewBox: `0 ${above} ${width} ${height}`, role: 'img', 'aria-label': label },

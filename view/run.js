@@ -38,6 +38,10 @@ function markStep(layout, entry) {
 }
 
 function redraw() {
+  if (drive.isOn) {
+    makePicture();
+    return showPicture();
+  }
   shown.layout = layoutOf(shown.run, byId('run').clientWidth);
   byId('frame').replaceChildren(drawPicture(shown.run, shown.layout));
   byId('lanes').replaceChildren(drawNames(shown.run, shown.layout));
@@ -47,20 +51,25 @@ function redraw() {
 
 /** Keeps the lanes' names in sight: above the picture, where the picture's own are behind what stands still. */
 function placeNames() {
+  if (drive.isOn) return byId('names').scrollLeft = byId('frame').scrollLeft;
   const { top, bottom } = byId('frame').getBoundingClientRect(), edge = byId('stepper').getBoundingClientRect().bottom;
   byId('lanes').classList.toggle('needed', top < edge - HEAD && bottom > edge);
   byId('lanes').scrollLeft = byId('frame').scrollLeft;
 }
 
 function showRun(run, line) {
+  putDriving(false);
   Object.assign(shown, { run, line, step: run.order.length });
   byId('name').textContent = `Test ${run.test}`;
   byId('machine').textContent = machineSentence(run);
   byId('verdict').textContent = verdictSentence(run);
+  delete byId('passes').dataset.key;
   byId('passes').replaceChildren(...passItems(run));
   byId('left').replaceChildren(...finalTables(run));
-  byId('order').replaceChildren(orderTable(run));
+  byId('order-part').open = true;
+  showOrder();
   byId('comparison').hidden = true;
+  byId('at-end').hidden = false;
   byId('address').href = '#' + encodeURIComponent(line);
   byId('address').hidden = byId('run').hidden = false;
   redraw();
@@ -68,7 +77,8 @@ function showRun(run, line) {
 
 function hideRun() {
   shown.run = null;
-  byId('address').hidden = byId('run').hidden = true;
+  endDrive();
+  byId('address').hidden = byId('run').hidden = byId('no-steps').hidden = true;
   byId('message').textContent = '';
 }
 
@@ -95,6 +105,7 @@ const MOVES = { first: () => 0, back: () => shown.step - 1, forward: () => shown
 const KEYS = { Home: 'first', ArrowLeft: 'back', ArrowRight: 'forward', End: 'last' };
 
 function move(name) {
+  if (drive.isOn) return moveDriven(name);
   showStep(MOVES[name]());
   document.documentElement.style.scrollPadding = `${byId('stepper').offsetHeight + 2 * ROW}px 0 ${2 * ROW}px`; // below what stands still
   byId('frame').querySelector(`[data-entry="${shown.step - 1}"]`)?.scrollIntoView({ block: 'nearest', inline: 'nearest' });

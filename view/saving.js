@@ -21,9 +21,15 @@ const saveText = (name, text, type = 'text/plain') => saveFile(name, new Blob([t
 const STYLED = ['fill', 'stroke', 'stroke-width', 'stroke-dasharray', 'opacity', 'font-family', 'font-weight', 'font-size', 'text-anchor'];
 const OF_THE_SCREEN = '.unseen, .cursor, .band';
 
+/** Of a picture of a run that isn't over what has come, with the lanes' names, which stand apart from it on the page. */
+function showWhole(copy) {
+  if (drive.isOn) setAll(copy, { viewBox: `0 0 ${copy.viewBox.baseVal.width} ${drive.picture.bottom}`, height: drive.picture.bottom });
+}
+
 /** The picture alone, with its style in its attributes. */
 function savedPicture(picture) {
   const copy = picture.cloneNode(true);
+  showWhole(copy);
   const [shownParts, parts] = [picture, copy].map(root => [...root.querySelectorAll('*')]);
   shownParts.forEach((part, at) => {
     const style = getComputedStyle(part);
@@ -32,7 +38,7 @@ function savedPicture(picture) {
   for (const part of copy.querySelectorAll(OF_THE_SCREEN)) part.remove();
   const point = byId('point').cloneNode(true);
   point.firstElementChild.setAttribute('fill', getComputedStyle(byId('point').firstElementChild).fill);
-  const { y, width, height } = picture.viewBox.baseVal;
+  const { y, width, height } = copy.viewBox.baseVal;
   const ground = svg('rect', { y, width, height, fill: getComputedStyle(document.body).backgroundColor });
   copy.prepend(svg('defs', {}, point), ground);
   return '<?xml version="1.0" encoding="UTF-8"?>\n' + new XMLSerializer().serializeToString(copy) + '\n';
@@ -61,10 +67,20 @@ function saveInput() {
   saveText(fileName(testName(), readsOrder(command) ? '.order' : '.litmus'), inputOf(command));
 }
 
+const pictureNow = () => (drive.isOn ? drive.picture.drawing : byId('frame').firstChild);
+
+const pictureName = () => (drive.isOn ? testName() : shown.run.test);
+
+/** The trace of the choices that are made, as a text. */
+function traceNow() {
+  return asked({ ...firstHistory().options, command: 'trace' }, inputOfWords(drive.words.slice(0, drive.count))).text;
+}
+
 const SAVES = {
   input: saveInput,
-  report: () => saveText(fileName(testName(), '.txt'), bench.answer.text),
+  report: () => saveText(fileName(testName(), '.txt'), reportNow().text),
+  trace: () => saveText(fileName(testName(), '.trace.txt'), traceNow()),
   line: () => saveText(fileName(shown.run.test, '.json'), shown.line + '\n', 'application/json'),
-  svg: () => saveText(fileName(shown.run.test, '.svg'), savedPicture(byId('frame').firstChild), 'image/svg+xml'),
-  png: async () => saveFile(fileName(shown.run.test, '.png'), await pictureInPoints(byId('frame').firstChild)),
+  svg: () => saveText(fileName(pictureName(), '.svg'), savedPicture(pictureNow()), 'image/svg+xml'),
+  png: async () => saveFile(fileName(pictureName(), '.png'), await pictureInPoints(pictureNow())),
 };

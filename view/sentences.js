@@ -10,8 +10,8 @@ function listed(words) {
 }
 
 /** What a load passed, in sentences: an own store to its location that it was given, and others. */
-function passSentences(order, load) {
-  const source = sourceOf(order, load), passed = passedBy(order, load);
+function passSentences(load) {
+  const { source, passed } = load;
   const others = passed.filter(store => store !== source);
   const say = (what, stores) => `${coreOf(load)} read ${what} (${nameOf(load)} passed ${listed(stores.map(nameOf))}).`;
   const sentences = [];
@@ -21,15 +21,15 @@ function passSentences(order, load) {
   return sentences;
 }
 
-function readSentences(order, read) {
-  const source = sourceOf(order, read), passes = passSentences(order, read);
+function readSentences(read) {
+  const { source } = read, passes = passSentences(read);
   if (source?.index > read.index) return passes;
   const reader = read.kind === 'LR' ? coreOf(read) + '\'s locked instruction' : coreOf(read);
   return [`${reader} read ${read.location}=${read.value}, ${source ? `which ${nameOf(source)} wrote` : 'the initial value'}.`, ...passes];
 }
 
 function storeSentence(run, store) {
-  const { earliest, latest } = waitOf(run, store);
+  const { earliest, latest } = store.wait;
   const seen = `Memory saw ${coreOf(store)}'s store ${store.location}=${store.value}.`;
   const loads = run.order.slice(latest, store.index).filter(entry => entry.kind === 'R' && isBefore(store, entry));
   if (loads.length > 0) return `${seen} It had waited in the store buffer while its core went on with ${listed(loads.map(nameOf))}.`;
@@ -41,7 +41,7 @@ function sentenceOf(run, entry) {
     case 'F': return `${coreOf(entry)}'s fence: memory has seen all its earlier stores.`;
     case 'LW': return `${coreOf(entry)}'s locked instruction wrote ${entry.location}=${entry.value}, in one step with its read.`;
     case 'W': return storeSentence(run, entry);
-    default: return readSentences(run.order, entry).join(' ');
+    default: return readSentences(entry).join(' ');
   }
 }
 

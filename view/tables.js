@@ -29,7 +29,7 @@ function orderTable(run) {
 }
 
 function passItems({ order }) {
-  const sentences = order.flatMap(entry => passSentences(order, entry));
+  const sentences = order.filter(isRead).flatMap(passSentences);
   if (sentences.length === 0) sentences.push('None: each load comes after all earlier stores of its program.');
   return sentences.map(sentence => html('li', {}, sentence));
 }

@@ -5,9 +5,10 @@
 /** The worker's whole script. */
 const WORK = `'use strict';
 ${Tso}
-onmessage = async ({ data: { bytes, options, input } }) => {
+onmessage = async ({ data: { bytes, questions, input } }) => {
   try {
-    postMessage({ answer: (await Tso.of(bytes)).answer(options, input) });
+    const tso = await Tso.of(bytes);
+    postMessage({ answers: questions.map(options => tso.answer(options, input)) });
   } catch (fault) {
     postMessage({ fault: String(fault) });
   }
@@ -22,25 +23,26 @@ const workerPolicy = window.trustedTypes?.createPolicy('worker', {
   },
 });
 
-/** Begins to answer an input: `answer` is a promise, and `stop` ends the work, so that the promise is never kept. */
-function beginTask(bytes, options, input) {
+/** Begins to answer questions, each some options, on an input: `answers` is a promise, and `stop` ends the work, so that the
+ * promise is never kept. */
+function beginTask(bytes, questions, input) {
   const address = URL.createObjectURL(new Blob([WORK], { type: 'text/javascript' }));
   const worker = new Worker(workerPolicy?.createScriptURL(address) ?? address);
   const stop = () => {
     worker.terminate();
     URL.revokeObjectURL(address);
   };
-  const answer = new Promise((done, failed) => {
+  const answers = new Promise((done, failed) => {
     worker.onmessage = ({ data }) => {
       stop();
       if (data.fault) failed(new Error(data.fault));
-      else done(data.answer);
+      else done(data.answers);
     };
     worker.onerror = event => {
       stop();
       failed(new Error(event.message || 'the worker failed'));
     };
-    worker.postMessage({ bytes, options, input });
+    worker.postMessage({ bytes, questions, input });
   });
-  return { answer, stop };
+  return { answers, stop };
 }

@@ -10,6 +10,7 @@ BAD_LINES = [line.split() for line in """
     --help
     --version
     run --help
+    trace --help
     sweep --help
     check --help
     witness --help
@@ -28,6 +29,7 @@ BAD_LINES = [line.split() for line in """
     run --depth
     run --depth=
     run --depth 33
+    trace --depth 33
     run --depth -1
     run --depth x
     run --depth 99999999999999999999999
@@ -46,6 +48,7 @@ BAD_LINES = [line.split() for line in """
     run --words 5
     run --words 3
     sweep --words 3
+    trace --words 3
     run --words=03 --sets 8
     run --bus shared
     sweep --bus Split
@@ -56,6 +59,7 @@ BAD_LINES = [line.split() for line in """
     sweep --length 100001
     sweep --json
     run --seeds 5
+    trace --seeds 5
     run --from 1
     run --length 1
     check --depth 4
@@ -97,7 +101,10 @@ def joined(draw, options):
 
 
 def run(draw, **fixed):
+    """`run`, or `trace`, which reads the same."""
     options = machine_options(draw, **fixed)
+    if draw.random() < 0.4:
+        return ["trace"] + joined(draw, options)
     if draw.random() < 0.3:
         options.append(["--json"])
     return ["run"] + joined(draw, options)

@@ -31,6 +31,10 @@ CELLS = ("MOV memory,$number", "MOV memory,number", "MOV memory,register", "MOV 
          "MOV register,register", "MOV register,memory", "MFENCE", "XCHG memory,register", "XCHG register,memory",
          "LOCK XCHG memory,register", "LOCK XCHG register,memory", "LOCK XADD memory,register")
 
+# Of a line in a cache, its state before a choice and after it.
+CHANGES = ("I>S", "I>E", "I>M", "S>M", "O>M", "E>M", "M>S", "M>O", "E>S", "M>I", "O>I", "E>I", "S>I", "I>IS_D", "I>IM_D", "S>SM_D",
+           "O>SM_D", "IS_D>S", "IS_D>E", "IM_D>M", "SM_D>M")
+
 LINES = ("no command", "--help", "--version", "help of a command", "unknown command", "option before the command", "stray word",
          "option of another command", "unknown option", "option twice", "option without its value", "flag with a value",
          "value that is no number", "lines of three words") + tuple(
@@ -38,7 +42,7 @@ LINES = ("no command", "--help", "--version", "help of a command", "unknown comm
              ("protocol", "depth", "sets", "ways", "words", "bus", "from", "seeds", "length"))
 
 # A refusal is told by every command that reads an input, and each has its own further statuses.
-STATUSES = {"run": (0, 1, 3), "sweep": (0, 1, 3), "check": (0, 1, 4), "witness": (0, 1, 4)}
+STATUSES = {"run": (0, 1, 3), "trace": (0, 1, 3), "sweep": (0, 1, 3), "check": (0, 1, 4), "witness": (0, 1, 4)}
 
 
 def names():
@@ -52,12 +56,14 @@ def names():
         "breach": ("C1 extra", "C1 twice", "C1 missing", "C2", "C3", "C4", "C5"),
         "depth needed": ("more than there is", "no more than there is"),
         "outcome": ("Committed", "Buffered", "Moved", "Asked"),
+        "hint beside status 0": ("a location that nothing uses", "never seen", "none"),
         "stall": ("Done", "Full", "Fence", "Lock", "Empty", "Bus"),
         "access": ("hits", "misses", "upgrades", "forwards", "write_backs", "flushes"),
         "found": ("M hits by a load", "O hits by a load", "E hits by a load", "S hits by a load", "M hits by a write",
                   "E hits by a write", "O upgrades by a write", "S upgrades by a write"),
         "snooped": ["%s by %s" % (state, request) for state in "MOES" for request in ("GetS", "GetM")],
         "victim": "MOES",
+        "change of a line": CHANGES,
         "hit on the split bus": ("while it is held", "while it is free"),
         "order": ("entries between the parts of a locked instruction",),
         "condition": ["none"] + ["%s %s" % (quantifier, truth) for quantifier in ("exists", "~exists", "forall")

@@ -1,7 +1,7 @@
 """The program a second time, in plain Python.
 
-It is written from docs/INPUT.md, docs/MESSAGES.md, docs/SCRIPTS.md, docs/DEFINITIONS.md and README.md, and from no code of
-the crates, so that what definition and code say alike is said once more by somebody else. Each module names the page that
+It is written from docs/INPUT.md, docs/MESSAGES.md, docs/SCRIPTS.md, docs/TRACE.md, docs/DEFINITIONS.md and README.md, and from no
+code of the crates, so that what definition and code say alike is said once more by somebody else. Each module names the page that
 it follows. tests/second_voice holds a built program against it.
 
     lexing       bytes, lines, white space, comments and tokens
@@ -14,6 +14,7 @@ it follows. tests/second_voice holds a built program against it.
     witness      choices along an order, and the depth that it needs
     caches       the protocols, and the caches of all cores with their words
     machine      cores, store buffers, both buses, runs
+    tracing      what each choice of a run did
     printing     reports, JSON, sweeps, tables
     commands     command lines, the parts of an input, and the whole answer
     seen         what came up, by name

@@ -57,6 +57,16 @@ class Copy:
 
 
 @dataclasses.dataclass
+class Noted:
+    """What one choice did: the kind of its access, the request that went on the bus and its line, whose copy went to memory, and the
+    dirty line that left."""
+    access: typing.Optional[str] = None
+    request: typing.Optional[tuple] = None
+    flushed: typing.Optional[int] = None
+    written_back: typing.Optional[int] = None
+
+
+@dataclasses.dataclass
 class Awaited:
     """What an access awaits from its ask to its completion: what it is; of a miss the words, and the state that they fill in."""
     kind: str
@@ -74,6 +84,7 @@ class Caches:
         padded = first_words + [0] * (-len(first_words) % words)
         self.memory = [padded[at:at + words] for at in range(0, len(padded), words)]
         self.counts = [dict.fromkeys((HIT, MISS, UPGRADE, FORWARD, WRITE_BACK, FLUSH), 0) for _ in range(cores)]
+        self.noted = Noted()
 
     def count(self, core, name):
         self.counts[core][name] += 1
@@ -97,6 +108,7 @@ class Caches:
         line, own = location // self.line_size, self.copy_at(core, location)
         if self.hits(core, location, write):
             return Awaited(HIT)
+        self.noted.request = "GetM" if write else "GetS", line
         words, shared = self.snoop(core, line, write)
         if own is not None:
             return Awaited(UPGRADE)
@@ -119,6 +131,7 @@ class Caches:
             if snoop.to_memory:
                 self.memory[line] = list(copy.words)
                 self.count(other, FLUSH)
+                self.noted.flushed = other
             seen.note("snooped", "%s by %s" % (copy.state, "GetM" if write else "GetS"))
             copy.state = snoop.next
             if copy.state == I:
@@ -130,6 +143,7 @@ class Caches:
         line = location // self.line_size
         copies, copy = self.set_of(core, line), self.copy_at(core, location)
         self.count(core, awaited.kind)
+        self.noted.access = awaited.kind
         if awaited.kind == MISS:
             copy = Copy(line, awaited.state, awaited.words)
             self.make_room(core, copies)
@@ -149,6 +163,7 @@ class Caches:
             if victim.state in DIRTY:
                 self.memory[victim.line] = victim.words
                 self.count(core, WRITE_BACK)
+                self.noted.written_back = victim.line
 
     def access(self, core, location, write):
         """A whole access, which is its two halves one after the other."""

@@ -3,7 +3,7 @@ input', and docs/MESSAGES.md, 'Command lines'."""
 import re
 import typing
 
-from . import axioms, litmus, machine, printing, seen, witness
+from . import axioms, hints, litmus, machine, printing, seen, tracing, witness
 from .choices import printed_choices, read_choices
 from .machine import Configuration
 from .orders import read_order
@@ -19,7 +19,7 @@ SWEEP_OPTIONS = {"from": range(2**32), "seeds": range(1, 1001), "length": range(
 
 # The options of each command, and their values; `json` has none.
 OPTIONS = {
-    "run": dict(MACHINE_OPTIONS, json=None), "sweep": dict(MACHINE_OPTIONS, **SWEEP_OPTIONS), "check": {},
+    "run": dict(MACHINE_OPTIONS, json=None), "trace": MACHINE_OPTIONS, "sweep": dict(MACHINE_OPTIONS, **SWEEP_OPTIONS), "check": {},
     "witness": {"depth": range(1, 33)}, "tables": {"protocol": MACHINE_OPTIONS["protocol"]},
 }
 DEFAULTS = {"protocol": "msi", "depth": 4, "sets": 1, "ways": 2, "words": 1, "bus": machine.ATOMIC, "json": False,
@@ -39,7 +39,7 @@ class BadLine(Exception):
 
 
 class Answer(typing.NamedTuple):
-    """Exit status and standard output; of standard error what it must be, where that is known."""
+    """Exit status and standard output; of standard error what it must be, where that is known: of status 0 always."""
     status: int
     output: bytes
     errors: typing.Optional[bytes] = None
@@ -126,33 +126,46 @@ def answer(words, given):
         note_options(command, settings)
         return Answer(ENDED, printing.table(settings["protocol"]).encode(), b"")
     try:
-        status, output = answer_to_input(command, settings, given)
+        test, status, output = answer_to_input(command, settings, given)
         note_options(command, settings)
     except Refused as refused:
-        status, output = REFUSED, refused.line + "\n"
+        test, status, output = None, REFUSED, refused.line + "\n"
     seen.note("status of " + command, status)
-    return Answer(status, output.encode())
+    told = hints.beside(command, settings["json"], settings["depth"], test, output) if status == ENDED else None
+    return Answer(status, output.encode(), told)
 
 
 def answer_to_input(command, settings, given):
-    """Status and output: the input's size is judged first, then its first part, then its second."""
+    """The test, status and output: the input's size is judged first, then its first part, then its second."""
     if len(given) > litmus.LONGEST_INPUT:
         seen.note("refusal of an input", "TooLarge")
         raise Refused("Refused input TooLarge")
     first, second = parts_of(given)
     test = read_test(first)
     if command in ("check", "witness"):
-        return judged(test, command, settings["depth"], second)
+        return (test,) + judged(test, command, settings["depth"], second)
     configuration = Configuration(*(settings[name] for name in Configuration._fields))
     if command == "sweep":
         output, ended = printing.sweep(test, configuration, settings["from"], settings["seeds"], settings["length"])
-        return ENDED if ended else UNFINISHED, output
+        return test, ENDED if ended else UNFINISHED, output
     choices = read_choices(second, test.cores())
+    if command == "trace":
+        return (test,) + traced(test, configuration, choices)
     run = machine.run(test, configuration, choices)
     if run.machine is None:
-        return UNFINISHED, printing.unfinished_json(run) if settings["json"] else printing.unfinished(run)
+        return test, UNFINISHED, printing.unfinished_json(run) if settings["json"] else printing.unfinished(run)
     printed = printing.report_json if settings["json"] else printing.report
-    return ENDED, printed(test, configuration, run, choices.count - run.used)
+    return test, ENDED, printed(test, configuration, run, choices.count - run.used)
+
+
+def traced(test, configuration, choices):
+    """What `run` answers, with the trace after its first two lines."""
+    made = tracing.TracedMachine(test, configuration)
+    run = machine.run(test, configuration, choices, made)
+    head = printing.head(test, configuration) + made.text()
+    if run.machine is None:
+        return UNFINISHED, head + printing.unfinished(run)
+    return ENDED, head + printing.after_head(test, run, choices.count - run.used)
 
 
 def judged(test, command, depth, text):

@@ -16,11 +16,13 @@ def unfit(token):
 
 
 class ConditionReader:
-    """Reads a condition's tokens. `names` are the locations that are known so far; further ones are appended."""
+    """Reads a condition's tokens. `names` are the locations that are known so far; further ones are appended. `places` has
+    for each location the place where the condition names it first."""
 
     def __init__(self, tokens, names, cores):
         self.tokens, self.names, self.cores = tokens, names, cores
         self.atoms = self.open = 0
+        self.places = {}
 
     def take(self):
         return self.tokens.take(WHERE)
@@ -96,6 +98,7 @@ class ConditionReader:
         location = number_of(setting.location, self.names)
         if location is None:
             raise Fault("TooLarge", token.place, "a 17th location in the condition")
+        self.places.setdefault(location, setting.named)
         self.counted(token)
         return "location", location, value
 
@@ -107,10 +110,11 @@ class ConditionReader:
 
 class Setting:
     """`1:EAX=7`, `x=7` or `[x]=7`, of the initial state or of a condition. Core and number are digits, of any size; `core` or
-    `location` is None. `place` is that of its first token."""
+    `location` is None. `place` is that of its first token, `named` that of a location's name."""
 
-    def __init__(self, place, core, register, location, number):
-        self.place, self.core, self.register, self.location, self.number = place, core, register, location, number
+    def __init__(self, place, named, core, register, location, number):
+        self.place, self.named, self.core, self.register = place, named, core, register
+        self.location, self.number = location, number
 
 
 def read_setting(tokens, first, where, unfit_token):
@@ -129,6 +133,7 @@ def read_setting(tokens, first, where, unfit_token):
         return wanted(token, token.kind == lexing.NUMBER).text
 
     core = register = location = None
+    named = first.place
     if first.kind == lexing.NUMBER:
         form, core = "register", first.text
         symbol(":")
@@ -136,12 +141,12 @@ def read_setting(tokens, first, where, unfit_token):
         register = litmus.register_of(wanted(token, token.is_register()).text)
     elif first.is_symbol("["):
         form, token = "location in brackets", tokens.take(where)
-        location = wanted(token, token.is_location()).text
+        location, named = wanted(token, token.is_location()).text, token.place
         symbol("]")
     else:
         form, location = "location", wanted(first, first.is_location()).text
     symbol("=")
-    setting = Setting(first.place, core, register, location, number())
+    setting = Setting(first.place, named, core, register, location, number())
     seen.note("spelling", "%s %s" % (form, where))
     return setting
 

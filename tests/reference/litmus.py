@@ -39,7 +39,8 @@ class Instruction(typing.NamedTuple):
 
 @dataclasses.dataclass
 class Test:
-    """A test as its text spells it. `quantifier` and `proposition` are None where it has no condition."""
+    """A test as its text spells it. `quantifier` and `proposition` are None where it has no condition. `unused` is the first
+    location that the condition alone names, and the line on which it does so first; None where there is none."""
     name: str
     locations: list
     words: list
@@ -47,6 +48,7 @@ class Test:
     programs: list
     quantifier: typing.Optional[str] = None
     proposition: typing.Optional[tuple] = None
+    unused: typing.Optional[tuple] = None
 
     def cores(self):
         return len(self.programs)

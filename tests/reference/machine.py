@@ -46,9 +46,11 @@ class Core:
 
 
 class Holder(typing.NamedTuple):
-    """Whose action holds the bus, what it awaits, and between the two parts of a locked instruction its copy and what it writes."""
+    """Whose action holds the bus, at which location, what it awaits, and between the two parts of a locked instruction its copy and
+    what it writes."""
     core: int
     action: str
+    location: int
     awaited: object
     copy: object = None
     written: typing.Optional[Entry] = None
@@ -62,14 +64,14 @@ class Machine:
         self.cores = [Core(program, registers) for program, registers in zip(test.programs, test.registers)]
         self.caches = Caches(configuration.protocol, test.cores(), configuration.sets, configuration.ways, configuration.words,
                              test.words)
-        self.order, self.holder = [], None
+        self.order, self.holder, self.outcome = [], None, None
 
     def has_ended(self):
         return all(core.has_ended() for core in self.cores)
 
     def choose(self, number, action):
-        """Makes a choice of this core; whether it took effect."""
-        outcome = self.step(number) if action == STEP else self.drain(number)
+        """Makes a choice of this core; whether it took effect. `outcome` has its outcome, or why it stalled."""
+        self.outcome = outcome = self.step(number) if action == STEP else self.drain(number)
         if outcome in (COMMITTED, BUFFERED, MOVED, ASKED):
             seen.note("outcome", outcome)
             return True
@@ -164,7 +166,7 @@ class Machine:
         """Asks for the bus where it is free."""
         if self.holder is not None:
             return BUS
-        self.holder = Holder(number, action, self.caches.ask(number, location, write))
+        self.holder = Holder(number, action, location, self.caches.ask(number, location, write))
         return ASKED
 
     def locked(self, number, kind, location, register):
@@ -181,7 +183,7 @@ class Machine:
         if self.holder.written is None:
             copy = self.caches.complete(number, location, True, self.holder.awaited)
             written = self.read_part(number, kind, location, register, copy)
-            self.holder = self.holder._replace(copy=copy, written=written)
+            self.holder = self.holder._replace(awaited=None, copy=copy, written=written)
             return COMMITTED
         copy, written, self.holder = self.holder.copy, self.holder.written, None
         return self.write_part(number, register, copy, written)
@@ -230,9 +232,9 @@ class Run(typing.NamedTuple):
         return [core.registers for core in self.machine.cores], self.machine.caches.final_words(len(test.words))
 
 
-def run(test, configuration, choices):
-    """Makes choices up to the first moment at which the test has ended: DEFINITIONS.md, 'run'."""
-    machine = Machine(test, configuration)
+def run(test, configuration, choices, machine=None):
+    """Makes choices up to the first moment at which the test has ended: DEFINITIONS.md, 'run'; on this machine, if one is given."""
+    machine = machine or Machine(test, configuration)
     used = stalled = 0
     ended = machine.has_ended()
     if not ended:

@@ -28,6 +28,11 @@ def head(test, configuration):
 
 def report(test, configuration, run, unused):
     """The report of a run that ended."""
+    return head(test, configuration) + after_head(test, run, unused)
+
+
+def after_head(test, run, unused):
+    """The report from its line `Order` on."""
     registers, words = run.state()
     truth = machine.holds(test, (registers, words))
     lines = ["Registers P%d%s" % (core, named(zip(litmus.REGISTERS, values))) for core, values in enumerate(registers)]
@@ -38,7 +43,7 @@ def report(test, configuration, run, unused):
     for core, counts in enumerate(run.machine.caches.counts):
         lines.append("Cache P%d%s" % (core, named((name, counts[name]) for name in COUNTS)))
     order = run.machine.put_together()
-    return head(test, configuration) + printed_order(test, order) + "".join(line + "\n" for line in lines)
+    return printed_order(test, order) + "".join(line + "\n" for line in lines)
 
 
 def unfinished(run):

@@ -49,8 +49,9 @@ class TestReader:
         self.check_cores()
         self.rows()
         self.locations()
-        quantifier, proposition = self.condition()
-        return litmus.Test(name, self.names, self.first_words(), self.first_registers(), self.programs, quantifier, proposition)
+        quantifier, proposition, unused = self.condition()
+        return litmus.Test(name, self.names, self.first_words(), self.first_registers(), self.programs, quantifier, proposition,
+                           unused)
 
     # Header line and information lines: INPUT.md, 'Header line', 'Information lines'.
 
@@ -244,17 +245,20 @@ class TestReader:
         self.tokens = Tokens(self.text, place + 1)
 
     def condition(self):
-        """The quantifier and the proposition, or None twice; after them nothing stands."""
+        """The quantifier, the proposition and a location that nothing before names, or None; after them nothing stands."""
         first = self.tokens.look(conditions.WHERE)
-        quantifier = proposition = None
+        quantifier = proposition = unused = None
         if first.is_symbol("~") or first.is_word("exists") or first.is_word("forall"):
+            named_before = len(self.names)
             reader = ConditionReader(self.tokens, self.names, len(self.programs))
             quantifier, proposition = reader.quantifier(), reader.proposition()
+            if len(self.names) > named_before:
+                unused = self.names[named_before], self.text.line_of(reader.places[named_before])
         seen.note("quantifier", quantifier)
         token = self.tokens.look(conditions.WHERE)
         if token.kind != lexing.END:
             raise Fault("Trailing", token.place, "after a condition" if quantifier else "without a condition")
-        return quantifier, proposition
+        return quantifier, proposition, unused
 
 
 class Cell:

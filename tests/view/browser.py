@@ -87,7 +87,7 @@ class Browser:
     def note(self, event):
         method, said = event.get("method"), event.get("params")
         if method == "Runtime.exceptionThrown":
-            self.faults.append(said["exceptionDetails"].get("exception", {}).get("description", "an exception"))
+            self.faults.append(said["exceptionDetails"].get("exception", {}).get("description", said["exceptionDetails"]["text"]))
         elif method == "Log.entryAdded" and said["entry"]["level"] == "error":
             self.faults.append(said["entry"]["text"])
         elif method == "Runtime.consoleAPICalled" and said["type"] in ("error", "warning", "assert"):

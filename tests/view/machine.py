@@ -55,6 +55,15 @@ class Bench:
         self.window.resize(width, mobile=width < 500)
         self.window.open(self.page.address + ("#" + fragment if fragment else ""))
         self.value(READY)
+        self.to_end()
+
+    def to_end(self):
+        """Makes all choices that are known, where the page drives the machine."""
+        self.value("drive.isOn && goTo(drive.words.length)")
+
+    def load(self, name):
+        self.value("loadText(%s)" % json.dumps(name))
+        self.to_end()
 
     def value(self, expression):
         return self.page.value(expression)
@@ -237,11 +246,28 @@ def stop_row(bench):
     return faults + differs("a run after it", bench.page.is_drawn(), True) + safety(bench)
 
 
+def long_run_row(bench):
+    """A run of very many choices is made in a worker, which can be stopped."""
+    bench.open()
+    test = read(EXAMPLES, FIRST).partition(DIVIDING_LINE)[0]
+    stopped = bench.value("(field => { field.value = 'seed 1 100000'; field.dispatchEvent(new Event('input', { bubbles: true }));"
+                          "const began = [bench.task !== null, byId('stop').hidden]; byId('stop').click(); return [...began, bench.task, byId('stop').hidden]; })(byId('choices'))")
+    faults = differs("begun and stopped", stopped, [True, False, None, True]) + differs("drawn", bench.page.is_drawn(), False)
+    for choices in ("seed 1 100000", "0d " * 20000):
+        bench.fill("choices", choices)
+        bench.wait("!bench.task && byId('report').textContent")
+        status, said, hint = bench.program(test + DIVIDING_LINE + choices, "run")
+        faults += differs("the report", bench.text("#report"), said) + differs("drawn", bench.page.is_drawn(), status == 0)
+        faults += differs("the hint", bench.text("#hint"), hint.strip())
+        faults += differs("its steps are left out, and the page says so", bench.value("bench.tracing === null || (!drive.isOn && !byId('no-steps').hidden)"), True)
+    return faults + safety(bench)
+
+
 def comparison_row(bench):
     """The same choices on other machines, each as the program runs them there; and a machine that is taken."""
     bench.open()
     text = read(EXAMPLES, "own-store-first.litmus")
-    bench.value("loadText('own-store-first.litmus')")
+    bench.load("own-store-first.litmus")
     bench.value("byId('comparison').open = true")
     bench.wait("document.querySelector('#compared table')")
     rows = bench.value("[...document.querySelectorAll('#compared tbody tr')].map(row => [...row.cells].map(cell => cell.textContent))")
@@ -273,6 +299,7 @@ def library_row(bench, folder):
     bench.fill("search", "")
     for name, text in texts():
         bench.value("document.querySelector('#texts [data-file=%s]').click()" % json.dumps(name))
+        bench.to_end()
         depth = re.search(r"^Depth=(\d+)$", text, re.MULTILINE)
         words = ["check"] if name.endswith(".order") else ["run", "--depth", depth.group(1) if depth else "4"]
         status, said, _ = bench.program(text, *words)
@@ -344,11 +371,12 @@ def trap_row(bench):
     """After a trap the instance is thrown away, the page says so, and goes on."""
     bench.open()
     bench.wait("shown.run")
-    bench.value("window.before = bench.tso.exports; bench.tso.writeAsked = () => { throw new WebAssembly.RuntimeError('unreachable'); }; true")
+    bench.value("window.own = bench.tso.tso ?? bench.tso; window.before = own.exports;"
+                "own.writeAsked = () => { throw new WebAssembly.RuntimeError('unreachable'); }; true")
     bench.fill("choices", "0s")
     faults = [] if "stopped in the middle" in bench.text("#hint") else ["it says " + bench.text("#hint")]
-    faults += differs("the same instance", bench.value("bench.tso.exports === before"), False) + differs("drawn", bench.page.is_drawn(), False)
-    bench.value("delete bench.tso.writeAsked; true")
+    faults += differs("the same instance", bench.value("own.exports === before"), False) + differs("drawn", bench.page.is_drawn(), False)
+    bench.value("delete own.writeAsked; true")
     bench.fill("choices", "0s 1s 0s 1s 0d 1d")
     return faults + differs("drawn again", bench.page.is_drawn(), True) + safety(bench)
 
@@ -359,10 +387,10 @@ def widths_row(bench, folder, width):
     for name in ("4.SB.litmus", "spinlock.order"):
         bench.open(width=width)
         bench.value("byId('library').open = true")
-        bench.value("loadText(%s)" % json.dumps(name))
+        bench.load(name)
         faults += bench.value(OVERHANGING)
         bench.window.screenshot(os.path.join(folder, "bench-%s-%d.png" % (name, width)))
-    bench.value("loadText('4.SB.litmus')")
+    bench.load("4.SB.litmus")
     bench.choose("outcomes")
     bench.value("begin()")
     bench.wait("document.querySelector('#states table')")
@@ -416,18 +444,40 @@ def names_row(bench):
     return faults + differs("controls that no key reaches", reached, 0) + safety(bench)
 
 
+def spent(bench):
+    """What the page's thread has spent on scripts, style and layout, in milliseconds of processor time."""
+    metrics = {each["name"]: each["value"] for each in bench.window.call("Performance.getMetrics")["metrics"]}
+    return 1000 * sum(metrics[name] for name in ("ScriptDuration", "RecalcStyleDuration", "LayoutDuration"))
+
+
+def spent_by(bench, acts):
+    """What each of these acts costs up to the layout that follows, in milliseconds of processor time: other work on the machine doesn't count."""
+    bench.window.call("Performance.enable", timeDomain="threadTicks")
+    times = []
+    for act in acts:
+        before = spent(bench)
+        bench.value(act + "; document.body.offsetHeight")
+        times.append(spent(bench) - before)
+    bench.window.call("Performance.disable")
+    return times
+
+
 def speed_row(bench):
     """The first answer, and from a key to the answer that is shown, drawn picture and all."""
     bench.open()
     first = bench.value("(async () => { const start = performance.now(); const tso = await Tso.of(bench.bytes);"
                         "tso.answer({}, inputOf('run')); return performance.now() - start; })()")
-    bench.value("loadText('4.SB+stores-2.litmus')")
-    times = bench.value("(() => { const times = []; for (let turn = 0; turn < 60; turn++) { byId('choices').value += turn % 2 ? ' ' : '\\n';"
-                        "const start = performance.now(); answerNow(); document.body.offsetHeight; times.push(performance.now() - start); } return times; })()")
-    print("the first answer after %.0f ms; from a key to the picture %.1f ms, %.1f at most" % (first, statistics.median(times), max(times)))
+    bench.load("4.SB+stores-2.litmus")
+    times = spent_by(bench, ["byId('choices').value += %r; answerNow()" % (" " if turn % 2 else "\n") for turn in range(60)])
+    median, worst = statistics.median(times), max(times)
+    print("the first answer after %.0f ms; from a key to the picture %.1f ms of processor time, %.1f at most" % (first, median, worst))
     faults = [] if first <= FIRST_ANSWER else ["the first answer takes %.0f ms" % first]
-    faults += [] if statistics.median(times) <= TYPED_MEDIAN and max(times) <= TYPED_WORST else ["an answer takes %.1f ms, %.1f at most" % (statistics.median(times), max(times))]
+    faults += [] if median <= TYPED_MEDIAN and worst <= TYPED_WORST else ["an answer takes %.1f ms, %.1f at most" % (median, worst)]
     return faults + safety(bench)
+
+
+# Rows of the module alone, whatever the page shows.
+OF_THE_MODULE = ("answers of the module", "made inputs")
 
 
 def rows(page, folder):
@@ -440,6 +490,7 @@ def rows(page, folder):
         ("outcomes", lambda: outcomes_row(bench, folder)),
         ("a sweep", lambda: sweep_row(bench)),
         ("a search that is stopped", lambda: stop_row(bench)),
+        ("a run of very many choices", lambda: long_run_row(bench)),
         ("other machines", lambda: comparison_row(bench)),
         ("the list of texts", lambda: library_row(bench, folder)),
         ("addresses of tests", lambda: addresses_row(bench)),

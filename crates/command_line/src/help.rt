@@ -3,8 +3,8 @@
 /// Of `tso`.
 pub const TSO: &str = "\
 Standard input is read whole, and the answer is written to standard output. An input is a test. For\n\
-run, choices follow it after a line ====; for check and witness, an order as run prints it follows\n\
-after such a line. sweep and outcomes read the test alone, and tables reads nothing.\n\
+run and trace, choices follow it after a line ====; for check and witness, an order as run prints it\n\
+follows after such a line. sweep and outcomes read the test alone, and tables reads nothing.\n\
 \n\
 Exit status:\n\
 \x20 0  the test ended, the order is valid, choices reach it, or what was asked for is printed\n\
@@ -43,6 +43,27 @@ exists (0:EAX=0 /\\ 1:EAX=0)\n\
 ====\n\
 0s 1s 0s 1s 0d 1d\n\
 END";
+
+/// Of `tso trace`.
+pub const TRACE: &str = "\
+Standard input is a test, a line ====, and choices, as for run. Printed is the report of run, with a\n\
+trace after its first two lines: Trace, a line for each choice that was used, and Endtrace and their\n\
+number. Of a test that didn't end the line Unfinished stands after the trace. A choice's line has\n\
+these words, those that apply:\n\
+\x20 5 0d        the choice's number, and the choice\n\
+\x20 committed   its outcome: buffered, committed, moved, asked, or stalled and why\n\
+\x20 P0:0 W x=1  the entry, as the order has it; or EAX=5 for a move; and forwarded where the\n\
+\x20             core's own buffer answered\n\
+\x20 miss        what the access was: hit, upgrade or miss\n\
+\x20 GetM x      what went on the bus; flush P1 and write-back z, what was sent to memory\n\
+\x20 P1.x S>I    a line whose state changed\n\
+\x20 P0[y=2]     the core's buffer after it, where it changed, the oldest store first\n\
+\n\
+Exit status: 0 the test ended, 1 a text was refused, 2 the command line was, 3 the choices ended\n\
+before the test did, 5 memory, input or output failed.\n\
+\n\
+Example:\n\
+\x20 tso trace --protocol mesi < FILE";
 
 /// Of `tso sweep`.
 pub const SWEEP: &str = "\

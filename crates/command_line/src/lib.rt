@@ -2,6 +2,7 @@
 #![tactic(auto)]
 
 mod help;
+mod known;
 mod options;
 pub mod plan;
 pub mod search;

@@ -30,6 +30,7 @@ pub fn command_line<'a>(alloc: Global) -> Result<Command<'a>, AllocError> {
         .after_help(help::TSO)
         .subcommand_required(true);
     let program = with(program, run_line(alloc))?;
+    let program = with(program, trace_line(alloc))?;
     let program = with(program, sweep_line(alloc))?;
     let program = with(program, outcomes_line(alloc))?;
     let program = program.subcommand(check_line(alloc))?;
@@ -50,6 +51,13 @@ fn run_line<'a>(alloc: Global) -> Result<Command<'a>, AllocError> {
         .about("Runs a test under a list of choices, and reports the order that memory saw")
         .after_help(help::RUN);
     machine_options(alloc, line)?.arg(json_option(alloc))
+}
+
+fn trace_line<'a>(alloc: Global) -> Result<Command<'a>, AllocError> {
+    let line = Command::new(alloc, "trace")
+        .about("Runs a test under a list of choices, and tells what each choice did")
+        .after_help(help::TRACE);
+    machine_options(alloc, line)
 }
 
 fn sweep_line<'a>(alloc: Global) -> Result<Command<'a>, AllocError> {

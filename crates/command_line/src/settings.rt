@@ -3,6 +3,7 @@
 ghost use Rattle.std.specs.Prelude.{IfOk, IfSome};
 ghost use Rattle.command_line.specs.Limits.{IsWithinLimits, HasDepth};
 
+use crate::known::{know_config, know_plan, know_search};
 use crate::options::command_line;
 use crate::plan::SweepPlan;
 use crate::search::SearchPlan;
@@ -22,6 +23,12 @@ pub enum Settings {
         protocol: ProtocolKind,
         config: Config,
         json: bool,
+    },
+    /// Run a test under choices, on such a machine, and report it with what each choice did to buffers,
+    /// caches, bus and memory.
+    Trace {
+        protocol: ProtocolKind,
+        config: Config,
     },
     /// Run a test under the choices of each seed of a plan, on such a machine, and tell which final
     /// states were met.
@@ -44,6 +51,25 @@ pub enum Settings {
     },
     /// Print a protocol's table.
     Tables(ProtocolKind),
+}
+
+impl Settings {
+    /// Does nothing: from the call on it is known that the settings are within their limits. A
+    /// configuration, a plan and a search always are; the depth of a witness has to be.
+    pub fn know_limits(&self)
+        requires { HasDepth self.now }
+        ensures { IsWithinLimits self.now }
+    {
+        match self {
+            Settings::Run { config, .. } | Settings::Trace { config, .. } => know_config(*config),
+            Settings::Sweep { config, plan, .. } => {
+                know_config(*config);
+                know_plan(*plan);
+            }
+            Settings::Outcomes { search, .. } => know_search(*search),
+            Settings::Check | Settings::Witness { .. } | Settings::Tables(_) => {}
+        }
+    }
 }
 
 /// Why a command line is refused.
@@ -78,8 +104,17 @@ fn settings_in(name: &str, matches: &ArgMatches<'_>) -> Option<Settings>
     ensures within { IfSome result IsWithinLimits }
     ensures depth { IfSome result HasDepth }
 {
+    let settings = settings_named(name, matches)?;
+    settings.know_limits();
+    Some(settings)
+}
+
+fn settings_named(name: &str, matches: &ArgMatches<'_>) -> Option<Settings>
+    ensures { IfSome result HasDepth }
+{
     match name {
         "run" => run_settings(matches),
+        "trace" => trace_settings(matches),
         "sweep" => sweep_settings(matches),
         "outcomes" => outcomes_settings(matches),
         "check" => Some(Settings::Check),
@@ -90,13 +125,11 @@ fn settings_in(name: &str, matches: &ArgMatches<'_>) -> Option<Settings>
 }
 
 fn run_settings(matches: &ArgMatches<'_>) -> Option<Settings>
-    ensures within { IfSome result IsWithinLimits }
-    ensures depth { IfSome result HasDepth }
+    ensures { IfSome result HasDepth }
 {
     let protocol = protocol_in(matches)?;
     let config = config_in(matches)?;
     let json = matches.get_flag("json");
-    let _known = config.depth();
     Some(Settings::Run {
         protocol,
         config,
@@ -104,14 +137,20 @@ fn run_settings(matches: &ArgMatches<'_>) -> Option<Settings>
     })
 }
 
+fn trace_settings(matches: &ArgMatches<'_>) -> Option<Settings>
+    ensures { IfSome result HasDepth }
+{
+    let protocol = protocol_in(matches)?;
+    let config = config_in(matches)?;
+    Some(Settings::Trace { protocol, config })
+}
+
 fn sweep_settings(matches: &ArgMatches<'_>) -> Option<Settings>
-    ensures within { IfSome result IsWithinLimits }
-    ensures depth { IfSome result HasDepth }
+    ensures { IfSome result HasDepth }
 {
     let protocol = protocol_in(matches)?;
     let config = config_in(matches)?;
     let plan = plan_in(matches)?;
-    let _known = (config.depth(), plan.seeds());
     Some(Settings::Sweep {
         protocol,
         config,
@@ -120,18 +159,15 @@ fn sweep_settings(matches: &ArgMatches<'_>) -> Option<Settings>
 }
 
 fn outcomes_settings(matches: &ArgMatches<'_>) -> Option<Settings>
-    ensures within { IfSome result IsWithinLimits }
-    ensures depth { IfSome result HasDepth }
+    ensures { IfSome result HasDepth }
 {
     let search = search_in(matches)?;
     let json = matches.get_flag("json");
-    let _known = search.depth();
     Some(Settings::Outcomes { search, json })
 }
 
 fn witness_settings(matches: &ArgMatches<'_>) -> Option<Settings>
-    ensures within { IfSome result IsWithinLimits }
-    ensures depth { IfSome result HasDepth }
+    ensures { IfSome result HasDepth }
 {
     let depth = matches.get_one::<u8>("depth")?;
     if !(MIN_DEPTH..=MAX_DEPTH).contains(&depth) {

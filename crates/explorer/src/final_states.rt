@@ -140,7 +140,7 @@ pub fn explore(
     closed_states_miss_none();
     ends_are_what_tso_allows();
     runs_stop_where_they_end();
-    let _known = test.cores();
+    test.know_limits();
     let found = search(alloc, test, depth, limit)?;
     let final_states = final_states(alloc, test, &found)?;
     Ok(Exploration {

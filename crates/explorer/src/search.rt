@@ -18,31 +18,37 @@ use std::alloc::Global;
 use tso_laws::stalls_change_nothing;
 use tso_model::{Choice, Core, NoMemory, Test};
 
+/// What a search has found: each snapshot once, and how each was reached.
+#[derive(Drop)]
+pub struct Found {
+    pub snapshots: IndexSet<Snapshot>,
+    pub links: Vec<Link>,
+}
+
 /// Makes a choice in one of the snapshots, and what choices need not wait after it. Where that is a
 /// snapshot that isn't there yet, it is added.
 ///
 /// Errors: out of memory only.
 pub fn visit(
     alloc: Global,
-    snapshots: &mut IndexSet<Snapshot>,
-    links: &mut Vec<Link>,
+    found: &mut Found,
     test: &Test,
     depth: u8,
     from: usize,
     choice: Choice,
 ) -> Result<(), NoMemory>
-    requires from { from < length snapshots.old.keys }
-    requires cores { HaveCores test.now snapshots.old.keys }
-    requires linked { AreLinked depth test.now snapshots.old.keys links.old.items }
+    requires from { from < length found.old.snapshots.keys }
+    requires cores { HaveCores test.now found.old.snapshots.keys }
+    requires linked { AreLinked depth test.now found.old.snapshots.keys found.old.links.items }
     requires chosen { chosen choice < length test.now.programs }
-    ensures grows { OnOk result (Grows snapshots.old.keys snapshots.new.keys) }
-    ensures cores { OnOk result (HaveCores test.now snapshots.new.keys) }
-    ensures linked { OnOk result (AreLinked depth test.now snapshots.new.keys links.new.items) }
-    ensures visited { OnOk result ((s : Snapshot) → slice_get snapshots.old.keys from ≡ Some s
-        → IsVisited depth test.now snapshots.new.keys (state_of s) choice) }
+    ensures grows { OnOk result (Grows found.old.snapshots.keys found.new.snapshots.keys) }
+    ensures cores { OnOk result (HaveCores test.now found.new.snapshots.keys) }
+    ensures linked { OnOk result (AreLinked depth test.now found.new.snapshots.keys found.new.links.items) }
+    ensures visited { OnOk result ((s : Snapshot) → slice_get found.old.snapshots.keys from ≡ Some s
+        → IsVisited depth test.now found.new.snapshots.keys (state_of s) choice) }
 {
     stalls_change_nothing();
-    let mut state = copy(alloc, &snapshots[from])?;
+    let mut state = copy(alloc, &found.snapshots[from])?;
     let outcome = act(&mut state, test, depth, choice)?;
     if has_stalled(outcome) {
         return Ok(());
@@ -50,9 +56,9 @@ pub fn visit(
     let mut choices = Vec::new(alloc);
     choices.push(choice)?;
     settle(&mut state, test, depth, &mut choices)?;
-    let (_, added) = snapshots.insert_full(state)?;
+    let (_, added) = found.snapshots.insert_full(state)?;
     if added {
-        links.push(Link { from, choices })?;
+        found.links.push(Link { from, choices })?;
     }
     Ok(())
 }
@@ -62,27 +68,26 @@ pub fn visit(
 /// Errors: out of memory only.
 fn visit_core(
     alloc: Global,
-    snapshots: &mut IndexSet<Snapshot>,
-    links: &mut Vec<Link>,
+    found: &mut Found,
     test: &Test,
     depth: u8,
     from: usize,
     core: u8,
 ) -> Result<(), NoMemory>
-    requires from { from < length snapshots.old.keys }
-    requires cores { HaveCores test.now snapshots.old.keys }
-    requires linked { AreLinked depth test.now snapshots.old.keys links.old.items }
+    requires from { from < length found.old.snapshots.keys }
+    requires cores { HaveCores test.now found.old.snapshots.keys }
+    requires linked { AreLinked depth test.now found.old.snapshots.keys found.old.links.items }
     requires core { core < length test.now.programs }
-    ensures grows { OnOk result (Grows snapshots.old.keys snapshots.new.keys) }
-    ensures cores { OnOk result (HaveCores test.now snapshots.new.keys) }
-    ensures linked { OnOk result (AreLinked depth test.now snapshots.new.keys links.new.items) }
-    ensures visited { OnOk result ((s : Snapshot) → slice_get snapshots.old.keys from ≡ Some s
-        → AreVisited depth test.now snapshots.new.keys (state_of s) core) }
+    ensures grows { OnOk result (Grows found.old.snapshots.keys found.new.snapshots.keys) }
+    ensures cores { OnOk result (HaveCores test.now found.new.snapshots.keys) }
+    ensures linked { OnOk result (AreLinked depth test.now found.new.snapshots.keys found.new.links.items) }
+    ensures visited { OnOk result ((s : Snapshot) → slice_get found.old.snapshots.keys from ≡ Some s
+        → AreVisited depth test.now found.new.snapshots.keys (state_of s) core) }
 {
     let step = Choice::Step(Core(core));
-    visit(alloc, snapshots, links, test, depth, from, step)?;
+    visit(alloc, found, test, depth, from, step)?;
     let drain = Choice::Drain(Core(core));
-    visit(alloc, snapshots, links, test, depth, from, drain)
+    visit(alloc, found, test, depth, from, drain)
 }
 
 /// Makes every choice in one of the snapshots.
@@ -90,32 +95,24 @@ fn visit_core(
 /// Errors: out of memory only.
 pub fn expand(
     alloc: Global,
-    snapshots: &mut IndexSet<Snapshot>,
-    links: &mut Vec<Link>,
+    found: &mut Found,
     test: &Test,
     depth: u8,
     from: usize,
 ) -> Result<(), NoMemory>
-    requires from { from < length snapshots.old.keys }
-    requires cores { HaveCores test.now snapshots.old.keys }
-    requires linked { AreLinked depth test.now snapshots.old.keys links.old.items }
-    ensures grows { OnOk result (Grows snapshots.old.keys snapshots.new.keys) }
-    ensures cores { OnOk result (HaveCores test.now snapshots.new.keys) }
-    ensures linked { OnOk result (AreLinked depth test.now snapshots.new.keys links.new.items) }
-    ensures expanded { OnOk result ((s : Snapshot) → slice_get snapshots.old.keys from ≡ Some s
-        → IsExpanded depth test.now (map state_of snapshots.new.keys) (state_of s)) }
+    requires from { from < length found.old.snapshots.keys }
+    requires cores { HaveCores test.now found.old.snapshots.keys }
+    requires linked { AreLinked depth test.now found.old.snapshots.keys found.old.links.items }
+    ensures grows { OnOk result (Grows found.old.snapshots.keys found.new.snapshots.keys) }
+    ensures cores { OnOk result (HaveCores test.now found.new.snapshots.keys) }
+    ensures linked { OnOk result (AreLinked depth test.now found.new.snapshots.keys found.new.links.items) }
+    ensures expanded { OnOk result ((s : Snapshot) → slice_get found.old.snapshots.keys from ≡ Some s
+        → IsExpanded depth test.now (map state_of found.new.snapshots.keys) (state_of s)) }
 {
     for core in 0..test.cores() {
-        visit_core(alloc, snapshots, links, test, depth, from, core)?;
+        visit_core(alloc, found, test, depth, from, core)?;
     }
     Ok(())
-}
-
-/// All that a search found: each snapshot once, and how each was reached.
-#[derive(Drop)]
-pub struct Found {
-    pub snapshots: IndexSet<Snapshot>,
-    pub links: Vec<Link>,
 }
 
 /// What a search begins with: where the choices that need not wait lead from the first state.
@@ -153,14 +150,7 @@ pub fn search(alloc: Global, test: &Test, depth: u8, limit: usize) -> Result<Fou
         if at >= found.snapshots.len() {
             break;
         }
-        expand(
-            alloc,
-            &mut found.snapshots,
-            &mut found.links,
-            test,
-            depth,
-            at,
-        )?;
+        expand(alloc, &mut found, test, depth, at)?;
         if found.snapshots.len() > limit {
             return Err(ExploreFault::TooMany);
         }

@@ -2,10 +2,12 @@
 
 use crate::orders::names_no_location;
 use crate::unended::{count_instructions, count_plain_stores, has_no_choices};
+use crate::unused::unused_location;
 use litmus_reader::Fault;
 use order_builder::OrderFault;
 use scheduler::ChoiceFault;
-use tso_model::Test;
+use std::alloc::Global;
+use tso_model::{NoMemory, Test};
 
 /// What a command reads after the dividing line.
 #[derive(Clone, Copy)]
@@ -19,7 +21,7 @@ pub enum Asked {
 }
 
 /// What an answer knew of which a hint can be made: what was at fault in an input, and where it stands
-/// there; or why a run or a search didn't end.
+/// there; why a run or a search didn't end; or what may mislead in an answer.
 #[derive(Clone, Copy)]
 pub enum Cause {
     /// Nothing.
@@ -56,9 +58,22 @@ pub enum Cause {
         steps: usize,
         drains: usize,
     },
-    /// A run of a sweep didn't end, whose seeds make so many choices.
+    /// A run of a sweep didn't end, whose seeds make so many choices. Whether none ended.
     ShortSeeds {
         length: u32,
+        none_ended: bool,
+    },
+    /// A sweep says that the condition's proposition was never true; it saw so many runs, all of which
+    /// ended, on a machine of this depth.
+    NeverSeen {
+        runs: u32,
+        depth: u8,
+    },
+    /// The condition names a location that no program uses and no initial state sets: its name there is
+    /// so many bytes of the input, after so many others.
+    UnusedLocation {
+        first: usize,
+        length: usize,
     },
     /// A search may keep no more than so many states.
     TooManyStates {
@@ -74,6 +89,24 @@ impl Cause {
             unknown_location: names_no_location(test, text, fault),
             fault,
         }
+    }
+
+    /// That the condition of a test, which this text spells, names a location that no program uses and no
+    /// initial state sets; of more than one the first. `None` where there is none.
+    ///
+    /// Errors: out of memory only.
+    pub fn of_unused_location(
+        alloc: Global,
+        test: &Test,
+        text: &[u8],
+    ) -> Result<Option<Cause>, NoMemory> {
+        Ok(match unused_location(alloc, test, text)? {
+            Some(named) => Some(Cause::UnusedLocation {
+                first: named.first,
+                length: named.length,
+            }),
+            None => None,
+        })
     }
 
     /// That the choices of this text end before the test, on a machine with store buffers or without.

@@ -1,4 +1,4 @@
-//! The hint of an input that was refused, and of a run or a search that didn't end.
+//! The hint of an input that was refused, of a run or a search that didn't end, and of what may mislead.
 
 ghost use Rattle.std.specs.Prelude.{◌≡◌, IfOk, string_bytes};
 ghost use Rattle.hints.specs.Hint.{IsHint};
@@ -10,7 +10,8 @@ use crate::orders::order_words;
 use crate::place::Place;
 use crate::printing::{Where, hint};
 use crate::quotes::{first_bytes, last_bytes};
-use crate::unended::{choices_end, no_choices, search_ends, sweep_ends};
+use crate::unended::{choices_end, never_seen, no_choices, search_ends, sweep_ends};
+use crate::unused::{NamedAt, unused};
 use crate::words::{Piece, Words, around, plain};
 use litmus_reader::Why;
 use std::alloc::Global;
@@ -56,7 +57,11 @@ fn words_of<'a>(
         } => order_words(unknown_location, last_bytes(input, length), fault),
         Cause::NoChoices => Ok((Where::Input, no_choices())),
         Cause::TooFewChoices { steps, drains } => Ok((Where::Input, choices_end(steps, drains))),
-        Cause::ShortSeeds { length } => Ok((Where::Input, sweep_ends(length))),
+        Cause::ShortSeeds { length, none_ended } => {
+            Ok((Where::Input, sweep_ends(length, none_ended)))
+        }
+        Cause::NeverSeen { runs, depth } => Ok((Where::Input, never_seen(runs, depth))),
+        Cause::UnusedLocation { first, length } => Ok(unused(input, NamedAt { first, length })),
         Cause::TooManyStates { most } => Ok((Where::Input, search_ends(most))),
     }
 }

@@ -1,9 +1,11 @@
-//! Hints: one line that says what was expected where an input was refused, or where a run didn't end.
+//! Hints: one line that says what was expected where an input was refused, where a run didn't end, or
+//! what may mislead in an answer.
 //!
 //! A hint is made of what is known at the fault: its place, the name of the refusal, and the bytes that
 //! stand there. What is promised of it is its form; which words it has is held by tests.
 #![tactic(auto)]
 
+mod body;
 mod cause;
 mod cells;
 mod choices;
@@ -21,6 +23,7 @@ mod printing;
 mod quotes;
 mod rows;
 mod unended;
+mod unused;
 mod words;
 
 pub use cause::{Asked, Cause};

@@ -40,7 +40,7 @@ fn asks_for_help(words: &[&str]) -> bool {
 fn is_command(word: &str) -> bool {
     matches!(
         word,
-        "run" | "sweep" | "outcomes" | "check" | "witness" | "tables"
+        "run" | "trace" | "sweep" | "outcomes" | "check" | "witness" | "tables"
     )
 }
 
@@ -121,11 +121,11 @@ fn name_of(word: &str) -> &[u8] {
 /// The commands that have an option.
 fn owners_of(name: &[u8]) -> Option<&'static str> {
     if is_one_of(name, &["--protocol"]) {
-        Some("run, sweep and tables")
+        Some("run, trace, sweep and tables")
     } else if is_one_of(name, &["--depth"]) {
-        Some("run, sweep, outcomes and witness")
+        Some("run, trace, sweep, outcomes and witness")
     } else if is_one_of(name, &["--sets", "--ways", "--words", "--bus"]) {
-        Some("run and sweep")
+        Some("run, trace and sweep")
     } else if is_one_of(name, &["--from", "--seeds", "--length"]) {
         Some("sweep")
     } else if is_one_of(name, &["--states"]) {
@@ -140,36 +140,29 @@ fn owners_of(name: &[u8]) -> Option<&'static str> {
 /// Whether a command has an option.
 fn has_option(command: &str, name: &[u8]) -> bool {
     match command {
-        "run" => is_one_of(
-            name,
-            &[
-                "--protocol",
-                "--depth",
-                "--sets",
-                "--ways",
-                "--words",
-                "--bus",
-                "--json",
-            ],
-        ),
-        "sweep" => {
-            is_one_of(
-                name,
-                &[
-                    "--protocol",
-                    "--depth",
-                    "--sets",
-                    "--ways",
-                    "--words",
-                    "--bus",
-                ],
-            ) || is_one_of(name, &["--from", "--seeds", "--length"])
-        }
+        "run" => is_machine_option(name) || is_one_of(name, &["--json"]),
+        "trace" => is_machine_option(name),
+        "sweep" => is_machine_option(name) || is_one_of(name, &["--from", "--seeds", "--length"]),
         "outcomes" => is_one_of(name, &["--depth", "--states", "--json"]),
         "witness" => is_one_of(name, &["--depth"]),
         "tables" => is_one_of(name, &["--protocol"]),
         _ => false,
     }
+}
+
+/// Whether an option is one that a machine is built by.
+fn is_machine_option(name: &[u8]) -> bool {
+    is_one_of(
+        name,
+        &[
+            "--protocol",
+            "--depth",
+            "--sets",
+            "--ways",
+            "--words",
+            "--bus",
+        ],
+    )
 }
 
 fn is_one_of(name: &[u8], names: &[&str]) -> bool {

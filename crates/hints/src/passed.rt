@@ -1,7 +1,8 @@
-//! Which limit a place of a test passes: of locations, of instructions or of atoms.
+//! Which limit a place of a test passes: of cores, of locations, of instructions or of atoms.
 
+use crate::body::{body_of, ending_of, is_name};
 use crate::place::Place;
-use litmus_tokens::{Lexeme, Symbol, Token, is_symbol, tokens_of};
+use litmus_tokens::{Symbol, Token, is_symbol, tokens_of};
 use std::alloc::Global;
 use tso_model::NoMemory;
 use tso_model::limits::{MAX_ATOMS, MAX_INSTRUCTIONS};
@@ -9,6 +10,8 @@ use tso_model::limits::{MAX_ATOMS, MAX_INSTRUCTIONS};
 /// A limit of which a test may have one thing too many.
 #[derive(Clone, Copy)]
 pub enum Limit {
+    /// Of the cores of a test.
+    Cores,
     /// Of the locations of a test.
     Locations,
     /// Of the instructions of a core.
@@ -17,91 +20,71 @@ pub enum Limit {
     Atoms,
 }
 
-/// The limit that what stands at a place passes, by what stands between the initial state and there.
+/// The limit that what stands at a place passes, by what stands before it from the initial state on.
 ///
 /// Errors: out of memory only.
 pub fn limit_at(alloc: Global, place: Place<'_>) -> Result<Limit, NoMemory> {
-    let tokens = tokens_of(alloc, after_initial_state(place.before))?;
-    let counted = count(&tokens.items);
-    Ok(if counted.in_condition {
-        if counted.atoms >= MAX_ATOMS {
-            Limit::Atoms
-        } else {
-            Limit::Locations
-        }
-    } else if cells_above(&tokens.items, counted.bars) >= MAX_INSTRUCTIONS {
-        Limit::Instructions
+    let body = body_of(place.before);
+    let tokens = tokens_of(alloc, body)?;
+    let ending = tokens_of(alloc, ending_of(body, &tokens))?;
+    Ok(if !ending.items.is_empty() {
+        limit_in_condition(&ending.items)
     } else {
-        Limit::Locations
+        match after_initial_state(&tokens.items) {
+            Some(rows) => limit_in_rows(rows),
+            None => Limit::Locations,
+        }
     })
 }
 
-/// What stands after the last `}`, or nothing where there is none.
-fn after_initial_state(text: &[u8]) -> &[u8] {
-    let after = text.iter().rev().take_while(|byte| **byte != b'}').count();
-    if after >= text.len() {
-        return &[];
-    }
-    let (_, rest) = text.split_at(text.len() - after);
-    rest
+/// What stands behind the `}` of the initial state.
+fn after_initial_state<'a, 'b>(tokens: &'b [Token<'a>]) -> Option<&'b [Token<'a>]> {
+    let end = tokens
+        .iter()
+        .position(|token| is_symbol(Symbol::CloseCurly, token))?;
+    let (_, rest) = tokens.split_at(end.saturating_add(1).min(tokens.len()));
+    Some(rest)
 }
 
-/// What stands before a place: whether it is in the condition, how many atoms are before it there, and
-/// how many `|` in its row.
-#[derive(Clone, Copy)]
-struct Counted {
-    in_condition: bool,
-    atoms: usize,
-    bars: usize,
-}
-
-fn count(tokens: &[Token<'_>]) -> Counted {
-    let mut counted = Counted {
-        in_condition: false,
-        atoms: 0,
-        bars: 0,
-    };
-    for token in tokens {
-        counted = with_token(counted, token);
-    }
-    counted
-}
-
-fn with_token(counted: Counted, token: &Token<'_>) -> Counted {
-    if is_symbol(Symbol::Semicolon, token) {
-        Counted { bars: 0, ..counted }
-    } else if is_symbol(Symbol::Bar, token) {
-        Counted {
-            bars: counted.bars.saturating_add(1),
-            ..counted
-        }
-    } else if is_symbol(Symbol::Equals, token) || is_constant(token) {
-        Counted {
-            atoms: counted.atoms.saturating_add(1),
-            ..counted
-        }
-    } else if is_quantifier(token) {
-        Counted {
-            in_condition: true,
-            ..counted
-        }
+fn limit_in_condition(tokens: &[Token<'_>]) -> Limit {
+    let atoms = tokens.iter().filter(|token| is_of_atom(token)).count();
+    if atoms >= MAX_ATOMS {
+        Limit::Atoms
     } else {
-        counted
+        Limit::Locations
     }
 }
 
-fn is_constant(token: &Token<'_>) -> bool {
-    match token.lexeme {
-        Lexeme::Name(name) => name == b"true".as_slice() || name == b"false".as_slice(),
-        _ => false,
+/// Whether an atom has one such token.
+fn is_of_atom(token: &Token<'_>) -> bool {
+    is_symbol(Symbol::Equals, token) || is_name(token, b"true") || is_name(token, b"false")
+}
+
+/// The limit that what stands behind these tokens of rows passes; the first row is that of the cores.
+fn limit_in_rows(tokens: &[Token<'_>]) -> Limit {
+    if !tokens
+        .iter()
+        .any(|token| is_symbol(Symbol::Semicolon, token))
+    {
+        Limit::Cores
+    } else if cells_above(tokens, bars_at_end(tokens)) >= MAX_INSTRUCTIONS {
+        Limit::Instructions
+    } else {
+        Limit::Locations
     }
 }
 
-fn is_quantifier(token: &Token<'_>) -> bool {
-    match token.lexeme {
-        Lexeme::Name(name) => name == b"exists".as_slice() || name == b"forall".as_slice(),
-        _ => false,
+/// How many `|` stand in the last row, which doesn't end.
+fn bars_at_end(tokens: &[Token<'_>]) -> usize {
+    let mut bars = 0usize;
+    for token in tokens {
+        if is_symbol(Symbol::Semicolon, token) {
+            bars = 0;
+        } else if is_symbol(Symbol::Bar, token) {
+            bars = bars.saturating_add(1);
+        }
     }
+    bars
 }
 
 /// How many cells of this column, from 0, have something in them in the rows that end; the first row is

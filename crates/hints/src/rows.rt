@@ -54,12 +54,13 @@ pub fn too_large<'a>(alloc: Global, place: Place<'a>) -> Result<Words<'a>, NoMem
             Piece::Number(MAX_TEST_NAME),
             " bytes",
         ))
-    } else if place.last_word() == b"|".as_slice() && token.starts_with(b"P") {
-        Ok(too_many_cores(token))
     } else if opens(token) {
         Ok(too_deep(token))
     } else {
-        Ok(one_too_many(item(place.rest), limit_at(alloc, place)?))
+        match limit_at(alloc, place)? {
+            Limit::Cores => Ok(too_many_cores(token)),
+            limit => Ok(one_too_many(item(place.rest), limit)),
+        }
     }
 }
 
@@ -85,7 +86,7 @@ fn too_deep<'a>(token: &'a [u8]) -> Words<'a> {
 
 fn one_too_many<'a>(item: &'a [u8], limit: Limit) -> Words<'a> {
     let (whose, number, of_what) = match limit {
-        Limit::Locations => (
+        Limit::Cores | Limit::Locations => (
             " is one too many: a test has at most ",
             MAX_LOCATIONS,
             " locations",

@@ -1,16 +1,49 @@
-//! What is said of a run or a search that didn't end.
+//! What is said of a run or a search that didn't end, and of a sweep that saw too little.
 
 use crate::orders::first_word;
-use crate::words::{Piece, Words, around, plain, six};
+use crate::words::{Piece, Words, around, eight, plain, six};
 use tso_model::{Core, Instr, Test};
 
-/// Of a sweep whose seeds make so many choices.
-pub fn sweep_ends<'a>(length: u32) -> Words<'a> {
-    around(
-        "some runs didn't end: raise --length, which is ",
-        Piece::Number(length as usize),
-        "",
-    )
+/// As many seeds as a sweep may have.
+const MOST_SEEDS: u32 = 1000;
+
+/// Of a sweep whose seeds make so many choices: not all of its runs ended, or none.
+pub fn sweep_ends<'a>(length: u32, none_ended: bool) -> Words<'a> {
+    let opening = if none_ended {
+        "no run ended, so nothing was seen: raise --length, which is "
+    } else {
+        "some runs didn't end: raise --length, which is "
+    };
+    around(opening, Piece::Number(length as usize), "")
+}
+
+/// Of a sweep of so many runs at this depth, in none of which the condition's proposition was true.
+pub fn never_seen<'a>(runs: u32, depth: u8) -> Words<'a> {
+    eight([
+        Piece::Text("Never is said of "),
+        Piece::Number(runs as usize),
+        unit_of_runs(runs),
+        more_seeds(runs),
+        Piece::Text(" outcomes --depth "),
+        Piece::Number(usize::from(depth)),
+        Piece::Text(" decides"),
+        Piece::Text(""),
+    ])
+}
+
+fn unit_of_runs<'a>(runs: u32) -> Piece<'a> {
+    match runs {
+        1 => Piece::Text(" run only:"),
+        _ => Piece::Text(" runs only:"),
+    }
+}
+
+fn more_seeds<'a>(runs: u32) -> Piece<'a> {
+    if runs < MOST_SEEDS {
+        Piece::Text(" more seeds (--seeds 1000) take milliseconds, and")
+    } else {
+        Piece::Text("")
+    }
 }
 
 /// Of a search that may keep no more than so many states.

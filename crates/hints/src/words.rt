@@ -55,8 +55,12 @@ pub fn listed<'a>(
 /// Six pieces.
 pub fn six<'a>(pieces: [Piece<'a>; 6]) -> Words<'a> {
     let nothing = Piece::Text(NOTHING);
-    let pieces = [
+    eight([
         pieces[0], pieces[1], pieces[2], pieces[3], pieces[4], pieces[5], nothing, nothing,
-    ];
+    ])
+}
+
+/// Eight pieces, as many as there may be.
+pub fn eight<'a>(pieces: [Piece<'a>; 8]) -> Words<'a> {
     Words { pieces }
 }

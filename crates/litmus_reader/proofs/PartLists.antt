@@ -5,7 +5,7 @@ use Rattle.std.proofs.Math.Seq.{take-suc}
 use denote.Ref.{Bor}
 use Rattle.tso_model.specs.declared.instruction.Instr.{Instr}
 use Rattle.litmus_reader.specs.declared.cell.CoreInstr.{CoreInstr}
-use Rattle.litmus_reader.specs.inner.Locations.{texts}
+use Rattle.litmus_reader.specs.Locations.{texts}
 use Rattle.litmus_reader.specs.inner.Reading.{program_of, programs_from}
 
 programs_from-suc : (core n : ℕ) (instrs : List CoreInstr) → programs_from core (suc n) instrs ≡ programs_from core n instrs ++ program_of instrs (core + n) ∷ []

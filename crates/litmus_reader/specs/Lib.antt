@@ -24,3 +24,5 @@ pub mod RefusedEnding
 pub mod Refusals
 pub mod Spelling
 pub mod inner
+pub mod Locations
+pub mod Returned

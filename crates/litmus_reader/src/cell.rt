@@ -4,7 +4,7 @@ ghost use Rattle.std.specs.Prelude.{◌≡◌, ◌<◌, ◌∷◌, length, posit
 ghost use Rattle.litmus_tokens.specs.inner.Pieces.{piece_of, pieces};
 ghost use Rattle.litmus_tokens.specs.Front as front;
 ghost use Rattle.litmus_reader.specs.inner.Returned.{GivesNamed, GivesCells};
-ghost use Rattle.litmus_reader.specs.inner.Locations.{texts};
+ghost use Rattle.litmus_reader.specs.Locations.{texts};
 ghost use Rattle.litmus_reader.specs.inner.Forms.{shape_of};
 ghost use Rattle.litmus_reader.specs.inner.Cells as spec;
 ghost use Rattle.litmus_reader.specs.inner.Cells.{cells_after};

@@ -3,12 +3,11 @@
 ghost use Rattle.std.specs.Prelude.{◌≡◌, ◌≤◌, ◌<◌, ◌+◌, length, codes, Some, None, Ok, IfOk, IfSome};
 ghost use Rattle.std.specs.Option.{option_map};
 ghost use Rattle.tso_model.specs.Limits.{most_cores};
-ghost use Rattle.tso_model.specs.Condition.{NotClaim};
-ghost use Rattle.tso_model.specs.inner.Condition.{claim_of, condition_of};
+ghost use Rattle.tso_model.specs.Condition.{NotClaim, claim_of, condition_of};
 ghost use Rattle.litmus_tokens.specs.inner.Pieces.{pieces};
 ghost use Rattle.litmus_reader.specs.inner.Faults.{Gives};
 ghost use Rattle.litmus_tokens.specs.inner.Mapped.{mapped};
-ghost use Rattle.litmus_reader.specs.inner.Locations.{texts};
+ghost use Rattle.litmus_reader.specs.Locations.{texts};
 ghost use Rattle.litmus_reader.specs.inner.Items.{setting_of};
 ghost use Rattle.litmus_reader.specs.inner.Conditions as spec;
 ghost use Rattle.litmus_reader.specs.inner.Returned.{GivesNamed, GivesClaim, GivesCondition};
@@ -175,6 +174,13 @@ fn opens_unit(tokens: &[Token<'_>]) -> bool
     after_negation(tokens).is_some() || after_symbol(Symbol::OpenRound, tokens).is_some()
 }
 
+/// What stands around a condition: what the tokens after it end with, and the cores of its test.
+#[derive(Clone, Copy)]
+struct Surroundings {
+    stop: Stop,
+    cores: usize,
+}
+
 /// The unit at the front, in which so many negations and brackets may be open at once, and the
 /// tokens after it.
 ///
@@ -183,15 +189,14 @@ fn opens_unit(tokens: &[Token<'_>]) -> bool
 #[tactic(auto, using(crate::proofs::Units::unit_last, crate::proofs::Units::unit_next), unfolding(crate::specs::inner::Conditions::unit_by))]
 fn unit_at<'a, 'b>(
     alloc: Global,
-    stop: Stop,
-    cores: usize,
+    around: Surroundings,
     opens: usize,
     atoms: &mut usize,
     names: &mut IndexSet<&'a [u8]>,
     tokens: &'b [Token<'a>],
 ) -> Result<(Prop, &'b [Token<'a>]), ReadError>
-    requires { cores ≤ most_cores }
-    ensures value { GivesClaim (spec.unit_at stop cores opens) atoms.old names.old.keys tokens.now result atoms.new names.new.keys }
+    requires { around.cores ≤ most_cores }
+    ensures value { GivesClaim (spec.unit_at around.stop around.cores opens) atoms.old names.old.keys tokens.now result atoms.new names.new.keys }
     ensures shorter { IfOk result (λ x. length x.1.now < length tokens.now) }
 {
     if opens == 0 {
@@ -201,38 +206,37 @@ fn unit_at<'a, 'b>(
                 left: left_of(tokens),
             }));
         }
-        return atom_at(stop, cores, atoms, names, tokens);
+        return atom_at(around.stop, around.cores, atoms, names, tokens);
     }
     if let Some(rest) = after_negation(tokens) {
-        let (inner, rest) = unit_at(alloc, stop, cores, opens - 1, atoms, names, rest)?;
+        let (inner, rest) = unit_at(alloc, around, opens - 1, atoms, names, rest)?;
         return Ok((not(alloc, inner)?, rest));
     }
     if let Some(inside) = after_symbol(Symbol::OpenRound, tokens) {
-        let (prop, rest) = proposition_at(alloc, stop, cores, opens - 1, atoms, names, inside)?;
-        let rest = in_condition(stop).expect(rest, after_symbol(Symbol::CloseRound, rest))?;
+        let (prop, rest) = proposition_at(alloc, around, opens - 1, atoms, names, inside)?;
+        let rest = in_condition(around.stop).expect(rest, after_symbol(Symbol::CloseRound, rest))?;
         return Ok((prop, rest));
     }
-    atom_at(stop, cores, atoms, names, tokens)
+    atom_at(around.stop, around.cores, atoms, names, tokens)
 }
 
 /// Units joined by `/\`, and the tokens after them.
 #[cycle(condition)]
 fn conjunction_at<'a, 'b>(
     alloc: Global,
-    stop: Stop,
-    cores: usize,
+    around: Surroundings,
     opens: usize,
     atoms: &mut usize,
     names: &mut IndexSet<&'a [u8]>,
     tokens: &'b [Token<'a>],
 ) -> Result<(Prop, &'b [Token<'a>]), ReadError>
-    requires { cores ≤ most_cores }
-    ensures value { GivesClaim (spec.conjunction_at stop cores opens) atoms.old names.old.keys tokens.now result atoms.new names.new.keys }
+    requires { around.cores ≤ most_cores }
+    ensures value { GivesClaim (spec.conjunction_at around.stop around.cores opens) atoms.old names.old.keys tokens.now result atoms.new names.new.keys }
     ensures shorter { IfOk result (λ x. length x.1.now < length tokens.now) }
 {
-    let (mut prop, mut rest) = unit_at(alloc, stop, cores, opens, atoms, names, tokens)?;
+    let (mut prop, mut rest) = unit_at(alloc, around, opens, atoms, names, tokens)?;
     while let Some(next) = after_symbol(Symbol::And, rest) {
-        let (unit, after) = unit_at(alloc, stop, cores, opens, atoms, names, next)?;
+        let (unit, after) = unit_at(alloc, around, opens, atoms, names, next)?;
         prop = and(alloc, prop, unit)?;
         rest = after;
     }
@@ -243,20 +247,19 @@ fn conjunction_at<'a, 'b>(
 #[cycle(condition)]
 fn proposition_at<'a, 'b>(
     alloc: Global,
-    stop: Stop,
-    cores: usize,
+    around: Surroundings,
     opens: usize,
     atoms: &mut usize,
     names: &mut IndexSet<&'a [u8]>,
     tokens: &'b [Token<'a>],
 ) -> Result<(Prop, &'b [Token<'a>]), ReadError>
-    requires { cores ≤ most_cores }
-    ensures value { GivesClaim (spec.proposition_at stop cores opens) atoms.old names.old.keys tokens.now result atoms.new names.new.keys }
+    requires { around.cores ≤ most_cores }
+    ensures value { GivesClaim (spec.proposition_at around.stop around.cores opens) atoms.old names.old.keys tokens.now result atoms.new names.new.keys }
     ensures shorter { IfOk result (λ x. length x.1.now < length tokens.now) }
 {
-    let (mut prop, mut rest) = conjunction_at(alloc, stop, cores, opens, atoms, names, tokens)?;
+    let (mut prop, mut rest) = conjunction_at(alloc, around, opens, atoms, names, tokens)?;
     while let Some(next) = after_symbol(Symbol::Or, rest) {
-        let (conjunction, after) = conjunction_at(alloc, stop, cores, opens, atoms, names, next)?;
+        let (conjunction, after) = conjunction_at(alloc, around, opens, atoms, names, next)?;
         prop = or(alloc, prop, conjunction)?;
         rest = after;
     }
@@ -277,7 +280,8 @@ fn quantified<'a, 'b>(
     ensures { GivesCondition result names.new.keys (spec.quantified stop cores quantifier (texts names.old.keys) (pieces tokens.now)) }
 {
     let mut atoms = 0;
-    let (prop, rest) = proposition_at(alloc, stop, cores, MAX_OPEN, &mut atoms, names, tokens)?;
+    let around = Surroundings { stop, cores };
+    let (prop, rest) = proposition_at(alloc, around, MAX_OPEN, &mut atoms, names, tokens)?;
     Ok((Some(Cond { quantifier, prop }), rest))
 }
 

@@ -26,6 +26,8 @@ mod row;
 mod test_parts;
 
 pub use fault::{Fault, ReadError, TextFault, Why};
+pub use header::header_at;
+pub use information::braces_at;
 pub use laws::texts_are_decided;
 pub use limits::{MAX_OPEN, MAX_TEST_NAME, MAX_TEXT, limits_are_as_defined};
 pub use reader::{read_test, refusal_for, test_or_fault};

@@ -3,7 +3,7 @@
 ghost use Rattle.std.specs.Prelude.{◌≡◌, OnOk};
 ghost use Rattle.litmus_reader.specs.inner.Faults.{Gives};
 ghost use Rattle.litmus_reader.specs.inner.Locations as spec;
-ghost use Rattle.litmus_reader.specs.inner.Locations.{texts};
+ghost use Rattle.litmus_reader.specs.Locations.{texts};
 ghost use Rattle.litmus_reader.specs.GrammarNames as grammar;
 
 use crate::fault::{Fault, ReadError, Why};

@@ -8,12 +8,12 @@ ghost use Rattle.tso_model.specs.Litmus.{Litmus, IsTest};
 ghost use Rattle.litmus_reader.specs.declared.fault.Fault.{Fault};
 ghost use Rattle.litmus_reader.specs.declared.fault.TextFault.{TextFault};
 ghost use Rattle.litmus_reader.specs.Refusals.{IsFault};
-ghost use Rattle.tso_model.specs.inner.Condition.{condition_of};
-ghost use Rattle.tso_model.specs.inner.LitmusParts.{litmus_of};
+ghost use Rattle.tso_model.specs.Condition.{condition_of};
+ghost use Rattle.tso_model.specs.LitmusParts.{litmus_of};
 ghost use Rattle.litmus_tokens.specs.inner.Pieces.{pieces};
 ghost use Rattle.litmus_reader.specs.inner.Faults.{Gives};
 ghost use Rattle.litmus_tokens.specs.inner.Mapped.{mapped};
-ghost use Rattle.litmus_reader.specs.inner.Locations.{texts};
+ghost use Rattle.litmus_reader.specs.Locations.{texts};
 ghost use Rattle.litmus_reader.specs.inner.Reading as spec;
 ghost use Rattle.litmus_reader.specs.Reading.{refusal};
 ghost use Rattle.litmus_reader.specs.inner.Remaining.{HasTokens};
@@ -116,15 +116,7 @@ fn body_of<'a>(
     let (initial, rest) = read_initial(alloc, stop, &mut names, tokens)?;
     let (table, rest) = read_table(alloc, stop, &initial.registers, &mut names, rest)?;
     let cond = tail_at(alloc, text, stop, table.cores, &mut names, rest)?;
-    let parts = parts_of(
-        alloc,
-        name,
-        names.as_slice(),
-        initial.words,
-        table.registers,
-        &table.instrs,
-        cond,
-    )?;
+    let parts = parts_of(alloc, name, names.as_slice(), initial.words, table, cond)?;
     Ok(parts)
 }
 

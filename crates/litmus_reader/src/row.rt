@@ -5,7 +5,7 @@ ghost use Rattle.tso_model.specs.Limits.{most_cores};
 ghost use Rattle.litmus_tokens.specs.inner.Pieces.{pieces};
 ghost use Rattle.litmus_tokens.specs.inner.Terms.{term_of};
 ghost use Rattle.litmus_tokens.specs.inner.Mapped.{mapped};
-ghost use Rattle.litmus_reader.specs.inner.Locations.{texts};
+ghost use Rattle.litmus_reader.specs.Locations.{texts};
 ghost use Rattle.litmus_reader.specs.inner.Initial.{given_of};
 ghost use Rattle.litmus_reader.specs.inner.Rows as spec;
 ghost use Rattle.litmus_reader.specs.inner.Returned.{GivesCells, GivesTable};

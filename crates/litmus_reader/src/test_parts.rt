@@ -3,12 +3,13 @@
 ghost use Rattle.std.specs.Prelude.{◌≡◌, IfOk, All, map, replicate, string_bytes};
 ghost use Rattle.std.specs.Str.{IsUtf8};
 ghost use Rattle.tso_model.specs.Names as names;
-ghost use Rattle.litmus_reader.specs.inner.Locations.{texts};
+ghost use Rattle.litmus_reader.specs.Locations.{texts};
 ghost use Rattle.litmus_reader.specs.inner.Initial as initial;
 ghost use Rattle.litmus_reader.specs.inner.Reading as spec;
-ghost use Rattle.litmus_reader.specs.inner.Returned.{AreParts, asked_of};
+ghost use Rattle.litmus_reader.specs.Returned.{AreParts, asked_of};
 
 use crate::cell::CoreInstr;
+use crate::row::Table;
 use std::alloc::{AllocError, Global};
 use tso_model::{Cond, Instr, NoMemory, TestParts};
 
@@ -80,21 +81,20 @@ pub fn parts_of(
     name: &[u8],
     names: &[&[u8]],
     words: Vec<u32>,
-    registers: Vec<[u32; 6]>,
-    instrs: &[CoreInstr],
+    table: Table,
     cond: Option<Cond>,
 ) -> Result<TestParts, NoMemory>
     requires name { IsUtf8 name.now }
     requires names { All (λ name. IsUtf8 name) (texts names.now) }
-    ensures { AreParts result (spec.test_of name.now (texts names.now) words.items registers.items instrs.now (asked_of cond)) }
+    ensures { AreParts result (spec.test_of name.now (texts names.now) words.items table.registers.items table.instrs.items (asked_of cond)) }
 {
-    let cores = registers.len();
+    let cores = table.registers.len();
     Ok(TestParts {
         name: string_of(alloc, name)?,
         locations: strings_of(alloc, names)?,
         words: words_of(alloc, words, names.len())?,
-        registers,
-        programs: programs_of(alloc, instrs, cores)?,
+        programs: programs_of(alloc, &table.instrs, cores)?,
+        registers: table.registers,
         cond,
     })
 }

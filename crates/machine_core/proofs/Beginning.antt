@@ -1,8 +1,7 @@
 -- The parts of a machine that goes back to the beginning of its test.
-use Rattle.std.proofs.Common.{◌≡◌, ◌+◌, ℕ, zero, suc, List, [], ◌∷◌, length, slice_index_or, map, replicate, All, refl, sym, ap, ◌∙◌, subst, arith}
+use Rattle.std.proofs.Common.{◌≡◌, ◌+◌, ℕ, zero, suc, List, [], ◌∷◌, Option, None, length, slice_index_or, map, replicate, All, refl, sym, ap, ◌∙◌, subst, arith}
 use Rattle.tso_model.specs.Litmus.{Litmus}
 use Rattle.tso_model.specs.FlatMachine.{started, start}
-use Rattle.tso_model.specs.SplitMachine.{Free}
 use Rattle.tso_model.specs.EitherBus.{unheld}
 use Rattle.tso_model.specs.declared.bus.Bus as kind
 use Rattle.tso_model.specs.declared.instruction.Instr.{Instr}
@@ -11,7 +10,9 @@ use Rattle.store_buffer.specs.inner.Stores.{stores}
 use Rattle.snoop_bus.specs.Rows.{table_of_rows}
 use Rattle.snoop_bus.specs.Bus.{Bus, cores_of}
 use Rattle.snoop_bus.specs.Accesses.{new_bus}
+use Rattle.snoop_bus.specs.declared.holding.Holder as bus_holder
 use Rattle.machine_core.proofs.Overwriting.{written}
+use Rattle.machine_core.specs.declared.holding.Next.{Next}
 use Rattle.machine_core.specs.declared.processor.Processor.{Processor}
 use Rattle.machine_core.specs.Cores.{core_states, core_state, state_of}
 use Rattle.machine_core.specs.inner.Cores.{at_start}
@@ -21,6 +22,7 @@ use Rattle.machine_core.specs.Caches.{caches_of}
 use Rattle.machine_core.specs.declared.machine_parts.MachineParts.{MachineParts}
 use Rattle.machine_core.specs.Kept.{IsCore, state_in}
 use Rattle.machine_core.proofs.CoreLemmas.{IsCore-new}
+use Rattle.machine_core.proofs.Splitting.{held-with}
 
 -- a core that has gone back, with its first registers
 abbrev pub begun : List (List ℕ) → ℕ → Processor → Processor
@@ -46,9 +48,9 @@ pub all-none : (cs : List Counts) → map (λ _. no_counts) cs ≡ replicate (le
 all-none [] = refl
 all-none (c ∷ cs) = ap (λ ns. no_counts ∷ ns) (all-none cs)
 
-pub begun-state : (ps : List Processor) (words : List ℕ) (t : Litmus) → core_states 0 ps ≡ started 0 t.programs t.registers → words ≡ t.words
-    → record { flat = state_of ps words; holder = Free } ≡ unheld (start t)
-begun-state ps words t cores memory = rw (cores, memory) refl
+pub begun-state : (ps : List Processor) (words : List ℕ) (t : Litmus) (next : Next) (h : Option bus_holder.Holder) → core_states 0 ps ≡ started 0 t.programs t.registers → words ≡ t.words
+    → h ≡ None → record { flat = state_of ps words; holder = held-with next h } ≡ unheld (start t)
+begun-state ps words t next h cores memory free = rw (cores, memory, free) refl
 
 pub begun-statistics : (old new : Bus) (init : List ℕ) (counts : List Counts) (t : Litmus) (n : ℕ) → new ≡ new_bus (table_of_rows old.rows) (cores_of old) old.shape init → cores_of old ≡ length t.programs
     → init ≡ t.words → counts ≡ replicate n no_counts → n ≡ length t.programs

@@ -17,13 +17,13 @@ use Rattle.machine_core.specs.declared.cache_use.CacheUse.TheVariants.{Unused}
 use Rattle.machine_core.specs.declared.machine_parts.MachineParts.{MachineParts}
 use Rattle.machine_core.specs.inner.Cores.{pending_in, drain_by}
 use Rattle.machine_core.specs.Caches.{caches_of, at_access, not_through, completion_by, is_awaited, used_between}
-use Rattle.machine_core.specs.Kept.{IsHeldAs, held_as, held_for, core_in, state_in}
+use Rattle.machine_core.specs.Kept.{IsHeldForAccess, held_as, held_for, core_in, state_in}
 use Rattle.machine_core.specs.Split.{completes_in, use_by}
 use Rattle.machine_core.proofs.Accessing.{commits-at-once}
 use Rattle.machine_core.proofs.Performing.{access_of-drain, effect_in-drain}
 
 -- the holder's access
-pub held-asked : {P : Type 0} (t : Litmus) (m : MachineParts P) (choice : Choice) → IsHeldAs t m → (state_in m).holder ≡ HeldBy choice
+pub held-asked : {P : Type 0} (t : Litmus) (m : MachineParts P) (choice : Choice) → IsHeldForAccess t m → (state_in m).holder ≡ HeldBy choice
     → holder_of m.bus ≡ held_for (core_in choice) (access_of t m.config.depth (state_in m).flat choice)
 held-asked t m choice held asked = held ∙ ap (held_as t m.config.depth (state_in m).flat) asked
 

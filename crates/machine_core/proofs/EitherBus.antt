@@ -11,7 +11,7 @@ use Rattle.tso_model.specs.declared.choice.Choice.{Choice}
 use Rattle.split_laws.specs.Holders.{HolderFits}
 use Rattle.snoop_bus.specs.Bus.{holder_of}
 use Rattle.machine_core.specs.declared.machine_parts.MachineParts.{MachineParts}
-use Rattle.machine_core.specs.Kept.{IsHeldAs, held_as, state_in}
+use Rattle.machine_core.specs.Kept.{IsHeldForAccess, held_as, state_in}
 use Rattle.machine_core.specs.Performed.{Answer}
 use Rattle.machine_core.specs.inner.Performed.{MayActIn, attempt_in, effect_in}
 use Rattle.machine_core.specs.inner.Split.{split_effect_in}
@@ -28,7 +28,7 @@ free-holder Split t depth state holder h fits = absurd (let z : ⊥ = cc in z)
 pub is-free : {P : Type 0} (t : Litmus) (m : MachineParts P) → m.config.bus ≡ Atomic → HolderFits m.config.bus t m.config.depth (state_in m).flat (state_in m).holder → (state_in m).holder ≡ Free
 is-free t m h fits = free-holder m.config.bus t m.config.depth (state_in m).flat (state_in m).holder h fits
 
-pub may-act-free : {P : Type 0} (t : Litmus) (m : MachineParts P) (choice : Choice) → IsHeldAs t m → (state_in m).holder ≡ Free → MayActIn t m choice
+pub may-act-free : {P : Type 0} (t : Litmus) (m : MachineParts P) (choice : Choice) → IsHeldForAccess t m → (state_in m).holder ≡ Free → MayActIn t m choice
 may-act-free t m choice held free = inl (held ∙ ap (held_as t m.config.depth (state_in m).flat) free)
 
 pub effect-atomic : {P : Type 0} (t : Litmus) (m : MachineParts P) (choice : Choice) → m.config.bus ≡ Atomic → effect_in t m choice ≡ whole_effect_in t m choice
@@ -40,8 +40,8 @@ effect-split t m choice h = ap (λ b. effect_on b t m.config.depth (state_in m) 
 pub fits-free : (t : Litmus) (depth : ℕ) (state : State) (a : Attempt) (holder : Holder) → holder ≡ Free → HitFits t depth state a holder
 fits-free t depth state a holder free = rw free tt
 
-pub held-free : {P : Type 0} (r : Result Answer NoMemory) (t : Litmus) (m new : MachineParts P) (choice : Choice) → IsHeldAs t m → (state_in m).holder ≡ Free
-    → holder_of new.bus ≡ holder_of m.bus → IfOk r (HasMade t m new choice (whole_effect_in t m choice)) → OnErr r (IsUndone m new) → IsHeldAs t new
+pub held-free : {P : Type 0} (r : Result Answer NoMemory) (t : Litmus) (m new : MachineParts P) (choice : Choice) → IsHeldForAccess t m → (state_in m).holder ≡ Free
+    → holder_of new.bus ≡ holder_of m.bus → IfOk r (HasMade t m new choice (whole_effect_in t m choice)) → OnErr r (IsUndone m new) → IsHeldForAccess t new
 held-free (Ok x) t m new choice held free same done err =
     same ∙ held ∙ ap (held_as t m.config.depth (state_in m).flat) free ∙ sym (ap (held_as t new.config.depth (state_in new).flat) (done.ok.holder ∙ free))
 held-free (Err x) t m new choice held free same done err =

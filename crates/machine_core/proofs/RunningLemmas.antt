@@ -9,7 +9,7 @@ use Rattle.tso_model.specs.declared.out_of_memory.NoMemory.{NoMemory}
 use Rattle.split_laws.specs.BusChoices.{IsPossibleOn}
 use Rattle.machine_core.specs.declared.machine_parts.MachineParts.{MachineParts}
 use Rattle.snoop_bus.specs.Bus.{IsFree}
-use Rattle.machine_core.specs.Kept.{IsHeldAs, held_as, state_in}
+use Rattle.machine_core.specs.Kept.{IsHeldForAccess, held_as, state_in}
 use Rattle.machine_core.specs.Performed.{Answer, Performs}
 use Rattle.machine_core.specs.inner.Performed.{attempt_in, effect_in}
 use Rattle.tso_model.specs.declared.bus.Bus.{Bus}
@@ -65,5 +65,5 @@ pub has-ended : (failed ended : Bool) → IsTrue (not failed && ended) → ended
 has-ended false ended h = h
 has-ended true ended h = absurd (let z : ⊥ = cc in z)
 
-pub free-bus : {P : Type 0} (t : Litmus) (m : MachineParts P) → IsHeldAs t m → (state_in m).holder ≡ Free → IsFree m.bus
+pub free-bus : {P : Type 0} (t : Litmus) (m : MachineParts P) → IsHeldForAccess t m → (state_in m).holder ≡ Free → IsFree m.bus
 free-bus t m held free = held ∙ ap (held_as t m.config.depth (state_in m).flat) free

@@ -1,5 +1,5 @@
 -- A choice on a split bus that isn't the holder's next one.
-use Rattle.std.proofs.Common.{◌≡◌, ◌≢◌, ℕ, ◌++◌, Bool, true, false, List, [], Option, Some, Result, Ok, Err, IfOk, OnErr, inr, length, slice_set, append-nil, refl, sym, ap, ◌∙◌, subst}
+use Rattle.std.proofs.Common.{◌≡◌, ◌≢◌, ℕ, ◌++◌, Bool, true, false, List, [], Option, None, Some, option_map, Result, Ok, Err, IfOk, OnErr, inr, length, slice_set, append-nil, refl, sym, ap, ◌∙◌, subst}
 use Rattle.std.proofs.lemmas.List.{set-get_or}
 use Rattle.tso_model.specs.Litmus.{Litmus}
 use Rattle.tso_model.specs.FlatMachine.{CoreState, State, Effect, stalled, after_choice, chosen, core_of, idle}
@@ -22,9 +22,11 @@ use Rattle.snoop_bus.specs.Held as bus
 use Rattle.snoop_bus.specs.declared.holding.Holder as bus_holder
 use Rattle.snoop_bus.specs.declared.holding.Stage.TheVariants.{Locked}
 use Rattle.machine_core.specs.declared.cache_use.CacheUse.TheVariants.{Unused}
+use Rattle.machine_core.specs.declared.holding.Next.{Next}
+use Rattle.machine_core.specs.declared.holding.Next.TheVariants.{Complete, Write}
 use Rattle.machine_core.specs.declared.machine_parts.MachineParts.{MachineParts}
 use Rattle.machine_core.specs.Caches.{Caches, Used, caches_of, at_access, ask_by, not_through, hits_by, is_awaited, used_between, use_of}
-use Rattle.machine_core.specs.Kept.{PartsFitTest, IsHeldAs, held_as, held_for, core_in, state_in}
+use Rattle.machine_core.specs.Kept.{PartsFitTest, IsHeldForAccess, held_as, held_for, core_in, holder_by, state_in}
 use Rattle.machine_core.specs.Performed.{Answer, HasUsed, Performs}
 use Rattle.machine_core.specs.inner.Performed.{MayAct, attempt_in, flat_effect_in}
 use Rattle.machine_core.specs.Split.{use_by}
@@ -74,12 +76,12 @@ held-kept t depth state choice Free other fits waits = refl
 held-kept t depth state choice (HeldBy asked) other fits waits = ap (held_for (core_in asked)) (waits asked choice fits other)
 held-kept t depth state choice (HeldBetween e) other fits waits = refl
 
-pub held-next : {P : Type 0} (r : Result Answer NoMemory) (t : Litmus) (m new : MachineParts P) (choice : Choice) → IsHeldAs t m → IsOther (state_in m).holder choice
+pub held-next : {P : Type 0} (r : Result Answer NoMemory) (t : Litmus) (m new : MachineParts P) (choice : Choice) → IsHeldForAccess t m → IsOther (state_in m).holder choice
     → HolderFits Split t m.config.depth (state_in m).flat (state_in m).holder
     → ((a b : Choice) → access_of t m.config.depth (state_in m).flat a ≢ NoAccess → same_choice a b ≡ false
     → access_of t m.config.depth (after_choice t m.config.depth (state_in m).flat b) a ≡ access_of t m.config.depth (state_in m).flat a)
     → new.config ≡ m.config → holder_of new.bus ≡ holder_of m.bus → IfOk r (HasMade t m new choice (whole_effect_in t m choice))
-    → OnErr r (IsUndone m new) → IsHeldAs t new
+    → OnErr r (IsUndone m new) → IsHeldForAccess t new
 held-next (Ok x) t m new choice held other fits waits config same done err =
     let flat : (state_in new).flat ≡ after_choice t m.config.depth (state_in m).flat choice = done.ok.flat in
     same ∙ held ∙ sym (held-kept t m.config.depth (state_in m).flat choice (state_in m).holder other fits waits)
@@ -153,7 +155,7 @@ pub may-act : {P : Type 0} (t : Litmus) (m : MachineParts P) (choice : Choice) �
     → MayAct m.bus (chosen choice) (access_of t m.config.depth (state_in m).flat choice)
 may-act t m choice h = inr h
 
-pub fits-by : {P : Type 0} (t : Litmus) (m : MachineParts P) (choice : Choice) (core : ℕ) (access : Access) → IsHeldAs t m → core ≡ chosen choice → access ≡ access_of t m.config.depth (state_in m).flat choice
+pub fits-by : {P : Type 0} (t : Litmus) (m : MachineParts P) (choice : Choice) (core : ℕ) (access : Access) → IsHeldForAccess t m → core ≡ chosen choice → access ≡ access_of t m.config.depth (state_in m).flat choice
     → ((e : Entry) (loc : Loc) → holder_of m.bus ≡ Some (bus.holder e.core e.loc Locked) → access ≡ Writes loc → hits_by (caches_of m.bus) core access ≡ true → core ≢ e.core.0 → loc.0 ≢ e.loc.0)
     → HitFits t m.config.depth (state_in m).flat (attempt_in t m choice) (state_in m).holder
 fits-by t m choice core access held i a taken =
@@ -161,11 +163,24 @@ fits-by t m choice core access held i a taken =
     (λ e loc h w hit other. taken e loc h (a ∙ w)
     (ap (λ k. hits_by (caches_of m.bus) k access) i ∙ ap (λ x. hits_by (caches_of m.bus) (chosen choice) x) a ∙ hit) (λ q. other (sym i ∙ q)))
 
-pub asks-held : (s : CoreState) (choice asked : Choice) (holder : Holder) → holder ≡ HeldBy asked → asks s choice holder ≡ acts (stalled stall.Bus s) holder
-asks-held s choice asked holder h = rw h refl
+pub asks-taken : (s : CoreState) (choice : Choice) (next : Next) (holder : Holder) → holder ≡ holder_by (Some next) → asks s choice holder ≡ acts (stalled stall.Bus s) holder
+asks-taken s choice (Complete asked) holder h = rw h refl
+asks-taken s choice (Write e) holder h = rw h refl
 
-pub asks-between : (s : CoreState) (choice : Choice) (e : Entry) (holder : Holder) → holder ≡ HeldBetween e → asks s choice holder ≡ acts (stalled stall.Bus s) holder
-asks-between s choice e holder h = rw h refl
+-- who holds the machine's bus, by the caches' bus and what its holder goes on with
+abbrev pub held-with : Next → Option bus_holder.Holder → Holder
+held-with next h = holder_by (option_map (λ x. next) h)
+
+-- an access that needs the bus holds it once it was asked for
+pub asks-hold : (core : Core) (access : Access) (hit : Bool) (choice : Choice) → needs_bus access hit ≡ true → held-with (Complete choice) (held_for core access) ≡ HeldBy choice
+asks-hold core NoAccess hit choice needs = absurd (let z : ⊥ = cc in z)
+asks-hold core (Reads loc) hit choice needs = refl
+asks-hold core (Writes loc) hit choice needs = refl
+asks-hold core (Locks loc) hit choice needs = refl
+
+-- a bus that nobody holds is held for no access
+pub held-freed : (t : Litmus) (depth : ℕ) (state : State) (next : Next) (h : Option bus_holder.Holder) → h ≡ None → h ≡ held_as t depth state (held-with next h)
+held-freed t depth state next h free = free ∙ sym (ap (λ k. held_as t depth state (held-with next k)) free)
 
 -- who holds the caches' bus once it was asked for
 pub held-ask : (t : Litmus) (depth : ℕ) (old new : State) (choice : Choice) (core : Core) (access : Access) (b : Option bus_holder.Holder) → core ≡ core_in choice

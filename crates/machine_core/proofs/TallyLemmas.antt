@@ -74,9 +74,9 @@ started-issued core [] registers k d l = absurd (omega arith)
 started-issued core (p ∷ ps) registers zero d l = record { place = omega arith; pending = omega arith }
 started-issued core (p ∷ ps) registers (suc k) d l = started-issued (core + 1) ps registers k d (omega arith)
 
-pub tallied-first : (t : Litmus) (state : BusState) (s : Statistics) → IsTest t → state.flat.cores ≡ started 0 t.programs t.registers → state.holder ≡ Free
+pub tallied-first : (t : Litmus) (state : BusState) (s : Statistics) → IsTest t → state.flat.cores ≡ started 0 t.programs t.registers
     → s.counts ≡ replicate (length t.programs) no_counts → s.caches.awaited ≡ None → IsTallied t state s
-tallied-first t state s test first free none waits = record {
+tallied-first t state s test first none waits = record {
   test = test;
   cores = ap length none ∙ length-replicate (length t.programs) no_counts;
   issued = subst (All IsIssued) (sym first) (started-issued 0 t.programs t.registers);

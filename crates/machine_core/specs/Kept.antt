@@ -1,5 +1,5 @@
 -- What the parts of a machine keep from choice to choice.
-use Rattle.std.specs.Prelude.{ℕ, ◌≡◌, ◌≤◌, length, All, Option, None, Some}
+use Rattle.std.specs.Prelude.{ℕ, ◌≡◌, ◌≤◌, length, All, Option, None, Some, option_map}
 use Rattle.tso_model.specs.Litmus.{Litmus}
 use Rattle.tso_model.specs.FlatMachine.{State}
 use Rattle.tso_model.specs.Access.{Access, access_of}
@@ -13,12 +13,12 @@ use Rattle.snoop_bus.specs.declared.holding.Stage.TheVariants.{Locked}
 use Rattle.machine_core.specs.declared.processor.Processor.{Processor}
 use Rattle.machine_core.specs.declared.machine_parts.MachineParts.{MachineParts}
 use Rattle.machine_core.specs.declared.counts.Counts.{Counts}
-use Rattle.machine_core.specs.declared.holding.Holding.{Holding}
+use Rattle.machine_core.specs.declared.holding.Next.{Next}
+use Rattle.machine_core.specs.declared.holding.Next.TheVariants.{Complete, Write}
 use Rattle.machine_core.specs.Cores.{AreKnown, state_of}
 use Rattle.machine_core.specs.Caches.{at_access}
 use Rattle.snoop_bus.specs.Held as bus
 use Rattle.snoop_bus.specs.declared.holding.Holder as bus_holder
-use Rattle.machine_core.specs.declared.holding.Holding.TheVariants as holding
 
 -- a core's buffer has this depth, 0 where there is none, and holds stores to one of so many locations
 pub record IsCore (depth locations : ℕ) (p : Processor) : Type 0 where
@@ -41,15 +41,19 @@ pub record PartsFitTest {P : Type 0} (t : Litmus) (m : MachineParts P) : Type 0 
   pub words : length (words_of m.bus) ≡ length t.locations
   pub each : All (IsCore m.config.depth (length (words_of m.bus))) m.processors.items
 
--- who holds the bus, and the access that a choice makes, as the definitions have them
-abbrev pub holder_in : Holding → Holder
-holder_in holding.Free = Free
-holder_in (holding.Asked choice) = HeldBy choice
-holder_in (holding.Between e) = HeldBetween e
+-- what the action that holds the caches' bus goes on with, if one does
+abbrev pub next_in : {P : Type 0} → MachineParts P → Option Next
+next_in m = option_map (λ h. m.next) (holder_of m.bus)
+
+-- who holds the bus, by what the holder goes on with
+abbrev pub holder_by : Option Next → Holder
+holder_by None = Free
+holder_by (Some (Complete choice)) = HeldBy choice
+holder_by (Some (Write e)) = HeldBetween e
 
 -- the machine's state: its memory has the words that a program sees
 abbrev pub state_in : {P : Type 0} → MachineParts P → BusState
-state_in m = record { flat = state_of m.processors.items (words_of m.bus); holder = holder_in m.holding }
+state_in m = record { flat = state_of m.processors.items (words_of m.bus); holder = holder_by (next_in m) }
 
 -- the core that a choice names
 abbrev pub core_in : Choice → Core
@@ -66,6 +70,6 @@ held_as t depth state Free = None
 held_as t depth state (HeldBy choice) = held_for (core_in choice) (access_of t depth state choice)
 held_as t depth state (HeldBetween e) = Some (bus.holder e.core e.loc Locked)
 
--- the caches' bus is held by the machine's holder
-abbrev pub IsHeldAs : {P : Type 0} → Litmus → MachineParts P → Type 0
-IsHeldAs t m = holder_of m.bus ≡ held_as t m.config.depth (state_in m).flat (state_in m).holder
+-- the caches' bus is held for the access that its holder goes on with
+abbrev pub IsHeldForAccess : {P : Type 0} → Litmus → MachineParts P → Type 0
+IsHeldForAccess t m = holder_of m.bus ≡ held_as t m.config.depth (state_in m).flat (state_in m).holder

@@ -10,6 +10,7 @@ pub mod Split
 pub mod Made
 pub mod WorkedCounts
 pub mod inner
+pub mod Looked
 pub use Rattle.tso_model.specs.FlatMachine
 pub use Rattle.tso_model.specs.Runs
 pub use Rattle.tso_model.specs.Access

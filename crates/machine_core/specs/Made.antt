@@ -8,20 +8,20 @@ use Rattle.split_laws.specs.Holders.{HolderFits}
 use Rattle.snoop_bus.specs.Bus.{Bus}
 use Rattle.snoop_bus.specs.Held.{holder}
 use Rattle.machine_core.specs.declared.machine_parts.MachineParts.{MachineParts}
-use Rattle.machine_core.specs.Kept.{PartsFitTest, IsHeldAs, state_in}
+use Rattle.machine_core.specs.Kept.{PartsFitTest, IsHeldForAccess, state_in}
 use Rattle.machine_core.specs.Performed.{Answer, HasUsed, Performs}
 use Rattle.machine_core.specs.Split.{use_by}
 use Rattle.tso_model.specs.declared.bus.Bus as kind
 
--- the parts are of this test, and the caches' bus is held by what holds the machine's
+-- the parts are of this test, and the caches' bus is held for the access that its holder goes on with
 pub record AreOfTest {P : Type 0} (t : Litmus) (m : MachineParts P) : Type 0 where
   pub fits : PartsFitTest t m
-  pub held : IsHeldAs t m
+  pub held : IsHeldForAccess t m
 
 -- the same, and what holds the machine's bus is something that may hold one of this kind
 pub record AreConsistent {P : Type 0} (on : kind.Bus) (t : Litmus) (m : MachineParts P) : Type 0 where
   pub fits : PartsFitTest t m
-  pub held : IsHeldAs t m
+  pub held : IsHeldForAccess t m
   pub holder : HolderFits on t m.config.depth (state_in m).flat (state_in m).holder
 
 -- a choice had this effect, and used the caches as a choice with this effect does

@@ -1,15 +1,18 @@
 -- What a contract sees of a machine, and how a choice changes it. (This project's profile; what a choice does is the
 -- machine's on either bus.)
-use Rattle.std.specs.Prelude.{ℕ, Bool, false, List, []}
+use Rattle.std.specs.Prelude.{ℕ, Bool, false, List, [], ◌++◌}
 use Rattle.tso_model.specs.Litmus.{Litmus}
 use Rattle.tso_model.specs.FlatMachine.{start}
-use Rattle.tso_model.specs.EitherBus.{BusState, unheld}
+use Rattle.tso_model.specs.EitherBus.{BusState, unheld, effect_on}
 use Rattle.tso_model.specs.declared.bus.Bus.{Bus}
 use Rattle.tso_model.specs.declared.execution.Entry.{Entry}
 use Rattle.protocol_tables.specs.Tables.{Table}
 use Rattle.snoop_bus.specs.Rows.{table_of_rows}
 use Rattle.machine_core.specs.Configuration.{Configuration}
-use Rattle.machine_core.specs.Statistics.{Statistics, no_statistics}
+use Rattle.machine_core.specs.Statistics.{Statistics, no_statistics, statistics_after}
+use Rattle.tso_model.specs.SplitMachine.{Attempt, BusEffect}
+use Rattle.tso_model.specs.declared.choice.Choice.{Choice}
+use Rattle.machine_core.specs.Caches.{Used, attempt_of, use_on, state_after_on}
 
 -- a machine: its test, the kind of its bus, the depth of its store buffers, the flat machine's state with who holds the bus,
 -- the entries committed so far, the statistics so far, and whether memory was refused to it
@@ -44,3 +47,28 @@ configuration_of m = record { depth = m.depth; shape = m.statistics.caches.shape
 -- the machine at the beginning of its test: a new one of the same protocol and configuration
 abbrev pub restarted : Running → Running
 restarted m = new_machine (table_in m) (configuration_of m) m.test
+
+-- a choice on a machine, with its caches' answer whether the choice's access hits
+abbrev pub attempt_on : Running → Choice → Attempt
+attempt_on m choice = attempt_of m.test m.depth m.state.flat m.statistics.caches choice
+
+-- what a choice does to a machine
+abbrev pub effect_by : Running → Choice → BusEffect
+effect_by m choice = effect_on m.bus m.test m.depth m.state (attempt_on m choice)
+
+-- what a choice has to do with the caches of a machine
+abbrev pub use_by : Running → Choice → Used
+use_by m choice = use_on m.bus m.test m.depth m.state choice m.statistics.caches
+
+-- the machine after a choice: the next state on its bus, what the choice commits after the earlier commits, and what it had
+-- to do with the caches counted
+abbrev pub machine_after : Running → Choice → Running
+machine_after m choice = record {
+  test = m.test;
+  bus = m.bus;
+  depth = m.depth;
+  state = state_after_on m.bus m.test m.depth m.state m.statistics.caches choice;
+  commits = m.commits ++ (effect_by m choice).effect.commits;
+  statistics = statistics_after m.bus m.test m.depth m.state choice m.statistics;
+  failed = m.failed;
+}

@@ -20,7 +20,7 @@ ghost use Rattle.machine_core.specs.inner.Made.{AnswerFitsIn, LeavesLocked};
 
 use crate::cache_use::CacheUse;
 use crate::completing::{complete, write_last};
-use crate::holding::Holding;
+use crate::holding::{Next, next_of};
 use crate::machine_parts::{MachineParts, act, core_of, instruction_at};
 use crate::memory_access::MemoryAccess;
 use crate::processor::Processor;
@@ -45,16 +45,16 @@ pub fn act_on_split<P: Protocol>(
     ensures keeps { KeepsParts parts.old parts.new }
     ensures of_test { AreOfTest test.now parts.new }
 {
-    match parts.holding {
-        Holding::Free => begin(parts, test, choice),
-        Holding::Asked(asked) => {
+    match next_of(parts) {
+        None => begin(parts, test, choice),
+        Some(Next::Complete(asked)) => {
             if is_same(asked, choice) {
                 complete(parts, test, choice)
             } else {
                 begin(parts, test, choice)
             }
         }
-        Holding::Between(read) => {
+        Some(Next::Write(read)) => {
             if is_same(Choice::Step(read.core), choice) {
                 write_last(parts, test, read)
             } else {
@@ -93,14 +93,13 @@ fn begin<P: Protocol>(
     if !needs_bus(&parts.bus, core, access) {
         return act(parts, test, choice);
     }
-    match parts.holding {
-        Holding::Free => {
+    match next_of(parts) {
+        None => {
             ask(&mut parts.bus, core, access);
-            parts.holding = Holding::Asked(choice);
+            parts.next = Next::Complete(choice);
             Ok((Outcome::Asked, CacheUse::Unused))
         }
-        Holding::Asked(_) => Ok((Outcome::Stalled(Stall::Bus), CacheUse::Unused)),
-        Holding::Between(_) => Ok((Outcome::Stalled(Stall::Bus), CacheUse::Unused)),
+        Some(_) => Ok((Outcome::Stalled(Stall::Bus), CacheUse::Unused)),
     }
 }
 

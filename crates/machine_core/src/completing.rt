@@ -24,8 +24,9 @@ ghost use Rattle.machine_core.specs.inner.Split.{writes_last_in, IsLock, WritesA
 ghost use Rattle.machine_core.specs.Made.{AreConsistent, AreOfTest, HasMade, Makes, IsUndone, KeepsParts};
 
 use crate::cache_use::CacheUse;
-use crate::holding::Holding;
+use crate::holding::Next;
 use crate::machine_parts::{MachineParts, instruction_at};
+use crate::noting::entry;
 use crate::processor::{Processor, advance};
 use order_builder::Commits;
 use protocol_tables::Protocol;
@@ -85,7 +86,6 @@ fn complete_step<P: Protocol>(
                 &mut parts.bus,
                 &mut parts.commits,
             )?;
-            parts.holding = Holding::Free;
             Ok((Outcome::Committed, CacheUse::Through(access)))
         }
         Action::Load(reg, loc) => {
@@ -97,13 +97,12 @@ fn complete_step<P: Protocol>(
                 &mut parts.bus,
                 &mut parts.commits,
             )?;
-            parts.holding = Holding::Free;
             Ok((Outcome::Committed, CacheUse::Through(access)))
         }
         Action::Lock(loc, _, _) => {
             let place = processor.place;
             let (entry, access) = read_first(core, place, loc, &mut parts.bus, &mut parts.commits)?;
-            parts.holding = Holding::Between(entry);
+            parts.next = Next::Write(entry);
             Ok((Outcome::Committed, CacheUse::Through(access)))
         }
         Action::Move(..) | Action::Fence => unreachable!(),
@@ -128,7 +127,6 @@ fn complete_drain<P: Protocol>(
 {
     let processor = &mut parts.processors[core.0 as usize];
     let access = store_oldest(processor, core, &mut parts.bus, &mut parts.commits)?;
-    parts.holding = Holding::Free;
     Ok((Outcome::Committed, CacheUse::Through(access)))
 }
 
@@ -154,13 +152,7 @@ fn load<P: Protocol>(
 {
     commits.make_room(1)?;
     let (value, access) = bus.complete_load(core, loc)?;
-    commits.note(Entry {
-        core,
-        place: processor.place,
-        kind: Kind::R,
-        loc,
-        value,
-    })?;
+    commits.note(entry(core, processor.place, Kind::R, loc, value))?;
     advance(processor, reg, value);
     Ok(access)
 }
@@ -236,13 +228,7 @@ fn write<P: Protocol>(
 {
     commits.make_room(1)?;
     let access = bus.complete_store(core, loc, value)?;
-    commits.note(Entry {
-        core,
-        place,
-        kind: Kind::W,
-        loc,
-        value,
-    })?;
+    commits.note(entry(core, place, Kind::W, loc, value))?;
     Ok(access)
 }
 
@@ -268,15 +254,9 @@ fn read_first<P: Protocol>(
 {
     commits.make_room(1)?;
     let (value, access) = bus.complete_read(core, loc)?;
-    let entry = Entry {
-        core,
-        place,
-        kind: Kind::LR,
-        loc,
-        value,
-    };
-    commits.note(entry)?;
-    Ok((entry, access))
+    let read = entry(core, place, Kind::LR, loc, value);
+    commits.note(read)?;
+    Ok((read, access))
 }
 
 /// A locked instruction with this load part commits its store part, and frees the bus.
@@ -301,16 +281,11 @@ pub fn write_last<P: Protocol>(
     let processor = &mut parts.processors[core.0 as usize];
     let instr = instruction_at(test.program(core), processor.place).unwrap();
     let (reg, value) = written(processor, instr.action(), read.value);
-    parts.commits.note(Entry {
-        core,
-        place: read.place,
-        kind: Kind::LW,
-        loc: read.loc,
-        value,
-    })?;
+    parts
+        .commits
+        .note(entry(core, read.place, Kind::LW, read.loc, value))?;
     parts.bus.complete_write(core, read.loc, value);
     advance(processor, reg, read.value);
-    parts.holding = Holding::Free;
     Ok((Outcome::Committed, CacheUse::Unused))
 }
 

@@ -1,7 +1,7 @@
 //! How a machine is built.
 
 ghost use Rattle.std.specs.Prelude.{◌≡◌, ◌≤◌, ◌↔◌, IsSome, IfSome};
-ghost use Rattle.snoop_bus.specs.Geometry.{IsLineSize};
+ghost use Rattle.snoop_bus.specs.Geometry.{IsLineSize, IsShapeWithinLimits};
 ghost use Rattle.tso_model.specs.Limits.{most_depth};
 ghost use Rattle.machine_core.specs.Configuration.{IsConfigurationWithinLimits};
 
@@ -39,8 +39,7 @@ impl Config {
         ensures value { IfSome result (λ c. c ≡ record { depth = depth; shape = shape; bus = bus }) }
         ensures valid { IsSome result ↔ (depth ≤ most_depth) }
     {
-        // What a shape keeps is known from its readers.
-        let _known = (shape.sets(), shape.ways(), shape.words());
+        know_shape(shape);
         if depth <= MAX_DEPTH {
             Some(Config { depth, shape, bus })
         } else {
@@ -93,4 +92,11 @@ impl Config {
     {
         self.shape.words()
     }
+}
+
+/// A shape is within its limits: so much is known of it from this call on, which has no effect.
+fn know_shape(shape: Shape)
+    ensures { IsShapeWithinLimits shape }
+{
+    let _limits = (shape.sets(), shape.ways(), shape.words());
 }

@@ -18,6 +18,7 @@ pub mod looking;
 pub mod machine;
 mod machine_parts;
 pub mod memory_access;
+mod noting;
 mod pending_stores;
 mod processor;
 mod restarting;

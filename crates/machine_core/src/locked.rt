@@ -8,28 +8,35 @@ ghost use Rattle.machine_core.specs.inner.Performed.{MayAccess};
 ghost use Rattle.machine_core.specs.inner.Acted.{Acts, SucceedsUnlessCommitting, AreUnchanged, KeepsBus};
 
 use crate::cache_use::CacheUse;
+use crate::noting::entry;
 use crate::processor::{Processor, advance};
 use order_builder::Commits;
 use protocol_tables::Protocol;
 use snoop_bus::SnoopBus;
-use tso_model::{Action, Core, Entry, Kind, Loc, NoMemory, Outcome, Reg, Stall, Update};
+use tso_model::{Core, Kind, Loc, NoMemory, Outcome, Reg, Stall, Update};
+
+/// A locked instruction: the location that it reads and writes, its register, and what it makes of the word.
+#[derive(Clone, Copy)]
+pub struct Locked {
+    pub loc: Loc,
+    pub reg: Reg,
+    pub update: Update,
+}
 
 /// A locked instruction waits until nothing is buffered. Then it reads the word into the register and
 /// writes what the update makes of the word and the register's value, both at once.
 pub fn read_and_write<P: Protocol>(
     processor: &mut Processor,
     core: Core,
-    reg: Reg,
-    loc: Loc,
-    update: Update,
+    locked: Locked,
     bus: &mut SnoopBus<P>,
     commits: &mut Commits,
 ) -> Result<(Outcome, CacheUse), NoMemory>
     requires place { processor.old.place < most_instructions }
-    requires access { MayAccess bus.old core.0 loc (locked_access loc (pending_in core.0 processor.old)) }
+    requires access { MayAccess bus.old core.0 locked.loc (locked_access locked.loc (pending_in core.0 processor.old)) }
 
-    ensures acts { IfOk result (Acts (lock_by loc reg update) core.0 processor.old processor.new bus.old bus.new commits.old commits.new) }
-    ensures succeeds { SucceedsUnlessCommitting result (lock_by loc reg update core.0 processor.old (words_of bus.old)) }
+    ensures acts { IfOk result (Acts (lock_by locked.loc locked.reg locked.update) core.0 processor.old processor.new bus.old bus.new commits.old commits.new) }
+    ensures succeeds { SucceedsUnlessCommitting result (lock_by locked.loc locked.reg locked.update core.0 processor.old (words_of bus.old)) }
     ensures err { OnErr result (AreUnchanged processor.old processor.new bus.old bus.new commits.old commits.new) }
     ensures keeps { KeepsBus bus.old bus.new }
     ensures stores { processor.new.stores ≡ processor.old.stores }
@@ -37,6 +44,7 @@ pub fn read_and_write<P: Protocol>(
     if !processor.stores.is_empty() {
         return Ok((Outcome::Stalled(Stall::Lock), CacheUse::Unused));
     }
+    let Locked { loc, reg, update } = locked;
     let value = processor.register(reg);
     commits.make_room(2)?;
     let updated = bus.update(core, loc, update, value)?;
@@ -66,18 +74,6 @@ fn note_locked(
     ensures ok { OnOk result (commits.new.entries ≡ commits.old.entries ++ both_parts core.0 place loc word value) }
     ensures succeeds { 2 ≤ commits.old.room → IsOk result }
 {
-    commits.note(Entry {
-        core,
-        place,
-        kind: Kind::LR,
-        loc,
-        value: word,
-    })?;
-    commits.note(Entry {
-        core,
-        place,
-        kind: Kind::LW,
-        loc,
-        value,
-    })
+    commits.note(entry(core, place, Kind::LR, loc, word))?;
+    commits.note(entry(core, place, Kind::LW, loc, value))
 }

@@ -1,11 +1,11 @@
 //! A machine between two choices, for one who only looks. No call changes anything or takes memory.
-ghost use Rattle.std.specs.Prelude.{◌≡◌, IfSome, is_some, length, nat_lt, option_copied, option_map, slice_get};
+ghost use Rattle.std.specs.Prelude.{◌≡◌, option_copied, option_map, slice_get};
 ghost use Rattle.tso_model.specs.Thread.{value_in};
 ghost use Rattle.machine_core.specs.Cores.{core_state};
-ghost use Rattle.machine_core.specs.inner.Looked.{core_at, pending_at, cached_line, IsWordWhereClean, bus_holder_of};
+ghost use Rattle.machine_core.specs.inner.Looked.{core_at, pending_at, cached_line};
+ghost use Rattle.machine_core.specs.Looked.{bus_holder_of};
 
-use crate::counts::Counts;
-use crate::holding::Holding;
+use crate::holding::Next;
 use crate::machine::Machine;
 use crate::processor::Processor;
 use protocol_tables::{Protocol, Transient};
@@ -78,31 +78,11 @@ impl<'a, P: Protocol> Machine<'a, P> {
         }
     }
 
-    /// Memory's own word at a location, which may be stale where a cache has a dirty copy, or an action holds
-    /// the bus; else it is the word that a program sees. `None` where the test has no such location.
-    pub fn memory_word(&self, loc: Loc) -> Option<u32>
-        ensures exists { is_some result ≡ nat_lt loc.0 (length self.now.test.locations) }
-        ensures clean { IfSome result (IsWordWhereClean self.now loc.0) }
-    {
-        if loc.0 < self.test.locations() {
-            Some(self.parts.bus.memory_word(loc))
-        } else {
-            None
-        }
-    }
-
     /// The entries committed so far, in the order of their commits.
     pub fn committed(&self) -> &[Entry]
         ensures { result.now ≡ self.now.commits }
     {
         self.parts.commits.entries()
-    }
-
-    /// What the accesses of a core's cache were so far. `None` where the test has no such core.
-    pub fn counts(&self, core: Core) -> Option<Counts>
-        ensures { result ≡ slice_get self.now.statistics.counts core.0 }
-    {
-        self.parts.counts.get(usize::from(core.0)).copied()
     }
 
     /// The line of this rank in a set of a core's cache, where rank 0 is the most recently used. `None` where
@@ -117,10 +97,9 @@ impl<'a, P: Protocol> Machine<'a, P> {
     pub fn bus_holder(&self) -> Option<BusHolder>
         ensures { result ≡ bus_holder_of self.now }
     {
-        let choice = match self.parts.holding {
-            Holding::Free => return None,
-            Holding::Asked(choice) => choice,
-            Holding::Between(read) => Choice::Step(read.core),
+        let choice = match self.parts.next {
+            Next::Complete(choice) => choice,
+            Next::Write(read) => Choice::Step(read.core),
         };
         let holder = self.parts.bus.who_holds()?;
         Some(BusHolder {

@@ -3,8 +3,8 @@
 ghost use Rattle.std.specs.Prelude.{◌≡◌, ◌≢◌, ◌<◌, true, false, IsTrue, IsOk, IsErr, IfOk, OnOk, OnErr, length, map};
 ghost use Rattle.tso_model.specs.FlatMachine.{chosen};
 ghost use Rattle.tso_model.specs.Together.{put_together};
-ghost use Rattle.machine_core.specs.Running.{new_machine, restarted};
-ghost use Rattle.machine_core.specs.inner.Running.{effect_by, use_by, machine_after, is_ended};
+ghost use Rattle.machine_core.specs.Running.{new_machine, restarted, effect_by, use_by, machine_after};
+ghost use Rattle.machine_core.specs.inner.Running.{is_ended};
 ghost use Rattle.machine_core.specs.inner.Running.{AnswerFits, IsAloneBetween, HasFailed};
 
 use crate::cache_use::CacheUse;

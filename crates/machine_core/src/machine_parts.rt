@@ -8,7 +8,7 @@ ghost use Rattle.snoop_bus.specs.Bus.{words_of, holder_of};
 ghost use Rattle.snoop_bus.specs.inner.Accesses.{memory_words_of};
 ghost use Rattle.machine_core.specs.Cores.{core_states};
 ghost use Rattle.machine_core.specs.Statistics.{no_counts, no_statistics};
-ghost use Rattle.machine_core.specs.Kept.{IsCore, PartsFitTest, IsHeldAs, core_in, state_in};
+ghost use Rattle.machine_core.specs.Kept.{IsCore, PartsFitTest, IsHeldForAccess, core_in, state_in};
 ghost use Rattle.machine_core.specs.inner.Kept.{IsTallied, statistics_in};
 ghost use Rattle.machine_core.specs.Performed.{Performs};
 ghost use Rattle.machine_core.specs.inner.Performed.{MayActIn, effect_in, flat_effect_in};
@@ -21,7 +21,7 @@ use crate::asking::act_on_split;
 use crate::cache_use::CacheUse;
 use crate::config::Config;
 use crate::counts::Counts;
-use crate::holding::Holding;
+use crate::holding::Next;
 use crate::pending_stores::PendingStores;
 use crate::processor::{Processor, drain as drain_core, step as step_core};
 use crate::tallying::tally;
@@ -31,14 +31,14 @@ use snoop_bus::SnoopBus;
 use std::alloc::Global;
 use tso_model::{Bus, Choice, Core, Instr, Loc, NoMemory, Outcome, Stall, Test};
 
-/// What a machine consists of: its cores, memory after their caches, who holds the bus, what was
+/// What a machine consists of: its cores, memory after their caches, what the action that holds the bus goes on with, what was
 /// committed and what was counted.
 #[derive(Drop)]
 pub struct MachineParts<P: Protocol> {
     pub config: Config,
     pub processors: Vec<Processor>,
     pub bus: SnoopBus<P>,
-    pub holding: Holding,
+    pub next: Next,
     pub commits: Commits,
     pub counts: Vec<Counts>,
 }
@@ -67,7 +67,8 @@ pub fn begin<P: Protocol>(
         config,
         processors,
         bus,
-        holding: Holding::Free,
+        // Nobody holds the bus, so that this says nothing.
+        next: Next::Complete(Choice::Step(Core(0))),
         commits: Commits::new(alloc),
         counts,
     })
@@ -137,7 +138,7 @@ pub fn perform<P: Protocol>(
 /// Between the two parts of a locked instruction its core has the line in M, and no other core has it: so much is
 /// known of the parts from this call on, which has no effect.
 pub fn line_is_alone<P: Protocol>(parts: &MachineParts<P>, test: &Test)
-    requires { IsHeldAs test.now parts.now }
+    requires { IsHeldForAccess test.now parts.now }
     ensures { IsAloneIn parts.now }
 {
     let _holder = parts.bus.who_holds();

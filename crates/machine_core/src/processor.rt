@@ -17,7 +17,8 @@ ghost use Rattle.machine_core.specs.Caches.{caches_of, load_after, write_by};
 ghost use Rattle.machine_core.specs.inner.Acted.{Acts, Waits, IsStored, SucceedsUnlessCommitting, AreUnchanged, KeepsBus};
 
 use crate::cache_use::CacheUse;
-use crate::locked::read_and_write;
+use crate::locked::{Locked, read_and_write};
+use crate::noting::entry;
 use crate::pending_stores::PendingStores;
 use order_builder::Commits;
 use protocol_tables::Protocol;
@@ -52,13 +53,7 @@ impl Processor {
         ensures { result ≡ slice_get (pending_in core.0 self.now) number }
     {
         let store = self.stores.get(number)?;
-        Some(Entry {
-            core,
-            place: store.place,
-            kind: Kind::W,
-            loc: store.loc,
-            value: store.value,
-        })
+        Some(entry(core, store.place, Kind::W, store.loc, store.value))
     }
 
     /// The core goes back before its first instruction, with these registers and nothing pending.
@@ -113,7 +108,8 @@ pub fn step<P: Protocol>(
         }
         Action::Fence => fence(processor, core, commits),
         Action::Lock(loc, reg, update) => {
-            read_and_write(processor, core, reg, loc, update, bus, commits)
+            let locked = Locked { loc, reg, update };
+            read_and_write(processor, core, locked, bus, commits)
         }
     }
 }
@@ -185,13 +181,7 @@ fn load<P: Protocol>(
 {
     commits.make_room(1)?;
     let (value, cache_use) = see(&processor.stores, core, loc, bus)?;
-    commits.note(Entry {
-        core,
-        place: processor.place,
-        kind: Kind::R,
-        loc,
-        value,
-    })?;
+    commits.note(entry(core, processor.place, Kind::R, loc, value))?;
     advance(processor, reg, value);
     Ok((Outcome::Committed, cache_use))
 }
@@ -246,13 +236,7 @@ fn fence(
     if !processor.stores.is_empty() {
         return Ok((Outcome::Stalled(Stall::Fence), CacheUse::Unused));
     }
-    commits.note(Entry {
-        core,
-        place: processor.place,
-        kind: Kind::F,
-        loc: Loc(0),
-        value: 0,
-    })?;
+    commits.note(entry(core, processor.place, Kind::F, Loc(0), 0))?;
     processor.place += 1;
     Ok((Outcome::Committed, CacheUse::Unused))
 }
@@ -319,12 +303,6 @@ fn write<P: Protocol>(
 {
     commits.make_room(1)?;
     let access = bus.store(core, loc, value)?;
-    commits.note(Entry {
-        core,
-        place,
-        kind: Kind::W,
-        loc,
-        value,
-    })?;
+    commits.note(entry(core, place, Kind::W, loc, value))?;
     Ok(access)
 }

@@ -10,7 +10,6 @@ ghost use Rattle.machine_core.specs.inner.Kept.{statistics_in};
 ghost use Rattle.machine_core.specs.inner.Made.{AreAtStart};
 
 use crate::counts::Counts;
-use crate::holding::Holding;
 use crate::machine_parts::MachineParts;
 use crate::processor::Processor;
 use protocol_tables::Protocol;
@@ -28,7 +27,6 @@ pub fn restart<P: Protocol>(parts: &mut MachineParts<P>, test: &Test)
 {
     restart_cores(&mut parts.processors, test);
     parts.bus.restart(test.initial_words());
-    parts.holding = Holding::Free;
     parts.commits.clear();
     count_nothing(&mut parts.counts);
 }

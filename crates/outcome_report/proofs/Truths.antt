@@ -6,8 +6,7 @@ use Rattle.std.specs.declared.alloc.Global.{Global}
 use Rattle.std.proofs.lemmas.List.Sums.{sum_by-cons}
 use Rattle.std.proofs.lemmas.List.Elements.{All-head, All-tail, All-nil, All-cons}
 use Rattle.tso_model.specs.Litmus.{Litmus, IsTest, IsCondition}
-use Rattle.tso_model.specs.Condition.{Claim, NamesExist, truth_of}
-use Rattle.tso_model.specs.inner.Condition.{claim_of, condition_of}
+use Rattle.tso_model.specs.Condition.{Claim, NamesExist, truth_of, claim_of, condition_of}
 use Rattle.tso_model.specs.declared.condition.Cond.{Cond}
 use Rattle.explorer.specs.declared.final_states.FinalState.{FinalState}
 use Rattle.outcome_report.specs.Outcomes.{Outcome, outcome_of, shown_values, held_in, failed_in}

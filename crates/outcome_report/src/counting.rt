@@ -2,7 +2,7 @@
 
 ghost use Rattle.std.specs.Prelude.{◌≡◌};
 ghost use Rattle.std.specs.Map.{values_of};
-ghost use Rattle.tso_model.specs.inner.Condition.{claim_of};
+ghost use Rattle.tso_model.specs.Condition.{claim_of};
 ghost use Rattle.outcome_report.specs.Outcomes.{held_in, failed_in};
 ghost use Rattle.outcome_report.specs.inner.Kept.{kept_of, AllHave};
 

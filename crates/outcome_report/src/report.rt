@@ -31,7 +31,7 @@ pub fn outcomes_report(
     ensures { IfOk result (λ text. PrintsOutcomes test.now depth json finals.now (string_bytes text)) }
 {
     ended_runs_are_executions();
-    let _known = test.cores();
+    test.know_limits();
     let names = looked_at(alloc, test)?;
     let outcomes = outcomes_of(alloc, test, &names, finals)?;
     if json {

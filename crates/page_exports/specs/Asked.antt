@@ -48,6 +48,9 @@ Asks a (settings.Witness depth) = (a.command ≡ 3) × (depth ≡ a.depth)
 Asks a (settings.Tables kind) = (a.command ≡ 4) × (kind_number kind ≡ a.protocol)
 Asks a (settings.Outcomes search json) =
     (a.command ≡ 5) × (search ≡ record { depth = a.depth; states = a.states }) × (json ≡ a.json)
+Asks a (settings.Trace kind config) =
+    (a.command ≡ 6) × (kind_number kind ≡ a.protocol) × (config.depth ≡ a.depth) × (bus_number config.bus ≡ a.bus)
+    × (config.shape ≡ geometry a.sets a.ways a.words)
 
 -- a machine that there is
 abbrev pub IsMachineAsked : Asked → Type 0
@@ -62,6 +65,7 @@ IsAskable a =
     ⊎ ((a.command ≡ 3) × IsDepth a.depth)
     ⊎ ((a.command ≡ 4) × (a.protocol < 4))
     ⊎ ((a.command ≡ 5) × IsSearchWithinLimits (record { depth = a.depth; states = a.states }))
+    ⊎ ((a.command ≡ 6) × IsMachineAsked a)
 
 -- these bytes are the command's answer under the settings, with its exit status, the headline is true of them, and the others are
 -- the hint beside such an answer
@@ -70,7 +74,7 @@ pub record Answers (settings : Settings) (input out hint : List ℕ) (number : �
   pub numbered : number_of status ≡ number
   pub exact : IsAnswer settings (Some input) out status
   pub headline : Headline settings (Some input) out
-  pub told : IsTold status hint
+  pub told : IsTold settings status hint
 
 -- the numbers ask for settings, and these bytes answer
 pub record AnswersAsked (a : Asked) (input out hint : List ℕ) (number : ℕ) : Type 0 where

@@ -18,7 +18,7 @@ use tso_model::limits::{MAX_DEPTH, MIN_DEPTH};
 #[repr(C)]
 #[derive(Clone, Copy)]
 pub struct Asked {
-    /// 0 run, 1 sweep, 2 check, 3 witness, 4 tables, 5 outcomes.
+    /// 0 run, 1 sweep, 2 check, 3 witness, 4 tables, 5 outcomes, 6 trace.
     pub command: u8,
     /// 0 msi, 1 mesi, 2 moesi, 3 mosi.
     pub protocol: u8,
@@ -83,6 +83,10 @@ pub fn settings_of(asked: &Asked) -> Option<Settings>
                 search,
                 json: asked.json,
             })
+        }
+        6 => {
+            let (protocol, config) = (kind_of(asked.protocol)?, config_of(asked)?);
+            Some(Settings::Trace { protocol, config })
         }
         _ => None,
     }

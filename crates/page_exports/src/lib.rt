@@ -92,7 +92,7 @@ fn told_under(
         → (length output.old < t.length) ⊎ (length hint_output.old < t.hint_length)) }
 {
     let answer = answer_to(alloc, settings, input)?;
-    let hint = hint(alloc, &answer, input)?;
+    let hint = hint(alloc, settings, &answer, input)?;
     let (text, hint) = (answer.text.as_bytes(), hint.as_bytes());
     let has_text = put(text, output);
     let has_hint = put(hint, hint_output);

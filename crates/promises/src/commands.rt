@@ -1,17 +1,26 @@
 //! What a command writes, what it takes of its streams, and what is told of its end.
 
-ghost use Rattle.std.specs.Prelude.{◌≡◌, ◌+◌, ◌-◌, ◌^◌, ◌<◌, ◌≤◌, ◌↔◌, ◌⊎◌, Ok, Err, IfOk, length, string_bytes};
+ghost use Rattle.std.specs.Prelude.{◌≡◌, ◌+◌, ◌-◌, ◌^◌, ◌<◌, ◌≤◌, ◌↔◌, ◌⊎◌, List, [], Ok, Err, IfOk, length, string_bytes};
 ghost use Rattle.std.specs.Io.KnownBytes.{Keeps};
+ghost use Rattle.tso_model.specs.Litmus.{Litmus};
+ghost use Rattle.tso_model.specs.Runs.{run};
+ghost use Rattle.tso_model.specs.declared.choice.Choice.{Choice};
+ghost use Rattle.litmus_reader.specs.Spelling.{SpellsTest};
+ghost use Rattle.scheduler.specs.Grammar.{SpellsChoices};
 ghost use Rattle.command_line.specs.Limits.{HasDepth};
 ghost use Rattle.tso_cli.specs.Answers.{IsAnswer};
 ghost use Rattle.tso_cli.specs.Headline.{Headline};
 ghost use Rattle.tso_cli.specs.Hints.{IsTold};
+ghost use Rattle.tso_cli.specs.Parts.{parts_of};
+ghost use Rattle.tso_cli.specs.SplitRun.{split_run};
+ghost use Rattle.tso_cli.specs.TraceHeadline.{PrintsTrace};
 ghost use Rattle.tso_cli.specs.Streams.{Writes, WritesAnswer, WritesBeginning, ConsumesAtMost};
 
+use machine_core::{Bus, Config};
 use protocol_tables::ProtocolKind;
 use std::alloc::Global;
 use std::io::{Read, Write};
-use tso_cli::{Answer, Counted, RunFault, Settings, Status, hint, run_command};
+use tso_cli::{Answer, Counted, RunFault, Settings, Status, answer_to, hint, run_command};
 use tso_model::NoMemory;
 
 /// What a command writes is the answer to what its reader has, and keeps the headline.
@@ -78,11 +87,38 @@ pub fn check_reads_one_byte_too_many<R: Read, W: Write>(
     run_command(alloc, reader, writer, &Settings::Check)
 }
 
-/// A hint is told only where an input was refused or a run didn't end, and has at most 256 bytes.
-pub fn a_hint_is_told(alloc: Global, answer: &Answer, input: &[u8]) -> Result<String, NoMemory>
-    ensures told { IfOk result (λ text. IsTold answer.now.status (string_bytes text)) }
+/// What `trace` writes of choices that end the test has the trace of these very choices after the first two lines of a report;
+/// these lines and what is after the trace are the report of an execution. Of choices that don't end it, the line that says how
+/// far the run came is after the trace.
+pub fn a_trace_stands_in_a_report(
+    alloc: Global,
+    protocol: ProtocolKind,
+    config: Config,
+    input: &[u8],
+) -> Result<Answer, NoMemory>
+    ensures atomic { config.bus ≡ Bus.Atomic → length input.now ≤ 1048576 → IfOk result (λ a. (t : Litmus) (choices : List Choice)
+        → SpellsTest (parts_of input.now).test t → SpellsChoices (length t.programs) (parts_of input.now).rest choices
+        → PrintsTrace t protocol config choices (run t config.depth choices) (string_bytes a.text)) }
+    ensures split { config.bus ≡ Bus.Split → length input.now ≤ 1048576 → IfOk result (λ a. (t : Litmus) (choices : List Choice)
+        → SpellsTest (parts_of input.now).test t → SpellsChoices (length t.programs) (parts_of input.now).rest choices
+        → PrintsTrace t protocol config choices (split_run t protocol config choices) (string_bytes a.text)) }
+{
+    answer_to(alloc, &Settings::Trace { protocol, config }, input)
+}
+
+/// A hint is told where an input was refused or a run didn't end, may be told beside final states in lines that people
+/// read, and has at most 256 bytes. None is told of a judged order.
+pub fn a_hint_is_told(
+    alloc: Global,
+    settings: &Settings,
+    answer: &Answer,
+    input: &[u8],
+) -> Result<String, NoMemory>
+    ensures told { IfOk result (λ text. IsTold settings.now answer.now.status (string_bytes text)) }
     ensures refused { answer.now.status ≡ Status.Refused → IfOk result (λ text. length (string_bytes text) ≤ 256) }
     ensures unended { answer.now.status ≡ Status.Unended → IfOk result (λ text. length (string_bytes text) ≤ 256) }
+    ensures invalid { answer.now.status ≡ Status.Invalid → IfOk result (λ text. string_bytes text ≡ []) }
+    ensures valid { settings.now ≡ Settings.Check → answer.now.status ≡ Status.Good → IfOk result (λ text. string_bytes text ≡ []) }
 {
-    hint(alloc, answer, input)
+    hint(alloc, settings, answer, input)
 }

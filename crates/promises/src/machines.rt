@@ -2,7 +2,7 @@
 
 ghost use Rattle.std.specs.Prelude.{◌≡◌, ◌≢◌, ◌<◌, true, false, Ok, OnErr, length};
 ghost use Rattle.tso_model.specs.FlatMachine.{chosen};
-ghost use Rattle.machine_core.specs.inner.Running.{effect_by};
+ghost use Rattle.machine_core.specs.Running.{effect_by};
 
 use machine_core::{Choice, Machine, Outcome, Stall};
 use protocol_tables::Protocol;

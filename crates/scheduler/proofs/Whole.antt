@@ -21,7 +21,7 @@ use Rattle.scheduler.proofs.Found.{IsRead, item_read, length_seeded, seed_in, se
 use Rattle.scheduler.proofs.Loop.{one_more}
 
 -- choices after those of an item
-unfoldable with_front : List Choice → Result (List Choice) ChoiceFault → Result (List Choice) ChoiceFault
+unfoldable pub with_front : List Choice → Result (List Choice) ChoiceFault → Result (List Choice) ChoiceFault
 with_front front (Ok choices) = Ok (front ++ choices)
 with_front front (Err fault) = Err fault
 
@@ -32,7 +32,7 @@ then_rest cores rest (Err fault) = Err fault
 
 -- the reading of words, where so many of them still belong to the last item, so many choices came before, and the
 -- first has this number
-unfoldable whole : ℕ → ℕ → ℕ → ℕ → List (List ℕ) → Result (List Choice) ChoiceFault
+unfoldable pub whole : ℕ → ℕ → ℕ → ℕ → List (List ℕ) → Result (List Choice) ChoiceFault
 whole cores skip before number [] = Ok []
 whole cores zero before number (word ∷ rest) =
     then_rest cores (λ skip made. whole cores skip (before + made) (number + 1) rest) (item_of cores (most_choices - before) number word rest)
@@ -68,7 +68,7 @@ item_whole cores before number _ _ (seeded seed count good small well) fits back
     rw (seed_in seed good small, well, number_in (most_choices - before) count (omega (arith, long)), numbers) refl
 
 -- items within the limit are read one after the other
-items_whole : (cores : ℕ) (front : List (List ℕ)) (choices : List Choice) → AreItems cores front choices → (before number : ℕ) → before + length choices ≤ most_choices → (back : List (List ℕ))
+pub items_whole : (cores : ℕ) (front : List (List ℕ)) (choices : List Choice) → AreItems cores front choices → (before number : ℕ) → before + length choices ≤ most_choices → (back : List (List ℕ))
     → whole cores 0 before number (front ++ back) ≡ with_front choices (whole cores 0 (before + length choices) (number + length front) back)
 items_whole cores _ _ none before number fits back =
     let same_choices : before + 0 ≡ before = omega arith in
@@ -100,7 +100,7 @@ cut_item room number [] short = refl
 cut_item room number (seed ∷ []) short = refl
 cut_item room number (seed ∷ count ∷ rest) short = absurd (omega arith)
 
-fault_whole : (cores before number : ℕ) (back : List (List ℕ)) (fault : ChoiceFault) → 0 < cores → before ≤ most_choices → IsItemAtFault cores before number back fault → whole cores 0 before number back ≡ Err fault
+pub fault_whole : (cores before number : ℕ) (back : List (List ℕ)) (fault : ChoiceFault) → 0 < cores → before ≤ most_choices → IsItemAtFault cores before number back fault → whole cores 0 before number back ≡ Err fault
 unfolding whole seeded_of
 fault_whole cores before number _ _ some room (bad_form word rest no_form other) = rw (bad_item cores (most_choices - before) number word rest no_form other) refl
 fault_whole cores before number _ _ some room (cut_seed rest short) = rw (seed_item cores (most_choices - before) number rest, cut_item (most_choices - before) number rest short) refl

@@ -3,3 +3,5 @@ pub mod Coming
 pub mod ItemsRead
 pub mod Passed
 pub mod Reading
+pub mod TooMany
+pub mod WordOfChoice

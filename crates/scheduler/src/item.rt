@@ -1,6 +1,6 @@
 //! One item of a choice text.
 
-ghost use Rattle.std.specs.Prelude.{◌≡◌, ◌<◌, ◌≤◌, ◌+◌, ◌-◌, ◌^◌, ◌++◌, length, drop, IfOk, OnOk};
+ghost use Rattle.std.specs.Prelude.{◌≡◌, ◌<◌, ◌≤◌, ◌+◌, ◌-◌, ◌^◌, ◌++◌, ℕ, length, drop, IfOk, OnOk};
 ghost use Rattle.scheduler.specs.Words.{words_of};
 ghost use Rattle.scheduler.specs.inner.Reading.{made_of, words_in, action_of, choice_by, one_of, seed_of, seeded_of, item_of};
 ghost use Rattle.scheduler.specs.inner.ItemsRead.{IsItemRead};
@@ -56,6 +56,16 @@ impl Item {
         match self {
             Item::One(_) => 1,
             Item::Seeded(..) => 3,
+        }
+    }
+
+    /// How many choices it has.
+    pub fn choices(self) -> usize
+        ensures { (cores : ℕ) → length (made_of cores self) ≡ result }
+    {
+        match self {
+            Item::One(_) => 1,
+            Item::Seeded(_, count) => count,
         }
     }
 

@@ -13,13 +13,13 @@ ghost use Rattle.snoop_bus.specs.declared.holding.Stage.TheVariants.{Write};
 ghost use Rattle.protocol_tables.specs.declared.asking.Request.TheVariants.{GetS, GetM};
 ghost use Rattle.protocol_tables.specs.declared.asking.Transient.TheVariants.{IsD, ImD};
 
-use crate::cache::Cache;
+use crate::cache::{Cache, know_sets};
 use crate::finding::find;
-use crate::holding::{Held, Holder, Stage, Transaction};
+use crate::holding::{Held, Stage, Transaction, held_at};
 use crate::snoop::{flush, snoop_others};
+use crate::target::Wanted;
 use cache_set::{Line, MAX_WORDS};
 use protocol_tables::{Protocol, Request, State, Transient, transient};
-use tso_model::{Core, Loc};
 
 /// Whether an access is a hit, which needs no bus.
 pub fn hits<P: Protocol>(caches: &[Cache], protocol: &P, core: usize, line: u8, write: bool) -> bool
@@ -32,54 +32,38 @@ pub fn hits<P: Protocol>(caches: &[Cache], protocol: &P, core: usize, line: u8, 
     }
 }
 
-/// A core asks for the line of a location, where that access isn't a load's hit. Answers what then holds the bus.
+/// A core asks for what it wants, where that isn't a load's hit. Answers what then holds the bus.
 pub fn ask<P: Protocol>(
     caches: &mut [Cache],
     memory: &mut [[u32; MAX_WORDS]],
     protocol: &P,
-    core: Core,
-    loc: Loc,
-    line: u8,
-    write: bool,
+    wanted: Wanted,
 ) -> Held
-    requires ready { IsReady None core.0 line caches.old memory.old }
-    requires misses { write ≡ false → copy_at caches.old core.0 line ≡ None }
+    requires ready { IsReady None wanted.core.0 wanted.line caches.old memory.old }
+    requires misses { wanted.write ≡ false → copy_at caches.old wanted.core.0 wanted.line ≡ None }
 
-    ensures exact { result ≡ held_after_ask (P.table protocol.now) core loc line write caches.old memory.old }
+    ensures exact { result ≡ held_after_ask (P.table protocol.now) wanted.core wanted.loc wanted.line wanted.write caches.old memory.old }
     ensures awaited { IsHeld caches.new memory.new result }
-    ensures tags { tags_of caches.new ≡ asked_caches (P.table protocol.now) (request_for write) core.0 line (tags_of caches.old) }
-    ensures memory { memory.new ≡ asked_memory (P.table protocol.now) (request_for write) line caches.old memory.old }
+    ensures tags { tags_of caches.new ≡ asked_caches (P.table protocol.now) (request_for wanted.write) wanted.core.0 wanted.line (tags_of caches.old) }
+    ensures memory { memory.new ≡ asked_memory (P.table protocol.now) (request_for wanted.write) wanted.line caches.old memory.old }
     ensures words { KeepsWords caches.old (counted (Some result) caches.new) memory.old memory.new }
-    ensures cache { cache_of caches.new core.0 ≡ cache_of caches.old core.0 }
+    ensures cache { cache_of caches.new wanted.core.0 ≡ cache_of caches.old wanted.core.0 }
     ensures ways { ways_of caches.new ≡ ways_of caches.old }
 {
+    let Wanted {
+        core,
+        loc,
+        line,
+        write,
+    } = wanted;
     let at = usize::from(core.0);
-    // Each cache has a set, in which its copies are found.
-    let _sets = caches[at].len();
+    know_sets(&caches[at]);
     if write {
         let transaction = ask_write(caches, memory, protocol, at, line);
-        let holder = Holder {
-            core,
-            loc,
-            stage: Stage::Write,
-        };
-        Held {
-            holder,
-            line,
-            transaction,
-        }
+        held_at(core, loc, Stage::Write, line, transaction)
     } else {
         let transaction = Some(ask_load(caches, memory, protocol, at, line));
-        let holder = Holder {
-            core,
-            loc,
-            stage: Stage::Load,
-        };
-        Held {
-            holder,
-            line,
-            transaction,
-        }
+        held_at(core, loc, Stage::Load, line, transaction)
     }
 }
 

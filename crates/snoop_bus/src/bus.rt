@@ -17,11 +17,12 @@ use crate::access::{Access, Updated};
 use crate::asking::{ask, hits};
 use crate::cache::Cache;
 use crate::completing::{complete_load, complete_read, complete_store};
-use crate::holding::{Held, Holder, Stage};
+use crate::holding::{Held, Stage, held_at};
 use crate::lines::lines_of;
 use crate::loading::load;
 use crate::settling::settle;
 use crate::shape::Shape;
+use crate::target::{Change, Target, Wanted};
 use crate::writing::{self, write};
 use cache_set::MAX_WORDS;
 use protocol_tables::Protocol;
@@ -115,16 +116,13 @@ impl<P: Protocol> SnoopBus<P> {
         ensures coherent { IsCoherent self.new }
         ensures machine { IsSameMachine self.old self.new }
     {
-        let line = self.shape.line_of(loc);
-        let place = self.shape.place_of(loc);
+        let target = self.shape.target_of(core, loc);
         load(
             &mut self.caches,
             &mut self.memory,
             &self.protocol,
             self.held,
-            usize::from(core.0),
-            line,
-            place,
+            target,
         )
     }
 
@@ -203,18 +201,15 @@ impl<P: Protocol> SnoopBus<P> {
         ensures coherent { IsCoherent self.new }
         ensures machine { IsSameMachine self.old self.new }
     {
-        let line = self.shape.line_of(loc);
-        let place = self.shape.place_of(loc);
+        let target = self.shape.target_of(core, loc);
+        let change = Change { update, value };
         writing::update(
             &mut self.caches,
             &mut self.memory,
             &self.protocol,
             self.held,
-            usize::from(core.0),
-            line,
-            place,
-            update,
-            value,
+            target,
+            change,
         )
     }
 
@@ -247,15 +242,13 @@ impl<P: Protocol> SnoopBus<P> {
         ensures machine { IsSameMachine self.old self.new }
     {
         let line = self.shape.line_of(loc);
-        let held = ask(
-            &mut self.caches,
-            &mut self.memory,
-            &self.protocol,
+        let wanted = Wanted {
             core,
             loc,
             line,
             write,
-        );
+        };
+        let held = ask(&mut self.caches, &mut self.memory, &self.protocol, wanted);
         self.held = Some(held);
     }
 
@@ -275,13 +268,16 @@ impl<P: Protocol> SnoopBus<P> {
         ensures machine { IsSameMachine self.old self.new }
     {
         let held = self.held.unwrap();
+        let target = Target {
+            core: usize::from(core.0),
+            line: held.line,
+            place: self.shape.place_of(loc),
+        };
         let done = complete_load(
             &mut self.caches,
             &mut self.memory,
             &self.protocol,
-            usize::from(core.0),
-            held.line,
-            self.shape.place_of(loc),
+            target,
             held.transaction,
         )?;
         self.held = None;
@@ -304,13 +300,16 @@ impl<P: Protocol> SnoopBus<P> {
         ensures machine { IsSameMachine self.old self.new }
     {
         let held = self.held.unwrap();
+        let target = Target {
+            core: usize::from(core.0),
+            line: held.line,
+            place: self.shape.place_of(loc),
+        };
         let access = complete_store(
             &mut self.caches,
             &mut self.memory,
             &self.protocol,
-            usize::from(core.0),
-            held.line,
-            self.shape.place_of(loc),
+            target,
             held.transaction,
             value,
         )?;
@@ -336,25 +335,19 @@ impl<P: Protocol> SnoopBus<P> {
         ensures machine { IsSameMachine self.old self.new }
     {
         let held = self.held.unwrap();
+        let target = Target {
+            core: usize::from(core.0),
+            line: held.line,
+            place: self.shape.place_of(loc),
+        };
         let done = complete_read(
             &mut self.caches,
             &mut self.memory,
             &self.protocol,
-            usize::from(core.0),
-            held.line,
-            self.shape.place_of(loc),
+            target,
             held.transaction,
         )?;
-        let holder = Holder {
-            core,
-            loc,
-            stage: Stage::Locked,
-        };
-        self.held = Some(Held {
-            holder,
-            line: held.line,
-            transaction: None,
-        });
+        self.held = Some(held_at(core, loc, Stage::Locked, held.line, None));
         Ok(done)
     }
 
@@ -371,9 +364,8 @@ impl<P: Protocol> SnoopBus<P> {
         ensures coherent { IsCoherent self.new }
         ensures machine { IsSameMachine self.old self.new }
     {
-        let line = self.shape.line_of(loc);
-        let place = self.shape.place_of(loc);
-        write(&mut self.caches, usize::from(core.0), line, place, value);
+        let target = self.shape.target_of(core, loc);
+        write(&mut self.caches, target, value);
         self.held = None;
     }
 

@@ -19,6 +19,7 @@ use crate::access::{Access, AccessKind};
 use crate::cache::Cache;
 use crate::holding::Transaction;
 use crate::snoop::write_back;
+use crate::target::Target;
 use crate::writing::{enter, write};
 use cache_set::{Line, MAX_WORDS};
 use protocol_tables::{Protocol, State, Transient};
@@ -120,22 +121,21 @@ pub fn complete_load<P: Protocol>(
     caches: &mut [Cache],
     memory: &mut [[u32; MAX_WORDS]],
     protocol: &P,
-    core: usize,
-    line: u8,
-    place: u8,
+    target: Target,
     transaction: Option<Transaction>,
 ) -> Result<(u32, Access), NoMemory>
-    requires awaited { IsAwaited Load transaction core line caches.old memory.old }
-    requires place { place < most_words }
+    requires awaited { IsAwaited Load transaction target.core target.line caches.old memory.old }
+    requires place { target.place < most_words }
 
-    ensures word { IfOk result (λ r. r.0 ≡ slice_index (words_due transaction core line caches.old memory.old) place) }
-    ensures ok { IfOk result (λ r. Completes (P.table protocol.now) transaction core line caches.old caches.new memory.old memory.new r.1) }
-    ensures words { OnOk result (KeepsWords (counted_in core line transaction caches.old) caches.new memory.old memory.new) }
+    ensures word { IfOk result (λ r. r.0 ≡ slice_index (words_due transaction target.core target.line caches.old memory.old) target.place) }
+    ensures ok { IfOk result (λ r. Completes (P.table protocol.now) transaction target.core target.line caches.old caches.new memory.old memory.new r.1) }
+    ensures words { OnOk result (KeepsWords (counted_in target.core target.line transaction caches.old) caches.new memory.old memory.new) }
     ensures ways { ways_of caches.new ≡ ways_of caches.old }
 
     ensures refused { OnErr result (IsUnchanged caches.old caches.new memory.old memory.new) }
 {
     let transaction = transaction.unwrap();
+    let Target { core, line, place } = target;
     let wrote_back = fill_asked(caches, memory, protocol, core, line, transaction.copy)?;
     let access = Access {
         kind: AccessKind::Miss,
@@ -152,24 +152,23 @@ pub fn complete_store<P: Protocol>(
     caches: &mut [Cache],
     memory: &mut [[u32; MAX_WORDS]],
     protocol: &P,
-    core: usize,
-    line: u8,
-    place: u8,
+    target: Target,
     transaction: Option<Transaction>,
     value: u32,
 ) -> Result<Access, NoMemory>
-    requires awaited { IsAwaited Write transaction core line caches.old memory.old }
-    requires place { place < most_words }
+    requires awaited { IsAwaited Write transaction target.core target.line caches.old memory.old }
+    requires place { target.place < most_words }
 
-    ensures ok { IfOk result (Completes (P.table protocol.now) transaction core line caches.old caches.new memory.old memory.new) }
-    ensures words { OnOk result (SetsWord line place value (counted_in core line transaction caches.old) caches.new memory.old memory.new) }
+    ensures ok { IfOk result (Completes (P.table protocol.now) transaction target.core target.line caches.old caches.new memory.old memory.new) }
+    ensures words { OnOk result (SetsWord target.line target.place value (counted_in target.core target.line transaction caches.old) caches.new memory.old memory.new) }
     ensures ways { ways_of caches.new ≡ ways_of caches.old }
 
-    ensures succeeds { (completion_at (P.table protocol.now) transaction core line caches.old).access.kind ≢ Miss → IsOk result }
+    ensures succeeds { (completion_at (P.table protocol.now) transaction target.core target.line caches.old).access.kind ≢ Miss → IsOk result }
     ensures refused { OnErr result (IsUnchanged caches.old caches.new memory.old memory.new) }
 {
+    let Target { core, line, .. } = target;
     let (_, access) = acquire_asked(caches, memory, protocol, core, line, transaction)?;
-    write(caches, core, line, place, value);
+    write(caches, target, value);
     Ok(access)
 }
 
@@ -181,23 +180,22 @@ pub fn complete_read<P: Protocol>(
     caches: &mut [Cache],
     memory: &mut [[u32; MAX_WORDS]],
     protocol: &P,
-    core: usize,
-    line: u8,
-    place: u8,
+    target: Target,
     transaction: Option<Transaction>,
 ) -> Result<(u32, Access), NoMemory>
-    requires awaited { IsAwaited Write transaction core line caches.old memory.old }
-    requires place { place < most_words }
+    requires awaited { IsAwaited Write transaction target.core target.line caches.old memory.old }
+    requires place { target.place < most_words }
 
-    ensures word { IfOk result (λ r. r.0 ≡ slice_index (words_due transaction core line caches.old memory.old) place) }
-    ensures ok { IfOk result (λ r. Completes (P.table protocol.now) transaction core line caches.old caches.new memory.old memory.new r.1) }
-    ensures own { OnOk result (state_of (copy_at caches.new core line) ≡ M) }
-    ensures words { OnOk result (KeepsWords (counted_in core line transaction caches.old) caches.new memory.old memory.new) }
+    ensures word { IfOk result (λ r. r.0 ≡ slice_index (words_due transaction target.core target.line caches.old memory.old) target.place) }
+    ensures ok { IfOk result (λ r. Completes (P.table protocol.now) transaction target.core target.line caches.old caches.new memory.old memory.new r.1) }
+    ensures own { OnOk result (state_of (copy_at caches.new target.core target.line) ≡ M) }
+    ensures words { OnOk result (KeepsWords (counted_in target.core target.line transaction caches.old) caches.new memory.old memory.new) }
     ensures ways { ways_of caches.new ≡ ways_of caches.old }
 
-    ensures succeeds { (completion_at (P.table protocol.now) transaction core line caches.old).access.kind ≢ Miss → IsOk result }
+    ensures succeeds { (completion_at (P.table protocol.now) transaction target.core target.line caches.old).access.kind ≢ Miss → IsOk result }
     ensures refused { OnErr result (IsUnchanged caches.old caches.new memory.old memory.new) }
 {
+    let Target { core, line, place } = target;
     let (words, access) = acquire_asked(caches, memory, protocol, core, line, transaction)?;
     Ok((words[usize::from(place)], access))
 }

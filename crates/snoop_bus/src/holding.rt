@@ -3,6 +3,7 @@
 ghost use Rattle.std.specs.Prelude.{◌≡◌, IfSome};
 ghost use Rattle.snoop_bus.specs.Bus.{holder_of};
 ghost use Rattle.snoop_bus.specs.inner.Accesses.{StandsAlone};
+ghost use Rattle.snoop_bus.specs.inner.Held.{held_by};
 
 use crate::bus::SnoopBus;
 use cache_set::Line;
@@ -46,6 +47,23 @@ pub struct Held {
     pub holder: Holder,
     pub line: u8,
     pub transaction: Option<Transaction>,
+}
+
+/// A core's action at a location, at this stage, with its line and its transaction.
+pub fn held_at(
+    core: Core,
+    loc: Loc,
+    stage: Stage,
+    line: u8,
+    transaction: Option<Transaction>,
+) -> Held
+    ensures { result ≡ held_by core loc stage line transaction }
+{
+    Held {
+        holder: Holder { core, loc, stage },
+        line,
+        transaction,
+    }
 }
 
 impl<P: Protocol> SnoopBus<P> {

@@ -23,6 +23,7 @@ mod settling;
 pub mod shape;
 mod snoop;
 mod states;
+mod target;
 mod writing;
 
 pub use access::{Access, AccessKind, Updated};

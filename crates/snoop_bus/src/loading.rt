@@ -13,6 +13,7 @@ use crate::cache::Cache;
 use crate::finding::find;
 use crate::holding::Held;
 use crate::snoop::{flush, snoop_others, write_back};
+use crate::target::Target;
 use cache_set::MAX_WORDS;
 use protocol_tables::{Protocol, Request};
 use tso_model::NoMemory;
@@ -25,22 +26,21 @@ pub fn load<P: Protocol>(
     memory: &mut [[u32; MAX_WORDS]],
     protocol: &P,
     held: Option<Held>,
-    core: usize,
-    line: u8,
-    place: u8,
+    target: Target,
 ) -> Result<(u32, Access), NoMemory>
-    requires ready { IsReady held core line caches.old memory.old }
-    requires place { place < most_words }
-    requires free { (held ≡ None) ⊎ IsSome (copy_at caches.old core line) }
+    requires ready { IsReady held target.core target.line caches.old memory.old }
+    requires place { target.place < most_words }
+    requires free { (held ≡ None) ⊎ IsSome (copy_at caches.old target.core target.line) }
 
-    ensures ok { IfOk result (λ r. Loads (P.table protocol.now) held core line place caches.old caches.new memory.old memory.new r.0 r.1) }
+    ensures ok { IfOk result (λ r. Loads (P.table protocol.now) held target.core target.line target.place caches.old caches.new memory.old memory.new r.0 r.1) }
     ensures words { KeepsWords (counted held caches.old) (counted held caches.new) memory.old memory.new }
     ensures awaited { IfSome held (IsHeld caches.new memory.new) }
     ensures ways { ways_of caches.new ≡ ways_of caches.old }
 
-    ensures succeeds { IsSome (copy_at caches.old core line) → IsOk result }
+    ensures succeeds { IsSome (copy_at caches.old target.core target.line) → IsOk result }
     ensures refused { OnErr result (IsUnchanged caches.old caches.new memory.old memory.new) }
 {
+    let Target { core, line, place } = target;
     if let Some(copy) = caches[core].look(line).copied() {
         let cache = &mut caches[core];
         cache.touch(line);
@@ -51,7 +51,7 @@ pub fn load<P: Protocol>(
     }
     // Only a hit goes on beside an action that holds the bus.
     prove!(held.is_none());
-    load_miss(caches, memory, protocol, core, line, place)
+    load_miss(caches, memory, protocol, target)
 }
 
 /// A load of a line that the core doesn't have.
@@ -59,19 +59,18 @@ fn load_miss<P: Protocol>(
     caches: &mut [Cache],
     memory: &mut [[u32; MAX_WORDS]],
     protocol: &P,
-    core: usize,
-    line: u8,
-    place: u8,
+    target: Target,
 ) -> Result<(u32, Access), NoMemory>
-    requires ready { IsReady None core line caches.old memory.old }
-    requires place { place < most_words }
-    requires absent { copy_at caches.old core line ≡ None }
+    requires ready { IsReady None target.core target.line caches.old memory.old }
+    requires place { target.place < most_words }
+    requires absent { copy_at caches.old target.core target.line ≡ None }
 
-    ensures ok { IfOk result (λ r. Loads (P.table protocol.now) None core line place caches.old caches.new memory.old memory.new r.0 r.1) }
+    ensures ok { IfOk result (λ r. Loads (P.table protocol.now) None target.core target.line target.place caches.old caches.new memory.old memory.new r.0 r.1) }
     ensures words { KeepsWords caches.old caches.new memory.old memory.new }
 
     ensures refused { OnErr result (IsUnchanged caches.old caches.new memory.old memory.new) }
 {
+    let Target { core, line, place } = target;
     let found = find(caches, protocol, Request::GetS, line);
     let words = found.words.unwrap_or(memory[usize::from(line)]);
     let state = protocol.filled(found.shared);

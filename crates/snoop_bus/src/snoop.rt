@@ -15,6 +15,14 @@ use cache_set::{MAX_WORDS, Victim};
 use protocol_tables::{Protocol, Request, Snoop, State};
 use tso_model::Core;
 
+/// A core's request for a line, as the other caches see it.
+#[derive(Clone, Copy)]
+struct Seen {
+    request: Request,
+    core: usize,
+    line: u8,
+}
+
 /// What a copy in this state does when another core's request for its line is seen.
 pub fn answer<P: Protocol>(protocol: &P, request: Request, state: State) -> Snoop
     ensures { result ≡ asked (P.table protocol.now) request state }
@@ -52,23 +60,21 @@ fn snoop_one<P: Protocol>(
 fn snoop_at<P: Protocol>(
     caches: &mut [Cache],
     protocol: &P,
-    request: Request,
-    core: usize,
-    line: u8,
+    seen: Seen,
     other: usize,
     state: Option<State>,
 )
     requires other { other < length caches.old }
-    requires state { other ≢ core → state ≡ state_at caches.old other line }
-    ensures seen { SeenAt other (asked (P.table protocol.now) request) core line caches.old caches.new }
-    ensures copies { LeftAt other (asked (P.table protocol.now) request) core line caches.old caches.new }
+    requires state { other ≢ seen.core → state ≡ state_at caches.old other seen.line }
+    ensures seen { SeenAt other (asked (P.table protocol.now) seen.request) seen.core seen.line caches.old caches.new }
+    ensures copies { LeftAt other (asked (P.table protocol.now) seen.request) seen.core seen.line caches.old caches.new }
     ensures ways { ways_of caches.new ≡ ways_of caches.old }
 {
-    if other == core {
+    if other == seen.core {
         return;
     }
     let cache = &mut caches[other];
-    snoop_one(cache, protocol, request, line, state);
+    snoop_one(cache, protocol, seen.request, seen.line, state);
 }
 
 /// Every cache but the core's own sees its request for a line. Their copies of it are in these states, core
@@ -88,8 +94,13 @@ pub fn snoop_others<P: Protocol>(
     ensures copies { LeftByOthers (asked (P.table protocol.now) request) core line caches.old caches.new }
     ensures ways { ways_of caches.new ≡ ways_of caches.old }
 {
+    let seen = Seen {
+        request,
+        core,
+        line,
+    };
     for other in 0..caches.len() {
-        snoop_at(caches, protocol, request, core, line, other, states[other]);
+        snoop_at(caches, protocol, seen, other, states[other]);
     }
 }
 

@@ -18,12 +18,12 @@ use crate::cache::Cache;
 use crate::finding::find;
 use crate::holding::Held;
 use crate::snoop::{snoop_others, write_back};
+use crate::target::{Change, Target};
 use cache_set::MAX_WORDS;
 use protocol_tables::{Protocol, Request, State};
-use tso_model::{NoMemory, Update};
+use tso_model::NoMemory;
 
-/// A core's write access to a line, which makes of the word at this place what the update makes of it and of
-/// this value. Answers the word before and after, and what the access was.
+/// A core's write access to a line, which makes this change to the word. Answers the word before and after, and what the access was.
 ///
 /// Errors: out of memory only, which only a miss takes; nothing is changed then.
 pub fn update<P: Protocol>(
@@ -31,29 +31,26 @@ pub fn update<P: Protocol>(
     memory: &mut [[u32; MAX_WORDS]],
     protocol: &P,
     held: Option<Held>,
-    core: usize,
-    line: u8,
-    place: u8,
-    update: Update,
-    value: u32,
+    target: Target,
+    change: Change,
 ) -> Result<Updated, NoMemory>
-    requires ready { IsReady held core line caches.old memory.old }
-    requires place { place < most_words }
-    requires free { MayWrite (P.table protocol.now) held core line (tags_of caches.old) }
+    requires ready { IsReady held target.core target.line caches.old memory.old }
+    requires place { target.place < most_words }
+    requires free { MayWrite (P.table protocol.now) held target.core target.line (tags_of caches.old) }
 
-    ensures ok { IfOk result (Updates (P.table protocol.now) held core line place caches.old caches.new memory.old memory.new) }
-    ensures after { IfOk result (λ u. u.after ≡ updated update u.before value) }
+    ensures ok { IfOk result (Updates (P.table protocol.now) held target.core target.line target.place caches.old caches.new memory.old memory.new) }
+    ensures after { IfOk result (λ u. u.after ≡ updated change.update u.before change.value) }
     ensures coherent { AllCoherent (counted held caches.new) memory.new }
     ensures awaited { IfSome held (IsHeld caches.new memory.new) }
     ensures ways { ways_of caches.new ≡ ways_of caches.old }
 
-    ensures succeeds { IsSome (copy_at caches.old core line) → IsOk result }
+    ensures succeeds { IsSome (copy_at caches.old target.core target.line) → IsOk result }
     ensures refused { OnErr result (IsUnchanged caches.old caches.new memory.old memory.new) }
 {
-    let (words, access) = acquire(caches, memory, protocol, held, core, line)?;
-    let before = words[usize::from(place)];
-    let after = update.apply(before, value);
-    write(caches, core, line, place, after);
+    let (words, access) = acquire(caches, memory, protocol, held, target.core, target.line)?;
+    let before = words[usize::from(target.place)];
+    let after = change.update.apply(before, change.value);
+    write(caches, target, after);
     Ok(Updated {
         before,
         after,
@@ -147,15 +144,16 @@ fn write_miss<P: Protocol>(
 }
 
 /// Writes the word at a place of a line that the core has.
-pub fn write(caches: &mut [Cache], core: usize, line: u8, place: u8, value: u32)
-    requires core { core < length caches.old }
-    requires present { IsSome (copy_at caches.old core line) }
-    requires place { place < most_words }
+pub fn write(caches: &mut [Cache], target: Target, value: u32)
+    requires core { target.core < length caches.old }
+    requires present { IsSome (copy_at caches.old target.core target.line) }
+    requires place { target.place < most_words }
 
     ensures tags { tags_of caches.new ≡ tags_of caches.old }
-    ensures copies { ChangesCopy core line (option_map (with_word place value) (copy_at caches.old core line)) caches.old caches.new }
+    ensures copies { ChangesCopy target.core target.line (option_map (with_word target.place value) (copy_at caches.old target.core target.line)) caches.old caches.new }
     ensures ways { ways_of caches.new ≡ ways_of caches.old }
 {
+    let Target { core, line, place } = target;
     let cache = &mut caches[core];
     cache.write_word(line, place, value);
 }

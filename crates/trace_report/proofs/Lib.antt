@@ -1,5 +1,12 @@
 pub mod LineNames
 pub mod Shapes
+pub mod Effects
+pub mod Places
+pub mod Named
 pub mod Looking
 pub mod Listing
 pub mod Whole
+pub mod Traced
+pub mod RunsTold
+pub mod LaidIn
+pub mod AccessesTold

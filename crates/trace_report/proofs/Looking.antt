@@ -12,7 +12,7 @@ use Rattle.tso_model.specs.declared.instruction.Instr.{Instr}
 use Rattle.tso_model.specs.declared.execution.Entry.{Entry}
 use Rattle.machine_core.specs.Running.{Running}
 use Rattle.machine_core.specs.inner.Looked.{core_at, pending_at}
-use Rattle.trace_report.specs.inner.Steps.{moved_by}
+use Rattle.trace_report.specs.Steps.{moved_by}
 use Rattle.trace_report.specs.declared.step.Moved.{Moved}
 
 place-in : (cores : List CoreState) (i : ℕ) → unwrap_or (option_map (λ (s : CoreState). s.place) (slice_get cores i)) 0 ≡ (slice_index_or cores i idle).place

@@ -1,28 +1,42 @@
 -- What a choice did, from what was looked at before it and after it.
-use Rattle.std.proofs.Common.{◌≡◌, ◌∙◌, ℕ, Bool, List, [], ◌∷◌, ◌++◌, length, drop, Option, ◌<◌, inl, inr, refl, sym, ap, arith}
-use Rattle.tso_model.specs.Litmus.{Litmus}
-use Rattle.tso_model.specs.FlatMachine.{core_of, chosen}
+use Rattle.std.proofs.Common.{◌≡◌, ◌∙◌, ℕ, Bool, true, List, [], ◌∷◌, ◌++◌, length, drop, Option, ◌<◌, ◌==◌, inl, inr, refl, sym, ap, subst, arith, option_map, get_or-set_same, All}
+use Rattle.std.proofs.Math.ListN.{length-set}
+use Rattle.tso_model.specs.Litmus.{Litmus, IsTest}
+use Rattle.tso_model.specs.FlatMachine.{idle, core_of, chosen}
 use Rattle.tso_model.specs.Access.{access_of}
 use Rattle.tso_model.specs.declared.instruction.Core.{Core}
 use Rattle.tso_model.specs.declared.choice.Choice.{Choice}
+use Rattle.tso_model.specs.declared.choice.Stall.{Stall}
 use Rattle.tso_model.specs.declared.choice.Outcome.{Outcome}
+use Rattle.tso_model.specs.declared.choice.Outcome.TheVariants.{Committed, Buffered, Asked, Stalled}
+use Rattle.tso_model.specs.declared.choice.Outcome.TheVariants as out
 use Rattle.tso_model.specs.declared.execution.Entry.{Entry}
 use Rattle.snoop_bus.specs.declared.access.AccessKind.{AccessKind}
 use Rattle.snoop_bus.specs.Geometry.{Geometry, IsLineSize}
+use Rattle.basic_laws.proofs.Basics.{test-true}
 use Rattle.machine_core.specs.Configuration.{Configuration}
 use Rattle.machine_core.specs.Caches.{is_awaited}
-use Rattle.machine_core.specs.Running.{Running, configuration_of}
-use Rattle.machine_core.specs.inner.Running.{effect_by, use_by, machine_after}
+use Rattle.machine_core.specs.Running.{Running, configuration_of, attempt_on, effect_by, use_by, machine_after}
 use Rattle.machine_core.specs.declared.cache_use.CacheUse.{CacheUse}
-use Rattle.trace_report.specs.inner.Shown.{Shown}
-use Rattle.trace_report.specs.inner.Steps.{states_of, changes_in, is_forwarded, access_in, request_at, sent_on, moved_from, wrote_back_by, buffer_if_changed, step_of}
-use Rattle.trace_report.specs.inner.Told.{IsTold, IsLookedAt}
+use Rattle.trace_report.specs.Shown.{Shown}
+use Rattle.trace_report.specs.inner.Steps.{waited_before}
+use Rattle.trace_report.specs.Steps.{states_of, number_of, changes_in, is_forwarded, access_in, request_at, sent_on, moved_from, wrote_back_by, buffer_if_changed, step_of}
+use Rattle.trace_report.specs.inner.Told.{IsLookedAt}
+use Rattle.trace_report.specs.Told.{IsTraced, IsTold}
+use Rattle.trace_report.specs.inner.Left.{IsNothing, stores_on, waited_on, IsLeftBy, IsSeen, AreSeen}
+use Rattle.trace_report.proofs.Effects.{Form, effect-form, waited-is, stall-rests, drop-all}
+use Rattle.trace_report.proofs.Places.{effect-places, stores-next, access-known, at-place}
+use Rattle.trace_report.proofs.Named.{sent-known, request-known, written-back-known, changes-known, states-known, buffer-known}
+use Rattle.order_builder.specs.PrintedOrder.{HasLocation}
+use Rattle.trace_report.specs.Known.{IsAt, AreStoresKnown, IsKnown}
+use Rattle.std.proofs.lemmas.List.Elements.{All-append, All-drop, All-weaker}
 use Rattle.trace_report.proofs.Shapes.{used-shape}
 use Rattle.trace_report.specs.declared.step.Moved.{Moved}
 use Rattle.trace_report.specs.declared.step.LineRequest.{LineRequest}
 use Rattle.trace_report.specs.declared.step.StateChange.{StateChange}
 use Rattle.trace_report.specs.declared.states.PlacedState.{PlacedState}
 use Rattle.trace_report.specs.declared.sending.Sent.{Sent}
+use Rattle.trace_report.specs.declared.telling.Left.{Left}
 
 -- what is shown, by its parts
 abbrev pub parts : Choice → Outcome → List Entry → Option Moved → Bool → Option AccessKind → Option LineRequest → Option Core → Option ℕ → List StateChange → Option (List Entry) → Shown
@@ -42,63 +56,126 @@ after-all : (xs ys : List Entry) → drop (length xs) (xs ++ ys) ≡ ys
 after-all [] ys = refl
 after-all (x ∷ xs) ys = after-all xs ys
 
+-- ---- what the choice left
+
+-- by the machine after the choice: the entries, the lines that changed, the pending stores where they changed
+pub record Leaves (m : Running) (choice : Choice) (l : Left) : Type 0 where
+  pub entries : l.entries.items ≡ (effect_by m choice).effect.commits ++ drop (length (stores_on m choice)) (stores_on (machine_after m choice) choice)
+  pub changes : l.changes.items ≡ changes_in (states_of m) (states_of (machine_after m choice))
+  pub buffer : option_map (λ stores. stores.items) l.buffer ≡ buffer_if_changed (length (stores_on m choice)) (stores_on (machine_after m choice) choice)
+
+-- the core of the choice is as its effect leaves it
+core-after : (m : Running) (choice : Choice) → chosen choice < length m.state.flat.cores → core_of (machine_after m choice).state.flat (chosen choice) ≡ (effect_by m choice).effect.after
+core-after m choice there = get_or-set_same m.state.flat.cores (chosen choice) (effect_by m choice).effect.after idle there
+
+form-of : (m : Running) (choice : Choice) → Form choice (core_of m.state.flat (chosen choice)) (effect_by m choice).effect
+form-of m choice = effect-form m.bus m.test m.depth m.state (attempt_on m choice)
+
+same-test : (n : ℕ) → (n == n) ≡ true
+same-test n = test-true n n refl
+
+unchanged : (states : List PlacedState) → changes_in states states ≡ []
+unchanged [] = refl
+unchanged (s ∷ ss) = rw (same-test (number_of s.state)) (unchanged ss)
+
+left-looked : (m next : Running) (choice : Choice) (outcome : Outcome) (before : List PlacedState) (committed : ℕ) (l : Left)
+    → chosen choice < length m.state.flat.cores → next ≡ machine_after m choice → outcome ≡ (effect_by m choice).effect.outcome → before ≡ states_of m → committed ≡ length m.commits
+    → IsLeftBy next before choice outcome committed l → Leaves m choice l
+left-looked m next choice outcome before committed l there next_is outcome_is before_is committed_is is =
+    let f = (effect_by m choice).effect in
+    let end = machine_after m choice in
+    let stores : stores_on next choice ≡ stores_on end choice = ap (λ (n : Running). stores_on n choice) next_is in
+    let waited : waited_on next choice outcome ≡ length (stores_on m choice) =
+    ap (λ es. waited_before outcome choice (length es)) stores ∙ (ap (λ o. waited_before o choice (length (stores_on end choice))) outcome_is
+    ∙ (ap (λ s. waited_before f.outcome choice (length s.pending)) (core-after m choice there) ∙ waited-is choice (core_of m.state.flat (chosen choice)) f (form-of m choice))) in
+    let commits : drop committed next.commits ≡ f.commits =
+    ap (λ n. drop n next.commits) committed_is ∙ (ap (λ (n : Running). drop (length m.commits) n.commits) next_is ∙ after-all m.commits f.commits) in
+    record {
+      entries = is.entries ∙ (ap (λ es. es ++ drop (waited_on next choice outcome) (stores_on next choice)) commits
+          ∙ (ap (λ n. f.commits ++ drop n (stores_on next choice)) waited ∙ ap (λ es. f.commits ++ drop (length (stores_on m choice)) es) stores));
+      changes = is.changes ∙ (ap (λ b. changes_in b (states_of next)) before_is ∙ ap (λ (n : Running). changes_in (states_of m) (states_of n)) next_is);
+      buffer = is.buffer ∙ (ap (λ n. buffer_if_changed n (stores_on next choice)) waited ∙ ap (λ es. buffer_if_changed (length (stores_on m choice)) es) stores);
+    }
+
+left-nothing : (m : Running) (choice : Choice) (why : Stall) (l : Left) → chosen choice < length m.state.flat.cores → machine_after m choice ≡ m
+    → (effect_by m choice).effect.outcome ≡ Stalled why → IsNothing l → Leaves m choice l
+left-nothing m choice why l there same stalls is =
+    let f = (effect_by m choice).effect in
+    let end = machine_after m choice in
+    let rests = stall-rests choice (core_of m.state.flat (chosen choice)) f why stalls (form-of m choice) in
+    let stores : stores_on end choice ≡ stores_on m choice = ap (λ (n : Running). stores_on n choice) same in
+    record {
+      entries = is.entries ∙ sym (ap (λ es. es ++ drop (length (stores_on m choice)) (stores_on end choice)) rests.commits
+          ∙ (ap (λ es. drop (length (stores_on m choice)) es) stores ∙ drop-all (stores_on m choice)));
+      changes = is.changes ∙ sym (ap (λ (n : Running). changes_in (states_of m) (states_of n)) same ∙ unchanged (states_of m));
+      buffer = ap (λ b. option_map (λ stores. stores.items) b) is.buffer
+          ∙ sym (ap (λ es. buffer_if_changed (length (stores_on m choice)) es) stores ∙ rw (same-test (length (stores_on m choice))) refl);
+    }
+
+-- the states of the lines afterwards
+pub record Sees (m : Running) (choice : Choice) (l : Left) (after : List PlacedState) : Type 0 where
+  pub left : Leaves m choice l
+  pub states : after ≡ states_of (machine_after m choice)
+
+pub seen : (m next : Running) (choice : Choice) (outcome : Outcome) (before after : List PlacedState) (committed : ℕ) (l : Left)
+    → chosen choice < length m.state.flat.cores → next ≡ machine_after m choice → outcome ≡ (effect_by m choice).effect.outcome → before ≡ states_of m → committed ≡ length m.commits
+    → ((why : Stall) → outcome ≡ Stalled why → next ≡ m)
+    → IsSeen next before choice outcome committed l → AreSeen next before outcome after → Sees m choice l after
+seen m next choice Committed before after committed l there next_is outcome_is before_is committed_is stays is are =
+    record { left = left-looked m next choice Committed before committed l there next_is outcome_is before_is committed_is is; states = are ∙ ap states_of next_is }
+seen m next choice Buffered before after committed l there next_is outcome_is before_is committed_is stays is are =
+    record { left = left-looked m next choice Buffered before committed l there next_is outcome_is before_is committed_is is; states = are ∙ ap states_of next_is }
+seen m next choice out.Moved before after committed l there next_is outcome_is before_is committed_is stays is are =
+    record { left = left-looked m next choice out.Moved before committed l there next_is outcome_is before_is committed_is is; states = are ∙ ap states_of next_is }
+seen m next choice Asked before after committed l there next_is outcome_is before_is committed_is stays is are =
+    record { left = left-looked m next choice Asked before committed l there next_is outcome_is before_is committed_is is; states = are ∙ ap states_of next_is }
+seen m next choice (Stalled why) before after committed l there next_is outcome_is before_is committed_is stays is are =
+    let same : machine_after m choice ≡ m = sym next_is ∙ stays why refl in
+    record { left = left-nothing m choice why l there same (sym outcome_is) is; states = are ∙ (before_is ∙ sym (ap states_of same)) }
+
+-- ---- the whole step
+
 -- what was looked at before the choice and after it
-pub record WasLookedAt (t : Litmus) (config : Configuration) (m next : Running) (choice : Choice) (how : CacheUse) (outcome : Outcome) (before after : List PlacedState)
-    (place committed waited : ℕ) (pending entries : List Entry) (request : Option LineRequest) (sent : Sent) : Type 0 where
-  pub told : IsTold t config m before
+pub record WasLookedAt (t : Litmus) (config : Configuration) (m next : Running) (choice : Choice) (how : CacheUse) (outcome : Outcome)
+    (place : ℕ) (request : Option LineRequest) (sent : Sent) (left : Left) : Type 0 where
+  pub machine : IsTraced t config m
   pub next_is : next ≡ machine_after m choice
   pub outcome_is : outcome ≡ (effect_by m choice).effect.outcome
   pub how_is : how ≡ (use_by m choice).how
   pub place_is : place ≡ (core_of m.state.flat (chosen choice)).place
-  pub committed_is : committed ≡ length m.commits
-  pub waited_is : waited ≡ length (core_of m.state.flat (chosen choice)).pending
-  pub pending_is : pending ≡ (core_of next.state.flat (chosen choice)).pending
-  pub entries_are : entries ≡ drop committed next.commits ++ drop waited pending
   pub request_is : request ≡ request_at config.shape.words (access_of m.test m.depth m.state.flat choice)
   pub sent_is : sent ≡ sent_on config.bus outcome request how next.statistics.caches.awaited
-  pub after_is : after ≡ states_of next
+  pub left_is : Leaves m choice left
 
-pub told-whole : (t : Litmus) (config : Configuration) (m next : Running) (choice : Choice) (how : CacheUse) (outcome : Outcome) (before after : List PlacedState)
-    (place committed waited : ℕ) (pending entries : List Entry) (request : Option LineRequest) (sent : Sent)
-    (moved : Option Moved) (forwarded : Bool) (access : Option AccessKind) (wrote_back : Option ℕ) (changes : List StateChange) (buffer : Option (List Entry))
-    → WasLookedAt t config m next choice how outcome before after place committed waited pending entries request sent
+pub told-whole : (t : Litmus) (config : Configuration) (m next : Running) (choice : Choice) (how : CacheUse) (outcome : Outcome)
+    (place : ℕ) (request : Option LineRequest) (sent : Sent) (left : Left)
+    (moved : Option Moved) (forwarded : Bool) (access : Option AccessKind) (wrote_back : Option ℕ)
+    → WasLookedAt t config m next choice how outcome place request sent left
     → moved ≡ moved_from t place choice (core_of next.state.flat (chosen choice)).registers → forwarded ≡ is_forwarded how → access ≡ access_in how
-    → wrote_back ≡ wrote_back_by how (chosen choice) changes → changes ≡ changes_in before after → buffer ≡ buffer_if_changed waited pending
-    → parts choice outcome entries moved forwarded access sent.request sent.flushed wrote_back changes buffer ≡ step_of m choice
+    → wrote_back ≡ wrote_back_by how (chosen choice) left.changes.items
+    → parts choice outcome left.entries.items moved forwarded access sent.request sent.flushed wrote_back left.changes.items (option_map (λ stores. stores.items) left.buffer) ≡ step_of m choice
 unfolding step_of
-told-whole t config m next choice how outcome before after place committed waited pending entries request sent moved forwarded access wrote_back changes buffer l moved_is forwarded_is
-    access_is wrote_back_is changes_are buffer_is =
+told-whole t config m next choice how outcome place request sent left moved forwarded access wrote_back l moved_is forwarded_is access_is wrote_back_is =
     let f = (effect_by m choice).effect in
     let used = (use_by m choice).how in
     let core = chosen choice in
     let old = core_of m.state.flat core in
     let end = machine_after m choice in
-    let final = core_of end.state.flat core in
-    let shape : m.statistics.caches.shape.words ≡ config.shape.words = ap (λ (c : Configuration). c.shape.words) l.told.config in
-    let bus : m.bus ≡ config.bus = ap (λ (c : Configuration). c.bus) l.told.config in
-    let stores : pending ≡ final.pending = l.pending_is ∙ ap (λ (n : Running). (core_of n.state.flat core).pending) l.next_is in
-    let commits : drop committed next.commits ≡ f.commits =
-    ap (λ n. drop n next.commits) l.committed_is ∙ (ap (λ (n : Running). drop (length m.commits) n.commits) l.next_is ∙ after-all m.commits f.commits) in
-    let listed : entries ≡ f.commits ++ drop (length old.pending) final.pending =
-    l.entries_are ∙ (ap (λ es. es ++ drop waited pending) commits
-    ∙ (ap (λ n. f.commits ++ drop n pending) l.waited_is ∙ ap (λ ps. f.commits ++ drop (length old.pending) ps) stores)) in
+    let shape : m.statistics.caches.shape.words ≡ config.shape.words = ap (λ (c : Configuration). c.shape.words) l.machine.config in
+    let bus : m.bus ≡ config.bus = ap (λ (c : Configuration). c.bus) l.machine.config in
     let asked = request_at m.statistics.caches.shape.words (access_of m.test m.depth m.state.flat choice) in
     let request_same : request ≡ asked = l.request_is ∙ ap (λ n. request_at n (access_of m.test m.depth m.state.flat choice)) (sym shape) in
     let sent_same : sent ≡ sent_on m.bus f.outcome asked used end.statistics.caches.awaited =
     l.sent_is ∙ (ap (λ b. sent_on b outcome request how next.statistics.caches.awaited) (sym bus) ∙ (ap (λ o. sent_on m.bus o request how next.statistics.caches.awaited) l.outcome_is
     ∙ (ap (λ r. sent_on m.bus f.outcome r how next.statistics.caches.awaited) request_same ∙ (ap (λ h. sent_on m.bus f.outcome asked h next.statistics.caches.awaited) l.how_is
     ∙ ap (λ (n : Running). sent_on m.bus f.outcome asked used n.statistics.caches.awaited) l.next_is)))) in
-    let changed : changes ≡ changes_in (states_of m) (states_of end) =
-    changes_are ∙ (ap (λ b. changes_in b after) l.told.states_are ∙ (ap (λ a. changes_in (states_of m) a) l.after_is ∙ ap (λ (n : Running). changes_in (states_of m) (states_of n)) l.next_is)) in
-    let moved_same : moved ≡ moved_from m.test old.place choice final.registers =
-    moved_is ∙ (ap (λ n. moved_from t n choice (core_of next.state.flat core).registers) l.place_is ∙ (ap (λ u. moved_from u old.place choice (core_of next.state.flat core).registers) (sym l.told.test)
+    let moved_same : moved ≡ moved_from m.test old.place choice (core_of end.state.flat core).registers =
+    moved_is ∙ (ap (λ n. moved_from t n choice (core_of next.state.flat core).registers) l.place_is ∙ (ap (λ u. moved_from u old.place choice (core_of next.state.flat core).registers) (sym l.machine.test)
     ∙ ap (λ (n : Running). moved_from m.test old.place choice (core_of n.state.flat core).registers) l.next_is)) in
     let victim : wrote_back ≡ wrote_back_by used core (changes_in (states_of m) (states_of end)) =
-    wrote_back_is ∙ (ap (λ h. wrote_back_by h core changes) l.how_is ∙ ap (λ cs. wrote_back_by used core cs) changed) in
-    let buffered : buffer ≡ buffer_if_changed (length old.pending) final.pending =
-    buffer_is ∙ (ap (λ n. buffer_if_changed n pending) l.waited_is ∙ ap (λ ps. buffer_if_changed (length old.pending) ps) stores) in
-    same-fields choice _ _ _ _ _ _ _ _ _ _ _ _ _ _ _ _ _ _ _ _ l.outcome_is listed moved_same (forwarded_is ∙ ap is_forwarded l.how_is) (access_is ∙ ap access_in l.how_is)
-    (ap (λ (s : Sent). s.request) sent_same) (ap (λ (s : Sent). s.flushed) sent_same) victim changed buffered
+    wrote_back_is ∙ (ap (λ h. wrote_back_by h core left.changes.items) l.how_is ∙ ap (λ cs. wrote_back_by used core cs) l.left_is.changes) in
+    same-fields choice _ _ _ _ _ _ _ _ _ _ _ _ _ _ _ _ _ _ _ _ l.outcome_is l.left_is.entries moved_same (forwarded_is ∙ ap is_forwarded l.how_is) (access_is ∙ ap access_in l.how_is)
+    (ap (λ (s : Sent). s.request) sent_same) (ap (λ (s : Sent). s.flushed) sent_same) victim l.left_is.changes l.left_is.buffer
 
 -- ---- the machine after the choice
 
@@ -114,18 +191,68 @@ configuration-kept m choice =
     ap made (used-shape (is_awaited m.state.holder) (is_awaited f.holder) m.statistics.caches (chosen choice) (access_of m.test m.depth m.state.flat choice)
     (core_of m.state.flat (chosen choice)).pending f.effect.commits)
 
-pub told-next : (t : Litmus) (config : Configuration) (m next : Running) (choice : Choice) (before after : List PlacedState) → IsTold t config m before
-    → next ≡ machine_after m choice → after ≡ states_of next → IsTold t config next after
-told-next t config m next choice before after told is states = record {
-  test = ap (λ (n : Running). n.test) is ∙ told.test;
-  config = ap configuration_of is ∙ (configuration-kept m choice ∙ told.config);
-  states_are = states;
+pub words-kept : (m : Running) (choice : Choice) → (machine_after m choice).statistics.caches.shape.words ≡ m.statistics.caches.shape.words
+words-kept m choice = ap (λ (c : Configuration). c.shape.words) (configuration-kept m choice)
+
+stores-kept : (m : Running) (choice : Choice) → IsTest m.test → AreStoresKnown m.test m.state.flat → AreStoresKnown m.test (machine_after m choice).state.flat
+stores-kept m choice valid known =
+    stores-next m.test m.state.flat (chosen choice) (effect_by m choice).effect known (effect-places m.bus m.test m.depth m.state (attempt_on m choice) valid known).pending
+
+known-there : (t : Litmus) (config : Configuration) (m : Running) → IsTraced t config m → AreStoresKnown m.test m.state.flat
+known-there t config m is = subst (λ u. AreStoresKnown u m.state.flat) (sym is.test) is.stores
+
+pub traced-next : (t : Litmus) (config : Configuration) (m : Running) (choice : Choice) → IsTest t → IsTraced t config m → IsTraced t config (machine_after m choice)
+traced-next t config m choice valid is = record {
+  test = is.test;
+  config = configuration-kept m choice ∙ is.config;
+  whole = is.whole;
+  cores = length-set m.state.flat.cores (chosen choice) (effect_by m choice).effect.after ∙ is.cores;
+  stores = subst (λ u. AreStoresKnown u (machine_after m choice).state.flat) is.test (stores-kept m choice (subst IsTest (sym is.test) valid) (known-there t config m is));
 }
 
-pub looked-next : (t : Litmus) (config : Configuration) (m next : Running) (choice : Choice) (before : List PlacedState) (words : ℕ) → IsTold t config m before
-    → next ≡ machine_after m choice → words ≡ config.shape.words → IsLineSize words → IsLookedAt t words next
-looked-next t config m next choice before words told is size some = record {
-  test = ap (λ (n : Running). n.test) is ∙ told.test;
-  some = some-word words some;
-  words_are = ap (λ (c : Configuration). c.shape.words) (ap configuration_of is ∙ (configuration-kept m choice ∙ told.config)) ∙ sym size;
+pub told-next : (t : Litmus) (config : Configuration) (m next : Running) (choice : Choice) (after : List PlacedState) → IsTest t → IsTraced t config m
+    → next ≡ machine_after m choice → after ≡ states_of (machine_after m choice) → IsTold t config next after
+told-next t config m next choice after valid is next_is states =
+    subst (λ (n : Running). IsTold t config n after) (sym next_is) (record { machine = traced-next t config m choice valid is; states_are = states })
+
+pub looked-at : (t : Litmus) (config : Configuration) (m : Running) → IsTraced t config m → IsLineSize config.shape.words → IsLookedAt t config.shape.words m
+looked-at t config m is some = record {
+  test = is.test;
+  some = some-word config.shape.words some;
+  words_are = ap (λ (c : Configuration). c.shape.words) is.config;
 }
+
+pub looked-next : (t : Litmus) (config : Configuration) (m next : Running) (choice : Choice) → IsTest t → IsTraced t config m
+    → next ≡ machine_after m choice → IsLineSize config.shape.words → IsLookedAt t config.shape.words next
+looked-next t config m next choice valid is next_is some =
+    subst (λ (n : Running). IsLookedAt t config.shape.words n) (sym next_is) (looked-at t config (machine_after m choice) (traced-next t config m choice valid is) some)
+
+-- ---- what a step names
+
+known-here : (m : Running) (choice : Choice) → IsTest m.test → AreStoresKnown m.test m.state.flat → 0 < m.statistics.caches.shape.words
+    → IsKnown m.test m.statistics.caches.shape.words (step_of m choice)
+unfolding step_of
+known-here m choice valid known some =
+    let t = m.test in
+    let words = m.statistics.caches.shape.words in
+    let f = (effect_by m choice).effect in
+    let end = machine_after m choice in
+    let places = effect-places m.bus t m.depth m.state (attempt_on m choice) valid known in
+    let stores : All (IsAt t) (stores_on end choice) = stores-kept m choice valid known (chosen choice) in
+    let changes = changes-known t words (states_of m) (states_of end) (states-known m some) in
+    record {
+      entries = All-append (HasLocation t) f.commits (drop (length (stores_on m choice)) (stores_on end choice)) places.commits
+          (All-weaker (IsAt t) (HasLocation t) (at-place t) _ (All-drop (IsAt t) (length (stores_on m choice)) (stores_on end choice) stores));
+      request = sent-known t words m.bus f.outcome _ (use_by m choice).how end.statistics.caches.awaited
+          (request-known t words (access_of t m.depth m.state.flat choice) some (access-known t m.depth m.state.flat choice valid known));
+      wrote_back = written-back-known t words (use_by m choice).how (chosen choice) (changes_in (states_of m) (states_of end)) changes;
+      changes = changes;
+      buffer = buffer-known t (length (stores_on m choice)) (stores_on end choice) stores;
+    }
+
+pub step-known : (t : Litmus) (config : Configuration) (m : Running) (choice : Choice) → IsTest t → IsTraced t config m → IsLineSize config.shape.words
+    → IsKnown t config.shape.words (step_of m choice)
+step-known t config m choice valid is some =
+    let words : m.statistics.caches.shape.words ≡ config.shape.words = ap (λ (c : Configuration). c.shape.words) is.config in
+    subst (λ u. IsKnown u config.shape.words (step_of m choice)) is.test (subst (λ n. IsKnown m.test n (step_of m choice)) words
+    (known-here m choice (subst IsTest (sym is.test) valid) (known-there t config m is) (subst (λ n. 0 < n) (sym words) (some-word config.shape.words some))))

@@ -1,1 +1,7 @@
+pub mod TraceLaws
 pub mod inner
+pub mod Known
+pub mod Lines
+pub mod Shown
+pub mod Steps
+pub mod Told

@@ -1,6 +1,4 @@
 -- Words of contracts inside the project.
-pub mod Known
+pub mod Left
 pub mod Told
-pub mod Lines
-pub mod Shown
 pub mod Steps

@@ -2,11 +2,14 @@
 //! and memory.
 #![tactic(auto)]
 
-mod names;
+pub mod laws;
+pub mod names;
 mod sending;
-mod states;
+pub mod states;
 pub mod step;
 pub mod telling;
 pub mod text;
+pub mod tracing;
 
 pub use step::{LineRequest, LineState, Moved, StateChange, Step};
+pub use tracing::write_trace;

@@ -2,7 +2,7 @@
 
 ghost use Rattle.std.specs.Prelude.{◌≡◌};
 ghost use Rattle.protocol_tables.specs.PrintedTable.{letter};
-ghost use Rattle.trace_report.specs.inner.Lines.{stall_name, access_name, request_name, transient_name, state_name};
+ghost use Rattle.trace_report.specs.Lines.{stall_name, access_name, request_name, transient_name, state_name};
 
 use crate::step::LineState;
 use protocol_tables::{Request, State, Transient};
@@ -54,7 +54,8 @@ pub fn state_name(state: LineState) -> &'static str
     }
 }
 
-fn transient_name(transient: Transient) -> &'static str
+/// The name of what a line is in while its words are awaited.
+pub fn transient_name(transient: Transient) -> &'static str
     ensures { result.now ≡ transient_name transient }
 {
     match transient {

@@ -2,9 +2,9 @@
 
 ghost use Rattle.std.specs.Prelude.{◌≡◌, ◌<◌, ◌++◌, IfOk, OnOk, length};
 ghost use Rattle.std.specs.Int.{div_ceil};
-ghost use Rattle.machine_core.specs.inner.Looked.{bus_holder_of};
-ghost use Rattle.trace_report.specs.inner.Steps.{awaited_at, line_state, placed, line_states, lines_of, states_of, number_of};
-ghost use Rattle.trace_report.specs.inner.Steps.{change_of, changes_in, left_by};
+ghost use Rattle.machine_core.specs.Looked.{bus_holder_of};
+ghost use Rattle.trace_report.specs.Steps.{awaited_at, line_state, placed, line_states, lines_of, states_of, number_of};
+ghost use Rattle.trace_report.specs.Steps.{change_of, changes_in, left_by};
 ghost use Rattle.trace_report.specs.inner.Told.{IsLookedAt};
 
 use crate::step::{LineState, StateChange, core_of};
@@ -62,8 +62,9 @@ fn note_core<P: Protocol>(
     Ok(())
 }
 
-/// What a core's line is in. While the core has asked for it and awaits it, that is a transient.
-fn line_state<P: Protocol>(
+/// What a core's line is in, where lines have so many words and this is the action that holds the bus. While the core
+/// has asked for the line and awaits it, that is a transient.
+pub fn line_state<P: Protocol>(
     machine: &Machine<P>,
     holder: Option<BusHolder>,
     words: u8,

@@ -67,7 +67,7 @@ pub struct StateChange {
 }
 
 /// The core that a choice names.
-pub(crate) fn core_of(choice: Choice) -> Core
+pub fn core_of(choice: Choice) -> Core
     ensures { result.0 ≡ chosen choice }
 {
     match choice {

@@ -1,13 +1,18 @@
 //! What each choice on a machine did, told from the machine before it and after it.
 
-ghost use Rattle.std.specs.Prelude.{◌≡◌, ◌<◌, ◌++◌, IfOk, OnOk, length, drop};
+ghost use Rattle.std.specs.Prelude.{◌≡◌, ◌<◌, ◌+◌, ◌^◌, ◌++◌, IfOk, OnOk, length, drop};
 ghost use Rattle.std.specs.Option.{option_map};
+ghost use Rattle.tso_model.specs.Litmus.{IsTest};
 ghost use Rattle.tso_model.specs.Actions.{action_of};
 ghost use Rattle.tso_model.specs.FlatMachine.{chosen, core_of};
-ghost use Rattle.machine_core.specs.inner.Running.{machine_after};
-ghost use Rattle.trace_report.specs.inner.Shown.{shown};
-ghost use Rattle.trace_report.specs.inner.Steps.{is_forwarded, access_in, moved_from, moved_by, buffer_if_changed, wrote_back_by, step_of};
-ghost use Rattle.trace_report.specs.inner.Told.{IsTold};
+ghost use Rattle.machine_core.specs.Running.{machine_after};
+ghost use Rattle.trace_report.specs.Shown.{shown};
+ghost use Rattle.trace_report.specs.inner.Steps.{waited_before};
+ghost use Rattle.trace_report.specs.Steps.{is_forwarded, access_in, moved_from, moved_by, buffer_if_changed, wrote_back_by, step_of, states_of};
+ghost use Rattle.trace_report.specs.Known.{IsKnown};
+ghost use Rattle.trace_report.specs.inner.Told.{IsLookedAt};
+ghost use Rattle.trace_report.specs.Told.{IsTold};
+ghost use Rattle.trace_report.specs.inner.Left.{IsNothing, IsLeftBy, IsSeen, AreSeen};
 
 use crate::sending::{request_at, sent_on};
 use crate::states::{PlacedState, changes_in, left_by, states_of};
@@ -16,7 +21,7 @@ use machine_core::{CacheUse, Config, Machine};
 use protocol_tables::Protocol;
 use snoop_bus::AccessKind;
 use std::alloc::Global;
-use tso_model::{Action, Choice, Core, Entry, Instr, NoMemory, Test};
+use tso_model::{Action, Choice, Core, Entry, Instr, NoMemory, Outcome, Test};
 
 /// Makes a choice on a machine, and answers what it did. The states are those of the machine's lines, before it and then
 /// after it.
@@ -33,40 +38,141 @@ pub fn tell<P: Protocol>(
     requires core { chosen choice < length test.now.programs }
     requires told { IsTold test.now config machine.old states.old.items }
     ensures step { IfOk result (λ step. shown step ≡ step_of machine.old choice) }
+    ensures known { IfOk result (λ step. IsKnown test.now config.shape.words (shown step)) }
     ensures after { OnOk result (machine.new ≡ machine_after machine.old choice) }
     ensures told { OnOk result (IsTold test.now config machine.new states.new.items) }
 {
+    know_test(test);
     let core = core_of(choice);
-    let words = config.words();
     let place = machine.place(core).unwrap_or(0);
     let committed = machine.committed().len();
-    let waited = pending_of(alloc, machine, core)?.len();
-    let request = request_at(machine.access(choice), words);
+    let request = request_at(machine.access(choice), config.words());
     let (outcome, cache_use) = machine.choose_telling(choice)?;
-    let pending = pending_of(alloc, machine, core)?;
-    let entries = entries_since(alloc, machine.committed(), committed, &pending, waited)?;
+    let left = look_again(
+        alloc, machine, states, test, config, choice, outcome, committed,
+    )?;
     let sent = sent_on(config.bus(), outcome, request, cache_use, machine.awaited());
-    let after = states_of(alloc, machine, test, words)?;
-    let changes = changes_in(alloc, states, &after)?;
-    let wrote_back = wrote_back_by(cache_use, core, &changes);
-    *states = after;
+    let wrote_back = wrote_back_by(cache_use, core, &left.changes);
     Ok(Step {
         choice,
         outcome,
-        entries,
+        entries: left.entries,
         moved: moved_in(machine, test, choice, place),
         forwarded: is_forwarded(cache_use),
         access: access_in(cache_use),
         request: sent.request,
         flushed: sent.flushed,
         wrote_back,
+        changes: left.changes,
+        buffer: left.buffer,
+    })
+}
+
+/// A test is within the limits.
+fn know_test(test: &Test)
+    ensures { IsTest test.now }
+{
+    let _cores = test.cores();
+}
+
+/// What a choice left in the order, in the lines and in its core's buffer.
+#[derive(Drop)]
+struct Left {
+    /// The entries that it committed, and that of a store that became pending.
+    entries: Vec<Entry>,
+    changes: Vec<StateChange>,
+    /// The core's pending stores, where they changed.
+    buffer: Option<Vec<Entry>>,
+}
+
+impl Left {
+    fn nothing(alloc: Global) -> Left
+        ensures { IsNothing result }
+    {
+        Left {
+            entries: Vec::new(alloc),
+            changes: Vec::new(alloc),
+            buffer: None,
+        }
+    }
+}
+
+/// What a choice with this outcome left, where so many entries were committed before it. The states are those of the
+/// machine's lines, before it and then after it. A stall changes nothing, so after it nothing is looked at again.
+///
+/// Errors: out of memory only.
+fn look_again<P: Protocol>(
+    alloc: Global,
+    machine: &Machine<P>,
+    states: &mut Vec<PlacedState>,
+    test: &Test,
+    config: Config,
+    choice: Choice,
+    outcome: Outcome,
+    committed: usize,
+) -> Result<Left, NoMemory>
+    requires { IsLookedAt test.now config.shape.words machine.now }
+    ensures left { IfOk result (IsSeen machine.now states.old.items choice outcome committed) }
+    ensures states { OnOk result (AreSeen machine.now states.old.items outcome states.new.items) }
+{
+    match outcome {
+        Outcome::Stalled(_) => Ok(Left::nothing(alloc)),
+        Outcome::Committed | Outcome::Buffered | Outcome::Moved | Outcome::Asked => {
+            left_behind(
+                alloc, machine, states, test, config, choice, outcome, committed,
+            )
+        }
+    }
+}
+
+/// What a choice with this outcome left, where so many entries were committed before it. The states are those of the
+/// machine's lines, before it and then after it.
+///
+/// Errors: out of memory only.
+fn left_behind<P: Protocol>(
+    alloc: Global,
+    machine: &Machine<P>,
+    states: &mut Vec<PlacedState>,
+    test: &Test,
+    config: Config,
+    choice: Choice,
+    outcome: Outcome,
+    committed: usize,
+) -> Result<Left, NoMemory>
+    requires { IsLookedAt test.now config.shape.words machine.now }
+    ensures left { IfOk result (IsLeftBy machine.now states.old.items choice outcome committed) }
+    ensures states { OnOk result (states.new.items ≡ states_of machine.now) }
+{
+    let pending = pending_of(alloc, machine, core_of(choice))?;
+    let waited = waited_before(outcome, choice, pending.len());
+    let entries = entries_since(alloc, machine.committed(), committed, &pending, waited)?;
+    let after = states_of(alloc, machine, test, config.words())?;
+    let changes = changes_in(alloc, states, &after)?;
+    *states = after;
+    Ok(Left {
+        entries,
         changes,
         buffer: changed_buffer(pending, waited),
     })
 }
 
+/// How many stores were pending before a choice with this outcome that left so many.
+fn waited_before(outcome: Outcome, choice: Choice, pending: usize) -> usize
+    requires { pending + 1 < 2 ^ 64 }
+    ensures { result ≡ waited_before outcome choice pending }
+{
+    match outcome {
+        Outcome::Buffered => pending.saturating_sub(1),
+        Outcome::Committed => match choice {
+            Choice::Step(_) => pending,
+            Choice::Drain(_) => pending + 1,
+        },
+        Outcome::Moved | Outcome::Asked | Outcome::Stalled(_) => pending,
+    }
+}
+
 /// The pending stores of a core, the oldest first.
-fn pending_of<P: Protocol>(
+pub fn pending_of<P: Protocol>(
     alloc: Global,
     machine: &Machine<P>,
     core: Core,

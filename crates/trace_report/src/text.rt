@@ -2,13 +2,14 @@
 
 ghost use Rattle.std.specs.Prelude.{◌≡◌, ◌++◌, OnOk, All, IfSome, Some, codes, string_bytes};
 ghost use Rattle.order_builder.specs.PrintedOrder.{HasLocation};
-ghost use Rattle.trace_report.specs.inner.Shown.{shown};
+ghost use Rattle.trace_report.specs.Shown.{shown};
 ghost use Rattle.protocol_tables.specs.PrintedTable.{line};
-ghost use Rattle.trace_report.specs.inner.Lines.{line_name, entries_text, moved_text, access_text, outcome_text};
-ghost use Rattle.trace_report.specs.inner.Lines.{request_text, flush_text, write_back_text, change_text, changes_text};
-ghost use Rattle.trace_report.specs.inner.Lines.{store_text, later_stores, stores_text, buffer_text, done_text, bus_text, left_text};
-ghost use Rattle.trace_report.specs.inner.Lines.{step_line, end_line};
-ghost use Rattle.trace_report.specs.inner.Known.{IsLine, IsAt, IsKnown};
+ghost use Rattle.trace_report.specs.Lines.{line_name, entries_text, moved_text, access_text, outcome_text};
+ghost use Rattle.trace_report.specs.Lines.{request_text, flush_text, write_back_text, changes_text};
+ghost use Rattle.trace_report.specs.Lines.{printed_move, printed_request, printed_change};
+ghost use Rattle.trace_report.specs.Lines.{store_text, later_stores, stores_text, buffer_text, done_text, bus_text, left_text};
+ghost use Rattle.trace_report.specs.Lines.{step_line, end_line};
+ghost use Rattle.trace_report.specs.Known.{IsLine, IsAt, IsKnown};
 
 use crate::names::{access_name, request_name, stall_name, state_name};
 use crate::step::{LineRequest, Moved, StateChange, Step, core_of};
@@ -118,9 +119,20 @@ fn write_moved(text: &mut String, moved: Option<Moved>) -> Result<(), NoMemory>
     ensures { OnOk result (string_bytes text.new ≡ string_bytes text.old ++ moved_text moved) }
 {
     if let Some(moved) = moved {
-        let (name, value) = (moved.reg.name(), moved.value);
-        write!(text, " {name}={value}")?;
+        text.push(' ')?;
+        write_move(text, moved)?;
     }
+    Ok(())
+}
+
+/// Writes `EAX=5`.
+///
+/// Errors: out of memory only.
+pub fn write_move(text: &mut String, moved: Moved) -> Result<(), NoMemory>
+    ensures { OnOk result (string_bytes text.new ≡ string_bytes text.old ++ printed_move moved) }
+{
+    let (name, value) = (moved.reg.name(), moved.value);
+    write!(text, "{name}={value}")?;
     Ok(())
 }
 
@@ -154,11 +166,27 @@ fn write_request(
     ensures { OnOk result (string_bytes text.new ≡ string_bytes text.old ++ request_text test.now words request) }
 {
     if let Some(request) = request {
-        let name = request_name(request.request);
-        write!(text, " {name} ")?;
-        write_line_name(text, test, words, request.line)?;
+        text.push(' ')?;
+        write_line_request(text, test, words, request)?;
     }
     Ok(())
+}
+
+/// Writes `GetS x`.
+///
+/// Errors: out of memory only; the text may have grown then.
+pub fn write_line_request(
+    text: &mut String,
+    test: &Test,
+    words: u8,
+    request: LineRequest,
+) -> Result<(), NoMemory>
+    requires { IsLine test.now words request.line }
+    ensures { OnOk result (string_bytes text.new ≡ string_bytes text.old ++ printed_request test.now words request) }
+{
+    let name = request_name(request.request);
+    write!(text, "{name} ")?;
+    write_line_name(text, test, words, request.line)
 }
 
 fn write_flush(text: &mut String, flushed: Option<Core>) -> Result<(), NoMemory>
@@ -187,8 +215,15 @@ fn write_write_back(
     Ok(())
 }
 
-/// The names of the locations of a line, with `+` between them.
-fn write_line_name(text: &mut String, test: &Test, words: u8, number: u8) -> Result<(), NoMemory>
+/// Writes the names of the locations of a line, with `+` between them.
+///
+/// Errors: out of memory only; the text may have grown then.
+pub fn write_line_name(
+    text: &mut String,
+    test: &Test,
+    words: u8,
+    number: u8,
+) -> Result<(), NoMemory>
     requires { IsLine test.now words number }
     ensures { OnOk result (string_bytes text.new ≡ string_bytes text.old ++ line_name test.now words number) }
 {
@@ -225,24 +260,27 @@ fn write_changes(
     ensures { OnOk result (string_bytes text.new ≡ string_bytes text.old ++ changes_text test.now words changes.now) }
 {
     for change in changes {
+        text.push(' ')?;
         write_change(text, test, words, *change)?;
     }
     Ok(())
 }
 
-/// ` P1.x S>I`.
-fn write_change(
+/// Writes `P1.x S>I`.
+///
+/// Errors: out of memory only; the text may have grown then.
+pub fn write_change(
     text: &mut String,
     test: &Test,
     words: u8,
     change: StateChange,
 ) -> Result<(), NoMemory>
     requires { IsLine test.now words change.line }
-    ensures { OnOk result (string_bytes text.new ≡ string_bytes text.old ++ change_text test.now words change) }
+    ensures { OnOk result (string_bytes text.new ≡ string_bytes text.old ++ printed_change test.now words change) }
 {
     let core = change.core.0;
     let (before, after) = (state_name(change.before), state_name(change.after));
-    write!(text, " P{core}.")?;
+    write!(text, "P{core}.")?;
     write_line_name(text, test, words, change.line)?;
     write!(text, " {before}>{after}")?;
     Ok(())
@@ -279,7 +317,10 @@ fn write_later(text: &mut String, test: &Test, stores: &[Entry]) -> Result<(), N
     Ok(())
 }
 
-fn write_store(text: &mut String, test: &Test, store: &Entry) -> Result<(), NoMemory>
+/// Writes a pending store, `x=1`.
+///
+/// Errors: out of memory only; the text may have grown then.
+pub fn write_store(text: &mut String, test: &Test, store: &Entry) -> Result<(), NoMemory>
     requires { IsAt test.now store.now }
     ensures { OnOk result (string_bytes text.new ≡ string_bytes text.old ++ store_text test.now store.now) }
 {

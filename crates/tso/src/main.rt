@@ -118,7 +118,7 @@ fn run(rt: &HostRuntime, settings: &Settings) -> u8
     match answer_command(rt.alloc(), &mut reader, &mut writer, settings) {
         Ok(answered) => match writer.flush() {
             Ok(()) => {
-                tell_hint(rt, &answered);
+                tell_hint(rt, settings, &answered);
                 exit_status(answered.answer.status)
             }
             Err(_) => fault(rt, "fault device", FAULT),
@@ -129,8 +129,8 @@ fn run(rt: &HostRuntime, settings: &Settings) -> u8
 }
 
 /// Tells the hint of an answer on standard error, if there is one, and memory for it.
-fn tell_hint(rt: &HostRuntime, answered: &Answered) {
-    if let Ok(hint) = hint(rt.alloc(), &answered.answer, &answered.input) {
+fn tell_hint(rt: &HostRuntime, settings: &Settings, answered: &Answered) {
+    if let Ok(hint) = hint(rt.alloc(), settings, &answered.answer, &answered.input) {
         if !hint.is_empty() {
             let _ = rt.eprint(hint.as_str());
         }

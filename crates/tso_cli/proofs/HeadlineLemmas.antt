@@ -1,5 +1,5 @@
 -- The headline holds of each answer.
-use Rattle.std.proofs.Common.{◌≡◌, ◌<◌, ◌^◌, ℕ, Bool, List, length, true, false, Option, Some, None, IfSome, subst, refl, arith}
+use Rattle.std.proofs.Common.{◌≡◌, ◌<◌, ◌^◌, ℕ, Bool, List, ◌++◌, length, true, false, Option, Some, None, IfSome, subst, refl, arith}
 use Rattle.tso_model.specs.Litmus.{Litmus, IsTest}
 use Rattle.tso_model.specs.Axioms.{IsWhole}
 use Rattle.tso_model.specs.Standing.{StandsIn}
@@ -17,16 +17,19 @@ use Rattle.protocol_tables.specs.Tables.{Table, table_of}
 use Rattle.protocol_tables.specs.declared.kind.ProtocolKind.{ProtocolKind}
 use Rattle.snoop_bus.specs.Geometry.{IsShapeWithinLimits as IsShape}
 use Rattle.machine_core.specs.Configuration.{Configuration, IsConfigurationWithinLimits}
-use Rattle.tso_report.specs.Report.{report}
+use Rattle.tso_report.specs.Report.{head, report}
 use Rattle.tso_report.specs.Shown.{Shown}
 use Rattle.tso_cli.specs.Answers.{run_text, IsRunAnswer, IsAnswerTo, IsInputAnswer, IsAnswer, too_large, refused, answered, ran}
 use Rattle.command_line.specs.Limits.{IsWithinLimits}
 use Rattle.tso_cli.specs.Parts.{parts_of}
 use Rattle.command_line.specs.Plan.{Plan}
 use Rattle.tso_cli.specs.RunHeadline.{PrintsExecution, PrintsEachRun, HeadlineOfRuns}
+use Rattle.tso_cli.specs.Trace.{ending_text, traced_text, IsTraceAnswer, refused, traced}
+use Rattle.tso_cli.specs.TraceHeadline.{PrintsTrace, PrintsEachTrace, HeadlineOfTraces}
 use Rattle.tso_cli.specs.SweepHeadline.{PrintsSweep, HeadlineOfSweeps}
 use Rattle.tso_cli.specs.Headline.{HeadlineOf, InputHeadline, Headline}
 use Rattle.tso_cli.specs.Runs.{run_by, run_under, AnswersFitBy, AnswersFit, counts_under}
+use Rattle.tso_cli.specs.Lines.{unfinished_line}
 use Rattle.tso_cli.specs.RunTexts.{report_in, unfinished_in}
 use Rattle.tso_cli.specs.Simulation.{shown_of}
 use Rattle.command_line.specs.declared.settings.Settings.{Settings}
@@ -101,6 +104,45 @@ run-means t kind c json text _ _ decided law all spells (ran made spelled fit) =
   every_other = λ none. absurd (none made spelled);
 }
 
+-- ---- of `trace`
+
+-- what `trace` writes of choices, without the trace
+abbrev untraced_of : Litmus → ProtocolKind → Configuration → List Choice → List ℕ
+untraced_of t kind c choices = head t kind c ++ ending_text t (counts_under t kind c choices) (run_under t kind c choices)
+
+-- where the choices end the test that is what `run` writes
+is-written : (t : Litmus) (kind : ProtocolKind) (c : Configuration) (choices : List Choice) → HasEnded t kind c choices
+    → untraced_of t kind c choices ≡ written_of t kind c false choices
+is-written t kind c choices ended = rw ended refl
+
+is-unfinished : (t : Litmus) (kind : ProtocolKind) (c : Configuration) (choices : List Choice) → HasNotEnded t kind c choices
+    → ending_text t (counts_under t kind c choices) (run_under t kind c choices) ≡ unfinished_line (run_under t kind c choices).used (run_under t kind c choices).stalled
+is-unfinished t kind c choices unended = rw unended refl
+
+trace-means : (t : Litmus) (kind : ProtocolKind) (c : Configuration) (text out : List ℕ) (status : Status) → IsDecided (length t.programs) text
+    → ((choices : List Choice) → AnswersFit t kind c choices → HasEnded t kind c choices → IsExecution t (run_under t kind c choices))
+    → ((choices : List Choice) → c.depth ≡ 0 → AnswersFit t kind c choices → HasEnded t kind c choices → KeepsAllOrder (run_under t kind c choices).commits)
+    → ((choices : List Choice) (out : List ℕ) → AnswersFit t kind c choices → out ≡ written_of t kind c false choices → HasEnded t kind c choices → Spells t kind c false choices out)
+    → IsTraceAnswer t kind c text out status → PrintsEachTrace t kind c (λ choices. run_under t kind c choices) text out
+trace-means t kind c text _ _ decided law all spells (refused fault h) = record {
+  every_list = λ choices spelled. absurd (decided.never_both choices fault spelled h);
+  every_other = λ none. (fault, h, refl);
+}
+trace-means t kind c text _ _ decided law all spells (traced made spelled fit) = record {
+  every_list = λ choices read.
+      let is : made ≡ choices = decided.one_list made choices spelled read in
+      let out : List ℕ = untraced_of t kind c made in
+      subst (λ cs. PrintsTrace t kind c cs (run_under t kind c cs) (traced_text t kind c made)) is
+      (record {
+        rest = ending_text t (counts_under t kind c made) (run_under t kind c made);
+        printed = refl;
+        ended = λ ended. prints-one t kind c false made out (is-written t kind c made ended) (law made fit) (λ none. all made none fit)
+            (λ e. spells made out fit (is-written t kind c made e) e) ended;
+        unended = is-unfinished t kind c made;
+      });
+  every_other = λ none. absurd (none made spelled);
+}
+
 -- what is said of the runs on either bus is said of each bus apart
 
 runs-by-bus : (t : Litmus) (kind : ProtocolKind) (c : Configuration) (json : Bool) (text out : List ℕ)
@@ -108,6 +150,13 @@ runs-by-bus : (t : Litmus) (kind : ProtocolKind) (c : Configuration) (json : Boo
 runs-by-bus t kind c json text out prints = record {
   atomic = λ is. subst (λ (b : Bus). PrintsEachRun t kind c json (λ choices. run_by b (table_of kind) c t choices) text out) is prints;
   split = λ is. subst (λ (b : Bus). PrintsEachRun t kind c json (λ choices. run_by b (table_of kind) c t choices) text out) is prints;
+}
+
+traces-by-bus : (t : Litmus) (kind : ProtocolKind) (c : Configuration) (text out : List ℕ)
+    → PrintsEachTrace t kind c (λ choices. run_under t kind c choices) text out → HeadlineOfTraces t kind c text out
+traces-by-bus t kind c text out prints = record {
+  atomic = λ is. subst (λ (b : Bus). PrintsEachTrace t kind c (λ choices. run_by b (table_of kind) c t choices) text out) is prints;
+  split = λ is. subst (λ (b : Bus). PrintsEachTrace t kind c (λ choices. run_by b (table_of kind) c t choices) text out) is prints;
 }
 
 sweeps-by-bus : (t : Litmus) (kind : ProtocolKind) (c : Configuration) (plan : Plan) (out : List ℕ)
@@ -144,6 +193,11 @@ answer-means (settings.Run kind c json) t text out status texts runs reaching se
     (run-means t kind c json text out status (texts.decided (length t.programs) text test.some_core) (λ choices. runs.executions (table_of kind) c t choices test)
     (λ choices none. runs.unbuffered (table_of kind) c t choices none test)
     (λ choices out. report-spells t kind c json choices out runs test within) is)
+answer-means (settings.Trace kind c) t text out status texts runs reaching searches within test short is =
+    traces-by-bus t kind c text out
+    (trace-means t kind c text out status (texts.decided (length t.programs) text test.some_core) (λ choices. runs.executions (table_of kind) c t choices test)
+    (λ choices none. runs.unbuffered (table_of kind) c t choices none test)
+    (λ choices out. report-spells t kind c false choices out runs test within) is)
 answer-means (settings.Sweep kind c plan) t text out status texts runs reaching searches within test short is =
     sweeps-by-bus t kind c plan out
     (sweep-means t kind c plan out status (λ choices. runs.executions (table_of kind) c t choices test) (λ choices none. runs.unbuffered (table_of kind) c t choices none test) (runs.atomic (table_of kind) c t) is)

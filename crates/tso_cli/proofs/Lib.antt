@@ -9,6 +9,7 @@ pub mod AnswerLemmas
 pub mod PartLemmas
 mod Lines
 pub mod OneAnswer
+pub mod TraceLemmas
 pub mod WitnessLemmas
 pub mod OutcomesLemmas
 pub mod Revisited

@@ -1,7 +1,8 @@
 -- On the atomic bus the protocol and the shape of the caches change two kinds of lines alone.
-use Rattle.std.proofs.Common.{◌≡◌, ◌==◌, ◌+◌, ℕ, zero, suc, Bool, true, false, cond, List, [], ◌∷◌, ◌++◌, length, Some, codes, refl, sym, ap, subst, ◌∙◌, append_assoc, arith}
+use Rattle.std.proofs.Common.{◌≡◌, ◌==◌, ◌+◌, ℕ, zero, suc, Bool, true, false, cond, List, [], ◌∷◌, ◌++◌, length, Some, codes, refl, sym, ap, subst, ◌∙◌, append_assoc, append-nil, arith}
 use Rattle.std.specs.Fmt.{decimal}
 use Rattle.tso_model.specs.Litmus.{Litmus, IsTest}
+use Rattle.tso_model.specs.FlatMachine.{registers_in}
 use Rattle.tso_model.specs.Runs.{Run, run}
 use Rattle.tso_model.specs.declared.choice.Choice.{Choice}
 use Rattle.scheduler.specs.Refusals.{IsDecided}
@@ -11,20 +12,24 @@ use Rattle.machine_core.specs.Configuration.{Configuration}
 use Rattle.machine_core.specs.declared.counts.Counts.{Counts}
 use Rattle.order_builder.specs.PrintedOrder.{printed_order}
 use Rattle.tso_report.specs.Shown.{Shown}
-use Rattle.tso_report.specs.Report.{line, test_line, machine_line, register_lines, memory_line, condition_line, choices_line, cache_lines, report}
+use Rattle.tso_report.specs.Report.{line, head, body, test_line, machine_line, register_lines, memory_line, condition_line, choices_line, cache_lines, report}
 use Rattle.tso_report.specs.Json.{json_report}
 use Rattle.tso_report.specs.inner.JsonFrame.{other_members}
 use Rattle.tso_report.specs.Tally.{RunCounts, tally_text}
 use Rattle.command_line.specs.Plan.{Plan}
 use Rattle.command_line.specs.declared.settings.Settings.TheVariants as settings
 use Rattle.tso_cli.specs.Parts.{parts_of, EndsInFeed}
-use Rattle.tso_cli.specs.Lines.{input_refusal, test_refusal, choices_refusal}
+use Rattle.tso_cli.specs.Lines.{input_refusal, test_refusal, choices_refusal, unfinished_line}
 use Rattle.tso_cli.specs.RunTexts.{report_in, unfinished_in}
 use Rattle.tso_cli.specs.Runs.{run_under, counts_under}
-use Rattle.tso_cli.specs.Simulation.{shown_of}
+use Rattle.tso_cli.specs.Simulation.{shown_of, verdict}
 use Rattle.tso_cli.specs.Sweep.{choices_of, seeded_run, with_one_run, counts_from, sweep_counts, sweep_status, IsSweepAnswer}
 use Rattle.tso_cli.specs.Answers.{run_text, run_status, text_under, status_under, IsRunAnswer, IsAnswerTo, IsInputAnswer, IsAnswer, too_large, refused, answered, ran}
-use Rattle.tso_cli.specs.Machines.{AreAtomicAtOneDepth, DifferInLines, DifferInMembers, ReportsDiffer, RunsAnswerAlike, SweepsAnswerAlike}
+use Rattle.tso_cli.specs.Machines.{AreAtomicAtOneDepth, DifferInLines, DifferInMembers, ReportsDiffer, RunsAnswerAlike, TracesDiffer, TracesAnswerAlike, SweepsAnswerAlike}
+use Rattle.tso_cli.specs.Trace.{ending_text, traced_text, IsTraceAnswer, refused, traced}
+use Rattle.trace_report.specs.Lines.{trace_text}
+use Rattle.trace_report.specs.Shown.{Shown as Step}
+use Rattle.trace_report.specs.Steps.{trace_under}
 use Rattle.tso_cli.specs.inner.ReadOneWay.{AreReadOneWay}
 use Rattle.command_line.specs.declared.settings.Settings.{Settings}
 use Rattle.tso_cli.specs.declared.answer.Status.{Status}
@@ -124,6 +129,18 @@ same-cores t kind other c d choices =
 
 -- ---- the answers
 
+never-refused : (b : Bool) → cond b Good Unended ≡ Refused → ⊥
+never-refused true h = let no : ⊥ = cc in no
+never-refused false h = let no : ⊥ = cc in no
+
+ends-unfinished : (used stalled : ℕ) → EndsInFeed (unfinished_line used stalled)
+ends-unfinished used stalled =
+    ends-after (codes "Unfinished used=") _ (ends-after (decimal used) _ (ends-after (codes " stalled=") (line (decimal stalled)) (ends-line (decimal stalled))))
+
+trace-refusals-alike : (kind other : ProtocolKind) (c d : Configuration) (out again : List ℕ) → out ≡ again
+    → TracesAnswerAlike kind other c d out again Refused Refused
+trace-refusals-alike kind other c d out again same = record { status = refl; traced = λ not_refused. absurd (not_refused refl); refused = λ is_refused. same }
+
 refusals-alike : (json : Bool) (kind other : ProtocolKind) (c d : Configuration) (out again : List ℕ) → out ≡ again
     → RunsAnswerAlike json kind other c d out again Refused Refused
 refusals-alike json kind other c d out again same = record { status = refl; ended = λ good. absurd (let no : ⊥ = cc in no); otherwise = λ not_good. same }
@@ -142,6 +159,66 @@ run-answers-alike t kind other c d json text _ _ _ _ law shape (ran choices spel
     (subst (λ (r : Run). RunsAnswerAlike json kind other c d out (run_text t other d json (counts_under t other d choices) r) status (run_status r)) (same-run t kind other c d choices shape)
     (one-run-alike t kind other c d (counts_under t kind c choices) (counts_under t other d choices) (run_under t kind c choices) (same-cores t kind other c d choices) json))
 
+-- two traces of one run, with other steps and other counts
+module _ (t : Litmus) (kind other : ProtocolKind) (c d : Configuration) (steps other_steps : List Step) (counts others : List Counts) (cores : length counts ≡ length others) (r : Run) where
+  abbrev trace_with : ProtocolKind → Configuration → List Step → List ℕ → List ℕ
+  trace_with named config told ending = head t named config ++ (trace_text t config.shape.words told ++ ending)
+
+  body-is : (all : List Counts) → body t (shown_of t all r) ≡ middle_lines t (shown_of t counts r) ++ cache_lines 0 all
+  body-is all = regrouped (printed_order t r.commits) (register_lines 0 (registers_in r.state)) (memory_line t r.state.memory)
+      (condition_line t (verdict t (registers_in r.state) r.state.memory)) (choices_line r.used r.stalled r.unused) (cache_lines 0 all)
+
+  no-end : (text : List ℕ) → text ≡ text ++ []
+  no-end text = sym (append-nil text)
+
+  traces-differ : (b : Bool) → TracesDiffer kind other c d
+      (trace_with kind c steps (cond b (body t (shown_of t counts r)) (unfinished_line r.used r.stalled)))
+      (trace_with other d other_steps (cond b (body t (shown_of t others r)) (unfinished_line r.used r.stalled)))
+  traces-differ true = record {
+    t = t;
+    steps = steps;
+    other_steps = other_steps;
+    rest = middle_lines t (shown_of t counts r);
+    counts = counts;
+    others = others;
+    whole_lines = ends-middle t (shown_of t counts r);
+    cores = cores;
+    first = ap (λ (ending : List ℕ). trace_with kind c steps ending) (body-is counts);
+    second = ap (λ (ending : List ℕ). trace_with other d other_steps ending) (body-is others);
+  }
+  traces-differ false = record {
+    t = t;
+    steps = steps;
+    other_steps = other_steps;
+    rest = unfinished_line r.used r.stalled;
+    counts = [];
+    others = [];
+    whole_lines = ends-unfinished r.used r.stalled;
+    cores = refl;
+    first = ap (λ (ending : List ℕ). trace_with kind c steps ending) (no-end (unfinished_line r.used r.stalled));
+    second = ap (λ (ending : List ℕ). trace_with other d other_steps ending) (no-end (unfinished_line r.used r.stalled));
+  }
+
+  traced-alike : TracesAnswerAlike kind other c d (trace_with kind c steps (ending_text t counts r)) (trace_with other d other_steps (ending_text t others r)) (run_status r) (run_status r)
+  traced-alike = record { status = refl; traced = λ not_refused. traces-differ r.ended; refused = λ is_refused. absurd (never-refused r.ended is_refused) }
+
+trace-answers-alike : (t : Litmus) (kind other : ProtocolKind) (c d : Configuration) (text out again : List ℕ) (status too : Status)
+    → IsDecided (length t.programs) text → AreAtomicAtOneDepth c d → IsTraceAnswer t kind c text out status → IsTraceAnswer t other d text again too
+    → TracesAnswerAlike kind other c d out again status too
+trace-answers-alike t kind other c d text _ _ _ _ law shape (refused f h) (refused g k) =
+    trace-refusals-alike kind other c d (choices_refusal f) (choices_refusal g) (ap choices_refusal (law.one_refusal f g h k))
+trace-answers-alike t kind other c d text _ _ _ _ law shape (refused f h) (traced choices spelled fit) = absurd (law.never_both choices f spelled h)
+trace-answers-alike t kind other c d text _ _ _ _ law shape (traced choices spelled fit) (refused f h) = absurd (law.never_both choices f spelled h)
+trace-answers-alike t kind other c d text _ _ _ _ law shape (traced choices spelled fit) (traced others again fit_too) =
+    let out = traced_text t kind c choices in
+    let status = status_under t kind c choices in
+    let steps = trace_under t kind c choices in
+    let other_steps = trace_under t other d choices in
+    let counts = counts_under t other d choices in
+    subst (λ (cs : List Choice). TracesAnswerAlike kind other c d out (traced_text t other d cs) status (status_under t other d cs)) (law.one_list choices others spelled again)
+    (subst (λ (r : Run). TracesAnswerAlike kind other c d out (head t other d ++ (trace_text t d.shape.words other_steps ++ ending_text t counts r)) status (run_status r)) (same-run t kind other c d choices shape)
+    (traced-alike t kind other c d steps other_steps (counts_under t kind c choices) counts (same-cores t kind other c d choices) (run_under t kind c choices)))
+
 -- what is counted of a sweep is the same
 same-counts : (t : Litmus) (kind other : ProtocolKind) (c d : Configuration) (count from seeds : ℕ) → AreAtomicAtOneDepth c d
     → counts_from t kind c count from seeds ≡ counts_from t other d count from seeds
@@ -149,10 +226,6 @@ same-counts t kind other c d count from zero shape = refl
 same-counts t kind other c d count from (suc n) shape =
     ap (λ (r : Run). with_one_run t r (counts_from t kind c count from n)) (same-run t kind other c d (choices_of t count (from + n)) shape)
     ∙ ap (λ (k : RunCounts). with_one_run t (seeded_run t other d count (from + n)) k) (same-counts t kind other c d count from n shape)
-
-never-refused : (b : Bool) → cond b Good Unended ≡ Refused → ⊥
-never-refused true h = let no : ⊥ = cc in no
-never-refused false h = let no : ⊥ = cc in no
 
 sweep-answers-alike : (t : Litmus) (kind other : ProtocolKind) (c d : Configuration) (plan : Plan) (out again : List ℕ) (status too : Status)
     → AreAtomicAtOneDepth c d → IsSweepAnswer t kind c plan out status → IsSweepAnswer t other d plan again too → SweepsAnswerAlike kind other c d out again status too
@@ -197,6 +270,14 @@ runs-alike kind other c d json input out again status too law shape is is_too =
     inputs-alike (settings.Run kind c json) (settings.Run other d json) (RunsAnswerAlike json kind other c d) input out again status too law
     (λ text. refusals-alike json kind other c d text text refl)
     (λ t text out again status too test. run-answers-alike t kind other c d json text out again status too (law.decided (length t.programs) text test.some_core) shape) is is_too
+
+pub traces-alike : (kind other : ProtocolKind) (c d : Configuration) (input out again : List ℕ) (status too : Status) → AreReadOneWay → AreAtomicAtOneDepth c d
+    → IsAnswer (settings.Trace kind c) (Some input) out status → IsAnswer (settings.Trace other d) (Some input) again too
+    → TracesAnswerAlike kind other c d out again status too
+traces-alike kind other c d input out again status too law shape is is_too =
+    inputs-alike (settings.Trace kind c) (settings.Trace other d) (TracesAnswerAlike kind other c d) input out again status too law
+    (λ text. trace-refusals-alike kind other c d text text refl)
+    (λ t text out again status too test. trace-answers-alike t kind other c d text out again status too (law.decided (length t.programs) text test.some_core) shape) is is_too
 
 pub sweeps-alike : (kind other : ProtocolKind) (c d : Configuration) (plan : Plan) (input out again : List ℕ) (status too : Status) → AreReadOneWay → AreAtomicAtOneDepth c d
     → IsAnswer (settings.Sweep kind c plan) (Some input) out status → IsAnswer (settings.Sweep other d plan) (Some input) again too

@@ -10,6 +10,7 @@ use Rattle.tso_cli.specs.Runs.{run_under, counts_under}
 use Rattle.tso_cli.specs.Lines.{test_refusal, choices_refusal}
 use Rattle.tso_cli.specs.CheckLines.{order_refusal, invalid_line}
 use Rattle.tso_cli.specs.Answers.{run_text, run_status, IsRunAnswer, IsJudgement, IsCheckAnswer, IsAnswerTo, IsInputAnswer, IsAnswer, too_large, refused, answered, ran, judged, valid, invalid}
+use Rattle.tso_cli.specs.Trace.{traced_text, IsTraceAnswer, refused, traced}
 use Rattle.tso_cli.specs.Witness.{IsWitness, IsWitnessAnswer, reached, too_small, invalid, refused, judged}
 use Rattle.command_line.specs.declared.settings.Settings.{Settings}
 use Rattle.command_line.specs.declared.settings.Settings.TheVariants as settings
@@ -30,6 +31,15 @@ one_run_answer t kind c json text _ _ _ _ law (ran choices spelled fit) (refused
 one_run_answer t kind c json text _ _ _ _ law (ran choices spelled fit) (ran others again too) =
     let same = law.one_list choices others spelled again in
     (ap (λ cs. run_text t kind c json (counts_under t kind c cs) (run_under t kind c cs)) same, ap (λ cs. run_status (run_under t kind c cs)) same)
+
+one_trace_answer : (t : Litmus) (kind : ProtocolKind) (c : Configuration) (text out other : List ℕ) (status again : Status) → IsDecided (length t.programs) text
+    → IsTraceAnswer t kind c text out status → IsTraceAnswer t kind c text other again → Same out other status again
+one_trace_answer t kind c text _ _ _ _ law (refused f h) (refused g k) = (ap choices_refusal (law.one_refusal f g h k), refl)
+one_trace_answer t kind c text _ _ _ _ law (refused f h) (traced choices spelled fit) = absurd (law.never_both choices f spelled h)
+one_trace_answer t kind c text _ _ _ _ law (traced choices spelled fit) (refused f h) = absurd (law.never_both choices f spelled h)
+one_trace_answer t kind c text _ _ _ _ law (traced choices spelled fit) (traced others again too) =
+    let same = law.one_list choices others spelled again in
+    (ap (λ cs. traced_text t kind c cs) same, ap (λ cs. run_status (run_under t kind c cs)) same)
 
 one_judgement : (t : Litmus) (order : List Entry) (out other : List ℕ) (status again : Status) → IsReal → IsOne
     → IsJudgement t order out status → IsJudgement t order other again → Same out other status again
@@ -69,6 +79,7 @@ one_witness_answer t depth text _ _ _ _ law test short (judged order out status 
 one_answer_to : (s : Settings) (t : Litmus) (text out other : List ℕ) (status again : Status) → AreReadOneWay → GivesOneAnswer s → IsTest t → length text < 2 ^ 64
     → IsAnswerTo s t text out status → IsAnswerTo s t text other again → Same out other status again
 one_answer_to (settings.Run kind c json) t text out other status again law one test short is too = one_run_answer t kind c json text out other status again (law.decided (length t.programs) text test.some_core) is too
+one_answer_to (settings.Trace kind c) t text out other status again law one test short is too = one_trace_answer t kind c text out other status again (law.decided (length t.programs) text test.some_core) is too
 one_answer_to (settings.Sweep kind c plan) t text out other status again law one test short is too = (is.text ∙ sym too.text, is.status_is ∙ sym too.status_is)
 one_answer_to (settings.Outcomes search json) t text out other status again law one test short is too = absurd one
 one_answer_to settings.Check t text out other status again law one test short is too = one_check_answer t text out other status again law test short is too

@@ -36,7 +36,10 @@ use Rattle.tso_cli.specs.SweepHeadline.{seeded_order, values_after, has_values, 
 use Rattle.tso_cli.specs.SplitRun.{split_run}
 use Rattle.tso_cli.specs.Judgement.{JudgesOrder, JudgesEachOrder, WitnessesOrder, WitnessesEachOrder, reached, unreached, broken}
 use Rattle.tso_cli.specs.Headline.{HeadlineOf, PartsHeadline, InputHeadline}
-use Rattle.tso_cli.specs.OneText.{ShowOneExecution, AreOneRun, AreOneWitness}
+use Rattle.tso_cli.specs.OneText.{ShowOneExecution, AreOneRun, AreOneTrace, AreOneWitness}
+use Rattle.tso_cli.specs.TraceHeadline.{PrintsEachTrace, HeadlineOfTraces}
+use Rattle.trace_report.specs.Lines.{trace_text}
+use Rattle.trace_report.specs.Steps.{trace_under}
 use Rattle.tso_cli.specs.inner.ReadOneWay.{AreReadOneWay}
 use Rattle.command_line.specs.declared.settings.Settings.{Settings}
 use Rattle.command_line.specs.declared.settings.Settings.TheVariants as settings
@@ -92,6 +95,48 @@ module _ (t : Litmus) (kind : ProtocolKind) (c : Configuration) (json : Bool) (o
       by_bus : (b : Bus) → c.bus ≡ b → AreOneRun kind c json out other
       by_bus Atomic is = one-run (run t c.depth) text decided (p.atomic is) (q.atomic is)
       by_bus Split is = one-run (split_run t kind c) text decided (p.split is) (q.split is)
+
+-- ---- of `trace`
+
+module _ (t : Litmus) (kind : ProtocolKind) (c : Configuration) (out other : List ℕ) where
+  one-trace : (run_of : List Choice → Run) (text : List ℕ) → IsDecided (length t.programs) text → PrintsEachTrace t kind c run_of text out → PrintsEachTrace t kind c run_of text other
+      → AreOneTrace kind c out other
+  one-trace run_of text decided p q = by_text decided.always
+    where
+      by_end : (choices : List Choice) → SpellsChoices (length t.programs) text choices → (b : Bool) → (run_of choices).ended ≡ b → AreOneTrace kind c out other
+      by_end choices spelled true ended =
+          let first = p.every_list choices spelled in
+          let second = q.every_list choices spelled in
+          inr (record {
+            t = t;
+            steps = trace_under t kind c choices;
+            rest = first.rest;
+            again = second.rest;
+            first = first.printed;
+            second = second.printed;
+            reports = one-execution t kind c false (head t kind c ++ first.rest) (head t kind c ++ second.rest) (run_of choices) (first.ended ended) (second.ended ended);
+          })
+      by_end choices spelled false unended =
+          let first = p.every_list choices spelled in
+          let second = q.every_list choices spelled in
+          inl (first.printed
+          ∙ ap (λ (rest : List ℕ). head t kind c ++ (trace_text t c.shape.words (trace_under t kind c choices) ++ rest)) (first.unended unended ∙ sym (second.unended unended))
+          ∙ sym second.printed)
+
+      by_text : ((choices : List Choice) × SpellsChoices (length t.programs) text choices) ⊎ ((fault : ChoiceFault) × IsRefusedAsChoices (length t.programs) text fault) → AreOneTrace kind c out other
+      by_text (inl spells) = by_end spells.0 spells.1 (run_of spells.0).ended refl
+      by_text (inr faulty) =
+          let none : (choices : List Choice) → ¬ (SpellsChoices (length t.programs) text choices) = λ choices spelled. decided.never_both choices faulty.0 spelled faulty.1 in
+          let first = p.every_other none in
+          let second = q.every_other none in
+          inl (first.2 ∙ ap choices_refusal (decided.one_refusal first.0 second.0 first.1 second.1) ∙ sym second.2)
+
+  one-trace-on-either : (text : List ℕ) → IsDecided (length t.programs) text → HeadlineOfTraces t kind c text out → HeadlineOfTraces t kind c text other → AreOneTrace kind c out other
+  one-trace-on-either text decided p q = by_bus c.bus refl
+    where
+      by_bus : (b : Bus) → c.bus ≡ b → AreOneTrace kind c out other
+      by_bus Atomic is = one-trace (run t c.depth) text decided (p.atomic is) (q.atomic is)
+      by_bus Split is = one-trace (split_run t kind c) text decided (p.split is) (q.split is)
 
 -- ---- of `sweep`
 
@@ -229,6 +274,12 @@ pub runs-one : (kind : ProtocolKind) (c : Configuration) (json : Bool) (input ou
 runs-one kind c json input out other law decided =
     input-one (settings.Run kind c json) (AreOneRun kind c json) input out other law decided (λ a b same. inl same)
     (λ t test short. one-run-on-either t kind c json out other (parts_of input).rest (law.decided (length t.programs) (parts_of input).rest test.some_core))
+
+pub traces-one : (kind : ProtocolKind) (c : Configuration) (input out other : List ℕ) → AreReadOneWay → AreDecided
+    → InputHeadline (settings.Trace kind c) input out → InputHeadline (settings.Trace kind c) input other → AreOneTrace kind c out other
+traces-one kind c input out other law decided =
+    input-one (settings.Trace kind c) (AreOneTrace kind c) input out other law decided (λ a b same. inl same)
+    (λ t test short. one-trace-on-either t kind c out other (parts_of input).rest (law.decided (length t.programs) (parts_of input).rest test.some_core))
 
 pub sweeps-one : (kind : ProtocolKind) (c : Configuration) (plan : Plan) (input out other : List ℕ) → AreReadOneWay → AreDecided
     → InputHeadline (settings.Sweep kind c plan) input out → InputHeadline (settings.Sweep kind c plan) input other → out ≡ other

@@ -1,12 +1,33 @@
 -- What is told of an answer beside it.
-use Rattle.std.specs.Prelude.{◌≡◌, ℕ, List, []}
+use Rattle.std.specs.Prelude.{◌≡◌, ◌⊎◌, Bool, true, false, not, ℕ, List, []}
 use Rattle.hints.specs.Hint.{IsHint}
+use Rattle.command_line.specs.declared.settings.Settings.{Settings}
+use Rattle.command_line.specs.declared.settings.Settings.TheVariants as settings
 use Rattle.tso_cli.specs.declared.answer.Status.{Status}
 use Rattle.tso_cli.specs.declared.answer.Status.TheVariants.{Good, Refused, Unended, Invalid}
 
--- a hint where a text was refused, or a run or a search didn't end, and nothing else
-abbrev pub IsTold : Status → List ℕ → Type 0
-IsTold Good text = text ≡ []
-IsTold Invalid text = text ≡ []
-IsTold Refused text = IsHint text
-IsTold Unended text = IsHint text
+-- whether an answer of status 0 may mislead: final states in lines that people read may; JSON, a verdict and choices don't
+abbrev pub may_mislead : Settings → Bool
+may_mislead (settings.Run kind config json) = not json
+may_mislead (settings.Trace kind config) = true
+may_mislead (settings.Sweep kind config plan) = true
+may_mislead (settings.Outcomes search json) = not json
+may_mislead settings.Check = false
+may_mislead (settings.Witness depth) = false
+may_mislead (settings.Tables kind) = false
+
+-- a hint or nothing
+abbrev pub IsHintOrNothing : List ℕ → Type 0
+IsHintOrNothing text = (text ≡ []) ⊎ IsHint text
+
+-- beside an answer of status 0 that may mislead, or that may not
+abbrev pub IsToldOfGood : Bool → List ℕ → Type 0
+IsToldOfGood true text = IsHintOrNothing text
+IsToldOfGood false text = text ≡ []
+
+-- a hint where a text was refused, or a run or a search didn't end; of an answer that may mislead a hint or nothing; else nothing
+abbrev pub IsTold : Settings → Status → List ℕ → Type 0
+IsTold s Good text = IsToldOfGood (may_mislead s) text
+IsTold s Invalid text = text ≡ []
+IsTold s Refused text = IsHint text
+IsTold s Unended text = IsHint text

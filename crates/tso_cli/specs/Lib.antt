@@ -5,6 +5,7 @@ pub mod Runs
 pub mod Simulation
 pub mod Lines
 pub mod RunTexts
+pub mod Trace
 pub mod Sweep
 pub mod Outcomes
 pub mod Fitting
@@ -13,6 +14,7 @@ pub mod Witness
 pub mod Answers
 pub mod SplitRun
 pub mod RunHeadline
+pub mod TraceHeadline
 pub mod SweepHeadline
 pub mod OutcomesHeadline
 pub mod Judgement

@@ -6,7 +6,10 @@ use Rattle.tso_model.specs.declared.bus.Bus.TheVariants.{Atomic}
 use Rattle.protocol_tables.specs.declared.kind.ProtocolKind.{ProtocolKind}
 use Rattle.machine_core.specs.Configuration.{Configuration}
 use Rattle.machine_core.specs.declared.counts.Counts.{Counts}
-use Rattle.tso_report.specs.Report.{machine_line, cache_lines}
+use Rattle.tso_model.specs.Litmus.{Litmus}
+use Rattle.tso_report.specs.Report.{head, machine_line, cache_lines}
+use Rattle.trace_report.specs.Lines.{trace_text}
+use Rattle.trace_report.specs.Shown.{Shown as Step}
 use Rattle.tso_report.specs.Json.{cache_value, machine_value}
 use Rattle.tso_report.specs.JsonFrame.{OtherMembers, json_with}
 use Rattle.tso_cli.specs.Parts.{EndsInFeed}
@@ -44,6 +47,19 @@ abbrev pub ReportsDiffer : Bool → ProtocolKind → ProtocolKind → Configurat
 ReportsDiffer false kind other c d out again = DifferInLines kind other c d out again
 ReportsDiffer true kind other c d out again = DifferInMembers kind other c d out again
 
+-- two traces have the same lines but for the line `Machine`, the lines of the trace, and the lines `Cache` at the end, if there are any
+pub record TracesDiffer (kind other : ProtocolKind) (c d : Configuration) (out again : List ℕ) : Type 0 where
+  pub t : Litmus
+  pub steps : List Step
+  pub other_steps : List Step
+  pub rest : List ℕ
+  pub counts : List Counts
+  pub others : List Counts
+  pub whole_lines : EndsInFeed rest
+  pub cores : length counts ≡ length others
+  pub first : out ≡ head t kind c ++ (trace_text t c.shape.words steps ++ (rest ++ cache_lines 0 counts))
+  pub second : again ≡ head t other d ++ (trace_text t d.shape.words other_steps ++ (rest ++ cache_lines 0 others))
+
 -- the texts of two sweeps are one text but for the line `Machine`
 pub record SweepsDiffer (kind other : ProtocolKind) (c d : Configuration) (out again : List ℕ) : Type 0 where
   pub front : List ℕ
@@ -59,6 +75,12 @@ pub record RunsAnswerAlike (json : Bool) (kind other : ProtocolKind) (c d : Conf
   pub status : how ≡ too
   pub ended : how ≡ Good → ReportsDiffer json kind other c d out again
   pub otherwise : how ≢ Good → out ≡ again
+
+-- two answers of `trace` have one status; refusals are the same byte for byte, and all others differ in those lines alone
+pub record TracesAnswerAlike (kind other : ProtocolKind) (c d : Configuration) (out again : List ℕ) (how too : Status) : Type 0 where
+  pub status : how ≡ too
+  pub traced : how ≢ Refused → TracesDiffer kind other c d out again
+  pub refused : how ≡ Refused → out ≡ again
 
 -- two answers of `sweep` have one status; the texts differ in that line, and refusals are the same byte for byte
 pub record SweepsAnswerAlike (kind other : ProtocolKind) (c d : Configuration) (out again : List ℕ) (how too : Status) : Type 0 where

@@ -1,5 +1,5 @@
 -- What the headline leaves open: two texts of which it holds.
-use Rattle.std.specs.Prelude.{ℕ, ◌≡◌, ◌⊎◌, Bool, List, length}
+use Rattle.std.specs.Prelude.{ℕ, ◌≡◌, ◌⊎◌, Bool, false, List, ◌++◌, length}
 use Rattle.tso_model.specs.Litmus.{Litmus}
 use Rattle.tso_model.specs.declared.choice.Choice.{Choice}
 use Rattle.tso_model.specs.declared.execution.Entry.{Entry}
@@ -8,6 +8,9 @@ use Rattle.scheduler.specs.Grammar.{SpellsChoices}
 use Rattle.protocol_tables.specs.declared.kind.ProtocolKind.{ProtocolKind}
 use Rattle.machine_core.specs.Configuration.{Configuration}
 use Rattle.tso_report.specs.Shown.{Shown}
+use Rattle.tso_report.specs.Report.{head}
+use Rattle.trace_report.specs.Lines.{trace_text}
+use Rattle.trace_report.specs.Shown.{Shown as Step}
 use Rattle.outcome_report.specs.Outcomes.{Outcome}
 use Rattle.outcome_report.specs.Printed.{outcomes_in}
 use Rattle.outcome_report.specs.Laws.{AreAlike}
@@ -36,6 +39,20 @@ pub record ShowOneExecution (kind : ProtocolKind) (c : Configuration) (json : Bo
 -- two texts of `run` are one text, or such reports
 abbrev pub AreOneRun : ProtocolKind → Configuration → Bool → List ℕ → List ℕ → Type 0
 AreOneRun kind c json out other = (out ≡ other) ⊎ ShowOneExecution kind c json out other
+
+-- two texts of `trace` tell the same steps of one test; without them they are such reports
+pub record TraceOneExecution (kind : ProtocolKind) (c : Configuration) (out other : List ℕ) : Type 0 where
+  pub t : Litmus
+  pub steps : List Step
+  pub rest : List ℕ
+  pub again : List ℕ
+  pub first : out ≡ head t kind c ++ (trace_text t c.shape.words steps ++ rest)
+  pub second : other ≡ head t kind c ++ (trace_text t c.shape.words steps ++ again)
+  pub reports : ShowOneExecution kind c false (head t kind c ++ rest) (head t kind c ++ again)
+
+-- two texts of `trace` are one text, or such
+abbrev pub AreOneTrace : ProtocolKind → Configuration → List ℕ → List ℕ → Type 0
+AreOneTrace kind c out other = (out ≡ other) ⊎ TraceOneExecution kind c out other
 
 -- two texts of `outcomes` show final states of one test that are alike; which choices lead to them may differ
 pub record ShowTheSameStates (depth : ℕ) (json : Bool) (out other : List ℕ) : Type 0 where

@@ -5,16 +5,18 @@ ghost use Rattle.litmus_reader.specs.Reading.{refusal};
 ghost use Rattle.tso_cli.specs.Answers.{IsTableAnswer, IsAnswerTo, IsInputAnswer, IsAnswer};
 ghost use Rattle.tso_cli.specs.inner.Answers.{Says};
 ghost use Rattle.tso_cli.specs.Headline.{Headline};
-ghost use Rattle.command_line.specs.Limits.{IsWithinLimits, HasDepth};
+ghost use Rattle.command_line.specs.Limits.{HasDepth};
 ghost use Rattle.tso_cli.specs.Lines.{test_refusal, input_refusal};
 
 use crate::checking::check_answer;
+use crate::hinting::may_mislead;
 use crate::laws::answers_meet_the_headline;
 use crate::outcomes::outcomes_answer;
 use crate::parts::parts_of;
 use crate::running::run_answer;
 use crate::streams::MAX_INPUT;
 use crate::sweeping::sweep_answer;
+use crate::tracing::trace_answer;
 use crate::witnessing::witness_answer;
 use command_line::Settings;
 use hints::{Asked, Cause};
@@ -76,7 +78,7 @@ fn refused_test(
 /// What a command reads after the dividing line.
 fn asked(settings: &Settings) -> Asked {
     match settings {
-        Settings::Run { .. } => Asked::Choices,
+        Settings::Run { .. } | Settings::Trace { .. } => Asked::Choices,
         Settings::Check | Settings::Witness { .. } => Asked::Order,
         Settings::Sweep { .. } | Settings::Outcomes { .. } | Settings::Tables(_) => Asked::Nothing,
     }
@@ -103,7 +105,7 @@ pub fn answer_to(alloc: Global, settings: &Settings, input: &[u8]) -> Result<Ans
     ensures headline { IfOk result (λ a. Headline settings.now (Some input.now) (string_bytes a.text)) }
 {
     answers_meet_the_headline();
-    know_limits(settings);
+    settings.know_limits();
     exact_answer(alloc, settings, input)
 }
 
@@ -113,32 +115,12 @@ fn exact_answer(alloc: Global, settings: &Settings, input: &[u8]) -> Result<Answ
 {
     match settings {
         Settings::Run { .. }
+        | Settings::Trace { .. }
         | Settings::Sweep { .. }
         | Settings::Outcomes { .. }
         | Settings::Check
         | Settings::Witness { .. } => judged_answer(alloc, settings, input),
         Settings::Tables(kind) => table_answer(alloc, *kind),
-    }
-}
-
-/// Settings are within its limits: a configuration, a plan and a search are, and so is the depth of a
-/// witness. Nothing is done.
-fn know_limits(settings: &Settings)
-    requires { HasDepth settings.now }
-    ensures { IsWithinLimits settings.now }
-{
-    match settings {
-        Settings::Run { config, .. } => {
-            // What the call ensures is that the configuration is within its limits: it is made for this alone.
-            let _known = config.depth();
-        }
-        Settings::Sweep { config, plan, .. } => {
-            let _known = (config.depth(), plan.seeds());
-        }
-        Settings::Outcomes { search, .. } => {
-            let _known = search.depth();
-        }
-        Settings::Check | Settings::Witness { .. } | Settings::Tables(_) => {}
     }
 }
 
@@ -151,9 +133,50 @@ fn judged_answer(alloc: Global, settings: &Settings, input: &[u8]) -> Result<Ans
     }
     let parts = parts_of(input);
     match test_or_fault(alloc, parts.test) {
-        Ok(test) => answer_of(alloc, settings, &test, parts.rest),
+        Ok(test) => told_answer(alloc, settings, &test, parts.test, parts.rest),
         Err(ReadError::Fault(fault)) => refused_test(alloc, settings, parts.test, fault),
         Err(ReadError::NoMemory) => Err(NoMemory),
+    }
+}
+
+/// The answer to a test, which `spelling` spells, and to the second part; where that may mislead, with what is to be told
+/// of it.
+fn told_answer(
+    alloc: Global,
+    settings: &Settings,
+    test: &Test,
+    spelling: &[u8],
+    text: &[u8],
+) -> Result<Answer, NoMemory>
+    requires { HasDepth settings.now }
+    ensures { IfOk result (λ a. IsAnswerTo settings.now test.now text.now (string_bytes a.text) a.status) }
+{
+    let answer = answer_of(alloc, settings, test, text)?;
+    let cause = warning_of(alloc, settings, test, spelling, &answer)?;
+    Ok(Answer {
+        text: answer.text,
+        status: answer.status,
+        cause,
+    })
+}
+
+/// What is to be told of an answer; where it may mislead, before all else of a location that nothing but the test's
+/// condition names.
+fn warning_of(
+    alloc: Global,
+    settings: &Settings,
+    test: &Test,
+    spelling: &[u8],
+    answer: &Answer,
+) -> Result<Cause, NoMemory> {
+    match answer.status {
+        Status::Good if may_mislead(settings) => {
+            match Cause::of_unused_location(alloc, test, spelling)? {
+                Some(cause) => Ok(cause),
+                None => Ok(answer.cause),
+            }
+        }
+        _ => Ok(answer.cause),
     }
 }
 
@@ -172,6 +195,9 @@ fn answer_of(
             config,
             json,
         } => run_answer(alloc, test, *protocol, *config, *json, text),
+        Settings::Trace { protocol, config } => {
+            trace_answer(alloc, test, *protocol, *config, text)
+        }
         Settings::Sweep {
             protocol,
             config,

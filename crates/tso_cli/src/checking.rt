@@ -10,7 +10,6 @@ ghost use Rattle.tso_cli.specs.CheckLines.{breach_text, valid_line, invalid_line
 ghost use Rattle.tso_cli.specs.inner.CheckLines.{CanBeNamed};
 
 use crate::answer::{Answer, Status};
-use crate::known::know_test;
 use axiom_checker::{Breach, check_order};
 use hints::Cause;
 use order_builder::laws::order_can_be_printed;
@@ -60,7 +59,7 @@ fn judgement(alloc: Global, test: &Test, execution: &Execution) -> Result<Answer
 {
     order_can_be_printed();
     made_entries_fit_the_test();
-    know_test(test);
+    test.know_limits();
     match check_order(alloc, test, execution) {
         Ok(()) => valid(alloc),
         Err(breach) => invalid(alloc, test, breach),

@@ -116,6 +116,7 @@ fn most_read(settings: &Settings) -> usize
 {
     match settings {
         Settings::Run { .. }
+        | Settings::Trace { .. }
         | Settings::Sweep { .. }
         | Settings::Outcomes { .. }
         | Settings::Check

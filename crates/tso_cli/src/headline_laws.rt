@@ -5,7 +5,7 @@ ghost use Rattle.protocol_tables.specs.declared.kind.ProtocolKind.{ProtocolKind}
 ghost use Rattle.machine_core.specs.Configuration.{Configuration};
 ghost use Rattle.command_line.specs.Plan.{Plan};
 ghost use Rattle.tso_cli.specs.Headline.{InputHeadline};
-ghost use Rattle.tso_cli.specs.OneText.{AreOneRun, AreOneWitness};
+ghost use Rattle.tso_cli.specs.OneText.{AreOneRun, AreOneTrace, AreOneWitness};
 ghost use Rattle.command_line.specs.declared.settings.Settings.{Settings};
 
 use crate::laws::texts_are_read_one_way;
@@ -13,14 +13,16 @@ use axiom_checker::laws::each_order_is_judged;
 use litmus_reader::laws::texts_are_decided;
 use order_builder::laws::order_is_spelled_once;
 
-/// The headline leaves one text for each input of `check` and of `sweep`, of `run` where no run ends, and
-/// of `witness` where it finds no choices. Of a run that ended it leaves open how many choices were used,
+/// The headline leaves one text for each input of `check` and of `sweep`, of `run` and `trace` where no run
+/// ends, and of `witness` where it finds no choices. Of a run that ended it leaves open how many choices were used,
 /// stalled and left over, and the counts of the caches, and nothing else; of choices that lead to an
 /// order, which they are.
 pub fn headlines_leave_one_text()
     ensures runs { (kind : ProtocolKind) (c : Configuration) (json : Bool) (input out other : List ℕ)
         → InputHeadline (Settings.Run kind c json) input out → InputHeadline (Settings.Run kind c json) input other
         → AreOneRun kind c json out other }
+    ensures traces { (kind : ProtocolKind) (c : Configuration) (input out other : List ℕ)
+        → InputHeadline (Settings.Trace kind c) input out → InputHeadline (Settings.Trace kind c) input other → AreOneTrace kind c out other }
     ensures sweeps { (kind : ProtocolKind) (c : Configuration) (plan : Plan) (input out other : List ℕ)
         → InputHeadline (Settings.Sweep kind c plan) input out → InputHeadline (Settings.Sweep kind c plan) input other → out ≡ other }
     ensures checks { (input out other : List ℕ)

@@ -1,24 +1,71 @@
 //! The hint that stands beside an answer.
 
 ghost use Rattle.std.specs.Prelude.{◌≡◌, IfOk, string_bytes};
-ghost use Rattle.hints.specs.Hint.{IsHint};
-ghost use Rattle.tso_cli.specs.Hints.{IsTold};
+ghost use Rattle.tso_cli.specs.Hints.{IsTold, IsToldOfGood, IsHintOrNothing, may_mislead};
 
 use crate::answer::{Answer, Status};
-use hints::hint_of;
+use command_line::Settings;
+use hints::{Cause, hint_of};
 use std::alloc::Global;
 use tso_model::NoMemory;
 
-/// One line for standard error: what was expected where an input was refused, or where a run or a
-/// search didn't end, and what to do. The empty text where nothing is to be said. The answer is that of
-/// `answer_to` to this input.
+/// One line for standard error: what was expected where an input was refused; where a run or a search
+/// didn't end, what to do; and what may mislead in an answer that people read. The empty text where
+/// nothing is to be said. The answer is that of `answer_to` under these settings to this input.
 ///
 /// Errors: out of memory only.
-pub fn hint(alloc: Global, answer: &Answer, input: &[u8]) -> Result<String, NoMemory>
-    ensures { IfOk result (λ text. IsTold answer.now.status (string_bytes text)) }
+pub fn hint(
+    alloc: Global,
+    settings: &Settings,
+    answer: &Answer,
+    input: &[u8],
+) -> Result<String, NoMemory>
+    ensures { IfOk result (λ text. IsTold settings.now answer.now.status (string_bytes text)) }
 {
     match answer.status {
-        Status::Good | Status::Invalid => Ok(String::new(alloc)),
+        Status::Good => good_hint(alloc, may_mislead(settings), answer.cause, input),
+        Status::Invalid => Ok(String::new(alloc)),
         Status::Refused | Status::Unended => hint_of(alloc, answer.cause, input),
+    }
+}
+
+/// Whether an answer of status 0 may have a hint: it tells people of final states. What scripts read, JSON, a verdict or
+/// choices, stands without one.
+#[tactic(auto, unfolding(crate::specs::Hints::may_mislead))]
+pub(crate) fn may_mislead(settings: &Settings) -> bool
+    ensures { result ≡ may_mislead settings.now }
+{
+    match settings {
+        Settings::Run { json, .. } | Settings::Outcomes { json, .. } => !*json,
+        Settings::Trace { .. } | Settings::Sweep { .. } => true,
+        Settings::Check | Settings::Witness { .. } | Settings::Tables(_) => false,
+    }
+}
+
+/// The hint beside an answer of status 0: of what may mislead, if something does.
+fn good_hint(
+    alloc: Global,
+    may_mislead: bool,
+    cause: Cause,
+    input: &[u8],
+) -> Result<String, NoMemory>
+    ensures { IfOk result (λ text. IsToldOfGood may_mislead (string_bytes text)) }
+{
+    if may_mislead {
+        warning(alloc, cause, input)
+    } else {
+        Ok(String::new(alloc))
+    }
+}
+
+fn warning(alloc: Global, cause: Cause, input: &[u8]) -> Result<String, NoMemory>
+    ensures { IfOk result (λ text. IsHintOrNothing (string_bytes text)) }
+{
+    match cause {
+        Cause::Nothing => Ok(String::new(alloc)),
+        _ => {
+            let text = hint_of(alloc, cause, input)?;
+            Ok(text)
+        }
     }
 }

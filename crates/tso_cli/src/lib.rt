@@ -7,7 +7,6 @@ pub mod command;
 pub mod counted;
 pub mod headline_laws;
 pub mod hinting;
-mod known;
 pub mod laws;
 pub mod machine_laws;
 mod outcomes;
@@ -16,6 +15,7 @@ mod running;
 pub mod simulation;
 pub mod streams;
 mod sweeping;
+mod tracing;
 mod witnessing;
 
 pub use answer::{Answer, Status, answer_to};

@@ -47,14 +47,14 @@ pub fn run_answer(
 }
 
 /// Why the run didn't end, if it didn't.
-fn cause_of(status: Status, test: &Test, text: &[u8], config: Config) -> Cause {
+pub(crate) fn cause_of(status: Status, test: &Test, text: &[u8], config: Config) -> Cause {
     match status {
         Status::Unended => Cause::of_unended_run(test, text, config.depth() > 0),
         Status::Good | Status::Refused | Status::Invalid => Cause::Nothing,
     }
 }
 
-fn refused_choices(
+pub(crate) fn refused_choices(
     alloc: Global,
     test: &Test,
     text: &[u8],

@@ -8,7 +8,6 @@ ghost use Rattle.tso_cli.specs.inner.Simulation.{Drives};
 ghost use Rattle.split_laws.specs.BusChoices.{IsPossibleOn};
 ghost use Rattle.tso_laws.specs.Counting.{instructions, longest};
 
-use crate::known::know_test;
 use crate::laws::ended_runs_of_machines_are_executions;
 use machine_core::{Bus, Choice, Config, Machine, Outcome};
 use protocol_tables::{Mesi, Moesi, Mosi, Msi, Protocol, ProtocolKind};
@@ -86,7 +85,7 @@ pub fn simulate(
     fair_rounds_end_on_either_bus();
     atomic_runs_are_flat_runs();
     ended_runs_of_machines_are_executions();
-    know_test(test);
+    test.know_limits();
     run_with(alloc, test, protocol, config, Listed::new(choices))
 }
 
@@ -129,7 +128,7 @@ fn run_to_the_end<P: Protocol, C: Choices>(
     runs_on_either_bus_stop_where_they_end();
     ended_runs_of_machines_are_executions();
     whole_orders_have_each_entry_once();
-    know_test(test);
+    test.know_limits();
     let mut machine = Machine::new(alloc, protocol, test, config)?;
     let mut choices = choices;
     let progress = drive(&mut machine, &mut choices)?;

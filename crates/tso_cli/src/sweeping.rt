@@ -9,7 +9,6 @@ ghost use Rattle.tso_cli.specs.Sweep.{with_one_run, sweep_counts, SweepAnswersFi
 ghost use Rattle.tso_cli.specs.inner.Sweep.{EachKindWith};
 
 use crate::answer::{Answer, Status};
-use crate::known::know_test;
 use crate::simulation::{drive, verdict_of};
 use command_line::SweepPlan;
 use hints::Cause;
@@ -44,18 +43,25 @@ pub fn sweep_answer(
     Ok(Answer {
         text,
         status: status_of(swept.all_ended),
-        cause: cause_of(swept.all_ended, plan),
+        cause: cause_of(test, &swept, config, plan),
     })
 }
 
-/// Why not all runs ended, if they didn't.
-fn cause_of(all_ended: bool, plan: SweepPlan) -> Cause {
-    if all_ended {
-        Cause::Nothing
-    } else {
+/// What is to be told of a sweep: that runs didn't end, or that the condition's proposition was true in none.
+fn cause_of(test: &Test, swept: &Swept<'_>, config: Config, plan: SweepPlan) -> Cause {
+    let runs = swept.tally.ended();
+    if !swept.all_ended {
         Cause::ShortSeeds {
             length: plan.length(),
+            none_ended: runs == 0,
         }
+    } else if test.cond().is_some() && swept.tally.held() == 0 {
+        Cause::NeverSeen {
+            runs,
+            depth: config.depth(),
+        }
+    } else {
+        Cause::Nothing
     }
 }
 
@@ -146,7 +152,7 @@ fn count_run<P: Protocol, C: Choices>(
     attempts_lead_from_state_to_state();
     atomic_runs_are_flat_runs();
     runs_on_either_bus_stop_where_they_end();
-    know_test(test);
+    test.know_limits();
     let mut choices = choices;
     drive(machine, &mut choices)?;
     if !machine.is_ended() {

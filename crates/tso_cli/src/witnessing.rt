@@ -11,7 +11,6 @@ ghost use Rattle.tso_cli.specs.Witness.{witness_line, IsWitness, IsWitnessAnswer
 
 use crate::answer::{Answer, Status};
 use crate::checking::{invalid, refused_order};
-use crate::known::know_test;
 use axiom_checker::check_order;
 use hints::Cause;
 use order_builder::laws::order_can_be_printed;
@@ -52,7 +51,7 @@ fn witnessed(
 {
     order_can_be_printed();
     made_entries_fit_the_test();
-    know_test(test);
+    test.know_limits();
     match check_order(alloc, test, execution) {
         Ok(()) => reached(alloc, test, depth, execution),
         Err(breach) => invalid(alloc, test, breach),

@@ -3,6 +3,8 @@ use Rattle.std.specs.Prelude.{ℕ, ◌+◌, ◌<◌, ◌==◌, ◌&&◌, ◌||�
 use Rattle.tso_model.specs.Registers.{index_of}
 use Rattle.tso_model.specs.declared.register.Reg.{Reg}
 use Rattle.tso_model.specs.declared.condition.Quantifier.{Quantifier}
+use Rattle.tso_model.specs.declared.condition.Cond.{Cond}
+use Rattle.tso_model.specs.declared.condition.Prop.{Prop, Truth, RegIs, LocIs, Not', And', Or'}
 
 -- a proposition as a tree, whatever memory it lies in
 pub data Claim : Type 0 where
@@ -52,3 +54,14 @@ negations_in (LocClaim loc value) = 0
 negations_in (NotClaim inner) = negations_in inner + 1
 negations_in (AndClaim left right) = max (negations_in left) (negations_in right)
 negations_in (OrClaim left right) = max (negations_in left) (negations_in right)
+
+abbrev pub claim_of : Prop → Claim
+claim_of (Truth truth) = TruthClaim truth
+claim_of (RegIs core reg value) = RegClaim core.0 reg value
+claim_of (LocIs loc value) = LocClaim loc.0 value
+claim_of (Not' p inner) = NotClaim (claim_of inner)
+claim_of (And' p left q right) = AndClaim (claim_of left) (claim_of right)
+claim_of (Or' p left q right) = OrClaim (claim_of left) (claim_of right)
+
+abbrev pub condition_of : Cond → Condition
+condition_of c = record { quantifier = c.quantifier; claim = claim_of c.prop }

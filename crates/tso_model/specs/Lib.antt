@@ -19,3 +19,4 @@ pub mod ProgramEntries
 pub mod SequentialConsistency
 pub mod Standing
 pub mod inner
+pub mod LitmusParts

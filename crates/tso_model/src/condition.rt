@@ -1,7 +1,6 @@
 //! Conditions on final states, and their truth in one state.
 ghost use Rattle.std.specs.Prelude.{◌≡◌, length};
-ghost use Rattle.tso_model.specs.Condition.{truth_of, NamesExist};
-ghost use Rattle.tso_model.specs.inner.Condition.{claim_of};
+ghost use Rattle.tso_model.specs.Condition.{truth_of, NamesExist, claim_of};
 
 use crate::instruction::{Core, Loc};
 use crate::register::Reg;

@@ -1,11 +1,11 @@
 //! Litmus tests within the limits.
 ghost use Rattle.std.specs.Prelude.{◌≡◌, ◌<◌, ◌≤◌, ◌↔◌, length, slice_index, slice_index_or, [], IsSome, IfSome, All};
 ghost use Rattle.std.specs.Option.{option_map};
-ghost use Rattle.tso_model.specs.inner.Condition.{condition_of};
+ghost use Rattle.tso_model.specs.Condition.{condition_of};
 ghost use Rattle.tso_model.specs.Limits.{most_instructions};
 ghost use Rattle.tso_model.specs.Registers.{index_of};
 ghost use Rattle.tso_model.specs.Litmus.{IsTest, KnownLocation};
-ghost use Rattle.tso_model.specs.inner.LitmusParts.{litmus_of};
+ghost use Rattle.tso_model.specs.LitmusParts.{litmus_of};
 
 use crate::condition::Cond;
 use crate::instruction::{Core, Instr, Loc};
@@ -43,7 +43,7 @@ impl Model for Test {
     ghost coded = { Prim.hlevel (codes, claim_code) };
 
     ghost use Rattle.tso_model.specs.Litmus.{IsTest};
-    ghost use Rattle.tso_model.specs.inner.LitmusParts.{litmus_of};
+    ghost use Rattle.tso_model.specs.LitmusParts.{litmus_of};
 
     ghost view = { λ t. litmus_of t.parts };
 
@@ -81,6 +81,13 @@ impl Test {
         ensures test { IsTest self.now }
     {
         self.parts.programs.len() as u8
+    }
+
+    /// Does nothing: from the call on it is known that the test is within its limits.
+    pub fn know_limits(&self)
+        ensures { IsTest self.now }
+    {
+        let _cores = self.cores();
     }
 
     /// How many locations the test has, from 0 to `MAX_LOCATIONS`.

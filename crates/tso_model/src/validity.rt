@@ -2,12 +2,11 @@
 ghost use Rattle.std.specs.Prelude.{◌≡◌, ◌<◌, ◌≤◌, ◌-◌, ◌↔◌, length, IsTrue, All, map, string_bytes};
 ghost use Rattle.std.specs.List.{list_all};
 ghost use Rattle.std.specs.Option.{SomeIff, ForSome, option_map};
-ghost use Rattle.tso_model.specs.Condition.{NamesExist, atoms_in, negations_in};
-ghost use Rattle.tso_model.specs.inner.Condition.{claim_of, condition_of};
+ghost use Rattle.tso_model.specs.Condition.{NamesExist, atoms_in, negations_in, claim_of, condition_of};
 ghost use Rattle.tso_model.specs.Litmus.{IsTest, KnownLocation, IsProgram, IsCondition};
 ghost use Rattle.tso_model.specs.Litmus as litmus;
 ghost use Rattle.tso_model.specs.Names as names;
-ghost use Rattle.tso_model.specs.inner.LitmusParts.{litmus_of};
+ghost use Rattle.tso_model.specs.LitmusParts.{litmus_of};
 
 use crate::condition::{Cond, Prop};
 use crate::instruction::Instr;

@@ -4,7 +4,7 @@
 ghost use Rattle.std.specs.Prelude.{All};
 ghost use Rattle.tso_model.specs.Registers.{IsWord, AreRegisters};
 ghost use Rattle.tso_model.specs.Litmus.{ConstantIsWord, HasWords};
-ghost use Rattle.tso_model.specs.inner.LitmusParts.{litmus_of};
+ghost use Rattle.tso_model.specs.LitmusParts.{litmus_of};
 
 use crate::instruction::Instr;
 use crate::litmus::TestParts;

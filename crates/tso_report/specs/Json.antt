@@ -93,24 +93,31 @@ registers_value registers =
 abbrev pub cores_value : List (List ℕ) → Data
 cores_value all = array (items_of (map registers_value all))
 
--- a run of the test on a machine of this protocol and configuration
-abbrev pub run_value : Litmus → ProtocolKind → Configuration → Shown → Data
-run_value t kind c s =
-    object (member (codes "cache") (cache_value s.counts)
+-- the members of a run of the test on a machine of this protocol and configuration
+abbrev pub run_members : Litmus → ProtocolKind → Configuration → Shown → Members
+run_members t kind c s =
+    member (codes "cache") (cache_value s.counts)
     (member (codes "choices") (choices_value s.used s.stalled s.unused)
     (member (codes "condition") (condition_value t.condition s.holds)
     (member (codes "machine") (machine_value kind c)
     (member (codes "memory") (memory_value t s.memory)
     (member (codes "order") (order_value t s.order)
     (member (codes "registers") (cores_value s.registers)
-    (member (codes "test") (string t.name) no_members))))))))
+    (member (codes "test") (string t.name) no_members)))))))
 
--- a run that didn't end
-abbrev pub unfinished_value : ℕ → ℕ → Data
-unfinished_value used stalled =
-    object (member (codes "unfinished") (object
+-- those of a run that didn't end
+abbrev pub unfinished_members : ℕ → ℕ → Members
+unfinished_members used stalled =
+    member (codes "unfinished") (object
     (member (codes "stalled") (count stalled)
-    (member (codes "used") (count used) no_members))) no_members)
+    (member (codes "used") (count used) no_members))) no_members
+
+-- a run, ended or not
+abbrev pub run_value : Litmus → ProtocolKind → Configuration → Shown → Data
+run_value t kind c s = object (run_members t kind c s)
+
+abbrev pub unfinished_value : ℕ → ℕ → Data
+unfinished_value used stalled = object (unfinished_members used stalled)
 
 -- what is printed: the compact text of the value, on one line
 abbrev pub json_report : Litmus → ProtocolKind → Configuration → Shown → List ℕ

@@ -113,8 +113,12 @@ cache_lines core (c ∷ rest) = cache_line core c ++ cache_lines (core + 1) rest
 abbrev pub head : Litmus → ProtocolKind → Configuration → List ℕ
 head t kind c = test_line t ++ machine_line kind c
 
+-- what stands after them: the order, the final state, the verdict, and the counts
+abbrev pub body : Litmus → Shown → List ℕ
+body t s =
+    printed_order t s.order ++ (register_lines 0 s.registers ++ (memory_line t s.memory
+    ++ (condition_line t s.holds ++ (choices_line s.used s.stalled s.unused ++ cache_lines 0 s.counts))))
+
 -- the report of a run of the test on a machine of this protocol and configuration
 abbrev pub report : Litmus → ProtocolKind → Configuration → Shown → List ℕ
-report t kind c s =
-    head t kind c ++ (printed_order t s.order ++ (register_lines 0 s.registers ++ (memory_line t s.memory
-    ++ (condition_line t s.holds ++ (choices_line s.used s.stalled s.unused ++ cache_lines 0 s.counts)))))
+report t kind c s = head t kind c ++ body t s

@@ -9,8 +9,8 @@ ghost use Rattle.order_builder.specs.PrintedOrder.{HasLocation};
 ghost use Rattle.tso_report.specs.Shown.{shown, IsOf};
 ghost use Rattle.tso_report.specs.Report.{line};
 ghost use Rattle.tso_report.specs.Json.{counts_value, cache_value, choices_value, verdict_value, condition_value, machine_value};
-ghost use Rattle.tso_report.specs.Json.{memory_members, memory_value, order_value, registers_value, cores_value, run_value};
-ghost use Rattle.tso_report.specs.Json.{unfinished_value, json_report, json_unfinished};
+ghost use Rattle.tso_report.specs.Json.{memory_members, memory_value, order_value, registers_value, cores_value};
+ghost use Rattle.tso_report.specs.Json.{run_members, unfinished_members, json_report, json_unfinished};
 
 use crate::report::quantifier_text;
 use crate::run::Run;
@@ -35,8 +35,8 @@ pub fn report_json(
     requires { IsOf test.now (shown run.now) }
     ensures { IfOk result (λ text. string_bytes text ≡ json_report test.now protocol config (shown run.now)) }
 {
-    let value = run_value(alloc, test, protocol, config, run)?;
-    line_of(alloc, &value)
+    let members = run_members(alloc, test, protocol, config, run)?;
+    line_of(alloc, &Value::Object(members))
 }
 
 /// The line of a run that didn't end, as JSON: how many choices were used, and how many of these stalled.
@@ -45,8 +45,8 @@ pub fn report_json(
 pub fn unfinished_json(alloc: Global, used: usize, stalled: usize) -> Result<String, NoMemory>
     ensures { IfOk result (λ text. string_bytes text ≡ json_unfinished used stalled) }
 {
-    let value = unfinished_value(alloc, used, stalled)?;
-    line_of(alloc, &value)
+    let members = unfinished_members(alloc, used, stalled)?;
+    line_of(alloc, &Value::Object(members))
 }
 
 /// The compact text of a value that has no float, and a line feed.
@@ -61,21 +61,35 @@ pub fn line_of(alloc: Global, value: &Value) -> Result<String, NoMemory>
     Ok(text)
 }
 
-fn unfinished_value(alloc: Global, used: usize, stalled: usize) -> Result<Value, NoMemory>
-    ensures { IfOk result (λ value. view value ≡ unfinished_value used stalled) }
+/// The members of a run that didn't end: how many choices were used, and how many of these stalled.
+///
+/// Errors: out of memory only.
+pub fn unfinished_members(
+    alloc: Global,
+    used: usize,
+    stalled: usize,
+) -> Result<Map<String, Value>, NoMemory>
+    ensures { IfOk result (λ members. members_view members.entries ≡ unfinished_members used stalled) }
 {
-    Ok(json!(in alloc; {"unfinished": {"stalled": stalled, "used": used}})?)
+    let counts = json!(in alloc; {"stalled": stalled, "used": used})?;
+    let mut members = Map::new(alloc);
+    put(&mut members, alloc, "unfinished", counts)?;
+    Ok(members)
 }
 
-fn run_value(
+/// The members of the report of a run: the cache counts, the choices, the condition, the machine, the
+/// memory, the order, the registers and the test.
+///
+/// Errors: out of memory only.
+pub fn run_members(
     alloc: Global,
     test: &Test,
     protocol: ProtocolKind,
     config: Config,
     run: &Run,
-) -> Result<Value, NoMemory>
+) -> Result<Map<String, Value>, NoMemory>
     requires { IsOf test.now (shown run.now) }
-    ensures { IfOk result (λ value. view value ≡ run_value test.now protocol config (shown run.now)) }
+    ensures { IfOk result (λ members. members_view members.entries ≡ run_members test.now protocol config (shown run.now)) }
 {
     let mut members = Map::new(alloc);
     put(
@@ -126,7 +140,7 @@ fn run_value(
         "test",
         Value::try_from_str(alloc, test.name())?,
     )?;
-    Ok(Value::Object(members))
+    Ok(members)
 }
 
 fn cache_value(alloc: Global, counts: &[Counts]) -> Result<Value, NoMemory>
@@ -200,7 +214,10 @@ fn machine_value(alloc: Global, protocol: ProtocolKind, config: Config) -> Resul
     }
 }
 
-fn memory_value(alloc: Global, test: &Test, memory: &[u32]) -> Result<Value, NoMemory>
+/// The words of the test's locations as an object of their names.
+///
+/// Errors: out of memory only.
+pub fn memory_value(alloc: Global, test: &Test, memory: &[u32]) -> Result<Value, NoMemory>
     requires { length memory.now ≡ length test.now.locations }
     ensures { IfOk result (λ value. view value ≡ memory_value test.now memory.now) }
 {
@@ -213,7 +230,10 @@ fn memory_value(alloc: Global, test: &Test, memory: &[u32]) -> Result<Value, NoM
     Ok(Value::Object(members))
 }
 
-fn order_value(alloc: Global, test: &Test, order: &[Entry]) -> Result<Value, NoMemory>
+/// Entries as a list of their texts.
+///
+/// Errors: out of memory only.
+pub fn order_value(alloc: Global, test: &Test, order: &[Entry]) -> Result<Value, NoMemory>
     requires { All (HasLocation test.now) order.now }
     ensures { IfOk result (λ value. view value ≡ order_value test.now order.now) }
 {
@@ -234,7 +254,10 @@ fn cores_value(alloc: Global, registers: &[[u32; 6]]) -> Result<Value, NoMemory>
     Ok(Value::Array(values))
 }
 
-fn registers_value(alloc: Global, registers: &[u32; 6]) -> Result<Value, NoMemory>
+/// The registers of one core as an object of their names.
+///
+/// Errors: out of memory only.
+pub fn registers_value(alloc: Global, registers: &[u32; 6]) -> Result<Value, NoMemory>
     ensures { IfOk result (λ value. view value ≡ registers_value registers.now) }
 {
     let [eax, ebx, ecx, edx, esi, edi] = *registers;

@@ -13,6 +13,6 @@ pub mod tally;
 mod tally_text;
 
 pub use json::{report_json, unfinished_json};
-pub use report::{head_text, report_text};
+pub use report::{head_text, report_text, write_body};
 pub use run::Run;
 pub use tally::Tally;

@@ -2,7 +2,7 @@
 //! condition names, or of all locations where there is no condition.
 
 ghost use Rattle.std.specs.Prelude.{◌≡◌, ◌<◌, ◌∷◌, [], IfOk, OnOk, All, length, map};
-ghost use Rattle.tso_model.specs.inner.Condition.{claim_of};
+ghost use Rattle.tso_model.specs.Condition.{claim_of};
 ghost use Rattle.tso_report.specs.Report.{all_registers};
 ghost use Rattle.tso_report.specs.Tally.{names_register, names_location, is_looked_at, register_of};
 ghost use Rattle.tso_report.specs.inner.Tally.{AreNoted, IsKnown};

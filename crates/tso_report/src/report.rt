@@ -3,7 +3,7 @@
 ghost use Rattle.std.specs.Prelude.{◌≡◌, ◌++◌, ◌∷◌, [], IfOk, OnOk, string_bytes, length, slice_index_or, Option, is_some, All};
 ghost use Rattle.order_builder.specs.PrintedOrder.{printed_order, HasWord};
 ghost use Rattle.tso_report.specs.Shown.{shown, IsOf};
-ghost use Rattle.tso_report.specs.Report.{report, head, line, test_line, machine_line, shape_text, bus_text};
+ghost use Rattle.tso_report.specs.Report.{report, head, body, line, test_line, machine_line, shape_text, bus_text};
 ghost use Rattle.tso_report.specs.Report.{printed_register, printed_registers, all_registers, register_line, register_lines};
 ghost use Rattle.tso_report.specs.Report.{printed_words, memory_line, printed_verdict, condition_line, choices_line};
 ghost use Rattle.tso_report.specs.Report.{printed_quantifier, printed_truth, traffic_text, cache_line, cache_lines};
@@ -32,13 +32,26 @@ pub fn report_text(
     ensures words { OnOk result (All HasWord run.now.left.execution.order.items) }
 {
     let mut text = head_text(alloc, test, protocol, config)?;
-    write_order(&mut text, test, &run.left.execution)?;
-    write_registers(&mut text, &run.left.state.registers)?;
-    write_memory(&mut text, test, &run.left.state.memory)?;
-    write_condition(&mut text, test, run.holds)?;
-    write_choices(&mut text, run)?;
-    write_caches(&mut text, &run.left.counts)?;
+    write_body(&mut text, test, run)?;
     Ok(text)
+}
+
+/// Writes what a report has after its first two lines, from `Order` on. That the values of the order are words is told along
+/// with it.
+///
+/// Errors: out of memory only; the text may have grown then.
+pub fn write_body(text: &mut String, test: &Test, run: &Run) -> Result<(), NoMemory>
+    requires { IsOf test.now (shown run.now) }
+    ensures text { OnOk result (string_bytes text.new ≡ string_bytes text.old ++ body test.now (shown run.now)) }
+    ensures words { OnOk result (All HasWord run.now.left.execution.order.items) }
+{
+    write_order(text, test, &run.left.execution)?;
+    write_registers(text, &run.left.state.registers)?;
+    write_memory(text, test, &run.left.state.memory)?;
+    write_condition(text, test, run.holds)?;
+    write_choices(text, run)?;
+    write_caches(text, &run.left.counts)?;
+    Ok(())
 }
 
 /// The first two lines of a report, and of what is printed of many runs: the test, and the machine with

@@ -118,6 +118,20 @@ impl<'a> Tally<'a> {
         self.counters.ended + self.counters.unfinished
     }
 
+    /// How many of the runs ended.
+    pub fn ended(&self) -> u32
+        ensures { result ≡ ended_in self.now.counts }
+    {
+        self.counters.ended
+    }
+
+    /// In how many of the runs that ended the condition's proposition was true.
+    pub fn held(&self) -> u32
+        ensures { result ≡ self.now.counts.held }
+    {
+        self.counters.held
+    }
+
     /// The text of the counts: a line of the sweep; a line for each list of values, in ascending order; and,
     /// where the test has a condition, a line on how often its proposition was true and false. `from` is
     /// the number of the first run, and `length` how many choices each run was given.

@@ -1,15 +1,11 @@
 -- Locations numbered by first appearance.
-use Rattle.std.specs.Prelude.{ℕ, List, map, Result, Ok, Err, nat_lt, if◌then◌else◌}
-use denote.Ref.{Bor}
+use Rattle.std.specs.Prelude.{ℕ, List, Result, Ok, Err, nat_lt, if◌then◌else◌}
 use Rattle.tso_model.specs.declared.instruction.Loc.{Loc}
 use Rattle.tso_model.specs.Limits.{most_locations}
 use Rattle.litmus_reader.specs.declared.fault.Why.TheVariants.{TooLarge}
 use Rattle.litmus_reader.specs.declared.fault.Fault.{Fault}
 use Rattle.litmus_reader.specs.Places.{fault}
 use Rattle.litmus_reader.specs.GrammarNames.{number_of, with_name, location}
-
-abbrev pub texts : List (Bor (List ℕ)) → List (List ℕ)
-texts names = map (λ x. x.now) names
 
 -- the location of a name, and the names with it; one location too many is refused at `left`
 unfoldable pub located : ℕ → List (List ℕ) → List ℕ → Result (Loc × List (List ℕ)) Fault

@@ -1,15 +1,10 @@
 -- What the functions that read return: what a reading gives, unless memory ran out.
-use Rattle.std.specs.Prelude.{◌≡◌, ◌≢◌, ℕ, List, map, Option, Result, IfOk}
-use Rattle.std.specs.Option.{option_map}
+use Rattle.std.specs.Prelude.{◌≡◌, ◌≢◌, ℕ, List, map, Option, Result}
 use denote.Ref.{Bor}
-use Rattle.tso_model.specs.Condition.{Condition}
-use Rattle.tso_model.specs.inner.Condition.{claim_of, condition_of}
+use Rattle.tso_model.specs.Condition.{Condition, claim_of}
 use Rattle.tso_model.specs.declared.condition.Cond.{Cond}
 use Rattle.tso_model.specs.declared.condition.Prop.{Prop}
 use Rattle.tso_model.specs.declared.out_of_memory.NoMemory.{NoMemory}
-use Rattle.tso_model.specs.declared.litmus.TestParts.{TestParts}
-use Rattle.tso_model.specs.Litmus.{Litmus}
-use Rattle.tso_model.specs.inner.LitmusParts.{litmus_of}
 use Rattle.litmus_tokens.specs.declared.token.Token.{Token}
 use Rattle.litmus_tokens.specs.Pieces.{Piece}
 use Rattle.litmus_tokens.specs.inner.Pieces.{pieces}
@@ -20,9 +15,10 @@ use Rattle.litmus_reader.specs.declared.fault.TextFault.{TextFault}
 use Rattle.litmus_reader.specs.inner.Conditions.{claimed, Proposition, Conditioned, conditioned}
 use Rattle.litmus_reader.specs.inner.Faults.{Gives}
 use Rattle.litmus_reader.specs.inner.Initial.{Initial, initial, given_of, judged}
-use Rattle.litmus_reader.specs.inner.Locations.{texts}
+use Rattle.litmus_reader.specs.Locations.{texts}
 use Rattle.litmus_reader.specs.inner.Rows.{Table, table, rows}
 use Rattle.litmus_reader.specs.Written.{Setting}
+use Rattle.litmus_reader.specs.Returned.{asked_of}
 use Rattle.litmus_reader.specs.declared.fault.Why.TheVariants as why
 use Rattle.litmus_reader.specs.declared.initial.Initial as state
 use Rattle.litmus_reader.specs.declared.row.Table as code
@@ -30,10 +26,6 @@ use Rattle.litmus_reader.specs.declared.row.Table as code
 -- what is found, and the names of locations with it
 abbrev pub GivesNamed : {X Y : Type 0} → (X → Y) → Result X ReadError → List (Bor (List ℕ)) → Result (Y × List (List ℕ)) Fault → Type 0
 GivesNamed view result names read = Gives (λ x. (view x, texts names)) result read
-
--- a condition, if there is one
-abbrev pub asked_of : Option Cond → Option Condition
-asked_of cond = option_map condition_of cond
 
 -- a reading of cells, after these instructions and names of locations
 abbrev pub ReadsCells : Type 0
@@ -86,10 +78,6 @@ abbrev pub GivesTable : (List (List ℕ) → List Piece → Result Table Fault) 
 GivesTable reading names tokens result names_new =
     Gives (λ x. table x.0.cores x.0.registers.items (rows x.0.instrs.items (texts names_new) (pieces x.1.now))) result
     (reading (texts names) (pieces tokens))
-
--- the parts of this test
-abbrev pub AreParts : Result TestParts NoMemory → Litmus → Type 0
-AreParts result t = IfOk result (λ parts. litmus_of parts ≡ t)
 
 -- this refusal, unless memory ran out
 abbrev pub IsUnlessMemory : TextFault → TextFault → Type 0

@@ -4,7 +4,7 @@ use Rattle.tso_model.specs.Litmus.{Litmus}
 use Rattle.split_laws.specs.BusChoices.{IsPossibleOn}
 use Rattle.machine_core.specs.declared.machine_parts.MachineParts.{MachineParts}
 use Rattle.machine_core.specs.Running.{Running}
-use Rattle.machine_core.specs.Kept.{PartsFitTest, IsHeldAs, state_in}
+use Rattle.machine_core.specs.Kept.{PartsFitTest, IsHeldForAccess, state_in}
 use Rattle.machine_core.specs.inner.Kept.{IsTallied, statistics_in}
 
 -- what a contract sees of a machine of this test with these parts, and whether memory was refused to it
@@ -22,6 +22,6 @@ running_of t m failed = record {
 -- its parts are of the test, choices of the test lead to its state, and it has counted no more than these can
 pub record IsMachine {P : Type 0} (t : Litmus) (m : MachineParts P) : Type 0 where
   pub fits : PartsFitTest t m
-  pub held : IsHeldAs t m
+  pub held : IsHeldForAccess t m
   pub possible : IsPossibleOn m.config.bus t m.config.depth m.commits.entries (state_in m)
   pub tallied : IsTallied t (state_in m) (statistics_in m)

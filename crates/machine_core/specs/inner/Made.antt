@@ -15,14 +15,14 @@ use Rattle.machine_core.specs.declared.machine_parts.MachineParts.{MachineParts}
 use Rattle.machine_core.specs.Caches.{Used, caches_of, hits_by, use_on}
 use Rattle.machine_core.specs.inner.Caches.{HasLineAlone}
 use Rattle.machine_core.specs.Statistics.{Statistics, statistics_after}
-use Rattle.machine_core.specs.Kept.{PartsFitTest, IsHeldAs, state_in}
+use Rattle.machine_core.specs.Kept.{PartsFitTest, IsHeldForAccess, state_in}
 use Rattle.machine_core.specs.inner.Kept.{IsTallied, statistics_in}
 use Rattle.machine_core.specs.inner.Performed.{attempt_in, flat_effect_in}
 
 -- the parts are of this test, and it is at its beginning: nobody holds the bus, and nothing is committed or counted
 pub record AreAtStart {P : Type 0} (t : Litmus) (m : MachineParts P) : Type 0 where
   pub fits : PartsFitTest t m
-  pub held : IsHeldAs t m
+  pub held : IsHeldForAccess t m
   pub state : state_in m ≡ unheld (start t)
   pub commits : m.commits.entries ≡ []
   pub tallied : IsTallied t (state_in m) (statistics_in m)

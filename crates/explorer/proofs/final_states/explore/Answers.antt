@@ -13,18 +13,18 @@ returns-clause-reached c =
 pub returns-clause-complete : goal.returns-clause-complete
 returns-clause-complete c =
     finals-complete c.closed_states_miss_none.ensures c.runs_stop_where_they_end.ensures c.args.depth c.args.test.now c.in_ok-found.found.snapshots.keys c.in_ok-found.found.links.items
-    c.in_ok-final_states.final_states.items c.cores-known.ensures.test c.in_ok-found.ensures.searched c.in_ok-final_states.ensures
+    c.in_ok-final_states.final_states.items c.know_limits.ensures c.in_ok-found.ensures.searched c.in_ok-final_states.ensures
 
 pub returns-clause-tso : goal.returns-clause-tso
 returns-clause-tso c =
-    finals-tso c.ends_are_what_tso_allows.ensures c.args.test.now c.args.depth c.in_ok-final_states.final_states.items c.cores-known.ensures.test
+    finals-tso c.ends_are_what_tso_allows.ensures c.args.test.now c.args.depth c.in_ok-final_states.final_states.items c.know_limits.ensures
     (finals-reached c.args.depth c.args.test.now c.in_ok-found.found.snapshots.keys c.in_ok-found.found.links.items _ c.in_ok-final_states.final_states.items c.in_ok-found.ensures.searched c.in_ok-final_states.ensures)
     (finals-complete c.closed_states_miss_none.ensures c.runs_stop_where_they_end.ensures c.args.depth c.args.test.now c.in_ok-found.found.snapshots.keys c.in_ok-found.found.links.items
-    c.in_ok-final_states.final_states.items c.cores-known.ensures.test c.in_ok-found.ensures.searched c.in_ok-final_states.ensures)
+    c.in_ok-final_states.final_states.items c.know_limits.ensures c.in_ok-found.ensures.searched c.in_ok-final_states.ensures)
 
 pub returns-clause-sequential : goal.returns-clause-sequential
 returns-clause-sequential c =
-    finals-sequential c.ends_are_what_tso_allows.ensures c.args.test.now c.args.depth c.in_ok-final_states.final_states.items c.cores-known.ensures.test
+    finals-sequential c.ends_are_what_tso_allows.ensures c.args.test.now c.args.depth c.in_ok-final_states.final_states.items c.know_limits.ensures
     (finals-reached c.args.depth c.args.test.now c.in_ok-found.found.snapshots.keys c.in_ok-found.found.links.items _ c.in_ok-final_states.final_states.items c.in_ok-found.ensures.searched c.in_ok-final_states.ensures)
     (finals-complete c.closed_states_miss_none.ensures c.runs_stop_where_they_end.ensures c.args.depth c.args.test.now c.in_ok-found.found.snapshots.keys c.in_ok-found.found.links.items
-    c.in_ok-final_states.final_states.items c.cores-known.ensures.test c.in_ok-found.ensures.searched c.in_ok-final_states.ensures)
+    c.in_ok-final_states.final_states.items c.know_limits.ensures c.in_ok-found.ensures.searched c.in_ok-final_states.ensures)

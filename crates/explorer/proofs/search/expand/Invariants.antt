@@ -6,9 +6,9 @@ use Rattle.explorer.proofs.search.expand.Given as goal
 
 abbrev pub invariant-loop-core : goal.invariant-loop-core
 invariant-loop-core l = record {
-  grows : Grows l.fn.snapshots.keys l.snapshots.keys;
-  cores : HaveCores l.test l.snapshots.keys;
-  linked : AreLinked l.depth l.test l.snapshots.keys l.links.items;
-  visited : (s : Snapshot) → slice_get l.fn.snapshots.keys l.from ≡ Some s → (k : ℕ) → k < l.core
-      → AreVisited l.depth l.test l.snapshots.keys (state_of s) k;
+  grows : Grows l.fn.found.snapshots.keys l.found.snapshots.keys;
+  cores : HaveCores l.test l.found.snapshots.keys;
+  linked : AreLinked l.depth l.test l.found.snapshots.keys l.found.links.items;
+  visited : (s : Snapshot) → slice_get l.fn.found.snapshots.keys l.from ≡ Some s → (k : ℕ) → k < l.core
+      → AreVisited l.depth l.test l.found.snapshots.keys (state_of s) k;
 }

@@ -14,7 +14,7 @@ pub returns-then-len-limit-clause-too_many : goal.returns-then-len-limit-clause-
 returns-then-len-limit-clause-too_many c = λ q.
     let n = c.len-in-loop-at.ensures.len in
     let m = c.if-len-limit.true in
-    more-states c.args.depth c.args.test.now c.expand.new.snapshots.keys c.expand.new.links.items c.args.limit c.len-in-loop-at.ensures.unique c.in_ok-expand.ensures.linked (omega (arith, n, m))
+    more-states c.args.depth c.args.test.now c.expand.new.found.snapshots.keys c.expand.new.found.links.items c.args.limit c.len-in-loop-at.ensures.unique c.in_ok-expand.ensures.linked (omega (arith, n, m))
 
 pub loop-at-preserved : goal.loop-at-preserved
 loop-at-preserved c = record {

@@ -2,7 +2,7 @@ use Rattle.std.proofs.Common.{refl, ◌<◌, ℕ, length, ap, ◌∙◌, arith, 
 use Rattle.std.proofs.lemmas.Result.{err_from_is_err_and}
 use Rattle.std.proofs.lemmas.List.{length-map}
 use Rattle.litmus_tokens.specs.inner.Pieces.{pieces}
-use Rattle.litmus_reader.specs.inner.Locations.{texts}
+use Rattle.litmus_reader.specs.Locations.{texts}
 use Rattle.litmus_reader.specs.inner.Initial.{initial, given_of}
 use Rattle.litmus_reader.proofs.ItemSteps.{items_start, items_end, items_go_on, item_fails, initial_done, initial_fails, never_opened}
 use Rattle.litmus_reader.proofs.initial.read_initial.Goals as goal

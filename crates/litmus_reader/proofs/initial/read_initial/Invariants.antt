@@ -1,6 +1,6 @@
 use Rattle.std.proofs.Common.{length, map}
 use Rattle.litmus_tokens.specs.inner.Pieces.{pieces}
-use Rattle.litmus_reader.specs.inner.Locations.{texts}
+use Rattle.litmus_reader.specs.Locations.{texts}
 use Rattle.litmus_reader.specs.inner.Initial.{initial, given_of, items_at, KnowsGiven}
 use Rattle.litmus_reader.proofs.ItemSteps.{ItemsAfter}
 use Rattle.litmus_reader.proofs.initial.read_initial.Given as goal

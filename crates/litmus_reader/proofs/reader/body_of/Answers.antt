@@ -1,6 +1,6 @@
 use Rattle.std.proofs.Common.{◌≡◌, ap, sym, ◌∙◌, [], List, ℕ}
 use Rattle.litmus_tokens.specs.inner.Pieces.{pieces}
-use Rattle.litmus_reader.specs.inner.Locations.{texts}
+use Rattle.litmus_reader.specs.Locations.{texts}
 use Rattle.litmus_reader.specs.inner.Initial.{initial_at}
 use Rattle.litmus_reader.proofs.Within.{names_are_text}
 use Rattle.litmus_reader.proofs.Remaining.{tokens_after_rows}

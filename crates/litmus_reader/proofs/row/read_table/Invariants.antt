@@ -1,6 +1,6 @@
 use Rattle.std.proofs.Common.{length}
 use Rattle.litmus_tokens.specs.inner.Pieces.{pieces}
-use Rattle.litmus_reader.specs.inner.Locations.{texts}
+use Rattle.litmus_reader.specs.Locations.{texts}
 use Rattle.litmus_reader.specs.inner.Rows.{rows_at}
 use Rattle.litmus_reader.proofs.RowSteps.{RowsAfter}
 use Rattle.litmus_reader.proofs.row.read_table.Given as goal

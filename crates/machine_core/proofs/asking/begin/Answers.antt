@@ -1,12 +1,14 @@
 use Rattle.std.proofs.Common.{◌∙◌, refl, sym, ap, subst, IfOk, false, true}
 use Rattle.tso_model.specs.FlatMachine.{chosen, core_of, stalled}
 use Rattle.tso_model.specs.declared.choice.Stall.TheVariants as stall
+use Rattle.snoop_bus.specs.Bus.{words_of}
 use Rattle.machine_core.specs.Cores.{state_of}
-use Rattle.machine_core.specs.Kept.{state_in, holder_in}
+use Rattle.machine_core.specs.declared.holding.Next.TheVariants.{Complete}
+use Rattle.machine_core.specs.Kept.{state_in, held_as, holder_by}
 use Rattle.machine_core.specs.inner.Kept.{access_in}
 use Rattle.machine_core.specs.inner.Acted.{SucceedsUnlessCommitting}
 use Rattle.machine_core.specs.Made.{HasMade}
-use Rattle.machine_core.proofs.Splitting.{needs-is, may-act, begins-acts, begins-asks, asks-held, asks-between, held-next, held-ask, fits-ask, fits-by, performs-stall, use-rests, performs-ask, use-ask}
+use Rattle.machine_core.proofs.Splitting.{needs-is, may-act, begins-acts, begins-asks, asks-taken, asks-hold, held-with, held-next, held-ask, fits-ask, fits-by, performs-stall, use-rests, performs-ask, use-ask}
 use Rattle.machine_core.proofs.asking.begin.Goals as goal
 
 pub act-requires-clause-free : goal.act-requires-clause-free
@@ -40,71 +42,52 @@ returns-then-not-needs_bus-clause-of_test g c = record {
       (c.accesses_wait.ensures c.args.test.now c.args.parts.now.config.depth (state_in c.args.parts.now).flat) c.act.ensures.keeps.config c.act.ensures.holder c.act.ensures.makes c.act.ensures.err;
 }
 
-pub returns-in-Free-clause-makes : goal.returns-in-Free-clause-makes
-returns-in-Free-clause-makes g c = record {
+pub returns-in-None-clause-makes : goal.returns-in-None-clause-makes
+returns-in-None-clause-makes g c = record {
   ok =
       performs-ask c.args.test.now c.args.parts.now _ c.args.choice
       (needs-is c.args.test.now c.args.parts.now c.args.choice c.core_of-core.result.0 (access_in c.access_of-access.result) true c.core_of-core.ensures.chosen c.access_of-access.ensures.value
       (sym c.if-not-needs_bus.false ∙ c.needs_bus.ensures.value))
-      (ap holder_in c.in-Free.is) refl c.ask.ensures.words refl refl;
+      (ap holder_by (sym c.in-None.ensures)) refl c.ask.ensures.words
+      (ap (held-with (Complete c.args.choice)) c.ask.ensures.holder ∙ asks-hold c.core_of-core.result (access_in c.access_of-access.result) _ c.args.choice (sym (sym c.if-not-needs_bus.false ∙ c.needs_bus.ensures.value))) refl;
   caches =
       use-ask c.args.test.now c.args.parts.now c.ask.new.bus c.args.choice c.core_of-core.result.0 (access_in c.access_of-access.result)
       (needs-is c.args.test.now c.args.parts.now c.args.choice c.core_of-core.result.0 (access_in c.access_of-access.result) true c.core_of-core.ensures.chosen c.access_of-access.ensures.value
       (sym c.if-not-needs_bus.false ∙ c.needs_bus.ensures.value))
-      (ap holder_in c.in-Free.is) c.core_of-core.ensures.chosen c.access_of-access.ensures.value c.ask.ensures.caches;
+      (ap holder_by (sym c.in-None.ensures)) c.core_of-core.ensures.chosen c.access_of-access.ensures.value c.ask.ensures.caches;
 }
 
-pub returns-in-Free-clause-answer : goal.returns-in-Free-clause-answer
-returns-in-Free-clause-answer g c =
+pub returns-in-None-clause-answer : goal.returns-in-None-clause-answer
+returns-in-None-clause-answer g c =
     fits-by c.args.test.now c.args.parts.now c.args.choice c.core_of-core.result.0 (access_in c.access_of-access.result) c.requires.consistent.held c.core_of-core.ensures.chosen c.access_of-access.ensures.value c.needs_bus.ensures.taken
 
-pub returns-in-Free-clause-of_test : goal.returns-in-Free-clause-of_test
-returns-in-Free-clause-of_test g c = record {
+pub returns-in-None-clause-of_test : goal.returns-in-None-clause-of_test
+returns-in-None-clause-of_test g c = record {
   fits = fits-ask c.args.test.now c.args.parts.now _ c.requires.consistent.fits refl refl c.ask.ensures.words c.ask.ensures.cores;
   held = held-ask c.args.test.now c.args.parts.now.config.depth (state_in c.args.parts.now).flat _ c.args.choice c.core_of-core.result (access_in c.access_of-access.result) _
-      c.core_of-core.ensures.core c.access_of-access.ensures.value (ap (state_of c.args.parts.now.processors.items) c.ask.ensures.words) c.ask.ensures.holder;
+      c.core_of-core.ensures.core c.access_of-access.ensures.value (ap (state_of c.args.parts.now.processors.items) c.ask.ensures.words) c.ask.ensures.holder
+      ∙ sym (ap (held_as c.args.test.now c.args.parts.now.config.depth (state_of c.args.parts.now.processors.items (words_of c.ask.new.bus)))
+      (ap (held-with (Complete c.args.choice)) c.ask.ensures.holder ∙ asks-hold c.core_of-core.result (access_in c.access_of-access.result) _ c.args.choice (sym (sym c.if-not-needs_bus.false ∙ c.needs_bus.ensures.value))));
 }
 
-pub returns-in-Asked-clause-makes : goal.returns-in-Asked-clause-makes
-returns-in-Asked-clause-makes g c = record {
+pub returns-in-Some-clause-makes : goal.returns-in-Some-clause-makes
+returns-in-Some-clause-makes g c = record {
   ok =
       let s = core_of (state_in c.args.parts.now).flat (chosen c.args.choice) in
       performs-stall c.args.test.now c.args.parts.now c.args.choice _ (stalled stall.Bus s) _
       (begins-asks c.args.test.now c.args.parts.now c.args.choice
       (needs-is c.args.test.now c.args.parts.now c.args.choice c.core_of-core.result.0 (access_in c.access_of-access.result) true c.core_of-core.ensures.chosen c.access_of-access.ensures.value
       (sym c.if-not-needs_bus.false ∙ c.needs_bus.ensures.value))
-      ∙ asks-held s c.args.choice _ (state_in c.args.parts.now).holder (ap holder_in c.in-Asked.is)) refl refl refl;
+      ∙ asks-taken s c.args.choice _ (state_in c.args.parts.now).holder (ap holder_by (sym c.in-Some.ensures))) refl refl refl;
   caches =
       let s = core_of (state_in c.args.parts.now).flat (chosen c.args.choice) in
       use-rests c.args.test.now c.args.parts.now c.args.choice _ (stalled stall.Bus s)
       (begins-asks c.args.test.now c.args.parts.now c.args.choice
       (needs-is c.args.test.now c.args.parts.now c.args.choice c.core_of-core.result.0 (access_in c.access_of-access.result) true c.core_of-core.ensures.chosen c.access_of-access.ensures.value
       (sym c.if-not-needs_bus.false ∙ c.needs_bus.ensures.value))
-      ∙ asks-held s c.args.choice _ (state_in c.args.parts.now).holder (ap holder_in c.in-Asked.is)) refl;
+      ∙ asks-taken s c.args.choice _ (state_in c.args.parts.now).holder (ap holder_by (sym c.in-Some.ensures))) refl;
 }
 
-pub returns-in-Asked-clause-answer : goal.returns-in-Asked-clause-answer
-returns-in-Asked-clause-answer g c =
-    fits-by c.args.test.now c.args.parts.now c.args.choice c.core_of-core.result.0 (access_in c.access_of-access.result) c.requires.consistent.held c.core_of-core.ensures.chosen c.access_of-access.ensures.value c.needs_bus.ensures.taken
-
-pub returns-in-Between-clause-makes : goal.returns-in-Between-clause-makes
-returns-in-Between-clause-makes g c = record {
-  ok =
-      let s = core_of (state_in c.args.parts.now).flat (chosen c.args.choice) in
-      performs-stall c.args.test.now c.args.parts.now c.args.choice _ (stalled stall.Bus s) _
-      (begins-asks c.args.test.now c.args.parts.now c.args.choice
-      (needs-is c.args.test.now c.args.parts.now c.args.choice c.core_of-core.result.0 (access_in c.access_of-access.result) true c.core_of-core.ensures.chosen c.access_of-access.ensures.value
-      (sym c.if-not-needs_bus.false ∙ c.needs_bus.ensures.value))
-      ∙ asks-between s c.args.choice _ (state_in c.args.parts.now).holder (ap holder_in c.in-Between.is)) refl refl refl;
-  caches =
-      let s = core_of (state_in c.args.parts.now).flat (chosen c.args.choice) in
-      use-rests c.args.test.now c.args.parts.now c.args.choice _ (stalled stall.Bus s)
-      (begins-asks c.args.test.now c.args.parts.now c.args.choice
-      (needs-is c.args.test.now c.args.parts.now c.args.choice c.core_of-core.result.0 (access_in c.access_of-access.result) true c.core_of-core.ensures.chosen c.access_of-access.ensures.value
-      (sym c.if-not-needs_bus.false ∙ c.needs_bus.ensures.value))
-      ∙ asks-between s c.args.choice _ (state_in c.args.parts.now).holder (ap holder_in c.in-Between.is)) refl;
-}
-
-pub returns-in-Between-clause-answer : goal.returns-in-Between-clause-answer
-returns-in-Between-clause-answer g c =
+pub returns-in-Some-clause-answer : goal.returns-in-Some-clause-answer
+returns-in-Some-clause-answer g c =
     fits-by c.args.test.now c.args.parts.now c.args.choice c.core_of-core.result.0 (access_in c.access_of-access.result) c.requires.consistent.held c.core_of-core.ensures.chosen c.access_of-access.ensures.value c.needs_bus.ensures.taken

@@ -11,6 +11,7 @@ use Rattle.machine_core.specs.Performed.{HasUsed}
 use Rattle.machine_core.specs.Split.{completes_in}
 use Rattle.machine_core.proofs.Performing.{Performs-by, access_of-drain, within-cores}
 use Rattle.machine_core.proofs.Completions.{held-asked, some-asked, use-frees, completes_in-drain, drain-commits}
+use Rattle.machine_core.proofs.Splitting.{held-with}
 use Rattle.machine_core.proofs.completing.complete_drain.Goals as goal
 
 pub store_oldest-requires-clause-asked : goal.store_oldest-requires-clause-asked
@@ -33,7 +34,7 @@ returns-clause-makes g c = record {
       let some = some-asked c.args.test.now c.args.parts.now (Drain c.args.core) c.requires.consistent.holder c.requires.asked in
       Performs-by c.args.parts.now _ (Drain c.args.core) Committed c.store_oldest.new.processor (completes_in c.args.test.now c.args.parts.now (Drain c.args.core)) (acts (drain_by c.args.core.0 p (words_of c.args.parts.now.bus)) Free)
       (completes_in-drain c.args.test.now c.args.parts.now c.args.core p within c.index_mut-processor.ensures.value) refl
-      c.in_ok-access.ensures.drained.after c.in_ok-access.ensures.drained.words c.in_ok-access.ensures.drained.commits refl
+      c.in_ok-access.ensures.drained.after c.in_ok-access.ensures.drained.words c.in_ok-access.ensures.drained.commits (ap (held-with c.args.parts.now.next) c.in_ok-access.ensures.completes.free)
       (sym (drain-commits c.args.test.now c.args.parts.now c.args.core p within c.index_mut-processor.ensures.value some));
   caches =
       let p = c.index_mut-processor.result.now in

@@ -16,6 +16,8 @@ use Rattle.machine_core.specs.Split.{completes_in}
 use Rattle.machine_core.proofs.Performing.{Performs-by, within-cores}
 use Rattle.machine_core.proofs.Completions.{held-asked, some-asked, use-frees}
 use Rattle.machine_core.proofs.StepCompletions.{next-some, place-within, IsNext, is-next, makes-none, store-writes, completes-store, load-reads, completes-load, lock-locks, completes-lock}
+use Rattle.machine_core.proofs.Splitting.{held-with}
+use Rattle.machine_core.specs.declared.holding.Next.TheVariants.{Write}
 use Rattle.machine_core.proofs.completing.complete_step.Goals as goal
 
 pub unwrap-instr-requires : goal.unwrap-instr-requires
@@ -55,7 +57,7 @@ returns-in_ok-access-in-Store-clause-makes g c = record {
       c.program.ensures.value c.instruction_at.ensures c.unwrap-instr.ensures c.action.ensures c.in-Store.is in
       Performs-by c.args.parts.now _ (Step c.args.core) Committed c.store.new.processor (completes_in c.args.test.now c.args.parts.now (Step c.args.core)) (acts (stored 0 (core_state c.args.core.0 p) (entry c.args.core.0 p.place W c.in-Store.loc c.value-value.result)) Free)
       (completes-store c.args.test.now c.args.parts.now c.args.core p c.in-Store.loc c.in-Store.operand c.value-value.result next some c.value-value.ensures) refl
-      c.in_ok-access-in-Store.ensures.after c.in_ok-access-in-Store.ensures.stored.words c.in_ok-access-in-Store.ensures.stored.commits refl refl;
+      c.in_ok-access-in-Store.ensures.after c.in_ok-access-in-Store.ensures.stored.words c.in_ok-access-in-Store.ensures.stored.commits (ap (held-with c.args.parts.now.next) c.in_ok-access-in-Store.ensures.completes.free) refl;
   caches =
       let p = c.index_mut-processor.result.now in
       let some = some-asked c.args.test.now c.args.parts.now (Step c.args.core) c.requires.consistent.holder c.requires.asked in
@@ -91,7 +93,7 @@ returns-in_ok-access-in-Load-clause-makes g c = record {
       Performs-by c.args.parts.now _ (Step c.args.core) Committed c.load.new.processor (completes_in c.args.test.now c.args.parts.now (Step c.args.core))
       (acts (loaded (core_state c.args.core.0 p) c.in-Load.reg (entry c.args.core.0 p.place R c.in-Load.loc (slice_index (words_of c.args.parts.now.bus) c.in-Load.loc.0))) Free)
       (completes-load c.args.test.now c.args.parts.now c.args.core p c.in-Load.reg c.in-Load.loc next some) refl
-      (ap (core_state c.args.core.0) c.in_ok-access-in-Load.ensures.after) c.in_ok-access-in-Load.ensures.words c.in_ok-access-in-Load.ensures.commits refl refl;
+      (ap (core_state c.args.core.0) c.in_ok-access-in-Load.ensures.after) c.in_ok-access-in-Load.ensures.words c.in_ok-access-in-Load.ensures.commits (ap (held-with c.args.parts.now.next) c.in_ok-access-in-Load.ensures.completes.free) refl;
   caches =
       let p = c.index_mut-processor.result.now in
       let some = some-asked c.args.test.now c.args.parts.now (Step c.args.core) c.requires.consistent.holder c.requires.asked in
@@ -122,7 +124,7 @@ returns-in_ok-entry-in-Lock-clause-makes g c = record {
       c.program.ensures.value c.instruction_at.ensures c.unwrap-instr.ensures c.action.ensures c.in-Lock.is in
       Performs-by c.args.parts.now _ (Step c.args.core) Committed p (completes_in c.args.test.now c.args.parts.now (Step c.args.core)) (reads_first (core_state c.args.core.0 p) (entry c.args.core.0 p.place LR c.in-Lock.loc (slice_index (words_of c.args.parts.now.bus) c.in-Lock.loc.0)))
       (completes-lock c.args.test.now c.args.parts.now c.args.core p c.in-Lock.loc c.in-Lock.field-1 c.in-Lock.field-2 next some) refl
-      refl c.in_ok-entry-in-Lock.ensures.words c.in_ok-entry-in-Lock.ensures.commits (ap HeldBetween c.in_ok-entry-in-Lock.ensures.entry) refl;
+      refl c.in_ok-entry-in-Lock.ensures.words c.in_ok-entry-in-Lock.ensures.commits (ap (held-with (Write c.in_ok-entry-in-Lock.entry)) c.in_ok-entry-in-Lock.ensures.held ∙ ap HeldBetween c.in_ok-entry-in-Lock.ensures.entry) refl;
   caches =
       let p = c.index_mut-processor.result.now in
       let some = some-asked c.args.test.now c.args.parts.now (Step c.args.core) c.requires.consistent.holder c.requires.asked in

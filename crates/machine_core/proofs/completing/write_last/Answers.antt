@@ -10,6 +10,7 @@ use Rattle.machine_core.specs.inner.Split.{writes_last_in}
 use Rattle.machine_core.proofs.Performing.{Performs-by, within-cores}
 use Rattle.machine_core.proofs.StepCompletions.{next-some, place-within, IsNext, is-next, access-next}
 use Rattle.machine_core.proofs.LastWrites.{has-read, locks-some, is-lock, last_part, writes-last, use-last, rests-last}
+use Rattle.machine_core.proofs.Splitting.{held-with}
 use Rattle.machine_core.proofs.completing.write_last.Goals as goal
 
 pub unwrap-instr-requires : goal.unwrap-instr-requires
@@ -46,7 +47,7 @@ returns-clause-makes g c = record {
       Performs-by c.args.parts.now _ (Step e.core) Committed c.advance.new.processor (writes_last_in c.args.test.now c.args.parts.now e)
       (acts (last_part e.core.0 e.place (core_state e.core.0 p) e.loc c.written-reg.result.0 e.value c.written-reg.result.1) Free)
       (writes-last c.args.test.now c.args.parts.now e p c.action.result c.written-reg.result.0 c.written-reg.result.1 next read c.written-reg.ensures) refl
-      (ap (core_state e.core.0) c.advance.ensures) c.complete_write.ensures.words c.in_ok-note.ensures.ok refl refl;
+      (ap (core_state e.core.0) c.advance.ensures) c.complete_write.ensures.words (rw c.entry.ensures at c.in_ok-note.ensures.ok) (ap (held-with c.args.parts.now.next) c.complete_write.ensures.free) refl;
   caches =
       let p = c.index_mut-processor.result.now in
       let e = c.args.read in

@@ -9,5 +9,5 @@ pub returns-then-not-is_empty-clause-acts : goal.returns-then-not-is_empty-claus
 returns-then-not-is_empty-clause-acts g c =
     let p = c.args.processor.now in
     let words = words_of c.args.bus.now in
-    acts-stalls c.args.core.0 p c.args.bus.now c.args.commits.now (lock_by c.args.loc c.args.reg c.args.update c.args.core.0 p words) stall.Lock
-    (lock-waits c.args.core.0 p words c.args.loc c.args.reg c.args.update c.is_empty.result c.is_empty.ensures.1 c.if-not-is_empty.true)
+    acts-stalls c.args.core.0 p c.args.bus.now c.args.commits.now (lock_by c.args.locked.loc c.args.locked.reg c.args.locked.update c.args.core.0 p words) stall.Lock
+    (lock-waits c.args.core.0 p words c.args.locked.loc c.args.locked.reg c.args.locked.update c.is_empty.result c.is_empty.ensures.1 c.if-not-is_empty.true)

@@ -1,10 +1,11 @@
-use Rattle.std.proofs.Common.{sym, refl, subst}
+use Rattle.std.proofs.Common.{ap, sym, refl, subst}
 use Rattle.tso_model.specs.declared.choice.Choice.TheVariants.{Drain}
 use Rattle.snoop_bus.specs.Bus.{words_of}
 use Rattle.machine_core.specs.inner.Cores.{drain_by}
 use Rattle.machine_core.specs.inner.Performed.{MayAct}
 use Rattle.machine_core.specs.inner.Acted.{SucceedsUnlessCommitting}
 use Rattle.machine_core.proofs.Performing.{access_of-drain, effect_in-drain, IfOk-Makes, within-cores}
+use Rattle.machine_core.proofs.Splitting.{held-with}
 use Rattle.machine_core.proofs.machine_parts.drain.Goals as goal
 
 pub returns-clause-makes : goal.returns-clause-makes
@@ -13,7 +14,7 @@ returns-clause-makes g c =
     let within = within-cores c.args.test.now c.args.parts.now c.args.core.0 c.requires.fits c.requires.core in
     let effect = effect_in-drain c.args.test.now c.args.parts.now c.args.core p within c.index_mut-processor.ensures.value in
     IfOk-Makes c.drain.result c.args.test.now c.args.parts.now _ (Drain c.args.core) p c.drain.new.processor (drain_by c.args.core.0 p (words_of c.args.parts.now.bus)) effect
-    within c.index_mut-processor.ensures.value refl refl c.drain.ensures.acts
+    within c.index_mut-processor.ensures.value refl (ap (held-with c.args.parts.now.next) c.drain.ensures.keeps.holder) c.drain.ensures.acts
 
 pub returns-clause-succeeds : goal.returns-clause-succeeds
 returns-clause-succeeds g c =

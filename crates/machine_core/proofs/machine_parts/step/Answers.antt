@@ -11,6 +11,7 @@ use Rattle.machine_core.specs.inner.Cores.{step_by}
 use Rattle.machine_core.specs.inner.Acted.{SucceedsUnlessCommitting}
 use Rattle.machine_core.proofs.ActedLemmas.{acts-stalls}
 use Rattle.machine_core.proofs.Performing.{access_of-step, effect_in-step, effect_in-done, IfOk-Makes, PartsFitTest-next, IsCore-at, within-cores}
+use Rattle.machine_core.proofs.Splitting.{held-with}
 use Rattle.machine_core.proofs.machine_parts.step.Goals as goal
 
 pub returns-in-None-clause-makes : goal.returns-in-None-clause-makes
@@ -30,7 +31,7 @@ returns-in-Some-clause-makes g c =
     let core = IsCore-at c.args.test.now c.args.parts.now c.args.core.0 p c.requires.fits c.requires.core c.index_mut-processor.ensures.value in
     let effect = effect_in-step c.args.test.now c.args.parts.now c.args.core p c.in-Some.instr within c.index_mut-processor.ensures.value core.depth_is got in
     IfOk-Makes c.step.result c.args.test.now c.args.parts.now _ (Step c.args.core) p c.step.new.processor (step_by c.in-Some.instr c.args.core.0 p (words_of c.args.parts.now.bus)) effect
-    within c.index_mut-processor.ensures.value refl refl c.step.ensures.acts
+    within c.index_mut-processor.ensures.value refl (ap (held-with c.args.parts.now.next) c.step.ensures.keeps.holder) c.step.ensures.acts
 
 pub returns-in-Some-clause-succeeds : goal.returns-in-Some-clause-succeeds
 returns-in-Some-clause-succeeds g c =

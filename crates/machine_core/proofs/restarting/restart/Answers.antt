@@ -6,6 +6,7 @@ use Rattle.machine_core.specs.Cores.{core_states}
 use Rattle.machine_core.specs.Kept.{IsCore}
 use Rattle.machine_core.proofs.Beginning.{begun-state, begun-statistics}
 use Rattle.machine_core.proofs.TallyLemmas.{tallied-first}
+use Rattle.machine_core.proofs.Splitting.{held-freed}
 use Rattle.machine_core.proofs.restarting.restart.Goals as goal
 
 pub returns-clause-begun : goal.returns-clause-begun
@@ -23,10 +24,10 @@ returns-clause-begun g c =
         each = subst (λ qs. All (IsCore m.config.depth n) qs) (sym ps)
             (c.restart_cores.ensures.depths m.config.depth (length (words_of m.bus)) n (subst (λ qs. All (IsCore m.config.depth (length (words_of m.bus))) qs) (sym before) c.requires.fits.each));
       };
-      held = ap holder_of c.restart.ensures.exact;
-      state = begun-state _ _ c.args.test.now (ap (core_states 0) ps ∙ c.restart_cores.ensures.states) (c.restart.ensures.words ∙ c.initial_words.ensures.value);
+      held = held-freed c.args.test.now _ (record { memory = words_of c.restart.new.self; cores = _ }) _ _ (ap holder_of c.restart.ensures.exact);
+      state = begun-state _ _ c.args.test.now _ _ (ap (core_states 0) ps ∙ c.restart_cores.ensures.states) (c.restart.ensures.words ∙ c.initial_words.ensures.value) (ap holder_of c.restart.ensures.exact);
       commits = search rules;
-      tallied = tallied-first c.args.test.now _ _ c.requires.test (ap (core_states 0) ps ∙ c.restart_cores.ensures.states) refl
+      tallied = tallied-first c.args.test.now _ _ c.requires.test (ap (core_states 0) ps ∙ c.restart_cores.ensures.states)
           (rw (ap length c.deref_mut-2.ensures.value ∙ c.requires.counts) at (cs ∙ c.count_nothing.ensures)) (ap awaited_of c.restart.ensures.exact);
     }
 

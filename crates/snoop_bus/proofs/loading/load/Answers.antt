@@ -6,33 +6,33 @@ use Rattle.snoop_bus.proofs.loading.load.Goals as goal
 
 pub returns-in-Some-clause-ok : goal.returns-in-Some-clause-ok
 returns-in-Some-clause-ok g c =
-    let looked = c.index-caches-core.is ∙ get_or_default c.args.caches.now c.args.core c.index-caches-core.result [] c.requires.ready.core_in in
-    let here = get_or_default c.args.caches.now c.args.core c.index-caches-core-in-Some.result [] c.requires.ready.core_in in
-    let found : copy_at c.args.caches.now c.args.core c.args.line ≡ Some c.in-Some.copy = sym (ap (λ (sets : Sets). copy_in sets c.args.line) looked) ∙ cc (c.look.ensures.found, c.in-Some.ensures) in
+    let looked = c.index-caches-core.is ∙ get_or_default c.args.caches.now c.args.target.core c.index-caches-core.result [] c.requires.ready.core_in in
+    let here = get_or_default c.args.caches.now c.args.target.core c.index-caches-core-in-Some.result [] c.requires.ready.core_in in
+    let found : copy_at c.args.caches.now c.args.target.core c.args.target.line ≡ Some c.in-Some.copy = sym (ap (λ (sets : Sets). copy_in sets c.args.target.line) looked) ∙ cc (c.look.ensures.found, c.in-Some.ensures) in
     rw (c.from.ensures, c.quiet.ensures)
-    (load_hit (g.P.Protocol.table c.args.protocol.now) c.args.held c.args.caches.now c.args.memory.now c.args.core c.args.line c.args.place c.in-Some.copy c.touch.new.self c.requires.ready.coherent c.requires.ready.awaited c.requires.ready.core_in c.requires.ready.line_in found
+    (load_hit (g.P.Protocol.table c.args.protocol.now) c.args.held c.args.caches.now c.args.memory.now c.args.target.core c.args.target.line c.args.target.place c.in-Some.copy c.touch.new.self c.requires.ready.coherent c.requires.ready.awaited c.requires.ready.core_in c.requires.ready.line_in found
     (rw here at c.touch.ensures.exact) (rw here at c.touch.ensures.copies) (rw here at c.touch.ensures.ways)).0
 
 pub returns-in-Some-clause-words : goal.returns-in-Some-clause-words
 returns-in-Some-clause-words g c =
-    let looked = c.index-caches-core.is ∙ get_or_default c.args.caches.now c.args.core c.index-caches-core.result [] c.requires.ready.core_in in
-    let here = get_or_default c.args.caches.now c.args.core c.index-caches-core-in-Some.result [] c.requires.ready.core_in in
-    let found : copy_at c.args.caches.now c.args.core c.args.line ≡ Some c.in-Some.copy = sym (ap (λ (sets : Sets). copy_in sets c.args.line) looked) ∙ cc (c.look.ensures.found, c.in-Some.ensures) in
-    (load_hit (g.P.Protocol.table c.args.protocol.now) c.args.held c.args.caches.now c.args.memory.now c.args.core c.args.line c.args.place c.in-Some.copy c.touch.new.self c.requires.ready.coherent c.requires.ready.awaited c.requires.ready.core_in c.requires.ready.line_in found
+    let looked = c.index-caches-core.is ∙ get_or_default c.args.caches.now c.args.target.core c.index-caches-core.result [] c.requires.ready.core_in in
+    let here = get_or_default c.args.caches.now c.args.target.core c.index-caches-core-in-Some.result [] c.requires.ready.core_in in
+    let found : copy_at c.args.caches.now c.args.target.core c.args.target.line ≡ Some c.in-Some.copy = sym (ap (λ (sets : Sets). copy_in sets c.args.target.line) looked) ∙ cc (c.look.ensures.found, c.in-Some.ensures) in
+    (load_hit (g.P.Protocol.table c.args.protocol.now) c.args.held c.args.caches.now c.args.memory.now c.args.target.core c.args.target.line c.args.target.place c.in-Some.copy c.touch.new.self c.requires.ready.coherent c.requires.ready.awaited c.requires.ready.core_in c.requires.ready.line_in found
     (rw here at c.touch.ensures.exact) (rw here at c.touch.ensures.copies) (rw here at c.touch.ensures.ways)).1
 
 pub returns-in-Some-clause-awaited : goal.returns-in-Some-clause-awaited
 returns-in-Some-clause-awaited g c =
-    let looked = c.index-caches-core.is ∙ get_or_default c.args.caches.now c.args.core c.index-caches-core.result [] c.requires.ready.core_in in
-    let here = get_or_default c.args.caches.now c.args.core c.index-caches-core-in-Some.result [] c.requires.ready.core_in in
-    let found : copy_at c.args.caches.now c.args.core c.args.line ≡ Some c.in-Some.copy = sym (ap (λ (sets : Sets). copy_in sets c.args.line) looked) ∙ cc (c.look.ensures.found, c.in-Some.ensures) in
-    (load_hit (g.P.Protocol.table c.args.protocol.now) c.args.held c.args.caches.now c.args.memory.now c.args.core c.args.line c.args.place c.in-Some.copy c.touch.new.self c.requires.ready.coherent c.requires.ready.awaited c.requires.ready.core_in c.requires.ready.line_in found
+    let looked = c.index-caches-core.is ∙ get_or_default c.args.caches.now c.args.target.core c.index-caches-core.result [] c.requires.ready.core_in in
+    let here = get_or_default c.args.caches.now c.args.target.core c.index-caches-core-in-Some.result [] c.requires.ready.core_in in
+    let found : copy_at c.args.caches.now c.args.target.core c.args.target.line ≡ Some c.in-Some.copy = sym (ap (λ (sets : Sets). copy_in sets c.args.target.line) looked) ∙ cc (c.look.ensures.found, c.in-Some.ensures) in
+    (load_hit (g.P.Protocol.table c.args.protocol.now) c.args.held c.args.caches.now c.args.memory.now c.args.target.core c.args.target.line c.args.target.place c.in-Some.copy c.touch.new.self c.requires.ready.coherent c.requires.ready.awaited c.requires.ready.core_in c.requires.ready.line_in found
     (rw here at c.touch.ensures.exact) (rw here at c.touch.ensures.copies) (rw here at c.touch.ensures.ways)).2
 
 pub returns-in-Some-clause-ways : goal.returns-in-Some-clause-ways
 returns-in-Some-clause-ways g c =
-    let looked = c.index-caches-core.is ∙ get_or_default c.args.caches.now c.args.core c.index-caches-core.result [] c.requires.ready.core_in in
-    let here = get_or_default c.args.caches.now c.args.core c.index-caches-core-in-Some.result [] c.requires.ready.core_in in
-    let found : copy_at c.args.caches.now c.args.core c.args.line ≡ Some c.in-Some.copy = sym (ap (λ (sets : Sets). copy_in sets c.args.line) looked) ∙ cc (c.look.ensures.found, c.in-Some.ensures) in
-    (load_hit (g.P.Protocol.table c.args.protocol.now) c.args.held c.args.caches.now c.args.memory.now c.args.core c.args.line c.args.place c.in-Some.copy c.touch.new.self c.requires.ready.coherent c.requires.ready.awaited c.requires.ready.core_in c.requires.ready.line_in found
+    let looked = c.index-caches-core.is ∙ get_or_default c.args.caches.now c.args.target.core c.index-caches-core.result [] c.requires.ready.core_in in
+    let here = get_or_default c.args.caches.now c.args.target.core c.index-caches-core-in-Some.result [] c.requires.ready.core_in in
+    let found : copy_at c.args.caches.now c.args.target.core c.args.target.line ≡ Some c.in-Some.copy = sym (ap (λ (sets : Sets). copy_in sets c.args.target.line) looked) ∙ cc (c.look.ensures.found, c.in-Some.ensures) in
+    (load_hit (g.P.Protocol.table c.args.protocol.now) c.args.held c.args.caches.now c.args.memory.now c.args.target.core c.args.target.line c.args.target.place c.in-Some.copy c.touch.new.self c.requires.ready.coherent c.requires.ready.awaited c.requires.ready.core_in c.requires.ready.line_in found
     (rw here at c.touch.ensures.exact) (rw here at c.touch.ensures.copies) (rw here at c.touch.ensures.ways)).3

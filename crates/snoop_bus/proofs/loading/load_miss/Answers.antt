@@ -8,18 +8,18 @@ pub returns-clause-ok : goal.returns-clause-ok
 returns-clause-ok g c =
     let t = g.P.Protocol.table c.args.protocol.now in
     let p = c.args.protocol.now in
-    let here = get_or_default c.args.caches.now c.args.core c.index-caches-core.result [] c.requires.ready.core_in in
+    let here = get_or_default c.args.caches.now c.args.target.core c.index-caches-core.result [] c.requires.ready.core_in in
     rw c.from-2.ensures
     (load_missed t (g.met.P.Protocol.fills_exclusive_only_alone p) (g.met.P.Protocol.shares p) (g.met.P.Protocol.cleans_by_memory p) (g.met.P.Protocol.supplies_to_readers p) (g.met.P.Protocol.writes_back_dirty p)
-    c.args.caches.now c.snoop_others.new.caches c.args.memory.now c.flush.new.memory c.args.core c.args.line c.unwrap_or-words.result c.filled-state.result c.in_ok-victim.victim c.fill.new.self
-    c.find-found.result.flushed c.write_back-wrote_back.result c.args.place
+    c.args.caches.now c.snoop_others.new.caches c.args.memory.now c.flush.new.memory c.args.target.core c.args.target.line c.unwrap_or-words.result c.filled-state.result c.in_ok-victim.victim c.fill.new.self
+    c.find-found.result.flushed c.write_back-wrote_back.result c.args.target.place
     (record {
       basis = record {
         coherent = c.requires.ready.coherent;
         core_in = c.requires.ready.core_in;
         within = c.requires.ready.line_in;
         absent = c.requires.absent;
-        words = rw (c.unwrap_or-words.ensures, c.from.ensures) (c.find-found.ensures.words (line_in c.args.memory.now c.args.line));
+        words = rw (c.unwrap_or-words.ensures, c.from.ensures) (c.find-found.ensures.words (line_in c.args.memory.now c.args.target.line));
         state = rw c.find-found.ensures.shared at c.filled-state.ensures;
         filled = rw here at c.in_ok-victim.ensures.copies;
         was_here = rw here at c.in_ok-victim.ensures.was_here;
@@ -39,17 +39,17 @@ pub returns-clause-words : goal.returns-clause-words
 returns-clause-words g c =
     let t = g.P.Protocol.table c.args.protocol.now in
     let p = c.args.protocol.now in
-    let here = get_or_default c.args.caches.now c.args.core c.index-caches-core.result [] c.requires.ready.core_in in
+    let here = get_or_default c.args.caches.now c.args.target.core c.index-caches-core.result [] c.requires.ready.core_in in
     (load_missed t (g.met.P.Protocol.fills_exclusive_only_alone p) (g.met.P.Protocol.shares p) (g.met.P.Protocol.cleans_by_memory p) (g.met.P.Protocol.supplies_to_readers p) (g.met.P.Protocol.writes_back_dirty p)
-    c.args.caches.now c.snoop_others.new.caches c.args.memory.now c.flush.new.memory c.args.core c.args.line c.unwrap_or-words.result c.filled-state.result c.in_ok-victim.victim c.fill.new.self
-    c.find-found.result.flushed c.write_back-wrote_back.result c.args.place
+    c.args.caches.now c.snoop_others.new.caches c.args.memory.now c.flush.new.memory c.args.target.core c.args.target.line c.unwrap_or-words.result c.filled-state.result c.in_ok-victim.victim c.fill.new.self
+    c.find-found.result.flushed c.write_back-wrote_back.result c.args.target.place
     (record {
       basis = record {
         coherent = c.requires.ready.coherent;
         core_in = c.requires.ready.core_in;
         within = c.requires.ready.line_in;
         absent = c.requires.absent;
-        words = rw (c.unwrap_or-words.ensures, c.from.ensures) (c.find-found.ensures.words (line_in c.args.memory.now c.args.line));
+        words = rw (c.unwrap_or-words.ensures, c.from.ensures) (c.find-found.ensures.words (line_in c.args.memory.now c.args.target.line));
         state = rw c.find-found.ensures.shared at c.filled-state.ensures;
         filled = rw here at c.in_ok-victim.ensures.copies;
         was_here = rw here at c.in_ok-victim.ensures.was_here;

@@ -1,5 +1,5 @@
 use Rattle.std.proofs.Common.{◌≡◌, drop}
-use Rattle.trace_report.specs.inner.Steps.{left_by}
+use Rattle.trace_report.specs.Steps.{left_by}
 use Rattle.trace_report.proofs.states.left_by.Given as goal
 
 abbrev pub invariant-loop-change : goal.invariant-loop-change

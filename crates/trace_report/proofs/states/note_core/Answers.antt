@@ -1,5 +1,5 @@
 use Rattle.std.proofs.Common.{◌++◌, ap, rules}
-use Rattle.trace_report.specs.inner.Steps.{line_states}
+use Rattle.trace_report.specs.Steps.{line_states}
 use Rattle.trace_report.specs.declared.states.PlacedState.{PlacedState}
 use Rattle.trace_report.specs.declared.step.LineState.{LineState}
 use Rattle.trace_report.proofs.Listing.{one-line}

@@ -1,5 +1,5 @@
 use Rattle.std.proofs.Common.{◌≡◌, ◌++◌, ◌-◌}
-use Rattle.trace_report.specs.inner.Steps.{line_states}
+use Rattle.trace_report.specs.Steps.{line_states}
 use Rattle.trace_report.proofs.states.note_core.Given as goal
 
 abbrev pub invariant-loop-line : goal.invariant-loop-line

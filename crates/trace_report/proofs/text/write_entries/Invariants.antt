@@ -1,5 +1,5 @@
 use Rattle.std.proofs.Common.{◌≡◌, ◌++◌, drop, string_bytes}
-use Rattle.trace_report.specs.inner.Lines.{entries_text}
+use Rattle.trace_report.specs.Lines.{entries_text}
 use Rattle.trace_report.proofs.text.write_entries.Given as goal
 
 abbrev pub invariant-loop-entry : goal.invariant-loop-entry

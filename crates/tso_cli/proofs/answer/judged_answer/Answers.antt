@@ -18,9 +18,9 @@ returns-in-Ok c =
     let s = c.args.settings.now in
     let input = c.args.input.now in
     let small : length input ≤ longest_input = omega arith in
-    answer-means (IsAnswerTo s c.in-Ok.test (parts_of input).rest) (IsInputAnswer s input) c.answer_of.result
+    answer-means (IsAnswerTo s c.in-Ok.test (parts_of input).rest) (IsInputAnswer s input) c.told_answer.result
     (λ out status is. answered c.in-Ok.test out status small (rw c.parts_of-parts.ensures.test at c.in-Ok.ensures.found) is)
-    (rw c.parts_of-parts.ensures.rest at c.answer_of.ensures)
+    (rw c.parts_of-parts.ensures.rest at c.told_answer.ensures)
 
 pub returns-in-Err-Fault : goal.returns-in-Err-Fault
 returns-in-Err-Fault c =

@@ -11,7 +11,7 @@ pub invalid-requires : goal.invalid-requires
 invalid-requires c =
     let t = c.args.test.now in
     let order = c.args.execution.now.order.items in
-    named t order c.in-Err.breach (λ e. c.made_entries_fit_the_test.ensures t order e c.know_test.ensures)
+    named t order c.in-Err.breach (λ e. c.made_entries_fit_the_test.ensures t order e c.know_limits.ensures)
     (c.order_can_be_printed.ensures t order c.requires) c.in-Err.ensures.first
 
 pub returns-in-Ok : goal.returns-in-Ok

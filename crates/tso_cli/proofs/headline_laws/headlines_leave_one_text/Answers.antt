@@ -1,4 +1,4 @@
-use Rattle.tso_cli.proofs.OneTextLemmas.{AreDecided, runs-one, sweeps-one, checks-one, witnesses-one}
+use Rattle.tso_cli.proofs.OneTextLemmas.{AreDecided, runs-one, traces-one, sweeps-one, checks-one, witnesses-one}
 use Rattle.tso_cli.proofs.headline_laws.headlines_leave_one_text.Goals as goal
 
 pub returns : goal.returns
@@ -11,6 +11,7 @@ returns c =
     } in
     record {
       runs = λ kind config json input out other. runs-one kind config json input out other law decided;
+      traces = λ kind config input out other. traces-one kind config input out other law decided;
       sweeps = λ kind config plan input out other. sweeps-one kind config plan input out other law decided;
       witnesses = λ depth input out other. witnesses-one depth input out other law decided;
       checks = λ input out other. checks-one input out other law decided;

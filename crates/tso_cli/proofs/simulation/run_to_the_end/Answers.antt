@@ -61,11 +61,11 @@ returns-clause-fits g c =
     let ended : c.is_ended.result ≡ true = grind arith in
     let is = ended-order table config t _ _ choices _ _ order laws (c.in_ok-machine.ensures, c.in_ok-progress.ensures.drives) (sym c.is_ended.ensures ∙ ended) c.in_ok-left.ensures.order in
     let fit : AnswersFitBy table config t choices = answers-fit table config t _ _ choices _ _ (c.in_ok-machine.ensures, c.in_ok-progress.ensures.drives) in
-    let execution : IsExecution t r = c.ended_runs_of_machines_are_executions.ensures.executions table config t choices c.know_test.ensures fit is.0 in
+    let execution : IsExecution t r = c.ended_runs_of_machines_are_executions.ensures.executions table config t choices c.know_limits.ensures fit is.0 in
     let whole : IsWhole t order = subst (IsWhole t) (sym is.1) execution.order.whole in
     let same : c.drive.new.machine.test ≡ t = c.in_ok-progress.ensures.drives.test ∙ ap (λ m. m.test) c.in_ok-machine.ensures in
     record {
-      locations = locations-known t order (λ e stands. c.whole_orders_have_each_entry_once.ensures.fits t order e c.know_test.ensures whole stands);
+      locations = locations-known t order (λ e stands. c.whole_orders_have_each_entry_once.ensures.fits t order e c.know_limits.ensures whole stands);
       registers = c.in_ok-left.ensures.cores ∙ ap (λ u. length u.programs) same;
       memory = c.in_ok-left.ensures.locations ∙ ap (λ u. length u.locations) same;
       counts = ap length (counts-are table config t _ _ choices _ _ c.in_ok-left.left.counts.items (c.in_ok-machine.ensures, c.in_ok-progress.ensures.drives) c.in_ok-left.ensures.counts)

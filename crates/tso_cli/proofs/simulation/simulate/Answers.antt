@@ -12,7 +12,7 @@ returns-clause-counting c = λ atomic.
 pub returns-clause-unbuffered : goal.returns-clause-unbuffered
 returns-clause-unbuffered c = λ none.
     all-order c.args.test.now (run_under c.args.test.now c.args.protocol c.args.config c.args.choices.now) c.run_with.result
-    (on-ok c.run_with.result (c.ended_runs_of_machines_are_executions.ensures.unbuffered (table_of c.args.protocol) c.args.config c.args.test.now c.args.choices.now none c.know_test.ensures)
+    (on-ok c.run_with.result (c.ended_runs_of_machines_are_executions.ensures.unbuffered (table_of c.args.protocol) c.args.config c.args.test.now c.args.choices.now none c.know_limits.ensures)
     (rw c.new.ensures at c.run_with.ensures.answers))
     (rw c.new.ensures at c.run_with.ensures.ending)
 

@@ -1,6 +1,5 @@
 use Rattle.std.proofs.Common.{length, sym, subst}
-use Rattle.tso_model.specs.Condition.{NamesExist}
-use Rattle.tso_model.specs.inner.Condition.{claim_of, condition_of}
+use Rattle.tso_model.specs.Condition.{NamesExist, claim_of, condition_of}
 use Rattle.tso_cli.proofs.simulation.verdict_of.Goals as goal
 
 pub cond_holds-requires : goal.cond_holds-requires

@@ -1,5 +1,5 @@
 use Rattle.std.proofs.Common.{◌≡◌, refl, subst}
-use Rattle.tso_model.specs.inner.Condition.{condition_of}
+use Rattle.tso_model.specs.Condition.{condition_of}
 use Rattle.tso_model.specs.Litmus.{IsCondition}
 use Rattle.tso_model.proofs.validity.condition_fits.Goals as goal
 

@@ -3,7 +3,7 @@ use Rattle.std.specs.Option.{ForSome}
 use Rattle.std.proofs.lemmas.Grind.{common_steps}
 use Rattle.std.proofs.lemmas.List.{length-map}
 use Rattle.tso_model.specs.Litmus.{IsProgram, IsCondition}
-use Rattle.tso_model.specs.inner.LitmusParts.{litmus_of}
+use Rattle.tso_model.specs.LitmusParts.{litmus_of}
 use Rattle.tso_model.proofs.validity.parts_fit.Goals as goal
 
 pub returns : goal.returns

@@ -20,9 +20,9 @@ returns-clause-words g c =
     let is : c.self.inside.held ≡ Some (held_by c.args.core c.args.loc Locked (c.args.loc.0 / c.self.inside.shape.words) None) = held.1.held_is ∙ ap (λ (x : Option Transaction). Some (held_by c.args.core c.args.loc Locked (c.args.loc.0 / c.self.inside.shape.words) x)) real.0 in
     let was = rw is at c.self.invariant in
     let cs = with_items_is c.self.inside.caches c.write.new.caches (search rules) in
-    let copies = rw (c.deref_mut.ensures.value, c.from.ensures, c.line_of-line.ensures.value, c.place_of-place.ensures.value) at c.write.ensures.copies in
+    let copies = rw (c.deref_mut.ensures.value, c.target_of-target.ensures.value) at c.write.ensures.copies in
     let room : c.args.loc.0 % c.self.inside.shape.words < length (current_words c.self.inside.caches.items c.self.inside.memory.items (c.args.loc.0 / c.self.inside.shape.words)) =
-    rw (was.lines (c.args.loc.0 / c.self.inside.shape.words) held.1.within, length-line c.self.inside.shape.words (words_in c.self.inside.shape.words (current_words c.self.inside.caches.items c.self.inside.memory.items) c.self.inside.locations) (c.args.loc.0 / c.self.inside.shape.words)) (rw c.place_of-place.ensures.value at c.place_of-place.ensures.within) in
+    rw (was.lines (c.args.loc.0 / c.self.inside.shape.words) held.1.within, length-line c.self.inside.shape.words (words_in c.self.inside.shape.words (current_words c.self.inside.caches.items c.self.inside.memory.items) c.self.inside.locations) (c.args.loc.0 / c.self.inside.shape.words)) (rw c.target_of-target.ensures.value at c.target_of-target.ensures.within) in
     let sets = locked_written c.self.inside.caches.items c.write.new.caches c.self.inside.memory.items c.args.core.0 (c.args.loc.0 / c.self.inside.shape.words) (c.args.loc.0 % c.self.inside.shape.words) c.args.value was.coherent held.1.within room real.1 copies in
     rw (← c.self.view_is, cs, is)
     (words-set c.self.inside.shape.words c.self.inside.locations (length c.self.inside.memory.items) (current_words c.self.inside.caches.items c.self.inside.memory.items) (current_words c.write.new.caches c.self.inside.memory.items) c.args.loc.0 c.args.value
@@ -35,9 +35,9 @@ invariant_of-self g c =
     let is : c.self.inside.held ≡ Some (held_by c.args.core c.args.loc Locked (c.args.loc.0 / c.self.inside.shape.words) None) = held.1.held_is ∙ ap (λ (x : Option Transaction). Some (held_by c.args.core c.args.loc Locked (c.args.loc.0 / c.self.inside.shape.words) x)) real.0 in
     let was = rw is at c.self.invariant in
     let cs = with_items_is c.self.inside.caches c.write.new.caches (search rules) in
-    let copies = rw (c.deref_mut.ensures.value, c.from.ensures, c.line_of-line.ensures.value, c.place_of-place.ensures.value) at c.write.ensures.copies in
+    let copies = rw (c.deref_mut.ensures.value, c.target_of-target.ensures.value) at c.write.ensures.copies in
     let room : c.args.loc.0 % c.self.inside.shape.words < length (current_words c.self.inside.caches.items c.self.inside.memory.items (c.args.loc.0 / c.self.inside.shape.words)) =
-    rw (was.lines (c.args.loc.0 / c.self.inside.shape.words) held.1.within, length-line c.self.inside.shape.words (words_in c.self.inside.shape.words (current_words c.self.inside.caches.items c.self.inside.memory.items) c.self.inside.locations) (c.args.loc.0 / c.self.inside.shape.words)) (rw c.place_of-place.ensures.value at c.place_of-place.ensures.within) in
+    rw (was.lines (c.args.loc.0 / c.self.inside.shape.words) held.1.within, length-line c.self.inside.shape.words (words_in c.self.inside.shape.words (current_words c.self.inside.caches.items c.self.inside.memory.items) c.self.inside.locations) (c.args.loc.0 / c.self.inside.shape.words)) (rw c.target_of-target.ensures.value at c.target_of-target.ensures.within) in
     let sets = locked_written c.self.inside.caches.items c.write.new.caches c.self.inside.memory.items c.args.core.0 (c.args.loc.0 / c.self.inside.shape.words) (c.args.loc.0 % c.self.inside.shape.words) c.args.value was.coherent held.1.within room real.1 copies in
     rw cs (bus-set c.self.inside.shape c.self.inside.locations c.self.inside.caches.items c.write.new.caches c.self.inside.memory.items c.self.inside.memory.items (Some (held_by c.args.core c.args.loc Locked (c.args.loc.0 / c.self.inside.shape.words) None)) c.args.loc.0 c.args.value was refl held.1.loc_in sets (rw c.deref_mut.ensures.value at c.write.ensures.ways))
 
@@ -48,9 +48,9 @@ returns-clause-coherent g c =
     let is : c.self.inside.held ≡ Some (held_by c.args.core c.args.loc Locked (c.args.loc.0 / c.self.inside.shape.words) None) = held.1.held_is ∙ ap (λ (x : Option Transaction). Some (held_by c.args.core c.args.loc Locked (c.args.loc.0 / c.self.inside.shape.words) x)) real.0 in
     let was = rw is at c.self.invariant in
     let cs = with_items_is c.self.inside.caches c.write.new.caches (search rules) in
-    let copies = rw (c.deref_mut.ensures.value, c.from.ensures, c.line_of-line.ensures.value, c.place_of-place.ensures.value) at c.write.ensures.copies in
+    let copies = rw (c.deref_mut.ensures.value, c.target_of-target.ensures.value) at c.write.ensures.copies in
     let room : c.args.loc.0 % c.self.inside.shape.words < length (current_words c.self.inside.caches.items c.self.inside.memory.items (c.args.loc.0 / c.self.inside.shape.words)) =
-    rw (was.lines (c.args.loc.0 / c.self.inside.shape.words) held.1.within, length-line c.self.inside.shape.words (words_in c.self.inside.shape.words (current_words c.self.inside.caches.items c.self.inside.memory.items) c.self.inside.locations) (c.args.loc.0 / c.self.inside.shape.words)) (rw c.place_of-place.ensures.value at c.place_of-place.ensures.within) in
+    rw (was.lines (c.args.loc.0 / c.self.inside.shape.words) held.1.within, length-line c.self.inside.shape.words (words_in c.self.inside.shape.words (current_words c.self.inside.caches.items c.self.inside.memory.items) c.self.inside.locations) (c.args.loc.0 / c.self.inside.shape.words)) (rw c.target_of-target.ensures.value at c.target_of-target.ensures.within) in
     let sets = locked_written c.self.inside.caches.items c.write.new.caches c.self.inside.memory.items c.args.core.0 (c.args.loc.0 / c.self.inside.shape.words) (c.args.loc.0 % c.self.inside.shape.words) c.args.value was.coherent held.1.within room real.1 copies in
     rw cs sets.coherent
 

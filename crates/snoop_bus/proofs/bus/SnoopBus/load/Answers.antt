@@ -8,7 +8,7 @@ use Rattle.snoop_bus.proofs.bus.SnoopBus.load.Goals as goal
 
 pub load-requires-clause-ready : goal.load-requires-clause-ready
 load-requires-clause-ready g c =
-    rw (c.deref_mut.ensures.value, c.deref_mut-2.ensures.value, c.from.ensures, c.line_of-line.ensures.value)
+    rw (c.deref_mut.ensures.value, c.deref_mut-2.ensures.value, c.target_of-target.ensures.value)
     (bus_ready c.self.inside.shape c.self.inside.locations c.self.inside.caches.items c.self.inside.memory.items c.self.inside.held
     c.args.core.0 c.args.loc.0 c.self.invariant (rw (← c.self.view_is) at c.requires.core) (rw (← c.self.view_is) at c.requires.loc))
 
@@ -19,7 +19,7 @@ returns-clause-done g c =
     let within : c.args.loc.0 < c.self.inside.locations = loc_in c.self.inside.shape.words c.self.inside.locations (counted c.self.inside.held c.self.inside.caches.items) c.self.inside.memory.items c.args.loc.0 (rw (← c.self.view_is) at c.requires.loc) in
     rw (← c.self.view_is, cs, ms)
     (load_done (g.P.Protocol.table c.self.inside.protocol) c.self.inside.shape c.self.inside.locations c.self.inside.caches.items c.load.new.caches c.self.inside.memory.items c.load.new.memory c.self.inside.held c.args.core.0 c.args.loc.0 c.load.result c.self.invariant.some_word c.self.invariant.enough_lines within
-    (rw (c.deref_mut.ensures.value, c.deref_mut-2.ensures.value, c.from.ensures, c.line_of-line.ensures.value, c.place_of-place.ensures.value) at c.load.ensures.ok)
+    (rw (c.deref_mut.ensures.value, c.deref_mut-2.ensures.value, c.target_of-target.ensures.value) at c.load.ensures.ok)
     (rw (c.deref_mut.ensures.value, c.deref_mut-2.ensures.value) at c.load.ensures.words))
 
 pub returns-clause-refused : goal.returns-clause-refused
@@ -28,7 +28,7 @@ returns-clause-refused g c =
     let ms = with_items_is c.self.inside.memory c.load.new.memory (search rules) in
     rw (← c.self.view_is, cs, ms)
     (load_refused (g.P.Protocol.table c.self.inside.protocol) c.self.inside.shape c.self.inside.locations c.self.inside.caches.items c.load.new.caches c.self.inside.memory.items c.load.new.memory c.self.inside.held c.args.core.0 c.args.loc.0 c.load.result
-    (rw (c.deref_mut.ensures.value, c.from.ensures, c.line_of-line.ensures.value) at c.load.ensures.succeeds)
+    (rw (c.deref_mut.ensures.value, c.target_of-target.ensures.value) at c.load.ensures.succeeds)
     (rw (c.deref_mut.ensures.value, c.deref_mut-2.ensures.value) at c.load.ensures.refused))
 
 pub invariant_of-self : goal.invariant_of-self
@@ -40,6 +40,6 @@ invariant_of-self g c =
 
 pub load-requires-clause-free : goal.load-requires-clause-free
 load-requires-clause-free g c =
-    rw (c.deref_mut.ensures.value, c.from.ensures, c.line_of-line.ensures.value)
+    rw (c.deref_mut.ensures.value, c.target_of-target.ensures.value)
     (free_load (g.P.Protocol.table c.self.inside.protocol) c.self.inside.held c.self.inside.caches.items c.args.core.0 (c.args.loc.0 / c.self.inside.shape.words)
     (free_or_hit (g.P.Protocol.table c.self.inside.protocol) c.self.inside.shape c.self.inside.locations c.self.inside.caches.items c.self.inside.memory.items c.self.inside.held c.args.core.0 c.args.loc.0 false (rw (← c.self.view_is) at c.requires.free)))

@@ -7,7 +7,7 @@ use Rattle.snoop_bus.proofs.bus.SnoopBus.update.Goals as goal
 
 pub update-requires-clause-ready : goal.update-requires-clause-ready
 update-requires-clause-ready g c =
-    rw (c.deref_mut.ensures.value, c.deref_mut-2.ensures.value, c.from.ensures, c.line_of-line.ensures.value)
+    rw (c.deref_mut.ensures.value, c.deref_mut-2.ensures.value, c.target_of-target.ensures.value)
     (bus_ready c.self.inside.shape c.self.inside.locations c.self.inside.caches.items c.self.inside.memory.items c.self.inside.held
     c.args.core.0 c.args.loc.0 c.self.invariant (rw (← c.self.view_is) at c.requires.core) (rw (← c.self.view_is) at c.requires.loc))
 
@@ -16,7 +16,7 @@ returns-clause-before g c =
     let within : c.args.loc.0 < c.self.inside.locations = loc_in c.self.inside.shape.words c.self.inside.locations (counted c.self.inside.held c.self.inside.caches.items) c.self.inside.memory.items c.args.loc.0 (rw (← c.self.view_is) at c.requires.loc) in
     rw (← c.self.view_is)
     (write_word (g.P.Protocol.table c.self.inside.protocol) c.self.inside.shape c.self.inside.locations c.self.inside.caches.items c.update.new.caches c.self.inside.memory.items c.update.new.memory c.self.inside.held c.args.core.0 c.args.loc.0
-    c.update.result within (rw (c.deref_mut.ensures.value, c.deref_mut-2.ensures.value, c.from.ensures, c.line_of-line.ensures.value, c.place_of-place.ensures.value) at c.update.ensures.ok))
+    c.update.result within (rw (c.deref_mut.ensures.value, c.deref_mut-2.ensures.value, c.target_of-target.ensures.value) at c.update.ensures.ok))
 
 pub returns-clause-done : goal.returns-clause-done
 returns-clause-done g c =
@@ -25,7 +25,7 @@ returns-clause-done g c =
     let within : c.args.loc.0 < c.self.inside.locations = loc_in c.self.inside.shape.words c.self.inside.locations (counted c.self.inside.held c.self.inside.caches.items) c.self.inside.memory.items c.args.loc.0 (rw (← c.self.view_is) at c.requires.loc) in
     rw (← c.self.view_is, cs, ms)
     (write_done (g.P.Protocol.table c.self.inside.protocol) c.self.inside.shape c.self.inside.locations c.self.inside.caches.items c.update.new.caches c.self.inside.memory.items c.update.new.memory c.self.inside.held c.args.core.0 c.args.loc.0
-    c.update.result c.self.invariant.some_word c.self.invariant.enough_lines within (rw (c.deref_mut.ensures.value, c.deref_mut-2.ensures.value, c.from.ensures, c.line_of-line.ensures.value, c.place_of-place.ensures.value) at c.update.ensures.ok))
+    c.update.result c.self.invariant.some_word c.self.invariant.enough_lines within (rw (c.deref_mut.ensures.value, c.deref_mut-2.ensures.value, c.target_of-target.ensures.value) at c.update.ensures.ok))
 
 pub returns-clause-refused : goal.returns-clause-refused
 returns-clause-refused g c =
@@ -33,7 +33,7 @@ returns-clause-refused g c =
     let ms = with_items_is c.self.inside.memory c.update.new.memory (search rules) in
     rw (← c.self.view_is, cs, ms)
     (write_refused (g.P.Protocol.table c.self.inside.protocol) c.self.inside.shape c.self.inside.locations c.self.inside.caches.items c.update.new.caches c.self.inside.memory.items c.update.new.memory c.self.inside.held c.args.core.0 c.args.loc.0 c.update.result
-    (rw (c.deref_mut.ensures.value, c.from.ensures, c.line_of-line.ensures.value) at c.update.ensures.succeeds)
+    (rw (c.deref_mut.ensures.value, c.target_of-target.ensures.value) at c.update.ensures.succeeds)
     (rw (c.deref_mut.ensures.value, c.deref_mut-2.ensures.value) at c.update.ensures.refused))
 
 pub invariant_of-self : goal.invariant_of-self
@@ -44,10 +44,10 @@ invariant_of-self g c =
     rw (cs, ms)
     (bus-written (g.P.Protocol.table c.self.inside.protocol) c.self.inside.held c.update.result c.self.inside.shape c.self.inside.locations c.self.inside.caches.items c.update.new.caches c.self.inside.memory.items c.update.new.memory c.args.core.0 c.args.loc.0 c.self.invariant (search rules) within
     c.update.ensures.coherent c.update.ensures.awaited (rw c.deref_mut.ensures.value at c.update.ensures.ways)
-    (rw (c.deref_mut.ensures.value, c.deref_mut-2.ensures.value, c.from.ensures, c.line_of-line.ensures.value, c.place_of-place.ensures.value) at c.update.ensures.ok)
+    (rw (c.deref_mut.ensures.value, c.deref_mut-2.ensures.value, c.target_of-target.ensures.value) at c.update.ensures.ok)
     (rw (c.deref_mut.ensures.value, c.deref_mut-2.ensures.value) at c.update.ensures.refused))
 
 pub update-requires-clause-free : goal.update-requires-clause-free
 update-requires-clause-free g c =
-    rw (c.deref_mut.ensures.value, c.from.ensures, c.line_of-line.ensures.value)
+    rw (c.deref_mut.ensures.value, c.target_of-target.ensures.value)
     (free_or_hit (g.P.Protocol.table c.self.inside.protocol) c.self.inside.shape c.self.inside.locations c.self.inside.caches.items c.self.inside.memory.items c.self.inside.held c.args.core.0 c.args.loc.0 true (rw (← c.self.view_is) at c.requires.free))

@@ -1,0 +1,30 @@
+//! Calls that do nothing: what they ensure is known from the call on.
+
+ghost use Rattle.machine_core.specs.Configuration.{IsConfigurationWithinLimits};
+ghost use Rattle.command_line.specs.Plan.{IsPlanWithinLimits};
+ghost use Rattle.command_line.specs.Search.{IsSearchWithinLimits};
+
+use crate::plan::SweepPlan;
+use crate::search::SearchPlan;
+use machine_core::Config;
+
+/// A configuration is within its limits.
+pub(crate) fn know_config(config: Config)
+    ensures { IsConfigurationWithinLimits config }
+{
+    let _depth = config.depth();
+}
+
+/// A sweep's plan is within its limits.
+pub(crate) fn know_plan(plan: SweepPlan)
+    ensures { IsPlanWithinLimits plan }
+{
+    let _seeds = plan.seeds();
+}
+
+/// A search is within its limits.
+pub(crate) fn know_search(search: SearchPlan)
+    ensures { IsSearchWithinLimits search }
+{
+    let _depth = search.depth();
+}

@@ -1,0 +1,64 @@
+//! What stands behind the information lines of a test, and in its condition.
+
+use crate::quotes::last_bytes;
+use litmus_reader::{braces_at, header_at};
+use litmus_tokens::{Lexeme, Stop, Token, Tokens, after_gap};
+
+/// What stands from the initial state of a test on, or nothing where none begins.
+pub fn body_of(text: &[u8]) -> &[u8] {
+    match header_at(text) {
+        Ok((_, rest)) => match braces_at(rest) {
+            Ok(body) => body,
+            Err(_) => &[],
+        },
+        Err(_) => &[],
+    }
+}
+
+/// What stands from the last `exists` or `forall` on, which begins the condition, or nothing where there is
+/// none; `tokens` are those of the body. They end before it only where they stop in `locations [..]`, in which
+/// any bytes may stand: then what stands behind these brackets.
+pub fn ending_of<'a>(body: &'a [u8], tokens: &Tokens<'a>) -> &'a [u8] {
+    match tokens.stop {
+        Stop::BadToken(left) => after_square(last_bytes(body, left)),
+        Stop::End | Stop::Unclosed(_) => match last_quantifier(&tokens.items) {
+            Some(left) => last_bytes(body, left),
+            None => &[],
+        },
+    }
+}
+
+/// How many bytes stand from the last quantifier on.
+fn last_quantifier(tokens: &[Token<'_>]) -> Option<usize> {
+    let mut last = None;
+    for token in tokens {
+        if is_name(token, b"exists") || is_name(token, b"forall") {
+            last = Some(token.left);
+        }
+    }
+    last
+}
+
+/// What stands behind the next `]`, comments passed over.
+fn after_square(bytes: &[u8]) -> &[u8] {
+    let mut rest = bytes;
+    for _ in 0..bytes.len() {
+        let Ok(at) = after_gap(rest) else {
+            return &[];
+        };
+        match at.split_first() {
+            Some((b']', after)) => return after,
+            Some((_, after)) => rest = after,
+            None => return &[],
+        }
+    }
+    &[]
+}
+
+/// Whether a token is this name.
+pub fn is_name(token: &Token<'_>, name: &[u8]) -> bool {
+    match token.lexeme {
+        Lexeme::Name(other) => other == name,
+        _ => false,
+    }
+}

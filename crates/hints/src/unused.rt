@@ -1,0 +1,122 @@
+//! A location that a condition names, and that nothing else of its test does.
+
+use crate::body::{body_of, ending_of, is_name};
+use crate::place::Place;
+use crate::printing::Where;
+use crate::quotes::first_bytes;
+use crate::words::{Piece, Words, around};
+use litmus_tokens::{Symbol, Token, is_symbol, tokens_of};
+use std::alloc::Global;
+use tso_model::{Core, Instr, Loc, NoMemory, Test};
+
+/// Where a name stands in a text: after so many bytes, and how many it has.
+#[derive(Clone, Copy)]
+pub struct NamedAt {
+    pub first: usize,
+    pub length: usize,
+}
+
+/// The place and the words of a hint on the location that is named there.
+pub fn unused<'a>(input: &'a [u8], at: NamedAt) -> (Where, Words<'a>) {
+    let place = Place::new(input, input.len().saturating_sub(at.first));
+    let name = first_bytes(place.rest, at.length);
+    let words = around(
+        "the condition names ",
+        Piece::Named(name),
+        ", which no program uses and no initial state sets: it stays 0",
+    );
+    (Where::Line(place.line()), words)
+}
+
+/// The first location of a test that no program uses and no initial state sets, so that its condition alone
+/// names it, and where it does so in the test's text; `None` where there is none.
+///
+/// Errors: out of memory only.
+pub fn unused_location(
+    alloc: Global,
+    test: &Test,
+    text: &[u8],
+) -> Result<Option<NamedAt>, NoMemory> {
+    if uses_all_locations(test) {
+        return Ok(None);
+    }
+    let body = body_of(text);
+    let tokens = tokens_of(alloc, body)?;
+    let ending = tokens_of(alloc, ending_of(body, &tokens))?;
+    Ok(first_unused(test, text, &tokens.items, &ending.items))
+}
+
+/// The first one by these tokens of the test's body, and these of its end.
+fn first_unused(
+    test: &Test,
+    text: &[u8],
+    body: &[Token<'_>],
+    ending: &[Token<'_>],
+) -> Option<NamedAt> {
+    for loc in 0..test.locations() {
+        let name = test.location_name(Loc(loc)).as_bytes();
+        if !is_used(test, Loc(loc)) && !is_set(body, name) {
+            return named_in(text, ending, name);
+        }
+    }
+    None
+}
+
+fn uses_all_locations(test: &Test) -> bool {
+    for loc in 0..test.locations() {
+        if !is_used(test, Loc(loc)) {
+            return false;
+        }
+    }
+    true
+}
+
+fn is_used(test: &Test, loc: Loc) -> bool {
+    for core in 0..test.cores() {
+        if test
+            .program(Core(core))
+            .iter()
+            .any(|instr| accesses(*instr, loc))
+        {
+            return true;
+        }
+    }
+    false
+}
+
+fn accesses(instr: Instr, loc: Loc) -> bool {
+    match instr {
+        Instr::StoreImm(other, _)
+        | Instr::StoreReg(other, _)
+        | Instr::Load(_, other)
+        | Instr::Xchg(other, _)
+        | Instr::Xadd(other, _) => other == loc,
+        Instr::SetImm(..) | Instr::SetReg(..) | Instr::Fence => false,
+    }
+}
+
+/// Whether the initial state, with which these tokens begin, sets a location of this name.
+fn is_set(tokens: &[Token<'_>], name: &[u8]) -> bool {
+    for token in tokens {
+        if is_symbol(Symbol::CloseCurly, token) {
+            return false;
+        }
+        if is_name(token, name) {
+            return true;
+        }
+    }
+    false
+}
+
+/// Where a name stands first among the tokens of a text's end.
+fn named_in(text: &[u8], tokens: &[Token<'_>], name: &[u8]) -> Option<NamedAt> {
+    for token in tokens {
+        if is_name(token, name) {
+            return Some(NamedAt {
+                first: text.len().saturating_sub(token.left),
+                length: name.len(),
+            });
+        }
+    }
+    None
+}

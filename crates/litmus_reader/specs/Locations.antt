@@ -1,0 +1,6 @@
+-- Locations numbered by first appearance.
+use Rattle.std.specs.Prelude.{ℕ, List, map}
+use denote.Ref.{Bor}
+
+abbrev pub texts : List (Bor (List ℕ)) → List (List ℕ)
+texts names = map (λ x. x.now) names

@@ -1,0 +1,17 @@
+-- What the functions that read return: what a reading gives, unless memory ran out.
+use Rattle.std.specs.Prelude.{◌≡◌, Option, Result, IfOk}
+use Rattle.std.specs.Option.{option_map}
+use Rattle.tso_model.specs.Condition.{Condition, condition_of}
+use Rattle.tso_model.specs.declared.condition.Cond.{Cond}
+use Rattle.tso_model.specs.declared.out_of_memory.NoMemory.{NoMemory}
+use Rattle.tso_model.specs.declared.litmus.TestParts.{TestParts}
+use Rattle.tso_model.specs.Litmus.{Litmus}
+use Rattle.tso_model.specs.LitmusParts.{litmus_of}
+
+-- a condition, if there is one
+abbrev pub asked_of : Option Cond → Option Condition
+asked_of cond = option_map condition_of cond
+
+-- the parts of this test
+abbrev pub AreParts : Result TestParts NoMemory → Litmus → Type 0
+AreParts result t = IfOk result (λ parts. litmus_of parts ≡ t)

@@ -1,0 +1,27 @@
+//! What an access is to, and what a write access makes of it.
+
+use tso_model::{Core, Loc, Update};
+
+/// A word of a line, for a core: the line's number, and the word's place in it.
+#[derive(Clone, Copy)]
+pub struct Target {
+    pub core: usize,
+    pub line: u8,
+    pub place: u8,
+}
+
+/// What a write access makes of a word: what the update makes of it and of this value.
+#[derive(Clone, Copy)]
+pub struct Change {
+    pub update: Update,
+    pub value: u32,
+}
+
+/// What a core asks the bus for: the line of a location, to read the word or to write it.
+#[derive(Clone, Copy)]
+pub struct Wanted {
+    pub core: Core,
+    pub loc: Loc,
+    pub line: u8,
+    pub write: bool,
+}

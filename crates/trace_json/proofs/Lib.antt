@@ -1,0 +1,7 @@
+pub mod NoFloats
+pub mod NoFloatsWhole
+pub mod Looking
+pub mod LineNames
+pub mod Owning
+pub mod Listed
+pub mod Tracing

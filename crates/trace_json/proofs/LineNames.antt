@@ -1,0 +1,18 @@
+-- How many locations a line has, and that a line past the last location has none.
+use Rattle.std.proofs.Common.{◌≡◌, ℕ, ◌+◌, ◌-◌, ◌*◌, ◌≤◌, List, [], length, take, min, ap, sym, arith}
+use Rattle.std.proofs.lemmas.List.{drop_all, length-drop, length-take}
+use Rattle.tso_model.specs.Litmus.{Litmus}
+use Rattle.trace_report.specs.Lines.{names_in_line, joined, line_name}
+
+-- a line past the last location has no name
+pub unnamed : (t : Litmus) (words line : ℕ) → length t.locations ≤ line * words → [] ≡ line_name t words line
+unnamed t words line past =
+    let all = take (line * words + words) t.locations in
+    let few : length all ≤ line * words = omega (arith, length-take (line * words + words) t.locations) in
+    sym (ap joined (drop_all (line * words) all few))
+
+-- as many locations as words, but for the last line
+pub named : (names : List (List ℕ)) (words line : ℕ) → min (length names - line * words) words ≡ length (names_in_line names words line)
+named names words line =
+    let all = take (line * words + words) names in
+    omega (arith, length-take (line * words + words) names, length-drop (line * words) all)

@@ -1,0 +1,63 @@
+-- What is looked up on a machine, one after the other.
+use Rattle.std.proofs.Common.{◌≡◌, ◌∙◌, ℕ, zero, suc, ◌+◌, List, [], ◌∷◌, ◌++◌, length, map, take, Some, None, option_map, slice_get, slice_index_or, refl, sym, ap, arith, length-append}
+use Rattle.std.specs.Option.{unwrap_or}
+use Rattle.tso_model.specs.FlatMachine.{CoreState, idle, core_of}
+use Rattle.snoop_bus.specs.declared.looking.CachedLine.{CachedLine}
+use Rattle.machine_core.specs.Running.{Running}
+use Rattle.machine_core.specs.inner.Looked.{core_at, cached_line}
+use Rattle.tso_report.specs.Json.{registers_value}
+use Rattle.trace_json.specs.inner.MachineJson.{copies_in}
+
+-- ---- a list read one after the other
+read-on : {A : Type 0} (n : ℕ) (xs done : List A) (x : A) → n ≡ length done → Some x ≡ slice_get xs n → done ≡ take n xs → done ++ x ∷ [] ≡ take (n + 1) xs
+read-on zero (y ∷ ys) done x many found so_far = let e : x ≡ y = cc in ap (λ d. d ++ x ∷ []) so_far ∙ ap (λ z. z ∷ []) e
+read-on zero [] done x many found so_far = absurd cc
+read-on (suc n) [] done x many found so_far = absurd cc
+read-on (suc n) (y ∷ ys) [] x many found so_far = absurd cc
+read-on (suc n) (y ∷ ys) (d ∷ ds) x many found so_far =
+    let first : d ≡ y = cc in
+    let rest : ds ≡ take n ys = cc in
+    let size : n ≡ length ds = omega arith in
+    let next : suc n + 1 ≡ suc (n + 1) = omega arith in
+    ap (λ z. z ∷ (ds ++ x ∷ [])) first ∙ (ap (λ z. y ∷ z) (read-on n ys ds x size found rest) ∙ ap (λ k. take k (y ∷ ys)) (sym next))
+
+read-all : {A : Type 0} (n : ℕ) (xs : List A) → None ≡ slice_get xs n → take n xs ≡ xs
+read-all zero [] found = refl
+read-all zero (y ∷ ys) found = absurd cc
+read-all (suc n) [] found = refl
+read-all (suc n) (y ∷ ys) found = ap (λ z. y ∷ z) (read-all n ys found)
+
+mapped : {A B : Type 0} (f : A → B) (xs : List A) (n : ℕ) → option_map f (slice_get xs n) ≡ slice_get (map f xs) n
+mapped f [] n = refl
+mapped f (x ∷ xs) zero = refl
+mapped f (x ∷ xs) (suc n) = mapped f xs n
+
+-- ---- the copies of a set
+
+copy-at : (m : Running) (core set rank : ℕ) → cached_line m core set rank ≡ slice_get (copies_in m core set) rank
+copy-at m core set rank = mapped _ _ rank
+
+pub next-copy : (m : Running) (core set n : ℕ) (done : List CachedLine) (x : CachedLine) → n ≡ length done → Some x ≡ cached_line m core set n
+    → done ≡ take (length done) (copies_in m core set) → done ++ x ∷ [] ≡ take (length (done ++ x ∷ [])) (copies_in m core set)
+next-copy m core set n done x many found so_far =
+    let all = copies_in m core set in
+    let size : length (done ++ x ∷ []) ≡ n + 1 = length-append done (x ∷ []) ∙ ap (λ k. k + 1) (sym many) in
+    read-on n all done x many (found ∙ copy-at m core set n) (so_far ∙ ap (λ k. take k all) (sym many)) ∙ ap (λ k. take k all) (sym size)
+
+pub all-copies : (m : Running) (core set n : ℕ) (done : List CachedLine) → n ≡ length done → None ≡ cached_line m core set n
+    → done ≡ take (length done) (copies_in m core set) → done ≡ copies_in m core set
+all-copies m core set n done many none so_far =
+    let all = copies_in m core set in
+    so_far ∙ (ap (λ k. take k all) (sym many) ∙ read-all n all (none ∙ copy-at m core set n))
+
+-- ---- a core's registers
+
+registers-in : (cores : List CoreState) (i : ℕ)
+    → registers_value (unwrap_or (option_map (λ (s : CoreState). s.registers) (slice_get cores i)) (0 ∷ 0 ∷ 0 ∷ 0 ∷ 0 ∷ 0 ∷ [])) ≡ registers_value (slice_index_or cores i idle).registers
+registers-in [] i = refl
+registers-in (s ∷ ss) zero = refl
+registers-in (s ∷ ss) (suc i) = registers-in ss i
+
+pub registers-of : (m : Running) (core : ℕ)
+    → registers_value (unwrap_or (option_map (λ (s : CoreState). s.registers) (core_at m core)) (0 ∷ 0 ∷ 0 ∷ 0 ∷ 0 ∷ 0 ∷ [])) ≡ registers_value (core_of m.state.flat core).registers
+registers-of m core = registers-in m.state.flat.cores core

@@ -1,0 +1,163 @@
+-- The values of a trace have no float, so that their text is known.
+use Rattle.std.proofs.Common.{◌≡◌, ℕ, zero, suc, ◌+◌, Bool, true, false, ◌||◌, if◌then◌else◌, List, [], ◌∷◌, map, take, length, ◌/◌, Option, Some, None, refl}
+use Rattle.std.specs.Option.{option_map}
+use Rattle.std.specs.Ordering.{nat_cmp, match_ordering}
+use Rattle.std.specs.Cmp.Lexicographic.{slice_cmp}
+use Rattle.std.specs.declared.cmp.Ordering.{Ordering}
+use Rattle.std.specs.declared.cmp.Ordering.TheVariants.{Less, Equal, Greater}
+use Rattle.std.proofs.lemmas.Bool.{or_parts}
+use Rattle.serde_json.specs.Data.{Data, string, Members, no_members, member, put}
+use Rattle.serde_json.specs.View.{items_of}
+use Rattle.serde_json.specs.Written.{has_float, items_have_float, members_have_float}
+use Rattle.tso_model.specs.Litmus.{Litmus}
+use Rattle.tso_model.specs.FlatMachine.{core_of}
+use Rattle.tso_model.specs.Runs.{has_ended}
+use Rattle.tso_model.specs.declared.execution.Entry.{Entry}
+use Rattle.tso_model.specs.declared.choice.Choice.{Choice}
+use Rattle.order_builder.specs.PrintedOrder.{printed_entry}
+use Rattle.protocol_tables.specs.Tables.{table_of}
+use Rattle.protocol_tables.specs.declared.kind.ProtocolKind.{ProtocolKind}
+use Rattle.snoop_bus.specs.declared.looking.CachedLine.{CachedLine}
+use Rattle.machine_core.specs.Configuration.{Configuration}
+use Rattle.machine_core.specs.Running.{Running, new_machine}
+use Rattle.machine_core.specs.Running.{machine_after}
+use Rattle.machine_core.specs.Looked.{bus_holder_of}
+use Rattle.machine_core.specs.declared.looking.BusHolder.{BusHolder}
+use Rattle.tso_report.specs.Json.{count, memory_members, memory_value, order_value}
+use Rattle.trace_report.specs.Shown.{Shown}
+use Rattle.trace_report.specs.Steps.{step_of}
+use Rattle.trace_json.specs.Values.{counts}
+use Rattle.trace_json.specs.inner.Values.{text_or_null, texts}
+use Rattle.trace_json.specs.inner.OwnWords.{own_words}
+use Rattle.trace_report.specs.Lines.{access_name, stall_name, line_name, names_in_line, store_text}
+use Rattle.trace_report.specs.Lines.{printed_core, printed_move, printed_change, printed_request, transient_name}
+use Rattle.trace_json.specs.inner.MachineJson.{words_in, words_in_line, kept_words, copy_json, copies_in, set_json, sets_json, core_json, cores_json, holder_json, bus_json, machine_json}
+use Rattle.trace_json.specs.inner.StepJson.{stall_in, step_json}
+use Rattle.trace_json.specs.inner.TraceJson.{step_to, steps_json, start_json, trace_json, last_or, last_step_json}
+
+neither : (p q : Bool) → p ≡ false → q ≡ false → p || q ≡ false
+neither true q h k = h
+neither false q h k = k
+
+optional : (text : Option (List ℕ)) → has_float (text_or_null text) ≡ false
+optional None = refl
+optional (Some text) = refl
+
+numbers : (list : List ℕ) → items_have_float (items_of (map count list)) ≡ false
+numbers [] = refl
+numbers (n ∷ ns) = numbers ns
+
+strings : (list : List (List ℕ)) → items_have_float (items_of (map string list)) ≡ false
+strings [] = refl
+strings (s ∷ ss) = strings ss
+
+entries : (t : Litmus) (order : List Entry) → items_have_float (items_of (map (λ e. string (printed_entry t e)) order)) ≡ false
+entries t [] = refl
+entries t (e ∷ es) = entries t es
+
+one_more : (k : List ℕ) (n : ℕ) (ms : Members) → members_have_float ms ≡ false → members_have_float (put k (count n) ms) ≡ false
+one_more k n no_members h = refl
+one_more k n (member l d ms) h = by_order (slice_cmp nat_cmp k l) (or_parts (has_float d) (members_have_float ms) h) (one_more k n ms (or_parts (has_float d) (members_have_float ms) h).1)
+  where
+    by_order : (o : Ordering) → (has_float d ≡ false) × (members_have_float ms ≡ false) → members_have_float (put k (count n) ms) ≡ false
+        → members_have_float (match_ordering o (member k (count n) (member l d ms)) (member l (count n) ms) (member l d (put k (count n) ms))) ≡ false
+    by_order Less parts further = neither (has_float d) (members_have_float ms) parts.0 parts.1
+    by_order Equal parts further = parts.1
+    by_order Greater parts further = neither (has_float d) (members_have_float (put k (count n) ms)) parts.0 further
+
+memory : (names : List (List ℕ)) (words : List ℕ) → members_have_float (memory_members names words) ≡ false
+memory [] words = refl
+memory (name ∷ names) [] = refl
+memory (name ∷ names) (word ∷ words) = one_more name word (memory_members names words) (memory names words)
+
+copy : (m : Running) (core : ℕ) (c : CachedLine) → has_float (copy_json m core c) ≡ false
+copy m core c =
+    let words : List ℕ = take (length (names_in_line m.test.locations (words_in m) c.line)) c.words in
+    neither (has_float (counts words)) false (numbers words) refl
+
+copies : (m : Running) (core : ℕ) (cs : List CachedLine) → items_have_float (items_of (map (copy_json m core) cs)) ≡ false
+copies m core [] = refl
+copies m core (c ∷ cs) = neither (has_float (copy_json m core c)) _ (copy m core c) (copies m core cs)
+
+sets : (m : Running) (core set rest : ℕ) → items_have_float (items_of (sets_json m core set rest)) ≡ false
+sets m core set zero = refl
+sets m core set (suc rest) = neither (has_float (set_json m core set)) _ (copies m core (copies_in m core set)) (sets m core (set + 1) rest)
+
+one_core : (m : Running) (core : ℕ) → has_float (core_json m core) ≡ false
+one_core m core =
+    let stores : List (List ℕ) = map (store_text m.test) (core_of m.state.flat core).pending in
+    neither (has_float (texts stores)) _ (strings stores)
+    (neither (items_have_float (items_of (sets_json m core 0 m.statistics.caches.shape.sets))) false (sets m core 0 m.statistics.caches.shape.sets) refl)
+
+cores : (m : Running) (core rest : ℕ) → items_have_float (items_of (cores_json m core rest)) ≡ false
+cores m core zero = refl
+cores m core (suc rest) = neither (has_float (core_json m core)) _ (one_core m core) (cores m (core + 1) rest)
+
+holder : (t : Litmus) (words : ℕ) (seen : List ℕ) (h : BusHolder) → has_float (holder_json t words seen h) ≡ false
+holder t words seen h =
+    let state : Option (List ℕ) = option_map transient_name h.transient in
+    let kept : List ℕ = kept_words h.transient (words_in_line words seen (h.loc.0 / words)) in
+    neither (has_float (text_or_null state)) _ (optional state) (neither (has_float (counts kept)) false (numbers kept) refl)
+
+bus : (m : Running) (h : Option BusHolder) → has_float (bus_json m h) ≡ false
+bus m None = refl
+bus m (Some h) = holder m.test (words_in m) m.state.flat.memory h
+
+machine : (m : Running) (own : List ℕ) → has_float (machine_json m own) ≡ false
+machine m own =
+    neither (has_float (bus_json m (bus_holder_of m))) _ (bus m (bus_holder_of m))
+    (neither (items_have_float (items_of (cores_json m 0 (length m.test.programs)))) _ (cores m 0 (length m.test.programs))
+    (neither (has_float (memory_value m.test own)) _ (memory m.test.locations own)
+    (neither (has_float (memory_value m.test m.state.flat.memory)) false (memory m.test.locations m.state.flat.memory) refl)))
+
+one_step : (t : Litmus) (words : ℕ) (s : Shown) (after : Data) → has_float after ≡ false → has_float (step_json t words s after) ≡ false
+one_step t words s after h =
+    let access : Option (List ℕ) = option_map access_name s.access in
+    let flush : Option (List ℕ) = option_map printed_core s.flushed in
+    let moved : Option (List ℕ) = option_map printed_move s.moved in
+    let stall : Option (List ℕ) = option_map stall_name (stall_in s.outcome) in
+    let states : List (List ℕ) = map (printed_change t words) s.changes in
+    let transaction : Option (List ℕ) = option_map (printed_request t words) s.request in
+    let write_back : Option (List ℕ) = option_map (line_name t words) s.wrote_back in
+    neither (has_float (text_or_null access)) _ (optional access)
+    (neither (has_float after) _ h
+    (neither (has_float (order_value t s.entries)) _ (entries t s.entries)
+    (neither (has_float (text_or_null flush)) _ (optional flush)
+    (neither (has_float (text_or_null moved)) _ (optional moved)
+    (neither (has_float (text_or_null stall)) _ (optional stall)
+    (neither (has_float (texts states)) _ (strings states)
+    (neither (has_float (text_or_null transaction)) _ (optional transaction)
+    (neither (has_float (text_or_null write_back)) false (optional write_back) refl))))))))
+
+to : (s : Shown) (m : Running) (own : List ℕ) → has_float (step_to s m own) ≡ false
+to s m own = one_step m.test (words_in m) s (machine_json m own) (machine m own)
+
+steps : (m : Running) (own : List ℕ) (choices : List Choice) → items_have_float (items_of (steps_json m own choices)) ≡ false
+steps m own [] = refl
+steps m own (c ∷ cs) =
+    by_end (has_ended m.test m.state.flat) (step_to (step_of m c) (machine_after m c) (own_words (machine_after m c) own))
+    (steps_json (machine_after m c) (own_words (machine_after m c) own) cs)
+    (to (step_of m c) (machine_after m c) (own_words (machine_after m c) own)) (steps (machine_after m c) (own_words (machine_after m c) own) cs)
+  where
+    by_end : (ended : Bool) (step : Data) (further : List Data) → has_float step ≡ false → items_have_float (items_of further) ≡ false
+        → items_have_float (items_of (if ended then [] else step ∷ further)) ≡ false
+    by_end true step further one all = refl
+    by_end false step further one all = neither (has_float step) (items_have_float (items_of further)) one all
+
+pub trace_has_no_float : (t : Litmus) (kind : ProtocolKind) (config : Configuration) (choices : List Choice) → has_float (trace_json t kind config choices) ≡ false
+trace_has_no_float t kind config choices =
+    let m = new_machine (table_of kind) config t in
+    neither (has_float (start_json m)) _ (machine m t.words)
+    (neither (items_have_float (items_of (steps_json m t.words choices))) false (steps m t.words choices) refl)
+
+last : (none : Data) (ds : List Data) → has_float none ≡ false → items_have_float (items_of ds) ≡ false → has_float (last_or none ds) ≡ false
+last none [] h hs = h
+last none (d ∷ ds) h hs =
+    let parts = or_parts (has_float d) (items_have_float (items_of ds)) hs in
+    last d ds parts.0 parts.1
+
+pub last_step_has_no_float : (t : Litmus) (kind : ProtocolKind) (config : Configuration) (choices : List Choice)
+    → has_float (last_step_json t kind config choices) ≡ false
+last_step_has_no_float t kind config choices =
+    let m = new_machine (table_of kind) config t in
+    last _ (steps_json m t.words choices) (neither (has_float (start_json m)) false (machine m t.words) refl) (steps m t.words choices)

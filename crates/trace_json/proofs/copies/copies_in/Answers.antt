@@ -1,0 +1,15 @@
+use Rattle.std.proofs.Common.{◌∙◌, length, take, sym, ap}
+use Rattle.trace_json.specs.inner.MachineJson.{copies_in}
+use Rattle.trace_json.proofs.Looking.{next-copy, all-copies}
+use Rattle.trace_json.proofs.copies.copies_in.Goals as goal
+
+pub loop-copy-preserved : goal.loop-copy-preserved
+loop-copy-preserved g c =
+    let m = c.args.machine.now in
+    let more = c.in_ok-push.ensures.items in
+    more ∙ (next-copy m c.args.core.0 c.args.set c.len.result c.loop-copy.copies.items c.in-Some.copy (c.len.ensures ∙ c.loop-copy.copies.ok.0) c.in-Some.ensures c.loop-copy.invariant
+    ∙ ap (λ d. take (length d) (copies_in m c.args.core.0 c.args.set)) (sym more))
+
+pub returns : goal.returns
+returns g c =
+    all-copies c.args.machine.now c.args.core.0 c.args.set c.len.result c.loop-copy.copies.items (c.len.ensures ∙ c.loop-copy.copies.ok.0) c.in_default.ensures c.loop-copy.invariant

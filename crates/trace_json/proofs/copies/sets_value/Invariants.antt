@@ -1,0 +1,8 @@
+use Rattle.std.proofs.Common.{◌≡◌, ◌++◌, ◌-◌, map}
+use Rattle.serde_json.specs.View.{view}
+use Rattle.trace_json.specs.inner.MachineJson.{sets_json}
+use Rattle.trace_json.proofs.copies.sets_value.Given as goal
+
+abbrev pub invariant-loop-set : goal.invariant-loop-set
+invariant-loop-set g l =
+    map view l.values.items ++ sets_json l.machine l.core.0 l.set (l.sets - l.set) ≡ sets_json l.machine l.core.0 0 l.sets

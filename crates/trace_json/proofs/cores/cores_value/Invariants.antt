@@ -1,0 +1,8 @@
+use Rattle.std.proofs.Common.{◌≡◌, ◌++◌, ◌-◌, length, map}
+use Rattle.serde_json.specs.View.{view}
+use Rattle.trace_json.specs.inner.MachineJson.{cores_json}
+use Rattle.trace_json.proofs.cores.cores_value.Given as goal
+
+abbrev pub invariant-loop-core : goal.invariant-loop-core
+invariant-loop-core g l =
+    map view l.values.items ++ cores_json l.machine l.core (length l.test.programs - l.core) ≡ cores_json l.machine 0 (length l.test.programs)

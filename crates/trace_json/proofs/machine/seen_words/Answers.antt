@@ -1,0 +1,13 @@
+use Rattle.std.proofs.Common.{◌∙◌, ◌<◌, ◌∷◌, ◌++◌, [], length, take, ap, sym, arith}
+use Rattle.std.proofs.lemmas.List.{take_more}
+use Rattle.std.proofs.lemmas.Option.{unwrap_or-slice_get}
+use Rattle.std.specs.Option.{unwrap_or}
+use Rattle.trace_json.proofs.machine.seen_words.Goals as goal
+
+pub loop-loc-preserved : goal.loop-loc-preserved
+loop-loc-preserved g c =
+    let memory = c.args.machine.now.state.flat.memory in
+    let loc = c.loop-loc.loc in
+    let there : loc < length memory = omega arith in
+    let word = c.unwrap_or.ensures ∙ (ap (λ o. unwrap_or o 0) c.seen.ensures ∙ unwrap_or-slice_get memory loc 0) in
+    c.in_ok-push.ensures.items ∙ (ap (λ l. l ++ c.unwrap_or.result ∷ []) c.loop-loc.invariant ∙ (ap (λ x. take loc memory ++ x ∷ []) word ∙ sym (take_more memory loc 0 there)))

@@ -1,0 +1,6 @@
+use Rattle.std.proofs.Common.{◌≡◌, length}
+use Rattle.trace_json.specs.inner.OwnWords.{is_newer_in}
+use Rattle.trace_json.proofs.own_words.is_newer_in.Given as goal
+
+abbrev pub invariant-loop-core : goal.invariant-loop-core
+invariant-loop-core g l = is_newer_in l.machine l.line l.core ≡ is_newer_in l.machine l.line (length l.test.programs)

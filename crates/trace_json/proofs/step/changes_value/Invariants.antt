@@ -1,0 +1,10 @@
+use Rattle.std.proofs.Common.{◌≡◌, ◌++◌, drop, map}
+use Rattle.serde_json.specs.Data.{string}
+use Rattle.serde_json.specs.View.{view}
+use Rattle.trace_report.specs.Lines.{printed_change}
+use Rattle.trace_json.proofs.step.changes_value.Given as goal
+
+abbrev pub invariant-loop-change : goal.invariant-loop-change
+invariant-loop-change l =
+    map view l.values.items ++ map string (map (printed_change l.test l.words) (drop l.change-index l.changes))
+    ≡ map string (map (printed_change l.test l.words) l.initial.changes)

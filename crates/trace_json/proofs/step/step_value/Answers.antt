@@ -1,0 +1,11 @@
+use Rattle.std.proofs.Common.{◌∙◌, ap}
+use Rattle.serde_json.specs.Data.{object}
+use Rattle.serde_json.proofs.Views.{view-Object}
+use Rattle.trace_report.specs.Shown.{shown}
+use Rattle.trace_json.specs.inner.Stepped.{with_left}
+use Rattle.trace_json.proofs.step.step_value.Goals as goal
+
+pub returns : goal.returns
+returns c =
+    view-Object c.put_left.new.members
+    ∙ ap object (c.in_ok-put_left.ensures ∙ ap (with_left c.args.test.now c.args.words (shown c.args.step.now)) c.in_ok-put_done.ensures)

@@ -1,0 +1,7 @@
+use Rattle.std.proofs.Common.{◌≡◌, ◌++◌, drop, map}
+use Rattle.serde_json.specs.View.{view}
+use Rattle.tso_report.specs.Json.{count}
+use Rattle.trace_json.proofs.texts.counts.Given as goal
+
+abbrev pub invariant-loop-number : goal.invariant-loop-number
+invariant-loop-number l = map view l.values.items ++ map count (drop l.number-index l.numbers) ≡ map count l.initial.numbers

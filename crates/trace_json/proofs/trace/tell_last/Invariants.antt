@@ -1,0 +1,19 @@
+use Rattle.std.proofs.Common.{IfSome, length, drop, option_map}
+use Rattle.tso_model.specs.Runs.{CoresExist}
+use Rattle.trace_report.specs.Shown.{shown}
+use Rattle.trace_report.specs.Known.{IsKnown}
+use Rattle.trace_report.specs.Told.{IsTold}
+use Rattle.trace_json.specs.inner.TraceJson.{steps_json, alone, last_or}
+use Rattle.trace_json.specs.inner.Looked.{HasMemory}
+use Rattle.trace_json.proofs.Tracing.{ToldLast}
+use Rattle.trace_json.proofs.trace.tell_last.Given as goal
+
+abbrev pub invariant-loop-choice : goal.invariant-loop-choice
+invariant-loop-choice g l = record {
+  cores : CoresExist (length l.test.programs) (drop l.choice-index l.choices);
+  told : IsTold l.test l.config l.machine l.states.items;
+  memory : HasMemory l.test l.machine l.memory.items;
+  known : IfSome l.last (λ step. IsKnown l.test l.config.shape.words (shown step));
+  last : ToldLast (option_map shown l.last) l.machine l.memory.items (drop l.choice-index l.choices)
+      (last_or (alone l.initial.machine l.initial.memory.items) (steps_json l.initial.machine l.initial.memory.items l.initial.choices));
+}

@@ -1,0 +1,14 @@
+use Rattle.std.proofs.Common.{◌∙◌, ap}
+use Rattle.serde_json.specs.Data.{object}
+use Rattle.serde_json.specs.Written.{has_float}
+use Rattle.serde_json.proofs.Views.{view-Object}
+use Rattle.tso_report.specs.Shown.{shown}
+use Rattle.trace_json.specs.inner.TracedRun.{with_trace}
+use Rattle.trace_json.proofs.NoFloatsWhole.{ended_has_no_float}
+use Rattle.trace_json.proofs.traced_run.ended_json.Goals as goal
+
+pub line_of-requires : goal.line_of-requires
+line_of-requires c =
+    ap has_float (view-Object c.in_ok-members-2.members
+    ∙ ap object (c.in_ok-members-2.ensures ∙ ap (with_trace c.args.test.now c.args.protocol c.args.config c.args.choices.now) c.in_ok-members.ensures))
+    ∙ ended_has_no_float c.args.test.now c.args.protocol c.args.config c.args.choices.now (shown c.args.run.now)

@@ -1,0 +1,31 @@
+-- The members of a step's value, in two parts.
+use Rattle.std.specs.Prelude.{ℕ, map, option_map, codes}
+use Rattle.serde_json.specs.Data.{Data, boolean, string, Members, no_members, member, put}
+use Rattle.tso_model.specs.Litmus.{Litmus}
+use Rattle.scheduler.specs.Printed.{printed_choice}
+use Rattle.tso_report.specs.Json.{order_value}
+use Rattle.trace_report.specs.Shown.{Shown}
+use Rattle.trace_report.specs.Lines.{access_name, stall_name, line_name}
+use Rattle.trace_report.specs.Lines.{printed_core, printed_move, printed_change, printed_request}
+use Rattle.trace_json.specs.inner.Values.{text_or_null, texts}
+use Rattle.trace_json.specs.inner.StepJson.{outcome_word, stall_in}
+
+-- those to `moved`
+abbrev pub done_members : Litmus → Shown → Data → Members
+done_members t s after =
+    member (codes "access") (text_or_null (option_map access_name s.access))
+    (member (codes "after") after
+    (member (codes "choice") (string (printed_choice s.choice))
+    (member (codes "entries") (order_value t s.entries)
+    (member (codes "flush") (text_or_null (option_map printed_core s.flushed))
+    (member (codes "forwarded") (boolean s.forwarded)
+    (member (codes "moved") (text_or_null (option_map printed_move s.moved)) no_members))))))
+
+-- and with the others put to them
+abbrev pub with_left : Litmus → ℕ → Shown → Members → Members
+with_left t words s members =
+    put (codes "write_back") (text_or_null (option_map (line_name t words) s.wrote_back))
+    (put (codes "transaction") (text_or_null (option_map (printed_request t words) s.request))
+    (put (codes "states") (texts (map (printed_change t words) s.changes))
+    (put (codes "stall") (text_or_null (option_map stall_name (stall_in s.outcome)))
+    (put (codes "outcome") (string (outcome_word s.outcome)) members))))

@@ -1,0 +1,144 @@
+//! The lines of a core's cache as a value.
+
+ghost use Rattle.std.specs.Prelude.{◌≡◌, ◌<◌, ◌≤◌, IfOk, length, map};
+ghost use Rattle.serde_json.specs.Data.{array};
+ghost use Rattle.serde_json.specs.View.{view, items_of};
+ghost use Rattle.machine_core.specs.Looked.{bus_holder_of};
+ghost use Rattle.trace_report.specs.Lines.{names_in_line};
+ghost use Rattle.trace_report.specs.inner.Told.{IsLookedAt};
+ghost use Rattle.trace_json.specs.inner.MachineJson.{copy_json, copies_in, set_json, sets_json};
+
+use crate::texts::{counts, line_text};
+use machine_core::{BusHolder, CachedLine, Machine};
+use protocol_tables::Protocol;
+use serde_json::{Map, Value, put};
+use std::alloc::Global;
+use trace_report::names::state_name;
+use trace_report::states::line_state;
+use tso_model::{Core, NoMemory, Test};
+
+/// The lines of a core's cache with so many sets, by set, where lines have so many words.
+///
+/// Errors: out of memory only.
+pub fn sets_value<P: Protocol>(
+    alloc: Global,
+    machine: &Machine<P>,
+    test: &Test,
+    words: u8,
+    sets: u8,
+    core: Core,
+) -> Result<Value, NoMemory>
+    requires looked { IsLookedAt test.now words machine.now }
+    requires core { core.0 < length test.now.programs }
+    requires line { words ≤ 4 }
+    ensures { IfOk result (λ value. view value ≡ array (items_of (sets_json machine.now core.0 0 sets))) }
+{
+    let mut values = Vec::new(alloc);
+    for set in 0..sets {
+        values.push(set_value(alloc, machine, test, words, core, set)?)?;
+    }
+    Ok(Value::Array(values))
+}
+
+/// The lines of a core's set, the most recently used first.
+fn set_value<P: Protocol>(
+    alloc: Global,
+    machine: &Machine<P>,
+    test: &Test,
+    words: u8,
+    core: Core,
+    set: u8,
+) -> Result<Value, NoMemory>
+    requires looked { IsLookedAt test.now words machine.now }
+    requires core { core.0 < length test.now.programs }
+    requires line { words ≤ 4 }
+    ensures { IfOk result (λ value. view value ≡ set_json machine.now core.0 set) }
+{
+    let copies = copies_in(alloc, machine, core, set)?;
+    copies_value(alloc, machine, test, words, core, &copies)
+}
+
+/// A core's copies of lines, in their order.
+fn copies_value<P: Protocol>(
+    alloc: Global,
+    machine: &Machine<P>,
+    test: &Test,
+    words: u8,
+    core: Core,
+    copies: &[CachedLine],
+) -> Result<Value, NoMemory>
+    requires looked { IsLookedAt test.now words machine.now }
+    requires core { core.0 < length test.now.programs }
+    requires line { words ≤ 4 }
+    ensures { IfOk result (λ value. view value ≡ array (items_of (map (copy_json machine.now core.0) copies.now))) }
+{
+    let holder = machine.bus_holder();
+    let mut values = Vec::new(alloc);
+    for copy in copies {
+        values.push(copy_value(alloc, machine, holder, test, words, core, copy)?)?;
+    }
+    Ok(Value::Array(values))
+}
+
+/// The copies of a core's set, the most recently used first.
+fn copies_in<P: Protocol>(
+    alloc: Global,
+    machine: &Machine<P>,
+    core: Core,
+    set: u8,
+) -> Result<Vec<CachedLine>, NoMemory>
+    ensures { IfOk result (λ copies. copies.items ≡ copies_in machine.now core.0 set) }
+{
+    let mut copies = Vec::new(alloc);
+    while let Some(copy) = machine.cached_line(core, set, copies.len()) {
+        copies.push(copy)?;
+    }
+    Ok(copies)
+}
+
+/// A core's copy of a line: the line's locations, what it is in, and their words.
+fn copy_value<P: Protocol>(
+    alloc: Global,
+    machine: &Machine<P>,
+    holder: Option<BusHolder>,
+    test: &Test,
+    words: u8,
+    core: Core,
+    copy: &CachedLine,
+) -> Result<Value, NoMemory>
+    requires looked { IsLookedAt test.now words machine.now }
+    requires holder { holder ≡ bus_holder_of machine.now }
+    requires core { core.0 < length test.now.programs }
+    requires line { words ≤ 4 }
+    ensures { IfOk result (λ value. view value ≡ copy_json machine.now core.0 copy.now) }
+{
+    let line = line_text(alloc, test, words, copy.line)?;
+    let state = state_name(line_state(machine, holder, words, core, copy.line));
+    let count = locations_in(test, words, copy.line);
+    let mut members = Map::new(alloc);
+    put(&mut members, alloc, "line", Value::String(line))?;
+    put(
+        &mut members,
+        alloc,
+        "state",
+        Value::try_from_str(alloc, state)?,
+    )?;
+    put(
+        &mut members,
+        alloc,
+        "words",
+        counts(alloc, &copy.words[..count])?,
+    )?;
+    Ok(Value::Object(members))
+}
+
+/// How many locations a line has.
+fn locations_in(test: &Test, words: u8, line: u8) -> usize
+    ensures value { result ≡ length (names_in_line test.now.locations words line) }
+    ensures few { result ≤ words }
+{
+    let first = usize::from(line) * usize::from(words);
+    usize::from(test.locations())
+        .saturating_sub(first)
+        .min(usize::from(words))
+}

@@ -1,0 +1,17 @@
+//! The trace of a run as JSON: the machine before the first choice, and for each choice that was used what it did and
+//! the machine behind it.
+#![tactic(auto)]
+
+mod copies;
+mod cores;
+mod machine;
+mod own_words;
+mod programs;
+mod proposition;
+mod step;
+mod texts;
+mod trace;
+mod traced_run;
+
+pub use trace::{last_step, traced};
+pub use traced_run::{MAX_STEPS, ended_json, unended_json, word_beyond};

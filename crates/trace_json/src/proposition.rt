@@ -1,0 +1,112 @@
+//! The proposition of a condition as a text.
+
+ghost use Rattle.std.specs.Prelude.{◌≡◌, ◌<◌, ◌++◌, IfOk, OnOk, length, string_bytes};
+ghost use Rattle.serde_json.specs.View.{view};
+ghost use Rattle.tso_model.specs.Condition.{NamesExist};
+ghost use Rattle.tso_model.specs.Condition.{claim_of};
+ghost use Rattle.trace_json.specs.inner.Proposition.{is_or, is_joined, bracketed, truth_word, proposition_text, proposition_value};
+ghost use Rattle.trace_json.specs.inner.Brackets.{opening, closing};
+
+use serde_json::Value;
+use std::alloc::Global;
+use tso_model::{NoMemory, Prop, Test};
+
+/// The proposition of the test's condition as a text, `0:EAX=0 /\ 1:EAX=0`; `null` where it has none.
+///
+/// Errors: out of memory only.
+pub fn proposition_value(alloc: Global, test: &Test) -> Result<Value, NoMemory>
+    ensures { IfOk result (λ value. view value ≡ proposition_value test.now) }
+{
+    match test.cond() {
+        None => Ok(Value::Null),
+        Some(cond) => {
+            let mut text = String::new(alloc);
+            write_proposition(&mut text, test, &cond.prop, false)?;
+            Ok(Value::String(text))
+        }
+    }
+}
+
+/// Writes a proposition, in brackets where it is to have them.
+///
+/// Errors: out of memory only; the text may have grown then.
+fn write_proposition(
+    text: &mut String,
+    test: &Test,
+    prop: &Prop,
+    in_brackets: bool,
+) -> Result<(), NoMemory>
+    requires { NamesExist (length test.now.programs) (length test.now.locations) (claim_of prop.now) }
+    ensures { OnOk result (string_bytes text.new ≡ string_bytes text.old ++ bracketed in_brackets (proposition_text test.now (claim_of prop.now))) }
+{
+    open(text, in_brackets)?;
+    match prop {
+        Prop::Truth(truth) => {
+            text.push_str(truth_word(*truth))?;
+            close(text, in_brackets)
+        }
+        Prop::RegIs(core, reg, value) => {
+            let (core, name) = (core.0, reg.name());
+            write!(text, "{core}:{name}={value}")?;
+            close(text, in_brackets)
+        }
+        Prop::LocIs(loc, value) => {
+            let name = test.location_name(*loc);
+            write!(text, "{name}={value}")?;
+            close(text, in_brackets)
+        }
+        Prop::Not(inner) => {
+            text.push('~')?;
+            write_proposition(text, test, inner, is_joined(inner))?;
+            close(text, in_brackets)
+        }
+        Prop::And(left, right) => {
+            write_proposition(text, test, left, is_or(left))?;
+            text.push_str(" /\\ ")?;
+            write_proposition(text, test, right, is_joined(right))?;
+            close(text, in_brackets)
+        }
+        Prop::Or(left, right) => {
+            write_proposition(text, test, left, false)?;
+            text.push_str(" \\/ ")?;
+            write_proposition(text, test, right, is_or(right))?;
+            close(text, in_brackets)
+        }
+    }
+}
+
+fn open(text: &mut String, in_brackets: bool) -> Result<(), NoMemory>
+    ensures { OnOk result (string_bytes text.new ≡ string_bytes text.old ++ opening in_brackets) }
+{
+    if in_brackets {
+        text.push('(')?;
+    }
+    Ok(())
+}
+
+fn close(text: &mut String, in_brackets: bool) -> Result<(), NoMemory>
+    ensures { OnOk result (string_bytes text.new ≡ string_bytes text.old ++ closing in_brackets) }
+{
+    if in_brackets {
+        text.push(')')?;
+    }
+    Ok(())
+}
+
+fn truth_word(truth: bool) -> &'static str
+    ensures { result.now ≡ truth_word truth }
+{
+    if truth { "true" } else { "false" }
+}
+
+fn is_or(prop: &Prop) -> bool
+    ensures { result ≡ is_or (claim_of prop.now) }
+{
+    matches!(prop, Prop::Or(..))
+}
+
+fn is_joined(prop: &Prop) -> bool
+    ensures { result ≡ is_joined (claim_of prop.now) }
+{
+    matches!(prop, Prop::And(..) | Prop::Or(..))
+}

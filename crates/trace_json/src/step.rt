@@ -1,0 +1,202 @@
+//! What a choice did as a value.
+
+ghost use Rattle.std.specs.Prelude.{◌≡◌, ◌<◌, [], IfOk, OnOk, IfSome, All, map, option_map};
+ghost use Rattle.serde_json.specs.View.{view, members_view};
+ghost use Rattle.order_builder.specs.PrintedOrder.{HasLocation};
+ghost use Rattle.trace_report.specs.Shown.{shown};
+ghost use Rattle.trace_report.specs.Known.{IsLine, IsKnown};
+ghost use Rattle.trace_report.specs.Lines.{access_name, stall_name, line_name, printed_core, printed_move};
+ghost use Rattle.trace_report.specs.Lines.{printed_change, printed_request};
+ghost use Rattle.trace_json.specs.inner.Values.{text_or_null, texts};
+ghost use Rattle.trace_json.specs.inner.StepJson.{outcome_word, stall_in, step_json};
+ghost use Rattle.trace_json.specs.inner.Stepped.{done_members, with_left};
+
+use crate::texts::{choice_text, line_text, name_or_null};
+use serde_json::{Map, Value, put};
+use snoop_bus::AccessKind;
+use std::alloc::Global;
+use trace_report::names::{access_name, stall_name};
+use trace_report::text::{write_change, write_line_request, write_move};
+use trace_report::{LineRequest, Moved, StateChange, Step};
+use tso_model::{Core, NoMemory, Outcome, Test};
+use tso_report::json::order_value;
+
+/// What a choice did, on caches whose lines have so many words, and this machine behind it.
+///
+/// Errors: out of memory only.
+pub fn step_value(
+    alloc: Global,
+    test: &Test,
+    words: u8,
+    step: &Step,
+    after: Value,
+) -> Result<Value, NoMemory>
+    requires words { 0 < words }
+    requires known { IsKnown test.now words (shown step.now) }
+    ensures { IfOk result (λ value. view value ≡ step_json test.now words (shown step.now) (view after)) }
+{
+    let mut members = Map::new(alloc);
+    put_done(&mut members, alloc, test, step, after)?;
+    put_left(&mut members, alloc, test, words, step)?;
+    Ok(Value::Object(members))
+}
+
+/// Puts what the choice did, to `moved`, and the machine behind it.
+fn put_done(
+    members: &mut Map<String, Value>,
+    alloc: Global,
+    test: &Test,
+    step: &Step,
+    after: Value,
+) -> Result<(), NoMemory>
+    requires known { All (HasLocation test.now) step.now.entries.items }
+    requires empty { members.old.entries ≡ [] }
+    ensures { OnOk result (members_view members.new.entries ≡ done_members test.now (shown step.now) (view after)) }
+{
+    let access = access_value(alloc, step.access)?;
+    put(members, alloc, "access", access)?;
+    put(members, alloc, "after", after)?;
+    let choice = choice_text(alloc, step.choice)?;
+    put(members, alloc, "choice", Value::String(choice))?;
+    let entries = order_value(alloc, test, &step.entries)?;
+    put(members, alloc, "entries", entries)?;
+    let flush = flush_value(alloc, step.flushed)?;
+    put(members, alloc, "flush", flush)?;
+    let forwarded = Value::Bool(step.forwarded);
+    put(members, alloc, "forwarded", forwarded)?;
+    let moved = move_value(alloc, step.moved)?;
+    put(members, alloc, "moved", moved)?;
+    Ok(())
+}
+
+/// Puts the outcome, and what went on the bus and to the lines.
+fn put_left(
+    members: &mut Map<String, Value>,
+    alloc: Global,
+    test: &Test,
+    words: u8,
+    step: &Step,
+) -> Result<(), NoMemory>
+    requires words { 0 < words }
+    requires known { IsKnown test.now words (shown step.now) }
+    ensures { OnOk result (members_view members.new.entries ≡ with_left test.now words (shown step.now) (members_view members.old.entries)) }
+{
+    let outcome = Value::try_from_str(alloc, outcome_word(step.outcome))?;
+    put(members, alloc, "outcome", outcome)?;
+    let stall = stall_value(alloc, step.outcome)?;
+    put(members, alloc, "stall", stall)?;
+    let states = changes_value(alloc, test, words, &step.changes)?;
+    put(members, alloc, "states", states)?;
+    let request = request_value(alloc, test, words, step.request)?;
+    put(members, alloc, "transaction", request)?;
+    let wrote_back = write_back_value(alloc, test, words, step.wrote_back)?;
+    put(members, alloc, "write_back", wrote_back)?;
+    Ok(())
+}
+
+fn access_value(alloc: Global, access: Option<AccessKind>) -> Result<Value, NoMemory>
+    ensures { IfOk result (λ value. view value ≡ text_or_null (option_map access_name access)) }
+{
+    name_or_null(alloc, access.map(access_name))
+}
+
+/// The core whose copy was sent to memory, `P1`.
+fn flush_value(alloc: Global, flushed: Option<Core>) -> Result<Value, NoMemory>
+    ensures { IfOk result (λ value. view value ≡ text_or_null (option_map printed_core flushed)) }
+{
+    let Some(core) = flushed else {
+        return Ok(Value::Null);
+    };
+    let core = core.0;
+    let mut text = String::new(alloc);
+    write!(text, "P{core}")?;
+    Ok(Value::String(text))
+}
+
+/// The register that a value was moved to, `EAX=5`.
+fn move_value(alloc: Global, moved: Option<Moved>) -> Result<Value, NoMemory>
+    ensures { IfOk result (λ value. view value ≡ text_or_null (option_map printed_move moved)) }
+{
+    let Some(moved) = moved else {
+        return Ok(Value::Null);
+    };
+    let mut text = String::new(alloc);
+    write_move(&mut text, moved)?;
+    Ok(Value::String(text))
+}
+
+/// The outcome's word.
+fn outcome_word(outcome: Outcome) -> &'static str
+    ensures { result.now ≡ outcome_word outcome }
+{
+    match outcome {
+        Outcome::Committed => "committed",
+        Outcome::Buffered => "buffered",
+        Outcome::Moved => "moved",
+        Outcome::Asked => "asked",
+        Outcome::Stalled(_) => "stalled",
+    }
+}
+
+/// Why the choice stalled, if it did.
+fn stall_value(alloc: Global, outcome: Outcome) -> Result<Value, NoMemory>
+    ensures { IfOk result (λ value. view value ≡ text_or_null (option_map stall_name (stall_in outcome))) }
+{
+    match outcome {
+        Outcome::Stalled(stall) => name_or_null(alloc, Some(stall_name(stall))),
+        Outcome::Committed | Outcome::Buffered | Outcome::Moved | Outcome::Asked => Ok(Value::Null),
+    }
+}
+
+/// The lines whose state changed, each as `P1.x S>I`.
+fn changes_value(
+    alloc: Global,
+    test: &Test,
+    words: u8,
+    changes: &[StateChange],
+) -> Result<Value, NoMemory>
+    requires { All (λ c. IsLine test.now words c.line) changes.now }
+    ensures { IfOk result (λ value. view value ≡ texts (map (printed_change test.now words) changes.now)) }
+{
+    let mut values = Vec::new(alloc);
+    for change in changes {
+        let mut text = String::new(alloc);
+        write_change(&mut text, test, words, *change)?;
+        values.push(Value::String(text))?;
+    }
+    Ok(Value::Array(values))
+}
+
+/// What went on the bus, `GetM x`.
+fn request_value(
+    alloc: Global,
+    test: &Test,
+    words: u8,
+    request: Option<LineRequest>,
+) -> Result<Value, NoMemory>
+    requires { IfSome request (λ r. IsLine test.now words r.line) }
+    ensures { IfOk result (λ value. view value ≡ text_or_null (option_map (printed_request test.now words) request)) }
+{
+    let Some(request) = request else {
+        return Ok(Value::Null);
+    };
+    let mut text = String::new(alloc);
+    write_line_request(&mut text, test, words, request)?;
+    Ok(Value::String(text))
+}
+
+/// The dirty line that left the core's cache.
+fn write_back_value(
+    alloc: Global,
+    test: &Test,
+    words: u8,
+    wrote_back: Option<u8>,
+) -> Result<Value, NoMemory>
+    requires { 0 < words }
+    ensures { IfOk result (λ value. view value ≡ text_or_null (option_map (line_name test.now words) wrote_back)) }
+{
+    let Some(line) = wrote_back else {
+        return Ok(Value::Null);
+    };
+    Ok(Value::String(line_text(alloc, test, words, line)?))
+}

@@ -1,0 +1,250 @@
+//! The trace of a run as a value.
+
+ghost use Rattle.std.specs.Prelude.{◌≡◌, ◌<◌, IfOk, OnOk, IfSome, length, map, option_map};
+ghost use Rattle.serde_json.specs.View.{view};
+ghost use Rattle.tso_model.specs.FlatMachine.{chosen};
+ghost use Rattle.tso_model.specs.Runs.{CoresExist};
+ghost use Rattle.machine_core.specs.Running.{new_machine};
+ghost use Rattle.machine_core.specs.Running.{machine_after};
+ghost use Rattle.trace_report.specs.Steps.{step_of};
+ghost use Rattle.trace_report.specs.Shown.{shown};
+ghost use Rattle.trace_report.specs.Known.{IsKnown};
+ghost use Rattle.trace_report.specs.Told.{IsTraced, IsTold};
+ghost use Rattle.trace_json.specs.inner.TraceJson.{step_to, steps_json, trace_from, trace_json, alone, last_or, last_from, last_step_json};
+ghost use Rattle.trace_json.specs.inner.Looked.{HasMemory, told_last};
+ghost use Rattle.trace_json.specs.inner.OwnWords.{own_words};
+
+use crate::machine::machine_value;
+use crate::own_words::own_words;
+use crate::step::step_value;
+use machine_core::{Choice, Config, Machine};
+use protocol_tables::{Mesi, Moesi, Mosi, Msi, Protocol, ProtocolKind};
+use serde_json::{Map, Value, put};
+use std::alloc::Global;
+use trace_report::Step;
+use trace_report::states::{PlacedState, states_of};
+use trace_report::telling::tell;
+use tso_model::{NoMemory, Test};
+
+/// The trace of a test's run under these choices, on a machine of this protocol and configuration: an object of the
+/// machine before the first choice, and of a step for each choice up to the first moment at which the test has
+/// ended, with the machine behind it.
+///
+/// Errors: out of memory only.
+pub fn traced(
+    alloc: Global,
+    test: &Test,
+    protocol: ProtocolKind,
+    config: Config,
+    choices: &[Choice],
+) -> Result<Value, NoMemory>
+    requires { CoresExist (length test.now.programs) choices.now }
+    ensures { IfOk result (λ value. view value ≡ trace_json test.now protocol config choices.now) }
+{
+    match protocol {
+        ProtocolKind::Msi => traced_by(alloc, test, Msi, config, choices),
+        ProtocolKind::Mesi => traced_by(alloc, test, Mesi, config, choices),
+        ProtocolKind::Moesi => traced_by(alloc, test, Moesi, config, choices),
+        ProtocolKind::Mosi => traced_by(alloc, test, Mosi, config, choices),
+    }
+}
+
+/// The last step of this trace alone; where no choice was used, the machine before the first choice.
+///
+/// Errors: out of memory only.
+pub fn last_step(
+    alloc: Global,
+    test: &Test,
+    protocol: ProtocolKind,
+    config: Config,
+    choices: &[Choice],
+) -> Result<Value, NoMemory>
+    requires { CoresExist (length test.now.programs) choices.now }
+    ensures { IfOk result (λ value. view value ≡ last_step_json test.now protocol config choices.now) }
+{
+    match protocol {
+        ProtocolKind::Msi => last_by(alloc, test, Msi, config, choices),
+        ProtocolKind::Mesi => last_by(alloc, test, Mesi, config, choices),
+        ProtocolKind::Moesi => last_by(alloc, test, Moesi, config, choices),
+        ProtocolKind::Mosi => last_by(alloc, test, Mosi, config, choices),
+    }
+}
+
+/// The trace on a machine of this protocol.
+fn traced_by<P: Protocol>(
+    alloc: Global,
+    test: &Test,
+    protocol: P,
+    config: Config,
+    choices: &[Choice],
+) -> Result<Value, NoMemory>
+    requires { CoresExist (length test.now.programs) choices.now }
+    ensures { IfOk result (λ value. view value ≡ trace_from (new_machine (P.table protocol) config test.now) choices.now) }
+{
+    let mut machine = Machine::new(alloc, protocol, test, config)?;
+    let start = machine_value(alloc, &machine, test, config, test.initial_words())?;
+    let steps = steps_of(alloc, &mut machine, test, config, choices)?;
+    let mut members = Map::new(alloc);
+    put(&mut members, alloc, "start", start)?;
+    put(&mut members, alloc, "steps", Value::Array(steps))?;
+    Ok(Value::Object(members))
+}
+
+/// Makes the choices on a new machine until the test has ended, and answers a step for each.
+fn steps_of<P: Protocol>(
+    alloc: Global,
+    machine: &mut Machine<P>,
+    test: &Test,
+    config: Config,
+    choices: &[Choice],
+) -> Result<Vec<Value>, NoMemory>
+    requires cores { CoresExist (length test.now.programs) choices.now }
+    requires traced { IsTraced test.now config machine.old }
+    requires each { length machine.old.state.flat.memory ≡ length test.now.locations }
+    ensures { IfOk result (λ steps. map view steps.items ≡ steps_json machine.old test.now.words choices.now) }
+{
+    let mut states = states_of(alloc, machine, test, config.words())?;
+    let mut memory = words_of(alloc, test)?;
+    let mut steps = Vec::new(alloc);
+    for choice in choices {
+        if machine.is_ended() {
+            return Ok(steps);
+        }
+        let step = tell_on(
+            alloc,
+            machine,
+            &mut states,
+            &mut memory,
+            test,
+            config,
+            *choice,
+        )?;
+        steps.push(step_to(alloc, machine, &memory, test, config, &step)?)?;
+    }
+    Ok(steps)
+}
+
+/// Makes a choice on a machine, and answers what it did. The states of the machine's lines and memory's own words are
+/// those before it, and then those behind it.
+fn tell_on<P: Protocol>(
+    alloc: Global,
+    machine: &mut Machine<P>,
+    states: &mut Vec<PlacedState>,
+    memory: &mut Vec<u32>,
+    test: &Test,
+    config: Config,
+    choice: Choice,
+) -> Result<Step, NoMemory>
+    requires core { chosen choice < length test.now.programs }
+    requires told { IsTold test.now config machine.old states.old.items }
+    requires memory { HasMemory test.now machine.old memory.old.items }
+    ensures step { IfOk result (λ step. shown step ≡ step_of machine.old choice) }
+    ensures known { IfOk result (λ step. IsKnown test.now config.shape.words (shown step)) }
+    ensures after { OnOk result (machine.new ≡ machine_after machine.old choice) }
+    ensures told { OnOk result (IsTold test.now config machine.new states.new.items) }
+    ensures own { OnOk result (memory.new.items ≡ own_words machine.new memory.old.items) }
+    ensures memory { OnOk result (HasMemory test.now machine.new memory.new.items) }
+{
+    let step = tell(alloc, machine, states, test, config, choice)?;
+    let own = own_words(alloc, machine, test, config.words(), memory)?;
+    *memory = own;
+    Ok(step)
+}
+
+/// What a choice did, and this machine behind it, whose memory has these words.
+fn step_to<P: Protocol>(
+    alloc: Global,
+    machine: &Machine<P>,
+    memory: &[u32],
+    test: &Test,
+    config: Config,
+    step: &Step,
+) -> Result<Value, NoMemory>
+    requires traced { IsTraced test.now config machine.now }
+    requires memory { HasMemory test.now machine.now memory.now }
+    requires known { IsKnown test.now config.shape.words (shown step.now) }
+    ensures { IfOk result (λ value. view value ≡ step_to (shown step.now) machine.now memory.now) }
+{
+    let after = machine_value(alloc, machine, test, config, memory)?;
+    let value = step_value(alloc, test, config.words(), step, after)?;
+    Ok(value)
+}
+
+/// The test's first words.
+fn words_of(alloc: Global, test: &Test) -> Result<Vec<u32>, NoMemory>
+    ensures words { IfOk result (λ words. words.items ≡ test.now.words) }
+    ensures each { IfOk result (λ words. length words.items ≡ length test.now.locations) }
+{
+    let mut words = Vec::new(alloc);
+    words.extend_from_slice(test.initial_words())?;
+    Ok(words)
+}
+
+/// The last step on a machine of this protocol.
+fn last_by<P: Protocol>(
+    alloc: Global,
+    test: &Test,
+    protocol: P,
+    config: Config,
+    choices: &[Choice],
+) -> Result<Value, NoMemory>
+    requires { CoresExist (length test.now.programs) choices.now }
+    ensures { IfOk result (λ value. view value ≡ last_from (new_machine (P.table protocol) config test.now) choices.now) }
+{
+    let mut machine = Machine::new(alloc, protocol, test, config)?;
+    let mut memory = words_of(alloc, test)?;
+    let last = tell_last(alloc, &mut machine, &mut memory, test, config, choices)?;
+    match last {
+        Some(step) => step_to(alloc, &machine, &memory, test, config, &step),
+        None => alone(alloc, &machine, &memory, test, config),
+    }
+}
+
+/// Makes the choices on a machine until the test has ended, and answers what the last one did that was made. Memory's
+/// own words are those before the choices, and then those behind them.
+fn tell_last<P: Protocol>(
+    alloc: Global,
+    machine: &mut Machine<P>,
+    memory: &mut Vec<u32>,
+    test: &Test,
+    config: Config,
+    choices: &[Choice],
+) -> Result<Option<Step>, NoMemory>
+    requires cores { CoresExist (length test.now.programs) choices.now }
+    requires traced { IsTraced test.now config machine.old }
+    requires memory { HasMemory test.now machine.old memory.old.items }
+    ensures traced { OnOk result (IsTraced test.now config machine.new) }
+    ensures memory { OnOk result (HasMemory test.now machine.new memory.new.items) }
+    ensures known { IfOk result (λ last. IfSome last (λ step. IsKnown test.now config.shape.words (shown step))) }
+    ensures last { IfOk result (λ last. told_last (option_map shown last) machine.new memory.new.items
+        ≡ last_or (alone machine.old memory.old.items) (steps_json machine.old memory.old.items choices.now)) }
+{
+    let mut states = states_of(alloc, machine, test, config.words())?;
+    let mut last = None;
+    for choice in choices {
+        if machine.is_ended() {
+            return Ok(last);
+        }
+        let step = tell_on(alloc, machine, &mut states, memory, test, config, *choice)?;
+        last = Some(step);
+    }
+    Ok(last)
+}
+
+/// A machine whose memory has these words, as the one before the first choice.
+fn alone<P: Protocol>(
+    alloc: Global,
+    machine: &Machine<P>,
+    memory: &[u32],
+    test: &Test,
+    config: Config,
+) -> Result<Value, NoMemory>
+    requires traced { IsTraced test.now config machine.now }
+    requires memory { HasMemory test.now machine.now memory.now }
+    ensures { IfOk result (λ value. view value ≡ alone machine.now memory.now) }
+{
+    let start = machine_value(alloc, machine, test, config, memory)?;
+    let mut members = Map::new(alloc);
+    put(&mut members, alloc, "start", start)?;
+    Ok(Value::Object(members))
+}

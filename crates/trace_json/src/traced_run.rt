@@ -1,0 +1,114 @@
+//! A run with its trace as JSON, for programs to read. It is one line, and its objects have their keys in the order of
+//! their bytes.
+
+ghost use Rattle.std.specs.Prelude.{◌≡◌, ◌<◌, ◌≤◌, List, IfOk, IfSome, IsSome, None, length, string_bytes};
+ghost use Rattle.serde_json.specs.View.{view, members_view};
+ghost use Rattle.tso_model.specs.Runs.{CoresExist};
+ghost use Rattle.tso_model.specs.declared.choice.Choice.{Choice};
+ghost use Rattle.scheduler.specs.Grammar.{SpellsChoices};
+ghost use Rattle.scheduler.specs.inner.WordOfChoice.{IsWordOfChoice};
+ghost use Rattle.tso_report.specs.Shown.{shown, IsOf};
+ghost use Rattle.trace_json.specs.inner.TracedRun.{most_steps, with_trace, json_ended, json_unended};
+
+use crate::programs::programs_value;
+use crate::proposition::proposition_value;
+use crate::trace::traced;
+use machine_core::Config;
+use protocol_tables::ProtocolKind;
+use scheduler::word_of_choice;
+use serde_json::{Map, Value, put};
+use std::alloc::Global;
+use tso_model::{Choice, NoMemory, Test};
+use tso_report::Run;
+use tso_report::json::{line_of, run_members, unfinished_members};
+
+/// Maximum number of steps of a trace as JSON.
+pub const MAX_STEPS: usize = 1_000;
+
+/// The limit of steps is the number that the definitions have: a law, with nothing to run.
+pub fn steps_are_as_defined()
+    ensures { MAX_STEPS ≡ most_steps }
+{}
+
+/// Where a run that used so many choices of a text is too long for a trace as JSON, the number of the word that
+/// says the first choice beyond [`MAX_STEPS`]; words are numbered from 1. `None` where it isn't too long, or the text
+/// has no such choice.
+pub fn word_beyond(cores: u8, used: usize, text: &[u8]) -> Option<usize>
+    requires { 0 < cores }
+    ensures short { used ≤ most_steps → result ≡ None }
+    ensures found { IfSome result (λ word. (most_steps < used) × IsWordOfChoice cores text.now most_steps word) }
+    ensures there { (choices : List Choice) → SpellsChoices cores text.now choices → used ≤ length choices → most_steps < used
+        → IsSome result }
+{
+    if used <= MAX_STEPS {
+        None
+    } else {
+        word_of_choice(cores, MAX_STEPS, text)
+    }
+}
+
+/// A run that ended with its trace as JSON: an object of the members of the run's report, the programs, the
+/// condition's proposition and the trace, printed compact, and a line feed.
+///
+/// Errors: out of memory only.
+pub fn ended_json(
+    alloc: Global,
+    test: &Test,
+    protocol: ProtocolKind,
+    config: Config,
+    choices: &[Choice],
+    run: &Run,
+) -> Result<String, NoMemory>
+    requires cores { CoresExist (length test.now.programs) choices.now }
+    requires run { IsOf test.now (shown run.now) }
+    ensures { IfOk result (λ text. string_bytes text ≡ json_ended test.now protocol config choices.now (shown run.now)) }
+{
+    let members = run_members(alloc, test, protocol, config, run)?;
+    let members = with_trace(alloc, test, protocol, config, choices, members)?;
+    line_of(alloc, &Value::Object(members))
+}
+
+/// A run that didn't end with its trace as JSON: an object of how many choices were used and how many of these
+/// stalled, the programs, the condition's proposition and the trace, printed compact, and a line feed.
+///
+/// Errors: out of memory only.
+pub fn unended_json(
+    alloc: Global,
+    test: &Test,
+    protocol: ProtocolKind,
+    config: Config,
+    choices: &[Choice],
+    used: usize,
+    stalled: usize,
+) -> Result<String, NoMemory>
+    requires { CoresExist (length test.now.programs) choices.now }
+    ensures { IfOk result (λ text. string_bytes text ≡ json_unended test.now protocol config choices.now used stalled) }
+{
+    let members = unfinished_members(alloc, used, stalled)?;
+    let members = with_trace(alloc, test, protocol, config, choices, members)?;
+    line_of(alloc, &Value::Object(members))
+}
+
+/// Adds the programs, the condition's proposition and the trace to the members of a run.
+///
+/// Errors: out of memory only.
+fn with_trace(
+    alloc: Global,
+    test: &Test,
+    protocol: ProtocolKind,
+    config: Config,
+    choices: &[Choice],
+    members: Map<String, Value>,
+) -> Result<Map<String, Value>, NoMemory>
+    requires { CoresExist (length test.now.programs) choices.now }
+    ensures { IfOk result (λ new. members_view new.entries ≡ with_trace test.now protocol config choices.now (members_view members.entries)) }
+{
+    let mut members = members;
+    let trace = traced(alloc, test, protocol, config, choices)?;
+    put(&mut members, alloc, "trace", trace)?;
+    let proposition = proposition_value(alloc, test)?;
+    put(&mut members, alloc, "proposition", proposition)?;
+    let programs = programs_value(alloc, test)?;
+    put(&mut members, alloc, "programs", programs)?;
+    Ok(members)
+}

@@ -1,0 +1,181 @@
+-- What a choice does to its core's pending stores, whatever holds the bus.
+use Rattle.std.proofs.Common.{◌≡◌, ◌∙◌, ℕ, zero, suc, ◌+◌, Bool, true, false, nat_lt, if◌then◌else◌, List, [], ◌∷◌, ◌++◌, length, take, drop, Option, Some, None, refl, sym, ap, subst, arith, length-append}
+use Rattle.tso_model.specs.Litmus.{Litmus}
+use Rattle.tso_model.specs.Actions.{action_of}
+use Rattle.tso_model.specs.FlatMachine.{CoreState, State, Effect, is_none_pending, stalled, stored, effect_by, step_of, effect_of, core_of, chosen}
+use Rattle.tso_model.specs.Access.{Access, NoAccess, Reads, Writes, Locks, access_of, next_of}
+use Rattle.tso_model.specs.SplitMachine.{Holder, Free, HeldBy, HeldBetween, Attempt, same_choice, needs_bus, acts, asks, begins, completes, as_read, after_first, writes_last, split_effect}
+use Rattle.tso_model.specs.EitherBus.{BusState, effect_on}
+use Rattle.tso_model.specs.declared.bus.Bus.{Bus}
+use Rattle.tso_model.specs.declared.bus.Bus.TheVariants.{Atomic, Split}
+use Rattle.tso_model.specs.declared.instruction.Instr.{Instr}
+use Rattle.tso_model.specs.declared.action.Action.{Action}
+use Rattle.tso_model.specs.declared.action.Action.TheVariants.{Store, Load, Move, Fence, Lock}
+use Rattle.tso_model.specs.declared.execution.Entry.{Entry}
+use Rattle.tso_model.specs.declared.choice.Choice.{Choice}
+use Rattle.tso_model.specs.declared.choice.Choice.TheVariants.{Step, Drain}
+use Rattle.tso_model.specs.declared.choice.Outcome.{Outcome}
+use Rattle.tso_model.specs.declared.choice.Outcome.TheVariants.{Committed, Buffered, Moved, Asked, Stalled}
+use Rattle.tso_model.specs.declared.choice.Stall.{Stall}
+use Rattle.tso_model.specs.declared.choice.Stall.TheVariants as stall
+use Rattle.split_laws.proofs.Following.{same-is}
+use Rattle.split_laws.proofs.Steps.{drain-no-lock}
+use Rattle.trace_report.specs.TraceLaws.{committed_at}
+use Rattle.trace_report.specs.inner.Steps.{waited_before}
+
+-- nothing became pending, a store did, or the oldest was drained
+pub data Form (choice : Choice) (s : CoreState) (f : Effect) : Type 0 where
+  still : f.after.pending ≡ s.pending → waited_before f.outcome choice (length s.pending) ≡ length s.pending → committed_at f.outcome f.commits ≡ f.commits → Form choice s f
+  grown : (e : Entry) → f.after.pending ≡ s.pending ++ e ∷ [] → f.outcome ≡ Buffered → f.commits ≡ [] → Form choice s f
+  shrunk : (core : ℕ) (e : Entry) → s.pending ≡ e ∷ f.after.pending → f.outcome ≡ Committed → choice ≡ Drain (record { 0 = core }) → Form choice s f
+
+when-form : (choice : Choice) (s : CoreState) (why : Stall) (f : Effect) (b : Bool) → Form choice s f → Form choice s (if b then f else stalled why s)
+when-form choice s why f true h = h
+when-form choice s why f false h = still refl refl refl
+
+stored-form : (depth : ℕ) (choice : Choice) (core : ℕ) (s : CoreState) (e : Entry) → choice ≡ Step (record { 0 = core }) → Form choice s (stored depth s e)
+stored-form zero choice core s e q = still refl (rw q refl) refl
+stored-form (suc n) choice core s e q = by_room (nat_lt (length s.pending) (suc n))
+  where
+    by_room : (b : Bool) → Form choice s (if b
+        then record { outcome = Buffered; after = record { place = s.place + 1; registers = s.registers; pending = s.pending ++ e ∷ [] }; commits = [] }
+        else stalled stall.Full s)
+    by_room true = grown e refl refl refl
+    by_room false = still refl refl refl
+
+step-form : (depth core : ℕ) (memory : List ℕ) (i : Option Instr) (s : CoreState) → Form (Step (record { 0 = core })) s (step_of depth memory core i s)
+step-form depth core memory None s = still refl refl refl
+step-form depth core memory (Some x) s = by_action (action_of x)
+  where
+    by_action : (a : Action) → Form (Step (record { 0 = core })) s (effect_by depth memory core a s)
+    by_action (Store loc operand) = stored-form depth _ core s _ refl
+    by_action (Load reg loc) = still refl refl refl
+    by_action (Move reg operand) = still refl refl refl
+    by_action Fence = when-form _ s stall.Fence _ (is_none_pending s.pending) (still refl refl refl)
+    by_action (Lock loc reg update) = when-form _ s stall.Lock _ (is_none_pending s.pending) (still refl refl refl)
+
+drain-form : (core : ℕ) (s : CoreState) (q : List Entry) → s.pending ≡ q → Form (Drain (record { 0 = core })) s (if is_none_pending q
+    then stalled stall.Empty s
+    else record { outcome = Committed; after = record { place = s.place; registers = s.registers; pending = drop 1 q }; commits = take 1 q })
+drain-form core s [] h = still refl refl refl
+drain-form core s (p ∷ ps) h = shrunk core p h refl refl
+
+-- of the flat machine
+pub flat-form : (t : Litmus) (depth : ℕ) (state : State) (a : Choice) → Form a (core_of state (chosen a)) (effect_of t depth state a)
+flat-form t depth state (Step core) = step-form depth core.0 state.memory (next_of t state core.0) (core_of state core.0)
+flat-form t depth state (Drain core) = drain-form core.0 (core_of state core.0) (core_of state core.0).pending refl
+
+asks-form : (a : Choice) (s : CoreState) (holder : Holder) → Form a s (asks s a holder).effect
+asks-form a s Free = still refl refl refl
+asks-form a s (HeldBy other) = still refl refl refl
+asks-form a s (HeldBetween e) = still refl refl refl
+
+begins-form : (t : Litmus) (depth : ℕ) (state : State) (a : Attempt) (holder : Holder) → Form a.choice (core_of state (chosen a.choice)) (begins t depth state a holder).effect
+begins-form t depth state a holder = go (needs_bus (access_of t depth state a.choice) a.hits)
+  where
+    go : (b : Bool) → Form a.choice (core_of state (chosen a.choice)) (if b then asks (core_of state (chosen a.choice)) a.choice holder else acts (effect_of t depth state a.choice) holder).effect
+    go true = asks-form a.choice (core_of state (chosen a.choice)) holder
+    go false = flat-form t depth state a.choice
+
+completes-form : (t : Litmus) (depth : ℕ) (state : State) (a : Choice) → Form a (core_of state (chosen a)) (completes t depth state a (access_of t depth state a)).effect
+completes-form t depth state a = go a (access_of t depth state a) refl
+  where
+    go : (b : Choice) (what : Access) → access_of t depth state b ≡ what → Form b (core_of state (chosen b)) (completes t depth state b what).effect
+    go b NoAccess q = flat-form t depth state b
+    go b (Reads loc) q = flat-form t depth state b
+    go b (Writes loc) q = flat-form t depth state b
+    go (Step core) (Locks loc) q = still refl refl refl
+    go (Drain core) (Locks loc) q = absurd (drain-no-lock (core_of state core.0).pending loc q)
+
+first-off : (o : Outcome) (es : List Entry) → committed_at o es ≡ es → committed_at o (drop 1 es) ≡ drop 1 es
+first-off Committed es h = refl
+first-off Buffered es h = ap (drop 1) h
+first-off Moved es h = ap (drop 1) h
+first-off Asked es h = ap (drop 1) h
+first-off (Stalled why) es h = ap (drop 1) h
+
+after-first-form : (a : Choice) (s : CoreState) (f : Effect) → Form a s f → Form a s (after_first f)
+after-first-form a s f (still same waited quiet) = still same waited (first-off f.outcome f.commits quiet)
+after-first-form a s f (grown e more is none) = grown e more is (ap (drop 1) none)
+after-first-form a s f (shrunk core e less is drain) = shrunk core e less is drain
+
+-- on a split bus
+split-form : (t : Litmus) (depth : ℕ) (state : State) (a : Attempt) (holder : Holder) → Form a.choice (core_of state (chosen a.choice)) (split_effect t depth state a holder).effect
+split-form t depth state a Free = begins-form t depth state a Free
+split-form t depth state a (HeldBy choice) = go (same_choice choice a.choice) refl
+  where
+    go : (b : Bool) → same_choice choice a.choice ≡ b
+        → Form a.choice (core_of state (chosen a.choice)) (if b then completes t depth state choice (access_of t depth state choice) else begins t depth state a (HeldBy choice)).effect
+    go true q = subst (λ c. Form c (core_of state (chosen c)) (completes t depth state choice (access_of t depth state choice)).effect) (same-is choice a.choice q) (completes-form t depth state choice)
+    go false q = begins-form t depth state a (HeldBy choice)
+split-form t depth state a (HeldBetween e) = go (same_choice (Step e.core) a.choice) refl
+  where
+    go : (b : Bool) → same_choice (Step e.core) a.choice ≡ b
+        → Form a.choice (core_of state (chosen a.choice)) (if b then writes_last t depth state e else begins t depth state a (HeldBetween e)).effect
+    go true q = subst (λ c. Form c (core_of state (chosen c)) (writes_last t depth state e).effect) (same-is (Step e.core) a.choice q)
+        (after-first-form (Step e.core) (core_of state e.core.0) (effect_of t depth (as_read state e) (Step e.core)) (flat-form t depth (as_read state e) (Step e.core)))
+    go false q = begins-form t depth state a (HeldBetween e)
+
+-- on either
+pub effect-form : (bus : Bus) (t : Litmus) (depth : ℕ) (state : BusState) (a : Attempt) → Form a.choice (core_of state.flat (chosen a.choice)) (effect_on bus t depth state a).effect
+effect-form Atomic t depth state a = flat-form t depth state.flat a.choice
+effect-form Split t depth state a = split-form t depth state.flat a state.holder
+
+-- ---- what waited before it, and what came
+
+pub drop-all : (es : List Entry) → drop (length es) es ≡ []
+drop-all [] = refl
+drop-all (e ∷ es) = drop-all es
+
+drop-more : (e : Entry) (es : List Entry) → drop (length (e ∷ es)) es ≡ []
+drop-more e [] = refl
+drop-more e (x ∷ xs) = drop-more x xs
+
+pub waited-is : (choice : Choice) (s : CoreState) (f : Effect) → Form choice s f → waited_before f.outcome choice (length f.after.pending) ≡ length s.pending
+waited-is choice s f (still same waited quiet) = ap (λ es. waited_before f.outcome choice (length es)) same ∙ waited
+waited-is choice s f (grown e more is none) =
+    let size : length f.after.pending ≡ length s.pending + 1 = ap length more ∙ length-append s.pending (e ∷ []) in
+    ap (λ o. waited_before o choice (length f.after.pending)) is ∙ (omega arith)
+waited-is choice s f (shrunk core e less is drain) =
+    let size : length s.pending ≡ length f.after.pending + 1 = ap length less ∙ (omega arith) in
+    ap (λ o. waited_before o choice (length f.after.pending)) is ∙ (ap (λ c. waited_before Committed c (length f.after.pending)) drain ∙ sym size)
+
+-- a choice that stalls commits nothing, and nothing becomes pending
+pub record Rests (s : CoreState) (f : Effect) : Type 0 where
+  pub commits : f.commits ≡ []
+  pub pending : f.after.pending ≡ s.pending
+
+pub stall-rests : (choice : Choice) (s : CoreState) (f : Effect) (why : Stall) → f.outcome ≡ Stalled why → Form choice s f → Rests s f
+stall-rests choice s f why q (still same waited quiet) = record { commits = sym quiet ∙ ap (λ o. committed_at o f.commits) q; pending = same }
+stall-rests choice s f why q (grown e more is none) = absurd (let z : ⊥ = cc in z)
+stall-rests choice s f why q (shrunk core e less is drain) = absurd (let z : ⊥ = cc in z)
+
+-- the entries that a choice names, where it has committed, are those that it commits
+named : (o : Outcome) (es more : List Entry) → committed_at o es ≡ es → (o ≡ Committed → more ≡ []) → committed_at o (es ++ more) ≡ es
+named Committed es more h none = ap (λ ms. es ++ ms) (none refl) ∙ nothing es
+  where
+    nothing : (xs : List Entry) → xs ++ [] ≡ xs
+    nothing [] = refl
+    nothing (x ∷ xs) = ap (λ ys. x ∷ ys) (nothing xs)
+named Buffered es more h none = h
+named Moved es more h none = h
+named Asked es more h none = h
+named (Stalled why) es more h none = h
+
+pub named-is : (choice : Choice) (s : CoreState) (f : Effect) → Form choice s f → committed_at f.outcome (f.commits ++ drop (length s.pending) f.after.pending) ≡ f.commits
+named-is choice s f (still same waited quiet) =
+    named f.outcome f.commits (drop (length s.pending) f.after.pending) quiet (λ is. ap (drop (length s.pending)) same ∙ drop-all s.pending)
+named-is choice s f (grown e more is none) =
+    named f.outcome f.commits (drop (length s.pending) f.after.pending) (ap (λ o. committed_at o f.commits) is ∙ sym none) (λ other. absurd (let z : ⊥ = cc in z))
+named-is choice s f (shrunk core e less is drain) =
+    named f.outcome f.commits (drop (length s.pending) f.after.pending) (ap (λ o. committed_at o f.commits) is)
+    (λ other. ap (λ es. drop (length es) f.after.pending) less ∙ drop-more e f.after.pending)
+
+-- where the core isn't there, it stays as it was
+pub nothing-new : (choice : Choice) (s : CoreState) (f : Effect) → Form choice s f → committed_at f.outcome (f.commits ++ drop (length s.pending) s.pending) ≡ f.commits
+nothing-new choice s f form = named f.outcome f.commits (drop (length s.pending) s.pending) (quiet-form form) (λ is. drop-all s.pending)
+  where
+    quiet-form : Form choice s f → committed_at f.outcome f.commits ≡ f.commits
+    quiet-form (still same waited quiet) = quiet
+    quiet-form (grown e more is none) = ap (λ o. committed_at o f.commits) is ∙ sym none
+    quiet-form (shrunk core e less is drain) = ap (λ o. committed_at o f.commits) is

@@ -1,0 +1,112 @@
+-- The lines and stores that a step names are the test's.
+use Rattle.std.proofs.Common.{ℕ, zero, suc, ◌+◌, ◌<◌, ◌≤◌, Bool, true, false, ◌&&◌, ◌==◌, if◌then◌else◌, List, [], ◌∷◌, length, Option, Some, None, IfSome, All, arith}
+use Rattle.std.proofs.lemmas.List.Elements.{All-nil, All-cons, All-head, All-tail, All-append}
+use Rattle.tso_model.specs.Litmus.{Litmus}
+use Rattle.tso_model.specs.Access.{Access, NoAccess, Reads, Writes, Locks}
+use Rattle.tso_model.specs.declared.bus.Bus.{Bus}
+use Rattle.tso_model.specs.declared.bus.Bus.TheVariants.{Atomic, Split}
+use Rattle.tso_model.specs.declared.choice.Outcome.{Outcome}
+use Rattle.tso_model.specs.declared.choice.Outcome.TheVariants.{Committed, Buffered, Moved, Asked, Stalled}
+use Rattle.tso_model.specs.declared.execution.Entry.{Entry}
+use Rattle.snoop_bus.specs.Asks.{Awaited}
+use Rattle.machine_core.specs.Running.{Running}
+use Rattle.machine_core.specs.declared.cache_use.CacheUse.{CacheUse}
+use Rattle.machine_core.specs.declared.cache_use.CacheUse.TheVariants.{Unused, Forwarded, Through}
+use Rattle.trace_report.specs.Known.{IsAt, IsLine}
+use Rattle.trace_report.specs.Steps.{goes_on_bus, request_at, sent_on, line_states, core_states, lines_of, states_of, number_of, is_absent, change_of, changes_in, left_by, wrote_back_by, buffer_if_changed}
+use Rattle.trace_report.proofs.Places.{AccessKnown, line-at, line-within}
+use Rattle.trace_report.specs.declared.step.LineRequest.{LineRequest}
+use Rattle.trace_report.specs.declared.step.StateChange.{StateChange}
+use Rattle.trace_report.specs.declared.states.PlacedState.{PlacedState}
+
+-- ---- requests
+
+abbrev IsKnownRequest : Litmus → ℕ → Option LineRequest → Type 0
+IsKnownRequest t words r = IfSome r (λ q. IsLine t words q.line)
+
+pub request-known : (t : Litmus) (words : ℕ) (what : Access) → 0 < words → AccessKnown t what → IfSome (request_at words what) (λ q. IsLine t words q.line)
+request-known t words NoAccess some k = tt
+request-known t words (Reads loc) some k = line-at t words loc.0 some k
+request-known t words (Writes loc) some k = line-at t words loc.0 some k
+request-known t words (Locks loc) some k = line-at t words loc.0 some k
+
+whole-known : (t : Litmus) (words : ℕ) (request : Option LineRequest) (b : Bool) → IsKnownRequest t words request → IsKnownRequest t words (if b then request else None)
+whole-known t words request true k = k
+whole-known t words request false k = tt
+
+pub sent-known : (t : Litmus) (words : ℕ) (bus : Bus) (outcome : Outcome) (request : Option LineRequest) (how : CacheUse) (awaited : Option Awaited)
+    → IfSome request (λ q. IsLine t words q.line) → IfSome (sent_on bus outcome request how awaited).request (λ q. IsLine t words q.line)
+sent-known t words Atomic outcome request Unused awaited k = tt
+sent-known t words Atomic outcome request Forwarded awaited k = tt
+sent-known t words Atomic outcome request (Through a) awaited k = whole-known t words request (goes_on_bus a.kind) k
+sent-known t words Split Committed request how awaited k = tt
+sent-known t words Split Buffered request how awaited k = tt
+sent-known t words Split Moved request how awaited k = tt
+sent-known t words Split Asked request how None k = tt
+sent-known t words Split Asked request how (Some a) k = k
+sent-known t words Split (Stalled why) request how awaited k = tt
+
+-- ---- states and changes
+
+abbrev pub IsOnLine : Litmus → ℕ → PlacedState → Type 0
+IsOnLine t words p = IsLine t words p.line
+
+lines-known : (m : Running) (core line count : ℕ) → 0 < m.statistics.caches.shape.words → line + count ≤ lines_of m → All (IsOnLine m.test m.statistics.caches.shape.words) (line_states m core line count)
+lines-known m core line zero some within = All-nil (IsOnLine m.test m.statistics.caches.shape.words)
+lines-known m core line (suc count) some within =
+    All-cons (IsOnLine m.test m.statistics.caches.shape.words) _ (line_states m core (line + 1) count)
+    (line-within m.test m.statistics.caches.shape.words line some (let h : line < lines_of m = omega arith in h))
+    (lines-known m core (line + 1) count some (omega arith))
+
+cores-known : (m : Running) (core count : ℕ) → 0 < m.statistics.caches.shape.words → All (IsOnLine m.test m.statistics.caches.shape.words) (core_states m core count)
+cores-known m core zero some = All-nil (IsOnLine m.test m.statistics.caches.shape.words)
+cores-known m core (suc count) some =
+    All-append (IsOnLine m.test m.statistics.caches.shape.words) (line_states m core 0 (lines_of m)) (core_states m (core + 1) count)
+    (lines-known m core 0 (lines_of m) some (omega arith)) (cores-known m (core + 1) count some)
+
+pub states-known : (m : Running) → 0 < m.statistics.caches.shape.words → All (IsOnLine m.test m.statistics.caches.shape.words) (states_of m)
+states-known m some = cores-known m 0 (length m.test.programs) some
+
+abbrev pub IsChangeOnLine : Litmus → ℕ → StateChange → Type 0
+IsChangeOnLine t words c = IsLine t words c.line
+
+change-known : (t : Litmus) (words : ℕ) (b a : PlacedState) → IsOnLine t words b → All (IsChangeOnLine t words) (change_of b a)
+change-known t words b a k = by_test (number_of b.state == number_of a.state)
+  where
+    by_test : (same : Bool) → All (IsChangeOnLine t words) (if same then [] else record { core = b.core; line = b.line; before = b.state; after = a.state } ∷ [])
+    by_test true = All-nil (IsChangeOnLine t words)
+    by_test false = All-cons (IsChangeOnLine t words) _ [] k (All-nil (IsChangeOnLine t words))
+
+pub changes-known : (t : Litmus) (words : ℕ) (befores afters : List PlacedState) → All (IsOnLine t words) befores → All (λ (c : StateChange). IsLine t words c.line) (changes_in befores afters)
+changes-known t words [] afters k = All-nil (IsChangeOnLine t words)
+changes-known t words (b ∷ bs) [] k = All-nil (IsChangeOnLine t words)
+changes-known t words (b ∷ bs) (a ∷ rest) k =
+    All-append (IsChangeOnLine t words) (change_of b a) (changes_in bs rest) (change-known t words b a (All-head (IsOnLine t words) b bs k))
+    (changes-known t words bs rest (All-tail (IsOnLine t words) b bs k))
+
+left-known : (t : Litmus) (words core : ℕ) (cs : List StateChange) → All (IsChangeOnLine t words) cs → IfSome (left_by core cs) (IsLine t words)
+left-known t words core [] k = tt
+left-known t words core (c ∷ cs) k = by_test ((c.core.0 == core) && is_absent c.after) (left-known t words core cs (All-tail (IsChangeOnLine t words) c cs k))
+  where
+    by_test : (b : Bool) → IfSome (left_by core cs) (IsLine t words) → IfSome (if b then Some c.line else left_by core cs) (IsLine t words)
+    by_test true rest = All-head (IsChangeOnLine t words) c cs k
+    by_test false rest = rest
+
+pub written-back-known : (t : Litmus) (words : ℕ) (how : CacheUse) (core : ℕ) (cs : List StateChange) → All (λ (c : StateChange). IsLine t words c.line) cs
+    → IfSome (wrote_back_by how core cs) (IsLine t words)
+written-back-known t words Unused core cs k = tt
+written-back-known t words Forwarded core cs k = tt
+written-back-known t words (Through a) core cs k = by_test a.wrote_back
+  where
+    by_test : (b : Bool) → IfSome (if b then left_by core cs else None) (IsLine t words)
+    by_test true = left-known t words core cs k
+    by_test false = tt
+
+-- ---- the buffer
+
+pub buffer-known : (t : Litmus) (waited : ℕ) (pending : List Entry) → All (IsAt t) pending → IfSome (buffer_if_changed waited pending) (All (IsAt t))
+buffer-known t waited pending k = by_test (length pending == waited)
+  where
+    by_test : (b : Bool) → IfSome (if b then None else Some pending) (All (IsAt t))
+    by_test true = tt
+    by_test false = k

@@ -1,0 +1,5 @@
+use Rattle.trace_report.proofs.AccessesTold.{all-told}
+use Rattle.trace_report.proofs.laws.accesses_are_told.Goals as goal
+
+pub returns : goal.returns
+returns c = all-told

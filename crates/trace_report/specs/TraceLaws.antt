@@ -1,0 +1,135 @@
+-- What a trace says of its run, as laws.
+use Rattle.std.specs.Prelude.{ℕ, ◌+◌, ◌≡◌, ◌≢◌, ◌==◌, ◌&&◌, Bool, true, false, if◌then◌else◌, List, [], ◌∷◌, ◌++◌, length, map, Option, Some, None, slice_index_or, All, Contains}
+use Rattle.tso_model.specs.Litmus.{Litmus}
+use Rattle.tso_model.specs.FlatMachine.{chosen}
+use Rattle.tso_model.specs.Runs.{Run, CoresExist, run, stall_count}
+use Rattle.tso_model.specs.EitherBus.{run_on}
+use Rattle.tso_model.specs.Together.{put_together, together}
+use Rattle.tso_model.specs.declared.bus.Bus.TheVariants.{Atomic}
+use Rattle.tso_model.specs.declared.choice.Choice.{Choice}
+use Rattle.tso_model.specs.declared.choice.Outcome.{Outcome}
+use Rattle.tso_model.specs.declared.choice.Outcome.TheVariants.{Committed, Buffered, Moved, Asked, Stalled}
+use Rattle.tso_model.specs.declared.execution.Entry.{Entry}
+use Rattle.protocol_tables.specs.Tables.{Table}
+use Rattle.machine_core.specs.Configuration.{Configuration}
+use Rattle.snoop_bus.specs.declared.access.AccessKind.{AccessKind}
+use Rattle.snoop_bus.specs.declared.access.AccessKind.TheVariants.{Hit, Upgrade, Miss}
+use Rattle.machine_core.specs.Answered.{answered}
+use Rattle.machine_core.specs.Statistics.{no_counts, counts_of}
+use Rattle.machine_core.specs.declared.counts.Counts.{Counts}
+use Rattle.machine_core.specs.Running.{Running, machine_after}
+use Rattle.trace_report.specs.Shown.{Shown}
+use Rattle.trace_report.specs.Steps.{step_of, states_of, number_of, trace_of}
+use Rattle.trace_report.specs.declared.step.StateChange.{StateChange}
+use Rattle.trace_report.specs.declared.states.PlacedState.{PlacedState}
+use Rattle.tso_model.specs.declared.choice.Outcome.TheVariants as out
+
+-- ---- the run
+
+-- the entries that a step with this outcome has committed, of those that it names: a store that becomes pending is named too
+abbrev pub committed_at : Outcome → List Entry → List Entry
+committed_at Committed entries = entries
+committed_at Buffered entries = []
+committed_at out.Moved entries = []
+committed_at Asked entries = []
+committed_at (Stalled why) entries = []
+
+-- the entries that the steps have committed, in their order
+abbrev pub committed_in : List Shown → List Entry
+committed_in [] = []
+committed_in (s ∷ ss) = committed_at s.outcome s.entries ++ committed_in ss
+
+-- how many of the steps stalled
+abbrev pub stalls_in : List Shown → ℕ
+stalls_in [] = 0
+stalls_in (s ∷ ss) = stall_count s.outcome + stalls_in ss
+
+-- the entries that the steps have committed, each load part of a locked instruction put directly before its store part, are the
+-- order of the run; the steps are as many as the choices that it used; and as many of them stalled
+pub record TellsRun (steps : List Shown) (r : Run) : Type 0 where
+  pub order : put_together (committed_in steps) ≡ r.commits
+  pub used : length steps ≡ r.used
+  pub stalled : stalls_in steps ≡ r.stalled
+
+-- the run of a machine of this protocol's table and this configuration, on its bus, with its caches' answers whether an access
+-- hits, and the parts of each locked instruction together
+abbrev pub run_traced : Table → Configuration → Litmus → List Choice → Run
+run_traced table c t choices = together (run_on c.bus t c.depth (answered c.bus table c.shape t c.depth choices)).run
+
+-- a trace tells its run; on the atomic bus that is the flat machine's
+pub record TracesTellTheirRuns : Type 0 where
+  pub either : (table : Table) (c : Configuration) (t : Litmus) (choices : List Choice)
+      → TellsRun (trace_of table c t choices) (run_traced table c t choices)
+  pub atomic : (table : Table) (c : Configuration) (t : Litmus) (choices : List Choice)
+      → c.bus ≡ Atomic → TellsRun (trace_of table c t choices) (run t c.depth choices)
+
+-- ---- the lines of the caches
+
+-- a line's state once this change is laid in, and the states of all lines once these changes are
+abbrev pub is_of : StateChange → PlacedState → Bool
+is_of c p = (c.core.0 == p.core.0) && (c.line == p.line)
+
+abbrev pub laid_in : StateChange → PlacedState → PlacedState
+laid_in c p = if is_of c p then record { core = p.core; line = p.line; state = c.after } else p
+
+abbrev pub with_changes : List StateChange → List PlacedState → List PlacedState
+with_changes [] states = states
+with_changes (c ∷ cs) states = with_changes cs (map (laid_in c) states)
+
+-- a change is of one of these lines, which was in the state that it is said to leave, and goes to another
+pub record ChangesOne (states : List PlacedState) (c : StateChange) : Type 0 where
+  pub was : Contains states (record { core = c.core; line = c.line; state = c.before })
+  pub differs : number_of c.before ≢ number_of c.after
+
+-- the states of all lines before a choice, with the changes that its step tells laid in, are the states after it; and no change
+-- is told that isn't one
+pub record ChangesLeadFromStatesToStates : Type 0 where
+  pub lead : (m : Running) (choice : Choice) → with_changes (step_of m choice).changes (states_of m) ≡ states_of (machine_after m choice)
+  pub real : (m : Running) (choice : Choice) → All (ChangesOne (states_of m)) (step_of m choice).changes
+
+-- ---- the accesses
+
+-- what a core's cache counts of this kind of access
+abbrev pub count_of : AccessKind → Counts → ℕ
+count_of Hit n = n.hits
+count_of Miss n = n.misses
+count_of Upgrade n = n.upgrades
+
+-- the two kinds are one
+abbrev pub is_kind : AccessKind → AccessKind → Bool
+is_kind Hit Hit = true
+is_kind Miss Miss = true
+is_kind Upgrade Upgrade = true
+is_kind _ _ = false
+
+abbrev pub is_access : AccessKind → Option AccessKind → Bool
+is_access kind None = false
+is_access kind (Some k) = is_kind kind k
+
+-- whether a step tells an access of this kind to this core's cache, and whether it tells that the core's own stores answered it
+abbrev pub tells_access : AccessKind → ℕ → Shown → Bool
+tells_access kind core s = (chosen s.choice == core) && is_access kind s.access
+
+abbrev pub tells_forward : ℕ → Shown → Bool
+tells_forward core s = (chosen s.choice == core) && s.forwarded
+
+abbrev pub one_if : Bool → ℕ
+one_if true = 1
+one_if false = 0
+
+-- how many of the steps are such
+abbrev pub steps_that : (Shown → Bool) → List Shown → ℕ
+steps_that test [] = 0
+steps_that test (s ∷ ss) = one_if (test s) + steps_that test ss
+
+-- what the steps tell of this core's cache is what is counted of it: its hits, misses and upgrades, and the loads that the core's
+-- own pending stores answered
+pub record AreTold (core : ℕ) (steps : List Shown) (n : Counts) : Type 0 where
+  pub accesses : (kind : AccessKind) → steps_that (tells_access kind core) steps ≡ count_of kind n
+  pub forwards : steps_that (tells_forward core) steps ≡ n.forwards
+
+-- this is so of each core in the trace of a run, whether its test has ended or not
+abbrev pub AccessesAreTold : Type 0
+AccessesAreTold =
+    (table : Table) (c : Configuration) (t : Litmus) (choices : List Choice) (core : ℕ) → CoresExist (length t.programs) choices
+    → AreTold core (trace_of table c t choices) (slice_index_or (counts_of c.bus table c.shape t c.depth choices) core no_counts)

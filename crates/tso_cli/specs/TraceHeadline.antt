@@ -1,0 +1,38 @@
+-- What `trace` prints: what `run` prints of a run, with what each choice of that very run did.
+use Rattle.std.specs.Prelude.{ℕ, ◌≡◌, true, false, List, ◌++◌, length}
+use Rattle.tso_model.specs.Litmus.{Litmus}
+use Rattle.tso_model.specs.Runs.{Run, run}
+use Rattle.tso_model.specs.declared.bus.Bus.TheVariants.{Atomic, Split}
+use Rattle.tso_model.specs.declared.choice.Choice.{Choice}
+use Rattle.scheduler.specs.Grammar.{SpellsChoices}
+use Rattle.scheduler.specs.Refusals.{IsRefusedAsChoices}
+use Rattle.scheduler.specs.declared.fault.ChoiceFault.{ChoiceFault}
+use Rattle.protocol_tables.specs.declared.kind.ProtocolKind.{ProtocolKind}
+use Rattle.machine_core.specs.Configuration.{Configuration}
+use Rattle.tso_report.specs.Report.{head}
+use Rattle.trace_report.specs.Lines.{trace_text}
+use Rattle.trace_report.specs.Steps.{trace_under}
+use Rattle.tso_cli.specs.Lines.{choices_refusal, unfinished_line}
+use Rattle.tso_cli.specs.RunHeadline.{PrintsExecution}
+use Rattle.tso_cli.specs.SplitRun.{split_run}
+
+-- the trace of the choices stands between the first two lines and a rest: where the run ends, the two lines and the rest are the
+-- report of an execution, as `run` prints it; where it doesn't, the rest is the line that says how far it came
+pub record PrintsTrace (t : Litmus) (kind : ProtocolKind) (c : Configuration) (choices : List Choice) (r : Run) (out : List ℕ) : Type 0 where
+  pub rest : List ℕ
+  pub printed : out ≡ head t kind c ++ (trace_text t c.shape.words (trace_under t kind c choices) ++ rest)
+  pub ended : r.ended ≡ true → PrintsExecution t kind c false r (head t kind c ++ rest)
+  pub unended : r.ended ≡ false → rest ≡ unfinished_line r.used r.stalled
+
+-- for every list of choices that the text spells, the run under these very choices is printed so; every other text is refused by
+-- its word
+pub record PrintsEachTrace (t : Litmus) (kind : ProtocolKind) (c : Configuration) (run_of : List Choice → Run) (text out : List ℕ)
+    : Type 0 where
+  pub every_list : (choices : List Choice) → SpellsChoices (length t.programs) text choices → PrintsTrace t kind c choices (run_of choices) out
+  pub every_other : ((choices : List Choice) → ¬ (SpellsChoices (length t.programs) text choices))
+      → (fault : ChoiceFault) × IsRefusedAsChoices (length t.programs) text fault × (out ≡ choices_refusal fault)
+
+-- on the atomic bus of the flat machine's runs, on the split bus of the split machine's
+pub record HeadlineOfTraces (t : Litmus) (kind : ProtocolKind) (c : Configuration) (text out : List ℕ) : Type 0 where
+  pub atomic : c.bus ≡ Atomic → PrintsEachTrace t kind c (run t c.depth) text out
+  pub split : c.bus ≡ Split → PrintsEachTrace t kind c (split_run t kind c) text out

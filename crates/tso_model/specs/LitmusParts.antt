@@ -1,0 +1,17 @@
+-- The test that its parts make, and how a test is stored in a proof.
+use Rattle.std.specs.Prelude.{map, string_bytes}
+use Rattle.tso_model.specs.Litmus.{Litmus}
+use Rattle.tso_model.specs.Condition.{condition_of}
+use Rattle.tso_model.specs.declared.litmus.TestParts.{TestParts}
+use Rattle.std.specs.Option.{option_map}
+
+-- the test that these parts would be
+abbrev pub litmus_of : TestParts → Litmus
+litmus_of p = record {
+  name = string_bytes p.name;
+  locations = map string_bytes p.locations.items;
+  words = p.words.items;
+  registers = p.registers.items;
+  programs = map (λ program. program.items) p.programs.items;
+  condition = option_map condition_of p.cond;
+}

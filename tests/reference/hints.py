@@ -1,0 +1,31 @@
+"""What standard error has beside an answer with status 0: docs/MESSAGES.md, 'Answers that may mislead'."""
+import re
+
+from . import seen
+
+UNUSED = "hint: line %d: the condition names %s, which no program uses and no initial state sets: it stays 0\n"
+NEVER = "hint: Never is said of %s only:%s outcomes --depth %d decides\n"
+MORE_SEEDS = " more seeds (--seeds 1000) take milliseconds, and"
+
+MOST_SEEDS = 1000
+
+# The last line of a sweep that never saw what the condition asks for.
+NEVER_SEEN = re.compile(r"^Observation .* Never 0 ([1-9][0-9]*)\n\Z", re.MULTILINE)
+
+
+def beside(command, json, depth, test, output):
+    """All of standard error: the hint, or nothing. `output` is what is printed for the test."""
+    if json or command not in ("run", "trace", "sweep", "outcomes"):
+        return b""
+    if test.unused is not None:
+        seen.note("hint beside status 0", "a location that nothing uses")
+        name, line = test.unused
+        return (UNUSED % (line, name)).encode()
+    found = NEVER_SEEN.search(output) if command == "sweep" else None
+    if found is None:
+        seen.note("hint beside status 0", "none")
+        return b""
+    seen.note("hint beside status 0", "never seen")
+    runs = int(found[1])
+    counted = "1 run" if runs == 1 else "%d runs" % runs
+    return (NEVER % (counted, MORE_SEEDS if runs < MOST_SEEDS else "", depth)).encode()

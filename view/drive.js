@@ -1,0 +1,206 @@
+'use strict';
+
+// Driving: the choices that are made one by one, and what they do to the machine, or to two machines side by side.
+
+const MOST_STEPS = 1000;
+const FEW_CORES = 4; // so many have room beside the picture
+
+/**
+ * The choices that are known (`words`), of which the first `count` are made; the input's test, and the whole input where it spells
+ * these choices in words of its own (`given`); the machines with their histories
+ * and panels; the picture of the first machine; the core that keys act on; and the timers of playing and of the address.
+ */
+const drive = { isOn: false, words: [], count: 0, test: '', given: null, machines: [], picture: null, core: 0, timer: null, sharing: null, beside: null };
+
+const firstHistory = () => drive.machines[0].history;
+
+const isAtEnd = count => drive.machines.every(({ history }) => count >= history.steps.length && history.hasEnded(count));
+
+/** The input of all choices that are known. */
+const driveInput = () => drive.given ?? inputOfWords(drive.words);
+
+const inputOfWords = words => `${drive.test}${DIVIDING_LINE}\n${words.join(' ')}\n`;
+
+/** Begins to drive a history that is made of an input, after so many of its steps. */
+function beginDrive(history, { test, given }, count) {
+  stopPlaying();
+  const words = history.steps.map(step => step.choice), core = Math.min(drive.core, history.cores - 1);
+  Object.assign(drive, { isOn: true, test, given, words, core, count: Math.min(count, words.length) });
+  drive.machines = [history, ...historyBeside()].map(each => ({ history: each, panel: new MachinePanel(each) }));
+  byId('machines').replaceChildren(...drive.machines.map(({ panel }) => panel.element));
+  byId('machines').classList.toggle('two', drive.machines.length > 1);
+  byId('machines').classList.toggle('many', history.cores > FEW_CORES);
+  drive.picture = null;
+  drawBesideChoices(history.options);
+  showDrive();
+}
+
+function endDrive() {
+  stopPlaying();
+  Object.assign(drive, { isOn: false, machines: [], picture: null });
+}
+
+// Making choices.
+
+const SHARE_AFTER = 150; // milliseconds without a choice, after which the address is drawn anew
+
+/** Makes a choice: the one that comes next where it is the same, and else another, after which nothing comes. */
+function makeChoice(word) {
+  if (!drive.isOn || isAtEnd(drive.count)) return;
+  if (drive.words[drive.count] !== word && !replaceNext(word)) return;
+  drive.core = coreOfChoice(word);
+  goTo(drive.count + 1);
+}
+
+/** Puts a choice in the place of all that come next. Answers whether the machines took it. */
+function replaceNext(word) {
+  if (drive.count >= MOST_STEPS) return refuseMore();
+  const words = [...drive.words.slice(0, drive.count), word];
+  for (const { history } of drive.machines) {
+    history.cut(drive.count);
+    if (history.steps.length < drive.count || history.hasEnded(drive.count)) continue;
+    const step = lastStep(history.options, words);
+    if (!step) return stopBefore(words);
+    history.add(step);
+  }
+  Object.assign(drive, { words, given: null });
+  putWords();
+  return true;
+}
+
+/** Where no step came of the last of these choices: leaves it out, with what is said of it. */
+function stopBefore(words) {
+  const made = words.slice(0, -1), said = ['said', 'hint'].map(id => byId(id).textContent);
+  for (const { history } of drive.machines) history.cut(made.length);
+  Object.assign(drive, { words: made, given: null });
+  putWords();
+  showSaid({ hint: said[1] }, said[0]);
+  showDrive();
+  return false;
+}
+
+function refuseMore() {
+  byId('sentence').textContent = `The machine is shown for at most ${MOST_STEPS} choices, which are made. More go into the field of choices: their run is shown without steps.`;
+  return false;
+}
+
+/** The step of the last of these choices; of a module without that command, from the whole trace. */
+function lastStep(options, words) {
+  const input = inputOfWords(words);
+  const { status, text, hint } = bench.tracing === 'step' ? asked({ ...options, command: 'step', json: true }, input) : { status: Tso.STATUS.nothingAsked };
+  if (status === Tso.STATUS.good || status === Tso.STATUS.unended) return readStep(text);
+  if (status === Tso.STATUS.nothingAsked) return historyOf(options, input).history?.steps.at(-1);
+  stopPlaying();
+  showSaid({ status, hint }, text.trim());
+  return null;
+}
+
+/** Puts the known choices into their field, with all that goes by it. */
+function putWords() {
+  byId('choices').value = drive.words.join(' ') + '\n';
+  bench.answer = null;
+  showSaid({ hint: '' }, '');
+  byId('report-part').open = false;
+  clearTimeout(drive.sharing);
+  drive.sharing = setTimeout(drawShare, SHARE_AFTER);
+}
+
+/** Shows the machines after so many choices. */
+function goTo(count) {
+  drive.count = Math.min(drive.words.length, Math.max(0, count));
+  showDrive();
+}
+
+const DRIVES = { first: () => goTo(0), back: () => goTo(drive.count - 1), forward: () => goTo(drive.count + 1), last: () => goTo(drive.words.length) };
+
+function moveDriven(name) {
+  stopPlaying();
+  DRIVES[name]();
+}
+
+/** Draws choices of a seed: they come next, and aren't made yet. */
+function drawSeed() {
+  const seed = byId('drive-seed').value.trim();
+  if (!drive.isOn || isAtEnd(drive.count) || !/^\d{1,18}$/.test(seed)) return;
+  const made = drive.words.slice(0, drive.count), length = MOST_STEPS - made.length;
+  if (length === 0) return refuseMore();
+  const { history } = historyOf(firstHistory().options, inputOfWords([...made, 'seed', seed, length]));
+  if (!history) return;
+  beginDrive(history, { test: drive.test, given: null }, drive.count);
+  putWords();
+  byId('sentence').textContent = `Drawn of seed ${seed}. Forward makes its choices one by one, and Play goes through them.`;
+}
+
+// Playing.
+
+const SPEEDS = [0.5, 1, 2, 4, 8, 16, 32]; // choices in a second
+
+function play() {
+  if (!drive.isOn || isAtEnd(drive.count)) return;
+  if (drive.count >= drive.words.length) drawSeed();
+  stopPlaying();
+  drive.timer = setInterval(() => {
+    goTo(drive.count + 1);
+    if (drive.count >= drive.words.length) stopPlaying();
+  }, 1000 / SPEEDS[Number(byId('speed').value)]);
+  showPlaying();
+}
+
+function stopPlaying() {
+  clearInterval(drive.timer);
+  drive.timer = null;
+  showPlaying();
+}
+
+function showPlaying() {
+  byId('play').textContent = drive.timer === null ? 'Play' : 'Pause';
+  byId('speed-said').textContent = `${SPEEDS[Number(byId('speed').value)]} a second`;
+}
+
+const playOrPause = () => (drive.timer === null ? play() : stopPlaying());
+
+function setSpeed(speed) {
+  byId('speed').value = String(Math.min(SPEEDS.length - 1, Math.max(0, speed)));
+  if (drive.timer !== null) play();
+  showPlaying();
+}
+
+// The second machine.
+
+/** The history of the machine beside the first under the same choices, if one is asked for. */
+function historyBeside() {
+  if (drive.beside === null) return [];
+  const { history } = historyOf(drive.beside, inputOfWords(drive.words));
+  return history ? [history] : [];
+}
+
+function drawBesideChoices(options) {
+  const field = byId('beside-it'), others = otherMachines(options).slice(1), wanted = JSON.stringify(drive.beside);
+  field.replaceChildren(html('option', { value: 'null' }, 'no other'), ...others.map(other => html('option', { value: JSON.stringify(other) }, machineName(other))));
+  field.value = others.some(other => JSON.stringify(other) === wanted) ? wanted : 'null';
+}
+
+function putBeside(text) {
+  drive.beside = JSON.parse(text);
+  beginDrive(firstHistory(), drive, drive.count);
+}
+
+// Keys: a choice is typed as it is written, `0s` or `0d`; the core that was named last is kept.
+
+const DRIVE_KEYS = {
+  s: () => makeChoice(`${drive.core}s`), d: () => makeChoice(`${drive.core}d`), p: playOrPause, r: drawSeed,
+  '+': () => setSpeed(Number(byId('speed').value) + 1), '-': () => setSpeed(Number(byId('speed').value) - 1),
+};
+
+/** What a key does to the machine that is driven: whether it did anything. */
+function driveByKey(key) {
+  if (/^[0-7]$/.test(key) && Number(key) < firstHistory().cores) {
+    drive.core = Number(key);
+    markCore();
+  } else if (Object.hasOwn(DRIVE_KEYS, key)) {
+    DRIVE_KEYS[key]();
+  } else {
+    return false;
+  }
+  return true;
+}

@@ -1,0 +1,111 @@
+'use strict';
+
+// What is shown of the machines that are driven: panels, picture, sentence, and at the end the condition.
+
+/** Shows everything after the choices that are made. */
+function showDrive() {
+  const history = firstHistory(), { count } = drive;
+  for (const { panel } of drive.machines) panel.show(count);
+  markCore();
+  showPicture();
+  const step = history.steps[count - 1];
+  const before = step && history.machineAfter(count - 1);
+  byId('sentence').textContent = step ? `${step.choice}: ${stepSentences(step, before).join(' ')}` : count === 0 ? startSentence() : 'The first machine\'s test has ended.';
+  byId('count').textContent = `${count} ${count === 1 ? 'choice' : 'choices'} made`;
+  showMoves();
+  showEnd(history);
+}
+
+const startSentence = () => 'The machine at its start. Choose what a core does: step or drain.';
+
+function showMoves() {
+  const isFirst = drive.count === 0, isLast = drive.count === drive.words.length;
+  for (const button of document.querySelectorAll('[data-move]')) button.disabled = ['first', 'back'].includes(button.dataset.move) ? isFirst : isLast;
+  for (const id of ['play', 'draw-seed']) byId(id).disabled = isAtEnd(drive.count);
+}
+
+/** Marks the core on which keys act. */
+function markCore() {
+  drive.machines.forEach(({ panel }) => panel.panels.forEach(({ element }, core) => element.classList.toggle('chosen', core === drive.core)));
+}
+
+const SCROLLBAR = 17; // pixels, at most
+
+function makePicture() {
+  const room = byId('frame').parentElement.clientWidth - SCROLLBAR;
+  const picture = drive.picture = Object.assign(new GrowingPicture(firstHistory(), room), { room });
+  shown.layout = picture.layout;
+  byId('frame').replaceChildren(picture.element);
+  byId('names').replaceChildren(drawNames(firstHistory(), picture.layout));
+}
+
+function showPicture() {
+  if (drive.picture === null || drive.picture.isTooNarrow()) makePicture();
+  drive.picture.show(drive.count);
+  scrollPicture();
+}
+
+/** Brings the last row into sight, and where the picture goes on to the side the lane of the core that acted. */
+function scrollPicture() {
+  const { rows, layout, room } = drive.picture, step = firstHistory().steps[drive.count - 1];
+  byId('frame').scrollTop = rows.length * ROW;
+  if (layout.width > room && step) byId('frame').scrollLeft = layout.left(coreOfChoice(step.choice)) - (room - layout.lane) / 2;
+}
+
+// The end.
+
+/** The run that the program reports of the choices made, once the test has ended; else null. */
+function runAtEnd(history) {
+  if (drive.count < history.steps.length || !history.hasEnded(drive.count)) return null;
+  const { status, text } = asked({ ...history.options, command: 'run', json: true }, driveInput());
+  return status === Tso.STATUS.good ? text.trim() : null;
+}
+
+/** Tells the condition; of a test that has ended also its truth, and what the run left. */
+function showEnd(history) {
+  const line = runAtEnd(history), run = line && readLine(line);
+  Object.assign(shown, { run, line: line ?? '' });
+  byId('verdict').textContent = run ? verdictSentence(run) : conditionSentence(history);
+  showPasses(history);
+  byId('at-end').hidden = run === null;
+  byId('comparison').hidden = run === null;
+  for (const button of document.querySelectorAll('[data-save=line]')) button.disabled = run === null;
+  if (run === null) return;
+  byId('left').replaceChildren(...finalTables(run));
+  if (byId('order-part').open) showOrder();
+  compareNow();
+}
+
+/** Lists what loads passed so far, where the list isn't that already. */
+function showPasses(history) {
+  const passed = history.order.slice(0, history.momentAfter(drive.count).rows).filter(entry => entry.passed.length > 0);
+  const key = passed.flatMap(passSentences).join(' ');
+  if (byId('passes').dataset.key === key) return;
+  byId('passes').dataset.key = key;
+  byId('passes').replaceChildren(...passItems({ order: passed }));
+}
+
+const conditionSentence = ({ proposition }) => (proposition === null ? 'Condition: the test has none.' :
+  `Condition: ${proposition}. Whether it is true is told when the test has ended.`);
+
+const showOrder = () => byId('order').replaceChildren(...(shown.run ? [orderTable(shown.run)] : []));
+
+/** Shows a run as a machine that is driven, `isAtStart` before its choices and else after them. Answers whether it can be. */
+function showDriven(options, input, isAtStart) {
+  const { history, tooMany } = bench.tracing ? historyOf(options, input) : {};
+  byId('no-steps').hidden = !tooMany;
+  if (!history) return false;
+  byId('name').textContent = `Test ${testName()}`;
+  byId('run').hidden = false;
+  putDriving(true);
+  beginDrive(history, { test: inputOf('sweep'), given: input }, isAtStart ? 0 : history.steps.length);
+  return true;
+}
+
+/** Puts the parts that belong to driving in the place of those that belong to a run that has ended, or back. */
+function putDriving(isDriving) {
+  if (byId('run').classList.toggle('driving', isDriving) === byId('legend').open) byId('legend').open = !isDriving;
+  for (const part of document.querySelectorAll('[data-for=drive]')) part.hidden = !isDriving;
+  for (const part of document.querySelectorAll('[data-for=run]')) part.hidden = isDriving;
+  if (!isDriving && drive.isOn) endDrive();
+}

@@ -1,0 +1,60 @@
+'use strict';
+
+// What a choice did, in words.
+
+const STALLS = {
+  Done: core => `P${core} has no further instruction.`,
+  Full: core => `P${core}'s store buffer is full: one of its stores has to drain first.`,
+  Fence: core => `P${core}'s fence waits until its store buffer is empty.`,
+  Lock: core => `P${core}'s locked instruction waits until its store buffer is empty.`,
+  Empty: core => `P${core}'s store buffer is empty: there is nothing to drain.`,
+  Bus: (core, { bus }) => (bus ? `P${bus.core} holds the bus: P${core} waits until it is let go.` : 'The bus is held.'),
+};
+
+const ACCESSES = {
+  hit: core => `A hit: P${core}'s cache had the line.`,
+  upgrade: core => `An upgrade: P${core}'s cache had the line, and may write it now.`,
+  miss: core => `A miss: the line came into P${core}'s cache.`,
+};
+
+const isDrain = choice => choice.endsWith('d');
+const coreOfChoice = choice => Number.parseInt(choice, 10);
+
+/** What was committed, in one sentence. */
+function committedSentence({ choice, entries, forwarded }) {
+  const [first, second] = entries.map(entryOf), core = coreOfChoice(choice), is = `${first.location}=${first.value}`;
+  switch (first.kind) {
+    case 'F': return `P${core}'s fence is done: memory has seen all its earlier stores.`;
+    case 'R': return `P${core} read ${is} ${forwarded ? 'from its own store buffer' : 'through its cache'}.`;
+    case 'LW': return `P${core}'s locked instruction wrote ${is}, and the bus is free again.`;
+    case 'LR': return `P${core}'s locked instruction read ${is}` +
+      (second ? ` and wrote ${second.location}=${second.value}, in one step.` : '. It keeps the bus until it has written.');
+    default: return isDrain(choice) ? `P${core}'s oldest store ${is} left its buffer: memory has seen it.` : `P${core} stored ${is}: memory has seen it.`;
+  }
+}
+
+/** What a step did, in sentences; `before` is the machine before it. */
+function stepSentences(step, before) {
+  const core = coreOfChoice(step.choice);
+  const said = {
+    buffered: () => `P${core}'s store ${step.entries[0].replace(/^\S+ W /, '')} waits in its store buffer.`,
+    committed: () => committedSentence(step),
+    moved: () => `P${core} set ${step.moved}.`,
+    asked: () => `P${core} asked for the bus, and holds it now.`,
+    stalled: () => `Stalled (${step.stall}), and nothing changed: ${STALLS[step.stall](core, before)}`,
+  };
+  const sentences = [said[step.outcome]()];
+  if (step.access) sentences.push(ACCESSES[step.access](core));
+  if (step.transaction) sentences.push(`${step.transaction} went on the bus.`);
+  if (step.flush) sentences.push(`${step.flush} sent its copy to memory.`);
+  if (step.write_back) sentences.push(`The line ${step.write_back} was written back to memory.`);
+  return sentences;
+}
+
+/** The lines whose state a step changed, as `P1.x S→I`, for the panels and for reading. */
+function stateChanges({ states }) {
+  return states.map(text => {
+    const [, core, line, before, after] = /^P(\d+)\.(\S+) (\S+)>(\S+)$/.exec(text);
+    return { core: Number(core), line, before, after };
+  });
+}

@@ -1,0 +1,169 @@
+'use strict';
+
+// The machine: its cores with their buffers and caches, its bus and its memory. What the last step changed stands out.
+
+const MOST_SLOTS = 8; // of a store buffer that are drawn while they are free
+const MOST_LINES = 8; // of a program that are in sight at a time
+const LINE = 20; // pixels: the height of a program's line, as the style has it
+
+/** An element that is drawn anew only where what it shows isn't what it showed. */
+class Part {
+  constructor(element, draw) {
+    Object.assign(this, { element, draw, key: null });
+  }
+
+  show(...shownNow) {
+    const key = JSON.stringify(shownNow);
+    if (key === this.key) return;
+    this.key = key;
+    this.element.replaceChildren(...this.draw(...shownNow));
+  }
+}
+
+const marked = (name, isChanged) => (isChanged ? { class: `${name} changed` } : { class: name });
+const hidden = text => html('span', { class: 'unshown' }, text);
+
+// Parts of a core.
+
+/** The registers; those that a step changed stand out. */
+function registerItems(now, before) {
+  return REGISTERS.map(name => html('li', marked(now[name] === 0 && before[name] === 0 ? 'word plain' : 'word', now[name] !== before[name]), `${name}=${now[name]}`));
+}
+
+/** The stores that wait, the oldest first; behind the last one that came in or left, and the room that is left. */
+function bufferItems(now, before, depth) {
+  const isNew = at => now.length > before.length && at === now.length - 1;
+  const stores = now.map((store, at) => html('li', marked('slot', isNew(at)), store));
+  const left = before.length > now.length ? [html('li', { class: 'slot left' }, hidden('left: '), before[0])] : [];
+  const room = Math.min(depth, MOST_SLOTS) - now.length - left.length;
+  const free = Array.from({ length: Math.max(0, room) }, () => html('li', { class: 'slot free', 'aria-hidden': 'true' }, '\u00a0'));
+  return [...left, ...stores, ...free];
+}
+
+function stateCell(state, change) {
+  const badge = html('span', { class: `state state-${state[0]}${state.length > 1 ? ' transient' : ''}` }, state);
+  return change ? html('td', { class: 'changed' }, `${change.before}→`, badge) : html('td', {}, badge);
+}
+
+/** The rows of a cache: each line of each set, then those that a step took away, and one that is awaited. */
+function cacheRows(sets, changes, awaited) {
+  const changeOf = line => changes.find(change => change.line === line);
+  const rowOf = (set, line, state, words, kind = '') => html('tr', { class: kind },
+    ...(sets.length > 1 ? [html('td', { class: 'faint' }, set === '' ? '' : `set ${set}`)] : []),
+    html('th', { scope: 'row' }, line), stateCell(state, changeOf(line)), html('td', {}, words.join(' ')));
+  const there = sets.flatMap((lines, set) => lines.map(({ line, state, words }) => rowOf(set, line, awaited?.line === line ? awaited.state : state, words)));
+  const has = name => sets.some(lines => lines.some(({ line }) => line === name));
+  const comes = awaited && !has(awaited.line) ? [rowOf('', awaited.line, awaited.state, ['…'])] : [];
+  const left = changes.filter(({ line, after }) => after === 'I' && !has(line)).map(({ line, after }) => rowOf('', line, after, [], 'gone'));
+  const rows = [...there, ...comes, ...left];
+  return rows.length > 0 ? rows : [html('tr', {}, html('td', { class: 'prose faint', colspan: sets.length > 1 ? 4 : 3 }, 'no lines'))];
+}
+
+/** What a core's two buttons would do. */
+function buttonTexts(program, { place, buffer }, bus, core) {
+  const goesOn = choice => (bus?.choice === choice ? ' (holds the bus)' : '');
+  return {
+    step: (program[place] ?? 'at its end') + goesOn(`${core}s`),
+    drain: (buffer[0] ?? 'empty') + goesOn(`${core}d`),
+  };
+}
+
+class CorePanel {
+  constructor(core, { programs, options }) {
+    this.core = core;
+    this.program = programs[core];
+    this.depth = options.depth;
+    this.makeParts();
+    this.element = html('section', { class: 'core', 'data-core': core, 'aria-label': `Core P${core}` },
+      html('h4', {}, `P${core}`), html('div', { class: 'core-buttons' }, this.step, this.drain),
+      html('h5', {}, 'Program'), this.list, html('h5', {}, 'Registers'), this.registers.element,
+      html('h5', {}, 'Store buffer'), this.depth === 0 ? html('p', { class: 'faint' }, 'none') : this.buffer.element,
+      html('h5', {}, 'Cache'), this.cache);
+  }
+
+  makeParts() {
+    const button = (way, name) => html('button', { type: 'button', 'data-choice': `${this.core}${name}` }, `${way} `, html('code', {}));
+    const list = (name, label, draw) => new Part(html('ul', { class: name, 'aria-label': label }), draw);
+    this.step = button('step', 's');
+    this.drain = button('drain', 'd');
+    this.list = html('ol', { class: 'program', start: 0 }, ...this.program.map((text, at) => html('li', { value: at }, html('code', {}, text))));
+    this.registers = list('registers', 'Registers', registerItems);
+    this.buffer = list('buffer', 'Store buffer, the oldest store first', bufferItems);
+    this.lines = new Part(html('tbody', {}), cacheRows);
+    this.cache = html('table', { class: 'cache', 'aria-label': 'Cache' }, this.lines.element);
+  }
+
+  /** Shows the core as it is after a step and what that step changed. */
+  show(now, before, { bus, changes, hasEnded, isLast }) {
+    const core = now.cores[this.core], old = before.cores[this.core];
+    this.registers.show(core.registers, old.registers);
+    this.buffer.show(core.buffer, old.buffer, this.depth);
+    const isAwaited = bus?.core === this.core && bus.state?.length > 1;
+    this.lines.show(core.lines, changes.filter(change => change.core === this.core), isAwaited ? { line: bus.line, state: bus.state } : null);
+    this.showButtons(core, bus, hasEnded);
+    this.showPlace(core.place, core.place !== old.place);
+    this.element.classList.toggle('acted', isLast);
+  }
+
+  showButtons(core, bus, hasEnded) {
+    const texts = buttonTexts(this.program, core, bus, this.core);
+    for (const way of ['step', 'drain']) {
+      this[way].lastChild.textContent = texts[way];
+      this[way].setAttribute('aria-label', `P${this.core}: ${way} ${texts[way]}`);
+      this[way].disabled = hasEnded;
+      this[way].classList.toggle('idle', way === 'step' ? core.place === this.program.length : core.buffer.length === 0);
+    }
+  }
+
+  showPlace(place, isChanged) {
+    if (place === this.place && isChanged === this.wasChanged) return;
+    this.list.children[this.place]?.removeAttribute('aria-current');
+    this.list.querySelector('.changed')?.classList.remove('changed');
+    this.list.children[place]?.setAttribute('aria-current', 'step');
+    if (isChanged) this.list.children[place - 1]?.classList.add('changed');
+    if (place !== this.place && this.program.length > MOST_LINES) this.list.scrollTop = (place - 3) * LINE;
+    Object.assign(this, { place, wasChanged: isChanged });
+  }
+}
+
+// The bus and memory.
+
+function busItems(kind, bus, step) {
+  const held = bus && `P${bus.core} holds the bus for ${bus.line}` + (bus.state?.length > 1 ? `, which it awaits (${bus.state})` : '');
+  const idle = kind === 'split' ? 'free' : 'free: each access has it for its own step';
+  const passed = [step?.transaction, step?.flush && `flush ${step.flush}`, step?.write_back && `write-back ${step.write_back}`].filter(Boolean);
+  return [html('span', { class: held ? 'holder' : '' }, held ?? idle), ...passed.map(text => html('span', { class: 'word changed' }, text))];
+}
+
+/** Each location's word in memory, and beside it the newest word where a cache has another. */
+function memoryItems(now, before) {
+  return Object.keys(now.memory).map(location => {
+    const isChanged = now.memory[location] !== before.memory[location] || now.seen[location] !== before.seen[location];
+    const isNewer = now.seen[location] !== now.memory[location];
+    return html('li', marked('word', isChanged), `${location}=${now.memory[location]}`, ...(isNewer ? [html('span', { class: 'newer' }, ` newest ${now.seen[location]}`)] : []));
+  });
+}
+
+/** A machine's panel. `show` shows it after so many steps of its history. */
+class MachinePanel {
+  constructor(history) {
+    this.history = history;
+    this.panels = history.programs.map((_, core) => new CorePanel(core, history));
+    this.said = html('p', { class: 'said' });
+    this.bus = new Part(html('p', { class: 'bus' }), busItems);
+    this.memory = new Part(html('ul', { class: 'memory', 'aria-label': 'Memory' }), memoryItems);
+    this.element = html('section', { class: 'machine', 'aria-label': `The machine: ${machineName(history.options)}` },
+      html('h3', {}, machineName(history.options)), this.said, html('div', { class: 'cores' }, ...this.panels.map(panel => panel.element)),
+      html('div', { class: 'below' }, html('h5', {}, 'Bus'), this.bus.element, html('h5', {}, 'Memory'), this.memory.element));
+  }
+
+  show(count) {
+    const { history } = this, last = count <= history.steps.length ? history.steps[count - 1] : undefined;
+    const now = history.machineAfter(count), before = last ? history.machineAfter(count - 1) : now;
+    const changes = last ? stateChanges(last) : [], hasEnded = history.hasEnded(count);
+    this.panels.forEach((panel, core) => panel.show(now, before, { bus: now.bus, changes, hasEnded, isLast: last !== undefined && coreOfChoice(last.choice) === core }));
+    this.bus.show(history.options.bus, now.bus, last && { transaction: last.transaction, flush: last.flush, write_back: last.write_back });
+    this.memory.show({ memory: now.memory, seen: now.seen }, { memory: before.memory, seen: before.seen });
+    this.said.textContent = count > history.steps.length ? 'Its test had ended before: this choice is left over.' : last ? stepSentences(last, before).join(' ') : '';
+  }
+}
