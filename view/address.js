@@ -51,5 +51,5 @@ function showAddress() {
   if (fragment === '') return;
   if (!TEST_ADDRESS.test(fragment)) openPicture(fragment);
   else if (bench.tso) openTest(fragment);
-  else byId('message').textContent = 'This is the address of a test, and there is no machine in this folder to run it.';
+  else byId('message').textContent = 'This is the address of a test, and there is no machine here to run it.';
 }

@@ -10,7 +10,12 @@ const bench = { tso: null, bytes: null, task: null, answer: null, tracing: null 
 
 const LONG = ['outcomes', 'sweep'];
 
-const bytesOf = text => Uint8Array.from(atob(text), letter => letter.charCodeAt(0));
+/** The bytes of a module that were packed by gzip and stand as a text in base64. */
+async function unpacked(text) {
+  const packed = Uint8Array.from(atob(text), letter => letter.charCodeAt(0));
+  const bytes = new Blob([packed]).stream().pipeThrough(new DecompressionStream('gzip'));
+  return new Uint8Array(await new Response(bytes).arrayBuffer());
+}
 
 /** The test's name, as its first line has it. */
 const testName = () => /^X86[ \t]+(.*)/.exec(byId('test').value)?.[1].trim() ?? 'test';
@@ -192,9 +197,9 @@ function tracingOf(tso) {
   return !tells('trace') ? null : tells('step') ? 'step' : 'trace';
 }
 
-/** Makes the machine of the module. */
+/** Makes the machine of the module. Throws where the browser can't open it. */
 async function makeBench() {
-  bench.bytes = bytesOf(MODULE.bytes);
+  bench.bytes = await unpacked(MODULE.packed);
   const tso = await Tso.of(bench.bytes);
   bench.tracing = tracingOf(tso);
   bench.tso = tso;

@@ -76,11 +76,17 @@ window.addEventListener('beforeprint', () => {
 window.addEventListener('afterprint', () => (shown.run || drive.isOn) && redraw());
 window.addEventListener('hashchange', showAddress);
 
+/** By which element the page says why it has no machine here; null where it has one. */
+function lackOf() {
+  if (MODULE === null) return 'no-machine';
+  return window.WebAssembly && window.DecompressionStream ? null : 'old-browser';
+}
+
 /** Fills the bench with the first test, shows what the address tells, and else the first test's run. */
 async function start() {
-  const hasMachine = MODULE !== null, isOfTest = TEST_ADDRESS.test(location.hash.slice(1));
+  const lack = lackOf(), hasMachine = lack === null, isOfTest = TEST_ADDRESS.test(location.hash.slice(1));
   byId('bench').hidden = !hasMachine;
-  byId('no-machine').hidden = hasMachine;
+  if (!hasMachine) byId(lack).hidden = false;
   byId('input').open = !hasMachine || (location.hash.length > 1 && !isOfTest);
   if (hasMachine) {
     putInput(EXAMPLES[FIRST_TEXT]);
@@ -90,7 +96,13 @@ async function start() {
   }
   if (!hasMachine || !isOfTest) showAddress();
   if (!hasMachine) return;
-  await makeBench();
+  try {
+    await makeBench();
+  } catch (fault) {
+    byId('bench').hidden = true;
+    byId('message').textContent = `This browser can't open the machine (${fault.message}), so this page draws runs that were made elsewhere.`;
+    return;
+  }
   if (isOfTest) showAddress();
   else if (!shown.run && byId('message').textContent === '' && byId('line').value === '') answerNow(true);
 }

@@ -1,12 +1,13 @@
-"""Rows for the machine that the page drives: what it shows after each choice, against the trace that the module, or what stands in for
-it, tells of the same choices. The lists of what must be shown are made here without the page's code."""
+"""Rows for the machine that the page drives: what it shows after each choice, against the trace that the program tells of the same
+choices as JSON; where it tells none, against the module's, or that of what stands in for it. The lists of what must be shown are made
+here without the page's code."""
 import json
 import os
 import re
 import statistics
 
 import runs
-from machine import CONTRAST, DIVIDING_LINE, EXAMPLES, FIRST, OVERHANGING, Bench, differs, read, safety, spent_by
+from machine import BAD_LINE, CONTRAST, DIVIDING_LINE, EXAMPLES, FIRST, OVERHANGING, Bench, differs, read, safety, spent_by
 
 CLICK_MEDIAN, CLICK_WORST = 16, 50  # milliseconds
 STORES_AND_LOADS = "X86 SB\n{ }\n P0          | P1          ;\n MOV [x],$1  | MOV [y],$1  ;\n MOV EAX,[y] | MOV EAX,[x] ;\nexists (0:EAX=0 /\\ 1:EAX=0)\n"
@@ -71,8 +72,12 @@ class Driver(Bench):
         self.value("goTo(0)")
 
     def trace(self, machine=0, words="drive.words"):
-        """What the module tells of the choices that are known."""
-        return json.loads(self.value("bench.tso.answer({ ...drive.machines[%d].history.options, command: 'trace', json: true }, inputOfWords(%s)).text" % (machine, words)))
+        """The trace of the choices that are known."""
+        options, input, own = self.value("(options => [options, inputOfWords(%s), bench.tso.answer({ ...options, command: 'trace', json: true }, inputOfWords(%s)).text])"
+                                         "(drive.machines[%d].history.options)" % (words, words, machine))
+        said = [word for name, value in options.items() if name != "command" for word in ("--" + name, str(value))]
+        status, told, _ = self.program(input, "trace", "--json", *said)
+        return json.loads(own if status == BAD_LINE else told)
 
     def key_choice(self, word):
         for letter in word:

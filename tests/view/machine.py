@@ -88,7 +88,7 @@ class Bench:
         options = {"command": words[0]}
         if words[0] == "outcomes":
             options["depth"] = 32
-        rest = words[1:]
+        rest = list(words[1:])
         while rest:
             name, _, joined = rest.pop(0)[2:].partition("=")
             value = True if name == "json" else joined or rest.pop(0)
@@ -138,6 +138,42 @@ def answers_row(bench):
         for words in commands:
             faults += differs("%s of %s" % (words, name), bench.answer(text, words.split()), bench.program(text, *words.split()))
     return faults + safety(bench)
+
+
+def trace_words():
+    """Words of a trace on several machines."""
+    for machine in ("", "--bus split --protocol mosi", "--protocol moesi --depth 1 --words 2 --ways 1", "--protocol mesi --depth 0 --sets 2"):
+        yield machine.split()
+
+
+def traces_row(bench):
+    """Every example and every test of the gallery: its trace as text and as JSON, and the last step alone is the last of that trace."""
+    bench.open()
+    faults = []
+    for name, text in texts():
+        for words in trace_words() if name.endswith(".litmus") else ():
+            plain, told = bench.program(text, "trace", *words), bench.program(text, "trace", "--json", *words)
+            if plain[0] != BAD_LINE:
+                faults += differs("the trace of %s %s" % (name, words), bench.answer(text, ["trace", *words]), plain)
+            if told[0] != BAD_LINE:
+                faults += differs("the trace as JSON of %s %s" % (name, words), bench.answer(text, ["trace", "--json", *words]), told)
+                faults += differs("the step of %s %s" % (name, words), last_step(bench, text, words), wanted_step(told))
+    return faults + safety(bench)
+
+
+def last_step(bench, text, words):
+    """The status, what is told and the hint of the last step alone; None of a module that doesn't tell it."""
+    status, said, hint = bench.answer(text, ["step", "--json", *words])
+    return None if status == BAD_LINE else (status, json.loads(said) if said.startswith("{") else said, hint)
+
+
+def wanted_step(told):
+    """The same, of the whole trace."""
+    status, said, hint = told
+    if not said.startswith("{"):
+        return status, said, hint
+    trace = json.loads(said)["trace"]
+    return status, trace["steps"][-1] if trace["steps"] else {"start": trace["start"]}, hint
 
 
 def made_row(bench):
@@ -465,7 +501,7 @@ def spent_by(bench, acts):
 def speed_row(bench):
     """The first answer, and from a key to the answer that is shown, drawn picture and all."""
     bench.open()
-    first = bench.value("(async () => { const start = performance.now(); const tso = await Tso.of(bench.bytes);"
+    first = bench.value("(async () => { const start = performance.now(); const tso = await Tso.of(await unpacked(MODULE.packed));"
                         "tso.answer({}, inputOf('run')); return performance.now() - start; })()")
     bench.load("4.SB+stores-2.litmus")
     times = spent_by(bench, ["byId('choices').value += %r; answerNow()" % (" " if turn % 2 else "\n") for turn in range(60)])
@@ -476,8 +512,26 @@ def speed_row(bench):
     return faults + safety(bench)
 
 
+def old_browsers_row(bench):
+    """Where a browser can't open the module the page says so, and still draws runs that were made elsewhere."""
+    line = bench.program(read(EXAMPLES, FIRST), "run", "--json")[1].strip()
+    faults = []
+    for lacking, shown in (("delete window.DecompressionStream", "#old-browser"), ("delete window.WebAssembly", "#old-browser"),
+                           ("WebAssembly.compile = async () => { throw new Error('refused') }", "#message")):
+        added = bench.window.call("Page.addScriptToEvaluateOnNewDocument", source=lacking)["identifier"]
+        try:
+            bench.window.open(bench.page.address)
+            bench.wait("byId('bench').hidden")
+            faults += [] if "can't open the machine" in bench.value("document.querySelector('%s').innerText" % shown) else [lacking + ": it says nothing"]
+            bench.value("showText(%s)" % json.dumps(line))
+            faults += differs(lacking + ": drawn", bench.page.is_drawn(), True)
+        finally:
+            bench.window.call("Page.removeScriptToEvaluateOnNewDocument", identifier=added)
+    return faults + safety(bench)
+
+
 # Rows of the module alone, whatever the page shows.
-OF_THE_MODULE = ("answers of the module", "made inputs")
+OF_THE_MODULE = ("answers of the module", "traces of the module", "made inputs", "browsers that can't open it")
 
 
 def rows(page, folder):
@@ -485,6 +539,7 @@ def rows(page, folder):
     return [
         ("the first test", lambda: first_row(bench, folder)),
         ("answers of the module", lambda: answers_row(bench)),
+        ("traces of the module", lambda: traces_row(bench)),
         ("made inputs", lambda: made_row(bench)),
         ("what is refused", lambda: refused_row(bench, folder)),
         ("outcomes", lambda: outcomes_row(bench, folder)),
@@ -497,6 +552,7 @@ def rows(page, folder):
         ("files that are dropped", lambda: drops_row(bench)),
         ("what is saved", lambda: saves_row(bench)),
         ("a trap", lambda: trap_row(bench)),
+        ("browsers that can't open it", lambda: old_browsers_row(bench)),
         *[("the bench at %d pixels" % width, lambda width=width: widths_row(bench, folder, width)) for width in (360, 768, 1400)],
         ("the dark", lambda: dark_row(bench, folder)),
         ("names of controls", lambda: names_row(bench)),
