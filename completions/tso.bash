@@ -3,7 +3,7 @@
 _tso_options() {
   case $1 in
     run) echo --protocol --depth --sets --ways --words --bus --json --help ;;
-    trace) echo --protocol --depth --sets --ways --words --bus --help ;;
+    trace) echo --protocol --depth --sets --ways --words --bus --json --help ;;
     sweep) echo --protocol --depth --sets --ways --words --bus --from --seeds --length --help ;;
     outcomes) echo --depth --states --json --help ;;
     check) echo --help ;;

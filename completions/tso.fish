@@ -27,6 +27,7 @@ complete -c tso -f -n "__fish_seen_subcommand_from trace" -l sets -x
 complete -c tso -f -n "__fish_seen_subcommand_from trace" -l ways -x
 complete -c tso -f -n "__fish_seen_subcommand_from trace" -l words -x -a "1 2 4"
 complete -c tso -f -n "__fish_seen_subcommand_from trace" -l bus -x -a "atomic split"
+complete -c tso -f -n "__fish_seen_subcommand_from trace" -l json
 complete -c tso -f -n "__fish_seen_subcommand_from trace" -l help
 
 complete -c tso -f -n "__fish_seen_subcommand_from sweep" -l protocol -x -a "msi mesi moesi mosi"

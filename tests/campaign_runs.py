@@ -1,4 +1,4 @@
-"""tools/campaign on this machine, for tests/batteries."""
+"""tools/campaign on this machine, for tests/batteries.py."""
 import os
 import signal
 import subprocess

@@ -1,4 +1,4 @@
-"""tools/campaign on a cluster of Dask's, for tests/batteries and tests/cluster: four workers of this machine, one of which is ended and
+"""tools/campaign on a cluster of Dask's, for tests/batteries.py and tests/cluster.py: four workers of this machine, one of which is ended and
 one paused."""
 import os
 import signal
@@ -9,7 +9,7 @@ import time
 
 from tool_runs import TESTS, TOOLS, described, heed_interrupts, sorted_lines, stand_in, test_file, tool, write
 
-# So many cycles of six edges in the gate; tests/cluster takes another number.
+# So many cycles of six edges in the gate; tests/cluster.py takes another number.
 CYCLES, SEED = 120, 1
 
 # Seconds that a task may take here: a paused worker has its task for twice as long. Where a worker is ended by its task, others'

@@ -1,4 +1,4 @@
-"""Tests that are the same but for names, for tests/batteries: those of tools/cycles beside the gallery's."""
+"""Tests that are the same but for names, for tests/batteries.py: those of tools/cycles beside the gallery's."""
 import itertools
 
 import litmus

@@ -1,4 +1,4 @@
-"""tools/hardware, for tests/batteries: short runs of the gallery on this machine's processor, and a wrong table that must be noticed."""
+"""tools/hardware, for tests/batteries.py: short runs of the gallery on this machine's processor, and a wrong table that must be noticed."""
 import os
 import shutil
 import tempfile

@@ -1,4 +1,4 @@
-"""Texts of herd's and diy's forms for tests/batteries: those that tools/import reads, each with lines of what it becomes, and those that
+"""Texts of herd's and diy's forms for tests/batteries.py: those that tools/import reads, each with lines of what it becomes, and those that
 it refuses, each with the line at fault and words of the reason."""
 
 

@@ -1,11 +1,20 @@
-"""What the scripts that break a program's world share: the texts, running the program, and counting the answers."""
+"""What the scripts share: their command lines, the tests that the repository has, running a program, and judging and counting its answers."""
+import argparse
+import concurrent.futures
+import difflib
+import glob
 import os
 import re
-import shlex
-import shutil
 import subprocess
+import sys
 
 TESTS = os.path.dirname(os.path.abspath(__file__))
+TOP = os.path.dirname(TESTS)
+EXAMPLES = os.path.join(TOP, "examples")
+GALLERY = os.path.join(EXAMPLES, "gallery")
+
+PROTOCOLS = ("msi", "mesi", "moesi", "mosi")
+BUSES = ("atomic", "split")
 
 ENDED, REFUSED, BAD_LINE, UNFINISHED, INVALID, FAULT = 0, 1, 2, 3, 4, 5
 
@@ -40,28 +49,88 @@ NAMES_OF_TEST_FAULTS = ("NoHeader", "Unclosed", "BadToken", "BadInit", "BadHeade
 NAMES_OF_CHOICE_FAULTS = ("BadWord", "NoSuchCore", "TooMany")
 
 
+# ---- command lines
+
+def parser(document):
+    """A parser of a script's command line; its --help is the document, which says what the script holds."""
+    return argparse.ArgumentParser(description=document, formatter_class=argparse.RawDescriptionHelpFormatter)
+
+
+def with_program(document, with_part=True):
+    """A parser of a command line PROGRAM [PART-OF-NAME]; the program becomes a path from the root."""
+    words = parser(document)
+    words.add_argument("program", metavar="PROGRAM", type=os.path.abspath)
+    if with_part:
+        words.add_argument("part", metavar="PART-OF-NAME", nargs="?", default="")
+    return words
+
+
+def asked(document, with_part=True):
+    """The words PROGRAM [PART-OF-NAME] of a script's command line."""
+    return with_program(document, with_part).parse_args()
+
+
+def check_or_write(document, check, write):
+    """A script that holds something against a program, or writes it anew where --write is among its words. Answers its status."""
+    words = with_program(document)
+    words.add_argument("--write", action="store_true", help="write anew what is held against the program")
+    words = words.parse_args()
+    return (write if words.write else check)(words.program, words.part)
+
+
+def tell(document):
+    """For a script that reads its own words: where they ask for help, says what it holds, and ends it."""
+    if {"-h", "--help"} & set(sys.argv[1:]):
+        print(document.strip())
+        sys.exit(0)
+
+
+# ---- the tests and texts that the repository has
+
+def content(*path):
+    """The text of a file, its path given in parts."""
+    with open(os.path.join(*path), encoding="utf-8") as file:
+        return file.read()
+
+
+def tests_in(folder):
+    """The name of each litmus file in this folder, its test, and what stands after the dividing line."""
+    for name in sorted(name for name in os.listdir(folder) if name.endswith(".litmus")):
+        with open(os.path.join(folder, name), "rb") as file:
+            test, _, rest = file.read().partition(DIVIDER)
+        yield name, test, rest
+
+
+def all_inputs():
+    """The path of each litmus file of examples/ from the top, and the whole input."""
+    for path in sorted(glob.glob(os.path.join(EXAMPLES, "**", "*.litmus"), recursive=True)):
+        with open(path, "rb") as file:
+            yield os.path.relpath(path, TOP), file.read()
+
+
+# ---- judging
+
 class Tally:
     """Counts what was judged, and says what wasn't as it must be, of each group the first few alone."""
 
-    SHOWN = 5
-
-    def __init__(self):
+    def __init__(self, shown=5):
         self.passed = self.failed = 0
+        self.shown = shown
 
     def add(self, group, judged):
         """Takes pairs of a name and its faults, none where it is as it must be. Answers how many pairs there were."""
-        shown = before = self.passed + self.failed
+        before = self.passed + self.failed
         failed = 0
         for name, faults in judged:
             if not faults:
                 self.passed += 1
                 continue
             failed += 1
-            if failed <= self.SHOWN:
+            if failed <= self.shown:
                 print("%s: %s" % (group, name))
                 print("\n".join("    " + fault for fault in faults), flush=True)
-        if failed > self.SHOWN:
-            print("%s: %d more" % (group, failed - self.SHOWN), flush=True)
+        if failed > self.shown:
+            print("%s: %d more" % (group, failed - self.shown), flush=True)
         self.failed += failed
         return self.passed + self.failed - before
 
@@ -70,6 +139,35 @@ class Tally:
         print("%d passed, %d failed" % (self.passed, self.failed))
         return 1 if self.failed or not self.passed else 0
 
+
+def faults_told(judge):
+    """The faults that this function answers; where it fails itself, that."""
+    try:
+        return judge()
+    except Exception as fault:
+        return ["%s: %s" % (type(fault).__name__, fault)]
+
+
+def in_threads(function, items, workers=None):
+    """The function's answers for these items, in their order."""
+    with concurrent.futures.ThreadPoolExecutor(workers or os.cpu_count()) as pool:
+        return list(pool.map(function, items))
+
+
+def judged(rows, part=""):
+    """Judges rows, pairs of a name and a function of its faults: those whose name has this part."""
+    return in_threads(lambda row: (row[0], faults_told(row[1])), [row for row in rows if part in row[0]])
+
+
+def judge_rows(document, group, rows):
+    """A script whose command line is PROGRAM [PART-OF-NAME] and which judges rows; `rows` answers those of a program."""
+    words = asked(document)
+    tally = Tally(shown=100)
+    tally.add(group, judged(rows(words.program), words.part))
+    return tally.end()
+
+
+# ---- running a program
 
 def started(words, given, **how):
     """The answer of these words, with pipes where nothing else is said; where none comes in time, its status says so."""
@@ -100,6 +198,13 @@ def is_told(status, output, errors):
     return HINT.fullmatch(errors) is not None if has_hint else errors == b""
 
 
+def lines_that_differ(wanted, got):
+    """How a text differs from the wanted one, line by line."""
+    wanted, got = (text.decode("utf-8", "replace").split("\n") for text in (wanted, got))
+    lines = difflib.unified_diff(wanted, got, "wanted", "got", lineterm="", n=1)
+    return [repr(line)[1:-1][:200] for line in lines][:20]
+
+
 def difference(done, status, output, errors=None):
     """How an answer differs from what it must be; without `errors`, standard error must be as such an answer has it."""
     faults = []
@@ -112,18 +217,3 @@ def difference(done, status, output, errors=None):
     if errors is not None and done.stderr != errors:
         faults.append("standard error %s, and not %s" % (shown(done.stderr), shown(errors)))
     return faults
-
-
-def failing_calls(room):
-    """Builds the library that makes calls fail, in this folder; None, with a word, where it can't be built."""
-    compiler = shlex.split(os.environ.get("CC") or "cc")
-    if shutil.which(compiler[0]) is None:
-        print("no C compiler is there, so no call of the C library can be made to fail")
-        return None
-    made = os.path.join(room, "failing_calls.so")
-    words = compiler + ["-O1", "-shared", "-fPIC", "-o", made, os.path.join(TESTS, "failing_calls.c"), "-ldl"]
-    done = subprocess.run(words, stdout=subprocess.PIPE, stderr=subprocess.STDOUT, text=True)
-    if done.returncode != 0:
-        print("the library that makes calls fail can't be built:\n" + done.stdout)
-        return None
-    return made

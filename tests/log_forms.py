@@ -1,4 +1,4 @@
-"""Logs for tests/batteries, written from the documented forms of herd7's and litmus7's, and what tools/compare says of two of them."""
+"""Logs for tests/batteries.py, written from the documented forms of herd7's and litmus7's, and what tools/compare says of two of them."""
 
 HERD = """Test SB Allowed
 States 4

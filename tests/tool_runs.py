@@ -1,4 +1,4 @@
-"""What the parts of tests/batteries share: calling tools/, and the gallery."""
+"""What the parts of tests/batteries.py share: calling tools/, and the gallery."""
 import importlib.machinery
 import importlib.util
 import os
@@ -6,27 +6,18 @@ import signal
 import subprocess
 import sys
 
-TESTS = os.path.dirname(os.path.abspath(__file__))
-TOP = os.path.dirname(TESTS)
+import judging
+from judging import GALLERY, TESTS, TOP
+
 TOOLS = os.path.join(TOP, "tools")
-GALLERY = os.path.join(TOP, "examples", "gallery")
 sys.path.insert(0, TOOLS)
 
 
-class Tally:
-    def __init__(self):
-        self.passed = self.failed = 0
+class Tally(judging.Tally):
+    """Counts what was judged one by one."""
 
     def add(self, name, fault=None):
-        self.passed += not fault
-        self.failed += bool(fault)
-        if fault:
-            print("%s: %s" % (name, fault), flush=True)
-
-    def end(self):
-        """Prints the last line, and answers the script's own status."""
-        print("%d passed, %d failed" % (self.passed, self.failed))
-        return 1 if self.failed or not self.passed else 0
+        super().add("batteries", [(name, [fault] if fault else [])])
 
 
 def script(name):

@@ -12,7 +12,8 @@ const LONG = ['outcomes', 'sweep'];
 
 /** The bytes of a module that were packed by gzip and stand as a text in base64. */
 async function unpacked(text) {
-  const packed = Uint8Array.from(atob(text), letter => letter.charCodeAt(0));
+  const letters = atob(text), packed = new Uint8Array(letters.length);
+  for (let at = 0; at < letters.length; at++) packed[at] = letters.charCodeAt(at);
   const bytes = new Blob([packed]).stream().pipeThrough(new DecompressionStream('gzip'));
   return new Uint8Array(await new Response(bytes).arrayBuffer());
 }
@@ -36,7 +37,7 @@ function answerNow(isAtStart = false) {
   stopTask();
   const command = currentCommand(), { wrong, options } = readSettings(command);
   drawShare();
-  byId('words-line').textContent = commandWords(command);
+  byId('words-line').replaceChildren(...commandWords(command).split(' ').flatMap(word => [html('span', { class: 'unbroken' }, word), ' ']));
   byId('begin').disabled = wrong !== undefined;
   if (wrong) showSaid({ text: '', hint: '' }, wrong);
   else if (LONG.includes(command)) showRefusalAlone();

@@ -8,9 +8,10 @@ const FEW_CORES = 4; // so many have room beside the picture
 /**
  * The choices that are known (`words`), of which the first `count` are made; the input's test, and the whole input where it spells
  * these choices in words of its own (`given`); the machines with their histories
- * and panels; the picture of the first machine; the core that keys act on; and the timers of playing and of the address.
+ * and panels; the panels that were shown last; the picture of the first machine; the core that keys act on; and the timers of playing
+ * and of the address.
  */
-const drive = { isOn: false, words: [], count: 0, test: '', given: null, machines: [], picture: null, core: 0, timer: null, sharing: null, beside: null };
+const drive = { isOn: false, words: [], count: 0, test: '', given: null, machines: [], panels: [], picture: null, core: 0, timer: null, sharing: null, beside: null };
 
 const firstHistory = () => drive.machines[0].history;
 
@@ -26,13 +27,26 @@ function beginDrive(history, { test, given }, count) {
   stopPlaying();
   const words = history.steps.map(step => step.choice), core = Math.min(drive.core, history.cores - 1);
   Object.assign(drive, { isOn: true, test, given, words, core, count: Math.min(count, words.length) });
-  drive.machines = [history, ...historyBeside()].map(each => ({ history: each, panel: new MachinePanel(each) }));
-  byId('machines').replaceChildren(...drive.machines.map(({ panel }) => panel.element));
+  drive.machines = [history, ...historyBeside()].map((each, at) => ({ history: each, panel: panelOf(each, drive.panels[at]) }));
+  putPanels(drive.machines.map(({ panel }) => panel));
   byId('machines').classList.toggle('two', drive.machines.length > 1);
   byId('machines').classList.toggle('many', history.cores > FEW_CORES);
   drive.picture = null;
   drawBesideChoices(history.options);
   showDrive();
+}
+
+/** The panel of a history: the one that was shown last, where it is of the same programs and machine. */
+function panelOf(history, last) {
+  if (!last?.isOf(history)) return new MachinePanel(history);
+  last.history = history;
+  return last;
+}
+
+function putPanels(panels) {
+  if (panels.length === drive.panels.length && panels.every((panel, at) => panel === drive.panels[at])) return;
+  drive.panels = panels;
+  byId('machines').replaceChildren(...panels.map(panel => panel.element));
 }
 
 function endDrive() {
@@ -175,8 +189,11 @@ function historyBeside() {
 }
 
 function drawBesideChoices(options) {
-  const field = byId('beside-it'), others = otherMachines(options).slice(1), wanted = JSON.stringify(drive.beside);
-  field.replaceChildren(html('option', { value: 'null' }, 'no other'), ...others.map(other => html('option', { value: JSON.stringify(other) }, machineName(other))));
+  const field = byId('beside-it'), others = otherMachines(options).slice(1), wanted = JSON.stringify(drive.beside), key = JSON.stringify(options);
+  if (field.dataset.key !== key) {
+    field.dataset.key = key;
+    field.replaceChildren(html('option', { value: 'null' }, 'no other'), ...others.map(other => html('option', { value: JSON.stringify(other) }, machineName(other))));
+  }
   field.value = others.some(other => JSON.stringify(other) === wanted) ? wanted : 'null';
 }
 

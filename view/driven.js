@@ -14,6 +14,15 @@ function showDrive() {
   byId('count').textContent = `${count} ${count === 1 ? 'choice' : 'choices'} made`;
   showMoves();
   showEnd(history);
+  keepInSight();
+}
+
+/** Scrolls to what the last choice changed. For that the browser has to lay the page out, so it comes after all changes. */
+function keepInSight() {
+  scrollPicture();
+  for (const { panel } of drive.machines) panel.keepInSight();
+  const top = `${byId('stepper').offsetHeight}px`; // the lanes' names stand still below it
+  if (byId('names').style.top !== top) byId('names').style.top = top;
 }
 
 const startSentence = () => 'The machine at its start. Choose what a core does: step or drain.';
@@ -42,7 +51,6 @@ function makePicture() {
 function showPicture() {
   if (drive.picture === null || drive.picture.isTooNarrow()) makePicture();
   drive.picture.show(drive.count);
-  scrollPicture();
 }
 
 /** Brings the last row into sight, and where the picture goes on to the side the lane of the core that acted. */
@@ -65,7 +73,7 @@ function runAtEnd(history) {
 function showEnd(history) {
   const line = runAtEnd(history), run = line && readLine(line);
   Object.assign(shown, { run, line: line ?? '' });
-  byId('verdict').textContent = run ? verdictSentence(run) : conditionSentence(history);
+  byId('verdict').textContent = run ? verdictSentence(run, history.proposition) : conditionSentence(history);
   showPasses(history);
   byId('at-end').hidden = run === null;
   byId('comparison').hidden = run === null;
@@ -79,10 +87,10 @@ function showEnd(history) {
 /** Lists what loads passed so far, where the list isn't that already. */
 function showPasses(history) {
   const passed = history.order.slice(0, history.momentAfter(drive.count).rows).filter(entry => entry.passed.length > 0);
-  const key = passed.flatMap(passSentences).join(' ');
+  const hasEnded = history.hasEnded(drive.count), key = `${hasEnded} ${passed.flatMap(passSentences).join(' ')}`;
   if (byId('passes').dataset.key === key) return;
   byId('passes').dataset.key = key;
-  byId('passes').replaceChildren(...passItems({ order: passed }));
+  byId('passes').replaceChildren(...(hasEnded ? passItems({ order: passed }) : passItems({ order: passed }, 'None so far.')));
 }
 
 const conditionSentence = ({ proposition }) => (proposition === null ? 'Condition: the test has none.' :

@@ -34,10 +34,13 @@ function putInput(text) {
 
 // A field that marks a line has a column of numbers and, under its text, a band for the line that is marked.
 
-/** Draws the numbers of a field's lines, and marks this one; null marks none. */
+/** Draws the numbers of a field's lines, and marks this one; null marks none. Where they are drawn so already it does nothing, since to
+ * place them the browser has to lay the page out. */
 function drawLines(id, marked) {
   const field = byId(id), [gutter, band] = [byId(id + '-lines'), byId(id + '-band')];
-  const count = field.value.split('\n').length;
+  const count = field.value.split('\n').length, key = `${count} ${marked}`;
+  if (gutter.dataset.key === key) return;
+  gutter.dataset.key = key;
   gutter.replaceChildren(...Array.from({ length: count }, (_, at) =>
     html('span', at + 1 === marked ? { class: 'refused' } : {}, `${at + 1 === marked ? '▶' : ''}${at + 1}\n`)));
   band.hidden = marked === null || marked > count;

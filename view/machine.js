@@ -115,14 +115,20 @@ class CorePanel {
     }
   }
 
+  /** Marks the next instruction. `keepInSight` scrolls to it: it has the browser lay the page out, so it comes after all that changes. */
   showPlace(place, isChanged) {
     if (place === this.place && isChanged === this.wasChanged) return;
     this.list.children[this.place]?.removeAttribute('aria-current');
     this.list.querySelector('.changed')?.classList.remove('changed');
     this.list.children[place]?.setAttribute('aria-current', 'step');
     if (isChanged) this.list.children[place - 1]?.classList.add('changed');
-    if (place !== this.place && this.program.length > MOST_LINES) this.list.scrollTop = (place - 3) * LINE;
-    Object.assign(this, { place, wasChanged: isChanged });
+    const isOutOfSight = this.isOutOfSight || place !== this.place;
+    Object.assign(this, { place, wasChanged: isChanged, isOutOfSight });
+  }
+
+  keepInSight() {
+    if (this.isOutOfSight && this.program.length > MOST_LINES) this.list.scrollTop = (this.place - 3) * LINE;
+    this.isOutOfSight = false;
   }
 }
 
@@ -157,6 +163,11 @@ class MachinePanel {
       html('div', { class: 'below' }, html('h5', {}, 'Bus'), this.bus.element, html('h5', {}, 'Memory'), this.memory.element));
   }
 
+  /** Whether this is the panel of such programs on such a machine. */
+  isOf({ programs, options }) {
+    return JSON.stringify([programs, options]) === JSON.stringify([this.history.programs, this.history.options]);
+  }
+
   show(count) {
     const { history } = this, last = count <= history.steps.length ? history.steps[count - 1] : undefined;
     const now = history.machineAfter(count), before = last ? history.machineAfter(count - 1) : now;
@@ -165,5 +176,9 @@ class MachinePanel {
     this.bus.show(history.options.bus, now.bus, last && { transaction: last.transaction, flush: last.flush, write_back: last.write_back });
     this.memory.show({ memory: now.memory, seen: now.seen }, { memory: before.memory, seen: before.seen });
     this.said.textContent = count > history.steps.length ? 'Its test had ended before: this choice is left over.' : last ? stepSentences(last, before).join(' ') : '';
+  }
+
+  keepInSight() {
+    this.panels.forEach(panel => panel.keepInSight());
   }
 }

@@ -85,7 +85,8 @@ function drawWait(run, layout, store) {
   const { top, pitch } = layout;
   const x = layout.trackOf(store), wide = Math.min(7, pitch * 0.7), head = pitch === TRACK.most ? 13 : 2;
   const bar = (kind, from, to) => svg('rect', { class: kind, x: x - wide / 2, y: from, width: wide, height: to - from });
-  const way = `M${x} ${top(store.index)}V${layout.middle(store)}H${layout.boxOf(store).x}`;
+  const leaves = top(store.index) + (earliest < store.index ? 0 : head); // where there is no bar it begins under the number
+  const way = `M${x} ${leaves}V${layout.middle(store)}H${layout.boxOf(store).x}`;
   const parts = [svg('title', {}, sentenceOf(run, store)), svg('path', { class: 'leaving', d: way })];
   if (earliest < latest) parts.push(bar('possible', top(earliest) + head, top(latest)));
   if (latest < store.index) parts.push(bar('certain', top(latest) + (earliest < latest ? 0 : head), top(store.index)));

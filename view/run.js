@@ -40,7 +40,8 @@ function markStep(layout, entry) {
 function redraw() {
   if (drive.isOn) {
     makePicture();
-    return showPicture();
+    showPicture();
+    return keepInSight();
   }
   shown.layout = layoutOf(shown.run, byId('run').clientWidth);
   byId('frame').replaceChildren(drawPicture(shown.run, shown.layout));

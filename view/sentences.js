@@ -53,14 +53,15 @@ function machineSentence({ machine, choices }) {
     `Choices: ${choices.get('used')} used, ${choices.get('stalled')} of them stalled, ${choices.get('unused')} left over.`;
 }
 
-function verdictSentence({ condition }) {
+/** What a run tells of its condition; `proposition` is its text, where it is known. */
+function verdictSentence({ condition }, proposition = null) {
   if (condition === null) return 'Condition: the test has none.';
   const { kind, holds } = condition;
   const outcome = kind === 'exists' ? 'the outcome that is asked for' : 'the outcome that should not exist';
   const shows = `This run ${holds ? 'shows' : 'doesn\'t show'} ${outcome}.`;
   const ends = `This run ${holds ? 'ended' : 'didn\'t end'} as all should.`;
   const here = `What it says of a final state is ${holds} here.`;
-  return `Condition: ${kind}. ${here} ${kind === 'forall' ? ends : shows} It tells nothing of other runs.`;
+  return `Condition: ${kind}${proposition === null ? '' : ` (${proposition})`}. ${here} ${kind === 'forall' ? ends : shows} It tells nothing of other runs.`;
 }
 
 function unfinishedSentence(numbers) {

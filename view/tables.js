@@ -28,8 +28,8 @@ function orderTable(run) {
     html('td', { class: 'prose' }, sentenceOf(run, entry)))));
 }
 
-function passItems({ order }) {
+function passItems({ order }, none = 'None: each load comes after all earlier stores of its program.') {
   const sentences = order.filter(isRead).flatMap(passSentences);
-  if (sentences.length === 0) sentences.push('None: each load comes after all earlier stores of its program.');
+  if (sentences.length === 0) sentences.push(none);
   return sentences.map(sentence => html('li', {}, sentence));
 }

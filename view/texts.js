@@ -22,7 +22,7 @@ const SHOWS = {
   "full-buffer.litmus": "with `--depth 1`: the second store stalls until the first has drained",
   "locked-waits.litmus": "a locked exchange stalls until the buffer is empty",
   "both-loads-pass.order": "the report of the first example: a TSO execution",
-  "load-too-new.order": "a load of 1 where no store has reached it: the first breach is named, with the value that is due",
+  "load-too-new.order": "a load of 1 where no store has reached it: the first breach is named (C5, the axiom of the read value), with the value that is due",
 };
 
 const GALLERY = {

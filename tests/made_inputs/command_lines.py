@@ -103,11 +103,10 @@ def joined(draw, options):
 def run(draw, **fixed):
     """`run`, or `trace`, which reads the same."""
     options = machine_options(draw, **fixed)
-    if draw.random() < 0.4:
-        return ["trace"] + joined(draw, options)
+    command = "trace" if draw.random() < 0.4 else "run"
     if draw.random() < 0.3:
         options.append(["--json"])
-    return ["run"] + joined(draw, options)
+    return [command] + joined(draw, options)
 
 
 def sweep(draw, first, seeds, length, **fixed):

@@ -57,6 +57,16 @@ class Choices:
     def __init__(self, cores):
         self.cores, self.items, self.count = cores, [], 0
 
+    def word_of(self, place):
+        """The number of the word that begins the item of this choice, counted from 0."""
+        word = 1
+        for item in self.items:
+            size, words = (1, 1) if len(item) == 2 else (item[2], 3)
+            if place < size:
+                return word
+            place, word = place - size, word + words
+        raise IndexError(place)
+
     def __iter__(self):
         for item in self.items:
             if len(item) == 2:

@@ -19,7 +19,7 @@ SWEEP_OPTIONS = {"from": range(2**32), "seeds": range(1, 1001), "length": range(
 
 # The options of each command, and their values; `json` has none.
 OPTIONS = {
-    "run": dict(MACHINE_OPTIONS, json=None), "trace": MACHINE_OPTIONS, "sweep": dict(MACHINE_OPTIONS, **SWEEP_OPTIONS), "check": {},
+    "run": dict(MACHINE_OPTIONS, json=None), "trace": dict(MACHINE_OPTIONS, json=None), "sweep": dict(MACHINE_OPTIONS, **SWEEP_OPTIONS), "check": {},
     "witness": {"depth": range(1, 33)}, "tables": {"protocol": MACHINE_OPTIONS["protocol"]},
 }
 DEFAULTS = {"protocol": "msi", "depth": 4, "sets": 1, "ways": 2, "words": 1, "bus": machine.ATOMIC, "json": False,
@@ -150,7 +150,7 @@ def answer_to_input(command, settings, given):
         return test, ENDED if ended else UNFINISHED, output
     choices = read_choices(second, test.cores())
     if command == "trace":
-        return (test,) + traced(test, configuration, choices)
+        return (test,) + traced(test, configuration, choices, settings["json"])
     run = machine.run(test, configuration, choices)
     if run.machine is None:
         return test, UNFINISHED, printing.unfinished_json(run) if settings["json"] else printing.unfinished(run)
@@ -158,10 +158,17 @@ def answer_to_input(command, settings, given):
     return test, ENDED, printed(test, configuration, run, choices.count - run.used)
 
 
-def traced(test, configuration, choices):
-    """What `run` answers, with the trace after its first two lines."""
-    made = tracing.TracedMachine(test, configuration)
+def traced(test, configuration, choices, with_json):
+    """What `run` answers, with the trace after its first two lines; or its JSON with a few members more."""
+    made = tracing.TracedMachine(test, configuration, with_json)
     run = machine.run(test, configuration, choices, made)
+    if with_json:
+        if run.used > tracing.MOST_STEPS:
+            raise Refused("Refused choices word %d TooMany" % choices.word_of(tracing.MOST_STEPS))
+        more = tracing.members(test, made)
+        if run.machine is None:
+            return UNFINISHED, printing.unfinished_json(run, more)
+        return ENDED, printing.report_json(test, configuration, run, choices.count - run.used, more)
     head = printing.head(test, configuration) + made.text()
     if run.machine is None:
         return UNFINISHED, head + printing.unfinished(run)

@@ -55,18 +55,18 @@ def as_json(value):
     return json.dumps(value, sort_keys=True, separators=(",", ":")) + "\n"
 
 
-def unfinished_json(run):
-    return as_json({"unfinished": {"stalled": run.stalled, "used": run.used}})
+def unfinished_json(run, more={}):
+    return as_json(dict(more, unfinished={"stalled": run.stalled, "used": run.used}))
 
 
-def report_json(test, configuration, run, unused):
-    """The same content as `report` has."""
+def report_json(test, configuration, run, unused, more={}):
+    """The same content as `report` has, and further members."""
     registers, words = run.state()
     truth = machine.holds(test, (registers, words))
     shown = configuration._asdict()
     if configuration.bus != machine.SPLIT:
         del shown["bus"]
-    return as_json({
+    return as_json(dict(more, **{
         "test": test.name,
         "machine": shown,
         "order": [entry.text(test) for entry in run.machine.put_together()],
@@ -75,7 +75,7 @@ def report_json(test, configuration, run, unused):
         "condition": None if truth is None else {"kind": test.quantifier, "holds": truth},
         "choices": {"used": run.used, "stalled": run.stalled, "unused": unused},
         "cache": run.machine.caches.counts,
-    })
+    }))
 
 
 def sweep(test, configuration, first, seeds, length):

@@ -9,51 +9,64 @@ OUTCOMES = {COMMITTED: "committed", BUFFERED: "buffered", MOVED: "moved", ASKED:
 ACCESSES = {HIT: "hit", MISS: "miss", UPGRADE: "upgrade"}
 
 
-class TracedMachine(Machine):
-    """A machine that keeps a line for each choice that it makes."""
+# A trace as JSON has so many steps at most.
+MOST_STEPS = 1000
 
-    def __init__(self, test, configuration):
+
+class TracedMachine(Machine):
+    """A machine that keeps a line for each choice that it makes; and as JSON a step for each, where that is asked for."""
+
+    def __init__(self, test, configuration, with_steps=False):
         super().__init__(test, configuration)
-        self.lines = []
+        self.lines, self.steps = [], []
         size = configuration.words
         self.line_names = ["+".join(test.locations[at:at + size]) for at in range(0, len(test.locations), size)]
+        self.start = self.value() if with_steps else None
 
     def choose(self, number, action):
         core = self.cores[number]
         place, waiting, committed, states = core.place, len(core.pending), len(self.order), self.states()
         self.caches.noted, forwards = Noted(), self.caches.counts[number]["forwards"]
         took = super().choose(number, action)
-        words = [str(len(self.lines) + 1), "%d%s" % (number, action)]
-        if not took:
-            words += ["stalled", self.outcome]
-        else:
-            words.append(OUTCOMES[self.outcome])
-            words += [entry.text(self.test) for entry in self.order[committed:]]
-            words += self.words_of_core(number, core, place, waiting, action)
-            words += ["forwarded"] if self.caches.counts[number]["forwards"] > forwards else []
-            words += self.words_of_access() + self.words_of_changes(states)
-            words += [self.buffer(number)] if len(core.pending) != waiting else []
-        self.lines.append(" ".join(words))
+        noted = self.caches.noted
+        step = {
+            "choice": "%d%s" % (number, action),
+            "outcome": OUTCOMES[self.outcome] if took else "stalled",
+            "stall": None if took else self.outcome,
+            "entries": [entry.text(self.test) for entry in self.order[committed:]] + self.pending_since(number, waiting),
+            "moved": self.moved(core, place, action) if took else None,
+            "forwarded": self.caches.counts[number]["forwards"] > forwards,
+            "access": ACCESSES[noted.access] if noted.access else None,
+            "transaction": "%s %s" % (noted.request[0], self.line_names[noted.request[1]]) if noted.request else None,
+            "flush": "P%d" % noted.flushed if noted.flushed is not None else None,
+            "write_back": self.line_names[noted.written_back] if noted.written_back is not None else None,
+            "states": self.changes(states),
+        }
+        self.lines.append(self.line(step, number, len(core.pending) != waiting))
+        if self.start is not None and len(self.steps) < MOST_STEPS:
+            self.steps.append(dict(step, after=self.value()))
         return took
 
-    def words_of_core(self, number, core, place, waiting, action):
-        """The store that became pending, as the entry that it will be; the register that was set."""
-        if len(core.pending) > waiting:
-            store = core.pending[-1]
-            return [Entry(number, store.place, WRITE, store.location, store.value).text(self.test)]
-        if action == STEP and core.program[place].kind in litmus.MOVES:
-            register = core.program[place].register
-            return ["%s=%d" % (litmus.REGISTERS[register], core.registers[register])]
-        return []
+    def line(self, step, number, buffer_changed):
+        """The words of a step that apply, with single spaces."""
+        words = [str(len(self.lines) + 1), step["choice"], step["outcome"], step["stall"]] + step["entries"]
+        words += [step["moved"], "forwarded" if step["forwarded"] else None, step["access"], step["transaction"]]
+        words += ["flush " + step["flush"] if step["flush"] else None]
+        words += ["write-back " + step["write_back"] if step["write_back"] else None] + step["states"]
+        words += ["P%d[%s]" % (number, " ".join(self.buffer(number)))] if buffer_changed else []
+        return " ".join(word for word in words if word)
 
-    def words_of_access(self):
-        """The access; the request on the bus; the copy sent to memory; the dirty line that left."""
-        noted, words = self.caches.noted, []
-        words += [ACCESSES[noted.access]] if noted.access else []
-        words += ["%s %s" % (noted.request[0], self.line_names[noted.request[1]])] if noted.request else []
-        words += ["flush P%d" % noted.flushed] if noted.flushed is not None else []
-        words += ["write-back " + self.line_names[noted.written_back]] if noted.written_back is not None else []
-        return words
+    def pending_since(self, number, waiting):
+        """The store that became pending, as the entry that it will be."""
+        return [Entry(number, store.place, WRITE, store.location, store.value).text(self.test)
+                for store in self.cores[number].pending[waiting:]]
+
+    def moved(self, core, place, action):
+        """The register that a move set, and its value."""
+        if action != STEP or core.program[place].kind not in litmus.MOVES:
+            return None
+        register = core.program[place].register
+        return "%s=%d" % (litmus.REGISTERS[register], core.registers[register])
 
     def states(self):
         """Of each core, of each line, its state; I where there is no copy; of a line that the core awaits its transient."""
@@ -61,12 +74,21 @@ class TracedMachine(Machine):
         for of_lines, sets in zip(states, self.caches.sets):
             for copy in (copy for copies in sets for copy in copies):
                 of_lines[copy.line] = copy.state
-        if self.holder is not None and self.holder.awaited is not None and self.holder.awaited.kind != HIT:
-            awaited, line = self.holder.awaited, self.holder.location // self.caches.line_size
-            states[self.holder.core][line] = "SM_D" if awaited.kind == UPGRADE else "IM_D" if awaited.state == M else "IS_D"
+        if self.awaits():
+            states[self.holder.core][self.line_awaited()] = self.transient()
         return states
 
-    def words_of_changes(self, before):
+    def awaits(self):
+        return self.holder is not None and self.holder.awaited is not None and self.holder.awaited.kind != HIT
+
+    def line_awaited(self):
+        return self.holder.location // self.caches.line_size
+
+    def transient(self):
+        awaited = self.holder.awaited
+        return "SM_D" if awaited.kind == UPGRADE else "IM_D" if awaited.state == M else "IS_D"
+
+    def changes(self, before):
         words = []
         for core, (old, new) in enumerate(zip(before, self.states())):
             for name, was, is_now in zip(self.line_names, old, new):
@@ -76,8 +98,93 @@ class TracedMachine(Machine):
         return words
 
     def buffer(self, number):
-        stores = ["%s=%d" % (self.test.locations[store.location], store.value) for store in self.cores[number].pending]
-        return "P%d[%s]" % (number, " ".join(stores))
+        return ["%s=%d" % (self.test.locations[store.location], store.value) for store in self.cores[number].pending]
 
     def text(self):
         return "".join(line + "\n" for line in ["Trace"] + self.lines + ["Endtrace %d" % len(self.lines)])
+
+    # ---- the machine between two choices, as JSON
+
+    def words_of(self, line, words):
+        """The words of a line's locations, of which the last line may have fewer."""
+        return list(words[:len(self.line_names[line].split("+"))])
+
+    def words_meant(self):
+        """What each location holds for a program: dirty copies, and what the bus keeps for a write, are newer than memory."""
+        words = self.caches.final_words(len(self.test.words))
+        if self.awaits():
+            line, size = self.line_awaited(), self.caches.line_size
+            awaited = self.holder.awaited
+            kept = awaited.words if awaited.words is not None else self.caches.copy_at(self.holder.core, self.holder.location).words
+            words[line * size:(line + 1) * size] = self.words_of(line, kept)
+        return words
+
+    def value(self):
+        test, states = self.test, self.states()
+        memory = [word for line in self.caches.memory for word in line]
+        cores = []
+        for number, (core, sets) in enumerate(zip(self.cores, self.caches.sets)):
+            lines = [[{"line": self.line_names[copy.line], "state": states[number][copy.line], "words": self.words_of(copy.line, copy.words)}
+                      for copy in copies] for copies in sets]
+            registers = dict(zip(litmus.REGISTERS, core.registers))
+            cores.append({"buffer": self.buffer(number), "lines": lines, "place": core.place, "registers": registers})
+        return {"bus": self.bus_value(), "cores": cores, "memory": dict(zip(test.locations, memory)),
+                "seen": dict(zip(test.locations, self.words_meant()))}
+
+    def bus_value(self):
+        if self.holder is None:
+            return None
+        line, size = self.line_awaited(), self.caches.line_size
+        words = self.words_meant()[line * size:(line + 1) * size] if self.awaits() else []
+        return {"choice": "%d%s" % (self.holder.core, self.holder.action), "core": self.holder.core, "line": self.line_names[line],
+                "state": self.transient() if self.awaits() else None, "words": words}
+
+
+def programs(test):
+    """Each core's instructions, as a cell of a test has them."""
+    return [[instruction_text(test, done) for done in program] for program in test.programs]
+
+
+def instruction_text(test, done):
+    place = "" if done.location is None else "[%s]" % test.locations[done.location]
+    register = "" if done.register is None else litmus.REGISTERS[done.register]
+    if done.kind == litmus.STORE_NUMBER:
+        return "MOV %s,$%d" % (place, done.source)
+    if done.kind == litmus.STORE_REGISTER:
+        return "MOV %s,%s" % (place, litmus.REGISTERS[done.source])
+    if done.kind == litmus.LOAD:
+        return "MOV %s,%s" % (register, place)
+    if done.kind == litmus.SET_NUMBER:
+        return "MOV %s,$%d" % (register, done.source)
+    if done.kind == litmus.SET_REGISTER:
+        return "MOV %s,%s" % (register, litmus.REGISTERS[done.source])
+    return {litmus.FENCE: "MFENCE", litmus.EXCHANGE: "XCHG %s,%s", litmus.ADD: "LOCK XADD %s,%s"}[done.kind] % (
+        () if done.kind == litmus.FENCE else (place, register))
+
+
+def proposition_text(test, proposition):
+    """A proposition with as few brackets as may be."""
+    kind, *parts = proposition
+    if kind == "truth":
+        return "true" if parts[0] else "false"
+    if kind == "register":
+        return "%d:%s=%d" % (parts[0], litmus.REGISTERS[parts[1]], parts[2])
+    if kind == "location":
+        return "%s=%d" % (test.locations[parts[0]], parts[1])
+    if kind == "not":
+        return "~" + in_brackets(test, parts[0], ("and", "or"))
+    first, later = (("or",), ("and", "or")) if kind == "and" else ((), ("or",))
+    texts = [in_brackets(test, part, later if at else first) for at, part in enumerate(parts[0])]
+    return (" /\\ " if kind == "and" else " \\/ ").join(texts)
+
+
+def in_brackets(test, proposition, kinds):
+    """The text, in brackets where it is of one of these kinds."""
+    text = proposition_text(test, proposition)
+    return "(%s)" % text if proposition[0] in kinds else text
+
+
+def members(test, made):
+    """What a trace adds to the members of `run --json`."""
+    proposition = None if test.proposition is None else proposition_text(test, test.proposition)
+    return {"programs": programs(test), "proposition": proposition, "trace": {"start": made.start, "steps": made.steps}}

@@ -1,114 +1,23 @@
 """Rows for the page with its machine: what the page answers, and what a person does there, against the program."""
-import base64
 import glob
 import json
 import os
 import re
 import shlex
-import statistics
 import subprocess
 import sys
 import urllib.parse
 
-TESTS = os.path.dirname(os.path.dirname(os.path.abspath(__file__)))
+from bench import BAD_LINE, DIVIDING_LINE, EXAMPLES, FIRST, READY, TESTS, Bench, differs, read, safety
+from looks import dark_row, names_row, speed_row, widths_row
+
 sys.path.insert(0, TESTS)
 import made_inputs
 
-EXAMPLES = os.path.join(os.path.dirname(TESTS), "examples")
-DIVIDING_LINE = "====\n"
-FIRST = "store-buffering.litmus"
 MADE, SEED = 200, 4
-BAD_LINE = 2
-FIRST_ANSWER, TYPED_MEDIAN, TYPED_WORST = 100, 16, 50  # milliseconds
-
-READY = "new Promise(done => { const look = () => bench.tso ? done() : setTimeout(look, 5); look(); })"
 # A search that takes long: three cores, each with many plain stores and loads.
 LONG_SEARCH = "X86 long\n{ }\n P0 | P1 | P2 | P3 ;\n" + "".join(
     " MOV [a%d],$1 | MOV [b%d],$1 | MOV [c%d],$1 | MOV [d],$%d ;\n" % (at, at, at, at) for at in range(5)) + 3 * " MOV EAX,[d] | MOV EBX,[d] | MOV ECX,[d] | MOV EAX,[a0] ;\n"
-
-OVERHANGING = """(() => {
-  const edge = document.documentElement.clientWidth;
-  const over = [...document.querySelectorAll('body *')].filter(each => !each.closest('svg, .scrolls, .paper, figure, #texts')
-    && each.getBoundingClientRect().right > edge + 1);
-  const faults = over.map(each => each.tagName + '#' + each.id + ' hangs over the page');
-  if (document.documentElement.scrollWidth > edge) faults.push('the page is ' + document.documentElement.scrollWidth + ' wide');
-  return faults;
-})()"""
-
-
-def differs(what, got, wanted):
-    return [] if got == wanted else ["%s: %s, and not %s" % (what, repr(got)[:300], repr(wanted)[:300])]
-
-
-def read(*path):
-    with open(os.path.join(*path)) as file:
-        return file.read()
-
-
-class Bench:
-    """The bench of the page, and the program beside it."""
-
-    def __init__(self, page):
-        self.page, self.window = page, page.window
-
-    def open(self, fragment="", width=1400):
-        self.window.resize(width, mobile=width < 500)
-        self.window.open(self.page.address + ("#" + fragment if fragment else ""))
-        self.value(READY)
-        self.to_end()
-
-    def to_end(self):
-        """Makes all choices that are known, where the page drives the machine."""
-        self.value("drive.isOn && goTo(drive.words.length)")
-
-    def load(self, name):
-        self.value("loadText(%s)" % json.dumps(name))
-        self.to_end()
-
-    def value(self, expression):
-        return self.page.value(expression)
-
-    def text(self, selector):
-        return self.page.text(selector)
-
-    def fill(self, field, text):
-        """Puts a text into a field as one who types does."""
-        self.value("(field => { field.value = %s; field.dispatchEvent(new Event('input', { bubbles: true })); })(byId(%s))"
-                   % (json.dumps(text), json.dumps(field)))
-
-    def choose(self, command):
-        self.window.click("#commands input[value=%s]" % command)
-
-    def program(self, text, *words):
-        done = subprocess.run([self.page.program, *words], input=text if isinstance(text, bytes) else text.encode(), capture_output=True, timeout=300)
-        return done.returncode, done.stdout.decode(), done.stderr.decode()
-
-    def answer(self, text, words):
-        """The module's answer in the page to an input under the words of a command line."""
-        options = {"command": words[0]}
-        if words[0] == "outcomes":
-            options["depth"] = 32
-        rest = list(words[1:])
-        while rest:
-            name, _, joined = rest.pop(0)[2:].partition("=")
-            value = True if name == "json" else joined or rest.pop(0)
-            options[name] = int(value) if isinstance(value, str) and value.lstrip("+").isdigit() else value
-        given = text if isinstance(text, bytes) else text.encode()
-        found = self.value("(({ status, text, hint }) => [status, text, hint])(bench.tso.answer(%s, Uint8Array.from(atob('%s'), each => each.charCodeAt(0))))"
-                           % (json.dumps(options), base64.b64encode(given).decode()))
-        return tuple(found)
-
-    def wait(self, condition):
-        self.value("new Promise((done, failed) => { const end = Date.now() + 60000; const look = () => (%s) ? done() : Date.now() > end ? "
-                   "failed(new Error('it never came')) : setTimeout(look, 10); look(); })" % condition)
-
-
-def safety(bench):
-    faults = list(bench.window.faults)
-    bench.window.faults.clear()
-    outside = [address for address in bench.window.requests if not address.startswith((bench.page.folder, "about:", "blob:"))]
-    bench.window.requests.clear()
-    return faults + ["asks for " + address for address in outside]
 
 
 def first_row(bench, folder):
@@ -415,101 +324,6 @@ def trap_row(bench):
     bench.value("delete own.writeAsked; true")
     bench.fill("choices", "0s 1s 0s 1s 0d 1d")
     return faults + differs("drawn again", bench.page.is_drawn(), True) + safety(bench)
-
-
-def widths_row(bench, folder, width):
-    """Nothing of the bench hangs over, with a refusal, a report and a table of states."""
-    faults = []
-    for name in ("4.SB.litmus", "spinlock.order"):
-        bench.open(width=width)
-        bench.value("byId('library').open = true")
-        bench.load(name)
-        faults += bench.value(OVERHANGING)
-        bench.window.screenshot(os.path.join(folder, "bench-%s-%d.png" % (name, width)))
-    bench.load("4.SB.litmus")
-    bench.choose("outcomes")
-    bench.value("begin()")
-    bench.wait("document.querySelector('#states table')")
-    faults += bench.value(OVERHANGING)
-    return faults + safety(bench)
-
-
-def dark_row(bench, folder):
-    """In the dark all texts stand out from their ground."""
-    bench.window.call("Emulation.setEmulatedMedia", features=[{"name": "prefers-color-scheme", "value": "dark"}])
-    faults = []
-    try:
-        bench.open()
-        bench.wait("shown.run")
-        bench.fill("choices", "0s 0s 1s 0d 1s 1d")
-        bench.window.screenshot(os.path.join(folder, "dark.png"))
-        faults += bench.value("(%s)()" % CONTRAST)
-        faults += differs("the ground", bench.value("getComputedStyle(document.body).backgroundColor"), "rgb(22, 24, 27)")
-        bench.fill("choices", "0s 9s")
-        bench.window.screenshot(os.path.join(folder, "dark-refused.png"), whole=False)
-    finally:
-        bench.window.call("Emulation.setEmulatedMedia", features=[{"name": "prefers-color-scheme", "value": "light"}])
-    return faults + safety(bench)
-
-
-CONTRAST = """() => {
-  const parts = colour => colour.match(/[\\d.]+/g).map(Number);
-  const light = colour => { const [r, g, b] = parts(colour).slice(0, 3).map(each => each / 255).map(each => each <= .03928 ? each / 12.92 : ((each + .055) / 1.055) ** 2.4);
-    return .2126 * r + .7152 * g + .0722 * b; };
-  const ground = element => { for (let at = element; at; at = at.parentElement) { const colour = getComputedStyle(at).backgroundColor;
-    if (parts(colour)[3] !== 0 && colour !== 'rgba(0, 0, 0, 0)') return colour; } return 'rgb(255, 255, 255)'; };
-  const faults = [];
-  for (const each of document.querySelectorAll('p, label, legend, td, th, li, h1, h2, h3, pre, summary, code')) {
-    if (each.getClientRects().length === 0 || each.textContent.trim() === '') continue;
-    const [one, two] = [light(getComputedStyle(each).color), light(ground(each))].sort((a, b) => b - a);
-    if ((one + .05) / (two + .05) < 4.5) faults.push(each.tagName + '#' + each.id + ' has a contrast of ' + ((one + .05) / (two + .05)).toFixed(1));
-  }
-  return [...new Set(faults)];
-}"""
-
-
-def names_row(bench):
-    """Each control of the bench has a name for readers of screens, and is reached by keys alone."""
-    bench.open()
-    bench.wait("shown.run")
-    nodes = [node for node in bench.window.call("Accessibility.getFullAXTree")["nodes"] if not node["ignored"]]
-    roles = ("button", "textbox", "link", "combobox", "spinbutton", "radio", "searchbox", "image", "table", "figure", "group", "region")
-    unnamed = [node["role"]["value"] for node in nodes if node["role"]["value"] in roles and not node.get("name", {}).get("value")]
-    faults = differs("elements without a name", [role for role in unnamed if role != "group"], [])
-    reached = bench.value("[...document.querySelectorAll('button, textarea, input, select, summary, a[href]')].filter(each => each.tabIndex < 0).length")
-    return faults + differs("controls that no key reaches", reached, 0) + safety(bench)
-
-
-def spent(bench):
-    """What the page's thread has spent on scripts, style and layout, in milliseconds of processor time."""
-    metrics = {each["name"]: each["value"] for each in bench.window.call("Performance.getMetrics")["metrics"]}
-    return 1000 * sum(metrics[name] for name in ("ScriptDuration", "RecalcStyleDuration", "LayoutDuration"))
-
-
-def spent_by(bench, acts):
-    """What each of these acts costs up to the layout that follows, in milliseconds of processor time: other work on the machine doesn't count."""
-    bench.window.call("Performance.enable", timeDomain="threadTicks")
-    times = []
-    for act in acts:
-        before = spent(bench)
-        bench.value(act + "; document.body.offsetHeight")
-        times.append(spent(bench) - before)
-    bench.window.call("Performance.disable")
-    return times
-
-
-def speed_row(bench):
-    """The first answer, and from a key to the answer that is shown, drawn picture and all."""
-    bench.open()
-    first = bench.value("(async () => { const start = performance.now(); const tso = await Tso.of(await unpacked(MODULE.packed));"
-                        "tso.answer({}, inputOf('run')); return performance.now() - start; })()")
-    bench.load("4.SB+stores-2.litmus")
-    times = spent_by(bench, ["byId('choices').value += %r; answerNow()" % (" " if turn % 2 else "\n") for turn in range(60)])
-    median, worst = statistics.median(times), max(times)
-    print("the first answer after %.0f ms; from a key to the picture %.1f ms of processor time, %.1f at most" % (first, median, worst))
-    faults = [] if first <= FIRST_ANSWER else ["the first answer takes %.0f ms" % first]
-    faults += [] if median <= TYPED_MEDIAN and worst <= TYPED_WORST else ["an answer takes %.1f ms, %.1f at most" % (median, worst)]
-    return faults + safety(bench)
 
 
 def old_browsers_row(bench):

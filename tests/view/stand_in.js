@@ -37,7 +37,7 @@ function testOf(text) {
   for (const [name] of (condition?.[2] ?? '').replace(/\d+\s*:\s*\w+/g, '').matchAll(/[A-Za-z_]\w*/g)) if (!/^(true|false|not)$/.test(name)) place(name);
   return {
     name: head.replace(/^X86\s+/, '').trim(), locations: locations.filter(Boolean), words, registers, programs,
-    quantifier: condition?.[1].replace(/\s/g, ''), proposition: condition?.[2],
+    quantifier: condition?.[1].replace(/\s/g, ''), proposition: condition?.[2].replace(/^\(([^]*)\)$/, '$1'),
   };
 }
 

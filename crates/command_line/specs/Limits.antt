@@ -15,7 +15,7 @@ IsDepth depth = (least_depth ≤ depth) × (depth ≤ most_depth)
 -- at a depth within them
 abbrev pub IsWithinLimits : Settings → Type 0
 IsWithinLimits (Run protocol config json) = IsConfigurationWithinLimits config
-IsWithinLimits (Trace protocol config) = IsConfigurationWithinLimits config
+IsWithinLimits (Trace protocol config json) = IsConfigurationWithinLimits config
 IsWithinLimits (Sweep protocol config plan) = IsConfigurationWithinLimits config × IsPlanWithinLimits plan
 IsWithinLimits (Outcomes search json) = IsSearchWithinLimits search
 IsWithinLimits Check = Unit {0}
@@ -25,7 +25,7 @@ IsWithinLimits (Tables kind) = Unit {0}
 -- what a caller has to see to: a configuration, a plan and a search are within their limits, the depth of a witness needn't be
 abbrev pub HasDepth : Settings → Type 0
 HasDepth (Run protocol config json) = Unit {0}
-HasDepth (Trace protocol config) = Unit {0}
+HasDepth (Trace protocol config json) = Unit {0}
 HasDepth (Sweep protocol config plan) = Unit {0}
 HasDepth (Outcomes search json) = Unit {0}
 HasDepth Check = Unit {0}

@@ -48,8 +48,8 @@ END";
 pub const TRACE: &str = "\
 Standard input is a test, a line ====, and choices, as for run. Printed is the report of run, with a\n\
 trace after its first two lines: Trace, a line for each choice that was used, and Endtrace and their\n\
-number. Of a test that didn't end the line Unfinished stands after the trace. A choice's line has\n\
-these words, those that apply:\n\
+number. Of a test that didn't end the line Unfinished stands after the trace. With --json the same is\n\
+one line, and at most 1000 choices may be used. A choice's line has these words, those that apply:\n\
 \x20 5 0d        the choice's number, and the choice\n\
 \x20 committed   its outcome: buffered, committed, moved, asked, or stalled and why\n\
 \x20 P0:0 W x=1  the entry, as the order has it; or EAX=5 for a move; and forwarded where the\n\

@@ -57,7 +57,7 @@ fn trace_line<'a>(alloc: Global) -> Result<Command<'a>, AllocError> {
     let line = Command::new(alloc, "trace")
         .about("Runs a test under a list of choices, and tells what each choice did")
         .after_help(help::TRACE);
-    machine_options(alloc, line)
+    machine_options(alloc, line)?.arg(json_option(alloc))
 }
 
 fn sweep_line<'a>(alloc: Global) -> Result<Command<'a>, AllocError> {

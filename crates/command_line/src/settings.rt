@@ -25,10 +25,11 @@ pub enum Settings {
         json: bool,
     },
     /// Run a test under choices, on such a machine, and report it with what each choice did to buffers,
-    /// caches, bus and memory.
+    /// caches, bus and memory, as JSON if that is asked for.
     Trace {
         protocol: ProtocolKind,
         config: Config,
+        json: bool,
     },
     /// Run a test under the choices of each seed of a plan, on such a machine, and tell which final
     /// states were met.
@@ -142,7 +143,12 @@ fn trace_settings(matches: &ArgMatches<'_>) -> Option<Settings>
 {
     let protocol = protocol_in(matches)?;
     let config = config_in(matches)?;
-    Some(Settings::Trace { protocol, config })
+    let json = matches.get_flag("json");
+    Some(Settings::Trace {
+        protocol,
+        config,
+        json,
+    })
 }
 
 fn sweep_settings(matches: &ArgMatches<'_>) -> Option<Settings>

@@ -1,5 +1,5 @@
 -- What the search keeps, step by step.
-use Rattle.std.proofs.Common.{◌≡◌, ◌<◌, ◌≤◌, ℕ, ◌+◌, zero, suc, Bool, true, false, List, [], ◌∷◌, ◌++◌, length, map, Some, slice_get, slice_index_or, if◌then◌else◌, inl, inr, arith, ap, sym, ◌∙◌, subst, refl, append_assoc, length-append, drop, ◌==◌}
+use Rattle.std.proofs.Common.{◌≡◌, ◌<◌, ◌≤◌, ℕ, ◌+◌, zero, suc, Bool, true, false, List, [], ◌∷◌, ◌++◌, length, map, Some, slice_get, slice_index_or, if◌then◌else◌, inl, inr, arith, ap, sym, ◌∙◌, subst, refl, append_assoc, length-append, drop, ◌==◌, ◌||◌}
 use Rattle.std.specs.List.{list_any}
 use Rattle.indexmap.specs.IndexSet.{insert_key}
 use Rattle.basic_laws.proofs.Basics.{lt-or}
@@ -14,7 +14,7 @@ use Rattle.eager_laws.specs.Eager.{IsEager}
 use Rattle.eager_laws.specs.Closed.{LeadsEagerly, IsIn, IsCovered, IsExpanded, AreClosed}
 use Rattle.explorer.specs.State.{state_of}
 use Rattle.explorer.specs.Kept.{LeadsBy, IsSettled}
-use Rattle.explorer.specs.inner.Kept.{Grows, HaveCores, IsVisited, AreVisited, AreLinked}
+use Rattle.explorer.specs.inner.Kept.{Grows, HaveCores, IsReached, IsVisited, AreVisited, AreLinked}
 use Rattle.explorer.specs.declared.snapshot.Snapshot.{Snapshot}
 use Rattle.explorer.specs.declared.link.Link.{Link}
 use Rattle.explorer.proofs.Linking.{get-left, get-back, leads-append, linked-first}
@@ -143,18 +143,20 @@ expanded-more d t xs ys n within g before now i x l q =
       | inr k ↦ let e : i ≡ n = omega (arith, l, k) in now x (subst (λ z. slice_get xs z ≡ Some x) e old)
     ]
 
--- what a choice leads to, settled and put into the set
-pub visits : (eq : Snapshot → Snapshot → Bool) → ((a b : Snapshot) → eq a b ≡ true → state_of a ≡ state_of b)
-    → (d : ℕ) (t : Litmus) (keys : List Snapshot) (s acted settled : State) (value : Snapshot) (c : Choice) (before after : List Choice)
-    → acted ≡ after_choice t d s c → IsSettled d t acted settled before after → settled ≡ state_of value
-    → (i : ℕ) (k : Snapshot) → slice_get keys i ≡ Some k → eq value k ≡ true → IsVisited d t keys s c
-visits eq sound d t keys s acted settled value c before after e h f i k at same =
-    inr (record {
-      eager = h.made;
-      last = settled;
-      leads = subst (λ z. LeadsEagerly d t z h.made settled) e h.eager;
-      among = subst (λ z. IsIn (map state_of keys) z) (sym (f ∙ sound value k same)) (in-list keys i k at);
-    })
+-- a set that has an equal snapshot has the state
+pub among : (eq : Snapshot → Snapshot → Bool) → ((a b : Snapshot) → eq a b ≡ true → state_of a ≡ state_of b)
+    → (xs : List Snapshot) (x : Snapshot) → list_any (eq x) xs ≡ true → IsIn (map state_of xs) (state_of x)
+among eq sound [] x q = absurd (let z : ⊥ = cc in z)
+among eq sound (y ∷ ys) x q = go (eq x y) refl (λ r. among eq sound ys x r) q
+  where
+    go : (b : Bool) → eq x y ≡ b → (list_any (eq x) ys ≡ true → IsIn (map state_of ys) (state_of x)) → (b || list_any (eq x) ys) ≡ true → IsIn (map state_of (y ∷ ys)) (state_of x)
+    go true e later r = (0, ap Some (sym (sound x y e)))
+    go false e later r = let m = later r in (suc m.0, m.1)
+
+-- what a choice leads to is covered where it is in the set
+pub visits : (d : ℕ) (t : Litmus) (keys : List Snapshot) (s last : State) (c : Choice) (choices : List Choice)
+    → IsReached d t s c choices last → IsIn (map state_of keys) last → IsVisited d t keys s c
+visits d t keys s last c choices h m = inr (record { eager = h.later; last = last; leads = h.eager; among = m })
 
 -- the first of a list
 pub first-is : (xs : List Entry) (x : Entry) → (length xs == 0) ≡ false → x ≡ slice_index_or xs 0 x → xs ≡ x ∷ drop 1 xs

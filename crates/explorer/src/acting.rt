@@ -1,6 +1,6 @@
 //! A choice, made in a state.
 ghost use Rattle.std.specs.Prelude.{◌≡◌, ◌<◌, ◌≤◌, IfOk, OnOk, length, ℕ, ◌+◌, ◌==◌};
-ghost use Rattle.std.specs.Prelude.{slice_get, slice_set, slice_index, Some, filter};
+ghost use Rattle.std.specs.Prelude.{slice_get, slice_set, slice_index, Some, filter, true};
 ghost use Rattle.tso_model.specs.Limits.{most_instructions};
 ghost use Rattle.tso_model.specs.ProgramOrder.{writes_to};
 ghost use Rattle.tso_model.specs.Axioms.{last_value};
@@ -182,6 +182,22 @@ pub fn has_stalled(outcome: Outcome) -> bool
     ensures { result ≡ (stall_count outcome == 1) }
 {
     matches!(outcome, Outcome::Stalled(_))
+}
+
+/// Whether the core of a choice has nothing to make it with: no further instruction, or nothing
+/// pending.
+pub fn is_idle(state: &Snapshot, test: &Test, choice: Choice) -> bool
+    requires cores { length state.now.cores.items ≡ length test.now.programs }
+    requires chosen { chosen choice < length test.now.programs }
+    ensures { result ≡ true → (depth : ℕ) → after_choice test.now depth (state_of state.now) choice ≡ state_of state.now }
+{
+    match choice {
+        Choice::Step(core) => {
+            let place = usize::from(state.cores[usize::from(core.0)].place);
+            place >= test.program(core).len()
+        }
+        Choice::Drain(core) => state.cores[usize::from(core.0)].pending.is_empty(),
+    }
 }
 
 /// A choice of one of the test's cores.

@@ -3,7 +3,6 @@
 ghost use Rattle.std.specs.Prelude.{◌≡◌};
 ghost use Rattle.explorer.specs.declared.fault.ExploreFault.TheVariants as faults;
 
-use std::alloc::{AllocError, AllocFailed};
 use std::error::Error;
 use std::fmt;
 use tso_model::NoMemory;
@@ -27,22 +26,6 @@ impl fmt::Display for ExploreFault {
 }
 
 impl Error for ExploreFault {}
-
-impl From<AllocError> for ExploreFault {
-    ghost from_gives = { λ _ fault. fault ≡ faults.NoMemory };
-
-    fn from(_: AllocError) -> ExploreFault {
-        ExploreFault::NoMemory
-    }
-}
-
-impl<T: Drop> From<AllocFailed<T>> for ExploreFault {
-    ghost from_gives = { λ _ fault. fault ≡ faults.NoMemory };
-
-    fn from(_: AllocFailed<T>) -> ExploreFault {
-        ExploreFault::NoMemory
-    }
-}
 
 impl From<NoMemory> for ExploreFault {
     ghost from_gives = { λ _ fault. fault ≡ faults.NoMemory };

@@ -11,6 +11,7 @@ mod eager;
 pub mod fault;
 pub mod final_states;
 pub mod link;
+pub mod reached;
 pub mod search;
 pub mod snapshot;
 

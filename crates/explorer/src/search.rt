@@ -1,21 +1,22 @@
 //! The search for all states that choices lead to.
-ghost use Rattle.std.specs.Prelude.{◌≡◌, ◌<◌, IfOk, IfErr, OnOk, map, length, slice_get, Some};
+ghost use Rattle.std.specs.Prelude.{◌≡◌, ℕ, ◌<◌, IfOk, IfErr, OnOk, map, length, slice_get, Some};
 ghost use Rattle.tso_model.specs.FlatMachine.{chosen, start};
-ghost use Rattle.eager_laws.specs.Closed.{IsCovered, IsExpanded};
+ghost use Rattle.eager_laws.specs.Closed.{IsIn, IsCovered, IsExpanded};
+ghost use Rattle.tso_model.specs.Litmus.{Litmus};
+ghost use Rattle.explorer.specs.Kept.{LeadsBy};
 ghost use Rattle.explorer.specs.State.{state_of};
 ghost use Rattle.explorer.specs.inner.Kept.{Grows, HaveCores, IsVisited, AreVisited, AreLinked, IsSearched};
 ghost use Rattle.explorer.specs.FinalStates.{HasMoreStates};
 ghost use Rattle.explorer.specs.declared.snapshot.Snapshot.{Snapshot};
 ghost use Rattle.explorer.specs.declared.fault.ExploreFault.{ExploreFault};
 
-use crate::acting::{act, has_stalled};
 use crate::eager::settle;
 use crate::fault::ExploreFault;
 use crate::link::Link;
-use crate::snapshot::{Snapshot, copy, start};
+use crate::reached::{Reached, nowhere, reach};
+use crate::snapshot::{Snapshot, copy, exact, start};
 use indexmap::IndexSet;
 use std::alloc::Global;
-use tso_laws::stalls_change_nothing;
 use tso_model::{Choice, Core, NoMemory, Test};
 
 /// What a search has found: each snapshot once, and how each was reached.
@@ -25,6 +26,36 @@ pub struct Found {
     pub links: Vec<Link>,
 }
 
+/// Keeps what was reached from one of the snapshots, if it isn't there yet.
+///
+/// Errors: out of memory only.
+pub fn keep(
+    alloc: Global,
+    found: &mut Found,
+    reached: &Reached,
+    from: usize,
+) -> Result<(), NoMemory>
+    requires from { from < length found.old.snapshots.keys }
+    ensures grows { OnOk result (Grows found.old.snapshots.keys found.new.snapshots.keys) }
+    ensures among { OnOk result (IsIn (map state_of found.new.snapshots.keys) (state_of reached.now.state)) }
+    ensures cores { OnOk result ((t : Litmus) → HaveCores t found.old.snapshots.keys
+        → length reached.now.state.cores.items ≡ length t.programs → HaveCores t found.new.snapshots.keys) }
+    ensures linked { OnOk result ((depth : ℕ) (t : Litmus) (s : Snapshot) → AreLinked depth t found.old.snapshots.keys found.old.links.items
+        → slice_get found.old.snapshots.keys from ≡ Some s → LeadsBy depth t (state_of s) reached.now.choices.items (state_of reached.now.state)
+        → AreLinked depth t found.new.snapshots.keys found.new.links.items) }
+{
+    if found.snapshots.contains(&reached.state) {
+        return Ok(());
+    }
+    let state = copy(alloc, &reached.state)?;
+    let choices = exact(alloc, &reached.choices)?;
+    let (_, added) = found.snapshots.insert_full(state)?;
+    if added {
+        found.links.push(Link { from, choices })?;
+    }
+    Ok(())
+}
+
 /// Makes a choice in one of the snapshots, and what choices need not wait after it. Where that is a
 /// snapshot that isn't there yet, it is added.
 ///
@@ -32,6 +63,7 @@ pub struct Found {
 pub fn visit(
     alloc: Global,
     found: &mut Found,
+    reached: &mut Reached,
     test: &Test,
     depth: u8,
     from: usize,
@@ -40,25 +72,17 @@ pub fn visit(
     requires from { from < length found.old.snapshots.keys }
     requires cores { HaveCores test.now found.old.snapshots.keys }
     requires linked { AreLinked depth test.now found.old.snapshots.keys found.old.links.items }
+    requires room { length reached.old.state.cores.items ≡ length test.now.programs }
     requires chosen { chosen choice < length test.now.programs }
     ensures grows { OnOk result (Grows found.old.snapshots.keys found.new.snapshots.keys) }
     ensures cores { OnOk result (HaveCores test.now found.new.snapshots.keys) }
     ensures linked { OnOk result (AreLinked depth test.now found.new.snapshots.keys found.new.links.items) }
+    ensures room { OnOk result (length reached.new.state.cores.items ≡ length test.now.programs) }
     ensures visited { OnOk result ((s : Snapshot) → slice_get found.old.snapshots.keys from ≡ Some s
         → IsVisited depth test.now found.new.snapshots.keys (state_of s) choice) }
 {
-    stalls_change_nothing();
-    let mut state = copy(alloc, &found.snapshots[from])?;
-    let outcome = act(&mut state, test, depth, choice)?;
-    if has_stalled(outcome) {
-        return Ok(());
-    }
-    let mut choices = Vec::new(alloc);
-    choices.push(choice)?;
-    settle(&mut state, test, depth, &mut choices)?;
-    let (_, added) = found.snapshots.insert_full(state)?;
-    if added {
-        found.links.push(Link { from, choices })?;
+    if reach(reached, &found.snapshots[from], test, depth, choice)? {
+        keep(alloc, found, reached, from)?;
     }
     Ok(())
 }
@@ -69,6 +93,7 @@ pub fn visit(
 fn visit_core(
     alloc: Global,
     found: &mut Found,
+    reached: &mut Reached,
     test: &Test,
     depth: u8,
     from: usize,
@@ -77,17 +102,19 @@ fn visit_core(
     requires from { from < length found.old.snapshots.keys }
     requires cores { HaveCores test.now found.old.snapshots.keys }
     requires linked { AreLinked depth test.now found.old.snapshots.keys found.old.links.items }
+    requires room { length reached.old.state.cores.items ≡ length test.now.programs }
     requires core { core < length test.now.programs }
     ensures grows { OnOk result (Grows found.old.snapshots.keys found.new.snapshots.keys) }
     ensures cores { OnOk result (HaveCores test.now found.new.snapshots.keys) }
     ensures linked { OnOk result (AreLinked depth test.now found.new.snapshots.keys found.new.links.items) }
+    ensures room { OnOk result (length reached.new.state.cores.items ≡ length test.now.programs) }
     ensures visited { OnOk result ((s : Snapshot) → slice_get found.old.snapshots.keys from ≡ Some s
         → AreVisited depth test.now found.new.snapshots.keys (state_of s) core) }
 {
     let step = Choice::Step(Core(core));
-    visit(alloc, found, test, depth, from, step)?;
+    visit(alloc, found, reached, test, depth, from, step)?;
     let drain = Choice::Drain(Core(core));
-    visit(alloc, found, test, depth, from, drain)
+    visit(alloc, found, reached, test, depth, from, drain)
 }
 
 /// Makes every choice in one of the snapshots.
@@ -96,6 +123,7 @@ fn visit_core(
 pub fn expand(
     alloc: Global,
     found: &mut Found,
+    reached: &mut Reached,
     test: &Test,
     depth: u8,
     from: usize,
@@ -103,14 +131,16 @@ pub fn expand(
     requires from { from < length found.old.snapshots.keys }
     requires cores { HaveCores test.now found.old.snapshots.keys }
     requires linked { AreLinked depth test.now found.old.snapshots.keys found.old.links.items }
+    requires room { length reached.old.state.cores.items ≡ length test.now.programs }
     ensures grows { OnOk result (Grows found.old.snapshots.keys found.new.snapshots.keys) }
     ensures cores { OnOk result (HaveCores test.now found.new.snapshots.keys) }
     ensures linked { OnOk result (AreLinked depth test.now found.new.snapshots.keys found.new.links.items) }
+    ensures room { OnOk result (length reached.new.state.cores.items ≡ length test.now.programs) }
     ensures expanded { OnOk result ((s : Snapshot) → slice_get found.old.snapshots.keys from ≡ Some s
         → IsExpanded depth test.now (map state_of found.new.snapshots.keys) (state_of s)) }
 {
     for core in 0..test.cores() {
-        visit_core(alloc, found, test, depth, from, core)?;
+        visit_core(alloc, found, reached, test, depth, from, core)?;
     }
     Ok(())
 }
@@ -143,6 +173,7 @@ pub fn search(alloc: Global, test: &Test, depth: u8, limit: usize) -> Result<Fou
     ensures too_many { IfErr result (λ fault. fault ≡ ExploreFault.TooMany → HasMoreStates test.now depth limit) }
 {
     let mut found = beginning(alloc, test, depth)?;
+    let mut reached = nowhere(alloc, test)?;
     if limit == 0 {
         return Err(ExploreFault::TooMany);
     }
@@ -150,7 +181,7 @@ pub fn search(alloc: Global, test: &Test, depth: u8, limit: usize) -> Result<Fou
         if at >= found.snapshots.len() {
             break;
         }
-        expand(alloc, &mut found, test, depth, at)?;
+        expand(alloc, &mut found, &mut reached, test, depth, at)?;
         if found.snapshots.len() > limit {
             return Err(ExploreFault::TooMany);
         }

@@ -1,5 +1,5 @@
 //! A state of the flat machine.
-ghost use Rattle.std.specs.Prelude.{◌≡◌, IfOk, length};
+ghost use Rattle.std.specs.Prelude.{◌≡◌, IfOk, OnOk, length};
 ghost use Rattle.tso_model.specs.FlatMachine.{start};
 ghost use Rattle.explorer.specs.State.{state_of, core_of_processor};
 
@@ -43,20 +43,27 @@ pub fn start(alloc: Global, test: &Test) -> Result<Snapshot, NoMemory>
     Ok(Snapshot { memory, cores })
 }
 
+/// The same items once more, with no room to spare: as many of these are kept as there are states.
+///
+/// Errors: out of memory only.
+pub fn exact<T: Copy>(alloc: Global, items: &[T]) -> Result<Vec<T>, NoMemory>
+    ensures { IfOk result (λ v. v.items ≡ items.now) }
+{
+    let mut same = Vec::with_capacity(alloc, items.len())?;
+    same.extend_from_slice(items)?;
+    Ok(same)
+}
+
 /// The same core once more.
 ///
 /// Errors: out of memory only.
 fn copy_core(alloc: Global, core: &Processor) -> Result<Processor, NoMemory>
     ensures { IfOk result (λ c. core_of_processor c ≡ core_of_processor core.now) }
 {
-    let mut pending = Vec::new(alloc);
-    for entry in &core.pending {
-        pending.push(*entry)?;
-    }
     Ok(Processor {
         place: core.place,
         registers: core.registers,
-        pending,
+        pending: exact(alloc, &core.pending)?,
     })
 }
 
@@ -67,13 +74,39 @@ pub fn copy(alloc: Global, state: &Snapshot) -> Result<Snapshot, NoMemory>
     ensures value { IfOk result (λ s. state_of s ≡ state_of state.now) }
     ensures cores { IfOk result (λ s. length s.cores.items ≡ length state.now.cores.items) }
 {
-    let mut memory = Vec::new(alloc);
-    for word in &state.memory {
-        memory.push(*word)?;
-    }
-    let mut cores = Vec::new(alloc);
+    let memory = exact(alloc, &state.memory)?;
+    let mut cores = Vec::with_capacity(alloc, state.cores.len())?;
     for core in &state.cores {
         cores.push(copy_core(alloc, core)?)?;
     }
     Ok(Snapshot { memory, cores })
+}
+
+/// Makes a core the same as another one, in the memory that it has.
+///
+/// Errors: out of memory only.
+fn overwrite_core(core: &mut Processor, other: &Processor) -> Result<(), NoMemory>
+    ensures { OnOk result (core_of_processor core.new ≡ core_of_processor other.now) }
+{
+    core.place = other.place;
+    core.registers = other.registers;
+    core.pending.clear();
+    core.pending.extend_from_slice(&other.pending)?;
+    Ok(())
+}
+
+/// Makes a state the same as another one with as many cores, in the memory that it has.
+///
+/// Errors: out of memory only.
+pub fn overwrite(state: &mut Snapshot, other: &Snapshot) -> Result<(), NoMemory>
+    requires { length state.old.cores.items ≡ length other.now.cores.items }
+    ensures value { OnOk result (state_of state.new ≡ state_of other.now) }
+    ensures cores { OnOk result (length state.new.cores.items ≡ length other.now.cores.items) }
+{
+    state.memory.clear();
+    state.memory.extend_from_slice(&other.memory)?;
+    for core in 0..other.cores.len() {
+        overwrite_core(&mut state.cores[core], &other.cores[core])?;
+    }
+    Ok(())
 }

@@ -1,6 +1,7 @@
 //! What a hint is made of: what an answer knew.
 
 use crate::orders::names_no_location;
+use crate::stalls::Stalls;
 use crate::unended::{count_instructions, count_plain_stores, has_no_choices};
 use crate::unused::unused_location;
 use litmus_reader::Fault;
@@ -43,6 +44,13 @@ pub enum Cause {
         cores: u8,
         fault: ChoiceFault,
     },
+    /// More choices are used than the steps that a trace as JSON may have; the choices are so many last
+    /// bytes of the input, and this word of them, from 1, says the first choice beyond.
+    TooManySteps {
+        length: usize,
+        word: usize,
+        most: usize,
+    },
     /// The order, which is so many last bytes of the input, is at fault. Whether that is a line with a
     /// location that the test hasn't.
     Order {
@@ -53,10 +61,11 @@ pub enum Cause {
     /// A run didn't end, since there were no choices.
     NoChoices,
     /// A run didn't end, since its choices were too few: the test takes so many steps and drains at
-    /// least.
+    /// least. These of the choices stalled.
     TooFewChoices {
         steps: usize,
         drains: usize,
+        stalls: Stalls,
     },
     /// A run of a sweep didn't end, whose seeds make so many choices. Whether none ended.
     ShortSeeds {
@@ -109,8 +118,9 @@ impl Cause {
         })
     }
 
-    /// That the choices of this text end before the test, on a machine with store buffers or without.
-    pub fn of_unended_run(test: &Test, text: &[u8], is_buffered: bool) -> Cause {
+    /// That the choices of this text end before the test, on a machine with store buffers or without. These of them
+    /// stalled.
+    pub fn of_unended_run(test: &Test, text: &[u8], is_buffered: bool, stalls: Stalls) -> Cause {
         if has_no_choices(text) {
             return Cause::NoChoices;
         }
@@ -122,6 +132,7 @@ impl Cause {
         Cause::TooFewChoices {
             steps: count_instructions(test),
             drains,
+            stalls,
         }
     }
 }

@@ -51,6 +51,26 @@ fn too_many<'a>(word: &'a [u8]) -> Words<'a> {
     )
 }
 
+/// The place and the words where more choices are used than a trace as JSON may have steps: this word says the
+/// first one beyond.
+///
+/// Errors: out of memory only.
+pub fn too_many_steps<'a>(
+    alloc: Global,
+    text: &'a [u8],
+    number: usize,
+    most: usize,
+) -> Result<(Where, Words<'a>), NoMemory> {
+    let words = split_words(alloc, text)?;
+    let said = listed(
+        Piece::Named(nth(&words, number)),
+        Piece::Text(" passes the "),
+        Piece::Number(most),
+        Piece::Text(" choices that may be used with --json; without it a trace may use more"),
+    );
+    Ok((Where::Word(number), said))
+}
+
 fn no_such_core<'a>(word: &'a [u8], cores: u8) -> Words<'a> {
     if cores == 1 {
         return naming(word, ": the test has 1 core, numbered from 0");

@@ -4,7 +4,7 @@ ghost use Rattle.std.specs.Prelude.{◌≡◌, IfOk, string_bytes};
 ghost use Rattle.hints.specs.Hint.{IsHint};
 
 use crate::cause::Cause;
-use crate::choices::choice_words;
+use crate::choices::{choice_words, too_many_steps};
 use crate::faults::test_words;
 use crate::orders::order_words;
 use crate::place::Place;
@@ -50,13 +50,20 @@ fn words_of<'a>(
             cores,
             fault,
         } => choice_words(alloc, cores, last_bytes(input, length), fault),
+        Cause::TooManySteps { length, word, most } => {
+            too_many_steps(alloc, last_bytes(input, length), word, most)
+        }
         Cause::Order {
             length,
             unknown_location,
             fault,
         } => order_words(unknown_location, last_bytes(input, length), fault),
         Cause::NoChoices => Ok((Where::Input, no_choices())),
-        Cause::TooFewChoices { steps, drains } => Ok((Where::Input, choices_end(steps, drains))),
+        Cause::TooFewChoices {
+            steps,
+            drains,
+            stalls,
+        } => Ok((Where::Input, choices_end(steps, drains, stalls))),
         Cause::ShortSeeds { length, none_ended } => {
             Ok((Where::Input, sweep_ends(length, none_ended)))
         }

@@ -131,7 +131,7 @@ fn owners_of(name: &[u8]) -> Option<&'static str> {
     } else if is_one_of(name, &["--states"]) {
         Some("outcomes")
     } else if is_one_of(name, &["--json"]) {
-        Some("run and outcomes")
+        Some("run, trace and outcomes")
     } else {
         None
     }
@@ -140,8 +140,7 @@ fn owners_of(name: &[u8]) -> Option<&'static str> {
 /// Whether a command has an option.
 fn has_option(command: &str, name: &[u8]) -> bool {
     match command {
-        "run" => is_machine_option(name) || is_one_of(name, &["--json"]),
-        "trace" => is_machine_option(name),
+        "run" | "trace" => is_machine_option(name) || is_one_of(name, &["--json"]),
         "sweep" => is_machine_option(name) || is_one_of(name, &["--from", "--seeds", "--length"]),
         "outcomes" => is_one_of(name, &["--depth", "--states", "--json"]),
         "witness" => is_one_of(name, &["--depth"]),

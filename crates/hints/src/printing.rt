@@ -6,9 +6,10 @@ ghost use Rattle.hints.specs.Hint.{IsHint, longest_hint};
 ghost use Rattle.hints.specs.inner.Hint.{most_words, shown_byte};
 
 use crate::quotes::{first_bytes, is_bare};
+use crate::stalls::Stalls;
 use crate::words::{Piece, Words};
 use std::alloc::{AllocError, Global};
-use tso_model::NoMemory;
+use tso_model::{Choice, NoMemory, Stall};
 
 /// Bytes of a hint, at most, with its line feed.
 pub const MAX_HINT: usize = 256;
@@ -113,7 +114,54 @@ fn push_piece(alloc: Global, bytes: &mut Vec<u8>, piece: Piece<'_>) -> Result<()
         Piece::Named(name) => push_named(bytes, name),
         Piece::Shown(shown) => push_shown(bytes, shown),
         Piece::Number(number) => push_number(alloc, bytes, number),
+        Piece::Stalled(stalls) => push_stalls(alloc, bytes, stalls),
     }
+}
+
+/// How many choices stalled, and for each reason the first that did; nothing where none did.
+fn push_stalls(alloc: Global, bytes: &mut Vec<u8>, stalls: Stalls) -> Result<(), NoMemory> {
+    if stalls.count() == 0 {
+        return Ok(());
+    }
+    push_numbered(alloc, bytes, "; ", stalls.count(), " stalled: ")?;
+    let mut joint = "";
+    for first in &stalls.firsts() {
+        if let Some(choice) = first.choice {
+            bytes.extend_from_slice(joint.as_bytes())?;
+            push_stall(alloc, bytes, choice, first.reason)?;
+            joint = ", ";
+        }
+    }
+    Ok(())
+}
+
+/// A choice, why it stalled, and in brackets what to do or what is so.
+fn push_stall(
+    alloc: Global,
+    bytes: &mut Vec<u8>,
+    choice: Choice,
+    reason: Stall,
+) -> Result<(), NoMemory> {
+    let core = match choice {
+        Choice::Step(core) | Choice::Drain(core) => usize::from(core.0),
+    };
+    let letter = match choice {
+        Choice::Step(_) => "s",
+        Choice::Drain(_) => "d",
+    };
+    push_numbered(alloc, bytes, "", core, letter)?;
+    match reason {
+        Stall::Done => push_text(bytes, " Done (at end)"),
+        Stall::Full => push_numbered(alloc, bytes, " Full (", core, "d first)"),
+        Stall::Fence => push_numbered(alloc, bytes, " Fence (", core, "d first)"),
+        Stall::Lock => push_numbered(alloc, bytes, " Lock (", core, "d first)"),
+        Stall::Empty => push_text(bytes, " Empty (no store)"),
+        Stall::Bus => push_text(bytes, " Bus (held)"),
+    }
+}
+
+fn push_text(bytes: &mut Vec<u8>, text: &str) -> Result<(), NoMemory> {
+    Ok(bytes.extend_from_slice(text.as_bytes())?)
 }
 
 fn push_number(alloc: Global, bytes: &mut Vec<u8>, number: usize) -> Result<(), NoMemory> {

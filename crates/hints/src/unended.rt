@@ -1,7 +1,8 @@
 //! What is said of a run or a search that didn't end, and of a sweep that saw too little.
 
 use crate::orders::first_word;
-use crate::words::{Piece, Words, around, eight, plain, six};
+use crate::stalls::Stalls;
+use crate::words::{Piece, Words, around, eight, plain};
 use tso_model::{Core, Instr, Test};
 
 /// As many seeds as a sweep may have.
@@ -65,15 +66,20 @@ pub fn no_choices<'a>() -> Words<'a> {
     plain("no choices: give some after a line ====, or use sweep or outcomes, which take none")
 }
 
-/// Of a run under choices that are too few, of a test that takes at least so many steps and drains.
-pub fn choices_end<'a>(steps: usize, drains: usize) -> Words<'a> {
+/// Of a run under choices that are too few, of which these stalled, of a test that takes at least so many steps and
+/// drains.
+pub fn choices_end<'a>(steps: usize, drains: usize, stalls: Stalls) -> Words<'a> {
     let opening = Piece::Text("the choices end before the test, which takes at least ");
     let number = Piece::Number(steps);
     let unit = unit_of_steps(steps);
     let joint = joint(drains);
     let second = number_of_drains(drains);
     let closing = closing(drains);
-    six([opening, number, unit, joint, second, closing])
+    let stalled = Piece::Stalled(stalls);
+    let nothing = Piece::Text("");
+    eight([
+        opening, number, unit, joint, second, closing, stalled, nothing,
+    ])
 }
 
 fn unit_of_steps<'a>(steps: usize) -> Piece<'a> {

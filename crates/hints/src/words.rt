@@ -1,5 +1,7 @@
 //! The words of a hint, before they are printed.
 
+use crate::stalls::Stalls;
+
 /// A piece of a hint's words.
 #[derive(Clone, Copy)]
 pub enum Piece<'a> {
@@ -11,6 +13,8 @@ pub enum Piece<'a> {
     Shown(&'a [u8]),
     /// A number.
     Number(usize),
+    /// How many choices stalled, and why; nothing where none did.
+    Stalled(Stalls),
 }
 
 /// The words of a hint, one piece after the other.

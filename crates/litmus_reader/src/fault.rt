@@ -9,7 +9,7 @@ ghost use Rattle.litmus_reader.specs.declared.fault.ReadError.TheVariants as err
 ghost use Rattle.litmus_reader.specs.Places as places;
 
 use litmus_tokens::{Stop, Token};
-use std::alloc::{AllocError, AllocFailed};
+use std::alloc::AllocFailed;
 use std::error::Error;
 use std::fmt;
 use tso_model::NoMemory;
@@ -188,14 +188,6 @@ impl From<NoMemory> for ReadError {
     ghost from_gives = { λ _ e. e ≡ errors.NoMemory };
 
     fn from(_: NoMemory) -> ReadError {
-        ReadError::NoMemory
-    }
-}
-
-impl From<AllocError> for ReadError {
-    ghost from_gives = { λ _ e. e ≡ errors.NoMemory };
-
-    fn from(_: AllocError) -> ReadError {
         ReadError::NoMemory
     }
 }

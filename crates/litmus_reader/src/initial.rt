@@ -18,7 +18,7 @@ use crate::item::{Item, core_of, item_at, word_at};
 use crate::location::located;
 use indexmap::IndexSet;
 use litmus_tokens::{Stop, Symbol, Token, after_symbol, is_symbol};
-use std::alloc::{AllocError, Global};
+use std::alloc::Global;
 use tso_model::{NoMemory, Reg};
 
 /// A register's first word, and the place of the item that gives it. The core is its digits: it may
@@ -225,10 +225,10 @@ pub fn read_initial<'a, 'b>(
     }
 }
 
-fn no_registers(alloc: Global, cores: usize) -> Result<Vec<[u32; 6]>, AllocError>
+fn no_registers(alloc: Global, cores: usize) -> Result<Vec<[u32; 6]>, NoMemory>
     ensures { IfOk result (λ v. v.items ≡ replicate cores spec.no_registers) }
 {
-    vec![in alloc; [0; 6]; cores]
+    Ok(vec![in alloc; [0; 6]; cores]?)
 }
 
 /// Each core's first registers.

@@ -3,7 +3,7 @@
 use Rattle.std.specs.Prelude.{ℕ, Bool, false, List, [], ◌++◌}
 use Rattle.tso_model.specs.Litmus.{Litmus}
 use Rattle.tso_model.specs.FlatMachine.{start}
-use Rattle.tso_model.specs.EitherBus.{BusState, unheld, effect_on}
+use Rattle.tso_model.specs.EitherBus.{BusState, unheld, effect_on, HitFits}
 use Rattle.tso_model.specs.declared.bus.Bus.{Bus}
 use Rattle.tso_model.specs.declared.execution.Entry.{Entry}
 use Rattle.protocol_tables.specs.Tables.{Table}
@@ -72,3 +72,7 @@ machine_after m choice = record {
   statistics = statistics_after m.bus m.test m.depth m.state choice m.statistics;
   failed = m.failed;
 }
+
+-- the answer is one that caches may give
+abbrev pub AnswerFits : Running → Choice → Type 0
+AnswerFits m choice = HitFits m.test m.depth m.state.flat (attempt_on m choice) m.state.holder

@@ -53,7 +53,11 @@ pub fn complete<P: Protocol>(
 {
     match choice {
         Choice::Step(core) => complete_step(parts, test, core),
-        Choice::Drain(core) => complete_drain(parts, test, core),
+        Choice::Drain(core) => {
+            let processor = &mut parts.processors[core.0 as usize];
+            let access = store_oldest(processor, core, &mut parts.bus, &mut parts.commits)?;
+            Ok((Outcome::Committed, CacheUse::Through(access)))
+        }
     }
 }
 
@@ -76,16 +80,12 @@ fn complete_step<P: Protocol>(
     let processor = &mut parts.processors[core.0 as usize];
     let instr = instruction_at(test.program(core), processor.place).unwrap();
     match instr.action() {
+        // Only where there is no buffer does a plain store ask.
         Action::Store(loc, operand) => {
             let value = operand.value(&processor.registers);
-            let access = store(
-                processor,
-                core,
-                loc,
-                value,
-                &mut parts.bus,
-                &mut parts.commits,
-            )?;
+            let place = processor.place;
+            let access = write(core, place, loc, value, &mut parts.bus, &mut parts.commits)?;
+            processor.place += 1;
             Ok((Outcome::Committed, CacheUse::Through(access)))
         }
         Action::Load(reg, loc) => {
@@ -107,27 +107,6 @@ fn complete_step<P: Protocol>(
         }
         Action::Move(..) | Action::Fence => unreachable!(),
     }
-}
-
-/// Completes a drain.
-fn complete_drain<P: Protocol>(
-    parts: &mut MachineParts<P>,
-    test: &Test,
-    core: Core,
-) -> Result<(Outcome, CacheUse), NoMemory>
-    requires core { chosen (Choice.Drain core) < length test.now.programs }
-    requires consistent { AreConsistent Bus.Split test.now parts.old }
-    requires asked { (state_in parts.old).holder ≡ HeldBy (Choice.Drain core) }
-
-    ensures makes { IfOk result (Makes completes_in test.now parts.old parts.new (Choice.Drain core)) }
-    ensures commits_at_once { (completes_in test.now parts.old (Choice.Drain core)).effect.outcome ≡ Outcome.Committed }
-    ensures err { OnErr result (IsUndone parts.old parts.new) }
-    ensures keeps { KeepsParts parts.old parts.new }
-    ensures of_test { AreOfTest test.now parts.new }
-{
-    let processor = &mut parts.processors[core.0 as usize];
-    let access = store_oldest(processor, core, &mut parts.bus, &mut parts.commits)?;
-    Ok((Outcome::Committed, CacheUse::Through(access)))
 }
 
 /// A load that has asked reads memory's word.
@@ -154,31 +133,6 @@ fn load<P: Protocol>(
     let (value, access) = bus.complete_load(core, loc)?;
     commits.note(entry(core, processor.place, Kind::R, loc, value))?;
     advance(processor, reg, value);
-    Ok(access)
-}
-
-/// A plain store that has asked, since there is no buffer, goes to memory.
-fn store<P: Protocol>(
-    processor: &mut Processor,
-    core: Core,
-    loc: Loc,
-    value: u32,
-    bus: &mut SnoopBus<P>,
-    commits: &mut Commits,
-) -> Result<Access, NoMemory>
-    requires place { processor.old.place < most_instructions }
-    requires asked { holder_of bus.old ≡ Some (holder core loc Stage.Write) }
-
-    ensures after { OnOk result (core_state core.0 processor.new ≡ flat.advanced (core_state core.0 processor.old)) }
-    ensures stored { OnOk result (IsStored core.0 processor.old.place loc value bus.old bus.new commits.old commits.new) }
-    ensures completes { IfOk result (Completes core.0 (Writes loc) bus.old bus.new) }
-    ensures stores { processor.new.stores ≡ processor.old.stores }
-
-    ensures err { OnErr result (AreUnchanged processor.old processor.new bus.old bus.new commits.old commits.new) }
-    ensures sizes { HasSameSizes bus.old bus.new }
-{
-    let access = write(core, processor.place, loc, value, bus, commits)?;
-    processor.place += 1;
     Ok(access)
 }
 

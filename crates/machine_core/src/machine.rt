@@ -3,15 +3,15 @@
 ghost use Rattle.std.specs.Prelude.{◌≡◌, ◌≢◌, ◌<◌, true, false, IsTrue, IsOk, IsErr, IfOk, OnOk, OnErr, length, map};
 ghost use Rattle.tso_model.specs.FlatMachine.{chosen};
 ghost use Rattle.tso_model.specs.Together.{put_together};
-ghost use Rattle.machine_core.specs.Running.{new_machine, restarted, effect_by, use_by, machine_after};
+ghost use Rattle.machine_core.specs.Running.{new_machine, restarted, effect_by, use_by, machine_after, AnswerFits};
 ghost use Rattle.machine_core.specs.inner.Running.{is_ended};
-ghost use Rattle.machine_core.specs.inner.Running.{AnswerFits, IsAloneBetween, HasFailed};
+ghost use Rattle.machine_core.specs.inner.Running.{IsAloneBetween, HasFailed};
 
 use crate::cache_use::CacheUse;
 use crate::config::Config;
 use crate::counts::Counts;
 use crate::ending::{FinalState, final_state};
-use crate::machine_parts::{MachineParts, are_done, begin, line_is_alone, perform};
+use crate::machine_parts::{MachineParts, are_done, begin, know_line_is_alone, perform};
 use crate::restarting::restart;
 use order_builder::build;
 use protocol_tables::Protocol;
@@ -138,7 +138,7 @@ impl<'a, P: Protocol> Machine<'a, P> {
         }
         let made = perform(&mut self.parts, self.test, choice);
         self.failed = made.is_err();
-        line_is_alone(&self.parts, self.test);
+        know_line_is_alone(&self.parts, self.test);
         made
     }
 

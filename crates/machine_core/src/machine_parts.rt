@@ -23,7 +23,7 @@ use crate::config::Config;
 use crate::counts::Counts;
 use crate::holding::Next;
 use crate::pending_stores::PendingStores;
-use crate::processor::{Processor, drain as drain_core, step as step_core};
+use crate::processor::{Processor, drain, step as step_core};
 use crate::tallying::tally;
 use order_builder::Commits;
 use protocol_tables::Protocol;
@@ -137,7 +137,7 @@ pub fn perform<P: Protocol>(
 
 /// Between the two parts of a locked instruction its core has the line in M, and no other core has it: so much is
 /// known of the parts from this call on, which has no effect.
-pub fn line_is_alone<P: Protocol>(parts: &MachineParts<P>, test: &Test)
+pub fn know_line_is_alone<P: Protocol>(parts: &MachineParts<P>, test: &Test)
     requires { IsHeldForAccess test.now parts.now }
     ensures { IsAloneIn parts.now }
 {
@@ -195,7 +195,10 @@ pub fn act<P: Protocol>(
 {
     match choice {
         Choice::Step(core) => step(parts, test, core),
-        Choice::Drain(core) => drain(parts, test, core),
+        Choice::Drain(core) => {
+            let processor = &mut parts.processors[core.0 as usize];
+            drain(processor, core, &mut parts.bus, &mut parts.commits)
+        }
     }
 }
 
@@ -229,27 +232,6 @@ pub fn instruction_at(program: &[Instr], place: u8) -> Option<Instr>
     ensures { result ≡ slice_get program.now place }
 {
     program.get(place as usize).copied()
-}
-
-/// A drain of a core: its oldest buffered store goes to memory, if there is one.
-fn drain<P: Protocol>(
-    parts: &mut MachineParts<P>,
-    test: &Test,
-    core: Core,
-) -> Result<(Outcome, CacheUse), NoMemory>
-    requires core { core.0 < length test.now.programs }
-    requires fits { PartsFitTest test.now parts.old }
-    requires free { MayActIn test.now parts.old (Choice.Drain core) }
-
-    ensures makes { IfOk result (Makes whole_effect_in test.now parts.old parts.new (Choice.Drain core)) }
-    ensures succeeds { SucceedsUnlessCommitting result (flat_effect_in test.now parts.old (Choice.Drain core)) }
-    ensures err { OnErr result (IsUndone parts.old parts.new) }
-    ensures keeps { KeepsParts parts.old parts.new }
-    ensures holder { holder_of parts.new.bus ≡ holder_of parts.old.bus }
-    ensures fits { PartsFitTest test.now parts.new }
-{
-    let processor = &mut parts.processors[core.0 as usize];
-    drain_core(processor, core, &mut parts.bus, &mut parts.commits)
 }
 
 /// Whether each core is at the end of its program with nothing buffered.

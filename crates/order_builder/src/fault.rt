@@ -3,10 +3,9 @@
 ghost use Rattle.std.specs.Prelude.{◌≡◌};
 ghost use Rattle.order_builder.specs.declared.fault.OrderFault.TheVariants as faults;
 
-use std::alloc::{AllocError, AllocFailed};
+use std::alloc::AllocFailed;
 use std::error::Error;
 use std::fmt;
-use tso_model::NoMemory;
 
 /// Why a text spells no order of a test. The first fault in the order of its lines is named.
 #[derive(Clone, Copy, Debug, PartialEq, Eq)]
@@ -40,26 +39,10 @@ impl fmt::Display for OrderFault {
 
 impl Error for OrderFault {}
 
-impl From<AllocError> for OrderFault {
-    ghost from_gives = { λ _ fault. fault ≡ faults.NoMemory };
-
-    fn from(_: AllocError) -> OrderFault {
-        OrderFault::NoMemory
-    }
-}
-
 impl<T: Drop> From<AllocFailed<T>> for OrderFault {
     ghost from_gives = { λ _ fault. fault ≡ faults.NoMemory };
 
     fn from(_: AllocFailed<T>) -> OrderFault {
-        OrderFault::NoMemory
-    }
-}
-
-impl From<NoMemory> for OrderFault {
-    ghost from_gives = { λ _ fault. fault ≡ faults.NoMemory };
-
-    fn from(_: NoMemory) -> OrderFault {
         OrderFault::NoMemory
     }
 }

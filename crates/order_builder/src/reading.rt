@@ -37,7 +37,7 @@ pub fn read_order(alloc: Global, test: &Test, text: &[u8]) -> Result<Execution, 
     ensures only_fault { (fault : OrderFault) → HasFault test.now text.now fault → Gives entries_of result (Err fault) }
 {
     // A test keeps its limits, on which the names of its locations rest.
-    let _locations = test.locations();
+    test.know_limits();
     match after_order_line(text) {
         Some((rest, start)) => read_entries(alloc, test, rest, start),
         None => Err(OrderFault::NoOrder),

@@ -1,22 +1,26 @@
 -- What the numbers of the page ask for, and what answers them.
-use Rattle.std.specs.Prelude.{ℕ, ◌≡◌, ◌<◌, ◌≤◌, ◌⊎◌, List, Some}
+use Rattle.std.specs.Prelude.{ℕ, ◌≡◌, ◌<◌, ◌≤◌, ◌⊎◌, true, List, Some}
 use Rattle.tso_model.specs.declared.bus.Bus.{Bus}
-use Rattle.tso_model.specs.declared.bus.Bus.TheVariants as buses
 use Rattle.snoop_bus.specs.Geometry.{geometry, IsShapeWithinLimits}
 use Rattle.protocol_tables.specs.declared.kind.ProtocolKind.{ProtocolKind}
-use Rattle.protocol_tables.specs.declared.kind.ProtocolKind.TheVariants as kinds
 use Rattle.tso_model.specs.Limits.{most_depth}
+use Rattle.machine_core.specs.Configuration.{Configuration}
 use Rattle.command_line.specs.Limits.{IsDepth}
 use Rattle.command_line.specs.Plan.{IsPlanWithinLimits}
 use Rattle.command_line.specs.Search.{IsSearchWithinLimits}
 use Rattle.command_line.specs.declared.settings.Settings.{Settings}
-use Rattle.command_line.specs.declared.settings.Settings.TheVariants as settings
 use Rattle.tso_cli.specs.Headline.{Headline}
 use Rattle.tso_cli.specs.Answers.{IsAnswer}
+use Rattle.tso_cli.specs.Step.{IsStepAnswer}
 use Rattle.tso_cli.specs.Hints.{IsTold}
 use Rattle.tso_cli.specs.declared.answer.Status.{Status}
-use Rattle.tso_cli.specs.declared.answer.Status.TheVariants as statuses
 use Rattle.page_exports.specs.declared.asked.Asked.{Asked}
+use Rattle.page_exports.specs.declared.asked.Question.{Question}
+use Rattle.tso_model.specs.declared.bus.Bus.TheVariants as buses
+use Rattle.protocol_tables.specs.declared.kind.ProtocolKind.TheVariants as kinds
+use Rattle.command_line.specs.declared.settings.Settings.TheVariants as settings
+use Rattle.tso_cli.specs.declared.answer.Status.TheVariants as statuses
+use Rattle.page_exports.specs.declared.asked.Question.TheVariants as questions
 
 abbrev pub kind_number : ProtocolKind → ℕ
 kind_number kinds.Msi = 0
@@ -35,30 +39,36 @@ number_of statuses.Refused = 1
 number_of statuses.Unended = 3
 number_of statuses.Invalid = 4
 
--- the settings that the numbers ask for: these are one at most
+-- a machine is the one that the numbers ask for
+abbrev pub IsMachineOf : Asked → ProtocolKind → Configuration → Type 0
+IsMachineOf a kind config =
+    (kind_number kind ≡ a.protocol) × (config.depth ≡ a.depth) × (bus_number config.bus ≡ a.bus)
+    × (config.shape ≡ geometry a.sets a.ways a.words)
+
+-- the settings of the command that the numbers ask for: these are one at most
 abbrev pub Asks : Asked → Settings → Type 0
-Asks a (settings.Run kind config json) =
-    (a.command ≡ 0) × (kind_number kind ≡ a.protocol) × (config.depth ≡ a.depth) × (bus_number config.bus ≡ a.bus)
-    × (config.shape ≡ geometry a.sets a.ways a.words) × (json ≡ a.json)
+Asks a (settings.Run kind config json) = (a.command ≡ 0) × IsMachineOf a kind config × (json ≡ a.json)
 Asks a (settings.Sweep kind config plan) =
-    (a.command ≡ 1) × (kind_number kind ≡ a.protocol) × (config.depth ≡ a.depth) × (bus_number config.bus ≡ a.bus)
-    × (config.shape ≡ geometry a.sets a.ways a.words) × (plan ≡ record { from = a.from; seeds = a.seeds; length = a.length })
+    (a.command ≡ 1) × IsMachineOf a kind config × (plan ≡ record { from = a.from; seeds = a.seeds; length = a.length })
 Asks a settings.Check = a.command ≡ 2
 Asks a (settings.Witness depth) = (a.command ≡ 3) × (depth ≡ a.depth)
 Asks a (settings.Tables kind) = (a.command ≡ 4) × (kind_number kind ≡ a.protocol)
 Asks a (settings.Outcomes search json) =
     (a.command ≡ 5) × (search ≡ record { depth = a.depth; states = a.states }) × (json ≡ a.json)
-Asks a (settings.Trace kind config) =
-    (a.command ≡ 6) × (kind_number kind ≡ a.protocol) × (config.depth ≡ a.depth) × (bus_number config.bus ≡ a.bus)
-    × (config.shape ≡ geometry a.sets a.ways a.words)
+Asks a (settings.Trace kind config json) = (a.command ≡ 6) × IsMachineOf a kind config × (json ≡ a.json)
+
+-- the question that the numbers ask: a command's, or for the last step of a trace
+abbrev pub AsksFor : Asked → Question → Type 0
+AsksFor a (questions.Command settings) = Asks a settings
+AsksFor a (questions.Step kind config) = (a.command ≡ 7) × IsMachineOf a kind config
 
 -- a machine that there is
 abbrev pub IsMachineAsked : Asked → Type 0
 IsMachineAsked a = (a.protocol < 4) × (a.bus < 2) × (a.depth ≤ most_depth) × IsShapeWithinLimits (geometry a.sets a.ways a.words)
 
 -- a command that there is, with all that it looks at within its limits
-abbrev pub IsAskable : Asked → Type 0
-IsAskable a =
+abbrev pub IsCommandAskable : Asked → Type 0
+IsCommandAskable a =
     ((a.command ≡ 0) × IsMachineAsked a)
     ⊎ ((a.command ≡ 1) × IsMachineAsked a × IsPlanWithinLimits (record { from = a.from; seeds = a.seeds; length = a.length }))
     ⊎ (a.command ≡ 2)
@@ -67,17 +77,34 @@ IsAskable a =
     ⊎ ((a.command ≡ 5) × IsSearchWithinLimits (record { depth = a.depth; states = a.states }))
     ⊎ ((a.command ≡ 6) × IsMachineAsked a)
 
--- these bytes are the command's answer under the settings, with its exit status, the headline is true of them, and the others are
--- the hint beside such an answer
-pub record Answers (settings : Settings) (input out hint : List ℕ) (number : ℕ) : Type 0 where
-  pub status : Status
-  pub numbered : number_of status ≡ number
+-- the same of a question
+abbrev pub IsAskable : Asked → Type 0
+IsAskable a = IsCommandAskable a ⊎ ((a.command ≡ 7) × IsMachineAsked a)
+
+-- the settings of the command whose hints stand beside the answer: of a step, those of the trace that it is of
+abbrev pub settings_of : Question → Settings
+settings_of (questions.Command command) = command
+settings_of (questions.Step kind config) = settings.Trace kind config true
+
+-- the answer of a command under settings, of which the headline is true
+pub record IsCommandAnswer (settings : Settings) (input out : List ℕ) (status : Status) : Type 0 where
   pub exact : IsAnswer settings (Some input) out status
   pub headline : Headline settings (Some input) out
-  pub told : IsTold settings status hint
 
--- the numbers ask for settings, and these bytes answer
+-- the answer to a question about an input
+abbrev pub IsAnswerTo : Question → List ℕ → List ℕ → Status → Type 0
+IsAnswerTo (questions.Command settings) input out status = IsCommandAnswer settings input out status
+IsAnswerTo (questions.Step kind config) input out status = IsStepAnswer kind config input out status
+
+-- these bytes are the answer to the question, with its exit status, and the others are the hint beside such an answer
+pub record Answers (question : Question) (input out hint : List ℕ) (number : ℕ) : Type 0 where
+  pub status : Status
+  pub numbered : number_of status ≡ number
+  pub answer : IsAnswerTo question input out status
+  pub told : IsTold (settings_of question) status hint
+
+-- the numbers ask a question, and these bytes answer it
 pub record AnswersAsked (a : Asked) (input out hint : List ℕ) (number : ℕ) : Type 0 where
-  pub settings : Settings
-  pub asked : Asks a settings
-  pub answers : Answers settings input out hint number
+  pub question : Question
+  pub asked : AsksFor a question
+  pub answers : Answers question input out hint number

@@ -4,7 +4,9 @@ ghost use Rattle.std.specs.Prelude.{◌≡◌, ◌≢◌, ◌<◌, ◌≤◌, �
 ghost use Rattle.tso_model.specs.Limits.{most_depth};
 ghost use Rattle.snoop_bus.specs.Geometry.{geometry, IsShapeWithinLimits};
 ghost use Rattle.command_line.specs.Limits.{HasDepth};
-ghost use Rattle.page_exports.specs.Asked.{Asks, IsAskable, kind_number, bus_number, number_of};
+ghost use Rattle.page_exports.specs.Asked.{AsksFor, IsAskable, Asks, IsCommandAskable, settings_of};
+ghost use Rattle.page_exports.specs.inner.Asked.{HasDepthFor};
+ghost use Rattle.page_exports.specs.Asked.{kind_number, bus_number, number_of};
 
 use command_line::{SearchPlan, SweepPlan};
 use machine_core::Config;
@@ -18,7 +20,7 @@ use tso_model::limits::{MAX_DEPTH, MIN_DEPTH};
 #[repr(C)]
 #[derive(Clone, Copy)]
 pub struct Asked {
-    /// 0 run, 1 sweep, 2 check, 3 witness, 4 tables, 5 outcomes, 6 trace.
+    /// 0 run, 1 sweep, 2 check, 3 witness, 4 tables, 5 outcomes, 6 trace; 7 the last step of a trace alone.
     pub command: u8,
     /// 0 msi, 1 mesi, 2 moesi, 3 mosi.
     pub protocol: u8,
@@ -32,7 +34,7 @@ pub struct Asked {
     pub ways: u8,
     /// Words of a line, 1, 2 or 4.
     pub words: u8,
-    /// Whether the answer of a run or of a search is JSON.
+    /// Whether the answer of a run, of a trace or of a search is JSON.
     pub json: bool,
     /// The first seed of a sweep.
     pub from: u32,
@@ -44,11 +46,53 @@ pub struct Asked {
     pub states: u32,
 }
 
-/// The settings that the numbers ask for; `None` where one of them is outside its limits.
-pub fn settings_of(asked: &Asked) -> Option<Settings>
+/// What numbers ask for.
+#[derive(Clone, Copy)]
+pub enum Question {
+    /// The answer of a command under these settings.
+    Command(Settings),
+    /// The last step of a trace as JSON alone, on such a machine.
+    Step {
+        protocol: ProtocolKind,
+        config: Config,
+    },
+}
+
+impl Question {
+    /// The settings of the command whose hints stand beside the answer.
+    pub fn settings(&self) -> Settings
+        ensures { result ≡ settings_of self.now }
+    {
+        match self {
+            Question::Command(settings) => *settings,
+            Question::Step { protocol, config } => Settings::Trace {
+                protocol: *protocol,
+                config: *config,
+                json: true,
+            },
+        }
+    }
+}
+
+/// What the numbers ask for; `None` where one of them is outside its limits.
+pub fn question_of(asked: &Asked) -> Option<Question>
+    ensures asks { IfSome result (AsksFor asked.now) }
+    ensures depth { IfSome result HasDepthFor }
+    ensures valid { IsSome result ↔ IsAskable asked.now }
+{
+    if asked.command == 7 {
+        let (protocol, config) = (kind_of(asked.protocol)?, config_of(asked)?);
+        Some(Question::Step { protocol, config })
+    } else {
+        Some(Question::Command(command_of(asked)?))
+    }
+}
+
+/// The settings of the command that the numbers ask for; `None` where there is none, or a number is outside its limits.
+fn command_of(asked: &Asked) -> Option<Settings>
     ensures asks { IfSome result (Asks asked.now) }
     ensures depth { IfSome result HasDepth }
-    ensures valid { IsSome result ↔ IsAskable asked.now }
+    ensures valid { IsSome result ↔ IsCommandAskable asked.now }
 {
     match asked.command {
         0 => {
@@ -86,7 +130,11 @@ pub fn settings_of(asked: &Asked) -> Option<Settings>
         }
         6 => {
             let (protocol, config) = (kind_of(asked.protocol)?, config_of(asked)?);
-            Some(Settings::Trace { protocol, config })
+            Some(Settings::Trace {
+                protocol,
+                config,
+                json: asked.json,
+            })
         }
         _ => None,
     }

@@ -2,16 +2,16 @@
 //! the exit status out.
 #![tactic(auto)]
 
-ghost use Rattle.std.specs.Prelude.{◌≡◌, ◌≢◌, ◌<◌, ◌⊎◌, ◌↔◌, true, false, take, length, IfOk};
-ghost use Rattle.command_line.specs.Limits.{HasDepth};
-ghost use Rattle.page_exports.specs.Asked.{AnswersAsked, Answers, IsAskable, number_of};
+ghost use Rattle.std.specs.Prelude.{◌≡◌, ◌≢◌, ◌<◌, ◌⊎◌, ◌↔◌, true, false, take, length, string_bytes, IfOk};
+ghost use Rattle.page_exports.specs.Asked.{AnswersAsked, Answers, IsAnswerTo, IsAskable, number_of};
+ghost use Rattle.page_exports.specs.inner.Asked.{HasDepthFor};
 
 mod asked;
 
 pub use asked::Asked;
-use asked::{settings_of, status_number};
+use asked::{Question, question_of, status_number};
 use std::alloc::Global;
-use tso_cli::{Settings, answer_to, hint};
+use tso_cli::{Answer, answer_to, hint, step_answer};
 use tso_model::NoMemory;
 
 /// The status where the numbers ask for nothing that there is, as the program's for a command line that is refused.
@@ -35,7 +35,9 @@ pub struct Told {
 }
 
 /// Answers what is asked of an input, as the program with these settings answers it on its standard input: the answer
-/// into one room, the hint beside it into another. What a room holds behind them is left open.
+/// into one room, the hint beside it into another. What a room holds behind them is left open. Of a trace the last step
+/// alone is answered too, with the status and the hint of the trace: so that one more choice costs the same however many
+/// were made before it.
 ///
 /// `told` has the status [`NOTHING_ASKED`] where the numbers ask for nothing that there is, [`NO_MEMORY`] where memory
 /// was refused, and else the command's own; it isn't whole where there is no answer, and where a room is shorter than
@@ -55,8 +57,8 @@ pub extern "C" fn page_answer(
     ensures whole { told.new.is_whole ≡ false → (told.new.status ≡ 2) ⊎ (told.new.status ≡ 5)
         ⊎ (length output.old < told.new.length) ⊎ (length hint_output.old < told.new.hint_length) }
 {
-    *told = match settings_of(asked) {
-        Some(settings) => match told_under(alloc, &settings, input, output, hint_output) {
+    *told = match question_of(asked) {
+        Some(question) => match told_of(alloc, &question, input, output, hint_output) {
             Ok(told) => told,
             Err(NoMemory) => nothing(NO_MEMORY),
         },
@@ -76,23 +78,38 @@ fn nothing(status: u8) -> Told
     }
 }
 
-/// Answers under settings, and tells what fitted into the rooms.
-fn told_under(
+/// The answer to a question about an input.
+///
+/// Errors: out of memory only.
+fn answer_of(alloc: Global, question: &Question, input: &[u8]) -> Result<Answer, NoMemory>
+    requires { HasDepthFor question.now }
+    ensures { IfOk result (λ a. IsAnswerTo question.now input.now (string_bytes a.text) a.status) }
+{
+    match question {
+        Question::Command(settings) => answer_to(alloc, settings, input),
+        Question::Step { protocol, config } => step_answer(alloc, *protocol, *config, input),
+    }
+}
+
+/// Answers a question, and tells what fitted into the rooms.
+///
+/// Errors: out of memory only.
+fn told_of(
     alloc: Global,
-    settings: &Settings,
+    question: &Question,
     input: &[u8],
     output: &mut [u8],
     hint_output: &mut [u8],
 ) -> Result<Told, NoMemory>
-    requires { HasDepth settings.now }
+    requires { HasDepthFor question.now }
     ensures answers { IfOk result (λ t. t.is_whole ≡ true
-        → Answers settings.now input.now (take t.length output.new) (take t.hint_length hint_output.new) t.status) }
+        → Answers question.now input.now (take t.length output.new) (take t.hint_length hint_output.new) t.status) }
     ensures command { IfOk result (λ t. t.status ≢ 2) }
     ensures whole { IfOk result (λ t. t.is_whole ≡ false
         → (length output.old < t.length) ⊎ (length hint_output.old < t.hint_length)) }
 {
-    let answer = answer_to(alloc, settings, input)?;
-    let hint = hint(alloc, settings, &answer, input)?;
+    let answer = answer_of(alloc, question, input)?;
+    let hint = hint(alloc, &question.settings(), &answer, input)?;
     let (text, hint) = (answer.text.as_bytes(), hint.as_bytes());
     let has_text = put(text, output);
     let has_hint = put(hint, hint_output);

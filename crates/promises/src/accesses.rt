@@ -4,9 +4,8 @@ ghost use Rattle.std.specs.Prelude.{◌≡◌, ◌<◌, ◌≤◌, false, true, 
 ghost use Rattle.cache_set.specs.Contents.{copy_of};
 ghost use Rattle.snoop_bus.specs.Bus.{words_of, cores_of, IsFree, IsCoherent};
 ghost use Rattle.snoop_bus.specs.inner.Bus.{HasLines};
-ghost use Rattle.snoop_bus.specs.Accesses.{contents_of, memory_of};
+ghost use Rattle.snoop_bus.specs.Accesses.{contents_of, memory_of, memory_after_load, memory_after_write};
 ghost use Rattle.snoop_bus.specs.inner.Accesses.{contents_settled, copies_of, MayGoOn};
-ghost use Rattle.snoop_bus.specs.Accesses.{memory_after_load, memory_after_write};
 
 use cache_set::Line;
 use protocol_tables::Protocol;

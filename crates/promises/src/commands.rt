@@ -1,19 +1,22 @@
 //! What a command writes, what it takes of its streams, and what is told of its end.
 
-ghost use Rattle.std.specs.Prelude.{◌≡◌, ◌+◌, ◌-◌, ◌^◌, ◌<◌, ◌≤◌, ◌↔◌, ◌⊎◌, List, [], Ok, Err, IfOk, length, string_bytes};
+ghost use Rattle.std.specs.Prelude.{ℕ, ◌≡◌, ◌+◌, ◌-◌, ◌^◌, ◌<◌, ◌≤◌, ◌↔◌, ◌⊎◌, List, [], Ok, Err, IfOk, length, string_bytes};
 ghost use Rattle.std.specs.Io.KnownBytes.{Keeps};
 ghost use Rattle.tso_model.specs.Litmus.{Litmus};
 ghost use Rattle.tso_model.specs.Runs.{run};
 ghost use Rattle.tso_model.specs.declared.choice.Choice.{Choice};
 ghost use Rattle.litmus_reader.specs.Spelling.{SpellsTest};
 ghost use Rattle.scheduler.specs.Grammar.{SpellsChoices};
+ghost use Rattle.scheduler.specs.WordOfChoice.{IsWordOfChoice};
+ghost use Rattle.scheduler.specs.declared.fault.ChoiceFault.TheVariants.{TooMany};
 ghost use Rattle.command_line.specs.Limits.{HasDepth};
 ghost use Rattle.tso_cli.specs.Answers.{IsAnswer};
 ghost use Rattle.tso_cli.specs.Headline.{Headline};
 ghost use Rattle.tso_cli.specs.Hints.{IsTold};
+ghost use Rattle.tso_cli.specs.Lines.{choices_refusal};
 ghost use Rattle.tso_cli.specs.Parts.{parts_of};
 ghost use Rattle.tso_cli.specs.SplitRun.{split_run};
-ghost use Rattle.tso_cli.specs.TraceHeadline.{PrintsTrace};
+ghost use Rattle.tso_cli.specs.TraceHeadline.{PrintsTrace, PrintsTracedObject};
 ghost use Rattle.tso_cli.specs.Streams.{Writes, WritesAnswer, WritesBeginning, ConsumesAtMost};
 
 use machine_core::{Bus, Config};
@@ -103,7 +106,50 @@ pub fn a_trace_stands_in_a_report(
         → SpellsTest (parts_of input.now).test t → SpellsChoices (length t.programs) (parts_of input.now).rest choices
         → PrintsTrace t protocol config choices (split_run t protocol config choices) (string_bytes a.text)) }
 {
-    answer_to(alloc, &Settings::Trace { protocol, config }, input)
+    let json = false;
+    let settings = Settings::Trace {
+        protocol,
+        config,
+        json,
+    };
+    answer_to(alloc, &settings, input)
+}
+
+/// What `trace --json` writes of choices of which at most 1,000 are used is the object that `run --json` prints: that of an
+/// execution, or of how far the choices came; with the programs, the proposition and the trace of these very choices
+/// beside. Where more are used, the text is refused by the word that says the 1,001st.
+pub fn a_trace_stands_in_an_object(
+    alloc: Global,
+    protocol: ProtocolKind,
+    config: Config,
+    input: &[u8],
+) -> Result<Answer, NoMemory>
+    ensures atomic { config.bus ≡ Bus.Atomic → length input.now ≤ 1048576 → IfOk result (λ a. (t : Litmus) (choices : List Choice)
+        → SpellsTest (parts_of input.now).test t → SpellsChoices (length t.programs) (parts_of input.now).rest choices
+        → (run t config.depth choices).used ≤ 1000
+        → PrintsTracedObject t protocol config choices (run t config.depth choices) (string_bytes a.text)) }
+    ensures split { config.bus ≡ Bus.Split → length input.now ≤ 1048576 → IfOk result (λ a. (t : Litmus) (choices : List Choice)
+        → SpellsTest (parts_of input.now).test t → SpellsChoices (length t.programs) (parts_of input.now).rest choices
+        → (split_run t protocol config choices).used ≤ 1000
+        → PrintsTracedObject t protocol config choices (split_run t protocol config choices) (string_bytes a.text)) }
+    ensures long_on_atomic { config.bus ≡ Bus.Atomic → length input.now ≤ 1048576 → IfOk result (λ a. (t : Litmus) (choices : List Choice)
+        → SpellsTest (parts_of input.now).test t → SpellsChoices (length t.programs) (parts_of input.now).rest choices
+        → 1000 < (run t config.depth choices).used
+        → (word : ℕ) × IsWordOfChoice (length t.programs) (parts_of input.now).rest 1000 word
+        × (string_bytes a.text ≡ choices_refusal (TooMany word))) }
+    ensures long_on_split { config.bus ≡ Bus.Split → length input.now ≤ 1048576 → IfOk result (λ a. (t : Litmus) (choices : List Choice)
+        → SpellsTest (parts_of input.now).test t → SpellsChoices (length t.programs) (parts_of input.now).rest choices
+        → 1000 < (split_run t protocol config choices).used
+        → (word : ℕ) × IsWordOfChoice (length t.programs) (parts_of input.now).rest 1000 word
+        × (string_bytes a.text ≡ choices_refusal (TooMany word))) }
+{
+    let json = true;
+    let settings = Settings::Trace {
+        protocol,
+        config,
+        json,
+    };
+    answer_to(alloc, &settings, input)
 }
 
 /// A hint is told where an input was refused or a run didn't end, may be told beside final states in lines that people

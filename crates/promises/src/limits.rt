@@ -9,6 +9,7 @@ use litmus_reader::MAX_TEXT;
 use machine_core::{Bus, Config, Shape};
 use snoop_bus::bus::MAX_CORES as MAX_BUS_CORES;
 use snoop_bus::shape::{MAX_SETS, MAX_WAYS, MAX_WORDS};
+use trace_json::MAX_STEPS;
 use tso_cli::streams::{MAX_INPUT, READ_LIMIT};
 use tso_model::limits::{
     MAX_ATOMS, MAX_CORES, MAX_DEPTH, MAX_INSTRUCTIONS, MAX_LOCATIONS, MAX_NAME, MAX_OPEN,
@@ -33,6 +34,7 @@ pub fn limits_are_these_numbers()
     ensures seeds { MAX_SEEDS ≡ 1000 }
     ensures states { MAX_STATES ≡ 10000000 }
     ensures choices { MAX_LENGTH ≡ 100000 }
+    ensures steps_as_json { MAX_STEPS ≡ 1000 }
     ensures text { MAX_TEXT ≡ 65536 }
     ensures input { MAX_INPUT ≡ 1048576 }
     ensures read { READ_LIMIT ≡ 1048577 }

@@ -4,8 +4,9 @@ ghost use Rattle.std.specs.Prelude.{◌≡◌, true, false};
 ghost use Rattle.std.proofs.Common.{rules};
 ghost use Rattle.protocol_tables.specs.declared.kind.ProtocolKind.TheVariants.{Msi as KindMsi, Mesi as KindMesi};
 ghost use Rattle.protocol_tables.specs.declared.kind.ProtocolKind.TheVariants.{Moesi as KindMoesi, Mosi as KindMosi};
+ghost use Rattle.protocol_tables.specs.declared.kind.ProtocolKind.{ProtocolKind};
 ghost use Rattle.protocol_tables.specs.Names.{protocol_name};
-ghost use Rattle.protocol_tables.specs.Tables.{msi, mesi, moesi, mosi};
+ghost use Rattle.protocol_tables.specs.Tables.{table_of};
 ghost use Rattle.protocol_tables.specs.Tables.{snoop, filled_by_company, get_s_sending, get_s_owning, get_m, write, write_back};
 
 use crate::kind::ProtocolKind;
@@ -28,17 +29,49 @@ pub struct Moesi;
 #[derive(Clone, Copy)]
 pub struct Mosi;
 
-impl Protocol for Msi {
-    ghost table = { λ _. msi };
+/// A type that stands for one of the protocols, by its kind. Its table is that kind's, so the laws are proved
+/// of all four tables at once.
+pub trait Kind: Drop {
+    ghost KIND: { ProtocolKind };
 
-    ghost called = { λ _. protocol_name KindMsi };
+    const KIND: ProtocolKind;
+}
 
-    fn filled(&self, _shared: bool) -> State {
-        State::S
+impl Kind for Msi {
+    ghost KIND = { KindMsi };
+
+    const KIND: ProtocolKind = ProtocolKind::Msi;
+}
+
+impl Kind for Mesi {
+    ghost KIND = { KindMesi };
+
+    const KIND: ProtocolKind = ProtocolKind::Mesi;
+}
+
+impl Kind for Moesi {
+    ghost KIND = { KindMoesi };
+
+    const KIND: ProtocolKind = ProtocolKind::Moesi;
+}
+
+impl Kind for Mosi {
+    ghost KIND = { KindMosi };
+
+    const KIND: ProtocolKind = ProtocolKind::Mosi;
+}
+
+impl<K: Kind> Protocol for K {
+    ghost table = { λ _. table_of K.KIND };
+
+    ghost called = { λ _. protocol_name K.KIND };
+
+    fn filled(&self, shared: bool) -> State {
+        filled(K::KIND, shared)
     }
 
     fn on_get_s(&self, state: State) -> Snoop {
-        shared_clean(state)
+        shared(K::KIND, state)
     }
 
     fn on_get_m(&self, state: State) -> Snoop {
@@ -54,7 +87,7 @@ impl Protocol for Msi {
     }
 
     fn name(&self) -> &str {
-        ProtocolKind::Msi.name()
+        K::KIND.name()
     }
 
     ghost fills_exclusive_only_alone = { λ _. Prim.search rules };
@@ -74,142 +107,24 @@ impl Protocol for Msi {
     ghost writes_back_dirty = { λ _. Prim.search rules };
 }
 
-impl Protocol for Mesi {
-    ghost table = { λ _. mesi };
-
-    ghost called = { λ _. protocol_name KindMesi };
-
-    fn filled(&self, shared: bool) -> State {
-        filled_by_sharing(shared)
+/// The state that a load fills in: E where the protocol has exclusive copies, and no other cache holds the line.
+fn filled(kind: ProtocolKind, shared: bool) -> State
+    ensures { result ≡ (table_of kind).filled shared }
+{
+    match kind {
+        ProtocolKind::Msi | ProtocolKind::Mosi => State::S,
+        ProtocolKind::Mesi | ProtocolKind::Moesi => filled_by_sharing(shared),
     }
-
-    fn on_get_s(&self, state: State) -> Snoop {
-        shared_clean(state)
-    }
-
-    fn on_get_m(&self, state: State) -> Snoop {
-        given_up(state)
-    }
-
-    fn written(&self, state: State) -> Option<State> {
-        written_in_place(state)
-    }
-
-    fn evicts_dirty(&self, state: State) -> bool {
-        is_dirty(state)
-    }
-
-    fn name(&self) -> &str {
-        ProtocolKind::Mesi.name()
-    }
-
-    ghost fills_exclusive_only_alone = { λ _. Prim.search rules };
-
-    ghost shares = { λ _. Prim.search rules };
-
-    ghost cleans_by_memory = { λ _. Prim.search rules };
-
-    ghost supplies_to_readers = { λ _. Prim.search rules };
-
-    ghost supplies_to_writers = { λ _. Prim.search rules };
-
-    ghost gives_up = { λ _. Prim.search rules };
-
-    ghost writes_in_place = { λ _. Prim.search rules };
-
-    ghost writes_back_dirty = { λ _. Prim.search rules };
 }
 
-impl Protocol for Moesi {
-    ghost table = { λ _. moesi };
-
-    ghost called = { λ _. protocol_name KindMoesi };
-
-    fn filled(&self, shared: bool) -> State {
-        filled_by_sharing(shared)
+/// What GetS does to a copy: a modified one is sent to memory, or stays dirty where the protocol has owned copies.
+fn shared(kind: ProtocolKind, state: State) -> Snoop
+    ensures { result ≡ (table_of kind).on_get_s state }
+{
+    match kind {
+        ProtocolKind::Msi | ProtocolKind::Mesi => shared_clean(state),
+        ProtocolKind::Moesi | ProtocolKind::Mosi => shared_dirty(state),
     }
-
-    fn on_get_s(&self, state: State) -> Snoop {
-        shared_dirty(state)
-    }
-
-    fn on_get_m(&self, state: State) -> Snoop {
-        given_up(state)
-    }
-
-    fn written(&self, state: State) -> Option<State> {
-        written_in_place(state)
-    }
-
-    fn evicts_dirty(&self, state: State) -> bool {
-        is_dirty(state)
-    }
-
-    fn name(&self) -> &str {
-        ProtocolKind::Moesi.name()
-    }
-
-    ghost fills_exclusive_only_alone = { λ _. Prim.search rules };
-
-    ghost shares = { λ _. Prim.search rules };
-
-    ghost cleans_by_memory = { λ _. Prim.search rules };
-
-    ghost supplies_to_readers = { λ _. Prim.search rules };
-
-    ghost supplies_to_writers = { λ _. Prim.search rules };
-
-    ghost gives_up = { λ _. Prim.search rules };
-
-    ghost writes_in_place = { λ _. Prim.search rules };
-
-    ghost writes_back_dirty = { λ _. Prim.search rules };
-}
-
-impl Protocol for Mosi {
-    ghost table = { λ _. mosi };
-
-    ghost called = { λ _. protocol_name KindMosi };
-
-    fn filled(&self, shared: bool) -> State {
-        Msi.filled(shared)
-    }
-
-    fn on_get_s(&self, state: State) -> Snoop {
-        shared_dirty(state)
-    }
-
-    fn on_get_m(&self, state: State) -> Snoop {
-        given_up(state)
-    }
-
-    fn written(&self, state: State) -> Option<State> {
-        written_in_place(state)
-    }
-
-    fn evicts_dirty(&self, state: State) -> bool {
-        is_dirty(state)
-    }
-
-    fn name(&self) -> &str {
-        ProtocolKind::Mosi.name()
-    }
-
-    ghost fills_exclusive_only_alone = { λ _. Prim.search rules };
-
-    ghost shares = { λ _. Prim.search rules };
-
-    ghost cleans_by_memory = { λ _. Prim.search rules };
-
-    ghost supplies_to_readers = { λ _. Prim.search rules };
-
-    ghost supplies_to_writers = { λ _. Prim.search rules };
-
-    ghost gives_up = { λ _. Prim.search rules };
-
-    ghost writes_in_place = { λ _. Prim.search rules };
-
-    ghost writes_back_dirty = { λ _. Prim.search rules };
 }
 
 fn filled_by_sharing(shared: bool) -> State

@@ -13,7 +13,7 @@ use Rattle.scheduler.specs.declared.item.Item.TheVariants.{One, Seeded}
 use Rattle.scheduler.specs.Limits.{most_choices}
 use Rattle.scheduler.specs.Grammar.{IsItem, AreItems, none, more, WordsSpell}
 use Rattle.scheduler.specs.Refusals.{IsItemAtFault, bad_form, cut_seed, bad_seed, bad_count, no_core, too_many}
-use Rattle.scheduler.specs.inner.WordOfChoice.{SayAt}
+use Rattle.scheduler.specs.WordOfChoice.{SayAt}
 use Rattle.scheduler.specs.inner.Reading.{made_of, words_in, item_of}
 use Rattle.scheduler.specs.inner.TooMany.{too_many_at}
 use Rattle.scheduler.proofs.Found.{Fits, IsRead, item_read}

@@ -6,3 +6,4 @@ pub mod Refusals
 pub mod Reach
 pub mod Printed
 pub mod inner
+pub mod WordOfChoice

@@ -4,4 +4,3 @@ pub mod ItemsRead
 pub mod Passed
 pub mod Reading
 pub mod TooMany
-pub mod WordOfChoice

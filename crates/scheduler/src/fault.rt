@@ -4,7 +4,6 @@ ghost use Rattle.std.specs.Prelude.{◌≡◌};
 ghost use Rattle.scheduler.specs.declared.fault.ChoiceFault.TheVariants as fault;
 ghost use Rattle.scheduler.specs.declared.fault.WitnessFault.TheVariants as witness_fault;
 
-use std::alloc::{AllocError, AllocFailed};
 use std::error::Error;
 use std::fmt;
 
@@ -33,22 +32,6 @@ impl fmt::Display for ChoiceFault {
 }
 
 impl Error for ChoiceFault {}
-
-impl From<AllocError> for ChoiceFault {
-    ghost from_gives = { λ _ e. e ≡ fault.NoMemory };
-
-    fn from(_: AllocError) -> ChoiceFault {
-        ChoiceFault::NoMemory
-    }
-}
-
-impl<T: Drop> From<AllocFailed<T>> for ChoiceFault {
-    ghost from_gives = { λ _ e. e ≡ fault.NoMemory };
-
-    fn from(_: AllocFailed<T>) -> ChoiceFault {
-        ChoiceFault::NoMemory
-    }
-}
 
 impl From<tso_model::NoMemory> for ChoiceFault {
     ghost from_gives = { λ _ e. e ≡ fault.NoMemory };

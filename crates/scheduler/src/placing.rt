@@ -4,7 +4,7 @@ ghost use Rattle.std.specs.Prelude.{◌≡◌, ◌<◌, ℕ, List, Some, IfSome,
 ghost use Rattle.tso_model.specs.declared.choice.Choice.{Choice};
 ghost use Rattle.scheduler.specs.Limits.{most_choices};
 ghost use Rattle.scheduler.specs.Grammar.{SpellsChoices};
-ghost use Rattle.scheduler.specs.inner.WordOfChoice.{IsWordOfChoice};
+ghost use Rattle.scheduler.specs.WordOfChoice.{IsWordOfChoice};
 ghost use Rattle.scheduler.specs.inner.TooMany.{too_many_at};
 
 use crate::fault::ChoiceFault;

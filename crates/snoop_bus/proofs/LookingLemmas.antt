@@ -11,7 +11,8 @@ use Rattle.protocol_tables.specs.Laws.{is_dirty}
 use Rattle.snoop_bus.specs.Asks.{or_invalid}
 use Rattle.snoop_bus.specs.Coherent.{state_of}
 use Rattle.snoop_bus.proofs.AccessLemmas.{tag_here}
-use Rattle.snoop_bus.specs.inner.Accesses.{with_words, ranked_in, IsClean}
+use Rattle.snoop_bus.specs.inner.Accesses.{ranked_in, IsClean}
+use Rattle.snoop_bus.specs.Accesses.{with_words}
 use Rattle.cache_set.specs.declared.Line.{Line}
 use Rattle.cache_set.specs.Contents.{Contents, contents, copy_of}
 use Rattle.cache_set.specs.inner.Copy.{with_state}

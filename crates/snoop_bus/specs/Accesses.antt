@@ -9,7 +9,7 @@ use Rattle.cache_set.specs.Contents.{contents}
 use Rattle.snoop_bus.specs.declared.access.Access.{Access}
 use Rattle.snoop_bus.specs.Geometry.{Geometry}
 use Rattle.snoop_bus.specs.Rows.{table_of_rows}
-use Rattle.snoop_bus.specs.Lines.{Words, lines_of_words}
+use Rattle.snoop_bus.specs.Lines.{Words, lines_of_words, line_of_words}
 use Rattle.snoop_bus.specs.CacheContents.{TagSets, Accessed, loaded, written}
 use Rattle.snoop_bus.specs.Copies.{cache_of, tags_of}
 use Rattle.snoop_bus.specs.Bus.{Bus, bus_with, words_of, holder_of, empty_caches}
@@ -17,6 +17,8 @@ use Rattle.snoop_bus.specs.MemoryAfter.{loaded_memory, written_memory}
 use Rattle.snoop_bus.specs.Held.{transaction_in, holder, stage_for}
 use Rattle.snoop_bus.specs.Asks.{Awaited, Asked, hits, request_for, asking, asked_memory, awaited_in, completed}
 use Rattle.snoop_bus.specs.Asks.{completed_memory}
+use Rattle.protocol_tables.specs.declared.state.State.{State}
+use Rattle.snoop_bus.specs.declared.looking.CachedLine.{CachedLine}
 
 -- memory with these words: as many lines as they need
 abbrev pub lines_with : Geometry → List ℕ → List Words
@@ -119,3 +121,7 @@ pub record CompletesAt (old new : Bus) (core loc : ℕ) (access : Access) : Type
   pub access_is : access ≡ (completion_of old core loc).access
   pub contents : contents_of new ≡ (completion_of old core loc).caches
   pub memory : memory_of new ≡ memory_after_completion old core loc
+
+-- a line in this state, where lines have so many words, and these words are seen
+abbrev pub with_words : ℕ → List ℕ → ℕ × State → CachedLine
+with_words words seen tag = record { line = tag.0; state = tag.1; words = line_of_words words seen tag.0 }

@@ -22,7 +22,7 @@ use crate::lines::lines_of;
 use crate::loading::load;
 use crate::settling::settle;
 use crate::shape::Shape;
-use crate::target::{Change, Target, Wanted};
+use crate::target::{Change, Wanted};
 use crate::writing::{self, write};
 use cache_set::MAX_WORDS;
 use protocol_tables::Protocol;
@@ -268,11 +268,7 @@ impl<P: Protocol> SnoopBus<P> {
         ensures machine { IsSameMachine self.old self.new }
     {
         let held = self.held.unwrap();
-        let target = Target {
-            core: usize::from(core.0),
-            line: held.line,
-            place: self.shape.place_of(loc),
-        };
+        let target = self.shape.target_of(core, loc);
         let done = complete_load(
             &mut self.caches,
             &mut self.memory,
@@ -300,11 +296,7 @@ impl<P: Protocol> SnoopBus<P> {
         ensures machine { IsSameMachine self.old self.new }
     {
         let held = self.held.unwrap();
-        let target = Target {
-            core: usize::from(core.0),
-            line: held.line,
-            place: self.shape.place_of(loc),
-        };
+        let target = self.shape.target_of(core, loc);
         let access = complete_store(
             &mut self.caches,
             &mut self.memory,
@@ -335,11 +327,7 @@ impl<P: Protocol> SnoopBus<P> {
         ensures machine { IsSameMachine self.old self.new }
     {
         let held = self.held.unwrap();
-        let target = Target {
-            core: usize::from(core.0),
-            line: held.line,
-            place: self.shape.place_of(loc),
-        };
+        let target = self.shape.target_of(core, loc);
         let done = complete_read(
             &mut self.caches,
             &mut self.memory,

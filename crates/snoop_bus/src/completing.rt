@@ -25,8 +25,7 @@ use cache_set::{Line, MAX_WORDS};
 use protocol_tables::{Protocol, State, Transient};
 use tso_model::NoMemory;
 
-/// Fills a core's line with the copy that the bus keeps; another may leave. Answers whether that one was
-/// written to memory.
+/// Fills a core's line with the copy that the bus keeps; another may leave. Answers what the access was: a miss.
 ///
 /// Errors: out of memory only; nothing is changed then.
 pub fn fill_asked<P: Protocol>(
@@ -35,26 +34,31 @@ pub fn fill_asked<P: Protocol>(
     protocol: &P,
     core: usize,
     line: u8,
-    copy: Line,
-) -> Result<bool, NoMemory>
-    requires coherent { AllCoherent (counting core line copy caches.old) memory.old }
+    transaction: Transaction,
+) -> Result<Access, NoMemory>
+    requires coherent { AllCoherent (counting core line transaction.copy caches.old) memory.old }
     requires core { core < length caches.old }
     requires some_set { 0 < length (cache_of caches.old core) }
     requires line { line < length memory.old }
     requires absent { copy_at caches.old core line ≡ None }
 
-    ensures wrote_back { IfOk result (λ b. b ≡ writes_back (P.table protocol.now) core line (tags_of caches.old)) }
-    ensures tags { OnOk result (tags_of caches.new ≡ filled_by core line copy.state (tags_of caches.old)) }
+    ensures access { IfOk result (λ a. a ≡ record { kind = Miss; wrote_back = writes_back (P.table protocol.now) core line (tags_of caches.old); flushed = transaction.flushed }) }
+    ensures tags { OnOk result (tags_of caches.new ≡ filled_by core line transaction.copy.state (tags_of caches.old)) }
     ensures memory { OnOk result (memory.new ≡ written_back (P.table protocol.now) (victim_at caches.old core line) memory.old) }
-    ensures own { OnOk result (copy_at caches.new core line ≡ Some copy) }
-    ensures words { OnOk result (KeepsWords (counting core line copy caches.old) caches.new memory.old memory.new) }
+    ensures own { OnOk result (copy_at caches.new core line ≡ Some transaction.copy) }
+    ensures words { OnOk result (KeepsWords (counting core line transaction.copy caches.old) caches.new memory.old memory.new) }
     ensures ways { ways_of caches.new ≡ ways_of caches.old }
 
     ensures refused { OnErr result (IsUnchanged caches.old caches.new memory.old memory.new) }
 {
     let cache = &mut caches[core];
-    let victim = cache.fill(line, copy.state, copy.words)?;
-    Ok(write_back(memory, protocol, victim))
+    let Line { state, words } = transaction.copy;
+    let victim = cache.fill(line, state, words)?;
+    Ok(Access {
+        kind: AccessKind::Miss,
+        wrote_back: write_back(memory, protocol, victim),
+        flushed: transaction.flushed,
+    })
 }
 
 /// Completes a write access, but for the word that it writes: the core's copy is then in M, and no other
@@ -94,19 +98,7 @@ pub fn acquire_asked<P: Protocol>(
                     Ok((words, Access::quiet(AccessKind::Upgrade)))
                 }
                 Transient::IsD | Transient::ImD => {
-                    let wrote_back = fill_asked(
-                        caches,
-                        memory,
-                        protocol,
-                        core,
-                        line,
-                        transaction.copy,
-                    )?;
-                    let access = Access {
-                        kind: AccessKind::Miss,
-                        wrote_back,
-                        flushed: transaction.flushed,
-                    };
+                    let access = fill_asked(caches, memory, protocol, core, line, transaction)?;
                     Ok((words, access))
                 }
             }
@@ -136,12 +128,7 @@ pub fn complete_load<P: Protocol>(
 {
     let transaction = transaction.unwrap();
     let Target { core, line, place } = target;
-    let wrote_back = fill_asked(caches, memory, protocol, core, line, transaction.copy)?;
-    let access = Access {
-        kind: AccessKind::Miss,
-        wrote_back,
-        flushed: transaction.flushed,
-    };
+    let access = fill_asked(caches, memory, protocol, core, line, transaction)?;
     Ok((transaction.copy.words[usize::from(place)], access))
 }
 

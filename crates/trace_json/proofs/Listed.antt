@@ -11,8 +11,8 @@ use Rattle.machine_core.specs.Configuration.{Configuration}
 use Rattle.machine_core.specs.Running.{Running}
 use Rattle.tso_report.specs.Json.{registers_value}
 use Rattle.trace_report.specs.Lines.{store_text}
-use Rattle.trace_json.specs.inner.Values.{texts}
-use Rattle.trace_json.specs.inner.MachineJson.{set_json, sets_json, core_with, core_json, cores_json}
+use Rattle.trace_json.specs.Values.{texts}
+use Rattle.trace_json.specs.MachineJson.{set_json, sets_json, core_with, core_json, cores_json}
 use Rattle.trace_json.specs.inner.Looked.{IsShown}
 
 listed : (values after : List Value) (v : Value) (first : Data) (rest all whole : List Data) → after ≡ values ++ v ∷ [] → view v ≡ first → all ≡ first ∷ rest

@@ -6,7 +6,7 @@ use Rattle.snoop_bus.specs.declared.looking.CachedLine.{CachedLine}
 use Rattle.machine_core.specs.Running.{Running}
 use Rattle.machine_core.specs.inner.Looked.{core_at, cached_line}
 use Rattle.tso_report.specs.Json.{registers_value}
-use Rattle.trace_json.specs.inner.MachineJson.{copies_in}
+use Rattle.trace_json.specs.MachineJson.{copies_in}
 
 -- ---- a list read one after the other
 read-on : {A : Type 0} (n : ℕ) (xs done : List A) (x : A) → n ≡ length done → Some x ≡ slice_get xs n → done ≡ take n xs → done ++ x ∷ [] ≡ take (n + 1) xs

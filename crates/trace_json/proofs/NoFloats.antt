@@ -19,21 +19,19 @@ use Rattle.protocol_tables.specs.Tables.{table_of}
 use Rattle.protocol_tables.specs.declared.kind.ProtocolKind.{ProtocolKind}
 use Rattle.snoop_bus.specs.declared.looking.CachedLine.{CachedLine}
 use Rattle.machine_core.specs.Configuration.{Configuration}
-use Rattle.machine_core.specs.Running.{Running, new_machine}
-use Rattle.machine_core.specs.Running.{machine_after}
+use Rattle.machine_core.specs.Running.{Running, new_machine, machine_after}
 use Rattle.machine_core.specs.Looked.{bus_holder_of}
 use Rattle.machine_core.specs.declared.looking.BusHolder.{BusHolder}
 use Rattle.tso_report.specs.Json.{count, memory_members, memory_value, order_value}
 use Rattle.trace_report.specs.Shown.{Shown}
 use Rattle.trace_report.specs.Steps.{step_of}
-use Rattle.trace_json.specs.Values.{counts}
-use Rattle.trace_json.specs.inner.Values.{text_or_null, texts}
-use Rattle.trace_json.specs.inner.OwnWords.{own_words}
+use Rattle.trace_json.specs.Values.{counts, text_or_null, texts}
+use Rattle.trace_json.specs.OwnWords.{own_words}
 use Rattle.trace_report.specs.Lines.{access_name, stall_name, line_name, names_in_line, store_text}
 use Rattle.trace_report.specs.Lines.{printed_core, printed_move, printed_change, printed_request, transient_name}
-use Rattle.trace_json.specs.inner.MachineJson.{words_in, words_in_line, kept_words, copy_json, copies_in, set_json, sets_json, core_json, cores_json, holder_json, bus_json, machine_json}
-use Rattle.trace_json.specs.inner.StepJson.{stall_in, step_json}
-use Rattle.trace_json.specs.inner.TraceJson.{step_to, steps_json, start_json, trace_json, last_or, last_step_json}
+use Rattle.trace_json.specs.MachineJson.{words_in, words_in_line, kept_words, copy_json, copies_in, set_json, sets_json, core_json, cores_json, holder_json, bus_json, machine_json}
+use Rattle.trace_json.specs.StepJson.{stall_in, step_json}
+use Rattle.trace_json.specs.TraceJson.{last_or, last_step_json, step_to, steps_json, start_json, trace_json}
 
 neither : (p q : Bool) → p ≡ false → q ≡ false → p || q ≡ false
 neither true q h k = h

@@ -19,11 +19,11 @@ use Rattle.tso_report.specs.Shown.{Shown}
 use Rattle.tso_report.specs.Json.{run_members, unfinished_members}
 use Rattle.tso_report.proofs.NoFloats.{run_has_no_float}
 use Rattle.std.specs.Option.{option_map}
-use Rattle.trace_json.specs.inner.Values.{text_or_null}
-use Rattle.trace_json.specs.inner.Programs.{instruction_text, program_value, programs_value}
-use Rattle.trace_json.specs.inner.Proposition.{proposition_text, proposition_value}
-use Rattle.trace_json.specs.inner.TraceJson.{trace_json}
-use Rattle.trace_json.specs.inner.TracedRun.{with_trace, ended_value, unended_value}
+use Rattle.trace_json.specs.Values.{text_or_null}
+use Rattle.trace_json.specs.Programs.{instruction_text, program_value, programs_value}
+use Rattle.trace_json.specs.Proposition.{proposition_text, proposition_value}
+use Rattle.trace_json.specs.TraceJson.{trace_json}
+use Rattle.trace_json.specs.TracedRun.{with_trace, ended_value, unended_value}
 use Rattle.trace_json.proofs.NoFloats.{trace_has_no_float}
 
 neither : (p q : Bool) → p ≡ false → q ≡ false → p || q ≡ false

@@ -5,7 +5,7 @@ use Rattle.std.proofs.lemmas.List.{drop_more}
 use Rattle.std.proofs.lemmas.Option.{unwrap_or-slice_get}
 use Rattle.std.specs.Option.{unwrap_or}
 use Rattle.machine_core.specs.Running.{Running}
-use Rattle.trace_json.specs.inner.OwnWords.{is_newer_in, own_word, own_words_from}
+use Rattle.trace_json.specs.OwnWords.{is_newer_in, own_word, own_words_from}
 
 -- one more
 pub one-word : (m : Running) (words cores loc : ℕ) (newer : Bool) (before own after whole : List ℕ) (s v : ℕ)

@@ -14,8 +14,7 @@ use Rattle.tso_model.specs.declared.choice.Choice.{Choice}
 use Rattle.protocol_tables.specs.Tables.{Table}
 use Rattle.snoop_bus.specs.Geometry.{IsLineSize}
 use Rattle.machine_core.specs.Configuration.{Configuration}
-use Rattle.machine_core.specs.Running.{Running, new_machine}
-use Rattle.machine_core.specs.Running.{effect_by, machine_after}
+use Rattle.machine_core.specs.Running.{Running, new_machine, effect_by, machine_after}
 use Rattle.machine_core.specs.inner.Running.{is_ended}
 use Rattle.trace_report.specs.Shown.{Shown}
 use Rattle.trace_report.specs.Told.{IsTraced}
@@ -23,10 +22,10 @@ use Rattle.trace_report.specs.inner.Told.{IsLookedAt}
 use Rattle.trace_report.proofs.Whole.{some-word}
 use Rattle.trace_report.proofs.Traced.{traced-first}
 use Rattle.trace_report.specs.Steps.{step_of}
-use Rattle.trace_json.specs.inner.OwnWords.{own_words}
-use Rattle.trace_json.specs.inner.MachineJson.{words_in, machine_json}
-use Rattle.trace_json.specs.inner.StepJson.{step_json}
-use Rattle.trace_json.specs.inner.TraceJson.{step_to, steps_json, last_or}
+use Rattle.trace_json.specs.OwnWords.{own_words}
+use Rattle.trace_json.specs.MachineJson.{words_in, machine_json}
+use Rattle.trace_json.specs.StepJson.{step_json}
+use Rattle.trace_json.specs.TraceJson.{last_or, step_to, steps_json}
 use Rattle.trace_json.specs.inner.Looked.{IsShown, HasMemory, told_last}
 
 -- whether the test has ended on a machine that was never refused memory

@@ -1,2 +1,9 @@
 pub mod Values
 pub mod inner
+pub mod MachineJson
+pub mod OwnWords
+pub mod Programs
+pub mod Proposition
+pub mod StepJson
+pub mod TraceJson
+pub mod TracedRun

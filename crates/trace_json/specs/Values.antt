@@ -1,9 +1,17 @@
 -- Values that a trace is made of.
-use Rattle.std.specs.Prelude.{ℕ, List, map}
-use Rattle.serde_json.specs.Data.{Data, array}
+use Rattle.std.specs.Prelude.{ℕ, List, map, Option, Some, None}
+use Rattle.serde_json.specs.Data.{Data, array, null, string}
 use Rattle.serde_json.specs.View.{items_of}
 use Rattle.tso_report.specs.Json.{count}
 
 -- numbers, and texts, in a list
 abbrev pub counts : List ℕ → Data
 counts numbers = array (items_of (map count numbers))
+
+-- a text, or `null`
+abbrev pub text_or_null : Option (List ℕ) → Data
+text_or_null None = null
+text_or_null (Some text) = string text
+
+abbrev pub texts : List (List ℕ) → Data
+texts list = array (items_of (map string list))

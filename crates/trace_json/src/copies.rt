@@ -6,7 +6,7 @@ ghost use Rattle.serde_json.specs.View.{view, items_of};
 ghost use Rattle.machine_core.specs.Looked.{bus_holder_of};
 ghost use Rattle.trace_report.specs.Lines.{names_in_line};
 ghost use Rattle.trace_report.specs.inner.Told.{IsLookedAt};
-ghost use Rattle.trace_json.specs.inner.MachineJson.{copy_json, copies_in, set_json, sets_json};
+ghost use Rattle.trace_json.specs.MachineJson.{copy_json, copies_in, set_json, sets_json};
 
 use crate::texts::{counts, line_text};
 use machine_core::{BusHolder, CachedLine, Machine};

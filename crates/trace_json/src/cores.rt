@@ -4,8 +4,8 @@ ghost use Rattle.std.specs.Prelude.{◌≡◌, ◌<◌, IfOk, length, map};
 ghost use Rattle.serde_json.specs.Data.{array};
 ghost use Rattle.serde_json.specs.View.{view, items_of};
 ghost use Rattle.trace_report.specs.Lines.{store_text};
-ghost use Rattle.trace_json.specs.inner.Values.{texts};
-ghost use Rattle.trace_json.specs.inner.MachineJson.{core_with, core_json, cores_json};
+ghost use Rattle.trace_json.specs.Values.{texts};
+ghost use Rattle.trace_json.specs.MachineJson.{core_with, core_json, cores_json};
 ghost use Rattle.trace_json.specs.inner.Looked.{IsShown};
 
 use crate::copies::sets_value;

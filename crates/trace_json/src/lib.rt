@@ -13,5 +13,4 @@ mod texts;
 mod trace;
 mod traced_run;
 
-pub use trace::{last_step, traced};
-pub use traced_run::{MAX_STEPS, ended_json, unended_json, word_beyond};
+pub use traced_run::{MAX_STEPS, ended_json, last_step_json, unended_json, word_beyond};

@@ -3,7 +3,7 @@
 ghost use Rattle.std.specs.Prelude.{◌≡◌, ◌<◌, if◌then◌else◌, IfOk, length};
 ghost use Rattle.machine_core.specs.Looked.{bus_holder_of};
 ghost use Rattle.trace_report.specs.inner.Told.{IsLookedAt};
-ghost use Rattle.trace_json.specs.inner.OwnWords.{is_newer, is_newer_in, own_words};
+ghost use Rattle.trace_json.specs.OwnWords.{is_newer, is_newer_in, own_words};
 
 use machine_core::{BusHolder, Machine};
 use protocol_tables::{Protocol, State, Transient};

@@ -3,7 +3,7 @@
 ghost use Rattle.std.specs.Prelude.{◌≡◌, ◌<◌, ◌++◌, All, IfOk, OnOk, length, string_bytes};
 ghost use Rattle.serde_json.specs.View.{view};
 ghost use Rattle.tso_model.specs.Litmus.{KnownLocation};
-ghost use Rattle.trace_json.specs.inner.Programs.{instruction_text, program_value, programs_value};
+ghost use Rattle.trace_json.specs.Programs.{instruction_text, program_value, programs_value};
 
 use serde_json::Value;
 use std::alloc::Global;

@@ -4,7 +4,7 @@ ghost use Rattle.std.specs.Prelude.{◌≡◌, ◌<◌, ◌++◌, IfOk, OnOk, le
 ghost use Rattle.serde_json.specs.View.{view};
 ghost use Rattle.tso_model.specs.Condition.{NamesExist};
 ghost use Rattle.tso_model.specs.Condition.{claim_of};
-ghost use Rattle.trace_json.specs.inner.Proposition.{is_or, is_joined, bracketed, truth_word, proposition_text, proposition_value};
+ghost use Rattle.trace_json.specs.Proposition.{is_or, is_joined, bracketed, truth_word, proposition_text, proposition_value};
 ghost use Rattle.trace_json.specs.inner.Brackets.{opening, closing};
 
 use serde_json::Value;

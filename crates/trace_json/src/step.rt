@@ -7,8 +7,8 @@ ghost use Rattle.trace_report.specs.Shown.{shown};
 ghost use Rattle.trace_report.specs.Known.{IsLine, IsKnown};
 ghost use Rattle.trace_report.specs.Lines.{access_name, stall_name, line_name, printed_core, printed_move};
 ghost use Rattle.trace_report.specs.Lines.{printed_change, printed_request};
-ghost use Rattle.trace_json.specs.inner.Values.{text_or_null, texts};
-ghost use Rattle.trace_json.specs.inner.StepJson.{outcome_word, stall_in, step_json};
+ghost use Rattle.trace_json.specs.Values.{text_or_null, texts};
+ghost use Rattle.trace_json.specs.StepJson.{outcome_word, stall_in, step_json};
 ghost use Rattle.trace_json.specs.inner.Stepped.{done_members, with_left};
 
 use crate::texts::{choice_text, line_text, name_or_null};

@@ -4,8 +4,7 @@ ghost use Rattle.std.specs.Prelude.{◌≡◌, ◌<◌, [], IfOk, map, option_ma
 ghost use Rattle.serde_json.specs.View.{view};
 ghost use Rattle.scheduler.specs.Printed.{printed_choice};
 ghost use Rattle.trace_report.specs.Lines.{line_name, store_text};
-ghost use Rattle.trace_json.specs.Values.{counts};
-ghost use Rattle.trace_json.specs.inner.Values.{text_or_null};
+ghost use Rattle.trace_json.specs.Values.{counts, text_or_null};
 
 use scheduler::choices_text;
 use serde_json::Value;

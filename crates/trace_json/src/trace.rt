@@ -4,15 +4,15 @@ ghost use Rattle.std.specs.Prelude.{◌≡◌, ◌<◌, IfOk, OnOk, IfSome, leng
 ghost use Rattle.serde_json.specs.View.{view};
 ghost use Rattle.tso_model.specs.FlatMachine.{chosen};
 ghost use Rattle.tso_model.specs.Runs.{CoresExist};
-ghost use Rattle.machine_core.specs.Running.{new_machine};
-ghost use Rattle.machine_core.specs.Running.{machine_after};
+ghost use Rattle.machine_core.specs.Running.{new_machine, machine_after};
 ghost use Rattle.trace_report.specs.Steps.{step_of};
 ghost use Rattle.trace_report.specs.Shown.{shown};
 ghost use Rattle.trace_report.specs.Known.{IsKnown};
 ghost use Rattle.trace_report.specs.Told.{IsTraced, IsTold};
-ghost use Rattle.trace_json.specs.inner.TraceJson.{step_to, steps_json, trace_from, trace_json, alone, last_or, last_from, last_step_json};
+ghost use Rattle.trace_json.specs.TraceJson.{alone, last_or, last_from, last_step_json};
+ghost use Rattle.trace_json.specs.TraceJson.{step_to, steps_json, trace_from, trace_json};
 ghost use Rattle.trace_json.specs.inner.Looked.{HasMemory, told_last};
-ghost use Rattle.trace_json.specs.inner.OwnWords.{own_words};
+ghost use Rattle.trace_json.specs.OwnWords.{own_words};
 
 use crate::machine::machine_value;
 use crate::own_words::own_words;

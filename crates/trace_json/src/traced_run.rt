@@ -6,13 +6,13 @@ ghost use Rattle.serde_json.specs.View.{view, members_view};
 ghost use Rattle.tso_model.specs.Runs.{CoresExist};
 ghost use Rattle.tso_model.specs.declared.choice.Choice.{Choice};
 ghost use Rattle.scheduler.specs.Grammar.{SpellsChoices};
-ghost use Rattle.scheduler.specs.inner.WordOfChoice.{IsWordOfChoice};
+ghost use Rattle.scheduler.specs.WordOfChoice.{IsWordOfChoice};
 ghost use Rattle.tso_report.specs.Shown.{shown, IsOf};
-ghost use Rattle.trace_json.specs.inner.TracedRun.{most_steps, with_trace, json_ended, json_unended};
+ghost use Rattle.trace_json.specs.TracedRun.{most_steps, with_trace, json_ended, json_unended, json_last_step};
 
 use crate::programs::programs_value;
 use crate::proposition::proposition_value;
-use crate::trace::traced;
+use crate::trace::{last_step, traced};
 use machine_core::Config;
 use protocol_tables::ProtocolKind;
 use scheduler::word_of_choice;
@@ -87,6 +87,24 @@ pub fn unended_json(
     let members = unfinished_members(alloc, used, stalled)?;
     let members = with_trace(alloc, test, protocol, config, choices, members)?;
     line_of(alloc, &Value::Object(members))
+}
+
+/// The last step of this trace alone as JSON, with the machine after it; where no choice was used, the machine before
+/// the first choice. Printed compact, and a line feed.
+///
+/// Errors: out of memory only.
+pub fn last_step_json(
+    alloc: Global,
+    test: &Test,
+    protocol: ProtocolKind,
+    config: Config,
+    choices: &[Choice],
+) -> Result<String, NoMemory>
+    requires { CoresExist (length test.now.programs) choices.now }
+    ensures { IfOk result (λ text. string_bytes text ≡ json_last_step test.now protocol config choices.now) }
+{
+    let step = last_step(alloc, test, protocol, config, choices)?;
+    line_of(alloc, &step)
 }
 
 /// Adds the programs, the condition's proposition and the trace to the members of a run.

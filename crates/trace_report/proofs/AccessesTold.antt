@@ -1,6 +1,6 @@
 -- The accesses that a trace tells, and those that are counted.
 use Rattle.std.proofs.Common.{◌≡◌, ◌≢◌, ◌∙◌, ℕ, zero, suc, ◌+◌, ◌<◌, ◌≤◌, ◌==◌, ◌&&◌, Bool, true, false, List, [], ◌∷◌, length, replicate, slice_index_or, Option, Some, None, refl, sym, ap, subst, arith, inl, inr, get_or-set_same, get_or-set_other}
-use Rattle.std.proofs.lemmas.List.{length-replicate, get_or_past}
+use Rattle.std.proofs.lemmas.List.{get_or_past}
 use Rattle.std.proofs.Math.ListN.{length-set}
 use Rattle.basic_laws.proofs.Basics.{decide, lt-or, test-true, test-false}
 use Rattle.tso_model.specs.FlatMachine.{chosen}
@@ -25,14 +25,14 @@ of cs k = slice_index_or cs k no_counts
 
 -- ---- one core's counts changed
 
-changed-same : (core : ℕ) (change : Counts → Counts) (cs : List Counts) → core < length cs → of (at_core core change cs) core ≡ change (of cs core)
+pub changed-same : (core : ℕ) (change : Counts → Counts) (cs : List Counts) → core < length cs → of (at_core core change cs) core ≡ change (of cs core)
 changed-same core change cs h = get_or-set_same cs core (change (of cs core)) no_counts h
 
 changed-other : (core k : ℕ) (change : Counts → Counts) (cs : List Counts) → k ≢ core → of (at_core core change cs) k ≡ of cs k
 changed-other core k change cs n = get_or-set_other cs core k (change (of cs core)) no_counts n
 
 -- a change that leaves a count
-kept : (what : Counts → ℕ) (core k : ℕ) (change : Counts → Counts) (cs : List Counts) → ((n : Counts) → what (change n) ≡ what n) → what (of (at_core core change cs) k) ≡ what (of cs k)
+pub kept : (what : Counts → ℕ) (core k : ℕ) (change : Counts → Counts) (cs : List Counts) → ((n : Counts) → what (change n) ≡ what n) → what (of (at_core core change cs) k) ≡ what (of cs k)
 kept what core k change cs same = elim (decide k core) [
   | inl q ↦ elim (lt-or (length cs) core) [
     | inl l ↦ subst (λ j. what (of (at_core core change cs) j) ≡ what (of cs j)) (sym q) (ap what (changed-same core change cs l) ∙ same (of cs core))
@@ -43,7 +43,7 @@ kept what core k change cs same = elim (decide k core) [
 ]
 
 -- a change that adds so many
-added : (what : Counts → ℕ) (core k : ℕ) (change : Counts → Counts) (cs : List Counts) (b : Bool) → core < length cs → ((n : Counts) → what (change n) ≡ what n + one_if b)
+pub added : (what : Counts → ℕ) (core k : ℕ) (change : Counts → Counts) (cs : List Counts) (b : Bool) → core < length cs → ((n : Counts) → what (change n) ≡ what n + one_if b)
     → what (of (at_core core change cs) k) ≡ what (of cs k) + one_if ((core == k) && b)
 added what core k change cs b h adds = elim (decide k core) [
   | inl q ↦ subst (λ j. what (of (at_core core change cs) j) ≡ what (of cs j) + one_if ((core == j) && b)) (sym q)
@@ -83,11 +83,11 @@ forward-kept Hit n = refl
 forward-kept Miss n = refl
 forward-kept Upgrade n = refl
 
-flushed-kept : (what : Counts → ℕ) (k : ℕ) (f : Option Core) (cs : List Counts) → ((n : Counts) → what (with_flush n) ≡ what n) → what (of (flush_counted f cs) k) ≡ what (of cs k)
+pub flushed-kept : (what : Counts → ℕ) (k : ℕ) (f : Option Core) (cs : List Counts) → ((n : Counts) → what (with_flush n) ≡ what n) → what (of (flush_counted f cs) k) ≡ what (of cs k)
 flushed-kept what k None cs same = refl
 flushed-kept what k (Some core) cs same = kept what core.0 k with_flush cs same
 
-none-told : (b : Bool) (n : ℕ) → n ≡ n + one_if (b && false)
+pub none-told : (b : Bool) (n : ℕ) → n ≡ n + one_if (b && false)
 none-told true n = omega arith
 none-told false n = omega arith
 
@@ -118,16 +118,16 @@ counted-forward core k (Through a) cs h =
 
 -- ---- along the choices
 
-abbrev counted_of : Running → List Choice → Statistics
+abbrev pub counted_of : Running → List Choice → Statistics
 counted_of m choices = statistics_from m.bus m.test m.depth m.state choices m.statistics
 
-counting : (m : Running) (c : Choice) (rest : List Choice) → has_ended m.test m.state.flat ≡ false → counted_of m (c ∷ rest) ≡ counted_of (machine_after m c) rest
+pub counting : (m : Running) (c : Choice) (rest : List Choice) → has_ended m.test m.state.flat ≡ false → counted_of m (c ∷ rest) ≡ counted_of (machine_after m c) rest
 counting m c rest live = rw live refl
 
-stopped : (m : Running) (c : Choice) (rest : List Choice) → has_ended m.test m.state.flat ≡ true → counted_of m (c ∷ rest) ≡ m.statistics
+pub stopped : (m : Running) (c : Choice) (rest : List Choice) → has_ended m.test m.state.flat ≡ true → counted_of m (c ∷ rest) ≡ m.statistics
 stopped m c rest over = rw over refl
 
-abbrev counts_after : Running → List Choice → List Counts
+abbrev pub counts_after : Running → List Choice → List Counts
 counts_after m choices = (counted_of m choices).counts
 
 step-tells-access : (kind : AccessKind) (k : ℕ) (m : Running) (c : Choice) → tells_access kind k (step_of m c) ≡ ((chosen c == k) && is_access kind (access_in (use_by m c).how))
@@ -163,29 +163,24 @@ summed what test k m (c ∷ cs) adds cores =
         let whole : what (of (counts_after (machine_after m c) cs) k) ≡ what (of m.statistics.counts k) + (one_if (test (step_of m c)) + steps_that test (steps_from (machine_after m c) cs)) = omega arith in
         ap (λ ns. what (of ns k)) counts ∙ (whole ∙ sym (ap (λ ss. what (of m.statistics.counts k) + steps_that test ss) steps))
 
-no-counts : (n k : ℕ) → of (replicate n no_counts) k ≡ no_counts
+pub no-counts : (n k : ℕ) → of (replicate n no_counts) k ≡ no_counts
 no-counts zero k = refl
 no-counts (suc n) zero = refl
 no-counts (suc n) (suc k) = no-counts n k
 
-none-of : (kind : AccessKind) → count_of kind no_counts ≡ 0
+pub none-of : (kind : AccessKind) → count_of kind no_counts ≡ 0
 none-of Hit = refl
 none-of Miss = refl
 none-of Upgrade = refl
 
-pub all-told : AccessesAreTold
-all-told table c t choices k cores =
-    let m = new_machine table c t in
-    let there : CoresExist (length m.statistics.counts) choices = subst (λ n. CoresExist n choices) (sym (length-replicate (length t.programs) no_counts)) cores in
-    record {
-      accesses = λ kind.
-          let all = summed (count_of kind) (tells_access kind k) k m choices
-          (λ m c h. counted-access kind (chosen c) k (use_by m c).how m.statistics.counts h ∙ sym (ap (λ b. count_of kind (of m.statistics.counts k) + one_if b) (step-tells-access kind k m c))) there in
-          let first : count_of kind (of m.statistics.counts k) ≡ 0 = ap (count_of kind) (no-counts (length t.programs) k) ∙ none-of kind in
-          omega arith;
-      forwards =
-          let all = summed (λ (n : Counts). n.forwards) (tells_forward k) k m choices
-          (λ m c h. counted-forward (chosen c) k (use_by m c).how m.statistics.counts h ∙ sym (ap (λ b. (of m.statistics.counts k).forwards + one_if b) (step-tells-forward k m c))) there in
-          let first : (of m.statistics.counts k).forwards ≡ 0 = ap (λ (n : Counts). n.forwards) (no-counts (length t.programs) k) in
-          omega arith;
-    }
+pub accesses-told : (kind : AccessKind) (m : Running) (choices : List Choice) (k : ℕ) → CoresExist (length m.statistics.counts) choices
+    → count_of kind (of (counts_after m choices) k) ≡ count_of kind (of m.statistics.counts k) + steps_that (tells_access kind k) (steps_from m choices)
+accesses-told kind m choices k there =
+    summed (count_of kind) (tells_access kind k) k m choices
+    (λ m c h. counted-access kind (chosen c) k (use_by m c).how m.statistics.counts h ∙ sym (ap (λ b. count_of kind (of m.statistics.counts k) + one_if b) (step-tells-access kind k m c))) there
+
+pub forwards-told : (m : Running) (choices : List Choice) (k : ℕ) → CoresExist (length m.statistics.counts) choices
+    → (of (counts_after m choices) k).forwards ≡ (of m.statistics.counts k).forwards + steps_that (tells_forward k) (steps_from m choices)
+forwards-told m choices k there =
+    summed (λ (n : Counts). n.forwards) (tells_forward k) k m choices
+    (λ m c h. counted-forward (chosen c) k (use_by m c).how m.statistics.counts h ∙ sym (ap (λ b. (of m.statistics.counts k).forwards + one_if b) (step-tells-forward k m c))) there

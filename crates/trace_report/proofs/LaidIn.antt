@@ -134,11 +134,11 @@ changes-one (b ∷ bs) (a ∷ afters) =
 -- ---- the lines of two machines
 
 -- core by core, so many lines each
-abbrev grid : Running → ℕ → ℕ → ℕ → List PlacedState
+abbrev pub grid : Running → ℕ → ℕ → ℕ → List PlacedState
 grid m lines core zero = []
 grid m lines core (suc count) = line_states m core 0 lines ++ grid m lines (core + 1) count
 
-grid-is : (m : Running) (core count : ℕ) → core_states m core count ≡ grid m (lines_of m) core count
+pub grid-is : (m : Running) (core count : ℕ) → core_states m core count ≡ grid m (lines_of m) core count
 grid-is m core zero = refl
 grid-is m core (suc count) = ap (λ ps. line_states m core 0 (lines_of m) ++ ps) (grid-is m (core + 1) count)
 

@@ -6,7 +6,15 @@ pub mod Named
 pub mod Looking
 pub mod Listing
 pub mod Whole
+pub mod Stalls
 pub mod Traced
 pub mod RunsTold
 pub mod LaidIn
 pub mod AccessesTold
+pub mod Flushes
+pub mod Victims
+pub mod VictimsLeave
+pub mod LinesLeft
+pub mod WriteBacksTold
+pub mod FlushesTold
+pub mod VictimsTold

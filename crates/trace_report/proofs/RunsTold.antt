@@ -53,14 +53,14 @@ step-commits m choice = elim (lt-or (length m.state.flat.cores) (chosen choice))
     form : Form choice s f
     form = effect-form m.bus m.test m.depth m.state (attempt_on m choice)
 
-step-outcome : (m : Running) (choice : Choice) → (step_of m choice).outcome ≡ (effect_by m choice).effect.outcome
+pub step-outcome : (m : Running) (choice : Choice) → (step_of m choice).outcome ≡ (effect_by m choice).effect.outcome
 unfolding step_of
 step-outcome m choice = refl
 
-abbrev bus_run_of : Running → List Choice → BusRun
+abbrev pub bus_run_of : Running → List Choice → BusRun
 bus_run_of m choices = run_on_from m.bus m.test m.depth m.state (answers_of m choices)
 
-going : (m : Running) (c : Choice) (rest : List Choice) → has_ended m.test m.state.flat ≡ false
+pub going : (m : Running) (c : Choice) (rest : List Choice) → has_ended m.test m.state.flat ≡ false
     → bus_run_of m (c ∷ rest) ≡ then_on (effect_by m c) (bus_run_of (machine_after m c) rest)
 going m c rest live = rw live refl
 

@@ -23,8 +23,8 @@ use Rattle.trace_report.specs.inner.Steps.{waited_before}
 use Rattle.trace_report.specs.Steps.{states_of, number_of, changes_in, is_forwarded, access_in, request_at, sent_on, moved_from, wrote_back_by, buffer_if_changed, step_of}
 use Rattle.trace_report.specs.inner.Told.{IsLookedAt}
 use Rattle.trace_report.specs.Told.{IsTraced, IsTold}
-use Rattle.trace_report.specs.inner.Left.{IsNothing, stores_on, waited_on, IsLeftBy, IsSeen, AreSeen}
-use Rattle.trace_report.proofs.Effects.{Form, effect-form, waited-is, stall-rests, drop-all}
+use Rattle.trace_report.specs.inner.Left.{stores_on, waited_on, IsLeftBy}
+use Rattle.trace_report.proofs.Effects.{Form, effect-form, waited-is}
 use Rattle.trace_report.proofs.Places.{effect-places, stores-next, access-known, at-place}
 use Rattle.trace_report.proofs.Named.{sent-known, request-known, written-back-known, changes-known, states-known, buffer-known}
 use Rattle.order_builder.specs.PrintedOrder.{HasLocation}
@@ -43,7 +43,7 @@ abbrev pub parts : Choice → Outcome → List Entry → Option Moved → Bool �
 parts choice o es v f k r c w cs b =
     record { choice = choice; outcome = o; entries = es; moved = v; forwarded = f; access = k; request = r; flushed = c; wrote_back = w; changes = cs; buffer = b }
 
-same-fields : (choice : Choice) (o o' : Outcome) (es es' : List Entry) (v v' : Option Moved) (f f' : Bool) (k k' : Option AccessKind) (r r' : Option LineRequest) (c c' : Option Core)
+pub same-fields : (choice : Choice) (o o' : Outcome) (es es' : List Entry) (v v' : Option Moved) (f f' : Bool) (k k' : Option AccessKind) (r r' : Option LineRequest) (c c' : Option Core)
     (w w' : Option ℕ) (cs cs' : List StateChange) (b b' : Option (List Entry)) → o ≡ o' → es ≡ es' → v ≡ v' → f ≡ f' → k ≡ k' → r ≡ r' → c ≡ c' → w ≡ w' → cs ≡ cs' → b ≡ b'
     → parts choice o es v f k r c w cs b ≡ parts choice o' es' v' f' k' r' c' w' cs' b'
 same-fields choice o o' es es' v v' f f' k k' r r' c c' w w' cs cs' b b' p1 p2 p3 p4 p5 p6 p7 p8 p9 p10 =
@@ -68,17 +68,17 @@ pub record Leaves (m : Running) (choice : Choice) (l : Left) : Type 0 where
 core-after : (m : Running) (choice : Choice) → chosen choice < length m.state.flat.cores → core_of (machine_after m choice).state.flat (chosen choice) ≡ (effect_by m choice).effect.after
 core-after m choice there = get_or-set_same m.state.flat.cores (chosen choice) (effect_by m choice).effect.after idle there
 
-form-of : (m : Running) (choice : Choice) → Form choice (core_of m.state.flat (chosen choice)) (effect_by m choice).effect
+pub form-of : (m : Running) (choice : Choice) → Form choice (core_of m.state.flat (chosen choice)) (effect_by m choice).effect
 form-of m choice = effect-form m.bus m.test m.depth m.state (attempt_on m choice)
 
-same-test : (n : ℕ) → (n == n) ≡ true
+pub same-test : (n : ℕ) → (n == n) ≡ true
 same-test n = test-true n n refl
 
-unchanged : (states : List PlacedState) → changes_in states states ≡ []
+pub unchanged : (states : List PlacedState) → changes_in states states ≡ []
 unchanged [] = refl
 unchanged (s ∷ ss) = rw (same-test (number_of s.state)) (unchanged ss)
 
-left-looked : (m next : Running) (choice : Choice) (outcome : Outcome) (before : List PlacedState) (committed : ℕ) (l : Left)
+pub left-looked : (m next : Running) (choice : Choice) (outcome : Outcome) (before : List PlacedState) (committed : ℕ) (l : Left)
     → chosen choice < length m.state.flat.cores → next ≡ machine_after m choice → outcome ≡ (effect_by m choice).effect.outcome → before ≡ states_of m → committed ≡ length m.commits
     → IsLeftBy next before choice outcome committed l → Leaves m choice l
 left-looked m next choice outcome before committed l there next_is outcome_is before_is committed_is is =
@@ -96,42 +96,6 @@ left-looked m next choice outcome before committed l there next_is outcome_is be
       changes = is.changes ∙ (ap (λ b. changes_in b (states_of next)) before_is ∙ ap (λ (n : Running). changes_in (states_of m) (states_of n)) next_is);
       buffer = is.buffer ∙ (ap (λ n. buffer_if_changed n (stores_on next choice)) waited ∙ ap (λ es. buffer_if_changed (length (stores_on m choice)) es) stores);
     }
-
-left-nothing : (m : Running) (choice : Choice) (why : Stall) (l : Left) → chosen choice < length m.state.flat.cores → machine_after m choice ≡ m
-    → (effect_by m choice).effect.outcome ≡ Stalled why → IsNothing l → Leaves m choice l
-left-nothing m choice why l there same stalls is =
-    let f = (effect_by m choice).effect in
-    let end = machine_after m choice in
-    let rests = stall-rests choice (core_of m.state.flat (chosen choice)) f why stalls (form-of m choice) in
-    let stores : stores_on end choice ≡ stores_on m choice = ap (λ (n : Running). stores_on n choice) same in
-    record {
-      entries = is.entries ∙ sym (ap (λ es. es ++ drop (length (stores_on m choice)) (stores_on end choice)) rests.commits
-          ∙ (ap (λ es. drop (length (stores_on m choice)) es) stores ∙ drop-all (stores_on m choice)));
-      changes = is.changes ∙ sym (ap (λ (n : Running). changes_in (states_of m) (states_of n)) same ∙ unchanged (states_of m));
-      buffer = ap (λ b. option_map (λ stores. stores.items) b) is.buffer
-          ∙ sym (ap (λ es. buffer_if_changed (length (stores_on m choice)) es) stores ∙ rw (same-test (length (stores_on m choice))) refl);
-    }
-
--- the states of the lines afterwards
-pub record Sees (m : Running) (choice : Choice) (l : Left) (after : List PlacedState) : Type 0 where
-  pub left : Leaves m choice l
-  pub states : after ≡ states_of (machine_after m choice)
-
-pub seen : (m next : Running) (choice : Choice) (outcome : Outcome) (before after : List PlacedState) (committed : ℕ) (l : Left)
-    → chosen choice < length m.state.flat.cores → next ≡ machine_after m choice → outcome ≡ (effect_by m choice).effect.outcome → before ≡ states_of m → committed ≡ length m.commits
-    → ((why : Stall) → outcome ≡ Stalled why → next ≡ m)
-    → IsSeen next before choice outcome committed l → AreSeen next before outcome after → Sees m choice l after
-seen m next choice Committed before after committed l there next_is outcome_is before_is committed_is stays is are =
-    record { left = left-looked m next choice Committed before committed l there next_is outcome_is before_is committed_is is; states = are ∙ ap states_of next_is }
-seen m next choice Buffered before after committed l there next_is outcome_is before_is committed_is stays is are =
-    record { left = left-looked m next choice Buffered before committed l there next_is outcome_is before_is committed_is is; states = are ∙ ap states_of next_is }
-seen m next choice out.Moved before after committed l there next_is outcome_is before_is committed_is stays is are =
-    record { left = left-looked m next choice out.Moved before committed l there next_is outcome_is before_is committed_is is; states = are ∙ ap states_of next_is }
-seen m next choice Asked before after committed l there next_is outcome_is before_is committed_is stays is are =
-    record { left = left-looked m next choice Asked before committed l there next_is outcome_is before_is committed_is is; states = are ∙ ap states_of next_is }
-seen m next choice (Stalled why) before after committed l there next_is outcome_is before_is committed_is stays is are =
-    let same : machine_after m choice ≡ m = sym next_is ∙ stays why refl in
-    record { left = left-nothing m choice why l there same (sym outcome_is) is; states = are ∙ (before_is ∙ sym (ap states_of same)) }
 
 -- ---- the whole step
 
@@ -194,7 +158,7 @@ configuration-kept m choice =
 pub words-kept : (m : Running) (choice : Choice) → (machine_after m choice).statistics.caches.shape.words ≡ m.statistics.caches.shape.words
 words-kept m choice = ap (λ (c : Configuration). c.shape.words) (configuration-kept m choice)
 
-stores-kept : (m : Running) (choice : Choice) → IsTest m.test → AreStoresKnown m.test m.state.flat → AreStoresKnown m.test (machine_after m choice).state.flat
+pub stores-kept : (m : Running) (choice : Choice) → IsTest m.test → AreStoresKnown m.test m.state.flat → AreStoresKnown m.test (machine_after m choice).state.flat
 stores-kept m choice valid known =
     stores-next m.test m.state.flat (chosen choice) (effect_by m choice).effect known (effect-places m.bus m.test m.depth m.state (attempt_on m choice) valid known).pending
 

@@ -1,16 +1,18 @@
 -- What a trace says of its run, as laws.
-use Rattle.std.specs.Prelude.{ℕ, ◌+◌, ◌≡◌, ◌≢◌, ◌==◌, ◌&&◌, Bool, true, false, if◌then◌else◌, List, [], ◌∷◌, ◌++◌, length, map, Option, Some, None, slice_index_or, All, Contains}
-use Rattle.tso_model.specs.Litmus.{Litmus}
+use Rattle.std.specs.Prelude.{ℕ, ◌+◌, ◌≡◌, ◌≢◌, ◌<◌, ◌≤◌, ◌==◌, ◌&&◌, Bool, true, false, if◌then◌else◌, List, [], ◌∷◌, ◌++◌, length, map, Option, Some, None, is_some, slice_index_or, All, Contains}
+use Rattle.tso_model.specs.Litmus.{Litmus, IsTest}
 use Rattle.tso_model.specs.FlatMachine.{chosen}
 use Rattle.tso_model.specs.Runs.{Run, CoresExist, run, stall_count}
 use Rattle.tso_model.specs.EitherBus.{run_on}
 use Rattle.tso_model.specs.Together.{put_together, together}
 use Rattle.tso_model.specs.declared.bus.Bus.TheVariants.{Atomic}
+use Rattle.tso_model.specs.declared.instruction.Core.{Core}
 use Rattle.tso_model.specs.declared.choice.Choice.{Choice}
 use Rattle.tso_model.specs.declared.choice.Outcome.{Outcome}
 use Rattle.tso_model.specs.declared.choice.Outcome.TheVariants.{Committed, Buffered, Moved, Asked, Stalled}
 use Rattle.tso_model.specs.declared.execution.Entry.{Entry}
 use Rattle.protocol_tables.specs.Tables.{Table}
+use Rattle.protocol_tables.specs.declared.state.State.TheVariants.{I}
 use Rattle.machine_core.specs.Configuration.{Configuration}
 use Rattle.snoop_bus.specs.declared.access.AccessKind.{AccessKind}
 use Rattle.snoop_bus.specs.declared.access.AccessKind.TheVariants.{Hit, Upgrade, Miss}
@@ -122,14 +124,39 @@ abbrev pub steps_that : (Shown → Bool) → List Shown → ℕ
 steps_that test [] = 0
 steps_that test (s ∷ ss) = one_if (test s) + steps_that test ss
 
--- what the steps tell of this core's cache is what is counted of it: its hits, misses and upgrades, and the loads that the core's
--- own pending stores answered
-pub record AreTold (core : ℕ) (steps : List Shown) (n : Counts) : Type 0 where
+-- whether a step tells that a dirty line of this core's cache is written back
+abbrev pub tells_write_back : ℕ → Shown → Bool
+tells_write_back core s = (chosen s.choice == core) && is_some s.wrote_back
+
+-- whether a step tells that a copy in this core's cache is sent to memory
+abbrev pub is_sender : ℕ → Option Core → Bool
+is_sender core None = false
+is_sender core (Some sender) = sender.0 == core
+
+abbrev pub tells_flush : ℕ → Shown → Bool
+tells_flush core s = is_sender core s.flushed
+
+-- a machine on the atomic bus, for a test within the limits, whose lines have a word at least, and whose protocol writes no line
+-- back that is in I
+pub record IsOnAtomicBus (table : Table) (c : Configuration) (t : Litmus) : Type 0 where
+  pub bus : c.bus ≡ Atomic
+  pub test : IsTest t
+  pub words : 0 < c.shape.words
+  pub clean : table.evicts_dirty I ≡ false
+
+-- what the steps tell of this core's cache is what is counted of it: its hits, misses and upgrades, the loads that the core's own
+-- pending stores answered, and on the atomic bus its write-backs; and once the test has ended its flushes. On neither bus more
+-- write-backs are told than are counted. (On a split bus a flush is told where the line is asked for, and counted where the access
+-- is made.)
+pub record AreTold (table : Table) (c : Configuration) (t : Litmus) (core : ℕ) (steps : List Shown) (ended : Bool) (n : Counts) : Type 0 where
   pub accesses : (kind : AccessKind) → steps_that (tells_access kind core) steps ≡ count_of kind n
   pub forwards : steps_that (tells_forward core) steps ≡ n.forwards
+  pub write_backs : IsOnAtomicBus table c t → steps_that (tells_write_back core) steps ≡ n.write_backs
+  pub no_more_write_backs : steps_that (tells_write_back core) steps ≤ n.write_backs
+  pub flushes : ended ≡ true → steps_that (tells_flush core) steps ≡ n.flushes
 
--- this is so of each core in the trace of a run, whether its test has ended or not
+-- this is so of each core in the trace of a run
 abbrev pub AccessesAreTold : Type 0
 AccessesAreTold =
     (table : Table) (c : Configuration) (t : Litmus) (choices : List Choice) (core : ℕ) → CoresExist (length t.programs) choices
-    → AreTold core (trace_of table c t choices) (slice_index_or (counts_of c.bus table c.shape t c.depth choices) core no_counts)
+    → AreTold table c t core (trace_of table c t choices) (run_traced table c t choices).ended (slice_index_or (counts_of c.bus table c.shape t c.depth choices) core no_counts)

@@ -21,7 +21,8 @@ pub fn changes_lead_from_states_to_states()
 {}
 
 /// Core by core, the steps of a trace that tell a hit, a miss, an upgrade or a load that the core's own pending stores
-/// answered are as many as the run's statistics count, whether the test has ended or not.
+/// answered are as many as the run's statistics count, whether the test has ended or not; and once it has ended, so are
+/// those that tell a flush. Those that tell a write-back are at most as many as are counted.
 pub fn accesses_are_told()
     ensures { AccessesAreTold }
 {}

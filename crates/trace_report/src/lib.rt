@@ -9,7 +9,8 @@ pub mod states;
 pub mod step;
 pub mod telling;
 pub mod text;
-pub mod tracing;
 
+pub use states::states_of;
 pub use step::{LineRequest, LineState, Moved, StateChange, Step};
-pub use tracing::write_trace;
+pub use telling::tell;
+pub use text::{write_end, write_stall, write_start, write_step};

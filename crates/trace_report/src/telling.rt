@@ -5,14 +5,15 @@ ghost use Rattle.std.specs.Option.{option_map};
 ghost use Rattle.tso_model.specs.Litmus.{IsTest};
 ghost use Rattle.tso_model.specs.Actions.{action_of};
 ghost use Rattle.tso_model.specs.FlatMachine.{chosen, core_of};
-ghost use Rattle.machine_core.specs.Running.{machine_after};
+ghost use Rattle.machine_core.specs.Running.{machine_after, AnswerFits};
 ghost use Rattle.trace_report.specs.Shown.{shown};
 ghost use Rattle.trace_report.specs.inner.Steps.{waited_before};
 ghost use Rattle.trace_report.specs.Steps.{is_forwarded, access_in, moved_from, moved_by, buffer_if_changed, wrote_back_by, step_of, states_of};
 ghost use Rattle.trace_report.specs.Known.{IsKnown};
 ghost use Rattle.trace_report.specs.inner.Told.{IsLookedAt};
 ghost use Rattle.trace_report.specs.Told.{IsTold};
-ghost use Rattle.trace_report.specs.inner.Left.{IsNothing, IsLeftBy, IsSeen, AreSeen};
+ghost use Rattle.trace_report.specs.inner.Left.{IsLeftBy};
+ghost use Rattle.trace_report.specs.Stalls.{stalled_step};
 
 use crate::sending::{request_at, sent_on};
 use crate::states::{PlacedState, changes_in, left_by, states_of};
@@ -21,7 +22,7 @@ use machine_core::{CacheUse, Config, Machine};
 use protocol_tables::Protocol;
 use snoop_bus::AccessKind;
 use std::alloc::Global;
-use tso_model::{Action, Choice, Core, Entry, Instr, NoMemory, Outcome, Test};
+use tso_model::{Action, Choice, Core, Entry, Instr, NoMemory, Outcome, Stall, Test};
 
 /// Makes a choice on a machine, and answers what it did. The states are those of the machine's lines, before it and then
 /// after it.
@@ -41,6 +42,12 @@ pub fn tell<P: Protocol>(
     ensures known { IfOk result (λ step. IsKnown test.now config.shape.words (shown step)) }
     ensures after { OnOk result (machine.new ≡ machine_after machine.old choice) }
     ensures told { OnOk result (IsTold test.now config machine.new states.new.items) }
+
+    // Of a choice that stalled nothing else is told.
+    ensures stall { (why : Stall) → IfOk result (λ step. step.outcome ≡ Outcome.Stalled why → shown step ≡ stalled_step choice why) }
+
+    // Between the two parts of a locked instruction no write of another core to its location hits.
+    ensures answer { OnOk result (AnswerFits machine.old choice) }
 {
     know_test(test);
     let core = core_of(choice);
@@ -48,9 +55,15 @@ pub fn tell<P: Protocol>(
     let committed = machine.committed().len();
     let request = request_at(machine.access(choice), config.words());
     let (outcome, cache_use) = machine.choose_telling(choice)?;
-    let left = look_again(
-        alloc, machine, states, test, config, choice, outcome, committed,
-    )?;
+    if let Outcome::Stalled(stall) = outcome {
+        return Ok(stalled_step(alloc, choice, stall));
+    }
+    let made = Made {
+        choice,
+        outcome,
+        committed,
+    };
+    let left = left_behind(alloc, machine, states, test, config, made)?;
     let sent = sent_on(config.bus(), outcome, request, cache_use, machine.awaited());
     let wrote_back = wrote_back_by(cache_use, core, &left.changes);
     Ok(Step {
@@ -68,11 +81,39 @@ pub fn tell<P: Protocol>(
     })
 }
 
+/// The step of a choice that stalled.
+fn stalled_step(alloc: Global, choice: Choice, stall: Stall) -> Step
+    ensures shown { shown result ≡ stalled_step choice stall }
+    ensures outcome { result.outcome ≡ Outcome.Stalled stall }
+{
+    Step {
+        choice,
+        outcome: Outcome::Stalled(stall),
+        entries: Vec::new(alloc),
+        moved: None,
+        forwarded: false,
+        access: None,
+        request: None,
+        flushed: None,
+        wrote_back: None,
+        changes: Vec::new(alloc),
+        buffer: None,
+    }
+}
+
 /// A test is within the limits.
 fn know_test(test: &Test)
     ensures { IsTest test.now }
 {
     let _cores = test.cores();
+}
+
+/// A choice that was made, its outcome, and how many entries were committed before it.
+#[derive(Clone, Copy)]
+struct Made {
+    choice: Choice,
+    outcome: Outcome,
+    committed: usize,
 }
 
 /// What a choice left in the order, in the lines and in its core's buffer.
@@ -85,48 +126,7 @@ struct Left {
     buffer: Option<Vec<Entry>>,
 }
 
-impl Left {
-    fn nothing(alloc: Global) -> Left
-        ensures { IsNothing result }
-    {
-        Left {
-            entries: Vec::new(alloc),
-            changes: Vec::new(alloc),
-            buffer: None,
-        }
-    }
-}
-
-/// What a choice with this outcome left, where so many entries were committed before it. The states are those of the
-/// machine's lines, before it and then after it. A stall changes nothing, so after it nothing is looked at again.
-///
-/// Errors: out of memory only.
-fn look_again<P: Protocol>(
-    alloc: Global,
-    machine: &Machine<P>,
-    states: &mut Vec<PlacedState>,
-    test: &Test,
-    config: Config,
-    choice: Choice,
-    outcome: Outcome,
-    committed: usize,
-) -> Result<Left, NoMemory>
-    requires { IsLookedAt test.now config.shape.words machine.now }
-    ensures left { IfOk result (IsSeen machine.now states.old.items choice outcome committed) }
-    ensures states { OnOk result (AreSeen machine.now states.old.items outcome states.new.items) }
-{
-    match outcome {
-        Outcome::Stalled(_) => Ok(Left::nothing(alloc)),
-        Outcome::Committed | Outcome::Buffered | Outcome::Moved | Outcome::Asked => {
-            left_behind(
-                alloc, machine, states, test, config, choice, outcome, committed,
-            )
-        }
-    }
-}
-
-/// What a choice with this outcome left, where so many entries were committed before it. The states are those of the
-/// machine's lines, before it and then after it.
+/// What a choice left. The states are those of the machine's lines, before it and then after it.
 ///
 /// Errors: out of memory only.
 fn left_behind<P: Protocol>(
@@ -135,17 +135,15 @@ fn left_behind<P: Protocol>(
     states: &mut Vec<PlacedState>,
     test: &Test,
     config: Config,
-    choice: Choice,
-    outcome: Outcome,
-    committed: usize,
+    made: Made,
 ) -> Result<Left, NoMemory>
     requires { IsLookedAt test.now config.shape.words machine.now }
-    ensures left { IfOk result (IsLeftBy machine.now states.old.items choice outcome committed) }
+    ensures left { IfOk result (IsLeftBy machine.now states.old.items made.choice made.outcome made.committed) }
     ensures states { OnOk result (states.new.items ≡ states_of machine.now) }
 {
-    let pending = pending_of(alloc, machine, core_of(choice))?;
-    let waited = waited_before(outcome, choice, pending.len());
-    let entries = entries_since(alloc, machine.committed(), committed, &pending, waited)?;
+    let pending = pending_of(alloc, machine, core_of(made.choice))?;
+    let waited = waited_before(made.outcome, made.choice, pending.len());
+    let entries = entries_since(alloc, machine.committed(), made.committed, &pending, waited)?;
     let after = states_of(alloc, machine, test, config.words())?;
     let changes = changes_in(alloc, states, &after)?;
     *states = after;

@@ -1,6 +1,8 @@
 //! The lines of a trace.
 
 ghost use Rattle.std.specs.Prelude.{◌≡◌, ◌++◌, OnOk, All, IfSome, Some, codes, string_bytes};
+ghost use Rattle.std.specs.Fmt.{decimal};
+ghost use Rattle.scheduler.specs.Printed.{printed_choice};
 ghost use Rattle.order_builder.specs.PrintedOrder.{HasLocation};
 ghost use Rattle.trace_report.specs.Shown.{shown};
 ghost use Rattle.protocol_tables.specs.PrintedTable.{line};
@@ -10,14 +12,15 @@ ghost use Rattle.trace_report.specs.Lines.{printed_move, printed_request, printe
 ghost use Rattle.trace_report.specs.Lines.{store_text, later_stores, stores_text, buffer_text, done_text, bus_text, left_text};
 ghost use Rattle.trace_report.specs.Lines.{step_line, end_line};
 ghost use Rattle.trace_report.specs.Known.{IsLine, IsAt, IsKnown};
+ghost use Rattle.trace_report.specs.Stalls.{stall_line};
 
 use crate::names::{access_name, request_name, stall_name, state_name};
 use crate::step::{LineRequest, Moved, StateChange, Step, core_of};
+use itoa::Buffer;
 use order_builder::entry_text;
-use scheduler::write_after;
 use snoop_bus::AccessKind;
 use std::alloc::Global;
-use tso_model::{Choice, Core, Entry, Loc, NoMemory, Outcome, Test};
+use tso_model::{Choice, Core, Entry, Loc, NoMemory, Outcome, Stall, Test};
 
 /// Writes the first line of a trace, `Trace`.
 ///
@@ -62,6 +65,22 @@ pub fn write_step(
     Ok(())
 }
 
+/// Writes the line of a step with this number that stalled, `5 0d stalled Empty`: nothing else is told of it.
+///
+/// Errors: out of memory only; the text may have grown then.
+pub fn write_stall(
+    text: &mut String,
+    number: usize,
+    choice: Choice,
+    stall: Stall,
+) -> Result<(), NoMemory>
+    ensures { OnOk result (string_bytes text.new ≡ string_bytes text.old ++ stall_line number choice stall) }
+{
+    write_outcome(text, number, choice, Outcome::Stalled(stall))?;
+    text.push('\n')?;
+    Ok(())
+}
+
 /// `5 0d committed`.
 fn write_outcome(
     text: &mut String,
@@ -71,18 +90,45 @@ fn write_outcome(
 ) -> Result<(), NoMemory>
     ensures { OnOk result (string_bytes text.new ≡ string_bytes text.old ++ outcome_text number choice outcome) }
 {
-    write!(text, "{number}")?;
-    write_after(text, &[choice])?;
+    write_number(text, number)?;
+    text.push(' ')?;
+    write_choice(text, choice)?;
     match outcome {
         Outcome::Committed => text.push_str(" committed")?,
         Outcome::Buffered => text.push_str(" buffered")?,
         Outcome::Moved => text.push_str(" moved")?,
         Outcome::Asked => text.push_str(" asked")?,
         Outcome::Stalled(stall) => {
-            let name = stall_name(stall);
-            write!(text, " stalled {name}")?;
+            text.push_str(" stalled ")?;
+            text.push_str(stall_name(stall))?;
         }
     }
+    Ok(())
+}
+
+/// `0d`.
+fn write_choice(text: &mut String, choice: Choice) -> Result<(), NoMemory>
+    ensures { OnOk result (string_bytes text.new ≡ string_bytes text.old ++ printed_choice choice) }
+{
+    match choice {
+        Choice::Step(core) => {
+            write_number(text, usize::from(core.0))?;
+            text.push('s')?;
+        }
+        Choice::Drain(core) => {
+            write_number(text, usize::from(core.0))?;
+            text.push('d')?;
+        }
+    }
+    Ok(())
+}
+
+/// A number, in decimal. It goes past `write!`, which would take longer for it than the rest of a short line does.
+fn write_number(text: &mut String, number: usize) -> Result<(), NoMemory>
+    ensures { OnOk result (string_bytes text.new ≡ string_bytes text.old ++ decimal number) }
+{
+    let mut digits = Buffer::new();
+    text.push_str(digits.format(number))?;
     Ok(())
 }
 

@@ -30,7 +30,7 @@ choices-answered bus t depth state c [] = refl
 choices-answered bus t depth state c (x ∷ xs) =
     ap (λ (cs : List Choice). x ∷ cs) (choices-answered bus t depth (after_on bus t depth state (attempt_of t depth state.flat c x)) (use_on bus t depth state x c).caches xs)
 
-length-answered : (bus : Bus) (t : Litmus) (depth : ℕ) (state : BusState) (c : Caches) (choices : List Choice)
+pub length-answered : (bus : Bus) (t : Litmus) (depth : ℕ) (state : BusState) (c : Caches) (choices : List Choice)
     → length (answered_from bus t depth state c choices) ≡ length choices
 length-answered bus t depth state c [] = refl
 length-answered bus t depth state c (x ∷ xs) =

@@ -12,8 +12,7 @@ use Rattle.tso_model.specs.declared.execution.Entry.{Entry}
 use Rattle.split_laws.specs.BusChoices.{IsPossibleOn}
 use Rattle.split_laws.specs.BusRuns.{EndOn, left_by}
 use Rattle.split_laws.specs.inner.BusRuns.{ChangesNothingOn, StopsAtTheEndOn}
-use Rattle.machine_core.specs.Running.{Running, attempt_on, effect_by, machine_after}
-use Rattle.machine_core.specs.inner.Running.{AnswerFits}
+use Rattle.machine_core.specs.Running.{Running, attempt_on, effect_by, machine_after, AnswerFits}
 use Rattle.machine_core.specs.Statistics.{Statistics, statistics_from}
 use Rattle.tso_cli.specs.inner.Simulation.{answers_of, run_of, HaveFittingAnswers, Drives}
 

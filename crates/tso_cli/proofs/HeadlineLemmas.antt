@@ -24,8 +24,8 @@ use Rattle.command_line.specs.Limits.{IsWithinLimits}
 use Rattle.tso_cli.specs.Parts.{parts_of}
 use Rattle.command_line.specs.Plan.{Plan}
 use Rattle.tso_cli.specs.RunHeadline.{PrintsExecution, PrintsEachRun, HeadlineOfRuns}
-use Rattle.tso_cli.specs.Trace.{ending_text, traced_text, IsTraceAnswer, refused, traced}
-use Rattle.tso_cli.specs.TraceHeadline.{PrintsTrace, PrintsEachTrace, HeadlineOfTraces}
+use Rattle.tso_cli.specs.Trace.{ending_text, traced_in, IsTooLong, IsTraceAnswer, refused, too_long, traced}
+use Rattle.tso_cli.specs.TraceHeadline.{PrintsTraceIn, PrintsEachTrace, HeadlineOfTraces}
 use Rattle.tso_cli.specs.SweepHeadline.{PrintsSweep, HeadlineOfSweeps}
 use Rattle.tso_cli.specs.Headline.{HeadlineOf, InputHeadline, Headline}
 use Rattle.tso_cli.specs.Runs.{run_by, run_under, AnswersFitBy, AnswersFit, counts_under}
@@ -40,6 +40,7 @@ use Rattle.tso_cli.specs.inner.ReadOneWay.{AreReadOneWay}
 use Rattle.tso_cli.proofs.OneAnswer.{short_rest}
 use Rattle.tso_cli.proofs.OutcomesLemmas.{Searches, outcomes-mean}
 use Rattle.tso_cli.proofs.SweepLemmas.{sweep-means}
+use Rattle.tso_cli.proofs.TraceLengths.{never-both}
 use Rattle.tso_cli.proofs.WitnessLemmas.{Reaching, witness-means}
 
 -- the order spells itself in what is written
@@ -119,27 +120,53 @@ is-unfinished : (t : Litmus) (kind : ProtocolKind) (c : Configuration) (choices 
     → ending_text t (counts_under t kind c choices) (run_under t kind c choices) ≡ unfinished_line (run_under t kind c choices).used (run_under t kind c choices).stalled
 is-unfinished t kind c choices unended = rw unended refl
 
-trace-means : (t : Litmus) (kind : ProtocolKind) (c : Configuration) (text out : List ℕ) (status : Status) → IsDecided (length t.programs) text
+-- what is printed of choices is so, plain or as JSON
+prints-trace : (json : Bool) (t : Litmus) (kind : ProtocolKind) (c : Configuration) (choices : List Choice)
+    → (HasEnded t kind c choices → IsExecution t (run_under t kind c choices)) → (c.depth ≡ 0 → HasEnded t kind c choices → KeepsAllOrder (run_under t kind c choices).commits)
+    → ((out : List ℕ) → out ≡ written_of t kind c json choices → HasEnded t kind c choices → Spells t kind c json choices out)
+    → PrintsTraceIn json t kind c choices (run_under t kind c choices) (traced_in json t kind c choices)
+unfolding prints
+prints-trace false t kind c choices law all spells =
+    let out : List ℕ = untraced_of t kind c choices in
+    record {
+      rest = ending_text t (counts_under t kind c choices) (run_under t kind c choices);
+      printed = refl;
+      ended = λ ended. prints-one t kind c false choices out (is-written t kind c choices ended) law all (λ e. spells out (is-written t kind c choices e) e) ended;
+      unended = is-unfinished t kind c choices;
+    }
+prints-trace true t kind c choices law all spells =
+    let out : List ℕ = report_in true t kind c (shown_of t (counts_under t kind c choices) (run_under t kind c choices)) in
+    record {
+      ended = λ ended. record {
+        object = out;
+        execution = prints t kind c true choices out (law ended) (λ none. all none ended) refl (spells out (rw ended refl) ended);
+        printed = rw ended refl;
+      };
+      unended = λ unended. rw unended refl;
+    }
+
+trace-means : (t : Litmus) (kind : ProtocolKind) (c : Configuration) (json : Bool) (text out : List ℕ) (status : Status) → IsDecided (length t.programs) text
     → ((choices : List Choice) → AnswersFit t kind c choices → HasEnded t kind c choices → IsExecution t (run_under t kind c choices))
     → ((choices : List Choice) → c.depth ≡ 0 → AnswersFit t kind c choices → HasEnded t kind c choices → KeepsAllOrder (run_under t kind c choices).commits)
-    → ((choices : List Choice) (out : List ℕ) → AnswersFit t kind c choices → out ≡ written_of t kind c false choices → HasEnded t kind c choices → Spells t kind c false choices out)
-    → IsTraceAnswer t kind c text out status → PrintsEachTrace t kind c (λ choices. run_under t kind c choices) text out
-trace-means t kind c text _ _ decided law all spells (refused fault h) = record {
-  every_list = λ choices spelled. absurd (decided.never_both choices fault spelled h);
+    → ((choices : List Choice) (out : List ℕ) → AnswersFit t kind c choices → out ≡ written_of t kind c json choices → HasEnded t kind c choices → Spells t kind c json choices out)
+    → IsTraceAnswer t kind c json text out status → PrintsEachTrace t kind c json (λ choices. run_under t kind c choices) text out
+trace-means t kind c json text _ _ decided law all spells (refused fault h) = record {
+  every_list = λ choices spelled short. absurd (decided.never_both choices fault spelled h);
+  too_long = λ choices spelled long. absurd (decided.never_both choices fault spelled h);
   every_other = λ none. (fault, h, refl);
 }
-trace-means t kind c text _ _ decided law all spells (traced made spelled fit) = record {
-  every_list = λ choices read.
-      let is : made ≡ choices = decided.one_list made choices spelled read in
-      let out : List ℕ = untraced_of t kind c made in
-      subst (λ cs. PrintsTrace t kind c cs (run_under t kind c cs) (traced_text t kind c made)) is
-      (record {
-        rest = ending_text t (counts_under t kind c made) (run_under t kind c made);
-        printed = refl;
-        ended = λ ended. prints-one t kind c false made out (is-written t kind c made ended) (law made fit) (λ none. all made none fit)
-            (λ e. spells made out fit (is-written t kind c made e) e) ended;
-        unended = is-unfinished t kind c made;
-      });
+trace-means t kind c json text _ _ decided law all spells (too_long made word spelled long is) = record {
+  every_list = λ choices read short. absurd (never-both json (run_under t kind c choices) short
+      (subst (λ cs. IsTooLong json (run_under t kind c cs)) (decided.one_list made choices spelled read) long));
+  too_long = λ choices read longer. (word, is, refl);
+  every_other = λ none. absurd (none made spelled);
+}
+trace-means t kind c json text _ _ decided law all spells (traced made spelled fit short) = record {
+  every_list = λ choices read less.
+      subst (λ cs. PrintsTraceIn json t kind c cs (run_under t kind c cs) (traced_in json t kind c made)) (decided.one_list made choices spelled read)
+      (prints-trace json t kind c made (law made fit) (λ none. all made none fit) (λ out. spells made out fit));
+  too_long = λ choices read long. absurd (never-both json (run_under t kind c made) short
+      (subst (λ cs. IsTooLong json (run_under t kind c cs)) (decided.one_list choices made read spelled) long));
   every_other = λ none. absurd (none made spelled);
 }
 
@@ -152,11 +179,11 @@ runs-by-bus t kind c json text out prints = record {
   split = λ is. subst (λ (b : Bus). PrintsEachRun t kind c json (λ choices. run_by b (table_of kind) c t choices) text out) is prints;
 }
 
-traces-by-bus : (t : Litmus) (kind : ProtocolKind) (c : Configuration) (text out : List ℕ)
-    → PrintsEachTrace t kind c (λ choices. run_under t kind c choices) text out → HeadlineOfTraces t kind c text out
-traces-by-bus t kind c text out prints = record {
-  atomic = λ is. subst (λ (b : Bus). PrintsEachTrace t kind c (λ choices. run_by b (table_of kind) c t choices) text out) is prints;
-  split = λ is. subst (λ (b : Bus). PrintsEachTrace t kind c (λ choices. run_by b (table_of kind) c t choices) text out) is prints;
+traces-by-bus : (t : Litmus) (kind : ProtocolKind) (c : Configuration) (json : Bool) (text out : List ℕ)
+    → PrintsEachTrace t kind c json (λ choices. run_under t kind c choices) text out → HeadlineOfTraces t kind c json text out
+traces-by-bus t kind c json text out prints = record {
+  atomic = λ is. subst (λ (b : Bus). PrintsEachTrace t kind c json (λ choices. run_by b (table_of kind) c t choices) text out) is prints;
+  split = λ is. subst (λ (b : Bus). PrintsEachTrace t kind c json (λ choices. run_by b (table_of kind) c t choices) text out) is prints;
 }
 
 sweeps-by-bus : (t : Litmus) (kind : ProtocolKind) (c : Configuration) (plan : Plan) (out : List ℕ)
@@ -193,11 +220,11 @@ answer-means (settings.Run kind c json) t text out status texts runs reaching se
     (run-means t kind c json text out status (texts.decided (length t.programs) text test.some_core) (λ choices. runs.executions (table_of kind) c t choices test)
     (λ choices none. runs.unbuffered (table_of kind) c t choices none test)
     (λ choices out. report-spells t kind c json choices out runs test within) is)
-answer-means (settings.Trace kind c) t text out status texts runs reaching searches within test short is =
-    traces-by-bus t kind c text out
-    (trace-means t kind c text out status (texts.decided (length t.programs) text test.some_core) (λ choices. runs.executions (table_of kind) c t choices test)
+answer-means (settings.Trace kind c json) t text out status texts runs reaching searches within test short is =
+    traces-by-bus t kind c json text out
+    (trace-means t kind c json text out status (texts.decided (length t.programs) text test.some_core) (λ choices. runs.executions (table_of kind) c t choices test)
     (λ choices none. runs.unbuffered (table_of kind) c t choices none test)
-    (λ choices out. report-spells t kind c false choices out runs test within) is)
+    (λ choices out. report-spells t kind c json choices out runs test within) is)
 answer-means (settings.Sweep kind c plan) t text out status texts runs reaching searches within test short is =
     sweeps-by-bus t kind c plan out
     (sweep-means t kind c plan out status (λ choices. runs.executions (table_of kind) c t choices test) (λ choices none. runs.unbuffered (table_of kind) c t choices none test) (runs.atomic (table_of kind) c t) is)

@@ -10,6 +10,8 @@ pub mod PartLemmas
 mod Lines
 pub mod OneAnswer
 pub mod TraceLemmas
+pub mod ToldLines
+pub mod TraceLengths
 pub mod WitnessLemmas
 pub mod OutcomesLemmas
 pub mod Revisited
@@ -17,6 +19,7 @@ pub mod HeadlineLemmas
 pub mod CheckLemmas
 pub mod CommandLemmas
 pub mod SimulationLemmas
+pub mod Endings
 pub mod SweptRuns
 pub mod Joined
 pub mod Rechecked
@@ -27,3 +30,4 @@ mod SweptLines
 pub mod OneTextLemmas
 pub mod FittingRuns
 pub mod FittingSweeps
+pub mod StepLemmas

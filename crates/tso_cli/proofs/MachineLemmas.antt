@@ -1,11 +1,12 @@
 -- On the atomic bus the protocol and the shape of the caches change two kinds of lines alone.
-use Rattle.std.proofs.Common.{◌≡◌, ◌==◌, ◌+◌, ℕ, zero, suc, Bool, true, false, cond, List, [], ◌∷◌, ◌++◌, length, Some, codes, refl, sym, ap, subst, ◌∙◌, append_assoc, append-nil, arith}
+use Rattle.std.proofs.Common.{◌≡◌, ◌<◌, ◌==◌, ◌+◌, ℕ, zero, suc, Bool, true, false, cond, List, [], ◌∷◌, ◌++◌, length, Some, codes, refl, sym, ap, subst, ◌∙◌, inl, inr, append_assoc, append-nil, arith}
 use Rattle.std.specs.Fmt.{decimal}
 use Rattle.tso_model.specs.Litmus.{Litmus, IsTest}
 use Rattle.tso_model.specs.FlatMachine.{registers_in}
 use Rattle.tso_model.specs.Runs.{Run, run}
 use Rattle.tso_model.specs.declared.choice.Choice.{Choice}
 use Rattle.scheduler.specs.Refusals.{IsDecided}
+use Rattle.scheduler.specs.declared.fault.ChoiceFault.TheVariants.{TooMany}
 use Rattle.protocol_tables.specs.Tables.{table_of}
 use Rattle.protocol_tables.specs.declared.kind.ProtocolKind.{ProtocolKind}
 use Rattle.machine_core.specs.Configuration.{Configuration}
@@ -25,17 +26,19 @@ use Rattle.tso_cli.specs.Runs.{run_under, counts_under}
 use Rattle.tso_cli.specs.Simulation.{shown_of, verdict}
 use Rattle.tso_cli.specs.Sweep.{choices_of, seeded_run, with_one_run, counts_from, sweep_counts, sweep_status, IsSweepAnswer}
 use Rattle.tso_cli.specs.Answers.{run_text, run_status, text_under, status_under, IsRunAnswer, IsAnswerTo, IsInputAnswer, IsAnswer, too_large, refused, answered, ran}
-use Rattle.tso_cli.specs.Machines.{AreAtomicAtOneDepth, DifferInLines, DifferInMembers, ReportsDiffer, RunsAnswerAlike, TracesDiffer, TracesAnswerAlike, SweepsAnswerAlike}
-use Rattle.tso_cli.specs.Trace.{ending_text, traced_text, IsTraceAnswer, refused, traced}
+use Rattle.tso_cli.specs.Machines.{AreAtomicAtOneDepth, DifferInLines, DifferInMembers, ReportsDiffer, RunsAnswerAlike, TracesDiffer, TracesAnswerAlike, SweepsAnswerAlike, TracesDifferIn}
+use Rattle.tso_cli.specs.Trace.{ending_text, traced_text, IsTraceAnswer, refused, traced, object_text, traced_in, FitsForm, IsTooLong, too_long}
 use Rattle.trace_report.specs.Lines.{trace_text}
 use Rattle.trace_report.specs.Shown.{Shown as Step}
 use Rattle.trace_report.specs.Steps.{trace_under}
+use Rattle.trace_json.specs.TracedRun.{json_ended, json_unended}
 use Rattle.tso_cli.specs.inner.ReadOneWay.{AreReadOneWay}
 use Rattle.command_line.specs.declared.settings.Settings.{Settings}
 use Rattle.tso_cli.specs.declared.answer.Status.{Status}
 use Rattle.tso_cli.specs.declared.answer.Status.TheVariants.{Good, Refused, Unended}
 use Rattle.tso_cli.proofs.BusLemmas.{atomic-run}
 use Rattle.tso_cli.proofs.CountLemmas.{counts-each}
+use Rattle.tso_cli.proofs.TraceLengths.{never-both, one-word}
 
 -- ---- a report as one text with two places
 
@@ -137,9 +140,9 @@ ends-unfinished : (used stalled : ℕ) → EndsInFeed (unfinished_line used stal
 ends-unfinished used stalled =
     ends-after (codes "Unfinished used=") _ (ends-after (decimal used) _ (ends-after (codes " stalled=") (line (decimal stalled)) (ends-line (decimal stalled))))
 
-trace-refusals-alike : (kind other : ProtocolKind) (c d : Configuration) (out again : List ℕ) → out ≡ again
-    → TracesAnswerAlike kind other c d out again Refused Refused
-trace-refusals-alike kind other c d out again same = record { status = refl; traced = λ not_refused. absurd (not_refused refl); refused = λ is_refused. same }
+trace-refusals-alike : (json : Bool) (kind other : ProtocolKind) (c d : Configuration) (out again : List ℕ) → out ≡ again
+    → TracesAnswerAlike json kind other c d out again Refused Refused
+trace-refusals-alike json kind other c d out again same = record { status = refl; traced = λ not_refused. absurd (not_refused refl); refused = λ is_refused. same }
 
 refusals-alike : (json : Bool) (kind other : ProtocolKind) (c d : Configuration) (out again : List ℕ) → out ≡ again
     → RunsAnswerAlike json kind other c d out again Refused Refused
@@ -199,25 +202,75 @@ module _ (t : Litmus) (kind other : ProtocolKind) (c d : Configuration) (steps o
     second = ap (λ (ending : List ℕ). trace_with other d other_steps ending) (no-end (unfinished_line r.used r.stalled));
   }
 
-  traced-alike : TracesAnswerAlike kind other c d (trace_with kind c steps (ending_text t counts r)) (trace_with other d other_steps (ending_text t others r)) (run_status r) (run_status r)
+  traced-alike : TracesAnswerAlike false kind other c d (trace_with kind c steps (ending_text t counts r)) (trace_with other d other_steps (ending_text t others r)) (run_status r) (run_status r)
   traced-alike = record { status = refl; traced = λ not_refused. traces-differ r.ended; refused = λ is_refused. absurd (never-refused r.ended is_refused) }
 
-trace-answers-alike : (t : Litmus) (kind other : ProtocolKind) (c d : Configuration) (text out again : List ℕ) (status too : Status)
-    → IsDecided (length t.programs) text → AreAtomicAtOneDepth c d → IsTraceAnswer t kind c text out status → IsTraceAnswer t other d text again too
-    → TracesAnswerAlike kind other c d out again status too
-trace-answers-alike t kind other c d text _ _ _ _ law shape (refused f h) (refused g k) =
-    trace-refusals-alike kind other c d (choices_refusal f) (choices_refusal g) (ap choices_refusal (law.one_refusal f g h k))
-trace-answers-alike t kind other c d text _ _ _ _ law shape (refused f h) (traced choices spelled fit) = absurd (law.never_both choices f spelled h)
-trace-answers-alike t kind other c d text _ _ _ _ law shape (traced choices spelled fit) (refused f h) = absurd (law.never_both choices f spelled h)
-trace-answers-alike t kind other c d text _ _ _ _ law shape (traced choices spelled fit) (traced others again fit_too) =
+-- two traces of one run as JSON
+module _ (t : Litmus) (kind other : ProtocolKind) (c d : Configuration) (choices : List Choice) (counts others : List Counts) (cores : length counts ≡ length others) (r : Run) where
+  objects-differ : (b : Bool) → TracesDifferIn true kind other c d
+      (cond b (json_ended t kind c choices (shown_of t counts r)) (json_unended t kind c choices r.used r.stalled))
+      (cond b (json_ended t other d choices (shown_of t others r)) (json_unended t other d choices r.used r.stalled))
+  objects-differ true = inl (record {
+    t = t;
+    choices = choices;
+    shown = shown_of t counts r;
+    other_shown = shown_of t others r;
+    reports = members-differ t kind other c d counts others r cores;
+    first = refl;
+    second = refl;
+  })
+  objects-differ false = inr (record {
+    t = t;
+    choices = choices;
+    used = r.used;
+    stalled = r.stalled;
+    first = refl;
+    second = refl;
+  })
+
+  objects-alike : TracesAnswerAlike true kind other c d (object_text t kind c choices counts r) (object_text t other d choices others r) (run_status r) (run_status r)
+  objects-alike = record { status = refl; traced = λ not_refused. objects-differ r.ended; refused = λ is_refused. absurd (never-refused r.ended is_refused) }
+
+one-trace-alike : (json : Bool) (t : Litmus) (kind other : ProtocolKind) (c d : Configuration) (choices : List Choice) → AreAtomicAtOneDepth c d
+    → TracesAnswerAlike json kind other c d (traced_in json t kind c choices) (traced_in json t other d choices) (status_under t kind c choices) (status_under t other d choices)
+one-trace-alike false t kind other c d choices shape =
     let out = traced_text t kind c choices in
     let status = status_under t kind c choices in
     let steps = trace_under t kind c choices in
     let other_steps = trace_under t other d choices in
     let counts = counts_under t other d choices in
-    subst (λ (cs : List Choice). TracesAnswerAlike kind other c d out (traced_text t other d cs) status (status_under t other d cs)) (law.one_list choices others spelled again)
-    (subst (λ (r : Run). TracesAnswerAlike kind other c d out (head t other d ++ (trace_text t d.shape.words other_steps ++ ending_text t counts r)) status (run_status r)) (same-run t kind other c d choices shape)
-    (traced-alike t kind other c d steps other_steps (counts_under t kind c choices) counts (same-cores t kind other c d choices) (run_under t kind c choices)))
+    subst (λ (r : Run). TracesAnswerAlike false kind other c d out (head t other d ++ (trace_text t d.shape.words other_steps ++ ending_text t counts r)) status (run_status r)) (same-run t kind other c d choices shape)
+    (traced-alike t kind other c d steps other_steps (counts_under t kind c choices) counts (same-cores t kind other c d choices) (run_under t kind c choices))
+one-trace-alike true t kind other c d choices shape =
+    let out = traced_in true t kind c choices in
+    let status = status_under t kind c choices in
+    let counts = counts_under t other d choices in
+    subst (λ (r : Run). TracesAnswerAlike true kind other c d out (object_text t other d choices counts r) status (run_status r)) (same-run t kind other c d choices shape)
+    (objects-alike t kind other c d choices (counts_under t kind c choices) counts (same-cores t kind other c d choices) (run_under t kind c choices))
+
+trace-answers-alike : (t : Litmus) (kind other : ProtocolKind) (c d : Configuration) (json : Bool) (text out again : List ℕ) (status too : Status) → 0 < length t.programs
+    → IsDecided (length t.programs) text → AreAtomicAtOneDepth c d → IsTraceAnswer t kind c json text out status → IsTraceAnswer t other d json text again too
+    → TracesAnswerAlike json kind other c d out again status too
+trace-answers-alike t kind other c d json text _ _ _ _ some law shape (refused f h) (refused g k) =
+    trace-refusals-alike json kind other c d (choices_refusal f) (choices_refusal g) (ap choices_refusal (law.one_refusal f g h k))
+trace-answers-alike t kind other c d json text _ _ _ _ some law shape (refused f h) (too_long choices word spelled long is) = absurd (law.never_both choices f spelled h)
+trace-answers-alike t kind other c d json text _ _ _ _ some law shape (refused f h) (traced choices spelled fit short) = absurd (law.never_both choices f spelled h)
+trace-answers-alike t kind other c d json text _ _ _ _ some law shape (too_long choices word spelled long is) (refused f h) = absurd (law.never_both choices f spelled h)
+trace-answers-alike t kind other c d json text _ _ _ _ some law shape (too_long choices word spelled long is) (too_long others word_too again longer too) =
+    trace-refusals-alike json kind other c d (choices_refusal (TooMany word)) (choices_refusal (TooMany word_too))
+    (ap (λ (n : ℕ). choices_refusal (TooMany n)) (one-word (length t.programs) text word word_too some is too))
+trace-answers-alike t kind other c d json text _ _ _ _ some law shape (too_long choices word spelled long is) (traced others again fit short) =
+    absurd (never-both json (run_under t other d others) short
+    (subst (λ (r : Run). IsTooLong json r) (same-run t kind other c d others shape)
+    (subst (λ (cs : List Choice). IsTooLong json (run_under t kind c cs)) (law.one_list choices others spelled again) long)))
+trace-answers-alike t kind other c d json text _ _ _ _ some law shape (traced choices spelled fit short) (refused f h) = absurd (law.never_both choices f spelled h)
+trace-answers-alike t kind other c d json text _ _ _ _ some law shape (traced choices spelled fit short) (too_long others word again long is) =
+    absurd (never-both json (run_under t other d others)
+    (subst (λ (r : Run). FitsForm json r) (same-run t kind other c d others shape)
+    (subst (λ (cs : List Choice). FitsForm json (run_under t kind c cs)) (law.one_list choices others spelled again) short)) long)
+trace-answers-alike t kind other c d json text _ _ _ _ some law shape (traced choices spelled fit short) (traced others again fit_too less) =
+    subst (λ (cs : List Choice). TracesAnswerAlike json kind other c d (traced_in json t kind c choices) (traced_in json t other d cs) (status_under t kind c choices) (status_under t other d cs))
+    (law.one_list choices others spelled again) (one-trace-alike json t kind other c d choices shape)
 
 -- what is counted of a sweep is the same
 same-counts : (t : Litmus) (kind other : ProtocolKind) (c d : Configuration) (count from seeds : ℕ) → AreAtomicAtOneDepth c d
@@ -271,13 +324,13 @@ runs-alike kind other c d json input out again status too law shape is is_too =
     (λ text. refusals-alike json kind other c d text text refl)
     (λ t text out again status too test. run-answers-alike t kind other c d json text out again status too (law.decided (length t.programs) text test.some_core) shape) is is_too
 
-pub traces-alike : (kind other : ProtocolKind) (c d : Configuration) (input out again : List ℕ) (status too : Status) → AreReadOneWay → AreAtomicAtOneDepth c d
-    → IsAnswer (settings.Trace kind c) (Some input) out status → IsAnswer (settings.Trace other d) (Some input) again too
-    → TracesAnswerAlike kind other c d out again status too
-traces-alike kind other c d input out again status too law shape is is_too =
-    inputs-alike (settings.Trace kind c) (settings.Trace other d) (TracesAnswerAlike kind other c d) input out again status too law
-    (λ text. trace-refusals-alike kind other c d text text refl)
-    (λ t text out again status too test. trace-answers-alike t kind other c d text out again status too (law.decided (length t.programs) text test.some_core) shape) is is_too
+pub traces-alike : (kind other : ProtocolKind) (c d : Configuration) (json : Bool) (input out again : List ℕ) (status too : Status) → AreReadOneWay → AreAtomicAtOneDepth c d
+    → IsAnswer (settings.Trace kind c json) (Some input) out status → IsAnswer (settings.Trace other d json) (Some input) again too
+    → TracesAnswerAlike json kind other c d out again status too
+traces-alike kind other c d json input out again status too law shape is is_too =
+    inputs-alike (settings.Trace kind c json) (settings.Trace other d json) (TracesAnswerAlike json kind other c d) input out again status too law
+    (λ text. trace-refusals-alike json kind other c d text text refl)
+    (λ t text out again status too test. trace-answers-alike t kind other c d json text out again status too test.some_core (law.decided (length t.programs) text test.some_core) shape) is is_too
 
 pub sweeps-alike : (kind other : ProtocolKind) (c d : Configuration) (plan : Plan) (input out again : List ℕ) (status too : Status) → AreReadOneWay → AreAtomicAtOneDepth c d
     → IsAnswer (settings.Sweep kind c plan) (Some input) out status → IsAnswer (settings.Sweep other d plan) (Some input) again too

@@ -3,6 +3,7 @@ use Rattle.std.proofs.Common.{◌≡◌, ◌≤◌, ◌<◌, ◌^◌, ℕ, Bool,
 use Rattle.tso_model.specs.Litmus.{Litmus, IsTest}
 use Rattle.tso_model.specs.declared.execution.Entry.{Entry}
 use Rattle.scheduler.specs.Refusals.{IsDecided}
+use Rattle.scheduler.specs.declared.fault.ChoiceFault.TheVariants.{TooMany}
 use Rattle.protocol_tables.specs.declared.kind.ProtocolKind.{ProtocolKind}
 use Rattle.machine_core.specs.Configuration.{Configuration}
 use Rattle.tso_cli.specs.Parts.{parts_of}
@@ -10,7 +11,7 @@ use Rattle.tso_cli.specs.Runs.{run_under, counts_under}
 use Rattle.tso_cli.specs.Lines.{test_refusal, choices_refusal}
 use Rattle.tso_cli.specs.CheckLines.{order_refusal, invalid_line}
 use Rattle.tso_cli.specs.Answers.{run_text, run_status, IsRunAnswer, IsJudgement, IsCheckAnswer, IsAnswerTo, IsInputAnswer, IsAnswer, too_large, refused, answered, ran, judged, valid, invalid}
-use Rattle.tso_cli.specs.Trace.{traced_text, IsTraceAnswer, refused, traced}
+use Rattle.tso_cli.specs.Trace.{traced_in, IsTooLong, IsTraceAnswer, refused, too_long, traced}
 use Rattle.tso_cli.specs.Witness.{IsWitness, IsWitnessAnswer, reached, too_small, invalid, refused, judged}
 use Rattle.command_line.specs.declared.settings.Settings.{Settings}
 use Rattle.command_line.specs.declared.settings.Settings.TheVariants as settings
@@ -19,6 +20,7 @@ use Rattle.tso_cli.specs.OneText.{GivesOneAnswer}
 use Rattle.tso_cli.specs.inner.ReadOneWay.{AreReadOneWay}
 use Rattle.tso_cli.proofs.CheckLemmas.{IsReal, IsOne}
 use Rattle.tso_cli.proofs.PartLemmas.{rest_within}
+use Rattle.tso_cli.proofs.TraceLengths.{one-word, never-both}
 
 abbrev pub Same : List ℕ → List ℕ → Status → Status → Type 0
 Same out other status again = (out ≡ other) × (status ≡ again)
@@ -32,14 +34,22 @@ one_run_answer t kind c json text _ _ _ _ law (ran choices spelled fit) (ran oth
     let same = law.one_list choices others spelled again in
     (ap (λ cs. run_text t kind c json (counts_under t kind c cs) (run_under t kind c cs)) same, ap (λ cs. run_status (run_under t kind c cs)) same)
 
-one_trace_answer : (t : Litmus) (kind : ProtocolKind) (c : Configuration) (text out other : List ℕ) (status again : Status) → IsDecided (length t.programs) text
-    → IsTraceAnswer t kind c text out status → IsTraceAnswer t kind c text other again → Same out other status again
-one_trace_answer t kind c text _ _ _ _ law (refused f h) (refused g k) = (ap choices_refusal (law.one_refusal f g h k), refl)
-one_trace_answer t kind c text _ _ _ _ law (refused f h) (traced choices spelled fit) = absurd (law.never_both choices f spelled h)
-one_trace_answer t kind c text _ _ _ _ law (traced choices spelled fit) (refused f h) = absurd (law.never_both choices f spelled h)
-one_trace_answer t kind c text _ _ _ _ law (traced choices spelled fit) (traced others again too) =
+one_trace_answer : (t : Litmus) (kind : ProtocolKind) (c : Configuration) (json : Bool) (text out other : List ℕ) (status again : Status) → 0 < length t.programs
+    → IsDecided (length t.programs) text → IsTraceAnswer t kind c json text out status → IsTraceAnswer t kind c json text other again → Same out other status again
+one_trace_answer t kind c json text _ _ _ _ some law (refused f h) (refused g k) = (ap choices_refusal (law.one_refusal f g h k), refl)
+one_trace_answer t kind c json text _ _ _ _ some law (refused f h) (too_long choices word spelled long is) = absurd (law.never_both choices f spelled h)
+one_trace_answer t kind c json text _ _ _ _ some law (refused f h) (traced choices spelled fit short) = absurd (law.never_both choices f spelled h)
+one_trace_answer t kind c json text _ _ _ _ some law (too_long choices word spelled long is) (refused f h) = absurd (law.never_both choices f spelled h)
+one_trace_answer t kind c json text _ _ _ _ some law (too_long choices word spelled long is) (too_long others other again longer too) =
+    (ap (λ (n : ℕ). choices_refusal (TooMany n)) (one-word (length t.programs) text word other some is too), refl)
+one_trace_answer t kind c json text _ _ _ _ some law (too_long choices word spelled long is) (traced others again fit short) =
+    absurd (never-both json (run_under t kind c others) short (subst (λ cs. IsTooLong json (run_under t kind c cs)) (law.one_list choices others spelled again) long))
+one_trace_answer t kind c json text _ _ _ _ some law (traced choices spelled fit short) (refused f h) = absurd (law.never_both choices f spelled h)
+one_trace_answer t kind c json text _ _ _ _ some law (traced choices spelled fit short) (too_long others word again long is) =
+    absurd (never-both json (run_under t kind c choices) short (subst (λ cs. IsTooLong json (run_under t kind c cs)) (law.one_list others choices again spelled) long))
+one_trace_answer t kind c json text _ _ _ _ some law (traced choices spelled fit short) (traced others again too less) =
     let same = law.one_list choices others spelled again in
-    (ap (λ cs. traced_text t kind c cs) same, ap (λ cs. run_status (run_under t kind c cs)) same)
+    (ap (λ cs. traced_in json t kind c cs) same, ap (λ cs. run_status (run_under t kind c cs)) same)
 
 one_judgement : (t : Litmus) (order : List Entry) (out other : List ℕ) (status again : Status) → IsReal → IsOne
     → IsJudgement t order out status → IsJudgement t order other again → Same out other status again
@@ -79,7 +89,7 @@ one_witness_answer t depth text _ _ _ _ law test short (judged order out status 
 one_answer_to : (s : Settings) (t : Litmus) (text out other : List ℕ) (status again : Status) → AreReadOneWay → GivesOneAnswer s → IsTest t → length text < 2 ^ 64
     → IsAnswerTo s t text out status → IsAnswerTo s t text other again → Same out other status again
 one_answer_to (settings.Run kind c json) t text out other status again law one test short is too = one_run_answer t kind c json text out other status again (law.decided (length t.programs) text test.some_core) is too
-one_answer_to (settings.Trace kind c) t text out other status again law one test short is too = one_trace_answer t kind c text out other status again (law.decided (length t.programs) text test.some_core) is too
+one_answer_to (settings.Trace kind c json) t text out other status again law one test short is too = one_trace_answer t kind c json text out other status again test.some_core (law.decided (length t.programs) text test.some_core) is too
 one_answer_to (settings.Sweep kind c plan) t text out other status again law one test short is too = (is.text ∙ sym too.text, is.status_is ∙ sym too.status_is)
 one_answer_to (settings.Outcomes search json) t text out other status again law one test short is too = absurd one
 one_answer_to settings.Check t text out other status again law one test short is too = one_check_answer t text out other status again law test short is too

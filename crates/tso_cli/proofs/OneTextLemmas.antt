@@ -16,6 +16,7 @@ use Rattle.litmus_reader.specs.declared.fault.TextFault.{TextFault}
 use Rattle.scheduler.specs.Grammar.{SpellsChoices}
 use Rattle.scheduler.specs.Refusals.{IsRefusedAsChoices, IsDecided}
 use Rattle.scheduler.specs.declared.fault.ChoiceFault.{ChoiceFault}
+use Rattle.scheduler.specs.declared.fault.ChoiceFault.TheVariants.{TooMany}
 use Rattle.order_builder.specs.Spelling.{SpellsOrder, HasFault}
 use Rattle.order_builder.specs.declared.fault.OrderFault.{OrderFault}
 use Rattle.axiom_checker.specs.FirstBreach.{IsFirstBreach}
@@ -37,14 +38,16 @@ use Rattle.tso_cli.specs.SplitRun.{split_run}
 use Rattle.tso_cli.specs.Judgement.{JudgesOrder, JudgesEachOrder, WitnessesOrder, WitnessesEachOrder, reached, unreached, broken}
 use Rattle.tso_cli.specs.Headline.{HeadlineOf, PartsHeadline, InputHeadline}
 use Rattle.tso_cli.specs.OneText.{ShowOneExecution, AreOneRun, AreOneTrace, AreOneWitness}
-use Rattle.tso_cli.specs.TraceHeadline.{PrintsEachTrace, HeadlineOfTraces}
+use Rattle.tso_cli.specs.TraceHeadline.{PrintsEachTrace, HeadlineOfTraces, PrintsTrace, PrintsTracedObject, PrintsTraceIn}
 use Rattle.trace_report.specs.Lines.{trace_text}
 use Rattle.trace_report.specs.Steps.{trace_under}
+use Rattle.tso_cli.specs.Trace.{FitsForm, IsTooLong}
 use Rattle.tso_cli.specs.inner.ReadOneWay.{AreReadOneWay}
 use Rattle.command_line.specs.declared.settings.Settings.{Settings}
 use Rattle.command_line.specs.declared.settings.Settings.TheVariants as settings
 use Rattle.tso_cli.proofs.OneAnswer.{short_rest}
 use Rattle.tso_cli.proofs.SameStates.{one-list}
+use Rattle.tso_cli.proofs.TraceLengths.{too-long-or-not, one-word}
 
 -- each text and each order is one or the other
 pub record AreDecided : Type 0 where
@@ -98,45 +101,83 @@ module _ (t : Litmus) (kind : ProtocolKind) (c : Configuration) (json : Bool) (o
 
 -- ---- of `trace`
 
-module _ (t : Litmus) (kind : ProtocolKind) (c : Configuration) (out other : List ℕ) where
-  one-trace : (run_of : List Choice → Run) (text : List ℕ) → IsDecided (length t.programs) text → PrintsEachTrace t kind c run_of text out → PrintsEachTrace t kind c run_of text other
-      → AreOneTrace kind c out other
-  one-trace run_of text decided p q = by_text decided.always
-    where
-      by_end : (choices : List Choice) → SpellsChoices (length t.programs) text choices → (b : Bool) → (run_of choices).ended ≡ b → AreOneTrace kind c out other
-      by_end choices spelled true ended =
-          let first = p.every_list choices spelled in
-          let second = q.every_list choices spelled in
-          inr (record {
-            t = t;
-            steps = trace_under t kind c choices;
-            rest = first.rest;
-            again = second.rest;
-            first = first.printed;
-            second = second.printed;
-            reports = one-execution t kind c false (head t kind c ++ first.rest) (head t kind c ++ second.rest) (run_of choices) (first.ended ended) (second.ended ended);
-          })
-      by_end choices spelled false unended =
-          let first = p.every_list choices spelled in
-          let second = q.every_list choices spelled in
-          inl (first.printed
-          ∙ ap (λ (rest : List ℕ). head t kind c ++ (trace_text t c.shape.words (trace_under t kind c choices) ++ rest)) (first.unended unended ∙ sym (second.unended unended))
-          ∙ sym second.printed)
+same-text : (kind : ProtocolKind) (c : Configuration) (json : Bool) (out other : List ℕ) → out ≡ other → AreOneTrace kind c json out other
+same-text kind c false out other same = inl same
+same-text kind c true out other same = inl same
 
-      by_text : ((choices : List Choice) × SpellsChoices (length t.programs) text choices) ⊎ ((fault : ChoiceFault) × IsRefusedAsChoices (length t.programs) text fault) → AreOneTrace kind c out other
-      by_text (inl spells) = by_end spells.0 spells.1 (run_of spells.0).ended refl
+module _ (t : Litmus) (kind : ProtocolKind) (c : Configuration) (out other : List ℕ) where
+  one-told : (r : Run) (choices : List Choice) (b : Bool) → r.ended ≡ b → PrintsTrace t kind c choices r out → PrintsTrace t kind c choices r other → AreOneTrace kind c false out other
+  one-told r choices true ended first second = inr (record {
+    t = t;
+    steps = trace_under t kind c choices;
+    rest = first.rest;
+    again = second.rest;
+    first = first.printed;
+    second = second.printed;
+    reports = one-execution t kind c false (head t kind c ++ first.rest) (head t kind c ++ second.rest) r (first.ended ended) (second.ended ended);
+  })
+  one-told r choices false unended first second =
+      inl (first.printed
+      ∙ ap (λ (rest : List ℕ). head t kind c ++ (trace_text t c.shape.words (trace_under t kind c choices) ++ rest)) (first.unended unended ∙ sym (second.unended unended))
+      ∙ sym second.printed)
+
+  one-object : (r : Run) (choices : List Choice) (b : Bool) → r.ended ≡ b → PrintsTracedObject t kind c choices r out → PrintsTracedObject t kind c choices r other → AreOneTrace kind c true out other
+  unfolding one-execution
+  one-object r choices true ended p q =
+      let first = p.ended ended in
+      let second = q.ended ended in
+      let same = one-execution t kind c true first.object second.object r first.execution second.execution in
+      inr (record {
+        t = t;
+        choices = choices;
+        shown = first.execution.shown;
+        again = second.execution.shown;
+        first = first.printed;
+        second = second.printed;
+        reports = record {
+          t = t;
+          shown = first.execution.shown;
+          again = second.execution.shown;
+          first = refl;
+          second = refl;
+          order = same.order;
+          registers = same.registers;
+          memory = same.memory;
+          holds = same.holds;
+        };
+      })
+  one-object r choices false unended p q = inl (p.unended unended ∙ sym (q.unended unended))
+
+  one-in : (json : Bool) (r : Run) (choices : List Choice) → PrintsTraceIn json t kind c choices r out → PrintsTraceIn json t kind c choices r other → AreOneTrace kind c json out other
+  one-in false r choices p q = one-told r choices r.ended refl p q
+  one-in true r choices p q = one-object r choices r.ended refl p q
+
+  one-trace : (json : Bool) (run_of : List Choice → Run) (text : List ℕ) → 0 < length t.programs → IsDecided (length t.programs) text
+      → PrintsEachTrace t kind c json run_of text out → PrintsEachTrace t kind c json run_of text other → AreOneTrace kind c json out other
+  one-trace json run_of text some decided p q = by_text decided.always
+    where
+      by_length : (choices : List Choice) → SpellsChoices (length t.programs) text choices → FitsForm json (run_of choices) ⊎ IsTooLong json (run_of choices) → AreOneTrace kind c json out other
+      by_length choices spelled (inl short) = one-in json (run_of choices) choices (p.every_list choices spelled short) (q.every_list choices spelled short)
+      by_length choices spelled (inr long) =
+          let first = p.too_long choices spelled long in
+          let second = q.too_long choices spelled long in
+          same-text kind c json out other (first.2 ∙ ap (λ (n : ℕ). choices_refusal (TooMany n)) (one-word (length t.programs) text first.0 second.0 some first.1 second.1) ∙ sym second.2)
+
+      by_text : ((choices : List Choice) × SpellsChoices (length t.programs) text choices) ⊎ ((fault : ChoiceFault) × IsRefusedAsChoices (length t.programs) text fault) → AreOneTrace kind c json out other
+      by_text (inl spells) = by_length spells.0 spells.1 (too-long-or-not json (run_of spells.0))
       by_text (inr faulty) =
           let none : (choices : List Choice) → ¬ (SpellsChoices (length t.programs) text choices) = λ choices spelled. decided.never_both choices faulty.0 spelled faulty.1 in
           let first = p.every_other none in
           let second = q.every_other none in
-          inl (first.2 ∙ ap choices_refusal (decided.one_refusal first.0 second.0 first.1 second.1) ∙ sym second.2)
+          same-text kind c json out other (first.2 ∙ ap choices_refusal (decided.one_refusal first.0 second.0 first.1 second.1) ∙ sym second.2)
 
-  one-trace-on-either : (text : List ℕ) → IsDecided (length t.programs) text → HeadlineOfTraces t kind c text out → HeadlineOfTraces t kind c text other → AreOneTrace kind c out other
-  one-trace-on-either text decided p q = by_bus c.bus refl
+  one-trace-on-either : (json : Bool) (text : List ℕ) → 0 < length t.programs → IsDecided (length t.programs) text
+      → HeadlineOfTraces t kind c json text out → HeadlineOfTraces t kind c json text other → AreOneTrace kind c json out other
+  one-trace-on-either json text some decided p q = by_bus c.bus refl
     where
-      by_bus : (b : Bus) → c.bus ≡ b → AreOneTrace kind c out other
-      by_bus Atomic is = one-trace (run t c.depth) text decided (p.atomic is) (q.atomic is)
-      by_bus Split is = one-trace (split_run t kind c) text decided (p.split is) (q.split is)
+      by_bus : (b : Bus) → c.bus ≡ b → AreOneTrace kind c json out other
+      by_bus Atomic is = one-trace json (run t c.depth) text some decided (p.atomic is) (q.atomic is)
+      by_bus Split is = one-trace json (split_run t kind c) text some decided (p.split is) (q.split is)
 
 -- ---- of `sweep`
 
@@ -275,11 +316,11 @@ runs-one kind c json input out other law decided =
     input-one (settings.Run kind c json) (AreOneRun kind c json) input out other law decided (λ a b same. inl same)
     (λ t test short. one-run-on-either t kind c json out other (parts_of input).rest (law.decided (length t.programs) (parts_of input).rest test.some_core))
 
-pub traces-one : (kind : ProtocolKind) (c : Configuration) (input out other : List ℕ) → AreReadOneWay → AreDecided
-    → InputHeadline (settings.Trace kind c) input out → InputHeadline (settings.Trace kind c) input other → AreOneTrace kind c out other
-traces-one kind c input out other law decided =
-    input-one (settings.Trace kind c) (AreOneTrace kind c) input out other law decided (λ a b same. inl same)
-    (λ t test short. one-trace-on-either t kind c out other (parts_of input).rest (law.decided (length t.programs) (parts_of input).rest test.some_core))
+pub traces-one : (kind : ProtocolKind) (c : Configuration) (json : Bool) (input out other : List ℕ) → AreReadOneWay → AreDecided
+    → InputHeadline (settings.Trace kind c json) input out → InputHeadline (settings.Trace kind c json) input other → AreOneTrace kind c json out other
+traces-one kind c json input out other law decided =
+    input-one (settings.Trace kind c json) (AreOneTrace kind c json) input out other law decided (λ a b same. same-text kind c json a b same)
+    (λ t test short. one-trace-on-either t kind c out other json (parts_of input).rest test.some_core (law.decided (length t.programs) (parts_of input).rest test.some_core))
 
 pub sweeps-one : (kind : ProtocolKind) (c : Configuration) (plan : Plan) (input out other : List ℕ) → AreReadOneWay → AreDecided
     → InputHeadline (settings.Sweep kind c plan) input out → InputHeadline (settings.Sweep kind c plan) input other → out ≡ other

@@ -78,7 +78,7 @@ pub record IsTableAnswer (kind : ProtocolKind) (out : List ℕ) (status : Status
 -- at neither
 abbrev pub IsAnswerTo : Settings → Litmus → List ℕ → List ℕ → Status → Type 0
 IsAnswerTo (settings.Run kind config json) t text out status = IsRunAnswer t kind config json text out status
-IsAnswerTo (settings.Trace kind config) t text out status = IsTraceAnswer t kind config text out status
+IsAnswerTo (settings.Trace kind config json) t text out status = IsTraceAnswer t kind config json text out status
 IsAnswerTo (settings.Sweep kind config plan) t text out status = IsSweepAnswer t kind config plan out status
 IsAnswerTo (settings.Outcomes search json) t text out status = IsOutcomesAnswer t search json out status
 IsAnswerTo settings.Check t text out status = IsCheckAnswer t text out status

@@ -25,7 +25,7 @@ PrintsTable kind out = out ≡ printed_table (protocol_name kind) (table_of kind
 -- what the headline says of a test and the second part of its input
 abbrev pub HeadlineOf : Settings → Litmus → List ℕ → List ℕ → Type 0
 HeadlineOf (settings.Run kind config json) t text out = HeadlineOfRuns t kind config json text out
-HeadlineOf (settings.Trace kind config) t text out = HeadlineOfTraces t kind config text out
+HeadlineOf (settings.Trace kind config json) t text out = HeadlineOfTraces t kind config json text out
 HeadlineOf (settings.Sweep kind config plan) t text out = HeadlineOfSweeps t kind config plan out
 HeadlineOf (settings.Outcomes search json) t text out = HeadlineOfOutcomes t search json out
 HeadlineOf settings.Check t text out = JudgesEachOrder t text out

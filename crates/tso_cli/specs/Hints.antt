@@ -9,7 +9,7 @@ use Rattle.tso_cli.specs.declared.answer.Status.TheVariants.{Good, Refused, Unen
 -- whether an answer of status 0 may mislead: final states in lines that people read may; JSON, a verdict and choices don't
 abbrev pub may_mislead : Settings → Bool
 may_mislead (settings.Run kind config json) = not json
-may_mislead (settings.Trace kind config) = true
+may_mislead (settings.Trace kind config json) = not json
 may_mislead (settings.Sweep kind config plan) = true
 may_mislead (settings.Outcomes search json) = not json
 may_mislead settings.Check = false

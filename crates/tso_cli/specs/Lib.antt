@@ -12,6 +12,7 @@ pub mod Fitting
 pub mod CheckLines
 pub mod Witness
 pub mod Answers
+pub mod Step
 pub mod SplitRun
 pub mod RunHeadline
 pub mod TraceHeadline

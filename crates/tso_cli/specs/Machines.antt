@@ -1,17 +1,20 @@
 -- What two machines on the atomic bus answer that differ in the protocol, and in the sets, the ways and the words of their
 -- caches: one text, into which each puts its own `Machine` and `Cache` lines, or members, and nothing else. (This project's
 -- profile.)
-use Rattle.std.specs.Prelude.{ℕ, ◌≡◌, ◌≢◌, Bool, true, false, List, ◌++◌, length}
+use Rattle.std.specs.Prelude.{ℕ, ◌≡◌, ◌≢◌, ◌⊎◌, Bool, true, false, List, ◌++◌, length}
 use Rattle.tso_model.specs.declared.bus.Bus.TheVariants.{Atomic}
+use Rattle.tso_model.specs.declared.choice.Choice.{Choice}
 use Rattle.protocol_tables.specs.declared.kind.ProtocolKind.{ProtocolKind}
 use Rattle.machine_core.specs.Configuration.{Configuration}
 use Rattle.machine_core.specs.declared.counts.Counts.{Counts}
 use Rattle.tso_model.specs.Litmus.{Litmus}
+use Rattle.tso_report.specs.Shown.{Shown}
 use Rattle.tso_report.specs.Report.{head, machine_line, cache_lines}
 use Rattle.trace_report.specs.Lines.{trace_text}
 use Rattle.trace_report.specs.Shown.{Shown as Step}
-use Rattle.tso_report.specs.Json.{cache_value, machine_value}
+use Rattle.tso_report.specs.Json.{cache_value, machine_value, json_report}
 use Rattle.tso_report.specs.JsonFrame.{OtherMembers, json_with}
+use Rattle.trace_json.specs.TracedRun.{json_ended, json_unended}
 use Rattle.tso_cli.specs.Parts.{EndsInFeed}
 use Rattle.tso_cli.specs.declared.answer.Status.{Status}
 use Rattle.tso_cli.specs.declared.answer.Status.TheVariants.{Good, Refused}
@@ -76,10 +79,36 @@ pub record RunsAnswerAlike (json : Bool) (kind other : ProtocolKind) (c d : Conf
   pub ended : how ≡ Good → ReportsDiffer json kind other c d out again
   pub otherwise : how ≢ Good → out ≡ again
 
--- two answers of `trace` have one status; refusals are the same byte for byte, and all others differ in those lines alone
-pub record TracesAnswerAlike (kind other : ProtocolKind) (c d : Configuration) (out again : List ℕ) (how too : Status) : Type 0 where
+-- two traces as JSON of runs that ended are the objects of two reports that differ in the members `cache` and `machine`, with
+-- the traces of the same choices of the same test added
+pub record EndedObjectsDiffer (kind other : ProtocolKind) (c d : Configuration) (out again : List ℕ) : Type 0 where
+  pub t : Litmus
+  pub choices : List Choice
+  pub shown : Shown
+  pub other_shown : Shown
+  pub reports : DifferInMembers kind other c d (json_report t kind c shown) (json_report t other d other_shown)
+  pub first : out ≡ json_ended t kind c choices shown
+  pub second : again ≡ json_ended t other d choices other_shown
+
+-- two traces as JSON of runs that didn't end tell the same numbers, with the traces of the same choices of the same test added
+pub record UnendedObjectsDiffer (kind other : ProtocolKind) (c d : Configuration) (out again : List ℕ) : Type 0 where
+  pub t : Litmus
+  pub choices : List Choice
+  pub used : ℕ
+  pub stalled : ℕ
+  pub first : out ≡ json_unended t kind c choices used stalled
+  pub second : again ≡ json_unended t other d choices used stalled
+
+-- two traces that aren't refused, plain or as JSON, do
+abbrev pub TracesDifferIn : Bool → ProtocolKind → ProtocolKind → Configuration → Configuration → List ℕ → List ℕ → Type 0
+TracesDifferIn false kind other c d out again = TracesDiffer kind other c d out again
+TracesDifferIn true kind other c d out again = EndedObjectsDiffer kind other c d out again ⊎ UnendedObjectsDiffer kind other c d out again
+
+-- two answers of `trace` have one status; refusals are the same byte for byte, and all others differ in those lines or members alone
+pub record TracesAnswerAlike (json : Bool) (kind other : ProtocolKind) (c d : Configuration) (out again : List ℕ) (how too : Status)
+    : Type 0 where
   pub status : how ≡ too
-  pub traced : how ≢ Refused → TracesDiffer kind other c d out again
+  pub traced : how ≢ Refused → TracesDifferIn json kind other c d out again
   pub refused : how ≡ Refused → out ≡ again
 
 -- two answers of `sweep` have one status; the texts differ in that line, and refusals are the same byte for byte

@@ -1,5 +1,5 @@
 -- What the headline leaves open: two texts of which it holds.
-use Rattle.std.specs.Prelude.{ℕ, ◌≡◌, ◌⊎◌, Bool, false, List, ◌++◌, length}
+use Rattle.std.specs.Prelude.{ℕ, ◌≡◌, ◌⊎◌, Bool, true, false, List, ◌++◌, length}
 use Rattle.tso_model.specs.Litmus.{Litmus}
 use Rattle.tso_model.specs.declared.choice.Choice.{Choice}
 use Rattle.tso_model.specs.declared.execution.Entry.{Entry}
@@ -11,6 +11,8 @@ use Rattle.tso_report.specs.Shown.{Shown}
 use Rattle.tso_report.specs.Report.{head}
 use Rattle.trace_report.specs.Lines.{trace_text}
 use Rattle.trace_report.specs.Shown.{Shown as Step}
+use Rattle.tso_report.specs.Json.{json_report}
+use Rattle.trace_json.specs.TracedRun.{json_ended}
 use Rattle.outcome_report.specs.Outcomes.{Outcome}
 use Rattle.outcome_report.specs.Printed.{outcomes_in}
 use Rattle.outcome_report.specs.Laws.{AreAlike}
@@ -50,9 +52,20 @@ pub record TraceOneExecution (kind : ProtocolKind) (c : Configuration) (out othe
   pub second : other ≡ head t kind c ++ (trace_text t c.shape.words steps ++ again)
   pub reports : ShowOneExecution kind c false (head t kind c ++ rest) (head t kind c ++ again)
 
+-- two texts of `trace` as JSON are the objects of such reports, with the trace of the same choices added
+pub record TraceOneObject (kind : ProtocolKind) (c : Configuration) (out other : List ℕ) : Type 0 where
+  pub t : Litmus
+  pub choices : List Choice
+  pub shown : Shown
+  pub again : Shown
+  pub first : out ≡ json_ended t kind c choices shown
+  pub second : other ≡ json_ended t kind c choices again
+  pub reports : ShowOneExecution kind c true (json_report t kind c shown) (json_report t kind c again)
+
 -- two texts of `trace` are one text, or such
-abbrev pub AreOneTrace : ProtocolKind → Configuration → List ℕ → List ℕ → Type 0
-AreOneTrace kind c out other = (out ≡ other) ⊎ TraceOneExecution kind c out other
+abbrev pub AreOneTrace : ProtocolKind → Configuration → Bool → List ℕ → List ℕ → Type 0
+AreOneTrace kind c false out other = (out ≡ other) ⊎ TraceOneExecution kind c out other
+AreOneTrace kind c true out other = (out ≡ other) ⊎ TraceOneObject kind c out other
 
 -- two texts of `outcomes` show final states of one test that are alike; which choices lead to them may differ
 pub record ShowTheSameStates (depth : ℕ) (json : Bool) (out other : List ℕ) : Type 0 where

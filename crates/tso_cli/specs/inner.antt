@@ -5,5 +5,7 @@ pub mod Parts
 pub mod ReadOneWay
 pub mod Runs
 pub mod Simulation
+pub mod Step
 pub mod Streams
 pub mod Sweep
+pub mod Trace

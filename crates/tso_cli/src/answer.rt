@@ -47,10 +47,12 @@ pub struct Answer {
     pub cause: Cause,
 }
 
-/// The answer to a text that spells no test, for what is at fault in it.
-fn refused_test(
+/// The answer to a text that spells no test, for what is at fault in it, where the command reads this after the test.
+///
+/// Errors: out of memory only.
+pub(crate) fn refused_test(
     alloc: Global,
-    settings: &Settings,
+    asked: Asked,
     text: &[u8],
     fault: Fault,
 ) -> Result<Answer, NoMemory>
@@ -61,7 +63,7 @@ fn refused_test(
         return Err(NoMemory);
     }
     let cause = Cause::Test {
-        asked: asked(settings),
+        asked,
         length: text.len(),
         fault,
     };
@@ -84,7 +86,10 @@ fn asked(settings: &Settings) -> Asked {
     }
 }
 
-fn refused_input(alloc: Global) -> Result<Answer, NoMemory>
+/// The answer to an input that is larger than an input may be.
+///
+/// Errors: out of memory only.
+pub(crate) fn refused_input(alloc: Global) -> Result<Answer, NoMemory>
     ensures { IfOk result (λ a. Says a input_refusal Status.Refused) }
 {
     let text = String::from_str(alloc, "Refused input TooLarge\n")?;
@@ -134,7 +139,7 @@ fn judged_answer(alloc: Global, settings: &Settings, input: &[u8]) -> Result<Ans
     let parts = parts_of(input);
     match test_or_fault(alloc, parts.test) {
         Ok(test) => told_answer(alloc, settings, &test, parts.test, parts.rest),
-        Err(ReadError::Fault(fault)) => refused_test(alloc, settings, parts.test, fault),
+        Err(ReadError::Fault(fault)) => refused_test(alloc, asked(settings), parts.test, fault),
         Err(ReadError::NoMemory) => Err(NoMemory),
     }
 }
@@ -195,9 +200,11 @@ fn answer_of(
             config,
             json,
         } => run_answer(alloc, test, *protocol, *config, *json, text),
-        Settings::Trace { protocol, config } => {
-            trace_answer(alloc, test, *protocol, *config, text)
-        }
+        Settings::Trace {
+            protocol,
+            config,
+            json,
+        } => trace_answer(alloc, test, *protocol, *config, *json, text),
         Settings::Sweep {
             protocol,
             config,

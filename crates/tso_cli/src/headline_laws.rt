@@ -21,8 +21,9 @@ pub fn headlines_leave_one_text()
     ensures runs { (kind : ProtocolKind) (c : Configuration) (json : Bool) (input out other : List ℕ)
         → InputHeadline (Settings.Run kind c json) input out → InputHeadline (Settings.Run kind c json) input other
         → AreOneRun kind c json out other }
-    ensures traces { (kind : ProtocolKind) (c : Configuration) (input out other : List ℕ)
-        → InputHeadline (Settings.Trace kind c) input out → InputHeadline (Settings.Trace kind c) input other → AreOneTrace kind c out other }
+    ensures traces { (kind : ProtocolKind) (c : Configuration) (json : Bool) (input out other : List ℕ)
+        → InputHeadline (Settings.Trace kind c json) input out → InputHeadline (Settings.Trace kind c json) input other
+        → AreOneTrace kind c json out other }
     ensures sweeps { (kind : ProtocolKind) (c : Configuration) (plan : Plan) (input out other : List ℕ)
         → InputHeadline (Settings.Sweep kind c plan) input out → InputHeadline (Settings.Sweep kind c plan) input other → out ≡ other }
     ensures checks { (input out other : List ℕ)

@@ -36,8 +36,10 @@ pub(crate) fn may_mislead(settings: &Settings) -> bool
     ensures { result ≡ may_mislead settings.now }
 {
     match settings {
-        Settings::Run { json, .. } | Settings::Outcomes { json, .. } => !*json,
-        Settings::Trace { .. } | Settings::Sweep { .. } => true,
+        Settings::Run { json, .. }
+        | Settings::Trace { json, .. }
+        | Settings::Outcomes { json, .. } => !*json,
+        Settings::Sweep { .. } => true,
         Settings::Check | Settings::Witness { .. } | Settings::Tables(_) => false,
     }
 }

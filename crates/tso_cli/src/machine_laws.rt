@@ -14,17 +14,17 @@ use crate::laws::texts_are_read_one_way;
 
 /// On the atomic bus two protocols, shapes and line sizes give answers to one input that differ in the
 /// `Machine` line and the `Cache` lines alone: as JSON in the members `machine` and `cache`, of a sweep
-/// in the `Machine` line, of a trace also in the trace's lines. Refusals and unfinished runs are answered with the same bytes, and the status
-/// is always the same. The buffers have one depth in both.
+/// in the `Machine` line, of a trace also in the trace's lines, or its member `trace`. Refusals, and unfinished runs without
+/// a trace, are answered with the same bytes, and the status is always the same. The buffers have one depth in both.
 pub fn machines_on_the_atomic_bus_answer_alike()
     ensures runs { (kind other : ProtocolKind) (c d : Configuration) (json : Bool) (input out again : List ℕ) (status too : Status)
         → AreAtomicAtOneDepth c d
         → IsAnswer (Settings.Run kind c json) (Some input) out status → IsAnswer (Settings.Run other d json) (Some input) again too
         → RunsAnswerAlike json kind other c d out again status too }
-    ensures traces { (kind other : ProtocolKind) (c d : Configuration) (input out again : List ℕ) (status too : Status)
+    ensures traces { (kind other : ProtocolKind) (c d : Configuration) (json : Bool) (input out again : List ℕ) (status too : Status)
         → AreAtomicAtOneDepth c d
-        → IsAnswer (Settings.Trace kind c) (Some input) out status → IsAnswer (Settings.Trace other d) (Some input) again too
-        → TracesAnswerAlike kind other c d out again status too }
+        → IsAnswer (Settings.Trace kind c json) (Some input) out status → IsAnswer (Settings.Trace other d json) (Some input) again too
+        → TracesAnswerAlike json kind other c d out again status too }
     ensures sweeps { (kind other : ProtocolKind) (c d : Configuration) (plan : Plan) (input out again : List ℕ) (status too : Status)
         → AreAtomicAtOneDepth c d
         → IsAnswer (Settings.Sweep kind c plan) (Some input) out status → IsAnswer (Settings.Sweep other d plan) (Some input) again too

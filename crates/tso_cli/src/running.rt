@@ -10,8 +10,8 @@ ghost use Rattle.tso_cli.specs.Runs.{AnswersFit};
 ghost use Rattle.tso_cli.specs.RunTexts.{report_in, unfinished_in};
 
 use crate::answer::{Answer, Status};
-use crate::simulation::{Ending, SimFault, simulate};
-use hints::Cause;
+use crate::simulation::{Ending, SimFault, simulate_noting};
+use hints::{Cause, Stalls};
 use machine_core::{Choice, Config};
 use protocol_tables::ProtocolKind;
 use scheduler::{ChoiceFault, read_choices, spelled_cores_exist};
@@ -35,11 +35,12 @@ pub fn run_answer(
     spelled_cores_exist();
     match read_choices(alloc, test.cores(), text) {
         Ok(choices) => {
-            let answer = run_under(alloc, test, protocol, config, json, &choices)?;
+            let mut stalls = Stalls::none();
+            let answer = run_under(alloc, test, protocol, config, json, &choices, &mut stalls)?;
             Ok(Answer {
                 text: answer.text,
                 status: answer.status,
-                cause: cause_of(answer.status, test, text, config),
+                cause: cause_of(answer.status, test, text, config, stalls),
             })
         }
         Err(fault) => refused_choices(alloc, test, text, fault),
@@ -47,9 +48,15 @@ pub fn run_answer(
 }
 
 /// Why the run didn't end, if it didn't.
-pub(crate) fn cause_of(status: Status, test: &Test, text: &[u8], config: Config) -> Cause {
+pub(crate) fn cause_of(
+    status: Status,
+    test: &Test,
+    text: &[u8],
+    config: Config,
+    stalls: Stalls,
+) -> Cause {
     match status {
-        Status::Unended => Cause::of_unended_run(test, text, config.depth() > 0),
+        Status::Unended => Cause::of_unended_run(test, text, config.depth() > 0, stalls),
         Status::Good | Status::Refused | Status::Invalid => Cause::Nothing,
     }
 }
@@ -90,12 +97,13 @@ fn run_under(
     config: Config,
     json: bool,
     choices: &[Choice],
+    stalls: &mut Stalls,
 ) -> Result<Answer, NoMemory>
     requires { CoresExist (length test.now.programs) choices.now }
     ensures says { IfOk result (SaysRun test.now protocol config json choices.now) }
     ensures answers { OnOk result (AnswersFit test.now protocol config choices.now) }
 {
-    match simulate(alloc, test, protocol, config, choices) {
+    match simulate_noting(alloc, test, protocol, config, choices, stalls) {
         Ok(Ending::Ended(run)) => {
             let text = report_in(alloc, test, protocol, config, json, &run)?;
             Ok(Answer {

@@ -1,14 +1,15 @@
 //! Choices on a machine, until the test has ended.
 
-ghost use Rattle.std.specs.Prelude.{◌≡◌, ◌+◌, ◌*◌, false, IfOk, OnOk, length};
+ghost use Rattle.std.specs.Prelude.{◌≡◌, ◌+◌, ◌*◌, ◌^◌, ◌<◌, false, IfOk, OnOk, length};
 ghost use Rattle.tso_model.specs.Runs.{CoresExist};
 ghost use Rattle.tso_cli.specs.Runs.{run_by, run_under, counts_by, counts_under, AnswersFit, AnswersFitBy};
 ghost use Rattle.tso_cli.specs.Simulation.{IsEndingOf, FitsEnding, HasCounts, IsCounted, HasAllOrder, HasRounds, HasEnded, verdict};
-ghost use Rattle.tso_cli.specs.inner.Simulation.{Drives};
+ghost use Rattle.tso_cli.specs.inner.Simulation.{Drives, IsLeftBy};
 ghost use Rattle.split_laws.specs.BusChoices.{IsPossibleOn};
 ghost use Rattle.tso_laws.specs.Counting.{instructions, longest};
 
 use crate::laws::ended_runs_of_machines_are_executions;
+use hints::Stalls;
 use machine_core::{Bus, Choice, Config, Machine, Outcome};
 use protocol_tables::{Mesi, Moesi, Mosi, Msi, Protocol, ProtocolKind};
 use scheduler::{Choices, Listed};
@@ -86,7 +87,26 @@ pub fn simulate(
     atomic_runs_are_flat_runs();
     ended_runs_of_machines_are_executions();
     test.know_limits();
-    run_with(alloc, test, protocol, config, Listed::new(choices))
+    let mut stalls = Stalls::none();
+    simulate_noting(alloc, test, protocol, config, choices, &mut stalls)
+}
+
+/// What [`simulate`] answers; which choices stalled is noted for a hint.
+pub(crate) fn simulate_noting(
+    alloc: Global,
+    test: &Test,
+    protocol: ProtocolKind,
+    config: Config,
+    choices: &[Choice],
+    stalls: &mut Stalls,
+) -> Result<Ending, SimFault>
+    requires { CoresExist (length test.now.programs) choices.now }
+    ensures ending { IfOk result (IsEndingOf test.now (run_under test.now protocol config choices.now)) }
+    ensures fits { IfOk result (FitsEnding test.now) }
+    ensures answers { OnOk result (AnswersFit test.now protocol config choices.now) }
+    ensures counts { IfOk result (HasCounts (counts_under test.now protocol config choices.now)) }
+{
+    run_with(alloc, test, protocol, config, Listed::new(choices), stalls)
 }
 
 fn run_with<C: Choices>(
@@ -95,6 +115,7 @@ fn run_with<C: Choices>(
     protocol: ProtocolKind,
     config: Config,
     choices: C,
+    stalls: &mut Stalls,
 ) -> Result<Ending, SimFault>
     requires { CoresExist (length test.now.programs) (C.coming choices) }
     ensures ending { IfOk result (IsEndingOf test.now (run_under test.now protocol config (C.coming choices))) }
@@ -103,10 +124,10 @@ fn run_with<C: Choices>(
     ensures counts { IfOk result (HasCounts (counts_under test.now protocol config (C.coming choices))) }
 {
     match protocol {
-        ProtocolKind::Msi => run_to_the_end(alloc, test, Msi, config, choices),
-        ProtocolKind::Mesi => run_to_the_end(alloc, test, Mesi, config, choices),
-        ProtocolKind::Moesi => run_to_the_end(alloc, test, Moesi, config, choices),
-        ProtocolKind::Mosi => run_to_the_end(alloc, test, Mosi, config, choices),
+        ProtocolKind::Msi => run_to_the_end(alloc, test, Msi, config, choices, stalls),
+        ProtocolKind::Mesi => run_to_the_end(alloc, test, Mesi, config, choices, stalls),
+        ProtocolKind::Moesi => run_to_the_end(alloc, test, Moesi, config, choices, stalls),
+        ProtocolKind::Mosi => run_to_the_end(alloc, test, Mosi, config, choices, stalls),
     }
 }
 
@@ -116,6 +137,7 @@ fn run_to_the_end<P: Protocol, C: Choices>(
     protocol: P,
     config: Config,
     choices: C,
+    stalls: &mut Stalls,
 ) -> Result<Ending, SimFault>
     requires { CoresExist (length test.now.programs) (C.coming choices) }
     ensures ending { IfOk result (IsEndingOf test.now (run_by config.bus (P.table protocol) config test.now (C.coming choices))) }
@@ -131,7 +153,25 @@ fn run_to_the_end<P: Protocol, C: Choices>(
     test.know_limits();
     let mut machine = Machine::new(alloc, protocol, test, config)?;
     let mut choices = choices;
-    let progress = drive(&mut machine, &mut choices)?;
+    let progress = drive(&mut machine, &mut choices, stalls)?;
+    let unused = choices.left();
+    let ending = ending_of(alloc, machine, test, progress, unused)?;
+    Ok(ending)
+}
+
+/// How a machine that was driven so far leaves its test, with so many of the choices unused.
+///
+/// Errors: out of memory only.
+pub(crate) fn ending_of<P: Protocol>(
+    alloc: Global,
+    machine: Machine<'_, P>,
+    test: &Test,
+    progress: Progress,
+    unused: usize,
+) -> Result<Ending, NoMemory>
+    requires { machine.test ≡ test.now }
+    ensures { IfOk result (IsLeftBy test.now machine.entry progress.used progress.stalled unused) }
+{
     if !machine.is_ended() {
         return Ok(Ending::Unfinished {
             used: progress.used,
@@ -145,7 +185,7 @@ fn run_to_the_end<P: Protocol, C: Choices>(
         holds,
         used: progress.used,
         stalled: progress.stalled,
-        unused: choices.left(),
+        unused,
     }))
 }
 
@@ -156,11 +196,12 @@ pub(crate) struct Progress {
     pub stalled: usize,
 }
 
-/// Makes the choices one after the other, until the test has ended. The caches' answers along all of
-/// them fit, those after the end too: there nobody holds the bus.
+/// Makes the choices one after the other, until the test has ended, and notes those that stall. The caches'
+/// answers along all of them fit, those after the end too: there nobody holds the bus.
 pub(crate) fn drive<P: Protocol, C: Choices>(
     machine: &mut Machine<'_, P>,
     choices: &mut C,
+    stalls: &mut Stalls,
 ) -> Result<Progress, NoMemory>
     requires fresh { machine.old.failed ≡ false }
     requires cores { CoresExist (length machine.old.test.programs) (C.coming choices.old) }
@@ -171,8 +212,7 @@ pub(crate) fn drive<P: Protocol, C: Choices>(
     attempts_lead_from_state_to_state();
     what_holds_so_far_on_either_bus();
     runs_on_either_bus_stop_where_they_end();
-    // What this call ensures is that the choices are no more than a `usize` counts.
-    let _known = choices.left();
+    know_choices(choices);
     let mut used = 0;
     let mut stalled = 0;
     let mut ended = machine.is_ended();
@@ -184,13 +224,23 @@ pub(crate) fn drive<P: Protocol, C: Choices>(
         used += 1;
         match outcome {
             // A stall changes nothing, so no test ends by one.
-            Outcome::Stalled(_) => stalled += 1,
+            Outcome::Stalled(reason) => {
+                stalled += 1;
+                stalls.note(choice, reason);
+            }
             Outcome::Committed | Outcome::Buffered | Outcome::Moved | Outcome::Asked => {
                 ended = machine.is_ended();
             }
         }
     }
     Ok(Progress { used, stalled })
+}
+
+/// The choices are no more than a `usize` counts: so much is known of them from this call on, which has no effect.
+fn know_choices<C: Choices>(choices: &C)
+    ensures { length (C.coming choices.now) < 2 ^ 64 }
+{
+    let _left = choices.left();
 }
 
 /// The truth of the test's condition in this state, if it has one.

@@ -7,7 +7,7 @@ ghost use Rattle.tso_cli.specs.Streams.{AppendsBeginning, ConsumesAtMost};
 ghost use Rattle.tso_cli.specs.inner.Streams.{CountsReadFaults, CountsWriteFaults};
 
 use crate::counted::Counted;
-use std::alloc::{AllocError, AllocFailed, Global};
+use std::alloc::{AllocError, Global};
 use std::io::{Read, Write};
 use thiserror::Error;
 use tso_model::NoMemory;
@@ -42,17 +42,6 @@ impl From<AllocError> for RunFault {
     ghost from_gives = { λ _ fault. fault ≡ faults.NoMemory };
 
     fn from(_: AllocError) -> RunFault {
-        RunFault::NoMemory
-    }
-}
-
-impl<T: Drop> From<AllocFailed<T>> for RunFault {
-    ghost use Rattle.std.specs.Prelude.{◌≡◌};
-    ghost use Rattle.tso_cli.specs.declared.streams.RunFault.TheVariants as faults;
-
-    ghost from_gives = { λ _ fault. fault ≡ faults.NoMemory };
-
-    fn from(_: AllocFailed<T>) -> RunFault {
         RunFault::NoMemory
     }
 }

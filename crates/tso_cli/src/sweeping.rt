@@ -11,7 +11,7 @@ ghost use Rattle.tso_cli.specs.inner.Sweep.{EachKindWith};
 use crate::answer::{Answer, Status};
 use crate::simulation::{drive, verdict_of};
 use command_line::SweepPlan;
-use hints::Cause;
+use hints::{Cause, Stalls};
 use machine_core::{Config, Machine};
 use protocol_tables::{Mesi, Moesi, Mosi, Msi, Protocol, ProtocolKind};
 use scheduler::{Choices, Seeded};
@@ -154,7 +154,7 @@ fn count_run<P: Protocol, C: Choices>(
     runs_on_either_bus_stop_where_they_end();
     test.know_limits();
     let mut choices = choices;
-    drive(machine, &mut choices)?;
+    drive(machine, &mut choices, &mut Stalls::none())?;
     if !machine.is_ended() {
         machine.restart();
         tally.add_unfinished();

@@ -1,26 +1,30 @@
 //! The answer of `trace`.
 
-ghost use Rattle.std.specs.Prelude.{IfOk, OnOk, length, string_bytes};
+ghost use Rattle.std.specs.Prelude.{◌≡◌, true, false, IfOk, OnOk, length, string_bytes};
 ghost use Rattle.tso_model.specs.Runs.{CoresExist};
+ghost use Rattle.scheduler.specs.Grammar.{SpellsChoices};
 ghost use Rattle.tso_cli.specs.Answers.{status_under};
-ghost use Rattle.tso_cli.specs.Runs.{AnswersFit};
-ghost use Rattle.tso_cli.specs.Trace.{traced_text, IsTraceAnswer};
+ghost use Rattle.tso_cli.specs.Runs.{run_under, counts_under, AnswersFit};
+ghost use Rattle.tso_cli.specs.Simulation.{IsEndingOf, FitsEnding, HasCounts};
+ghost use Rattle.tso_cli.specs.Trace.{traced_in, IsTraceAnswer};
 ghost use Rattle.tso_cli.specs.inner.Answers.{Says};
 
 use crate::answer::{Answer, Status};
+use crate::measuring::{Measured, measure, too_long};
 use crate::running::{cause_of, refused_choices};
-use crate::simulation::{Ending, SimFault, simulate};
-use hints::Cause;
+use crate::simulation::{Ending, SimFault, simulate_noting};
+use crate::told_run::simulate_telling;
+use hints::{Cause, Stalls};
 use machine_core::{Choice, Config};
 use protocol_tables::ProtocolKind;
 use scheduler::{read_choices, spelled_cores_exist};
 use std::alloc::Global;
-use trace_report::write_trace;
+use trace_json::{ended_json, unended_json};
 use tso_model::{NoMemory, Test};
 use tso_report::{head_text, write_body};
 
-/// The answer of `trace` to a test and the text of choices: what `run` answers, with what each choice did after the first two
-/// lines.
+/// The answer of `trace` to a test and the text of choices, plain or as JSON: what `run` answers, with what each choice did.
+/// As JSON it is refused where more choices are used than a trace may have steps.
 ///
 /// Errors: out of memory only.
 pub fn trace_answer(
@@ -28,40 +32,79 @@ pub fn trace_answer(
     test: &Test,
     protocol: ProtocolKind,
     config: Config,
+    json: bool,
     text: &[u8],
 ) -> Result<Answer, NoMemory>
-    ensures { IfOk result (λ a. IsTraceAnswer test.now protocol config text.now (string_bytes a.text) a.status) }
+    ensures { IfOk result (λ a. IsTraceAnswer test.now protocol config json text.now (string_bytes a.text) a.status) }
 {
     spelled_cores_exist();
     match read_choices(alloc, test.cores(), text) {
-        Ok(choices) => {
-            let answer = traced_under(alloc, test, protocol, config, &choices)?;
-            Ok(Answer {
-                text: answer.text,
-                status: answer.status,
-                cause: cause_of(answer.status, test, text, config),
-            })
-        }
+        Ok(choices) => answer_under(alloc, test, protocol, config, json, text, &choices),
         Err(fault) => refused_choices(alloc, test, text, fault),
     }
 }
 
-/// The run is made twice: once for the trace, and once for what stands after it.
+/// The answer to the choices that the text spells, plain or as JSON.
+fn answer_under(
+    alloc: Global,
+    test: &Test,
+    protocol: ProtocolKind,
+    config: Config,
+    json: bool,
+    text: &[u8],
+    choices: &[Choice],
+) -> Result<Answer, NoMemory>
+    requires cores { CoresExist (length test.now.programs) choices.now }
+    requires spelled { SpellsChoices (length test.now.programs) text.now choices.now }
+    ensures { IfOk result (λ a. IsTraceAnswer test.now protocol config json text.now (string_bytes a.text) a.status) }
+{
+    if json {
+        object_answer(alloc, test, protocol, config, text, choices)
+    } else {
+        lines_answer(alloc, test, protocol, config, text, choices)
+    }
+}
+
+/// The answer as lines.
+fn lines_answer(
+    alloc: Global,
+    test: &Test,
+    protocol: ProtocolKind,
+    config: Config,
+    text: &[u8],
+    choices: &[Choice],
+) -> Result<Answer, NoMemory>
+    requires cores { CoresExist (length test.now.programs) choices.now }
+    requires spelled { SpellsChoices (length test.now.programs) text.now choices.now }
+    ensures { IfOk result (λ a. IsTraceAnswer test.now protocol config false text.now (string_bytes a.text) a.status) }
+{
+    let mut stalls = Stalls::none();
+    let answer = traced_under(alloc, test, protocol, config, choices, &mut stalls)?;
+    Ok(Answer {
+        text: answer.text,
+        status: answer.status,
+        cause: cause_of(answer.status, test, text, config, stalls),
+    })
+}
+
+/// The run is made once: its trace is written as its choices are made, and what stands after it is what the machine is
+/// left with.
 fn traced_under(
     alloc: Global,
     test: &Test,
     protocol: ProtocolKind,
     config: Config,
     choices: &[Choice],
+    stalls: &mut Stalls,
 ) -> Result<Answer, NoMemory>
     requires { CoresExist (length test.now.programs) choices.now }
-    ensures says { IfOk result (λ a. Says a (traced_text test.now protocol config choices.now) (status_under test.now protocol config choices.now)) }
+    ensures says { IfOk result (λ a. Says a (traced_in false test.now protocol config choices.now) (status_under test.now protocol config choices.now)) }
     ensures answers { OnOk result (AnswersFit test.now protocol config choices.now) }
 {
     let mut text = head_text(alloc, test, protocol, config)?;
-    write_trace(&mut text, alloc, test, protocol, config, choices)?;
-    match simulate(alloc, test, protocol, config, choices) {
-        Ok(Ending::Ended(run)) => {
+    let ending = simulate_telling(&mut text, alloc, test, protocol, config, choices, stalls)?;
+    match ending {
+        Ending::Ended(run) => {
             write_body(&mut text, test, &run)?;
             Ok(Answer {
                 text,
@@ -69,7 +112,7 @@ fn traced_under(
                 cause: Cause::Nothing,
             })
         }
-        Ok(Ending::Unfinished { used, stalled }) => {
+        Ending::Unfinished { used, stalled } => {
             write!(text, "Unfinished used={used} stalled={stalled}\n")?;
             Ok(Answer {
                 text,
@@ -77,6 +120,66 @@ fn traced_under(
                 cause: Cause::Nothing,
             })
         }
-        Err(SimFault::NoMemory) => Err(NoMemory),
+    }
+}
+
+/// The answer as JSON.
+fn object_answer(
+    alloc: Global,
+    test: &Test,
+    protocol: ProtocolKind,
+    config: Config,
+    text: &[u8],
+    choices: &[Choice],
+) -> Result<Answer, NoMemory>
+    requires cores { CoresExist (length test.now.programs) choices.now }
+    requires spelled { SpellsChoices (length test.now.programs) text.now choices.now }
+    ensures { IfOk result (λ a. IsTraceAnswer test.now protocol config true text.now (string_bytes a.text) a.status) }
+{
+    match measure(alloc, test, protocol, config, text, choices)? {
+        Measured::TooLong(word) => too_long(alloc, text, word),
+        Measured::Fits(driven) => {
+            let answer = object_of(alloc, test, protocol, config, choices, &driven.ending)?;
+            Ok(Answer {
+                text: answer.text,
+                status: answer.status,
+                cause: cause_of(answer.status, test, text, config, driven.stalls),
+            })
+        }
+    }
+}
+
+/// The object of a run of these choices that left the test so.
+fn object_of(
+    alloc: Global,
+    test: &Test,
+    protocol: ProtocolKind,
+    config: Config,
+    choices: &[Choice],
+    ending: &Ending,
+) -> Result<Answer, NoMemory>
+    requires cores { CoresExist (length test.now.programs) choices.now }
+    requires ending { IsEndingOf test.now (run_under test.now protocol config choices.now) ending.now }
+    requires fits { FitsEnding test.now ending.now }
+    requires counts { HasCounts (counts_under test.now protocol config choices.now) ending.now }
+    ensures { IfOk result (λ a. Says a (traced_in true test.now protocol config choices.now) (status_under test.now protocol config choices.now)) }
+{
+    match ending {
+        Ending::Ended(run) => {
+            let text = ended_json(alloc, test, protocol, config, choices, run)?;
+            Ok(Answer {
+                text,
+                status: Status::Good,
+                cause: Cause::Nothing,
+            })
+        }
+        Ending::Unfinished { used, stalled } => {
+            let text = unended_json(alloc, test, protocol, config, choices, *used, *stalled)?;
+            Ok(Answer {
+                text,
+                status: Status::Unended,
+                cause: Cause::Nothing,
+            })
+        }
     }
 }

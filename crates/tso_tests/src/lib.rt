@@ -24,6 +24,8 @@ mod named;
 #[cfg(test)]
 mod orders;
 #[cfg(test)]
+mod steps;
+#[cfg(test)]
 mod streams;
 #[cfg(test)]
 mod taken;

@@ -3,7 +3,7 @@ use Rattle.std.specs.Prelude.{ℕ, ◌≡◌, ◌≤◌, ◌++◌, List, length,
 use Rattle.tso_model.specs.Litmus.{Litmus}
 use Rattle.tso_model.specs.FlatMachine.{State, start, after_choice, step, drain}
 use Rattle.tso_model.specs.declared.choice.Choice.{Choice}
-use Rattle.eager_laws.specs.Closed.{IsCovered, AreClosed}
+use Rattle.eager_laws.specs.Closed.{IsCovered, AreClosed, LeadsEagerly}
 use Rattle.explorer.specs.State.{state_of}
 use Rattle.explorer.specs.declared.snapshot.Snapshot.{Snapshot}
 use Rattle.explorer.specs.declared.link.Link.{Link}
@@ -16,6 +16,12 @@ Grows old new = (more : List Snapshot) × (new ≡ old ++ more)
 -- each has a core for each program
 abbrev pub HaveCores : Litmus → List Snapshot → Type 0
 HaveCores t snapshots = All (λ s. length s.cores.items ≡ length t.programs) snapshots
+
+-- choices lead from the one state to the other: a first one, and eager ones after it
+pub record IsReached (depth : ℕ) (t : Litmus) (state : State) (c : Choice) (choices : List Choice) (last : State) : Type 0 where
+  pub leads : LeadsBy depth t state choices last
+  pub later : List Choice
+  pub eager : LeadsEagerly depth t (after_choice t depth state c) later last
 
 -- the choice stalls in the state, or what it leads to is covered
 abbrev pub IsVisited : ℕ → Litmus → List Snapshot → State → Choice → Type 0

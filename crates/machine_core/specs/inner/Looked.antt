@@ -4,7 +4,8 @@ use Rattle.std.specs.Option.{option_and_then}
 use Rattle.tso_model.specs.FlatMachine.{CoreState}
 use Rattle.tso_model.specs.declared.execution.Entry.{Entry}
 use Rattle.snoop_bus.specs.declared.looking.CachedLine.{CachedLine}
-use Rattle.snoop_bus.specs.inner.Accesses.{with_words, ranked_in}
+use Rattle.snoop_bus.specs.inner.Accesses.{ranked_in}
+use Rattle.snoop_bus.specs.Accesses.{with_words}
 use Rattle.machine_core.specs.Running.{Running}
 
 -- a core, if the test has one of that number

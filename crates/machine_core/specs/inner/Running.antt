@@ -2,15 +2,9 @@
 use Rattle.std.specs.Prelude.{◌≡◌, ◌&&◌, Bool, true, not}
 use Rattle.tso_model.specs.Runs.{has_ended}
 use Rattle.tso_model.specs.SplitMachine.{HeldBetween}
-use Rattle.tso_model.specs.EitherBus.{HitFits}
 use Rattle.tso_model.specs.declared.execution.Entry.{Entry}
-use Rattle.tso_model.specs.declared.choice.Choice.{Choice}
 use Rattle.machine_core.specs.inner.Caches.{HasLineAlone}
-use Rattle.machine_core.specs.Running.{Running, attempt_on}
-
--- the answer is one that caches may give
-abbrev pub AnswerFits : Running → Choice → Type 0
-AnswerFits m choice = HitFits m.test m.depth m.state.flat (attempt_on m choice) m.state.holder
+use Rattle.machine_core.specs.Running.{Running}
 
 -- between the two parts of a locked instruction no other core has its line
 abbrev pub IsAloneBetween : Running → Type 0

@@ -1,5 +1,6 @@
 -- What the calls of a bus leave, said of its copies, and when a call is refused memory.
-use Rattle.std.specs.Prelude.{◌≡◌, ◌≢◌, ◌⊎◌, ℕ, Bool, false, IsTrue, Option, Some, None, option_map, List, [], slice_get, slice_index_or}
+use Rattle.std.specs.Prelude.{◌≡◌, ◌≢◌, ◌⊎◌, ℕ, Bool, false, IsTrue, Option, Some, None, option_map, List, []}
+use Rattle.std.specs.Prelude.{slice_get, slice_index_or}
 use Rattle.tso_model.specs.declared.instruction.Core.{Core}
 use Rattle.tso_model.specs.declared.instruction.Loc.{Loc}
 use Rattle.protocol_tables.specs.declared.state.State.{State}
@@ -10,7 +11,7 @@ use Rattle.snoop_bus.specs.declared.access.AccessKind.TheVariants.{Miss}
 use Rattle.snoop_bus.specs.declared.holding.Holder.{Holder}
 use Rattle.snoop_bus.specs.declared.holding.Stage.TheVariants.{Load, Locked}
 use Rattle.snoop_bus.specs.declared.looking.CachedLine.{CachedLine}
-use Rattle.snoop_bus.specs.Lines.{line_in, words_in, line_of_words}
+use Rattle.snoop_bus.specs.Lines.{line_in, words_in}
 use Rattle.snoop_bus.specs.Tags.{tag_set}
 use Rattle.snoop_bus.specs.CacheContents.{TagSets, sets_of}
 use Rattle.snoop_bus.specs.inner.CacheContents.{settled}
@@ -18,15 +19,11 @@ use Rattle.snoop_bus.specs.Copies.{cache_of}
 use Rattle.snoop_bus.specs.Bus.{Bus, words_of, IsFree}
 use Rattle.protocol_tables.specs.Laws.{is_dirty}
 use Rattle.snoop_bus.specs.Asks.{tag_at, or_invalid}
-use Rattle.snoop_bus.specs.Accesses.{contents_of, line_of, would_hit}
+use Rattle.snoop_bus.specs.Accesses.{contents_of, line_of, would_hit, with_words}
 
 -- the copies of a core's set with this number, with their words
 abbrev pub copies_of : Bus → ℕ → ℕ → Contents
 copies_of b core set = slice_index_or (cache_of b.caches core) set (contents [] 1)
-
--- a line in this state, where lines have so many words, and these words are seen
-abbrev pub with_words : ℕ → List ℕ → ℕ × State → CachedLine
-with_words words seen tag = record { line = tag.0; state = tag.1; words = line_of_words words seen tag.0 }
 
 -- the line of this rank in a core's set, the most recently used first
 abbrev pub ranked_in : List TagSets → ℕ → ℕ → ℕ → Option (ℕ × State)

@@ -5,7 +5,7 @@ use Rattle.machine_core.specs.Configuration.{Configuration}
 use Rattle.machine_core.specs.Running.{Running, configuration_of}
 use Rattle.serde_json.specs.Data.{Data}
 use Rattle.trace_report.specs.Shown.{Shown}
-use Rattle.trace_json.specs.inner.TraceJson.{step_to, alone}
+use Rattle.trace_json.specs.TraceJson.{alone, step_to}
 
 -- the machine runs this test, is configured so, and has a word for each location
 pub record IsShown (t : Litmus) (c : Configuration) (m : Running) : Type 0 where

@@ -7,8 +7,8 @@ use Rattle.tso_report.specs.Json.{order_value}
 use Rattle.trace_report.specs.Shown.{Shown}
 use Rattle.trace_report.specs.Lines.{access_name, stall_name, line_name}
 use Rattle.trace_report.specs.Lines.{printed_core, printed_move, printed_change, printed_request}
-use Rattle.trace_json.specs.inner.Values.{text_or_null, texts}
-use Rattle.trace_json.specs.inner.StepJson.{outcome_word, stall_in}
+use Rattle.trace_json.specs.Values.{text_or_null, texts}
+use Rattle.trace_json.specs.StepJson.{outcome_word, stall_in}
 
 -- those to `moved`
 abbrev pub done_members : Litmus → Shown → Data → Members

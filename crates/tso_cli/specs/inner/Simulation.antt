@@ -1,5 +1,8 @@
 -- What drives a machine along choices, and what is known of it after them.
-use Rattle.std.specs.Prelude.{ℕ, ◌+◌, ◌≡◌, false, List, ◌++◌}
+use Rattle.std.specs.Prelude.{ℕ, ◌+◌, ◌≡◌, true, false, List, ◌++◌, length}
+use Rattle.tso_model.specs.Litmus.{Litmus}
+use Rattle.tso_model.specs.FlatMachine.{registers_in}
+use Rattle.tso_model.specs.Together.{put_together}
 use Rattle.tso_model.specs.EitherBus.{BusRun, run_on_from, HitsFit}
 use Rattle.tso_model.specs.SplitMachine.{Attempt}
 use Rattle.tso_model.specs.declared.choice.Choice.{Choice}
@@ -7,6 +10,11 @@ use Rattle.split_laws.specs.BusRuns.{left_by}
 use Rattle.machine_core.specs.Statistics.{statistics_from}
 use Rattle.machine_core.specs.Answered.{answered_from}
 use Rattle.machine_core.specs.Running.{Running}
+use Rattle.machine_core.specs.inner.Running.{is_ended}
+use Rattle.tso_report.specs.Shown.{Shown, shown}
+use Rattle.tso_cli.specs.Simulation.{verdict}
+use Rattle.tso_cli.specs.declared.simulation.Ending.{Ending}
+use Rattle.tso_cli.specs.declared.simulation.Ending.TheVariants.{Ended, Unfinished}
 
 -- the choices with the answers of a machine's caches along them, and the run under them from the machine's state on
 abbrev pub answers_of : Running → List Choice → List Attempt
@@ -31,3 +39,22 @@ pub record Drives (old new : Running) (choices : List Choice) (uses stalls : ℕ
   pub used : uses ≡ (run_of old choices).run.used
   pub stalled : stalls ≡ (run_of old choices).run.stalled
   pub answers : HaveFittingAnswers old choices
+
+-- a machine on which the test has ended leaves this, once so many choices were made and so many are left over
+pub record IsLeft (t : Litmus) (m : Running) (uses stalls rest : ℕ) (s : Shown) : Type 0 where
+  pub ended : is_ended m ≡ true
+  pub order : s.order ≡ put_together m.commits
+  pub registers : s.registers ≡ registers_in m.state.flat
+  pub memory : s.memory ≡ m.state.flat.memory
+  pub counts : s.counts ≡ m.statistics.counts
+  pub cores : length s.registers ≡ length m.test.programs
+  pub locations : length s.memory ≡ length m.test.locations
+  pub holds : s.holds ≡ verdict t s.registers s.memory
+  pub used : s.used ≡ uses
+  pub stalled : s.stalled ≡ stalls
+  pub unused : s.unused ≡ rest
+
+-- that, or a test that hasn't ended
+abbrev pub IsLeftBy : Litmus → Running → ℕ → ℕ → ℕ → Ending → Type 0
+IsLeftBy t m uses stalls rest (Ended run) = IsLeft t m uses stalls rest (shown run)
+IsLeftBy t m uses stalls rest (Unfinished used stalled) = (is_ended m ≡ false) × (used ≡ uses) × (stalled ≡ stalls)

@@ -1,4 +1,4 @@
-use Rattle.std.proofs.Common.{◌≡◌, ◌<◌, ℕ, Some, slice_get}
+use Rattle.std.proofs.Common.{◌≡◌, ◌<◌, ℕ, Some, slice_get, length}
 use Rattle.explorer.specs.State.{state_of}
 use Rattle.explorer.specs.inner.Kept.{Grows, HaveCores, AreVisited, AreLinked}
 use Rattle.explorer.specs.declared.snapshot.Snapshot.{Snapshot}
@@ -9,6 +9,7 @@ invariant-loop-core l = record {
   grows : Grows l.fn.found.snapshots.keys l.found.snapshots.keys;
   cores : HaveCores l.test l.found.snapshots.keys;
   linked : AreLinked l.depth l.test l.found.snapshots.keys l.found.links.items;
+  room : length l.reached.state.cores.items ≡ length l.test.programs;
   visited : (s : Snapshot) → slice_get l.fn.found.snapshots.keys l.from ≡ Some s → (k : ℕ) → k < l.core
       → AreVisited l.depth l.test l.found.snapshots.keys (state_of s) k;
 }

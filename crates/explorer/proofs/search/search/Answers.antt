@@ -23,6 +23,7 @@ loop-at-preserved c = record {
   first = covered-grown _ _ _ _ _ c.in_ok-expand.ensures.grows c.loop-at.invariant.first;
   each = let l = c.if-at-len.false in let n = c.len.ensures.len in
       expanded-more _ _ _ _ c.loop-at.at (omega (arith, l, n)) c.in_ok-expand.ensures.grows c.loop-at.invariant.each c.in_ok-expand.ensures.expanded;
+  room = c.in_ok-expand.ensures.room;
   within = let l = c.if-len-limit.false in let n = c.len-in-loop-at.ensures.len in omega (arith, l, n);
 }
 

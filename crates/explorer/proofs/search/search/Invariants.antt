@@ -13,5 +13,6 @@ invariant-loop-at l = record {
   first : IsCovered l.depth l.test (map state_of l.found.snapshots.keys) (start l.test);
   each : (i : ℕ) (x : Snapshot) → i < l.at → slice_get l.found.snapshots.keys i ≡ Some x
       → IsExpanded l.depth l.test (map state_of l.found.snapshots.keys) (state_of x);
+  room : length l.reached.state.cores.items ≡ length l.test.programs;
   within : length l.found.snapshots.keys ≤ l.limit;
 }

@@ -1,4 +1,4 @@
-use Rattle.std.proofs.Common.{◌∙◌, refl, sym, ap, subst, slice_get, slice_index}
+use Rattle.std.proofs.Common.{arith, ◌∙◌, refl, sym, ap, subst, slice_get, slice_index}
 use Rattle.tso_model.specs.Thread.{entry}
 use Rattle.tso_model.specs.FlatMachine.{stored, loaded}
 use Rattle.tso_model.specs.SplitMachine.{Free, HeldBetween, acts, reads_first}
@@ -34,18 +34,20 @@ unreachable-requires g c =
     c.program.ensures.value c.instruction_at.ensures c.unwrap-instr.ensures c.action.ensures refl in
     some-asked c.args.test.now c.args.parts.now (Step c.args.core) c.requires.consistent.holder c.requires.asked (makes-none c.args.test.now c.args.parts.now c.args.core p c.action.result next c.in-Move.is)
 
-pub store-requires-clause-place : goal.store-requires-clause-place
-store-requires-clause-place g c =
-    place-within c.program.result.now c.instruction_at.result c.unwrap-instr.result c.index_mut-processor.result.now.place c.instruction_at.ensures c.unwrap-instr.ensures c.program.ensures.size
+pub overflow_add-processor : goal.overflow_add-processor
+overflow_add-processor g c =
+    omega (arith, place-within c.program.result.now c.instruction_at.result c.unwrap-instr.result c.index_mut-processor.result.now.place c.instruction_at.ensures c.unwrap-instr.ensures c.program.ensures.size)
 
-pub store-requires-clause-asked : goal.store-requires-clause-asked
-store-requires-clause-asked g c =
+pub write-requires : goal.write-requires
+write-requires g c =
     let p = c.index_mut-processor.result.now in
     let some = some-asked c.args.test.now c.args.parts.now (Step c.args.core) c.requires.consistent.holder c.requires.asked in
     let next : IsNext c.args.test.now c.args.parts.now c.args.core p (Store c.in-Store.loc c.in-Store.operand) =
     is-next c.args.test.now c.args.parts.now c.args.core p c.program.result.now c.instruction_at.result c.unwrap-instr.result c.action.result (Store c.in-Store.loc c.in-Store.operand) c.requires.consistent.fits c.requires.core c.index_mut-processor.ensures.value
     c.program.ensures.value c.instruction_at.ensures c.unwrap-instr.ensures c.action.ensures c.in-Store.is in
-    held-asked c.args.test.now c.args.parts.now (Step c.args.core) c.requires.consistent.held c.requires.asked ∙ ap (held_for c.args.core) (store-writes c.args.test.now c.args.parts.now c.args.core p c.in-Store.loc c.in-Store.operand next some)
+    record {
+      asked = held-asked c.args.test.now c.args.parts.now (Step c.args.core) c.requires.consistent.held c.requires.asked ∙ ap (held_for c.args.core) (store-writes c.args.test.now c.args.parts.now c.args.core p c.in-Store.loc c.in-Store.operand next some);
+    }
 
 pub returns-in_ok-access-in-Store-clause-makes : goal.returns-in_ok-access-in-Store-clause-makes
 returns-in_ok-access-in-Store-clause-makes g c = record {
@@ -55,9 +57,9 @@ returns-in_ok-access-in-Store-clause-makes g c = record {
       let next : IsNext c.args.test.now c.args.parts.now c.args.core p (Store c.in-Store.loc c.in-Store.operand) =
       is-next c.args.test.now c.args.parts.now c.args.core p c.program.result.now c.instruction_at.result c.unwrap-instr.result c.action.result (Store c.in-Store.loc c.in-Store.operand) c.requires.consistent.fits c.requires.core c.index_mut-processor.ensures.value
       c.program.ensures.value c.instruction_at.ensures c.unwrap-instr.ensures c.action.ensures c.in-Store.is in
-      Performs-by c.args.parts.now _ (Step c.args.core) Committed c.store.new.processor (completes_in c.args.test.now c.args.parts.now (Step c.args.core)) (acts (stored 0 (core_state c.args.core.0 p) (entry c.args.core.0 p.place W c.in-Store.loc c.value-value.result)) Free)
+      Performs-by c.args.parts.now _ (Step c.args.core) Committed _ (completes_in c.args.test.now c.args.parts.now (Step c.args.core)) (acts (stored 0 (core_state c.args.core.0 p) (entry c.args.core.0 p.place W c.in-Store.loc c.value-value.result)) Free)
       (completes-store c.args.test.now c.args.parts.now c.args.core p c.in-Store.loc c.in-Store.operand c.value-value.result next some c.value-value.ensures) refl
-      c.in_ok-access-in-Store.ensures.after c.in_ok-access-in-Store.ensures.stored.words c.in_ok-access-in-Store.ensures.stored.commits (ap (held-with c.args.parts.now.next) c.in_ok-access-in-Store.ensures.completes.free) refl;
+      refl c.in_ok-access-in-Store.ensures.stored.words c.in_ok-access-in-Store.ensures.stored.commits (ap (held-with c.args.parts.now.next) c.in_ok-access-in-Store.ensures.completes.free) refl;
   caches =
       let p = c.index_mut-processor.result.now in
       let some = some-asked c.args.test.now c.args.parts.now (Step c.args.core) c.requires.consistent.holder c.requires.asked in
@@ -66,7 +68,7 @@ returns-in_ok-access-in-Store-clause-makes g c = record {
       c.program.ensures.value c.instruction_at.ensures c.unwrap-instr.ensures c.action.ensures c.in-Store.is in
       let same = use-frees c.args.test.now c.args.parts.now (Step c.args.core) (completes_in c.args.test.now c.args.parts.now (Step c.args.core)) c.requires.asked (ap (λ e. is_awaited e.holder) (completes-store c.args.test.now c.args.parts.now c.args.core p c.in-Store.loc c.in-Store.operand c.value-value.result next some c.value-value.ensures))
       ∙ ap (at_access (not_through Unused (caches_of c.args.parts.now.bus)) (λ loc write. completion_by (caches_of c.args.parts.now.bus) c.args.core.0 loc.0)) (store-writes c.args.test.now c.args.parts.now c.args.core p c.in-Store.loc c.in-Store.operand next some) in
-      subst (λ u. HasUsed u c.store.new.bus (Through c.in_ok-access-in-Store.access)) (sym same) c.in_ok-access-in-Store.ensures.completes.caches;
+      subst (λ u. HasUsed u c.write.new.bus (Through c.in_ok-access-in-Store.access)) (sym same) c.in_ok-access-in-Store.ensures.completes.caches;
 }
 
 pub load-requires-clause-place : goal.load-requires-clause-place

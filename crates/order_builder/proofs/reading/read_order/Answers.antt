@@ -8,7 +8,7 @@ use Rattle.order_builder.proofs.reading.read_order.Goals as goal
 pub returns-in-Some : goal.returns-in-Some
 returns-in-Some c =
     let small : length c.args.text.now < 2 ^ 64 = omega arith in
-    let test = c.locations-locations.ensures.test in
+    let test = c.know_limits.ensures in
     let read : Gives entries_of c.read_entries.result (order_of c.args.test.now c.args.text.now) =
     read_after c.args.test.now c.args.text.now c.in-Some.rest.now c.in-Some.start c.read_entries.result c.in-Some.ensures.value c.read_entries.ensures in
     record {
@@ -21,7 +21,7 @@ returns-in-Some c =
 pub returns-in-None : goal.returns-in-None
 returns-in-None c =
     let small : length c.args.text.now < 2 ^ 64 = omega arith in
-    let test = c.locations-locations.ensures.test in
+    let test = c.know_limits.ensures in
     let read : order_of c.args.test.now c.args.text.now ≡ Err NoOrder = read_nowhere c.args.test.now c.args.text.now c.in-None.ensures.value in
     record {
       found = tt;

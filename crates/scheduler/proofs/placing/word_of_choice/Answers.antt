@@ -1,7 +1,7 @@
 use Rattle.std.proofs.Common.{subst, sym, arith, ◌∙◌}
 use Rattle.std.specs.Prelude.{IfSome}
 use Rattle.scheduler.specs.Words.{words_of}
-use Rattle.scheduler.specs.inner.WordOfChoice.{SayAt}
+use Rattle.scheduler.specs.WordOfChoice.{SayAt}
 use Rattle.scheduler.proofs.Stopping.{Passed, at_first, passed_on, fits_room, found, only, no_word, is_there}
 use Rattle.scheduler.proofs.placing.word_of_choice.Goals as goal
 

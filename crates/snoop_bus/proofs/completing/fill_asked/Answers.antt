@@ -1,4 +1,4 @@
-use Rattle.std.proofs.Common.{[]}
+use Rattle.std.proofs.Common.{[], refl}
 use Rattle.std.proofs.lemmas.List.{get_or_default}
 use Rattle.snoop_bus.proofs.AccessLemmas.{writes_back_is}
 use Rattle.snoop_bus.proofs.UseLemmas.{tags-filled, ways-set_cache}
@@ -6,22 +6,22 @@ use Rattle.snoop_bus.proofs.CompleteLemmas.{fill-words, counted-valid, victim_wi
 use Rattle.snoop_bus.proofs.completing.fill_asked.Goals as goal
 
 pub fill-requires-clause-valid : goal.fill-requires-clause-valid
-fill-requires-clause-valid g c = counted-valid c.args.caches.now c.args.memory.now c.args.core c.args.line c.args.copy c.requires.coherent c.requires.core c.requires.some_set c.requires.line
+fill-requires-clause-valid g c = counted-valid c.args.caches.now c.args.memory.now c.args.core c.args.line c.args.transaction.copy c.requires.coherent c.requires.core c.requires.some_set c.requires.line
 
 pub write_back-requires : goal.write_back-requires
 write_back-requires g c =
     let here = get_or_default c.args.caches.now c.args.core c.index-caches-core.result [] c.requires.core in
-    victim_within c.args.caches.now c.args.memory.now c.args.core c.args.line c.args.copy c.in_ok-victim.victim c.requires.coherent c.requires.core c.requires.some_set c.requires.line (rw here at c.in_ok-victim.ensures.was_here)
+    victim_within c.args.caches.now c.args.memory.now c.args.core c.args.line c.args.transaction.copy c.in_ok-victim.victim c.requires.coherent c.requires.core c.requires.some_set c.requires.line (rw here at c.in_ok-victim.ensures.was_here)
 
-pub returns-clause-wrote_back : goal.returns-clause-wrote_back
-returns-clause-wrote_back g c =
+pub returns-clause-access : goal.returns-clause-access
+returns-clause-access g c =
     let here = get_or_default c.args.caches.now c.args.core c.index-caches-core.result [] c.requires.core in
-    writes_back_is (g.P.Protocol.table c.args.protocol.now) c.args.caches.now c.args.core c.args.line c.in_ok-victim.victim c.write_back.result c.write_back.ensures.dirty (rw here at c.in_ok-victim.ensures.victim)
+    rw (← writes_back_is (g.P.Protocol.table c.args.protocol.now) c.args.caches.now c.args.core c.args.line c.in_ok-victim.victim c.write_back.result c.write_back.ensures.dirty (rw here at c.in_ok-victim.ensures.victim)) refl
 
 pub returns-clause-tags : goal.returns-clause-tags
 returns-clause-tags g c =
     let here = get_or_default c.args.caches.now c.args.core c.index-caches-core.result [] c.requires.core in
-    tags-filled c.args.caches.now c.args.core c.args.line c.args.copy.words c.args.copy.state c.fill.new.self (rw here at c.in_ok-victim.ensures.exact)
+    tags-filled c.args.caches.now c.args.core c.args.line c.args.transaction.copy.words c.args.transaction.copy.state c.fill.new.self (rw here at c.in_ok-victim.ensures.exact)
 
 pub returns-clause-ways : goal.returns-clause-ways
 returns-clause-ways g c =
@@ -31,7 +31,7 @@ returns-clause-ways g c =
 pub returns-clause-words : goal.returns-clause-words
 returns-clause-words g c =
     let here = get_or_default c.args.caches.now c.args.core c.index-caches-core.result [] c.requires.core in
-    fill-words (g.P.Protocol.table c.args.protocol.now) (g.met.P.Protocol.writes_back_dirty c.args.protocol.now) c.args.caches.now c.args.memory.now c.write_back.new.memory c.args.core c.args.line c.args.copy c.in_ok-victim.victim c.fill.new.self
+    fill-words (g.P.Protocol.table c.args.protocol.now) (g.met.P.Protocol.writes_back_dirty c.args.protocol.now) c.args.caches.now c.args.memory.now c.write_back.new.memory c.args.core c.args.line c.args.transaction.copy c.in_ok-victim.victim c.fill.new.self
     (record {
       coherent = c.requires.coherent;
       core_in = c.requires.core;

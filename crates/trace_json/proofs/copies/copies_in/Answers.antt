@@ -1,5 +1,5 @@
 use Rattle.std.proofs.Common.{◌∙◌, length, take, sym, ap}
-use Rattle.trace_json.specs.inner.MachineJson.{copies_in}
+use Rattle.trace_json.specs.MachineJson.{copies_in}
 use Rattle.trace_json.proofs.Looking.{next-copy, all-copies}
 use Rattle.trace_json.proofs.copies.copies_in.Goals as goal
 

@@ -1,6 +1,6 @@
 use Rattle.std.proofs.Common.{◌≡◌, ◌++◌, drop, map}
 use Rattle.serde_json.specs.View.{view}
-use Rattle.trace_json.specs.inner.MachineJson.{copy_json}
+use Rattle.trace_json.specs.MachineJson.{copy_json}
 use Rattle.trace_json.proofs.copies.copies_value.Given as goal
 
 abbrev pub invariant-loop-copy : goal.invariant-loop-copy

@@ -5,7 +5,7 @@ use Rattle.snoop_bus.specs.Geometry.{IsLineSize}
 use Rattle.trace_report.specs.Shown.{shown}
 use Rattle.trace_report.specs.inner.Told.{IsLookedAt}
 use Rattle.trace_report.proofs.Whole.{looked-at}
-use Rattle.trace_json.specs.inner.TraceJson.{step_to, steps_json}
+use Rattle.trace_json.specs.TraceJson.{step_to, steps_json}
 use Rattle.trace_json.proofs.Tracing.{one-pushed, core-there, all-made, none-left}
 use Rattle.trace_json.proofs.trace.steps_of.Goals as goal
 

@@ -4,7 +4,7 @@ use Rattle.snoop_bus.specs.Geometry.{IsLineSize}
 use Rattle.trace_report.specs.Shown.{shown}
 use Rattle.trace_report.specs.inner.Told.{IsLookedAt}
 use Rattle.trace_report.proofs.Whole.{looked-at}
-use Rattle.trace_json.specs.inner.TraceJson.{steps_json, alone, last_or}
+use Rattle.trace_json.specs.TraceJson.{alone, last_or, steps_json}
 use Rattle.trace_json.proofs.Tracing.{ToldLast, next-told, core-there, last-told, none-told}
 use Rattle.trace_json.proofs.trace.tell_last.Goals as goal
 

@@ -3,7 +3,7 @@ use Rattle.tso_model.specs.Runs.{CoresExist}
 use Rattle.trace_report.specs.Shown.{shown}
 use Rattle.trace_report.specs.Known.{IsKnown}
 use Rattle.trace_report.specs.Told.{IsTold}
-use Rattle.trace_json.specs.inner.TraceJson.{steps_json, alone, last_or}
+use Rattle.trace_json.specs.TraceJson.{alone, last_or, steps_json}
 use Rattle.trace_json.specs.inner.Looked.{HasMemory}
 use Rattle.trace_json.proofs.Tracing.{ToldLast}
 use Rattle.trace_json.proofs.trace.tell_last.Given as goal

@@ -3,7 +3,7 @@ use Rattle.serde_json.specs.Data.{object}
 use Rattle.serde_json.specs.Written.{has_float}
 use Rattle.serde_json.proofs.Views.{view-Object}
 use Rattle.tso_report.specs.Shown.{shown}
-use Rattle.trace_json.specs.inner.TracedRun.{with_trace}
+use Rattle.trace_json.specs.TracedRun.{with_trace}
 use Rattle.trace_json.proofs.NoFloatsWhole.{ended_has_no_float}
 use Rattle.trace_json.proofs.traced_run.ended_json.Goals as goal
 

@@ -5,30 +5,58 @@ use Rattle.tso_model.specs.FlatMachine.{chosen, core_of}
 use Rattle.snoop_bus.specs.Asks.{awaited_by}
 use Rattle.snoop_bus.specs.Geometry.{IsLineSize}
 use Rattle.machine_core.specs.inner.Kept.{access_in}
+use Rattle.machine_core.specs.Running.{machine_after}
 use Rattle.trace_report.specs.Known.{IsKnown}
-use Rattle.trace_report.specs.Steps.{request_at, sent_on, wrote_back_by}
+use Rattle.trace_report.specs.Shown.{shown}
+use Rattle.trace_report.specs.Steps.{states_of, request_at, sent_on, wrote_back_by, step_of}
 use Rattle.trace_report.proofs.Looking.{place-of}
-use Rattle.trace_report.proofs.Whole.{WasLookedAt, Sees, seen, told-whole, told-next, looked-next, step-known}
+use Rattle.trace_report.proofs.Stalls.{stall-shown}
+use Rattle.trace_report.proofs.Whole.{Leaves, left-looked, WasLookedAt, told-whole, told-next, looked-next, step-known}
 use Rattle.trace_report.proofs.telling.tell.Goals as goal
+use Rattle.trace_report.proofs.telling.tell.Goals.{After-stalled_step}
 
-pub look_again-requires : goal.look_again-requires
-look_again-requires g c =
+-- ---- a stall
+
+-- it changes nothing
+same : (g : _) (c : After-stalled_step g) → machine_after c.args.machine.now c.args.choice ≡ c.args.machine.now
+same g c = sym c.in_ok-outcome.ensures.after ∙ c.in_ok-outcome.ensures.stall c.in-Stalled.stall c.in_ok-outcome.cache_use (ap (λ o. Ok (o, c.in_ok-outcome.cache_use)) c.in-Stalled.is)
+
+bare : (g : _) (c : After-stalled_step g) → shown c.stalled_step.result ≡ step_of c.args.machine.now c.args.choice
+bare g c =
+    c.stalled_step.ensures.shown ∙ stall-shown c.args.machine.now c.args.choice c.in-Stalled.stall (same g c) (sym c.in_ok-outcome.ensures.outcome ∙ c.in-Stalled.is)
+
+pub returns-in-Stalled-clause-step : goal.returns-in-Stalled-clause-step
+returns-in-Stalled-clause-step g c = bare g c
+
+pub returns-in-Stalled-clause-known : goal.returns-in-Stalled-clause-known
+returns-in-Stalled-clause-known g c =
+    subst (IsKnown c.args.test.now c.args.config.shape.words) (sym (bare g c))
+    (step-known c.args.test.now c.args.config c.args.machine.now c.args.choice c.know_test.ensures c.requires.told.machine (subst IsLineSize c.words.ensures.value c.words.ensures.within))
+
+pub returns-in-Stalled-clause-told : goal.returns-in-Stalled-clause-told
+returns-in-Stalled-clause-told g c =
+    told-next c.args.test.now c.args.config c.args.machine.now c.choose_telling.new.self c.args.choice c.args.states.now.items c.know_test.ensures c.requires.told.machine
+    c.in_ok-outcome.ensures.after (c.requires.told.states_are ∙ sym (ap states_of (same g c)))
+
+-- ---- any other choice
+
+pub left_behind-requires : goal.left_behind-requires
+left_behind-requires g c =
     looked-next c.args.test.now c.args.config c.args.machine.now c.choose_telling.new.self c.args.choice c.know_test.ensures c.requires.told.machine
     c.in_ok-outcome.ensures.after (subst IsLineSize c.words.ensures.value c.words.ensures.within)
 
 -- what was looked at again
-sees : (g : _) (c : goal.After-access_in g) → Sees c.args.machine.now c.args.choice c.in_ok-left.left c.look_again.new.states.items
-sees g c =
+leaves : (g : _) (c : goal.After-access_in g) → Leaves c.args.machine.now c.args.choice c.in_ok-left.left
+leaves g c =
     let m = c.args.machine.now in
     let there : chosen c.args.choice < length m.state.flat.cores = subst (λ n. chosen c.args.choice < n) (sym c.requires.told.machine.cores) c.requires.core in
-    seen m c.choose_telling.new.self c.args.choice c.in_ok-outcome.outcome c.args.states.now.items c.look_again.new.states.items (length c.committed-committed.result.now) c.in_ok-left.left
-    there c.in_ok-outcome.ensures.after c.in_ok-outcome.ensures.outcome c.requires.told.states_are (ap length c.committed-committed.ensures)
-    (λ why q. c.in_ok-outcome.ensures.stall why c.in_ok-outcome.cache_use (ap (λ o. Ok (o, c.in_ok-outcome.cache_use)) q)) c.in_ok-left.ensures.left c.in_ok-left.ensures.states
+    left-looked m c.choose_telling.new.self c.args.choice c.in_ok-outcome.outcome c.args.states.now.items (length c.committed-committed.result.now) c.in_ok-left.left
+    there c.in_ok-outcome.ensures.after c.in_ok-outcome.ensures.outcome c.requires.told.states_are (ap length c.committed-committed.ensures) c.in_ok-left.ensures.left
 
 pub returns-clause-told : goal.returns-clause-told
 returns-clause-told g c =
-    told-next c.args.test.now c.args.config c.args.machine.now c.choose_telling.new.self c.args.choice c.look_again.new.states.items c.know_test.ensures c.requires.told.machine
-    c.in_ok-outcome.ensures.after (sees g c).states
+    told-next c.args.test.now c.args.config c.args.machine.now c.choose_telling.new.self c.args.choice c.left_behind.new.states.items c.know_test.ensures c.requires.told.machine
+    c.in_ok-outcome.ensures.after (c.in_ok-left.ensures.states ∙ ap states_of c.in_ok-outcome.ensures.after)
 
 pub returns-clause-step : goal.returns-clause-step
 returns-clause-step g c =
@@ -48,7 +76,7 @@ returns-clause-step g c =
           ∙ ap (λ a. request_at c.args.config.shape.words a) c.access.ensures);
       sent_is = c.sent_on-sent.ensures ∙ (ap (λ b. sent_on b c.in_ok-outcome.outcome c.request_at-request.result how (option_map awaited_by c.awaited.result)) c.bus.ensures
           ∙ ap (λ a. sent_on c.args.config.bus c.in_ok-outcome.outcome c.request_at-request.result how a) c.awaited.ensures);
-      left_is = (sees g c).left;
+      left_is = leaves g c;
     } in
     let wrote_back : c.wrote_back_by-wrote_back.result ≡ wrote_back_by how (chosen choice) left.changes.items =
     c.wrote_back_by-wrote_back.ensures ∙ (ap (λ i. wrote_back_by how i c.deref.result.now) core ∙ ap (λ cs. wrote_back_by how (chosen choice) cs) c.deref.ensures.value) in

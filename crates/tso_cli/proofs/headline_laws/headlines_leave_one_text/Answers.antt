@@ -11,7 +11,7 @@ returns c =
     } in
     record {
       runs = λ kind config json input out other. runs-one kind config json input out other law decided;
-      traces = λ kind config input out other. traces-one kind config input out other law decided;
+      traces = λ kind config json input out other. traces-one kind config json input out other law decided;
       sweeps = λ kind config plan input out other. sweeps-one kind config plan input out other law decided;
       witnesses = λ depth input out other. witnesses-one depth input out other law decided;
       checks = λ input out other. checks-one input out other law decided;

@@ -6,6 +6,6 @@ returns c =
     let texts = c.texts_are_read_one_way.ensures in
     record {
       runs = λ kind other config third json input out again status too. runs-alike kind other config third json input out again status too texts;
-      traces = λ kind other config third input out again status too. traces-alike kind other config third input out again status too texts;
+      traces = λ kind other config third json input out again status too. traces-alike kind other config third json input out again status too texts;
       sweeps = λ kind other config third plan input out again status too. sweeps-alike kind other config third plan input out again status too texts;
     }

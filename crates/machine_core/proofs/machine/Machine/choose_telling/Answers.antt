@@ -3,7 +3,7 @@ use Rattle.std.proofs.lemmas.Result.{IfOk-at_ok}
 use Rattle.std.specs.Result.{is_err}
 use Rattle.tso_model.specs.EitherBus.{BusState}
 use Rattle.tso_model.specs.declared.choice.Outcome.TheVariants.{Stalled}
-use Rattle.machine_core.specs.inner.Running.{AnswerFits}
+use Rattle.machine_core.specs.Running.{AnswerFits}
 use Rattle.machine_core.specs.Kept.{state_in}
 use Rattle.machine_core.specs.inner.Kept.{statistics_in}
 use Rattle.machine_core.specs.Statistics.{statistics_after}

@@ -21,7 +21,7 @@ returns-clause-word g c =
     let held = holds c.self.inside.caches.items c.self.inside.memory.items c.self.inside.shape c.self.inside.locations c.args.core c.args.loc Load c.self.inside.held (rw (← c.self.view_is) at c.requires.holds) c.self.invariant.awaited c.self.invariant.placed in
     let some : c.self.inside.held ≡ Some c.unwrap-held.result = search rules in
     let same : c.unwrap-held.result ≡ held_by c.args.core c.args.loc Load (c.args.loc.0 / c.self.inside.shape.words) held.0 = cc (some, held.1.held_is) in
-    let word = rw (c.deref_mut.ensures.value, c.deref_mut-2.ensures.value, c.from.ensures, c.place_of.ensures.value, same) at c.in_ok-done.ensures.word in
+    let word = rw (c.deref_mut.ensures.value, c.deref_mut-2.ensures.value, c.target_of-target.ensures.value, same) at c.in_ok-done.ensures.word in
     rw (← c.self.view_is, held.1.held_is)
     (words-get c.self.inside.shape.words (current_words (counted_in c.args.core.0 (c.args.loc.0 / c.self.inside.shape.words) held.0 c.self.inside.caches.items) c.self.inside.memory.items) c.self.inside.locations c.args.loc.0 held.1.loc_in
     ∙ ap (λ (w : ℕ). Some w) (sym word))
@@ -33,7 +33,7 @@ returns-clause-words g c =
     let same : c.unwrap-held.result ≡ held_by c.args.core c.args.loc Load (c.args.loc.0 / c.self.inside.shape.words) held.0 = cc (some, held.1.held_is) in
     let cs = with_items_is c.self.inside.caches c.complete_load.new.caches (search rules) in
     let ms = with_items_is c.self.inside.memory c.complete_load.new.memory (search rules) in
-    let keeps = rw (c.deref_mut.ensures.value, c.deref_mut-2.ensures.value, c.from.ensures, same) at c.in_ok-done.ensures.words in
+    let keeps = rw (c.deref_mut.ensures.value, c.deref_mut-2.ensures.value, c.target_of-target.ensures.value, same) at c.in_ok-done.ensures.words in
     rw (← c.self.view_is, cs, ms, held.1.held_is)
     (words-same c.self.inside.shape.words c.self.inside.locations (length c.self.inside.memory.items) (current_words (counted_in c.args.core.0 (c.args.loc.0 / c.self.inside.shape.words) held.0 c.self.inside.caches.items) c.self.inside.memory.items) (current_words c.complete_load.new.caches c.complete_load.new.memory)
     c.self.invariant.some_word c.self.invariant.enough_lines keeps.words)
@@ -45,7 +45,7 @@ invariant_of-self-2 g c =
     let same : c.unwrap-held.result ≡ held_by c.args.core c.args.loc Load (c.args.loc.0 / c.self.inside.shape.words) held.0 = cc (some, held.1.held_is) in
     let cs = with_items_is c.self.inside.caches c.complete_load.new.caches (search rules) in
     let ms = with_items_is c.self.inside.memory c.complete_load.new.memory (search rules) in
-    let keeps = rw (c.deref_mut.ensures.value, c.deref_mut-2.ensures.value, c.from.ensures, same) at c.in_ok-done.ensures.words in
+    let keeps = rw (c.deref_mut.ensures.value, c.deref_mut-2.ensures.value, c.target_of-target.ensures.value, same) at c.in_ok-done.ensures.words in
     rw (cs, ms)
     (bus-kept c.self.inside.shape c.self.inside.locations c.self.inside.caches.items c.complete_load.new.caches c.self.inside.memory.items c.complete_load.new.memory (Some (held_by c.args.core c.args.loc Load (c.args.loc.0 / c.self.inside.shape.words) held.0)) None (rw held.1.held_is at c.self.invariant) (search rules) keeps (rw c.deref_mut.ensures.value at c.complete_load.ensures.ways) tt tt)
 

@@ -16,7 +16,7 @@ returns-clause-words g c =
     let same : c.unwrap-held.result ≡ held_by c.args.core c.args.loc Write (c.args.loc.0 / c.self.inside.shape.words) held.0 = cc (some, held.1.held_is) in
     let cs = with_items_is c.self.inside.caches c.complete_store.new.caches (search rules) in
     let ms = with_items_is c.self.inside.memory c.complete_store.new.memory (search rules) in
-    let sets = rw (c.deref_mut.ensures.value, c.deref_mut-2.ensures.value, c.from.ensures, c.place_of.ensures.value, same) at c.in_ok-access.ensures.words in
+    let sets = rw (c.deref_mut.ensures.value, c.deref_mut-2.ensures.value, c.target_of-target.ensures.value, same) at c.in_ok-access.ensures.words in
     rw (← c.self.view_is, cs, ms, held.1.held_is)
     (words-set c.self.inside.shape.words c.self.inside.locations (length c.self.inside.memory.items) (current_words (counted_in c.args.core.0 (c.args.loc.0 / c.self.inside.shape.words) held.0 c.self.inside.caches.items) c.self.inside.memory.items) (current_words c.complete_store.new.caches c.complete_store.new.memory) c.args.loc.0 c.args.value
     c.self.invariant.some_word c.self.invariant.enough_lines held.1.loc_in sets.place_in sets.lines)
@@ -28,7 +28,7 @@ invariant_of-self-2 g c =
     let same : c.unwrap-held.result ≡ held_by c.args.core c.args.loc Write (c.args.loc.0 / c.self.inside.shape.words) held.0 = cc (some, held.1.held_is) in
     let cs = with_items_is c.self.inside.caches c.complete_store.new.caches (search rules) in
     let ms = with_items_is c.self.inside.memory c.complete_store.new.memory (search rules) in
-    let sets = rw (c.deref_mut.ensures.value, c.deref_mut-2.ensures.value, c.from.ensures, c.place_of.ensures.value, same) at c.in_ok-access.ensures.words in
+    let sets = rw (c.deref_mut.ensures.value, c.deref_mut-2.ensures.value, c.target_of-target.ensures.value, same) at c.in_ok-access.ensures.words in
     rw (cs, ms)
     (bus-set c.self.inside.shape c.self.inside.locations c.self.inside.caches.items c.complete_store.new.caches c.self.inside.memory.items c.complete_store.new.memory (Some (held_by c.args.core c.args.loc Write (c.args.loc.0 / c.self.inside.shape.words) held.0)) c.args.loc.0 c.args.value (rw held.1.held_is at c.self.invariant) (search rules) held.1.loc_in sets (rw c.deref_mut.ensures.value at c.complete_store.ensures.ways))
 

@@ -1,0 +1,36 @@
+use Rattle.std.proofs.Common.{map, sym, ◌∙◌, subst}
+use Rattle.eager_laws.specs.Closed.{IsIn}
+use Rattle.explorer.specs.Kept.{LeadsBy}
+use Rattle.explorer.specs.State.{state_of}
+use Rattle.explorer.specs.contracts.snapshot.SnapshotPartialEq.TheImpl as snapshot_eq
+use Rattle.explorer.proofs.Linking.{linked-new}
+use Rattle.explorer.proofs.Same.{snapshots-same}
+use Rattle.explorer.proofs.Searching.{among, cores-insert, in-list}
+use Rattle.explorer.proofs.search.keep.Goals as goal
+
+pub returns-then-contains-clause-among : goal.returns-then-contains-clause-among
+returns-then-contains-clause-among c =
+    among (snapshot_eq.eq-value).it snapshots-same c.args.found.now.snapshots.keys c.args.reached.now.state (sym c.contains.ensures ∙ c.if-contains.true)
+
+pub returns-in_ok-push-clause-among : goal.returns-in_ok-push-clause-among
+returns-in_ok-push-clause-among c =
+    let k = c.in_ok-added.ensures.stored in
+    subst (λ z. IsIn (map state_of c.insert_full.new.self.keys) z) (sym (snapshots-same c.in_ok-state.state k.0 k.2) ∙ c.in_ok-state.ensures.value)
+    (in-list c.insert_full.new.self.keys c.in_ok-added.field-0-0 k.0 k.1)
+
+pub returns-else-added-clause-among : goal.returns-else-added-clause-among
+returns-else-added-clause-among c =
+    let k = c.in_ok-added.ensures.stored in
+    subst (λ z. IsIn (map state_of c.insert_full.new.self.keys) z) (sym (snapshots-same c.in_ok-state.state k.0 k.2) ∙ c.in_ok-state.ensures.value)
+    (in-list c.insert_full.new.self.keys c.in_ok-added.field-0-0 k.0 k.1)
+
+pub returns-in_ok-push-clause-cores : goal.returns-in_ok-push-clause-cores
+returns-in_ok-push-clause-cores c = λ t h q.
+    rw c.in_ok-added.ensures.keys (cores-insert (snapshot_eq.eq-value).it t c.args.found.now.snapshots.keys c.in_ok-state.state h (c.in_ok-state.ensures.cores ∙ q))
+
+pub returns-in_ok-push-clause-linked : goal.returns-in_ok-push-clause-linked
+returns-in_ok-push-clause-linked c = λ depth t s h at leads.
+    linked-new (snapshot_eq.eq-value).it depth t c.args.found.now.snapshots.keys _ c.in_ok-state.state c.args.found.now.links.items _ c.in_ok-added.ensures.keys c.in_ok-added.ensures.added h
+    s _ _ c.if-added.true c.in_ok-push.ensures.items at
+    (subst (λ z. LeadsBy depth t (state_of s) z (state_of c.in_ok-state.state)) (sym (c.in_ok-choices.ensures ∙ c.deref.ensures.value))
+    (subst (λ z. LeadsBy depth t (state_of s) c.args.reached.now.choices.items z) (sym c.in_ok-state.ensures.value) leads))

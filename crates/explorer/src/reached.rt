@@ -1,0 +1,67 @@
+//! The state that a choice leads to.
+ghost use Rattle.std.specs.Prelude.{◌≡◌, ◌<◌, IfOk, OnOk, true, false, length};
+ghost use Rattle.tso_model.specs.FlatMachine.{after_choice, chosen};
+ghost use Rattle.explorer.specs.State.{state_of};
+ghost use Rattle.explorer.specs.inner.Kept.{IsReached};
+
+use crate::acting::{act, has_stalled, is_idle};
+use crate::eager::settle;
+use crate::snapshot::{Snapshot, overwrite, start};
+use std::alloc::Global;
+use tso_laws::stalls_change_nothing;
+use tso_model::{Choice, NoMemory, Test};
+
+/// A state that was reached from a snapshot, and the choices that lead there. A search has one of
+/// these and reaches each state in it, so that a state that is there already takes no memory.
+#[derive(Drop)]
+pub struct Reached {
+    pub state: Snapshot,
+    pub choices: Vec<Choice>,
+}
+
+/// The first state of a test, where no choice has been made.
+///
+/// Errors: out of memory only.
+pub fn nowhere(alloc: Global, test: &Test) -> Result<Reached, NoMemory>
+    ensures { IfOk result (λ r. length r.state.cores.items ≡ length test.now.programs) }
+{
+    Ok(Reached {
+        state: start(alloc, test)?,
+        choices: Vec::new(alloc),
+    })
+}
+
+/// Makes a choice in a snapshot, and what choices need not wait after it. Answers whether the choice
+/// took effect; where it stalled, what was reached says nothing.
+///
+/// Errors: out of memory only.
+pub fn reach(
+    reached: &mut Reached,
+    snapshot: &Snapshot,
+    test: &Test,
+    depth: u8,
+    choice: Choice,
+) -> Result<bool, NoMemory>
+    requires cores { length snapshot.now.cores.items ≡ length test.now.programs }
+    requires room { length reached.old.state.cores.items ≡ length test.now.programs }
+    requires chosen { chosen choice < length test.now.programs }
+    ensures stalled { IfOk result (λ made. made ≡ false
+        → after_choice test.now depth (state_of snapshot.now) choice ≡ state_of snapshot.now) }
+    ensures reached { IfOk result (λ made. made ≡ true
+        → IsReached depth test.now (state_of snapshot.now) choice reached.new.choices.items (state_of reached.new.state)) }
+    ensures room { OnOk result (length reached.new.state.cores.items ≡ length test.now.programs) }
+{
+    stalls_change_nothing();
+    if is_idle(snapshot, test, choice) {
+        return Ok(false);
+    }
+    overwrite(&mut reached.state, snapshot)?;
+    let outcome = act(&mut reached.state, test, depth, choice)?;
+    if has_stalled(outcome) {
+        return Ok(false);
+    }
+    reached.choices.clear();
+    reached.choices.push(choice)?;
+    settle(&mut reached.state, test, depth, &mut reached.choices)?;
+    Ok(true)
+}

@@ -1,0 +1,8 @@
+-- What the numbers of the page ask for, and what answers them.
+use Rattle.command_line.specs.Limits.{HasDepth}
+use Rattle.page_exports.specs.declared.asked.Question.{Question}
+use Rattle.page_exports.specs.Asked.{settings_of}
+
+-- a witness is asked for at a depth within its limits
+abbrev pub HasDepthFor : Question → Type 0
+HasDepthFor question = HasDepth (settings_of question)

@@ -1,0 +1,8 @@
+use Rattle.std.proofs.Common.{◌∙◌, ap}
+use Rattle.serde_json.specs.Written.{has_float}
+use Rattle.trace_json.proofs.NoFloats.{last_step_has_no_float}
+use Rattle.trace_json.proofs.traced_run.last_step_json.Goals as goal
+
+pub line_of-requires : goal.line_of-requires
+line_of-requires c =
+    ap has_float c.in_ok-step.ensures ∙ last_step_has_no_float c.args.test.now c.args.protocol c.args.config _

@@ -1,0 +1,35 @@
+-- The programs of a test as texts: each instruction as a cell of a test's table spells it. (This project's profile.)
+use Rattle.std.specs.Prelude.{ℕ, List, [], ◌++◌, map, slice_index_or, codes}
+use Rattle.std.specs.Fmt.{decimal}
+use Rattle.serde_json.specs.Data.{Data, array}
+use Rattle.serde_json.specs.View.{items_of}
+use Rattle.tso_model.specs.Litmus.{Litmus}
+use Rattle.tso_model.specs.Registers.{name_of}
+use Rattle.tso_model.specs.declared.instruction.Loc.{Loc}
+use Rattle.tso_model.specs.declared.instruction.Instr.{Instr}
+use Rattle.tso_model.specs.declared.instruction.Instr.TheVariants.{StoreImm, StoreReg, Load, SetImm, SetReg, Fence}
+use Rattle.tso_model.specs.declared.instruction.Instr.TheVariants.{Xchg, Xadd}
+use Rattle.trace_json.specs.Values.{texts}
+
+abbrev pub location_name : Litmus → Loc → List ℕ
+location_name t loc = slice_index_or t.locations loc.0 []
+
+-- an instruction: `MOV [x],$1`, `MOV [x],EAX`, `MOV EAX,[x]`, `MOV EAX,$1`, `MOV EAX,EBX`, `MFENCE`, `XCHG [x],EAX` or
+-- `LOCK XADD [x],EAX`
+abbrev pub instruction_text : Litmus → Instr → List ℕ
+instruction_text t (StoreImm loc value) = codes "MOV [" ++ (location_name t loc ++ (codes "],$" ++ decimal value))
+instruction_text t (StoreReg loc reg) = codes "MOV [" ++ (location_name t loc ++ (codes "]," ++ name_of reg))
+instruction_text t (Load reg loc) = codes "MOV " ++ (name_of reg ++ (codes ",[" ++ (location_name t loc ++ codes "]")))
+instruction_text t (SetImm reg value) = codes "MOV " ++ (name_of reg ++ (codes ",$" ++ decimal value))
+instruction_text t (SetReg reg from) = codes "MOV " ++ (name_of reg ++ (codes "," ++ name_of from))
+instruction_text t Fence = codes "MFENCE"
+instruction_text t (Xchg loc reg) = codes "XCHG [" ++ (location_name t loc ++ (codes "]," ++ name_of reg))
+instruction_text t (Xadd loc reg) = codes "LOCK XADD [" ++ (location_name t loc ++ (codes "]," ++ name_of reg))
+
+-- the instructions of a program, in program order
+abbrev pub program_value : Litmus → List Instr → Data
+program_value t program = texts (map (instruction_text t) program)
+
+-- those of each core
+abbrev pub programs_value : Litmus → Data
+programs_value t = array (items_of (map (program_value t) t.programs))

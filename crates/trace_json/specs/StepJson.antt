@@ -1,0 +1,45 @@
+-- What a choice did as a JSON value, with the machine behind it. Its keys stand in the order of their bytes. (This project's
+-- profile; the texts are those of the trace's lines.)
+use Rattle.std.specs.Prelude.{ℕ, List, map, Option, Some, None, option_map, codes}
+use Rattle.serde_json.specs.Data.{Data, boolean, string, object, no_members, member}
+use Rattle.tso_model.specs.Litmus.{Litmus}
+use Rattle.tso_model.specs.declared.choice.Stall.{Stall}
+use Rattle.tso_model.specs.declared.choice.Outcome.{Outcome}
+use Rattle.tso_model.specs.declared.choice.Outcome.TheVariants.{Committed, Buffered, Moved, Asked, Stalled}
+use Rattle.scheduler.specs.Printed.{printed_choice}
+use Rattle.tso_report.specs.Json.{order_value}
+use Rattle.trace_report.specs.Shown.{Shown}
+use Rattle.trace_report.specs.Lines.{access_name, stall_name, outcome_name, line_name, printed_core, printed_move}
+use Rattle.trace_report.specs.Lines.{printed_change, printed_request}
+use Rattle.trace_json.specs.Values.{text_or_null, texts}
+
+-- the outcome's word, and of a stall why
+abbrev pub outcome_word : Outcome → List ℕ
+outcome_word Committed = outcome_name Committed
+outcome_word Buffered = outcome_name Buffered
+outcome_word Moved = outcome_name Moved
+outcome_word Asked = outcome_name Asked
+outcome_word (Stalled why) = codes "stalled"
+
+abbrev pub stall_in : Outcome → Option Stall
+stall_in Committed = None
+stall_in Buffered = None
+stall_in Moved = None
+stall_in Asked = None
+stall_in (Stalled why) = Some why
+
+-- a step of the test on caches whose lines have so many words, with the machine behind it
+abbrev pub step_json : Litmus → ℕ → Shown → Data → Data
+step_json t words s after =
+    object (member (codes "access") (text_or_null (option_map access_name s.access))
+    (member (codes "after") after
+    (member (codes "choice") (string (printed_choice s.choice))
+    (member (codes "entries") (order_value t s.entries)
+    (member (codes "flush") (text_or_null (option_map printed_core s.flushed))
+    (member (codes "forwarded") (boolean s.forwarded)
+    (member (codes "moved") (text_or_null (option_map printed_move s.moved))
+    (member (codes "outcome") (string (outcome_word s.outcome))
+    (member (codes "stall") (text_or_null (option_map stall_name (stall_in s.outcome)))
+    (member (codes "states") (texts (map (printed_change t words) s.changes))
+    (member (codes "transaction") (text_or_null (option_map (printed_request t words) s.request))
+    (member (codes "write_back") (text_or_null (option_map (line_name t words) s.wrote_back)) no_members))))))))))))

@@ -1,0 +1,60 @@
+-- The trace of a run as a JSON value: the machine before the first choice, and a step for each choice that was used, with the
+-- machine behind it. (This project's profile.)
+use Rattle.std.specs.Prelude.{ℕ, if◌then◌else◌, List, [], ◌∷◌, codes}
+use Rattle.serde_json.specs.Data.{Data, array, object, no_members, member}
+use Rattle.serde_json.specs.View.{items_of}
+use Rattle.tso_model.specs.Litmus.{Litmus}
+use Rattle.tso_model.specs.Runs.{has_ended}
+use Rattle.tso_model.specs.declared.choice.Choice.{Choice}
+use Rattle.protocol_tables.specs.Tables.{table_of}
+use Rattle.protocol_tables.specs.declared.kind.ProtocolKind.{ProtocolKind}
+use Rattle.machine_core.specs.Configuration.{Configuration}
+use Rattle.machine_core.specs.Running.{Running, new_machine, machine_after}
+use Rattle.trace_report.specs.Shown.{Shown}
+use Rattle.trace_report.specs.Steps.{step_of}
+use Rattle.trace_json.specs.OwnWords.{own_words}
+use Rattle.trace_json.specs.MachineJson.{words_in, machine_json}
+use Rattle.trace_json.specs.StepJson.{step_json}
+
+-- a step to this machine, whose memory has these words
+abbrev pub step_to : Shown → Running → List ℕ → Data
+step_to s m memory = step_json m.test (words_in m) s (machine_json m memory)
+
+-- what each choice did that was used, up to the first moment at which the test had ended, from a machine whose memory has these words
+abbrev pub steps_json : Running → List ℕ → List Choice → List Data
+steps_json m memory [] = []
+steps_json m memory (c ∷ cs) =
+    if has_ended m.test m.state.flat
+    then []
+    else step_to (step_of m c) (machine_after m c) (own_words (machine_after m c) memory)
+    ∷ steps_json (machine_after m c) (own_words (machine_after m c) memory) cs
+
+-- the machine before the first choice, whose memory has the test's first words
+abbrev pub start_json : Running → Data
+start_json m = machine_json m m.test.words
+
+-- the trace from a new machine on
+abbrev pub trace_from : Running → List Choice → Data
+trace_from m choices =
+    object (member (codes "start") (start_json m)
+    (member (codes "steps") (array (items_of (steps_json m m.test.words choices))) no_members))
+
+-- the trace of a test's run under these choices, on a machine of this protocol and configuration
+abbrev pub trace_json : Litmus → ProtocolKind → Configuration → List Choice → Data
+trace_json t kind config choices = trace_from (new_machine (table_of kind) config t) choices
+
+-- the last of these, or this one where there is none
+abbrev pub last_or : Data → List Data → Data
+last_or none [] = none
+last_or none (d ∷ ds) = last_or d ds
+
+-- a machine whose memory has these words, as the one before the first choice
+abbrev pub alone : Running → List ℕ → Data
+alone m memory = object (member (codes "start") (machine_json m memory) no_members)
+
+-- the last step alone; where no choice was used, the machine before the first choice
+abbrev pub last_from : Running → List Choice → Data
+last_from m choices = last_or (alone m m.test.words) (steps_json m m.test.words choices)
+
+abbrev pub last_step_json : Litmus → ProtocolKind → Configuration → List Choice → Data
+last_step_json t kind config choices = last_from (new_machine (table_of kind) config t) choices

@@ -1,0 +1,45 @@
+-- What `trace` prints as a JSON value: the members that `run` prints, and with them the programs, the condition's proposition
+-- and the trace. (This project's profile.)
+use Rattle.std.specs.Prelude.{ℕ, List, codes}
+use Rattle.serde_json.specs.Data.{Data, object, Members, put}
+use Rattle.serde_json.specs.Written.{compact_text}
+use Rattle.tso_model.specs.Litmus.{Litmus}
+use Rattle.tso_model.specs.declared.choice.Choice.{Choice}
+use Rattle.protocol_tables.specs.declared.kind.ProtocolKind.{ProtocolKind}
+use Rattle.machine_core.specs.Configuration.{Configuration}
+use Rattle.tso_report.specs.Shown.{Shown}
+use Rattle.tso_report.specs.Report.{line}
+use Rattle.tso_report.specs.Json.{run_members, unfinished_members}
+use Rattle.trace_json.specs.Programs.{programs_value}
+use Rattle.trace_json.specs.Proposition.{proposition_value}
+use Rattle.trace_json.specs.TraceJson.{trace_json, last_step_json}
+
+-- a trace as a JSON value has so many steps at most
+abbrev pub most_steps : ℕ
+most_steps = 1000
+
+-- members, and with them what a trace adds
+abbrev pub with_trace : Litmus → ProtocolKind → Configuration → List Choice → Members → Members
+with_trace t kind c choices members =
+    put (codes "programs") (programs_value t)
+    (put (codes "proposition") (proposition_value t)
+    (put (codes "trace") (trace_json t kind c choices) members))
+
+-- a run of the test that ended, under these choices on a machine of this protocol and configuration
+abbrev pub ended_value : Litmus → ProtocolKind → Configuration → List Choice → Shown → Data
+ended_value t kind c choices s = object (with_trace t kind c choices (run_members t kind c s))
+
+-- one that didn't end: so many choices were used, and so many of them stalled
+abbrev pub unended_value : Litmus → ProtocolKind → Configuration → List Choice → ℕ → ℕ → Data
+unended_value t kind c choices used stalled = object (with_trace t kind c choices (unfinished_members used stalled))
+
+-- what is printed: the compact text of the value, on one line
+abbrev pub json_ended : Litmus → ProtocolKind → Configuration → List Choice → Shown → List ℕ
+json_ended t kind c choices s = line (compact_text (ended_value t kind c choices s))
+
+abbrev pub json_unended : Litmus → ProtocolKind → Configuration → List Choice → ℕ → ℕ → List ℕ
+json_unended t kind c choices used stalled = line (compact_text (unended_value t kind c choices used stalled))
+
+-- of the trace the last step alone, with the machine after it
+abbrev pub json_last_step : Litmus → ProtocolKind → Configuration → List Choice → List ℕ
+json_last_step t kind c choices = line (compact_text (last_step_json t kind c choices))

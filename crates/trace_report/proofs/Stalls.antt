@@ -1,0 +1,168 @@
+-- A choice that stalled: nothing else is told of it.
+use Rattle.std.proofs.Common.{◌≡◌, ◌⊎◌, inl, inr, ◌∙◌, ℕ, zero, suc, Bool, true, false, nat_lt, if◌then◌else◌, List, [], ◌∷◌, ◌++◌, length, drop, Option, Some, None, slice_get, refl, sym, ap, subst}
+use Rattle.tso_model.specs.Litmus.{Litmus}
+use Rattle.tso_model.specs.Actions.{action_of}
+use Rattle.tso_model.specs.FlatMachine.{CoreState, State, Effect, effect_by, step_of, effect_of, core_of, chosen}
+use Rattle.tso_model.specs.FlatMachine as flat
+use Rattle.tso_model.specs.Access.{Access, NoAccess, Reads, Writes, Locks, access_by, step_access, access_of, next_of}
+use Rattle.tso_model.specs.SplitMachine.{Holder, Free, HeldBy, HeldBetween, Attempt, same_choice, needs_bus, acts, asks, begins, completes, as_read, writes_last, split_effect}
+use Rattle.tso_model.specs.EitherBus.{BusState, effect_on}
+use Rattle.tso_model.specs.declared.bus.Bus.{Bus}
+use Rattle.tso_model.specs.declared.bus.Bus.TheVariants.{Atomic, Split}
+use Rattle.tso_model.specs.declared.instruction.Loc.{Loc}
+use Rattle.tso_model.specs.declared.instruction.Instr.{Instr}
+use Rattle.tso_model.specs.declared.action.Action.{Action}
+use Rattle.tso_model.specs.declared.action.Action.TheVariants.{Store, Load, Move, Fence, Lock}
+use Rattle.tso_model.specs.declared.execution.Entry.{Entry}
+use Rattle.tso_model.specs.declared.choice.Choice.{Choice}
+use Rattle.tso_model.specs.declared.choice.Choice.TheVariants.{Step, Drain}
+use Rattle.tso_model.specs.declared.choice.Outcome.{Outcome}
+use Rattle.tso_model.specs.declared.choice.Outcome.TheVariants.{Moved, Stalled}
+use Rattle.tso_model.specs.declared.choice.Stall.{Stall}
+use Rattle.snoop_bus.specs.Asks.{Awaited}
+use Rattle.split_laws.proofs.Following.{same-is}
+use Rattle.machine_core.specs.Caches.{Caches, is_awaited, used_between}
+use Rattle.machine_core.specs.Running.{Running, use_by, machine_after}
+use Rattle.machine_core.specs.Running as running
+use Rattle.machine_core.specs.declared.cache_use.CacheUse.{CacheUse}
+use Rattle.machine_core.specs.declared.cache_use.CacheUse.TheVariants.{Unused}
+use Rattle.trace_report.specs.Steps.{states_of, changes_in, is_forwarded, access_in, request_at, nothing_sent, sent_on, moved_at, moved_by, moved_from, wrote_back_by, buffer_if_changed}
+use Rattle.trace_report.specs.Steps as steps
+use Rattle.trace_report.specs.inner.Left.{stores_on}
+use Rattle.trace_report.specs.Stalls.{stalled_step}
+use Rattle.trace_report.specs.declared.step.LineRequest.{LineRequest}
+use Rattle.trace_report.specs.declared.sending.Sent.{Sent}
+use Rattle.trace_report.proofs.Effects.{stall-rests, drop-all}
+use Rattle.trace_report.proofs.Whole.{form-of, same-fields, same-test, unchanged}
+
+-- ---- where a move is next, the core moves
+
+-- a core at this instruction moves no value to a register, or this outcome is that it moved
+abbrev Moves : Option Instr → Outcome → Type 0
+Moves i o = ((registers : List ℕ) → moved_at i registers ≡ None) ⊎ (o ≡ Moved)
+
+abbrev MovesBy : Litmus → ℕ → Choice → Outcome → Type 0
+MovesBy t place choice o = ((registers : List ℕ) → moved_from t place choice registers ≡ None) ⊎ (o ≡ Moved)
+
+step-moves : (depth core : ℕ) (memory : List ℕ) (i : Option Instr) (s : CoreState) → Moves i (step_of depth memory core i s).outcome
+step-moves depth core memory None s = inl (λ registers. refl)
+step-moves depth core memory (Some x) s = by_action (action_of x)
+  where
+    by_action : (a : Action) → ((registers : List ℕ) → moved_by a registers ≡ None) ⊎ ((effect_by depth memory core a s).outcome ≡ Moved)
+    by_action (Store loc operand) = inl (λ registers. refl)
+    by_action (Load reg loc) = inl (λ registers. refl)
+    by_action (Move reg operand) = inr refl
+    by_action Fence = inl (λ registers. refl)
+    by_action (Lock loc reg update) = inl (λ registers. refl)
+
+flat-moves : (t : Litmus) (depth : ℕ) (state : State) (a : Choice) → MovesBy t (core_of state (chosen a)).place a (effect_of t depth state a).outcome
+flat-moves t depth state (Step core) = step-moves depth core.0 state.memory (next_of t state core.0) (core_of state core.0)
+flat-moves t depth state (Drain core) = inl (λ registers. refl)
+
+-- a move makes no access
+no-move : (depth : ℕ) (i : Option Instr) (pending : List Entry) (registers : List ℕ) → (step_access depth i pending ≡ NoAccess → ⊥) → moved_at i registers ≡ None
+no-move depth None pending registers some = refl
+no-move depth (Some x) pending registers some = by_action (action_of x) some
+  where
+    by_action : (a : Action) → (access_by depth a pending ≡ NoAccess → ⊥) → moved_by a registers ≡ None
+    by_action (Store loc operand) some = refl
+    by_action (Load reg loc) some = refl
+    by_action (Move reg operand) some = absurd (some refl)
+    by_action Fence some = refl
+    by_action (Lock loc reg update) some = refl
+
+no-move-at : (t : Litmus) (depth : ℕ) (state : State) (a : Choice) (registers : List ℕ) → (access_of t depth state a ≡ NoAccess → ⊥) → moved_from t (core_of state (chosen a)).place a registers ≡ None
+no-move-at t depth state (Step core) registers some = no-move depth (next_of t state core.0) (core_of state core.0).pending registers some
+no-move-at t depth state (Drain core) registers some = refl
+
+begins-moves : (t : Litmus) (depth : ℕ) (state : State) (a : Attempt) (holder : Holder)
+    → MovesBy t (core_of state (chosen a.choice)).place a.choice (begins t depth state a holder).effect.outcome
+begins-moves t depth state a holder = go (needs_bus (access_of t depth state a.choice) a.hits) refl
+  where
+    some : needs_bus (access_of t depth state a.choice) a.hits ≡ true → access_of t depth state a.choice ≡ NoAccess → ⊥
+    some needs none = let free : needs_bus (access_of t depth state a.choice) a.hits ≡ false = ap (λ x. needs_bus x a.hits) none in (let z : ⊥ = cc in z)
+
+    go : (b : Bool) → needs_bus (access_of t depth state a.choice) a.hits ≡ b
+        → MovesBy t (core_of state (chosen a.choice)).place a.choice
+        (if b then asks (core_of state (chosen a.choice)) a.choice holder else acts (effect_of t depth state a.choice) holder).effect.outcome
+    go true q = inl (λ registers. no-move-at t depth state a.choice registers (some q))
+    go false q = flat-moves t depth state a.choice
+
+completes-moves : (t : Litmus) (depth : ℕ) (state : State) (a : Choice) → MovesBy t (core_of state (chosen a)).place a (completes t depth state a (access_of t depth state a)).effect.outcome
+completes-moves t depth state a = go (access_of t depth state a) refl
+  where
+    go : (what : Access) → access_of t depth state a ≡ what → MovesBy t (core_of state (chosen a)).place a (completes t depth state a what).effect.outcome
+    go NoAccess q = flat-moves t depth state a
+    go (Reads loc) q = flat-moves t depth state a
+    go (Writes loc) q = flat-moves t depth state a
+    go (Locks loc) q = inl (λ registers. no-move-at t depth state a registers (λ none. let z : ⊥ = cc in z))
+
+split-moves : (t : Litmus) (depth : ℕ) (state : State) (a : Attempt) (holder : Holder)
+    → MovesBy t (core_of state (chosen a.choice)).place a.choice (split_effect t depth state a holder).effect.outcome
+split-moves t depth state a Free = begins-moves t depth state a Free
+split-moves t depth state a (HeldBy choice) = go (same_choice choice a.choice) refl
+  where
+    go : (b : Bool) → same_choice choice a.choice ≡ b
+        → MovesBy t (core_of state (chosen a.choice)).place a.choice
+        (if b then completes t depth state choice (access_of t depth state choice) else begins t depth state a (HeldBy choice)).effect.outcome
+    go true q = subst (λ c. MovesBy t (core_of state (chosen c)).place c (completes t depth state choice (access_of t depth state choice)).effect.outcome) (same-is choice a.choice q)
+        (completes-moves t depth state choice)
+    go false q = begins-moves t depth state a (HeldBy choice)
+split-moves t depth state a (HeldBetween e) = go (same_choice (Step e.core) a.choice) refl
+  where
+    go : (b : Bool) → same_choice (Step e.core) a.choice ≡ b
+        → MovesBy t (core_of state (chosen a.choice)).place a.choice (if b then writes_last t depth state e else begins t depth state a (HeldBetween e)).effect.outcome
+    go true q = subst (λ c. MovesBy t (core_of state (chosen c)).place c (writes_last t depth state e).effect.outcome) (same-is (Step e.core) a.choice q)
+        (flat-moves t depth (as_read state e) (Step e.core))
+    go false q = begins-moves t depth state a (HeldBetween e)
+
+effect-moves : (bus : Bus) (t : Litmus) (depth : ℕ) (state : BusState) (a : Attempt)
+    → MovesBy t (core_of state.flat (chosen a.choice)).place a.choice (effect_on bus t depth state a).effect.outcome
+effect-moves Atomic t depth state a = flat-moves t depth state.flat a.choice
+effect-moves Split t depth state a = split-moves t depth state.flat a state.holder
+
+-- a stall moves nothing
+stall-moves : (t : Litmus) (place : ℕ) (choice : Choice) (o : Outcome) (why : Stall) (registers : List ℕ) → o ≡ Stalled why → MovesBy t place choice o → moved_from t place choice registers ≡ None
+stall-moves t place choice o why registers q (inl none) = none registers
+stall-moves t place choice o why registers q (inr is) = absurd (let z : ⊥ = cc in z)
+
+-- ---- nor does it use the caches, or send anything
+
+used-alike : (b : Bool) (c : Caches) (core : ℕ) (what : Access) (pending : List Entry) → (used_between b b c core what pending []).how ≡ Unused
+used-alike true c core what pending = refl
+used-alike false c core what pending = refl
+
+unused : (before after : Bool) (c : Caches) (core : ℕ) (what : Access) (pending commits : List Entry) → after ≡ before → commits ≡ []
+    → (used_between before after c core what pending commits).how ≡ Unused
+unused before after c core what pending commits same none =
+    ap (λ b. (used_between before b c core what pending commits).how) same ∙ (ap (λ es. (used_between before before c core what pending es).how) none ∙ used-alike before c core what pending)
+
+sends-nothing : (bus : Bus) (o : Outcome) (why : Stall) (request : Option LineRequest) (how : CacheUse) (awaited : Option Awaited) → o ≡ Stalled why → how ≡ Unused
+    → sent_on bus o request how awaited ≡ nothing_sent
+sends-nothing Atomic o why request how awaited stalls none = ap (λ h. sent_on Atomic o request h awaited) none
+sends-nothing Split o why request how awaited stalls none = ap (λ x. sent_on Split x request how awaited) stalls
+
+-- what a choice did that stalled and changed nothing
+pub stall-shown : (m : Running) (choice : Choice) (why : Stall) → machine_after m choice ≡ m → (running.effect_by m choice).effect.outcome ≡ Stalled why
+    → stalled_step choice why ≡ steps.step_of m choice
+unfolding steps.step_of
+stall-shown m choice why same stalls =
+    let f = running.effect_by m choice in
+    let core = chosen choice in
+    let end = machine_after m choice in
+    let rests = stall-rests choice (core_of m.state.flat core) f.effect why stalls (form-of m choice) in
+    let stores : stores_on end choice ≡ stores_on m choice = ap (λ (n : Running). stores_on n choice) same in
+    let held : is_awaited f.holder ≡ is_awaited m.state.holder = ap (λ (n : Running). is_awaited n.state.holder) same in
+    let how : (use_by m choice).how ≡ Unused =
+    unused (is_awaited m.state.holder) (is_awaited f.holder) m.statistics.caches core (access_of m.test m.depth m.state.flat choice) (core_of m.state.flat core).pending f.effect.commits held rests.commits in
+    let request = request_at m.statistics.caches.shape.words (access_of m.test m.depth m.state.flat choice) in
+    let sent : sent_on m.bus f.effect.outcome request (use_by m choice).how end.statistics.caches.awaited ≡ nothing_sent =
+    sends-nothing m.bus f.effect.outcome why request (use_by m choice).how end.statistics.caches.awaited stalls how in
+    let changes : changes_in (states_of m) (states_of end) ≡ [] = ap (λ (n : Running). changes_in (states_of m) (states_of n)) same ∙ unchanged (states_of m) in
+    sym (same-fields choice _ _ _ _ _ _ _ _ _ _ _ _ _ _ _ _ _ _ _ _ stalls
+    (ap (λ es. es ++ drop (length (stores_on m choice)) (stores_on end choice)) rests.commits ∙ (ap (λ es. drop (length (stores_on m choice)) es) stores ∙ drop-all (stores_on m choice)))
+    (stall-moves m.test (core_of m.state.flat core).place choice f.effect.outcome why (core_of end.state.flat core).registers stalls
+    (effect-moves m.bus m.test m.depth m.state (running.attempt_on m choice)))
+    (ap is_forwarded how) (ap access_in how) (ap (λ (s : Sent). s.request) sent) (ap (λ (s : Sent). s.flushed) sent)
+    (ap (λ h. wrote_back_by h core (changes_in (states_of m) (states_of end))) how) changes
+    (ap (λ es. buffer_if_changed (length (stores_on m choice)) es) stores ∙ rw (same-test (length (stores_on m choice))) refl))

@@ -1,0 +1,316 @@
+-- Sets of tags under accesses: each line lies in one set alone and once, and the line that leaves a set is gone.
+use Rattle.std.proofs.Common.{arith, ◌≡◌, ◌≢◌, ◌∙◌, ◌<◌, ◌≤◌, ◌-◌, ◌+◌, ◌%◌, ℕ, zero, suc, Bool, true, false, List, [], ◌∷◌, length, take, map, slice_get, slice_set, slice_index_or, Option, Some, None, nat_eq, if◌then◌else◌, ◌⊎◌, inl, inr, refl, sym, ap, subst, get_or-set_same, get_or-set_other}
+use Rattle.std.proofs.lemmas.Bool.Decides.{eqb_tells}
+use Rattle.std.proofs.lemmas.Bool.{eq-eqb}
+use Rattle.std.proofs.lemmas.List.{get_or_past}
+use Rattle.std.proofs.Math.ListN.{length-set}
+use Rattle.std.specs.Map.{lookup, remove_entry}
+use Rattle.basic_laws.proofs.Basics.{decide, lt-or}
+use Rattle.protocol_tables.specs.declared.state.State.{State}
+use Rattle.protocol_tables.specs.declared.state.State.TheVariants.{I, S, E, O, M}
+use Rattle.protocol_tables.specs.declared.state.Snoop.{Snoop}
+use Rattle.snoop_bus.specs.Tags.{TagSet, tag_set, tag_of, used, filled, leaving, restated, removed, in_next, snooped, snooped_in}
+use Rattle.snoop_bus.specs.CacheContents.{TagSets, tags_at, tag_in, at_line, sets_of, at_core, at_others, requested, used_by, filled_by}
+
+-- ---- the tags of one set
+
+-- lines of this kind alone
+abbrev pub OfKind : (ℕ → Type 0) → List (ℕ × State) → Type 0
+OfKind P [] = Unit {0}
+OfKind P (e ∷ es) = P e.0 × OfKind P es
+
+-- no line twice
+abbrev pub Once : List (ℕ × State) → Type 0
+Once [] = Unit {0}
+Once (e ∷ es) = (lookup (nat_eq e.0) es ≡ None) × Once es
+
+kind-remove : (P : ℕ → Type 0) (line : ℕ) (es : List (ℕ × State)) → OfKind P es → OfKind P (remove_entry (nat_eq line) es)
+kind-remove P line [] h = tt
+kind-remove P line (e ∷ es) h = elim (eqb_tells line e.0) [
+  | inl p ↦ rw p.0 h.1
+  | inr p ↦ rw p.0 (h.0, kind-remove P line es h.1)
+]
+
+kind-take : (P : ℕ → Type 0) (n : ℕ) (es : List (ℕ × State)) → OfKind P es → OfKind P (take n es)
+kind-take P zero es h = tt
+kind-take P (suc n) [] h = tt
+kind-take P (suc n) (e ∷ es) h = (h.0, kind-take P n es h.1)
+
+absent-remove : (line k : ℕ) (es : List (ℕ × State)) → lookup (nat_eq k) es ≡ None → lookup (nat_eq k) (remove_entry (nat_eq line) es) ≡ None
+absent-remove line k [] h = refl
+absent-remove line k (e ∷ es) h = elim (eqb_tells k e.0) [
+  | inl p ↦ let found : Some e.1 ≡ None = rw p.0 at h in absurd (let z : ⊥ = cc in z)
+  | inr p ↦
+      let later : lookup (nat_eq k) es ≡ None = rw p.0 at h in
+      elim (eqb_tells line e.0) [ inl q ↦ rw q.0 later | inr q ↦ rw (q.0, p.0) (absent-remove line k es later) ]
+]
+
+gone-remove : (line : ℕ) (es : List (ℕ × State)) → Once es → lookup (nat_eq line) (remove_entry (nat_eq line) es) ≡ None
+gone-remove line [] h = refl
+gone-remove line (e ∷ es) h = elim (eqb_tells line e.0) [
+  | inl p ↦ rw p.0 (subst (λ k. lookup (nat_eq k) es ≡ None) (sym p.1) h.0)
+  | inr p ↦ rw (p.0, p.0) (gone-remove line es h.1)
+]
+
+once-remove : (line : ℕ) (es : List (ℕ × State)) → Once es → Once (remove_entry (nat_eq line) es)
+once-remove line [] h = tt
+once-remove line (e ∷ es) h = elim (eqb_tells line e.0) [
+  | inl p ↦ rw p.0 h.1
+  | inr p ↦ rw p.0 (absent-remove line e.0 es h.0, once-remove line es h.1)
+]
+
+absent-take : (n k : ℕ) (es : List (ℕ × State)) → lookup (nat_eq k) es ≡ None → lookup (nat_eq k) (take n es) ≡ None
+absent-take zero k es h = refl
+absent-take (suc n) k [] h = refl
+absent-take (suc n) k (e ∷ es) h = elim (eqb_tells k e.0) [
+  | inl p ↦ let found : Some e.1 ≡ None = rw p.0 at h in absurd (let z : ⊥ = cc in z)
+  | inr p ↦ rw p.0 (absent-take n k es (rw p.0 at h))
+]
+
+once-take : (n : ℕ) (es : List (ℕ × State)) → Once es → Once (take n es)
+once-take zero es h = tt
+once-take (suc n) [] h = tt
+once-take (suc n) (e ∷ es) h = (absent-take n e.0 es h.0, once-take n es h.1)
+
+-- a line in another state, where it stands
+abbrev restate : ℕ → State → List (ℕ × State) → List (ℕ × State)
+restate line state es = map (λ e. if nat_eq line e.0 then (e.0, state) else e) es
+
+kind-restate : (P : ℕ → Type 0) (line : ℕ) (state : State) (es : List (ℕ × State)) → OfKind P es → OfKind P (restate line state es)
+kind-restate P line state [] h = tt
+kind-restate P line state (e ∷ es) h = elim (eqb_tells line e.0) [
+  | inl p ↦ rw p.0 (h.0, kind-restate P line state es h.1)
+  | inr p ↦ rw p.0 (h.0, kind-restate P line state es h.1)
+]
+
+absent-restate : (line k : ℕ) (state : State) (es : List (ℕ × State)) → lookup (nat_eq k) es ≡ None → lookup (nat_eq k) (restate line state es) ≡ None
+absent-restate line k state [] h = refl
+absent-restate line k state (e ∷ es) h = elim (eqb_tells k e.0) [
+  | inl p ↦ let found : Some e.1 ≡ None = rw p.0 at h in absurd (let z : ⊥ = cc in z)
+  | inr p ↦
+      let later : lookup (nat_eq k) es ≡ None = rw p.0 at h in
+      elim (eqb_tells line e.0) [ inl q ↦ rw (q.0, p.0) (absent-restate line k state es later) | inr q ↦ rw (q.0, p.0) (absent-restate line k state es later) ]
+]
+
+once-restate : (line : ℕ) (state : State) (es : List (ℕ × State)) → Once es → Once (restate line state es)
+once-restate line state [] h = tt
+once-restate line state (e ∷ es) h = elim (eqb_tells line e.0) [
+  | inl p ↦ rw p.0 (absent-restate line e.0 state es h.0, once-restate line state es h.1)
+  | inr p ↦ rw p.0 (absent-restate line e.0 state es h.0, once-restate line state es h.1)
+]
+
+-- the tag at a place is found by its line, and isn't among those before it
+found-at : (n : ℕ) (x : ℕ × State) (es : List (ℕ × State)) → Once es → slice_get es n ≡ Some x → lookup (nat_eq x.0) es ≡ Some x.1
+found-at n x [] d h = absurd (let z : ⊥ = cc in z)
+found-at zero x (e ∷ es) d h = let same : e ≡ x = cc in subst (λ (y : ℕ × State). lookup (nat_eq y.0) (e ∷ es) ≡ Some y.1) same (rw (eq-eqb e.0 e.0 refl) refl)
+found-at (suc n) x (e ∷ es) d h =
+    let later : lookup (nat_eq x.0) es ≡ Some x.1 = found-at n x es d.1 h in
+    elim (eqb_tells x.0 e.0) [
+      | inl p ↦ let none : lookup (nat_eq x.0) es ≡ None = subst (λ k. lookup (nat_eq k) es ≡ None) (sym p.1) d.0 in absurd (let z : ⊥ = cc in z)
+      | inr p ↦ rw p.0 later
+    ]
+
+gone-before : (n : ℕ) (x : ℕ × State) (es : List (ℕ × State)) → Once es → slice_get es n ≡ Some x → lookup (nat_eq x.0) (take n es) ≡ None
+gone-before zero x es d h = refl
+gone-before (suc n) x [] d h = absurd (let z : ⊥ = cc in z)
+gone-before (suc n) x (e ∷ es) d h =
+    let later : lookup (nat_eq x.0) es ≡ Some x.1 = found-at n x es d.1 h in
+    elim (eqb_tells x.0 e.0) [
+      | inl p ↦ let none : lookup (nat_eq x.0) es ≡ None = subst (λ k. lookup (nat_eq k) es ≡ None) (sym p.1) d.0 in absurd (let z : ⊥ = cc in z)
+      | inr p ↦ rw p.0 (gone-before n x es d.1 h)
+    ]
+
+-- ---- one set
+
+-- lines of this kind alone, and none twice
+pub record IsNeat (P : ℕ → Type 0) (s : TagSet) : Type 0 where
+  pub kind : OfKind P s.tags
+  pub once : Once s.tags
+
+used-neat : (P : ℕ → Type 0) (line : ℕ) (state : State) (s : TagSet) → P line → IsNeat P s → IsNeat P (used line state s)
+used-neat P line state s p h = record { kind = (p, kind-remove P line s.tags h.kind); once = (gone-remove line s.tags h.once, once-remove line s.tags h.once) }
+
+filled-neat : (P : ℕ → Type 0) (line : ℕ) (state : State) (s : TagSet) → P line → tag_of s line ≡ None → IsNeat P s → IsNeat P (filled line state s)
+filled-neat P line state s p none h = record {
+  kind = kind-take P s.ways ((line, state) ∷ s.tags) (p, h.kind);
+  once = once-take s.ways ((line, state) ∷ s.tags) (none, h.once);
+}
+
+restated-neat : (P : ℕ → Type 0) (line : ℕ) (state : State) (s : TagSet) → IsNeat P s → IsNeat P (restated line state s)
+restated-neat P line state s h = record { kind = kind-restate P line state s.tags h.kind; once = once-restate line state s.tags h.once }
+
+snooped-neat : (P : ℕ → Type 0) (on : State → Snoop) (line : ℕ) (s : TagSet) → IsNeat P s → IsNeat P (snooped on line s)
+snooped-neat P on line s h = by_tag (tag_of s line)
+  where
+    by_next : (state : State) → IsNeat P (in_next line state s)
+    by_next I = record { kind = kind-remove P line s.tags h.kind; once = once-remove line s.tags h.once }
+    by_next S = restated-neat P line S s h
+    by_next E = restated-neat P line E s h
+    by_next O = restated-neat P line O s h
+    by_next M = restated-neat P line M s h
+
+    by_tag : (o : Option State) → IsNeat P (snooped_in on line o s)
+    by_tag None = h
+    by_tag (Some state) = by_next (on state).next
+
+-- what leaves a neat set for another line was there, and is gone then
+pub record HasLeft (P : ℕ → Type 0) (line : ℕ) (state : State) (s : TagSet) (victim : ℕ × State) : Type 0 where
+  pub kind : P victim.0
+  pub before : tag_of s victim.0 ≡ Some victim.1
+  pub after : tag_of (filled line state s) victim.0 ≡ None
+
+kind-at : (P : ℕ → Type 0) (n : ℕ) (x : ℕ × State) (es : List (ℕ × State)) → OfKind P es → slice_get es n ≡ Some x → P x.0
+kind-at P n x [] h q = absurd (let z : ⊥ = cc in z)
+kind-at P zero x (e ∷ es) h q = let same : e ≡ x = cc in subst (λ (y : ℕ × State). P y.0) same h.0
+kind-at P (suc n) x (e ∷ es) h q = kind-at P n x es h.1 q
+
+has-left : (P : ℕ → Type 0) (line : ℕ) (state : State) (s : TagSet) (victim : ℕ × State) → IsNeat P s → tag_of s line ≡ None → leaving s ≡ Some victim → HasLeft P line state s victim
+has-left P line state s victim h none leaves =
+    let there = found-at (s.ways - 1) victim s.tags h.once leaves in
+    record { kind = kind-at P (s.ways - 1) victim s.tags h.kind leaves; before = there; after = by_ways s.ways leaves }
+  where
+    other : lookup (nat_eq victim.0) s.tags ≡ Some victim.1 → nat_eq victim.0 line ≡ false
+    other there = elim (eqb_tells victim.0 line) [
+      | inl p ↦ let gone : lookup (nat_eq victim.0) s.tags ≡ None = subst (λ k. lookup (nat_eq k) s.tags ≡ None) (sym p.1) none in absurd (let z : ⊥ = cc in z)
+      | inr p ↦ p.0
+    ]
+
+    by_ways : (ways : ℕ) → slice_get s.tags (ways - 1) ≡ Some victim → lookup (nat_eq victim.0) (take ways ((line, state) ∷ s.tags)) ≡ None
+    by_ways zero q = refl
+    by_ways (suc n) q =
+        let place : suc n - 1 ≡ n = omega arith in
+        let at : slice_get s.tags n ≡ Some victim = subst (λ k. slice_get s.tags k ≡ Some victim) place q in
+        rw (other (found-at n victim s.tags h.once at)) (gone-before n victim s.tags h.once at)
+
+-- ---- the sets of a cache
+
+-- where there is no set
+abbrev pub no_set : TagSet
+no_set = tag_set [] 1
+
+-- lines of a test that has so many, in the set in which they lie
+pub record Lies (lines sets index line : ℕ) : Type 0 where
+  pub within : line < lines
+  pub place : line % sets ≡ index
+
+-- each set is neat
+abbrev pub AreNeat : ℕ → TagSets → Type 0
+AreNeat lines sets = (i : ℕ) → IsNeat (Lies lines (length sets) i) (slice_index_or sets i no_set)
+
+pub none-neat : (P : ℕ → Type 0) → IsNeat P no_set
+none-neat P = record { kind = tt; once = tt }
+
+pub no-sets : (lines : ℕ) → AreNeat lines []
+no-sets lines i = none-neat (Lies lines 0 i)
+
+pub set-changed : (lines line : ℕ) (change : TagSet → TagSet) (sets : TagSets) → AreNeat lines sets
+    → (IsNeat (Lies lines (length sets) (line % length sets)) (tags_at sets line) → IsNeat (Lies lines (length sets) (line % length sets)) (change (tags_at sets line)))
+    → AreNeat lines (at_line line change sets)
+set-changed lines line change sets h changed i =
+    let there = line % length sets in
+    let new = change (tags_at sets line) in
+    let size : length (slice_set sets there new) ≡ length sets = length-set sets there new in
+    subst (λ n. IsNeat (Lies lines n i) (slice_index_or (slice_set sets there new) i no_set)) (sym size) (elim (decide i there) [
+      | inl q ↦ elim (lt-or (length sets) there) [
+        | inl l ↦ subst (λ k. IsNeat (Lies lines (length sets) k) (slice_index_or (slice_set sets there new) k no_set)) (sym q)
+            (subst (λ s. IsNeat (Lies lines (length sets) there) s) (sym (get_or-set_same sets there new no_set l)) (changed (h there)))
+        | inr past ↦
+            let far : length (slice_set sets there new) ≤ i = subst (λ k. length (slice_set sets there new) ≤ k) (sym q) (subst (λ n. n ≤ there) (sym size) past) in
+            subst (λ s. IsNeat (Lies lines (length sets) i) s) (sym (get_or_past (slice_set sets there new) i no_set far)) (none-neat (Lies lines (length sets) i))
+      ]
+      | inr n ↦ subst (λ s. IsNeat (Lies lines (length sets) i) s) (sym (get_or-set_other sets there i new no_set n)) (h i)
+    ])
+
+pub sets-used : (lines line : ℕ) (state : State) (sets : TagSets) → line < lines → AreNeat lines sets → AreNeat lines (at_line line (used line state) sets)
+sets-used lines line state sets l h =
+    set-changed lines line (used line state) sets h (used-neat (Lies lines (length sets) (line % length sets)) line state (tags_at sets line) (record { within = l; place = refl }))
+
+pub sets-filled : (lines line : ℕ) (state : State) (sets : TagSets) → line < lines → tag_in sets line ≡ None → AreNeat lines sets → AreNeat lines (at_line line (filled line state) sets)
+sets-filled lines line state sets l none h =
+    set-changed lines line (filled line state) sets h
+    (filled-neat (Lies lines (length sets) (line % length sets)) line state (tags_at sets line) (record { within = l; place = refl }) none)
+
+pub sets-snooped : (lines : ℕ) (on : State → Snoop) (line : ℕ) (sets : TagSets) → AreNeat lines sets → AreNeat lines (at_line line (snooped on line) sets)
+sets-snooped lines on line sets h = set-changed lines line (snooped on line) sets h (snooped-neat (Lies lines (length sets) (line % length sets)) on line (tags_at sets line))
+
+-- a dirty line that leaves was in the cache, and isn't then
+pub record Leaves (lines line : ℕ) (state : State) (sets : TagSets) (victim : ℕ × State) : Type 0 where
+  pub within : victim.0 < lines
+  pub before : tag_in sets victim.0 ≡ Some victim.1
+  pub after : tag_in (at_line line (filled line state) sets) victim.0 ≡ None
+
+pub sets-leave : (lines line : ℕ) (state : State) (sets : TagSets) (victim : ℕ × State) → AreNeat lines sets → tag_in sets line ≡ None → leaving (tags_at sets line) ≡ Some victim
+    → Leaves lines line state sets victim
+sets-leave lines line state sets victim h none leaves =
+    let there = line % length sets in
+    let left = has-left (Lies lines (length sets) there) line state (tags_at sets line) victim (h there) none leaves in
+    let new = filled line state (tags_at sets line) in
+    let place : victim.0 % length sets ≡ there = left.kind.place in
+    let size : length (at_line line (filled line state) sets) ≡ length sets = length-set sets there new in
+    record {
+      within = left.kind.within;
+      before = subst (λ k. tag_of (slice_index_or sets k no_set) victim.0 ≡ Some victim.1) (sym place) left.before;
+      after = subst (λ n. tag_of (slice_index_or (slice_set sets there new) (victim.0 % n) no_set) victim.0 ≡ None) (sym size)
+          (subst (λ k. tag_of (slice_index_or (slice_set sets there new) k no_set) victim.0 ≡ None) (sym place) (in_place (lt-or (length sets) there) left.after));
+    }
+  where
+    in_place : (line % length sets < length sets) ⊎ (length sets ≤ line % length sets) → tag_of (filled line state (tags_at sets line)) victim.0 ≡ None
+        → tag_of (slice_index_or (slice_set sets (line % length sets) (filled line state (tags_at sets line))) (line % length sets) no_set) victim.0 ≡ None
+    in_place (inl l) gone = subst (λ s. tag_of s victim.0 ≡ None) (sym (get_or-set_same sets (line % length sets) (filled line state (tags_at sets line)) no_set l)) gone
+    in_place (inr past) gone = subst (λ s. tag_of s victim.0 ≡ None)
+        (sym (get_or_past (slice_set sets (line % length sets) (filled line state (tags_at sets line))) (line % length sets) no_set
+        (subst (λ n. n ≤ line % length sets) (sym (length-set sets (line % length sets) (filled line state (tags_at sets line)))) past))) refl
+
+-- ---- all caches
+
+abbrev pub AllNeat : ℕ → List TagSets → Type 0
+AllNeat lines caches = (core : ℕ) → AreNeat lines (sets_of caches core)
+
+pub own-changed : (lines core : ℕ) (change : TagSets → TagSets) (caches : List TagSets) → AllNeat lines caches → (AreNeat lines (sets_of caches core) → AreNeat lines (change (sets_of caches core)))
+    → AllNeat lines (at_core core change caches)
+own-changed lines core change caches h changed k = elim (decide k core) [
+  | inl q ↦ elim (lt-or (length caches) core) [
+    | inl l ↦ subst (λ j. AreNeat lines (sets_of (at_core core change caches) j)) (sym q)
+        (subst (AreNeat lines) (sym (get_or-set_same caches core (change (sets_of caches core)) [] l)) (changed (h core)))
+    | inr past ↦ subst (AreNeat lines) (sym (get_or_past (at_core core change caches) k []
+        (subst (λ j. length (at_core core change caches) ≤ j) (sym q) (subst (λ n. n ≤ core) (sym (length-set caches core (change (sets_of caches core)))) past)))) (no-sets lines)
+  ]
+  | inr n ↦ subst (AreNeat lines) (sym (get_or-set_other caches core k (change (sets_of caches core)) [] n)) (h k)
+]
+
+-- of the others a change that keeps no sets as they are
+each-changed : (lines : ℕ) (change : TagSets → TagSets) (caches : List TagSets) → ((sets : TagSets) → AreNeat lines sets → AreNeat lines (change sets)) → AllNeat lines caches → AllNeat lines (map change caches)
+each-changed lines change [] changed h k = no-sets lines
+each-changed lines change (sets ∷ caches) changed h zero = changed sets (h 0)
+each-changed lines change (sets ∷ caches) changed h (suc k) = each-changed lines change caches changed (λ j. h (suc j)) k
+
+pub others-changed : (lines core : ℕ) (change : TagSets → TagSets) (caches : List TagSets) → ((sets : TagSets) → AreNeat lines sets → AreNeat lines (change sets)) → AllNeat lines caches
+    → AllNeat lines (at_others core change caches)
+others-changed lines core change [] changed h k = no-sets lines
+others-changed lines zero change (sets ∷ caches) changed h zero = h 0
+others-changed lines zero change (sets ∷ caches) changed h (suc k) = each-changed lines change caches changed (λ j. h (suc j)) k
+others-changed lines (suc core) change (sets ∷ caches) changed h zero = changed sets (h 0)
+others-changed lines (suc core) change (sets ∷ caches) changed h (suc k) = others-changed lines core change caches changed (λ j. h (suc j)) k
+
+-- the core's own are as they were
+pub own-kept : (core : ℕ) (change : TagSets → TagSets) (caches : List TagSets) → sets_of (at_others core change caches) core ≡ sets_of caches core
+own-kept core change [] = refl
+own-kept zero change (sets ∷ caches) = refl
+own-kept (suc core) change (sets ∷ caches) = own-kept core change caches
+
+pub all-requested : (lines : ℕ) (on : State → Snoop) (core line : ℕ) (caches : List TagSets) → AllNeat lines caches → AllNeat lines (requested on core line caches)
+all-requested lines on core line caches h = others-changed lines core (at_line line (snooped on line)) caches (sets-snooped lines on line) h
+
+pub all-used : (lines core line : ℕ) (state : State) (caches : List TagSets) → line < lines → AllNeat lines caches → AllNeat lines (used_by core line state caches)
+all-used lines core line state caches l h = own-changed lines core (at_line line (used line state)) caches h (sets-used lines line state (sets_of caches core) l)
+
+pub all-filled : (lines core line : ℕ) (state : State) (caches : List TagSets) → line < lines → tag_in (sets_of caches core) line ≡ None → AllNeat lines caches → AllNeat lines (filled_by core line state caches)
+all-filled lines core line state caches l none h = own-changed lines core (at_line line (filled line state)) caches h (sets-filled lines line state (sets_of caches core) l none)
+
+-- what leaves a core's cache when it fills a line, by all caches before it and after it
+pub filled-leaves : (lines core line : ℕ) (state : State) (caches : List TagSets) (victim : ℕ × State) → core < length caches → AllNeat lines caches → tag_in (sets_of caches core) line ≡ None
+    → leaving (tags_at (sets_of caches core) line) ≡ Some victim
+    → (tag_in (sets_of caches core) victim.0 ≡ Some victim.1) × ((tag_in (sets_of (filled_by core line state caches) core) victim.0 ≡ None) × (victim.0 < lines))
+filled-leaves lines core line state caches victim l h none leaves =
+    let left = sets-leave lines line state (sets_of caches core) victim (h core) none leaves in
+    (left.before, (subst (λ sets. tag_in sets victim.0 ≡ None) (sym (get_or-set_same caches core (at_line line (filled line state) (sets_of caches core)) [] l)) left.after, left.within))

@@ -1,0 +1,28 @@
+-- What is shown of a choice that stalls, and its line.
+use Rattle.std.specs.Prelude.{ℕ, false, List, [], None}
+use Rattle.tso_model.specs.declared.choice.Choice.{Choice}
+use Rattle.tso_model.specs.declared.choice.Outcome.TheVariants.{Stalled}
+use Rattle.tso_model.specs.declared.choice.Stall.{Stall}
+use Rattle.protocol_tables.specs.PrintedTable.{line}
+use Rattle.trace_report.specs.Lines.{outcome_text}
+use Rattle.trace_report.specs.Shown.{Shown}
+
+-- what is shown of a choice that stalled: that alone
+abbrev pub stalled_step : Choice → Stall → Shown
+stalled_step choice why = record {
+  choice = choice;
+  outcome = Stalled why;
+  entries = [];
+  moved = None;
+  forwarded = false;
+  access = None;
+  request = None;
+  flushed = None;
+  wrote_back = None;
+  changes = [];
+  buffer = None;
+}
+
+-- and its line
+abbrev pub stall_line : ℕ → Choice → Stall → List ℕ
+stall_line number choice why = line (outcome_text number choice (Stalled why))

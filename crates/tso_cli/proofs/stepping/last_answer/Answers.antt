@@ -1,0 +1,31 @@
+use Rattle.std.proofs.Common.{ℕ, Ok, ◌∙◌}
+use Rattle.scheduler.specs.declared.fault.ChoiceFault.TheVariants.{TooMany}
+use Rattle.trace_json.specs.TracedRun.{json_last_step}
+use Rattle.tso_cli.specs.declared.answer.Status.TheVariants.{Refused}
+use Rattle.tso_cli.specs.Answers.{status_under}
+use Rattle.tso_cli.specs.Lines.{choices_refusal}
+use Rattle.tso_cli.specs.Runs.{run_under}
+use Rattle.tso_cli.specs.Trace.{too_long}
+use Rattle.tso_cli.specs.inner.Step.{IsLastStep, refused, told}
+use Rattle.tso_cli.proofs.AnswerLemmas.{answer-is}
+use Rattle.tso_cli.proofs.StepLemmas.{status-is}
+use Rattle.tso_cli.proofs.stepping.last_answer.Goals as goal
+
+pub returns-in-TooLong : goal.returns-in-TooLong
+returns-in-TooLong c =
+    let is = rw c.in-TooLong.is at c.in_ok-word.ensures in
+    let word = c.in-TooLong.word in
+    let line = choices_refusal (TooMany word) in
+    answer-is (IsLastStep c.args.test.now c.args.protocol c.args.config c.args.text.now) c.too_long.result line Refused c.too_long.ensures
+    (refused line (too_long c.args.choices.now word c.requires.spelled is.long is.says))
+
+pub returns-in_ok-step-in-Fits : goal.returns-in_ok-step-in-Fits
+returns-in_ok-step-in-Fits c =
+    let is = rw c.in-Fits.is at c.in_ok-word.ensures in
+    let t = c.args.test.now in
+    let kind = c.args.protocol in
+    let config = c.args.config in
+    let choices = c.args.choices.now in
+    answer-is {E = ℕ} (IsLastStep t kind config c.args.text.now) (Ok (record { text = c.in_ok-step-in-Fits.step; status = c.status_after-status.result; cause = c.cause_of.result })) (json_last_step t kind config choices) (status_under t kind config choices)
+    (record { text = c.in_ok-step-in-Fits.ensures; status = c.status_after-status.ensures ∙ status-is t (run_under t kind config choices) c.in-Fits.driven.ending is.is })
+    (told choices c.requires.spelled is.answers is.short)

@@ -1,0 +1,26 @@
+-- The answer of `step`, which the page asks for after each choice: of the trace that `trace --json` prints, the last step alone.
+use Rattle.std.specs.Prelude.{ℕ, ◌≤◌, true, List, length}
+use Rattle.tso_model.specs.Litmus.{Litmus}
+use Rattle.tso_model.specs.declared.choice.Choice.{Choice}
+use Rattle.litmus_reader.specs.Spelling.{SpellsTest}
+use Rattle.scheduler.specs.Grammar.{SpellsChoices}
+use Rattle.protocol_tables.specs.declared.kind.ProtocolKind.{ProtocolKind}
+use Rattle.machine_core.specs.Configuration.{Configuration}
+use Rattle.trace_json.specs.TracedRun.{json_last_step}
+use Rattle.command_line.specs.declared.settings.Settings.TheVariants as settings
+use Rattle.tso_cli.specs.Answers.{IsInputAnswer, status_under}
+use Rattle.tso_cli.specs.Limits.{longest_input}
+use Rattle.tso_cli.specs.Parts.{parts_of}
+use Rattle.tso_cli.specs.Runs.{run_under, AnswersFit}
+use Rattle.tso_cli.specs.Trace.{FitsForm}
+use Rattle.tso_cli.specs.declared.answer.Status.{Status}
+use Rattle.tso_cli.specs.declared.answer.Status.TheVariants.{Refused}
+
+-- the answer to an input on a machine of this protocol and configuration: a refusal is that of `trace --json`, and of the run that it
+-- traces the last step is told, with the run's status
+pub data IsStepAnswer (kind : ProtocolKind) (c : Configuration) (input : List ℕ) : List ℕ → Status → Type 0 where
+  refused : (out : List ℕ) → IsInputAnswer (settings.Trace kind c true) input out Refused → IsStepAnswer kind c input out Refused
+  told : (t : Litmus) (choices : List Choice) → length input ≤ longest_input → SpellsTest (parts_of input).test t
+      → SpellsChoices (length t.programs) (parts_of input).rest choices → AnswersFit t kind c choices
+      → FitsForm true (run_under t kind c choices)
+      → IsStepAnswer kind c input (json_last_step t kind c choices) (status_under t kind c choices)

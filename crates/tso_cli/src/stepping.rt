@@ -1,0 +1,99 @@
+//! The answer of `step`, which the page asks for after each choice that is made there.
+
+ghost use Rattle.std.specs.Prelude.{◌≡◌, IfOk, length, string_bytes};
+ghost use Rattle.tso_model.specs.Runs.{CoresExist};
+ghost use Rattle.scheduler.specs.Grammar.{SpellsChoices};
+ghost use Rattle.tso_cli.specs.Step.{IsStepAnswer};
+ghost use Rattle.tso_cli.specs.inner.Step.{IsLastStep, status_after};
+
+use crate::answer::{Answer, Status, refused_input, refused_test};
+use crate::measuring::{Measured, measure, too_long};
+use crate::parts::parts_of;
+use crate::running::{cause_of, refused_choices};
+use crate::simulation::Ending;
+use crate::streams::MAX_INPUT;
+use hints::Asked;
+use litmus_reader::{ReadError, test_or_fault};
+use machine_core::{Choice, Config};
+use protocol_tables::ProtocolKind;
+use scheduler::{read_choices, spelled_cores_exist};
+use std::alloc::Global;
+use trace_json::last_step_json;
+use tso_model::{NoMemory, Test};
+
+/// Of the trace that `trace --json` prints of an input the last step alone, with the machine after it; where no choice is
+/// used, the machine before the first choice. What it refuses, how, and the status are those of `trace --json`.
+///
+/// Errors: out of memory only.
+pub fn step_answer(
+    alloc: Global,
+    protocol: ProtocolKind,
+    config: Config,
+    input: &[u8],
+) -> Result<Answer, NoMemory>
+    ensures { IfOk result (λ a. IsStepAnswer protocol config input.now (string_bytes a.text) a.status) }
+{
+    if input.len() > MAX_INPUT {
+        return refused_input(alloc);
+    }
+    let parts = parts_of(input);
+    match test_or_fault(alloc, parts.test) {
+        Ok(test) => test_answer(alloc, &test, protocol, config, parts.rest),
+        Err(ReadError::Fault(fault)) => refused_test(alloc, Asked::Choices, parts.test, fault),
+        Err(ReadError::NoMemory) => Err(NoMemory),
+    }
+}
+
+/// The answer to a test and the text of choices.
+fn test_answer(
+    alloc: Global,
+    test: &Test,
+    protocol: ProtocolKind,
+    config: Config,
+    text: &[u8],
+) -> Result<Answer, NoMemory>
+    ensures { IfOk result (λ a. IsLastStep test.now protocol config text.now (string_bytes a.text) a.status) }
+{
+    spelled_cores_exist();
+    match read_choices(alloc, test.cores(), text) {
+        Ok(choices) => last_answer(alloc, test, protocol, config, text, &choices),
+        Err(fault) => refused_choices(alloc, test, text, fault),
+    }
+}
+
+/// The answer to the choices that the text spells.
+fn last_answer(
+    alloc: Global,
+    test: &Test,
+    protocol: ProtocolKind,
+    config: Config,
+    text: &[u8],
+    choices: &[Choice],
+) -> Result<Answer, NoMemory>
+    requires cores { CoresExist (length test.now.programs) choices.now }
+    requires spelled { SpellsChoices (length test.now.programs) text.now choices.now }
+    ensures { IfOk result (λ a. IsLastStep test.now protocol config text.now (string_bytes a.text) a.status) }
+{
+    match measure(alloc, test, protocol, config, text, choices)? {
+        Measured::TooLong(word) => too_long(alloc, text, word),
+        Measured::Fits(driven) => {
+            let step = last_step_json(alloc, test, protocol, config, choices)?;
+            let status = status_after(&driven.ending);
+            Ok(Answer {
+                text: step,
+                status,
+                cause: cause_of(status, test, text, config, driven.stalls),
+            })
+        }
+    }
+}
+
+/// The status of a run that left its test so.
+fn status_after(ending: &Ending) -> Status
+    ensures { result ≡ status_after ending.now }
+{
+    match ending {
+        Ending::Ended(_) => Status::Good,
+        Ending::Unfinished { .. } => Status::Unended,
+    }
+}

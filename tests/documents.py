@@ -1,0 +1,268 @@
+#!/usr/bin/env python3
+"""Holds a built program against the documents: README.md, the pages of docs/, and those of examples/.
+
+    tests/documents.py PROGRAM [PART-OF-NAME]              runs every command block, and compares
+    tests/documents.py --write PROGRAM [PART-OF-NAME]      writes the answers in the blocks of such documents anew
+
+A command block is fenced as `console`. In it a line that begins with `$ ` is a command, with the lines up to the end of its
+here-document, if it has one; what follows is all that a terminal shows then, standard output and standard error. `./tso` is
+PROGRAM there. The blocks of a document run one after the other in one new folder, in which `examples`, `docs` and `tools` stand; so
+`$ echo $?` shows the status of the command before it. A line `...` stands for lines that are left out.
+
+Blocks fenced as `sh` aren't run: they prove, test, or need a fresh checkout, a browser or a pager (`./test`, `./tso --prove`).
+
+Then come the links of all documents and the files that they name, the names of refusals among the messages, the letters of breaches (each
+beside its axiom's name), the page of what is proved (short cells; each definition with its file where it first has its name), and the
+tables of README.md (commands, options, limits, statuses) and of docs/INPUT.md (limits), against the program, its help, the manual page
+and the limits as plain numbers (tests/document_tables.py). The last line is 'N passed, M failed'.
+"""
+import difflib
+import glob
+import os
+import re
+import subprocess
+import sys
+import tempfile
+
+sys.dont_write_bytecode = True
+import document_tables
+import judging
+from document_tables import README, SECONDS
+from judging import TOP, content
+
+MARK = "-- end of command --"
+
+
+def documents():
+    """The documents, README.md first."""
+    pages = glob.glob(os.path.join(TOP, "docs", "*.md")) + glob.glob(os.path.join(TOP, "examples", "*.md"))
+    return [README, os.path.join(TOP, "CHANGELOG.md")] + sorted(pages)
+
+
+def short(path):
+    return os.path.relpath(path, TOP)
+
+
+# ---- command blocks
+
+BLOCK = re.compile(r"^```console\n(.*?)^```$", re.MULTILINE | re.DOTALL)
+
+
+def commands_in(block):
+    """The commands of a block, each with the lines of its answer."""
+    commands, lines = [], iter(block.splitlines())
+    for line in lines:
+        if not line.startswith("$ "):
+            commands[-1][1].append(line)
+            continue
+        command = line[2:]
+        end = re.search(r"<< '(\w+)'", command)
+        while end and not command.endswith("\n" + end.group(1)):
+            command += "\n" + next(lines)
+        commands.append((command, []))
+    return commands
+
+
+def session(program, blocks):
+    """The lines that each command of these blocks shows, one after the other in one new folder."""
+    script = []
+    for command, _ in (command for block in blocks for command in commands_in(block)):
+        script.append("%s\n(status=$?; echo '%s'; exit $status)\n" % (command, MARK))
+    with tempfile.TemporaryDirectory() as folder:
+        os.symlink(program, os.path.join(folder, "tso"))
+        for name in ("examples", "docs", "tools"):
+            os.symlink(os.path.join(TOP, name), os.path.join(folder, name))
+        done = subprocess.run(["bash", "-c", "".join(script)], cwd=folder, stdin=subprocess.DEVNULL, stdout=subprocess.PIPE,
+                              stderr=subprocess.STDOUT, timeout=SECONDS)
+    shown = done.stdout.decode("utf-8", "replace").split(MARK + "\n")[:-1]
+    return [text.splitlines() for text in shown]
+
+
+def fits(wanted, got):
+    """Whether these lines are the wanted ones, where `...` stands for any."""
+    form = "".join(r"(?:.*\n)*?" if line == "..." else re.escape(line + "\n") for line in wanted)
+    return re.fullmatch(form, "".join(line + "\n" for line in got)) is not None
+
+
+def rows_of_blocks(program, path):
+    blocks = BLOCK.findall(content(path))
+    if not blocks:
+        return []
+    shown = session(program, blocks)
+    rows = []
+    for at, (command, wanted) in enumerate(command for block in blocks for command in commands_in(block)):
+        got = shown[at] if at < len(shown) else ["no answer"]
+        faults = [] if fits(wanted, got) else list(difflib.unified_diff(wanted, got, "wanted", "got", lineterm="", n=1))[:40]
+        rows.append(("%s: %s" % (short(path), command.splitlines()[0]), faults))
+    return rows
+
+
+def write_blocks(program, path):
+    text = content(path)
+    shown = iter(session(program, BLOCK.findall(text)))
+
+    def written(found):
+        lines = []
+        for command, wanted in commands_in(found.group(1)):
+            got = next(shown)
+            lines += ["$ " + command] + (wanted if fits(wanted, got) else got)
+        return "```console\n%s\n```" % "\n".join(lines)
+    with open(path, "w", encoding="utf-8") as file:
+        file.write(BLOCK.sub(written, text))
+
+
+# ---- links, and files that are named
+
+def heading_name(heading):
+    return re.sub(r"[^\w\- ]", "", heading.replace("`", "").lower()).strip().replace(" ", "-")
+
+
+def headings(path):
+    return {heading_name(found) for found in re.findall(r"^#+ (.+)$", content(path), re.MULTILINE)}
+
+
+def faults_of_links(path):
+    faults = []
+    for target in re.findall(r"\]\(([^)\s]+)\)", content(path)):
+        if re.match(r"[a-z]+:", target):
+            continue
+        name, _, heading = target.partition("#")
+        file = os.path.normpath(os.path.join(os.path.dirname(path), name)) if name else path
+        if not os.path.exists(file):
+            faults.append("no file for the link " + target)
+        elif heading and file.endswith(".md") and heading not in headings(file):
+            faults.append("no heading for the link " + target)
+    return faults
+
+
+ROOMS = ("completions", "crates", "docs", "examples", "packaging", "release", "tests", "tools", "view")
+
+
+def faults_of_named_files(path):
+    """Files in backquotes that begin with a folder of the project; `NAME`, `CRATE..` and the like stand for any, and what
+    stands in a folder `out` is built."""
+    faults = []
+    for name in re.findall(r"`((?:%s)/[^`\s]*)`" % "|".join(ROOMS), content(path)):
+        plain = re.sub(r"\b[A-Z]{3,}(\.\.)?(?=[/`.]|$)", "*", name)
+        if "/out/" not in name and not glob.glob(os.path.join(TOP, plain)):
+            faults.append("no file " + name)
+    return faults
+
+
+# ---- names, numbers and tables of single pages
+
+def faults_of_names():
+    """Each name that the program gives a refusal has a heading among the messages."""
+    there = headings(os.path.join(TOP, "docs", "MESSAGES.md"))
+    names = re.findall(r'Why::(\w+) =>', content(os.path.join(TOP, "crates", "litmus_reader", "src", "fault.rt")))
+    names += ["BadWord", "NoSuchCore", "TooMany", "NoOrder", "BadLine", "BadCount", "C1", "C2", "C3", "C4", "C5"]
+    return ["no heading for " + name for name in sorted(set(names)) if name != "NoMemory" and name.lower() not in there]
+
+
+AXIOMS = {"C1": "whole", "C2": "whole", "C3": "program ?order", "C4": "adjacent", "C5": "read ?values?"}
+
+
+def faults_of_letters(path):
+    """A passage that explains a letter has the name of its axiom; an answer of the program, in a block or a link, explains none."""
+    text = re.sub(r"^```.*?^```$|\[C[1-5] P[^\]]*\]", "", content(path), flags=re.MULTILINE | re.DOTALL)
+    passages = [passage for passage in text.split("\n\n") if not passage.startswith("#")]
+    return ["%s without the axiom's name: %s.." % (letter, passage[:60].replace("\n", " ")) for passage in passages
+            for letter in sorted(set(re.findall(r"\bC[1-5]\b", passage))) if not re.search(AXIOMS[letter], passage, re.IGNORECASE)]
+
+
+def faults_of_gallery(path):
+    """How many tests the gallery has, where a document says so."""
+    tests = len(glob.glob(os.path.join(TOP, "examples", "gallery", "*.litmus")))
+    return ["%s tests, and not %d" % (told, tests) for told in re.findall(r"(\d+) tests (?:of the literature|to try)", content(path))
+            if int(told) != tests]
+
+
+def faults_of_scripts():
+    """docs/HACKING.md lists each script of tests/: each file there that can be started."""
+    text = content(os.path.join(TOP, "docs", "HACKING.md"))
+    listed = set(re.findall(r"^\| `(tests/[\w./]+)` \|", text[text.index("## The scripts of"):text.index("## A further command")], re.MULTILINE))
+    paths = glob.glob(os.path.join(judging.TESTS, "*")) + glob.glob(os.path.join(judging.TESTS, "view", "*"))
+    there = {short(path) for path in paths if os.path.isfile(path) and os.access(path, os.X_OK)}
+    return ["%s is listed and isn't there, or is there and isn't listed" % name for name in sorted(listed ^ there)]
+
+
+def faults_of_declared():
+    """How many types and views of the code the definitions rest on, where a document says so."""
+    done = subprocess.run([os.path.join(TOP, "tests", "declared.py")], capture_output=True, text=True, timeout=SECONDS)
+    told = re.search(r"(\d+) types [^.;]*?\band (\d+) views", content(os.path.join(TOP, "docs", "PROVED.md")))
+    last = done.stdout.splitlines()[-1:]
+    return [] if told and last == ["%s types, %s views" % told.groups()] else ["tests/declared.py says %s" % last]
+
+
+def faults_of_believed():
+    """The table of what has to be believed is the one that is counted."""
+    done = subprocess.run([os.path.join(TOP, "tests", "believed.py"), "--table"], capture_output=True, text=True, timeout=SECONDS)
+    return [] if done.stdout and done.stdout in content(os.path.join(TOP, "docs", "PROVED.md")) else ["not the table of tests/believed.py"]
+
+
+LONGEST_CELL = 300
+
+
+def faults_of_cells():
+    """A table of what is proved reads as a page where no cell is long."""
+    rows = [line for line in content(os.path.join(TOP, "docs", "PROVED.md")).splitlines() if line.startswith("|")]
+    cells = (cell for row in rows for cell in row.split("|"))
+    return ["a cell of %d bytes: %s.." % (len(cell), cell[:60]) for cell in cells if len(cell) > LONGEST_CELL]
+
+
+def definitions():
+    """The names of all definitions."""
+    begins = re.compile(r"^(?:pub )?(?:abbrev|unfoldable|record|data)(?: pub)? (\S+)", re.MULTILINE)
+    files = glob.glob(os.path.join(TOP, "crates", "*", "specs", "**", "*.antt"), recursive=True)
+    return {name for path in files for name in begins.findall(content(path))}
+
+
+def faults_of_reading():
+    """The guided reading names the file of a definition where it first has its name; a block goes with the words after it."""
+    text = content(os.path.join(TOP, "docs", "PROVED.md"))
+    text = text[text.index("## A guided reading"):text.index("## The claims")]
+    faults, known, names = [], set(), definitions()
+    for passage in re.split(r"\n\s*\n|\n(?=\|)|\n(?=- )", re.sub(r"(```\n)\n(?=[A-Z])", r"\1", text)):
+        used = re.findall(r"`([A-Za-z_]\w*)(?: [^`]*)?`", passage)
+        for block in re.findall(r"```\n(.*?)```", passage, re.DOTALL):
+            used += re.findall(r"(?<![\w.])[A-Za-z_]\w*", block)
+        new = [name for name in used if name in names - known]
+        faults += ["no file for " + name for name in new if ".antt" not in passage]
+        known.update(new)
+    return faults
+
+
+# ---- all
+
+def rows_of(program):
+    for path in documents():
+        yield "links of " + short(path), lambda path=path: faults_of_links(path)
+        yield "files that %s names" % short(path), lambda path=path: faults_of_named_files(path)
+        yield "number of tests in " + short(path), lambda path=path: faults_of_gallery(path)
+        yield "letters of breaches in " + short(path), lambda path=path: faults_of_letters(path)
+    yield from document_tables.rows_of(program)
+    yield "names of refusals", faults_of_names
+    yield "scripts of tests/", faults_of_scripts
+    yield "types that the headline rests on", faults_of_declared
+    yield "what has to be believed", faults_of_believed
+    yield "cells of docs/PROVED.md", faults_of_cells
+    yield "names in the guided reading", faults_of_reading
+
+
+def check(program, part):
+    tally = judging.Tally(shown=100)
+    blocks = judging.in_threads(lambda path: rows_of_blocks(program, path), documents())
+    tally.add("documents", [row for rows in blocks for row in rows if part in row[0]])
+    tally.add("documents", judging.judged(rows_of(program), part))
+    return tally.end()
+
+
+def write(program, part):
+    for path in documents():
+        if part in short(path) and BLOCK.search(content(path)):
+            write_blocks(program, path)
+    return 0
+
+
+if __name__ == "__main__":
+    sys.exit(judging.check_or_write(__doc__, check, write))

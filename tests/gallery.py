@@ -1,0 +1,364 @@
+#!/usr/bin/env python3
+"""Holds the gallery of litmus tests, examples/gallery/, against a built program, and makes its page.
+
+    tests/gallery.py PROGRAM [PART-OF-NAME]
+    tests/gallery.py --write PROGRAM           makes examples/GALLERY.md anew from the tests, and from the program's runs
+
+NAME.litmus is an input of `run`: a test, and choices. Its key lines are the facts: Family, Asks, TSO and SC (allowed or
+forbidden), Source; where TSO allows the outcome, Depth, and Seen (by how many of the seeds 0 to 999); Breach where TSO
+forbids it. NAME.order stands beside a forbidden one: the same test, and an order that would show the outcome. Held
+against them are
+
+- the page, and the form of each file;
+- `outcomes`: TSO at depth 32, SC at depth 0, and Depth, from which on the outcome is there and at one less isn't; an allowed one
+  with choices under which `run` has it;
+- a plain reference, flat_machine.py, which explores all runs: the same verdicts;
+- of an allowed one: `run` at that depth has the outcome, no choice stalled and none left over; `witness` finds
+  choices for that run's order at that depth, and at one less it says which depth is needed;
+- of a forbidden one: its choices end without the outcome; the order has it, by its own read values, and `check` names
+  the stated breach;
+- `sweep` over 1,000 seeds: how many meet the outcome; none of a forbidden one.
+
+The last line is 'N passed, M failed'.
+"""
+import concurrent.futures
+import os
+import re
+import subprocess
+import sys
+import urllib.parse
+
+sys.dont_write_bytecode = True
+
+import flat_machine
+import judging
+from judging import EXAMPLES, GALLERY
+
+PAGE = os.path.join(EXAMPLES, "GALLERY.md")
+
+ENDED, INVALID = 0, 4
+DIVIDING_LINE = "====\n"
+TITLES = ("Test", "What it asks", "TSO", "SC", "Depth, or what the order breaks", "Seen", "From")
+SEEDS = 1000
+
+FAMILIES = {
+    "Store buffering": "Each core stores, and then loads what another one stores. The buffers let the loads come first.",
+    "Message passing": "One core stores twice, another loads twice. Stores keep their order, and so do loads.",
+    "Load buffering": "Each core loads, and then stores what another one loads. A store never comes before an earlier load.",
+    "Orders of stores": "Two stores to one location, and which of them stays. Stores keep their order; a load may still pass "
+    "the store before it.",
+    "Causality between three cores": "What one core has seen and passed on, and what a third core may still miss. Where some "
+    "core of the chain stores and then loads, with neither fence nor locked instruction, the outcome is allowed; else it is "
+    "forbidden.",
+    "Four cores and one order of stores": "All stores stand in one order, the same for every other core; the core that stores may read its own store early.",
+    "Coherence of one location": "Whatever the cores do, each location alone behaves as under sequential consistency.",
+    "A core reads its own store early": "A load is given the newest store of its own core's buffer, before memory has it.",
+    "Locked instructions are one step": "Nothing comes between the load part and the store part.",
+    "Mutual exclusion and other uses": "Algorithms that are right under sequential consistency, and what they need under TSO.",
+    "How deep the buffers must be": "A load passes all stores that its core's buffer holds, and no more.",
+}
+
+HEAD = """# Gallery
+
+Litmus tests of the literature and of the processor manuals, and what becomes of each under total store order (TSO) and
+under sequential consistency (SC). Made by `tests/gallery.py --write PROGRAM` from the files of `gallery/`: don't change it by
+hand.
+
+Each question is of one outcome, which is the test's condition: allowed is a yes, forbidden a no. A fence is MFENCE, a
+locked exchange XCHG, a locked addition LOCK XADD.
+
+**Allowed** means that some run ends in the outcome. `NAME.litmus` has choices that show it, with buffers of the smallest
+depth that the outcome needs. (An outcome that SC allows needs no buffer: its depth is given as 1.)
+
+    ./tso run --depth 1 < examples/gallery/SB.litmus
+
+Its **picture** is this run, drawn by `view/index.html`: which stores waited, what passed them, and where each value came from.
+Behind the `#` of its address stands what `./tso run --depth 1 --json` prints. The page draws the runs of all other tests and
+choices as well.
+
+**Forbidden** means that no run ends in it: `./tso outcomes` prints `Never` of it, which is a proof. `NAME.order` is an order that would show it, and `check` names the first axiom
+that this order breaks: C3, program order, where two entries of a core stand against it; C4, adjacent, where a locked instruction
+is in two parts; C5, read value, where a load has another value than is due.
+
+    ./tso check < examples/gallery/MP.order
+
+**Seen** is how many of the seeds 0 to 999 meet the outcome, at the default depth:
+
+    ./tso sweep --seeds 1000 < examples/gallery/SB.litmus
+
+That no seed meets an outcome doesn't show that it is forbidden. Allowed, and met by none of these seeds: UNSEEN.
+
+Nor does one refused order: it shows that this order isn't an execution. The **verdicts** are those of
+
+    ./tso outcomes < examples/gallery/MP.litmus
+
+which prints all final states that TSO allows, and with `--depth 0` all that sequential consistency allows. `tests/gallery.py PROGRAM`
+holds every row against it, against the program's runs, and against a plain program that explores all runs of a machine of its own.
+"""
+
+SOURCES = """## Sources
+
+- x86-TSO: Sewell, Sarkar, Owens, Zappa Nardelli, Myreen: x86-TSO: A Rigorous and Usable Programmer's Model for x86
+  Multiprocessors. Communications of the ACM 53(7), 2010.
+- x86-TSO report: Owens, Sarkar, Sewell: A Better x86 Memory Model: x86-TSO (extended version). University of Cambridge,
+  technical report 745, 2009. Its names iwp2.1 to iwp2.8 stand for the sections of Intel's white paper on memory ordering
+  of 2007.
+- Intel: Intel 64 and IA-32 Architectures Software Developer's Manual, volume 3A, memory ordering, examples 8-1 to 8-10 (later
+  editions count the chapter as the ninth).
+- AMD: AMD64 Architecture Programmer's Manual, volume 2, multiprocessor memory access ordering. The examples have no numbers
+  there; amd1 to amd10 are the x86-TSO report's names.
+- Primer: Sorin, Hill, Wood: A Primer on Memory Consistency and Cache Coherence, 2011.
+- Power tutorial: Maranget, Sarkar, Sewell: A Tutorial Introduction to the ARM and POWER Relaxed Memory Models, 2012.
+- Herding cats: Alglave, Maranget, Tautschnig: Herding Cats. ACM Transactions on Programming Languages and Systems 36(2), 2014.
+- diy: the names that the tool diy of Alglave and Maranget gives. `+po`, `+mfence` say what stands between the two
+  instructions of each core in turn, `+mfences` that a fence does on each; `rfi` that a core reads its own store.
+- Lamport 1974: A New Solution of Dijkstra's Concurrent Programming Problem. Lamport 1987: A Fast Mutual Exclusion Algorithm.
+- Dijkstra 1965: Cooperating Sequential Processes, where Dekker's algorithm stands. Peterson 1981: Myths about the Mutual
+  Exclusion Problem. Szymanski 1988: A Simple Solution to Lamport's Concurrent Programming Problem with Linear Wait.
+- Chase and Lev 2005: Dynamic Circular Work-Stealing Deque. The thief's compare-and-swap is an exchange here, of a run in which
+  it succeeds.
+- Morrison and Afek 2014: Fence-Free Work Stealing on Bounded TSO Processors.
+- A variant is this gallery's own: the named test with something put in or exchanged.
+
+A name that stands in brackets after its source is the source's. Some names are less sure: those from diy were made by the rule
+above and not looked up in a list of diy's, and algorithms have no names as litmus tests, so that `Dekker`, `Szymanski`, `ChaseLev`,
+`Peterson`, `Bakery` and `FastMutex` are names of this gallery.
+"""
+
+# What the page lists by the names of the manuals and of the x86-TSO papers.
+NAMED = re.compile(r"Intel 8-[0-9]+|amd[0-9]+|iwp[0-9.]+[0-9ab]|n[0-9]b?(?=\))")
+
+
+def read(name):
+    return judging.content(GALLERY, name)
+
+
+class Piece:
+    """One test of the gallery: its parsed test, its facts by key, and what stands after the dividing line."""
+
+    def __init__(self, name):
+        self.name = name
+        self.text, _, self.rest = read(name + ".litmus").partition(DIVIDING_LINE)
+        self.test = flat_machine.Test(self.text)
+        self.facts = dict(self.test.facts)
+        self.allowed = self.facts["TSO"] == "allowed"
+        self.seen = int(self.facts["Seen"]) if self.allowed else 0
+        self.link = "[%s](gallery/%s.litmus)" % (name, name)
+
+    def before(self, rest):
+        """An input of the program: this test, and what stands after the dividing line."""
+        return self.text + DIVIDING_LINE + rest
+
+    def order_input(self):
+        return read(self.name + ".order")
+
+
+def pieces():
+    names = [name[: -len(".litmus")] for name in os.listdir(GALLERY) if name.endswith(".litmus")]
+    return sorted(map(Piece, names), key=place_on_page)
+
+
+def place_on_page(piece):
+    """Family by family, in each the small tests first."""
+    programs = piece.test.programs
+    accesses = sum(kind != "fence" for program in programs for kind, *_ in program)
+    return list(FAMILIES).index(piece.facts["Family"]), len(programs), accesses, natural(piece.name)
+
+
+def natural(name):
+    return [int(part) if part.isdigit() else part.lower() for part in re.split(r"([0-9]+)", name)]
+
+
+# The page.
+
+def row_of(piece):
+    facts = piece.facts
+    if piece.allowed:
+        shown = "depth %s, [picture][picture of %s]" % (facts["Depth"], piece.name)
+    else:
+        shown = "[%s](gallery/%s.order)" % (facts["Breach"], piece.name)
+    return piece.link, facts["Asks"], facts["TSO"], facts["SC"], shown, str(piece.seen), facts["Source"]
+
+
+def table(titles, rows):
+    lines = [titles, ["---"] * len(titles), *rows]
+    return "".join("| %s |\n" % " | ".join(line) for line in lines)
+
+
+def names_of(all_pieces):
+    """The names of the manuals and of the x86-TSO papers, each with its test and the verdict of TSO."""
+    named = [(name, piece) for piece in all_pieces if not piece.facts["Source"].startswith("variant")
+             for name in NAMED.findall(piece.facts["Source"])]
+    return [(name, piece.link, piece.facts["TSO"]) for name, piece in sorted(named, key=lambda pair: natural(pair[0]))]
+
+
+def picture_of(program, piece):
+    """The address of the picture of an allowed test's run: after the `#` the line of the run, percent-encoded."""
+    _, line = run_of(program, piece, "--json")
+    return "[picture of %s]: ../view/index.html#%s\n" % (piece.name, urllib.parse.quote(line.strip(), safe=":,="))
+
+
+def page_of(program, all_pieces):
+    allowed = [piece for piece in all_pieces if piece.allowed]
+    unseen = ", ".join(piece.link for piece in allowed if piece.seen == 0)
+    counts = len(all_pieces), len(allowed), len(all_pieces) - len(allowed)
+    parts = [HEAD.replace("UNSEEN", unseen), "%d tests: TSO allows the outcome of %d and forbids that of %d.\n" % counts]
+    for family, about in FAMILIES.items():
+        rows = [row_of(piece) for piece in all_pieces if piece.facts["Family"] == family]
+        parts += ["## " + family + "\n", about + "\n", table(TITLES, rows)]
+    names = table(("Name", "Test", "TSO"), names_of(all_pieces))
+    pictures = "".join(picture_of(program, piece) for piece in allowed)
+    return "\n".join(parts + ["## By the names of the manuals and of the x86-TSO papers\n", names, SOURCES, pictures])
+
+
+def faults_of_page(program, all_pieces):
+    is_made = judging.content(PAGE) == page_of(program, all_pieces)
+    return [] if is_made else ["examples/GALLERY.md isn't what tests/gallery.py --write makes with this program"]
+
+
+def faults_of_folder(all_pieces):
+    wanted = {piece.name + ".litmus" for piece in all_pieces}
+    wanted |= {piece.name + ".order" for piece in all_pieces if not piece.allowed}
+    return ["gallery/ has %s, or lacks it" % name for name in sorted(wanted ^ set(os.listdir(GALLERY)))]
+
+
+# Each test against its own form, against the reference, and against the program.
+
+def faults_of_form(piece):
+    keys = ["Family", "Asks", "TSO", "SC"] + (["Depth", "Seen"] if piece.allowed else ["Breach"]) + ["Source"]
+    faults = []
+    if [key for key, _ in piece.test.facts] != keys:
+        faults.append("its key lines aren't " + ", ".join(keys))
+    if piece.test.name != piece.name:
+        faults.append("its header says " + piece.test.name)
+    if not piece.allowed and piece.order_input().partition(DIVIDING_LINE)[0] != piece.text:
+        faults.append("%s.order has another test" % piece.name)
+    # An order whose entries aren't the programs' (C1), or whose stores have other values (C2), would show nothing.
+    if not piece.allowed and piece.facts["Breach"][:2] not in ("C3", "C4", "C5"):
+        faults.append("its breach is none of C3, C4 and C5")
+    return faults
+
+
+def verdicts_of_reference(test):
+    """TSO, SC and the smallest depth that the program has, as the reference finds them."""
+    least = flat_machine.least_depth(test)
+    words = ["forbidden", "allowed"]
+    return words[least is not None], words[least == 0], None if least is None else str(max(least, 1))
+
+
+def faults_of_verdicts(piece, found):
+    said = piece.facts["TSO"], piece.facts["SC"], piece.facts.get("Depth")
+    return [] if said == found else ["it says %s, and the reference finds %s" % (said, found)]
+
+
+def searched(program, piece, depth):
+    """What `outcomes` says of the condition at this depth: its word, and the choices of each state."""
+    status, text = answer(program, ["outcomes", "--depth", str(depth)], piece.text)
+    found = re.search(r"^Observation .+ (Never|Sometimes|Always) \d+ \d+$", text, re.MULTILINE)
+    return found.group(1) if status == ENDED and found else text, re.findall(r"^By ?(.*)$", text, re.MULTILINE)
+
+
+def faults_of_outcomes(program, piece):
+    said = [searched(program, piece, depth)[0] != "Never" for depth in (32, 0)]
+    faults = differs("TSO and SC by outcomes", said, [piece.allowed, piece.facts["SC"] == "allowed"])
+    if not piece.allowed:
+        return faults
+    depth = int(piece.facts["Depth"])
+    if depth > 1:
+        faults += differs("outcomes at one less", searched(program, piece, depth - 1)[0], "Never")
+    reports = (answer(program, ["run", "--depth", str(depth)], piece.before(way))[1] for way in searched(program, piece, depth)[1])
+    return faults + ([] if any("Condition exists true\n" in report for report in reports) else ["no choices of outcomes show it"])
+
+
+def answer(program, words, text):
+    done = subprocess.run([program] + words, input=text.encode(), capture_output=True, timeout=120)
+    return done.returncode, done.stdout.decode()
+
+
+def run_of(program, piece, *words):
+    """The run of a test's choices, at the depth that its outcome needs."""
+    return answer(program, ["run", "--depth", piece.facts.get("Depth", "4"), *words], piece.before(piece.rest))
+
+
+def differs(what, got, wanted):
+    return [] if got == wanted else ["%s: %r, and not %r" % (what, got, wanted)]
+
+
+def faults_of_run(program, piece):
+    status, report = run_of(program, piece)
+    condition = "Condition exists %s\n" % ("true" if piece.allowed else "false")
+    faults = differs("status of run", status, ENDED)
+    if condition not in report:
+        faults.append("run doesn't print " + condition.strip())
+    if piece.allowed and " stalled=0 unused=0\n" not in report:
+        faults.append("a choice stalled or was left over")
+    return faults
+
+
+def faults_of_witness(program, piece):
+    depth = int(piece.facts["Depth"])
+    _, report = run_of(program, piece)
+    status, choices = answer(program, ["witness", "--depth", str(depth)], piece.before(report))
+    _, again = answer(program, ["run", "--depth", str(depth)], piece.before(choices))
+    faults = differs("status of witness", status, ENDED)
+    faults += differs("the order of witness's choices", entries_of(again), entries_of(report))
+    if depth > 1:
+        needed = answer(program, ["witness", "--depth", str(depth - 1)], piece.before(report))
+        faults += differs("witness at one less", needed, (INVALID, "Depth needed=%d\n" % depth))
+    return faults
+
+
+def entries_of(text):
+    """The entries of the first order in this text: (core, place, kind, location, value); a fence has None and 0."""
+    lines = re.search(r"^Order\n(.*?)^Endorder ", text, re.MULTILINE | re.DOTALL)
+    entries = re.findall(r"^P(\d+):(\d+) (\w+)(?: (\w+)=(\d+))?$", lines.group(1) if lines else "", re.MULTILINE)
+    return [(int(core), int(place), kind, location or None, int(value or 0)) for core, place, kind, location, value in entries]
+
+
+def faults_of_order(program, piece):
+    given = piece.order_input()
+    words = flat_machine.words_after(piece.test, entries_of(given))
+    faults = [] if piece.test.has_outcome(words) else ["the order doesn't have the outcome"]
+    return faults + differs("check", answer(program, ["check"], given), (INVALID, "Check invalid %s\n" % piece.facts["Breach"]))
+
+
+def faults_of_sweep(program, piece):
+    status, report = answer(program, ["sweep", "--seeds", str(SEEDS)], piece.text)
+    word = {0: "Never", SEEDS: "Always"}.get(piece.seen, "Sometimes")
+    observation = "Observation %s %s %d %d" % (piece.name, word, piece.seen, SEEDS - piece.seen)
+    return differs("status of sweep", status, ENDED) + differs("sweep's last line", report.splitlines()[-1:], [observation])
+
+
+def rows_of(program, piece, verdicts):
+    yield "form", lambda: faults_of_form(piece)
+    yield "outcomes", lambda: faults_of_outcomes(program, piece)
+    yield "reference", lambda: faults_of_verdicts(piece, verdicts.result())
+    yield "run", lambda: faults_of_run(program, piece)
+    if piece.allowed:
+        yield "witness", lambda: faults_of_witness(program, piece)
+    else:
+        yield "order", lambda: faults_of_order(program, piece)
+    yield "sweep", lambda: faults_of_sweep(program, piece)
+
+
+def check(program, part):
+    all_pieces, tally = pieces(), judging.Tally(shown=100)
+    chosen = [piece for piece in all_pieces if part in piece.name]
+    rows = [] if part else [("page", lambda: faults_of_page(program, all_pieces)), ("folder", lambda: faults_of_folder(all_pieces))]
+    with concurrent.futures.ProcessPoolExecutor() as explorers:
+        for piece in chosen:
+            verdicts = explorers.submit(verdicts_of_reference, piece.test)
+            rows += [("%s: %s" % (piece.name, what), judge) for what, judge in rows_of(program, piece, verdicts)]
+        tally.add("gallery", judging.judged(rows))
+    return tally.end()
+
+
+def write(program, _):
+    page = page_of(program, pieces())
+    with open(PAGE, "w", encoding="utf-8") as file:
+        file.write(page)
+    return 0
+
+
+if __name__ == "__main__":
+    sys.exit(judging.check_or_write(__doc__, check, write))

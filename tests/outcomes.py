@@ -1,0 +1,221 @@
+#!/usr/bin/env python3
+"""Holds what `outcomes` prints against a plain search of all runs, with no reduction.
+
+    tests/outcomes.py PROGRAM [--tests N] [--seed S]
+
+The tests are those of the gallery and of the examples, and N (500) made at random from a seed S (1): two to four cores, at most
+twelve instructions together, of all kinds. Of each, at depths 0, 1, 2 and 32:
+
+- the text is that of the final states that the search finds (its lines `By` are taken as they are);
+- the choices of each state, handed to `run` at that depth, end there, none stalled and none left over;
+- `--json` says the same, with the same choices.
+
+The search is written here, from docs/DEFINITIONS.md; the tests are read by tests/reference/. The last line is 'N passed, M failed'.
+"""
+import json
+import random
+import re
+import sys
+
+sys.dont_write_bytecode = True
+
+import judging
+from reference import conditions, litmus, reading
+
+DEPTHS = (0, 1, 2, 32)
+LOCATIONS = ("x", "y", "z")
+REGISTERS = ("EAX", "EBX", "ECX")
+
+
+def first_state(test):
+    """Where each core stands, its registers, its pending stores, oldest first; and memory."""
+    cores = test.cores()
+    return ((0,) * cores, tuple(map(tuple, test.registers)), ((),) * cores, tuple(test.words))
+
+
+def put(row, at, value):
+    return row[:at] + (value,) + row[at + 1:]
+
+
+def after_step(test, state, core, depth):
+    """The state after this core's next instruction; None where it must wait."""
+    places, registers, pending, memory = state
+    done = test.programs[core][places[core]]
+    own, held = registers[core], pending[core]
+    if held and (done.kind == litmus.FENCE or done.kind in litmus.LOCKED):
+        return None
+    if done.kind in litmus.STORES:
+        value = done.source if done.kind == litmus.STORE_NUMBER else own[done.source]
+        if depth == 0:
+            memory = put(memory, done.location, value)
+        elif len(held) == depth:
+            return None
+        else:
+            pending = put(pending, core, held + ((done.location, value),))
+    elif done.kind == litmus.LOAD:
+        newest = [value for location, value in held if location == done.location]
+        registers = put(registers, core, put(own, done.register, newest[-1] if newest else memory[done.location]))
+    elif done.kind in litmus.MOVES:
+        value = done.source if done.kind == litmus.SET_NUMBER else own[done.source]
+        registers = put(registers, core, put(own, done.register, value))
+    elif done.kind in litmus.LOCKED:
+        word, value = memory[done.location], own[done.register]
+        if done.kind == litmus.ADD:
+            value = (word + value) % 2**32
+        memory = put(memory, done.location, value)
+        registers = put(registers, core, put(own, done.register, word))
+    return put(places, core, places[core] + 1), registers, pending, memory
+
+
+def after_drain(state, core):
+    places, registers, pending, memory = state
+    location, value = pending[core][0]
+    return places, registers, put(pending, core, pending[core][1:]), put(memory, location, value)
+
+
+def states_after(test, state, depth):
+    for core in range(test.cores()):
+        if state[0][core] < len(test.programs[core]):
+            after = after_step(test, state, core, depth)
+            if after is not None:
+                yield after
+        if state[2][core]:
+            yield after_drain(state, core)
+
+
+def ends(test, depth):
+    """The registers and the memory of each final state."""
+    first = first_state(test)
+    reached, frontier, found = {first}, [first], set()
+    while frontier:
+        state = frontier.pop()
+        ended = True
+        for after in states_after(test, state, depth):
+            ended = False
+            if after not in reached:
+                reached.add(after)
+                frontier.append(after)
+        if ended:
+            found.add((state[1], state[3]))
+    return found
+
+
+class Shown:
+    """What is looked at of a test's final states, and what is printed of them."""
+
+    def __init__(self, test, depth):
+        registers, locations = set(), range(len(test.locations))
+        if test.proposition is not None:
+            registers, locations = conditions.named_in(test.proposition)
+        self.registers, self.locations = sorted(registers), sorted(locations)
+        self.names = ["%d:%s" % (core, litmus.REGISTERS[register]) for core, register in self.registers]
+        self.names += [test.locations[location] for location in self.locations]
+        self.test, self.depth, self.truths = test, depth, {}
+        for held, words in ends(test, depth):
+            values = tuple([held[core][register] for core, register in self.registers] + [words[at] for at in self.locations])
+            self.truths[values] = test.proposition is not None and conditions.truth_of(test.proposition, held, words)
+        self.states = sorted(self.truths)
+
+    def counts(self):
+        held = sum(self.truths.values())
+        return held, len(self.states) - held
+
+    def word(self):
+        held, failed = self.counts()
+        return "Never" if held == 0 else "Always" if failed == 0 else "Sometimes"
+
+    def text(self, ways):
+        lines = ["Test " + self.test.name, "Outcomes depth=%d states=%d" % (self.depth, len(self.states))]
+        for values, way in zip(self.states, ways):
+            lines += ["State" + "".join(" %s=%d" % pair for pair in zip(self.names, values)), ("By " + way).rstrip()]
+        if self.test.proposition is not None:
+            lines.append("Observation %s %s %d %d" % (self.test.name, self.word(), *self.counts()))
+        return "".join(line + "\n" for line in lines)
+
+    def value(self, ways):
+        held, failed = self.counts()
+        observed = None if self.test.proposition is None else {"false": failed, "true": held, "word": self.word()}
+        states = [{"choices": way, "values": dict(zip(self.names, values))} for values, way in zip(self.states, ways)]
+        return {"depth": self.depth, "observation": observed, "states": states, "test": self.test.name}
+
+
+def faults_of_way(program, given, shown, values, way):
+    """How the run under these choices differs from one that ends in these values, none stalled and none left over."""
+    done = judging.run(program, ["run", "--depth", str(shown.depth)], given + judging.DIVIDER + way.encode())
+    report = done.stdout.decode("latin-1")
+    words = dict(re.findall(r" (\w+)=(\d+)", re.search(r"^Memory(.*)$", report, re.M).group(1))) if done.returncode == 0 else {}
+    for core, line in re.findall(r"^Registers P(\d)(.*)$", report, re.M):
+        words.update(("%s:%s" % (core, register), value) for register, value in re.findall(r" (\w+)=(\d+)", line))
+    got = [words.get(name) for name in shown.names]
+    faults = [] if got == [str(value) for value in values] else ["run ends in %s, and not in %s, under %s" % (got, values, way)]
+    if " stalled=0 unused=0\n" not in report:
+        faults.append("a choice stalls or is left over: " + way)
+    return faults
+
+
+def faults_at(program, given, depth):
+    test = reading.read_test(given)
+    shown = Shown(test, depth)
+    words = ["outcomes", "--depth", str(depth)]
+    plain, as_json = judging.run(program, words, given), judging.run(program, words + ["--json"], given)
+    text = plain.stdout.decode("latin-1")
+    ways = re.findall(r"^By ?(.*)$", text, re.M)
+    if plain.returncode != 0 or text != shown.text(ways) or len(ways) != len(shown.states):
+        return ["at depth %d it prints %r, and not %r" % (depth, text, shown.text(ways))]
+    faults = [] if json.loads(as_json.stdout) == shown.value(ways) else ["at depth %d the JSON is %r" % (depth, as_json.stdout)]
+    if len({len(way.split()) for way in ways}) > 1:
+        faults.append("at depth %d choices of different lengths" % depth)
+    for values, way in zip(shown.states, ways):
+        faults += faults_of_way(program, given, shown, values, way)
+    return faults
+
+
+def cell(draw):
+    location, register, other = draw.choice(LOCATIONS), draw.choice(REGISTERS), draw.choice(REGISTERS)
+    return draw.choice((
+        "MOV [%s],$%d" % (location, draw.randint(0, 3)), "MOV [%s],%s" % (location, register), "MOV %s,[%s]" % (register, location),
+        "MOV %s,[%s]" % (register, location), "MOV [%s],$1" % location, "MOV %s,$%d" % (register, draw.randint(0, 2)),
+        "MOV %s,%s" % (register, other), "MFENCE", "XCHG [%s],%s" % (location, register), "LOCK XADD [%s],%s" % (location, register)))
+
+
+def made_test(draw, number):
+    """A test made at random."""
+    cores = draw.choice((2, 2, 2, 3, 3, 4))
+    programs = [[] for _ in range(cores)]
+    for _ in range(draw.randint(1, (12, 10, 8)[cores - 2])):
+        draw.choice(programs).append(cell(draw))
+    rows = [["P%d" % core for core in range(cores)]]
+    rows += [[program[at] if at < len(program) else "" for program in programs] for at in range(max(map(len, programs)))]
+    table = "".join(" " + " | ".join(row) + " ;\n" for row in rows)
+    first = "{ %s }" % "".join("%s=%d; " % (place, draw.randint(0, 3)) for place in draw.sample(LOCATIONS + ("0:EAX", "1:EBX"), 2))
+    atoms = ["%d:%s=%d" % (draw.randrange(cores), draw.choice(REGISTERS), draw.randint(0, 2)) for _ in range(2)]
+    used = sorted(set(re.findall(r"\[(\w)\]", table)) or {"x"})
+    atoms += ["%s=%d" % (draw.choice(used), draw.randint(0, 3))]
+    condition = draw.choice(("", "exists (%s /\\ %s)\n" % (atoms[0], atoms[1]), "~exists (%s \\/ %s)\n" % (atoms[0], atoms[2]),
+                             "forall (not (%s /\\ %s))\n" % (atoms[1], atoms[2])))
+    return ("X86 made%d\n%s\n%s%s" % (number, first, table, condition)).encode()
+
+
+def tests(count, seed):
+    """Names and texts."""
+    for name, given in judging.all_inputs():
+        yield name, given.partition(judging.DIVIDER)[0]
+    draw = random.Random(seed)
+    for number in range(count):
+        yield "made test %d of seed %d" % (number, seed), made_test(draw, number)
+
+
+def main():
+    parser = judging.with_program(__doc__, with_part=False)
+    parser.add_argument("--tests", type=int, default=500)
+    parser.add_argument("--seed", type=int, default=1)
+    asked = parser.parse_args()
+    jobs = [(name, given, depth) for name, given in tests(asked.tests, asked.seed) for depth in DEPTHS]
+    found = judging.in_threads(lambda job: faults_at(asked.program, job[1], job[2]), jobs)
+    tally = judging.Tally()
+    tally.add("outcomes", [("%s, depth %d" % (name, depth), faults) for (name, _, depth), faults in zip(jobs, found)])
+    return tally.end()
+
+
+if __name__ == "__main__":
+    sys.exit(main())

@@ -1,0 +1,92 @@
+#!/usr/bin/env -S node --no-warnings
+// The page's module under the words of the program's command line, for the scripts that judge a program:
+//
+//   tests/page_program.js COMMAND [OPTION ..] < INPUT      the module is crates/page_exports/out/page.wasm, or that of TSO_MODULE
+//
+//   tests/page_program.js --serve                          answers one call after the other: each a line of JSON with words and input,
+//                                                       each answer one with status, output and errors, texts in base64
+//
+// Which values an option may have is judged by the module; help, the version and the words of refused command lines aren't here.
+'use strict';
+
+const fs = require('fs');
+const path = require('path');
+const vm = require('vm');
+
+const TOP = path.dirname(__dirname);
+const MODULE = process.env.TSO_MODULE || path.join(TOP, 'crates', 'page_exports', 'out', 'page.wasm');
+const Tso = vm.runInThisContext(fs.readFileSync(path.join(TOP, 'view', 'answers.js'), 'utf8') + '\nTso;');
+
+const REFUSED = 2;
+const MACHINE = ['protocol', 'bus', 'depth', 'sets', 'ways', 'words'];
+const OPTIONS = {
+  run: [...MACHINE, 'json'], sweep: [...MACHINE, 'from', 'seeds', 'length'], outcomes: ['depth', 'states', 'json'],
+  trace: [...MACHINE, 'json'], check: [], witness: ['depth'], tables: ['protocol'],
+};
+const WORDS = { protocol: Tso.PROTOCOLS, bus: Tso.BUSES };
+const MOST = { depth: 254, sets: 254, ways: 254, words: 254 };
+
+/** A command line that is refused. */
+class Refused extends Error {}
+
+function refuse() {
+  throw new Refused();
+}
+
+function valueOf(name, word) {
+  if (WORDS[name]) return WORDS[name].includes(word) ? word : refuse();
+  if (!/^\+?[0-9]+$/.test(word ?? '')) refuse();
+  return Number(word) <= (MOST[name] ?? 2 ** 32 - 1) ? Number(word) : refuse();
+}
+
+function optionsOf([command, ...words]) {
+  if (!Object.hasOwn(OPTIONS, command ?? '')) refuse();
+  const options = { command };
+  while (words.length > 0) {
+    const [, name, joined] = /^--([a-z]+)(?:=(.*))?$/s.exec(words.shift()) ?? refuse();
+    if (!OPTIONS[command].includes(name) || name in options) refuse();
+    options[name] = name === 'json' ? true : valueOf(name, joined ?? words.shift());
+  }
+  return command === 'outcomes' ? { depth: 32, ...options } : options;
+}
+
+/** The answer to the words and to the input, which is asked for where the command reads one. */
+function answer(tso, words, inputOf) {
+  try {
+    const options = optionsOf(words);
+    return tso.answer(options, options.command === 'tables' ? new Uint8Array() : inputOf());
+  } catch (fault) {
+    if (!(fault instanceof Refused)) throw fault;
+    return { status: REFUSED, text: '', hint: '' };
+  }
+}
+
+function write(descriptor, text) {
+  for (let left = Buffer.from(text); left.length > 0;) {
+    try {
+      left = left.subarray(fs.writeSync(descriptor, left));
+    } catch (fault) {
+      if (fault.code !== 'EAGAIN') throw fault;
+    }
+  }
+}
+
+function serve(tso) {
+  const coded = text => Buffer.from(text).toString('base64');
+  require('readline').createInterface({ input: process.stdin }).on('line', line => {
+    const { words, input } = JSON.parse(line);
+    const { status, text, hint } = answer(tso, words, () => Buffer.from(input, 'base64'));
+    write(1, JSON.stringify({ status, output: coded(text), errors: coded(hint) }) + '\n');
+  });
+}
+
+function main(words) {
+  const tso = new Tso(new WebAssembly.Module(fs.readFileSync(MODULE)));
+  if (words[0] === '--serve') return serve(tso);
+  const { status, text, hint } = answer(tso, words, () => fs.readFileSync(0));
+  write(1, text);
+  write(2, hint);
+  process.exitCode = status;
+}
+
+main(process.argv.slice(2));

@@ -1,0 +1,277 @@
+#!/usr/bin/env bash
+# Makes a small repository with a release of PROGRAM, and shows in it what ./tso, tests/release.sh and the packages do: a program
+# that was changed or put there is noticed, and a changed source is said.
+#
+#   tests/release_refusals.sh PROGRAM
+#
+# PROGRAM is of the sources that stand. The last line is 'N passed, M failed'.
+set -u
+export LC_ALL=C
+top=$(cd "$(dirname "$0")/.." && pwd)
+case ${1:---help} in -h | --help) exec sed -n '2,/^set /{/^set /d;s/^# \{0,1\}//;p}' "$0" ;; esac
+program=$(readlink -f "$1")
+room=$(mktemp -d)
+trap 'rm -rf "$room"' EXIT
+trap 'exit 130' INT
+passed=0
+failed=0
+sb=$top/examples/store-buffering.litmus
+
+# Counts a name with the status of the test before.
+judge() {
+  if [ "$2" -eq 0 ]; then
+    passed=$((passed + 1))
+  else
+    failed=$((failed + 1))
+    echo "$1"
+    [ ! -s "$room/said" ] || sed 's/^/    /' "$room/said"
+  fi
+}
+# Whether the command fails, and says this.
+refuses() {
+  local words=$1
+  shift
+  ! "$@" > "$room/said" 2>&1 < /dev/null && grep -q "$words" "$room/said"
+}
+accepts() { "$@" > "$room/said" 2>&1 < /dev/null; }
+git_in() { git -C "$room/clone" -c user.name=test -c user.email=test@localhost -c commit.gpgsign=false "$@"; }
+commit() { git_in add -A && git_in commit -qm "$1"; }
+
+# The files of this checkout, where it has a history or not, each ended by a zero byte.
+files() {
+  find . \( -name out -o -path ./release -o -path ./.git \) -prune -o -type f -print0
+}
+
+# A checkout whose last commit is the release of PROGRAM.
+make_checkout() {
+  mkdir -p "$room/clone"
+  (cd "$top" && files | tar -cf - --null -T -) | tar -x -C "$room/clone"
+  git_in init -q
+  commit "the sources" && mkdir -p "$room/built/crates"
+  cp -r "$room/clone/." "$room/built/"
+  install -D -m 755 "$program" "$room/built/crates/tso/out/tso"
+  "$room/clone/tools/release" --from "$room/built" > "$room/said" 2>&1
+  judge "a release is made" $?
+  gate=(tests/release.sh "$program")
+  cd "$room/clone" || exit 1
+  accepts "${gate[@]}"
+  judge "a release that isn't committed yet, of these sources" $?
+  commit "the release"
+  accepts "${gate[@]}"
+  judge "a committed release" $?
+}
+
+# Back to the commit of this name, with nothing else.
+back_to() { git_in reset -q --hard "$1" && git_in clean -qfdx; }
+
+# A program that isn't proved, with its digests made to fit.
+put_another() {
+  printf '\0' >> release/tso
+  (sed 's/^[0-9a-f]*  //' release/SHA256SUMS | xargs sha256sum) > "$room/sums" && cp "$room/sums" release/SHA256SUMS
+}
+
+change_one_byte() { printf 'X' | dd of=release/tso bs=1 seek=5000 conv=notrunc status=none; }
+
+change_a_source() { echo "// Another line." >> crates/decimals/src/lib.rt; }
+
+judge_programs() {
+  local release
+  release=$(git_in rev-parse HEAD)
+  change_one_byte
+  refuses "isn't what its SHA256SUMS says" "${gate[@]}"
+  judge "one byte changed, old sources: the gate" $?
+  refuses "isn't what its SHA256SUMS says" ./tso tables
+  judge "one byte changed: ./tso" $?
+  commit "one byte"
+  refuses "isn't what its SHA256SUMS says" "${gate[@]}"
+  judge "one byte changed, committed: the gate" $?
+  back_to "$release"
+
+  put_another
+  refuses "isn't the one built from them" "${gate[@]}"
+  judge "another program, old sources: the gate" $?
+  back_to "$release"
+
+  change_a_source
+  commit "a source"
+  accepts "${gate[@]}" && grep -q "the sources are newer" "$room/said"
+  judge "newer sources: the gate says so" $?
+  change_one_byte
+  refuses "isn't what its SHA256SUMS says" "${gate[@]}"
+  judge "one byte changed, newer sources: the gate" $?
+  back_to HEAD
+  put_another
+  refuses "isn't committed as it stands" "${gate[@]}"
+  judge "another program, newer sources: the gate" $?
+  commit "another program"
+  refuses "had other sources than SOURCES names" "${gate[@]}"
+  judge "another program, newer sources, committed: the gate" $?
+  back_to "$release"
+}
+
+judge_tso() {
+  local release status word
+  release=$(git_in rev-parse HEAD)
+  # No toolchain on the path: only the programs that ./tso itself needs.
+  mkdir "$room/path"
+  for word in bash env readlink uname getconf sha256sum cat mktemp rm install find sort sed rmdir cp grep; do
+    ln -s "$(command -v "$word")" "$room/path/$word"
+  done
+  bare=(env "PATH=$room/path")
+  "${bare[@]}" ./tso run < "$sb" > "$room/answer" 2> "$room/said" && [ ! -s "$room/said" ] \
+    && "$program" run < "$sb" | cmp -s - "$room/answer"
+  judge "the release answers at once, silently, without the toolchain" $?
+  ln -s "$room/clone/tso" "$room/linked"
+  (cd / && "${bare[@]}" "$room/linked" run < "$sb" 2>&1) | cmp -s - "$room/answer"
+  judge "through a symbolic link" $?
+
+  "${bare[@]}" ./tso run < "$sb" > /dev/null 2>&1
+  judge "status 0" $(($? != 0))
+  echo "X86" | "${bare[@]}" ./tso run > /dev/null 2>&1
+  judge "status 1" $(($? != 1))
+  "${bare[@]}" ./tso sit > /dev/null 2>&1
+  judge "status 2" $(($? != 2))
+  sed '/^====/q' "$sb" | "${bare[@]}" ./tso run > /dev/null 2>&1
+  judge "status 3" $(($? != 3))
+  { sed '/^====/q' "$sb" && printf 'Order\nEndorder 0\n'; } | "${bare[@]}" ./tso check > /dev/null 2>&1
+  judge "status 4" $(($? != 4))
+  "${bare[@]}" ./tso run < "$sb" > /dev/full 2> /dev/null
+  judge "status 5" $(($? != 5))
+  refuses "takes no further word" ./tso --prove now
+  judge "--prove with a further word" $?
+  "${bare[@]}" ./tso --prove > "$room/said" 2>&1
+  judge "--prove without the toolchain: status 70" $(($? != 70))
+  for word in "uname:echo Linux aarch64" "uname:echo Darwin x86_64" "getconf:echo glibc 2.33" "getconf:exit 1"; do
+    mkdir "$room/fake"
+    printf '#!/bin/sh\n%s\n' "${word#*:}" > "$room/fake/${word%%:*}"
+    chmod +x "$room/fake/${word%%:*}"
+    PATH=$room/fake:$PATH ./tso tables > "$room/said" 2>&1
+    status=$?
+    grep -q "needs x86-64 Linux" "$room/said" && [ "$status" -eq 70 ]
+    judge "another machine: $word" $?
+    rm -r "$room/fake"
+  done
+
+  change_a_source
+  "${bare[@]}" ./tso run < "$sb" > "$room/second" 2> "$room/said" && [ "$(wc -l < "$room/said")" -eq 1 ] \
+    && grep -q "the sources here are newer" "$room/said" && cmp -s "$room/answer" "$room/second"
+  judge "a changed source: ./tso says so in a line" $?
+  git_in checkout -q crates
+
+  # A program that was proved here goes before the release, while its stamp is of what stands.
+  mkdir -p crates/tso/out
+  printf '#!/bin/sh\necho proved here\n' > crates/tso/out/tso
+  chmod +x crates/tso/out/tso
+  tools/digests sources > "$room/sources"
+  tools/stamp "$room/sources" && [ "$(./tso run < "$sb")" = "proved here" ]
+  judge "the program that was proved here goes first" $?
+  change_a_source
+  "${bare[@]}" ./tso run < "$sb" 2> /dev/null | cmp -s - "$room/answer"
+  judge "but not for other sources" $?
+  ! tools/stamp "$room/sources" && [ ! -e crates/tso/out/stamp ]
+  judge "no stamp where the sources changed since" $?
+  git_in checkout -q crates
+  tools/stamp "$room/sources"
+  echo "echo changed" >> crates/tso/out/tso
+  "${bare[@]}" ./tso run < "$sb" 2> /dev/null | cmp -s - "$room/answer"
+  judge "nor if it was changed" $?
+  back_to "$release"
+}
+
+# Without a release, ./tso answers by a program that was proved here, or not at all.
+judge_no_release() {
+  local release
+  release=$(git_in rev-parse HEAD)
+  rm -r release
+  "${bare[@]}" ./tso run < "$sb" > "$room/second" 2> "$room/said"
+  [ $? -eq 70 ] && [ ! -s "$room/second" ] && grep -q "nor a release; ./tso --prove" "$room/said"
+  judge "no release and no proved program: status 70" $?
+  back_to "$release"
+}
+
+# What ./tso --prove does with a toolchain that stands for the real one: it "proves" at once, or not before Ctrl-C.
+judge_prove() {
+  local release status
+  release=$(git_in rev-parse HEAD)
+  mkdir "$room/toolchain"
+  printf '#!/bin/sh\nmkdir -p out && cp "%s" out/tso\n' "$program" > "$room/toolchain/rt"
+  chmod +x "$room/toolchain/rt"
+  PATH=$room/toolchain:$PATH accepts ./tso --prove && cmp -s crates/tso/out/tso "$program" \
+    && sha256sum --status -c crates/tso/out/stamp
+  judge "--prove leaves the program and its stamp" $?
+  printf '#!/bin/sh\necho "// Another line." >> ../decimals/src/lib.rt\n' > "$room/toolchain/rt"
+  PATH=$room/toolchain:$PATH refuses "the sources changed while they were proved" ./tso --prove && [ ! -e crates/tso/out/stamp ]
+  judge "--prove while a source is written" $?
+  git_in checkout -q crates
+  printf '#!/bin/sh\necho the reason >&2\nexit 1\n' > "$room/toolchain/rt"
+  PATH=$room/toolchain:$PATH refuses "couldn't be built" ./tso --prove && grep -q "the reason" "$room/said" && [ ! -e crates/tso/out/stamp ]
+  judge "--prove that fails" $?
+  printf '#!/bin/sh\necho once >> "%s"\nexec sleep 20\n' "$room/started" > "$room/toolchain/rt"
+  PATH=$room/toolchain:$PATH python3 -c '
+import os, signal, subprocess, sys, time
+done = subprocess.Popen(["./tso", "--prove"], stdin=subprocess.DEVNULL, stderr=subprocess.DEVNULL, start_new_session=True,
+                        preexec_fn=lambda: signal.signal(signal.SIGINT, signal.SIG_DFL))
+while not os.path.exists(sys.argv[1]): time.sleep(0.05)
+os.killpg(done.pid, signal.SIGINT)
+sys.exit(done.wait(10) != 130)' "$room/started" && [ "$(cat "$room/started")" = once ] && [ ! -e crates/tso/out/stamp ]
+  judge "Ctrl-C ends --prove and starts nothing" $?
+  back_to "$release"
+}
+
+# Holds what was installed below a folder: the program, the manual page, and bash's completion.
+judge_installed() {
+  local page=$2/share/man/man1/tso.1
+  [ -f "$page" ] || page=$page.gz
+  cmp -s "$program" "$2/bin/tso" && "$2/bin/tso" run < "$sb" | cmp -s - "$room/answer"
+  judge "$1: the program" $?
+  if command -v man > /dev/null; then
+    man -l "$page" 2> /dev/null | grep -q "run x86 litmus tests"
+  else
+    cat "$page" > /dev/null
+  fi
+  judge "$1: the manual page" $?
+  [ "$(bash -c '. "$0"; COMP_WORDS=(tso run --pro); COMP_CWORD=2; _tso; echo "${COMPREPLY[*]}"' \
+    "$2/share/bash-completion/completions/tso")" = --protocol ]
+  judge "$1: the completion" $?
+  [ -f "$2/share/doc/tso/README.md" ] && [ -f "$2/share/doc/tso/examples/${sb##*/}" ] && [ -f "$2/share/doc/tso/view/index.html" ] \
+    && [ -z "$(find "$2" -name '*.rt' -o -name '*.antt')" ]
+  judge "$1: documents, examples and the page, and no sources" $?
+}
+
+judge_packages() {
+  local version
+  version=$(cat release/VERSION)
+  mkdir "$room/a folder" && : > "$room/a folder/other"
+  "${bare[@]}" ./tso --install "$room/a folder" > "$room/listed" 2> "$room/said"
+  judge "--install" $?
+  (cd "$room/a folder" && find "$PWD" -type f ! -name other | sort) | cmp -s - <(sort "$room/listed")
+  judge "--install lists what it wrote" $?
+  judge_installed "--install" "$room/a folder"
+  "${bare[@]}" ./tso --uninstall "$room/a folder" > "$room/said" 2>&1 && [ "$(cd "$room/a folder" && find . | sort | tr '\n' ' ')" = ". ./other " ]
+  judge "--uninstall takes away this and nothing else" $?
+  refuses "nothing is installed" ./tso --uninstall "$room/a folder"
+  judge "--uninstall of nothing" $?
+
+  if ! command -v dpkg-deb > /dev/null; then
+    echo "not tried: the packages, which need dpkg-deb"
+    return
+  fi
+  tools/release --package > "$room/first" 2> "$room/said"
+  judge "the packages are made" $?
+  git clone -q "$room/clone" "$room/another clone" && sleep 1
+  (umask 077 && "$room/another clone/tools/release" --package) 2> "$room/said" | cmp -s - "$room/first"
+  judge "the packages are the same from another folder" $?
+  dpkg-deb -x "out/tso_${version}_amd64.deb" "$room/bare"
+  judge_installed "the Debian package" "$room/bare/usr"
+  mkdir "$room/unpacked" && tar -xzf "out/tso-$version-linux-x86_64.tar.gz" -C "$room/unpacked"
+  judge_installed "the archive" "$room/unpacked/tso-$version-linux-x86_64"
+}
+
+make_checkout
+judge_programs
+judge_tso
+judge_no_release
+judge_prove
+judge_packages
+echo "$passed passed, $failed failed"
+[ "$failed" -eq 0 ]

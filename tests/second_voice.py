@@ -1,0 +1,122 @@
+#!/usr/bin/env python3
+"""Holds a built program against a second one in plain Python, tests/reference, on inputs made at random.
+
+    tests/second_voice.py PROGRAM [--inputs N] [--seed S]
+    tests/second_voice.py --print NUMBER [--seed S]
+
+Each of N inputs, which are made from the seed S, has the same standard output and exit status from both, byte for byte, and
+standard error is as that status has it. They are tests, choices and orders in every spelling, valid and damaged, under every
+command and option. Each refusal, breach, stall, access, form and value of an option by its name has to come up among 3,000 of
+them; how often each did is printed.
+
+With --print no program is asked: the command line of the input with this number is printed, then its standard input. The last
+line is 'N passed, M failed'.
+"""
+import collections
+import multiprocessing
+import os
+import sys
+
+sys.dont_write_bytecode = True
+import judging
+import made_inputs
+from made_inputs import must_come_up
+from reference import choices, commands, seen
+
+INPUTS, SEED = 3000, 1
+
+# So many inputs a process takes at once.
+AT_ONCE = 50
+
+# The first words of PCG32 begun with 42 and the stream 54, as the demonstration of its reference implementation prints them.
+PUBLISHED = (0xA15C02B7, 0x7B47F409, 0xBA1D3330, 0x83D2F293, 0xBFA4784B, 0xCBED606E)
+
+
+def faults_of(program, made):
+    """How the program's answer differs from the reference's; of outputs that are alike for long, also where they begin to differ."""
+    wanted = commands.answer(made.words, made.given)
+    done = judging.run(program, made.words, made.given)
+    unknown = wanted.status == commands.BAD_LINE and wanted.errors is None
+    faults = judging.difference(done, wanted.status, wanted.output, done.stderr if unknown else wanted.errors)
+    if unknown and not done.stderr:
+        faults.append("standard error is empty")
+    begin = len(os.path.commonprefix([done.stdout, wanted.output])) - 20
+    if done.stdout != wanted.output and begin > 0:
+        got, due = (judging.shown(output[begin:]) for output in (done.stdout, wanted.output))
+        faults.append("from byte %d on %s, and not %s" % (begin, got, due))
+    return faults
+
+
+def judged(work):
+    """The faults of some inputs, each with the input's number and kind; and what came up in answering them."""
+    program, seed, numbers = work
+    results, counts = [], collections.Counter()
+    for number in numbers:
+        made = made_inputs.made(seed, number)
+        seen.taken()
+        faults = faults_of(program, made)
+        counts += seen.taken()
+        results.append((made.kind, "input %d of seed %d, words %s" % (number, seed, made.words), faults))
+    return results, counts
+
+
+def judge_inputs(program, seed, inputs, tally):
+    """Judges so many inputs; answers what came up."""
+    works = [(program, seed, range(at, min(at + AT_ONCE, inputs))) for at in range(0, inputs, AT_ONCE)]
+    counts, groups = collections.Counter(), collections.defaultdict(list)
+    with multiprocessing.Pool(os.cpu_count()) as pool:
+        for results, more in pool.imap(judged, works):
+            counts += more
+            for kind, name, faults in results:
+                groups[kind].append((name, faults))
+    for kind, results in groups.items():
+        tally.add(kind, results)
+    return counts
+
+
+def judge_names(counts, tally):
+    """Prints how often each name came up; one that never did is a fault."""
+    for kind, names in must_come_up.names().items():
+        print("%s: %s" % (kind, ", ".join("%s %d" % (name, counts[kind, name]) for name in names)))
+        missing = [name for name in names if not counts[kind, name]]
+        tally.add("what came up", [(kind, ["never came up: " + name for name in missing])])
+
+
+def faults_of_generator():
+    words = choices.generator(42, 54 << 1 | 1)
+    return [] if tuple(next(words) for _ in PUBLISHED) == PUBLISHED else ["its words aren't the published ones"]
+
+
+def print_input(seed, number):
+    made = made_inputs.made(seed, number)
+    sys.stdout.buffer.write(("%s\n" % " ".join(made.words)).encode() + made.given)
+
+
+def arguments():
+    parser = judging.parser(__doc__)
+    parser.add_argument("program", nargs="?")
+    parser.add_argument("--inputs", type=int, default=INPUTS)
+    parser.add_argument("--seed", type=int, default=SEED)
+    parser.add_argument("--print", type=int, metavar="NUMBER", dest="printed")
+    given = parser.parse_args()
+    if given.printed is None and given.program is None:
+        parser.error("a program is needed, or --print NUMBER")
+    return given
+
+
+def main():
+    given = arguments()
+    if given.printed is not None:
+        print_input(given.seed, given.printed)
+        return 0
+    tally = judging.Tally()
+    tally.add("the reference", [("the generator PCG32", faults_of_generator())])
+    counts = judge_inputs(os.path.abspath(given.program), given.seed, given.inputs, tally)
+    print("%d inputs from the seed %d" % (given.inputs, given.seed), flush=True)
+    if given.inputs >= INPUTS:
+        judge_names(counts, tally)
+    return tally.end()
+
+
+if __name__ == "__main__":
+    sys.exit(main())

@@ -1,0 +1,169 @@
+#!/usr/bin/env python3
+"""Opens view/index.html in a browser without a screen, and holds what it shows against the program and against the lines that it is given.
+
+    tests/view/check.py PROGRAM [FOLDER] [--only WORD]      PROGRAM: a built tso; FOLDER: where the pictures go (a new one, named at the
+                                                         end); WORD: the rows alone whose names have it
+
+It needs Debian's browser, on a machine that isn't the gate's: apt-get install -y --no-install-recommends chromium
+
+- The arrows, the initial values, the loads that passed stores and the stretches in which stores waited are those that
+  runs.py finds in the line without the page's code: for runs of the program, for those of the whole gallery, for a line of
+  eight cores of 32 instructions, and for lines made at random.
+- Keys and buttons step through the entries, and memory's words after each are the right ones.
+- A line comes in by the address, the clipboard, a file and a drop; what is no such line is refused with a sentence.
+- Nothing that a name holds is run or becomes an element, nothing is loaded, and no script fails.
+- Nothing is cut or hangs over: two cores at 360 pixels, eight at 1,400, long names too.
+- The machine that is driven is at each step the one that the trace tells, and its picture too: the rows of driving.py. Where the
+  module tells no steps, or there is none, stand_in.js answers in its place.
+- With the module that tools/page has made of this tree (else that part is left out with a word) the page answers as the program does:
+  the rows of machine.py and looks.py.
+
+The last line is 'N passed, M failed'.
+"""
+import argparse
+import base64
+import gzip
+import json
+import os
+import shutil
+import subprocess
+import sys
+import tempfile
+import urllib.parse
+
+sys.dont_write_bytecode = True
+
+import browser
+import drawing
+import driving
+import given_lines
+import machine
+from bench import READY
+from drawing import read
+
+TOP = os.path.dirname(os.path.dirname(os.path.dirname(os.path.abspath(__file__))))
+NO_MODULE = "'use strict';\n\nconst MODULE = null;\n"
+
+
+def folder_with_module(room):
+    """A copy of view/ in this folder, with the module that was made of this tree, if one was; else the reason why not."""
+    view = os.path.join(room, "view")
+    shutil.copytree(os.path.join(TOP, "view"), view)
+    made = subprocess.run([os.path.join(TOP, "tools", "page"), "--text"], capture_output=True, text=True)
+    text = made.stdout if made.returncode == 0 else NO_MODULE
+    with open(os.path.join(view, "module.js"), "w") as file:
+        file.write(text)
+    return view, made.stderr.strip() if made.returncode else None
+
+
+NO_BYTES = "'use strict';\n\nconst MODULE = { version: '', tools: '', sources: '', packed: '%s' };\n" % base64.b64encode(gzip.compress(b"")).decode()
+
+
+def folder_with_stand_in(room, view, missing):
+    """A copy of a folder of the page with the scripts that stand in for a module that tells no steps."""
+    folder = os.path.join(room, "stand-in")
+    shutil.copytree(view, folder)
+    for name in ("plain_machine.js", "stand_in.js"):
+        shutil.copy(os.path.join(TOP, "tests", "view", name), folder)
+    scripts = '<script src="plain_machine.js"></script>\n<script src="stand_in.js"></script>\n<script src="page.js">'
+    page = read(folder, "index.html").replace('<script src="page.js">', scripts)
+    for name, text in [("index.html", page)] + [("module.js", NO_BYTES)] * bool(missing):
+        with open(os.path.join(folder, name), "w") as file:
+            file.write(text)
+    return folder
+
+
+class Page:
+    """The page in its browser, and what it shows."""
+
+    def __init__(self, program, window, view):
+        self.program, self.window, self.folder = program, window, "file://" + view
+        self.address = self.folder + "/index.html"
+        self.scripts = read(view, "index.html").count("<script ")
+
+    def line_of(self, text, *words):
+        """The line that the program prints of this input."""
+        done = subprocess.run([self.program, "run", "--json", *words], input=text.encode(), capture_output=True, timeout=120)
+        return done.stdout.decode().strip()
+
+    def open(self, line, width=1400):
+        self.window.resize(width, mobile=width < 500)
+        self.window.open(self.address + "#" + urllib.parse.quote(line))
+        self.value("MODULE !== null && " + READY)
+
+    def value(self, expression):
+        return self.window.value(expression)
+
+    def text(self, selector):
+        return self.value("document.querySelector(%s).textContent" % json.dumps(selector))
+
+    def numbers(self, selector, *names):
+        """The data of all elements that a selector finds, as lists of numbers."""
+        find = "[...document.querySelectorAll(%s)].map(found => %s.map(name => found.dataset[name]))"
+        return [tuple(map(int, found)) for found in self.value(find % (json.dumps(selector), json.dumps(names)))]
+
+    def message(self):
+        return self.text("#message")
+
+    def is_drawn(self):
+        return self.value("!document.getElementById('run').hidden")
+
+    def words(self):
+        return self.value("[...document.querySelectorAll('#words .word')].map(item => item.textContent)")
+
+
+def tells_steps(page):
+    """Whether the module itself tells steps: then nothing stands in for it."""
+    page.window.open(page.address)
+    page.value(READY)
+    return page.value("bench.tracing") == "step"
+
+
+def judged(judge):
+    try:
+        return judge()
+    except Exception as fault:
+        return ["%s: %s" % (type(fault).__name__, fault)]
+
+
+def all_rows(window, program, room, folder):
+    """All rows, each a name and a function of its faults, on the page in this folder with what there is of a module."""
+    view, missing = folder_with_module(room)
+    page = Page(program, window, view)
+    with_steps = Page(program, window, folder_with_stand_in(room, view, missing))
+    lines = dict(drawing.program_runs(page))
+    found = [*drawing.rows(page, folder, lines), *given_lines.rows(page, folder, lines), *driving.rows(with_steps, folder)]
+    if missing:
+        print("left out, what the page answers: " + missing)
+        return found
+    found += machine.rows(page, folder)
+    if not tells_steps(page):
+        found += [(name + ", with steps", judge) for name, judge in machine.rows(with_steps, folder) if name not in machine.OF_THE_MODULE]
+    return found
+
+
+def main():
+    parser = argparse.ArgumentParser(description=__doc__, formatter_class=argparse.RawDescriptionHelpFormatter)
+    parser.add_argument("program", type=os.path.abspath)
+    parser.add_argument("folder", type=os.path.abspath, nargs="?")
+    parser.add_argument("--only", metavar="WORD", default="", help="the rows alone whose names have this word")
+    asked = parser.parse_args()
+    folder = asked.folder or tempfile.mkdtemp(prefix="tso-view-")
+    os.makedirs(folder, exist_ok=True)
+    passed, failed = 0, 0
+    with browser.Browser() as window, tempfile.TemporaryDirectory(prefix="tso-view-folder-") as room:
+        for name, judge in all_rows(window, asked.program, room, folder):
+            if asked.only not in name:
+                continue
+            window.requests.clear()  # what rows on another folder asked for
+            faults = judged(judge)
+            passed, failed = passed + (not faults), failed + bool(faults)
+            for fault in [name + ":"] + faults[:10] if faults else []:
+                print(fault[:400])
+    print("the pictures are in " + folder)
+    print("%d passed, %d failed" % (passed, failed))
+    return 1 if failed or not passed else 0
+
+
+if __name__ == "__main__":
+    sys.exit(main())

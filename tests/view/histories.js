@@ -1,0 +1,95 @@
+#!/usr/bin/env -S node --no-warnings
+// Holds the page's histories, and the machine that stands in for the module, against a built program:
+//
+//   tests/view/histories.js PROGRAM
+//
+// For each example and each text of the gallery under a seed, on several machines:
+//
+// - the stand-in's run is the program's: order, registers, memory, counts of the caches; where the program has `trace`, the lines too;
+// - the order of the page's history is the run's, its reads have the sources that the order tells, and each store went into its
+//   buffer at a moment that the order allows.
+//
+// The last line is 'N passed, M failed'.
+'use strict';
+
+const fs = require('fs');
+const path = require('path');
+const vm = require('vm');
+const { spawnSync } = require('child_process');
+
+const TOP = path.dirname(path.dirname(__dirname)), EXAMPLES = path.join(TOP, 'examples');
+const SCRIPTS = ['view/answers.js', 'view/line.js', 'view/order.js', 'view/sentences.js', 'view/history.js', 'tests/view/plain_machine.js', 'tests/view/stand_in.js'];
+const { Tso, StandIn, History, readTrace, readLine, waitOf, sourceOf, isRead } = vm.runInThisContext(
+  SCRIPTS.map(name => fs.readFileSync(path.join(TOP, name), 'utf8').replace("'use strict';", '')).join('\n') +
+  '\n({ Tso, StandIn, History, readTrace, readLine, waitOf, sourceOf, isRead });');
+
+const DIVIDING_LINE = '====\n', CHOICES = 'seed 1 300\n', BAD_LINE = 2;
+const MACHINES = [
+  {}, { protocol: 'mesi', depth: 1, ways: 1 }, { protocol: 'moesi', words: 2, sets: 2, ways: 1 }, { protocol: 'mosi', depth: 0 },
+  { bus: 'split', protocol: 'mosi', ways: 1, words: 4 }, { bus: 'split', protocol: 'mesi', depth: 2 },
+];
+const SAME = ['cache', 'choices', 'memory', 'order', 'registers', 'unfinished'];
+
+const sorted = value => JSON.stringify(value, (_, each) => (each && typeof each === 'object' && !Array.isArray(each) ? Object.fromEntries(Object.entries(each).sort()) : each));
+const differs = (what, got, wanted) => (sorted(got) === sorted(wanted) ? [] : [`${what}: ${sorted(got)}, and not ${sorted(wanted)}`]);
+
+function texts() {
+  return [EXAMPLES, path.join(EXAMPLES, 'gallery')].flatMap(folder => fs.readdirSync(folder).filter(name => name.endsWith('.litmus')).sort()
+    .map(name => [name, fs.readFileSync(path.join(folder, name), 'utf8').split(DIVIDING_LINE)[0] + DIVIDING_LINE + CHOICES]));
+}
+
+function told(program, command, options, input) {
+  const words = Object.entries(options).flatMap(([name, value]) => (value === true ? [`--${name}`] : [`--${name}`, String(value)]));
+  const { status, stdout } = spawnSync(program, [command, ...words], { input });
+  return { status, text: stdout.toString() };
+}
+
+/** The lines of a trace in a program's report. */
+const stepsIn = text => /^Trace\n[^]*?^Endtrace \d+\n/m.exec(text)?.[0];
+
+function faultsOf(program, options, input) {
+  const line = told(program, 'run', { ...options, json: true }, input).text, run = JSON.parse(line), standIn = new StandIn(null);
+  const own = JSON.parse(standIn.answer({ ...options, command: 'trace', json: true }, input).text);
+  const faults = SAME.flatMap(name => differs(`${name} of the stand-in`, own[name], run[name]));
+  const traced = told(program, 'trace', options, input);
+  if (traced.status !== BAD_LINE) faults.push(...differs('the lines of the stand-in', stepsIn(standIn.answer({ ...options, command: 'trace' }, input).text), stepsIn(traced.text)));
+  const trace = readTrace(JSON.stringify(own)), history = new History({ ...Tso.DEFAULTS, ...options }, trace);
+  for (const step of trace.steps) history.add(step);
+  return faults.concat(run.unfinished ? [] : faultsOfHistory(history, readLine(line)), faultsOfCuts(history, trace.steps));
+}
+
+/** A history against what the order of its run tells. */
+function faultsOfHistory(history, run) {
+  const faults = differs('the order', history.order.map(entry => entry.text), run.order.map(entry => entry.text));
+  for (const [index, entry] of history.order.entries()) {
+    const same = run.order[index];
+    if (isRead(entry)) faults.push(...differs(`the source of ${entry.text}`, entry.source?.index ?? null, sourceOf(run.order, same)?.index ?? null));
+    faults.push(...differs(`what ${entry.text} passed`, entry.passed.map(store => store.index).sort(), same.passed.map(store => store.index).sort()));
+    if (entry.kind !== 'W') continue;
+    const { earliest, latest } = waitOf(run, same);
+    if (entry.wait.earliest < earliest || entry.wait.latest > latest) faults.push(`${entry.text} went in at ${entry.wait.earliest}, and not from ${earliest} to ${latest}`);
+  }
+  return faults;
+}
+
+/** Steps that are taken away and made again come to the same. */
+function faultsOfCuts(history, steps) {
+  const before = history.order.map(entry => entry.text), half = Math.floor(steps.length / 2);
+  history.cut(half);
+  for (const step of steps.slice(half)) history.add(step);
+  return differs('the order after a cut', history.order.map(entry => entry.text), before);
+}
+
+function main([program]) {
+  let passed = 0, failed = 0;
+  for (const [name, input] of texts()) for (const options of MACHINES) {
+    const faults = faultsOf(path.resolve(program), options, input);
+    passed += faults.length === 0;
+    failed += faults.length > 0;
+    for (const fault of faults.slice(0, 3)) console.log(`${name} ${JSON.stringify(options)}: ${fault.slice(0, 400)}`);
+  }
+  console.log(`${passed} passed, ${failed} failed`);
+  process.exitCode = failed > 0 || passed === 0 ? 1 : 0;
+}
+
+main(process.argv.slice(2));
