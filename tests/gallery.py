@@ -73,7 +73,7 @@ depth that the outcome needs. (An outcome that SC allows needs no buffer: its de
     ./tso run --depth 1 < examples/gallery/SB.litmus
 
 Its **picture** is this run, drawn by `view/index.html`: which stores waited, what passed them, and where each value came from.
-Behind the `#` of its address stands what `./tso run --depth 1 --json` prints. The page draws the runs of all other tests and
+After the `#` of its address stands what `./tso run --depth 1 --json` prints. The page draws the runs of all other tests and
 choices as well.
 
 **Forbidden** means that no run ends in it: `./tso outcomes` prints `Never` of it, which is a proof. `NAME.order` is an order that would show it, and `check` names the first axiom

@@ -145,7 +145,7 @@ base-drain next t n state commits p s w rest b g is =
     two : Each (IsStoreOf t) (w ∷ rest) × (length (w ∷ rest) ≤ s.place)
     two = subst (λ z. Each (IsStoreOf t) z × (length z ≤ s.place)) is (each-at (IsSound t) state.cores p s b.sound g)
 
--- a store is buffered where there is room
+-- a store becomes pending where there is room
 pub stored-is : (n place : ℕ) (registers : List ℕ) (pending : List Entry) (e : Entry) → length pending < suc n
     → stored (suc n) (record { place = place; registers = registers; pending = pending }) e
     ≡ record {

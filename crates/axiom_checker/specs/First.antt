@@ -1,4 +1,4 @@
--- The earliest entry of a list of which something holds.
+-- The earliest entry of a list of which something holds: of several breaches one is told, and everyone must agree on which.
 use Rattle.std.specs.Prelude.{ℕ, ◌<◌, ◌≡◌, List, Some, slice_get}
 use Rattle.tso_model.specs.declared.execution.Entry.{Entry}
 

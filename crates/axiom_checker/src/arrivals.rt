@@ -1,4 +1,5 @@
-//! Which of the programs' entries come in an order, and which don't.
+//! Which of the programs' entries come in an order, and which don't. A memory order has each entry exactly once and nothing
+//! else; one that leaves a store out could keep every other axiom.
 ghost use Rattle.std.specs.Prelude.{◌≡◌, ◌+◌, ◌<◌, ◌≤◌, ℕ, List, length, slice_get, slice_set, Some, None, IfSome, IsNone};
 ghost use Rattle.tso_model.specs.declared.execution.Entry.{Entry};
 ghost use Rattle.axiom_checker.specs.First.{NoneBefore, IsFirst, IsNowhere};

@@ -1,4 +1,5 @@
-//! The breaches of the axioms.
+//! The breaches of the axioms. Their order is part of the answer: an order with several breaches is told the first of
+//! these.
 ghost use Rattle.std.specs.Prelude.{◌≡◌};
 
 use std::error::Error;

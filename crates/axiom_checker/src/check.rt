@@ -1,4 +1,5 @@
-//! The judgement of an order: the shape first, then the axioms.
+//! The judgement of an order: first whether it has each entry once, then the axioms, which mean nothing where it hasn't.
+//! (Primer, chapter 4; x86-TSO, section 3.)
 ghost use Rattle.std.specs.Prelude.{◌≡◌, ◌≢◌, ◌+◌, ◌*◌, ◌<◌, ◌≤◌, ℕ, None, length, OnOk, IfErr, IfOk, IsOkUnless, IfSome, IsNone};
 ghost use Rattle.tso_model.specs.Litmus.{Litmus, IsTest};
 ghost use Rattle.tso_model.specs.Axioms.{IsTsoExecution};

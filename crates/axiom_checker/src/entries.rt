@@ -1,4 +1,5 @@
-//! Tests on one entry or two.
+//! Tests on one entry or two: reads, writes, and what must stand before what. The one pair that may change places is a
+//! plain store and a later plain load. (Primer, chapter 4.)
 ghost use Rattle.std.specs.Prelude.{◌≡◌, ◌≤◌, ◌↔◌, IsTrue};
 ghost use Rattle.tso_model.specs.ProgramOrder as program_order;
 ghost use Rattle.tso_model.specs.ProgramOrder.{IsStorePart};

@@ -1,4 +1,5 @@
-//! The table by which an order's entries are found among the programs'.
+//! The table by which an order's entries are found among the programs': with it no pair of entries has to be compared, and
+//! time grows with the order's length alone.
 ghost use Rattle.std.specs.Prelude.{◌≡◌, ◌*◌, ◌≤◌, length, IfOk, IfSome, IsNone, ℕ, slice_get, Some, true};
 ghost use Rattle.axiom_checker.specs.inner.Programs.{kept_in};
 ghost use Rattle.axiom_checker.specs.Entries.{same_but_value, IsExtra};

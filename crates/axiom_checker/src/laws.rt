@@ -1,4 +1,4 @@
-//! Laws on breaches, with nothing to run.
+//! Laws on breaches, with nothing to run: an order has a first breach exactly where it is no TSO execution, and only one.
 ghost use Rattle.std.specs.Prelude.{◌≡◌, ◌↔◌, ◌⊎◌, List};
 ghost use Rattle.tso_model.specs.Litmus.{Litmus};
 ghost use Rattle.tso_model.specs.ProgramEntries.{made};

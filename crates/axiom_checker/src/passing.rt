@@ -1,4 +1,6 @@
-//! The pass over a whole order that looks for breaches of the axioms.
+//! The pass over a whole order that looks for breaches of the axioms. A read is judged by the last write before it in
+//! memory order or in its own program, which may come later in memory order: to look at what is before it in the order
+//! alone is wrong. (Primer, chapter 4.)
 ghost use Rattle.std.specs.Prelude.{◌≡◌, ◌+◌, ◌≤◌, ◌<◌, ℕ, true, length, slice_get, slice_index, Some, None, if◌then◌else◌, IfSome, IsNone};
 ghost use Rattle.std.specs.Option.{unwrap_or};
 ghost use Rattle.tso_model.specs.ProgramOrder as program_order;

@@ -1,4 +1,5 @@
-//! What the programs make, for reads that return 0 and for given values.
+//! What the programs make, for reads that return 0 and for given values. Which entries there are doesn't depend on the
+//! values; so the order can be held against them before its reads are believed.
 ghost use Rattle.std.specs.Prelude.{◌≡◌, ◌≤◌, length, IfOk};
 ghost use Rattle.tso_model.specs.Litmus.{IsTest};
 ghost use Rattle.axiom_checker.specs.inner.Programs.{shape_from, reads_that_came, reads_of_all, made_reading};

@@ -1,4 +1,5 @@
-//! How far each core has come in an order.
+//! How far each core has come in an order, once with all entries and once without plain loads: a plain store may be passed
+//! by plain loads and by nothing else.
 ghost use Rattle.std.specs.Prelude.{◌≡◌, ◌+◌, ◌<◌, true, false, length, slice_index, slice_set, nat_lt, if◌then◌else◌};
 ghost use Rattle.tso_model.specs.ProgramOrder as program_order;
 ghost use Rattle.axiom_checker.specs.inner.Progress as progress;

@@ -1,4 +1,5 @@
-//! The last write that an entry's own program has before it.
+//! The last write that an entry's own program has before it. A load that passed it in memory order must still return it
+//! (forwarding). (Primer, chapter 4; x86-TSO, section 3.)
 ghost use Rattle.std.specs.Prelude.{◌≡◌, ◌<◌, ℕ, length, slice_get, slice_set, Some, None, true, IfOk};
 ghost use Rattle.tso_model.specs.ProgramOrder as program_order;
 ghost use Rattle.basic_laws.specs.Ranks as ranks;

@@ -1,4 +1,5 @@
--- What is told beforehand of an access, and what the access then is. (Primer, chapter 7.)
+-- What is told beforehand of an access, and what the access then is: on a split bus it is decided by this whether an access
+-- may go on beside the holder. (Primer, chapter 7.)
 use Rattle.std.specs.Prelude.{ℕ, ◌≡◌, ◌≢◌, ◌↔◌, true, false, List, Some}
 use Rattle.protocol_tables.specs.declared.state.State.TheVariants.{I}
 use Rattle.protocol_tables.specs.declared.asking.Request.TheVariants.{GetS, GetM}

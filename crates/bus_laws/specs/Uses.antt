@@ -1,4 +1,4 @@
--- What a choice asks the caches for, and what is counted of it.
+-- What a choice asks the caches for, and what is counted of it: the statistics count accesses that were made, each once.
 use Rattle.std.specs.Prelude.{ℕ, ◌≡◌, ◌↔◌, ◌⊎◌, true, List}
 use Rattle.tso_model.specs.Litmus.{Litmus}
 use Rattle.tso_model.specs.FlatMachine.{State, chosen, core_of, effect_of}

@@ -1,5 +1,5 @@
--- The contents of one set of a cache: copies of lines in the order of their last use, and what each
--- call makes of them. (That the line used longest ago gives way to a new one is this project's profile.)
+-- The contents of one set of a cache: copies of lines in the order of their last use, and which of them leaves where a new
+-- line finds the set full. (That the line used longest ago gives way to a new one is this project's profile.)
 use Rattle.std.specs.Prelude.{◌-◌, ℕ, nat_eq, List, slice_get, Option, option_map}
 use Rattle.std.specs.Map.{lookup}
 use Rattle.cache_set.specs.declared.Line.{Line}

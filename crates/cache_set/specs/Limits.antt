@@ -1,10 +1,10 @@
--- How large a set and a line may be.
+-- How large a set and a line may be, as plain numbers, with which the code's constants are compared by a law.
 use Rattle.std.specs.Prelude.{ℕ}
 
--- lines that a set has room for, at most
+-- maximum number of lines that a set has room for
 abbrev pub most_ways : ℕ
 most_ways = 8
 
--- words that a line has room for
+-- maximum number of words of a line
 abbrev pub most_words : ℕ
 most_words = 4

@@ -1,4 +1,4 @@
-//! The hash of a line's number.
+//! The hash of a line's number, which is that number: a set has a few lines, and a better hash would only cost time.
 
 ghost use Rattle.std.specs.Prelude.{◌≡◌, fold};
 

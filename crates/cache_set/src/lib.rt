@@ -16,10 +16,10 @@ use std::marker::Model;
 use std::num::NonZeroUsize;
 use tso_model::NoMemory;
 
-/// How many lines a set may be made for, at most.
+/// Maximum number of lines that a set has room for.
 pub const MAX_WAYS: u8 = 8;
 
-/// How many words a line has room for.
+/// Maximum number of words of a line.
 pub const MAX_WORDS: usize = 4;
 
 /// Each limit is the number that the definitions have: a law, with nothing to run.

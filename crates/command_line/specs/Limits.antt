@@ -1,4 +1,4 @@
--- The settings that a command may be run with.
+-- The settings that a command may be run with: whatever the words were, what comes of them is within these limits.
 use Rattle.std.specs.Prelude.{ℕ, ◌≤◌}
 use Rattle.tso_model.specs.Limits.{least_depth, most_depth}
 use Rattle.machine_core.specs.Configuration.{IsConfigurationWithinLimits}

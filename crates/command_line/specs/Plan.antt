@@ -1,4 +1,4 @@
--- Which runs a sweep makes.
+-- Which runs a sweep makes: one for each seed of a range, each with as many choices.
 use Rattle.std.specs.Prelude.{ℕ, ◌<◌, ◌≤◌, ◌^◌}
 use Rattle.scheduler.specs.Limits.{most_choices}
 
@@ -8,7 +8,7 @@ pub record Plan : Type 0 where
   pub seeds : ℕ
   pub length : ℕ
 
--- seeds of a sweep, at most
+-- maximum number of seeds of a sweep
 abbrev pub most_seeds : ℕ
 most_seeds = 1000
 

@@ -7,7 +7,7 @@ pub record Search : Type 0 where
   pub depth : ℕ
   pub states : ℕ
 
--- states that a search may keep, at most
+-- maximum number of states that a search may keep
 abbrev pub most_states : ℕ
 most_states = 10000000
 

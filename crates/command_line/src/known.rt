@@ -1,4 +1,5 @@
-//! Calls that do nothing: what they ensure is known from the call on.
+//! Calls that do nothing: what they ensure is known from the call on. Here it is that settings are within their limits,
+//! once they are made.
 
 ghost use Rattle.machine_core.specs.Configuration.{IsConfigurationWithinLimits};
 ghost use Rattle.command_line.specs.Plan.{IsPlanWithinLimits};

@@ -1,4 +1,5 @@
-//! What a command line asks for: its words to settings.
+//! What a command line asks for: its words to settings. All limits on them are judged here, so no command judges them
+//! again.
 #![tactic(auto)]
 
 mod help;

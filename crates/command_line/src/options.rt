@@ -1,4 +1,4 @@
-//! The commands and their options, for the library that reads command lines.
+//! The commands and their options, for the library that reads command lines; it prints help and refusals by them.
 
 use crate::help;
 use clap::builder::ValueParser;

@@ -1,4 +1,4 @@
-//! Which runs a sweep makes.
+//! Which runs a sweep makes. A plan is made only within the limits, which bound the time that a sweep takes.
 
 ghost use Rattle.std.specs.Prelude.{◌≡◌, ◌+◌, ◌↔◌, IsSome, IfSome};
 ghost use Rattle.scheduler.specs.Limits.{most_choices};
@@ -7,10 +7,10 @@ ghost use Rattle.command_line.specs.Plan.{most_seeds, IsPlanWithinLimits};
 use scheduler::MAX_CHOICES;
 use std::marker::Model;
 
-/// Seeds of a sweep, at most.
+/// Maximum number of seeds of a sweep.
 pub const MAX_SEEDS: u32 = 1000;
 
-/// Choices that a sweep draws from each seed, at most: as many as a text may spell.
+/// Maximum number of choices that a sweep draws from each seed: as many as a text may spell.
 pub const MAX_LENGTH: u32 = MAX_CHOICES as u32;
 
 /// The limits are the numbers that the definitions have: a law, with nothing to run.

@@ -1,4 +1,5 @@
-//! Which final states are searched for.
+//! Which final states are searched for: those at a depth of the store buffers, with a limit on the states kept, since their
+//! number can grow beyond any memory.
 
 ghost use Rattle.std.specs.Prelude.{◌≡◌, ◌↔◌, IsSome, IfSome};
 ghost use Rattle.command_line.specs.Search.{most_states, IsSearchWithinLimits};
@@ -6,7 +7,7 @@ ghost use Rattle.command_line.specs.Search.{most_states, IsSearchWithinLimits};
 use std::marker::Model;
 use tso_model::limits::MAX_DEPTH;
 
-/// States of the machine that a search may keep, at most.
+/// Maximum number of states of the machine that a search may keep.
 pub const MAX_STATES: u32 = 10_000_000;
 
 /// The limit is the number that the definitions have: a law, with nothing to run.

@@ -1,4 +1,5 @@
-//! What the words of a command line ask for.
+//! What the words of a command line ask for. Numbers are judged a second time after the library read them: by that test
+//! alone the settings are known to be within their limits.
 
 ghost use Rattle.std.specs.Prelude.{IfOk, IfSome};
 ghost use Rattle.command_line.specs.Limits.{IsWithinLimits, HasDepth};

@@ -1,4 +1,5 @@
--- Lists of states that miss none of the ended ones.
+-- Lists of states that miss none of the ended ones: whatever a choice makes of a state of the list is in it again, once
+-- eager choices are made.
 use Rattle.std.specs.Prelude.{ℕ, ◌≡◌, ◌<◌, true, List, [], ◌∷◌, length, Some, slice_get, ◌⊎◌}
 use Rattle.tso_model.specs.Litmus.{Litmus, IsTest}
 use Rattle.tso_model.specs.FlatMachine.{State, start, chosen, after_choice}

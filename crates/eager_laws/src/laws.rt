@@ -1,4 +1,5 @@
-//! The laws of eager choices.
+//! The laws of eager choices: made first, they lose no end of a run. A choice that is called eager and isn't would make a
+//! search miss final states.
 
 ghost use Rattle.eager_laws.specs.Closed.{ClosedStatesMissNone};
 ghost use Rattle.eager_laws.specs.Eager.{EagerChoicesTakeEffect};

@@ -1,4 +1,5 @@
--- What a search answers.
+-- What a search answers: final states, each with choices that lead there, and every one that there is. A state that was
+-- missed would make a test look safer than it is.
 use Rattle.std.specs.Prelude.{ℕ, ◌≡◌, ◌<◌, ◌↔◌, List, length, Some, slice_get}
 use Rattle.tso_model.specs.Litmus.{Litmus}
 use Rattle.tso_model.specs.FlatMachine.{State, start}

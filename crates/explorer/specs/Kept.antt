@@ -1,4 +1,4 @@
--- What the search keeps.
+-- What the search keeps, as a contract above it may say: choices lead from state to state, and none of them stalls.
 use Rattle.std.specs.Prelude.{ℕ, ◌≡◌, ◌<◌, ◌++◌, List, [], ◌∷◌, length}
 use Rattle.tso_model.specs.Litmus.{Litmus}
 use Rattle.tso_model.specs.FlatMachine.{State, after_choice, effect_of, chosen}

@@ -1,4 +1,5 @@
--- The state of the flat machine that a snapshot has.
+-- The state of the flat machine that a snapshot has: by it each step of the search is held against the machine's
+-- definition.
 use Rattle.std.specs.Prelude.{map}
 use Rattle.tso_model.specs.FlatMachine.{CoreState, State}
 use Rattle.explorer.specs.declared.snapshot.Processor.{Processor}

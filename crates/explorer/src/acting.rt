@@ -1,4 +1,5 @@
-//! A choice, made in a state.
+//! A choice, made in a state of the flat machine. Caches have no part here: on the atomic bus they have none in what can be
+//! reached.
 ghost use Rattle.std.specs.Prelude.{◌≡◌, ◌<◌, ◌≤◌, IfOk, OnOk, length, ℕ, ◌+◌, ◌==◌};
 ghost use Rattle.std.specs.Prelude.{slice_get, slice_set, slice_index, Some, filter, true};
 ghost use Rattle.tso_model.specs.Limits.{most_instructions};

@@ -1,4 +1,5 @@
-//! Choices that need not wait.
+//! Choices that need not wait: nothing that another core has still to do can meet them. They are made at once, which keeps
+//! the number of states small; one that could be met would lose final states.
 ghost use Rattle.std.specs.Prelude.{◌≡◌, ◌≢◌, ◌<◌, ◌++◌, true, length, IfSome, OnOk, List};
 ghost use Rattle.tso_model.specs.FlatMachine.{chosen, program_of, core_of};
 ghost use Rattle.tso_model.specs.declared.choice.Choice.{Choice};
@@ -11,7 +12,7 @@ use crate::snapshot::{Processor, Snapshot};
 use eager_laws::eager_choices_take_effect;
 use tso_model::{Action, Choice, Core, Entry, Instr, Loc, NoMemory, Test};
 
-/// Most choices that a test takes: for each core two for each instruction.
+/// Maximum number of choices that a test takes: for each core two for each instruction.
 const MOST_CHOICES: usize = 512;
 
 /// Whether an action writes this location or, where loads count, loads it.

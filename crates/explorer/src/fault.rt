@@ -1,4 +1,5 @@
-//! Why a search has no answer.
+//! Why a search has no answer: too many states, or no memory. A search that stopped early and said nothing would pass for a
+//! whole one.
 
 ghost use Rattle.std.specs.Prelude.{◌≡◌};
 ghost use Rattle.explorer.specs.declared.fault.ExploreFault.TheVariants as faults;

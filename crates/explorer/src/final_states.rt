@@ -1,4 +1,5 @@
-//! The final states that a search found.
+//! The final states that a search found: those kept states in which the test has ended, each once, with choices that lead
+//! there.
 ghost use Rattle.std.specs.Prelude.{◌≡◌, ◌<◌, IfOk, IfErr, length, slice_get, Some, map};
 ghost use Rattle.tso_model.specs.FlatMachine.{registers_in};
 ghost use Rattle.tso_model.specs.Runs.{is_done, has_ended};

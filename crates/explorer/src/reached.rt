@@ -1,4 +1,4 @@
-//! The state that a choice leads to.
+//! The state that a choice leads to, with the choices after it that need not wait. A choice that stalls leads nowhere new.
 ghost use Rattle.std.specs.Prelude.{◌≡◌, ◌<◌, IfOk, OnOk, true, false, length};
 ghost use Rattle.tso_model.specs.FlatMachine.{after_choice, chosen};
 ghost use Rattle.explorer.specs.State.{state_of};

@@ -1,4 +1,5 @@
-//! The search for all states that choices lead to.
+//! The search for all states that choices lead to. One list is queue and visited set at once; each of its states is gone
+//! through, and where there are more than may be kept the search says so and answers nothing.
 ghost use Rattle.std.specs.Prelude.{◌≡◌, ℕ, ◌<◌, IfOk, IfErr, OnOk, map, length, slice_get, Some};
 ghost use Rattle.tso_model.specs.FlatMachine.{chosen, start};
 ghost use Rattle.eager_laws.specs.Closed.{IsIn, IsCovered, IsExpanded};

@@ -1,4 +1,5 @@
-//! A state of the flat machine.
+//! A state of the flat machine, as the search keeps it: memory, and each core's place, registers and pending stores. Two
+//! snapshots are one only where nothing in them differs.
 ghost use Rattle.std.specs.Prelude.{◌≡◌, IfOk, OnOk, length};
 ghost use Rattle.tso_model.specs.FlatMachine.{start};
 ghost use Rattle.explorer.specs.State.{state_of, core_of_processor};

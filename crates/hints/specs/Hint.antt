@@ -1,9 +1,9 @@
--- The form of a hint.
+-- The form of a hint: one printable line of limited length, whatever bytes the input has. Nothing else is promised of it.
 use Rattle.std.specs.Prelude.{◌≡◌, ◌++◌, ◌≤◌, ◌∷◌, [], ℕ, List, true, length, codes}
 use Rattle.std.specs.List.{list_all}
 use Rattle.tso_model.specs.Names.{is_printable}
 
--- bytes of a hint, at most, with its line feed
+-- maximum length of a hint with its line feed, in bytes
 abbrev pub longest_hint : ℕ
 longest_hint = 256
 

@@ -1,4 +1,5 @@
-//! What stands behind the information lines of a test, and in its condition.
+//! What stands after the information lines of a test, and in its condition: a hint needs such parts of a text that was
+//! refused, so they are found without a reader.
 
 use crate::quotes::last_bytes;
 use litmus_reader::{braces_at, header_at};
@@ -17,7 +18,7 @@ pub fn body_of(text: &[u8]) -> &[u8] {
 
 /// What stands from the last `exists` or `forall` on, which begins the condition, or nothing where there is
 /// none; `tokens` are those of the body. They end before it only where they stop in `locations [..]`, in which
-/// any bytes may stand: then what stands behind these brackets.
+/// any bytes may stand: then what stands after these brackets.
 pub fn ending_of<'a>(body: &'a [u8], tokens: &Tokens<'a>) -> &'a [u8] {
     match tokens.stop {
         Stop::BadToken(left) => after_square(last_bytes(body, left)),
@@ -39,7 +40,7 @@ fn last_quantifier(tokens: &[Token<'_>]) -> Option<usize> {
     last
 }
 
-/// What stands behind the next `]`, comments passed over.
+/// What stands after the next `]`, comments passed over.
 fn after_square(bytes: &[u8]) -> &[u8] {
     let mut rest = bytes;
     for _ in 0..bytes.len() {

@@ -1,6 +1,7 @@
-//! What a hint is made of: what an answer knew.
+//! What a hint is made of: what an answer knew. It is kept as numbers and places, so that an answer holds no part of the
+//! input.
 
-use crate::orders::names_no_location;
+use crate::orders::{from_line_at_fault, names_no_location};
 use crate::stalls::Stalls;
 use crate::unended::{count_instructions, count_plain_stores, has_no_choices};
 use crate::unused::unused_location;
@@ -51,10 +52,11 @@ pub enum Cause {
         word: usize,
         most: usize,
     },
-    /// The order, which is so many last bytes of the input, is at fault. Whether that is a line with a
-    /// location that the test hasn't.
+    /// The order, which is so many last bytes of the input, is at fault. If one line of it is, so many
+    /// last bytes begin with that line; whether it has a location that the test hasn't.
     Order {
         length: usize,
+        from_line: usize,
         unknown_location: bool,
         fault: OrderFault,
     },
@@ -93,9 +95,11 @@ pub enum Cause {
 impl Cause {
     /// That an order of a test is at fault.
     pub fn of_order(test: &Test, text: &[u8], fault: OrderFault) -> Cause {
+        let from_line = from_line_at_fault(text, fault);
         Cause::Order {
             length: text.len(),
-            unknown_location: names_no_location(test, text, fault),
+            from_line: from_line.len(),
+            unknown_location: names_no_location(test, from_line),
             fault,
         }
     }

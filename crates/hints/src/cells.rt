@@ -1,4 +1,4 @@
-//! What is said of a cell that spells no instruction.
+//! What is said of a cell that spells no instruction: which form was meant, where that can be seen, and what in it differs.
 
 use crate::quotes::{token, up_to, without_end};
 use crate::words::{Piece, Words, around, listed, naming, plain};

@@ -1,4 +1,4 @@
-//! What is said of choices.
+//! What is said of choices: the word at fault, and which words may stand there.
 
 use crate::printing::Where;
 use crate::quotes::{is_all_digits, is_space};

@@ -1,4 +1,4 @@
-//! What is said of a condition.
+//! What is said of a condition, also in the forms that other programs write and this one doesn't read.
 
 use crate::place::Place;
 use crate::words::{Piece, Words, around, listed, naming};

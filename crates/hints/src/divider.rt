@@ -1,4 +1,5 @@
-//! A dividing line that isn't there.
+//! A dividing line that isn't there: what follows the test is then refused as a part of it, and the refusal alone would
+//! mislead.
 
 use crate::cause::Asked;
 use crate::quotes::{is_choice, word};

@@ -1,4 +1,5 @@
-//! What is said of a fault in a test.
+//! What is said of a fault in a test: each name of a refusal has its words, chosen by what stands at the place of the
+//! fault.
 
 use crate::cause::Asked;
 use crate::cells::bad_instruction;

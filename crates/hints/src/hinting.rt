@@ -1,4 +1,5 @@
-//! The hint of an input that was refused, of a run or a search that didn't end, and of what may mislead.
+//! The hint of an input that was refused, of a run or a search that didn't end, and of what may mislead: each cause has its
+//! words, and one of which nothing more is known has some too.
 
 ghost use Rattle.std.specs.Prelude.{◌≡◌, IfOk, string_bytes};
 ghost use Rattle.hints.specs.Hint.{IsHint};
@@ -55,9 +56,15 @@ fn words_of<'a>(
         }
         Cause::Order {
             length,
+            from_line,
             unknown_location,
             fault,
-        } => order_words(unknown_location, last_bytes(input, length), fault),
+        } => order_words(
+            unknown_location,
+            last_bytes(input, length),
+            last_bytes(input, from_line),
+            fault,
+        ),
         Cause::NoChoices => Ok((Where::Input, no_choices())),
         Cause::TooFewChoices {
             steps,

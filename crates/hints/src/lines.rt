@@ -1,4 +1,5 @@
-//! What is said of a command line that was refused.
+//! What is said of a command line that was refused: that a file stands where a command belongs, that an option is another
+//! command's, and the like.
 
 ghost use Rattle.std.specs.Prelude.{IfOk, IfSome, string_bytes};
 ghost use Rattle.hints.specs.Hint.{IsHint};

@@ -1,11 +1,11 @@
-//! What is said of a number that is too great.
+//! What is said of a number that is too great: which one, and the greatest that there may be.
 
 use crate::words::{Piece, Words, around, listed};
 use litmus_tokens::{Lexeme, Symbol, Token, is_symbol, tokens_of, word};
 use std::alloc::Global;
 use tso_model::NoMemory;
 
-/// The greatest value of a register or a location.
+/// Maximum value of a register or a location.
 pub const GREATEST: usize = u32::MAX as usize;
 
 /// Of an item with a value over the greatest.

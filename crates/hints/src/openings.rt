@@ -1,4 +1,5 @@
-//! What is said of a fault before the rows of a test.
+//! What is said of a fault before the rows of a test: in its header line, before its initial state or in that, and of what
+//! doesn't end.
 
 use crate::cause::Asked;
 use crate::conditions::CONNECTIVES;

@@ -1,4 +1,4 @@
-//! What is said of orders.
+//! What is said of orders: the line at fault, and what an order's text needs there.
 
 use crate::printing::Where;
 use crate::quotes::{is_all_digits, is_choice, is_space, up_to, word};
@@ -7,20 +7,21 @@ use litmus_tokens::word as word_value;
 use order_builder::OrderFault;
 use tso_model::{Loc, NoMemory, Test};
 
-/// The place and the words of a fault in an order; of a line whether it names a location that the test
-/// hasn't.
+/// The place and the words of a fault in an order; of a line, with which `from_line` begins, whether it has
+/// a location that the test hasn't.
 ///
 /// Errors: out of memory only.
 pub fn order_words<'a>(
     unknown_location: bool,
     text: &'a [u8],
+    from_line: &'a [u8],
     fault: OrderFault,
 ) -> Result<(Where, Words<'a>), NoMemory> {
     match fault {
         OrderFault::NoOrder => Ok((Where::Input, no_order(text))),
         OrderFault::BadLine(number) => Ok((
             Where::LineAfter(number),
-            bad_line(unknown_location, nth_line(text, number)),
+            bad_line(unknown_location, first_line(from_line)),
         )),
         OrderFault::BadCount => Ok(bad_count(text)),
         OrderFault::NoMemory => Err(NoMemory),
@@ -61,14 +62,32 @@ fn without_return(line: &[u8]) -> &[u8] {
     }
 }
 
-/// The line of this number, from 1.
-fn nth_line(text: &[u8], number: usize) -> &[u8] {
-    let mut at = 1usize;
-    for line in text.split(|byte| *byte == b'\n') {
-        if at == number {
-            return without_return(line);
+/// The first line of a text, without a carriage return at its end.
+fn first_line(text: &[u8]) -> &[u8] {
+    without_return(up_to(text, b'\n'))
+}
+
+/// What stands from the line at fault on, if one is.
+pub fn from_line_at_fault(text: &[u8], fault: OrderFault) -> &[u8] {
+    match fault {
+        OrderFault::BadLine(number) => from_line(text, number),
+        OrderFault::NoOrder | OrderFault::BadCount | OrderFault::NoMemory => &[],
+    }
+}
+
+/// What stands from the line of this number on, from 1.
+fn from_line(text: &[u8], number: usize) -> &[u8] {
+    if number <= 1 {
+        return text;
+    }
+    let mut line = 1usize;
+    for at in 0..text.len() {
+        if text[at] == b'\n' {
+            line = line.saturating_add(1);
+            if line == number {
+                return &text[at + 1..];
+            }
         }
-        at = at.saturating_add(1);
     }
     &[]
 }
@@ -137,12 +156,9 @@ fn after_byte(text: &[u8], byte: u8) -> Option<&[u8]> {
     Some(after)
 }
 
-/// Whether a fault of an order is a line with a location that the test hasn't.
-pub fn names_no_location(test: &Test, text: &[u8], fault: OrderFault) -> bool {
-    let OrderFault::BadLine(number) = fault else {
-        return false;
-    };
-    match location_in(nth_line(text, number)) {
+/// Whether the line with which a text begins has a location that the test hasn't.
+pub fn names_no_location(test: &Test, text: &[u8]) -> bool {
+    match location_in(first_line(text)) {
         Some(name) => !is_location(test, name),
         None => false,
     }

@@ -1,4 +1,5 @@
-//! Which limit a place of a test passes: of cores, of locations, of instructions or of atoms.
+//! Which limit a place of a test passes: of cores, of locations, of instructions or of atoms. The refusal has one name for
+//! all of them, so what stands before the place is counted.
 
 use crate::body::{body_of, ending_of, is_name};
 use crate::place::Place;
@@ -37,7 +38,7 @@ pub fn limit_at(alloc: Global, place: Place<'_>) -> Result<Limit, NoMemory> {
     })
 }
 
-/// What stands behind the `}` of the initial state.
+/// What stands after the `}` of the initial state.
 fn after_initial_state<'a, 'b>(tokens: &'b [Token<'a>]) -> Option<&'b [Token<'a>]> {
     let end = tokens
         .iter()
@@ -60,7 +61,7 @@ fn is_of_atom(token: &Token<'_>) -> bool {
     is_symbol(Symbol::Equals, token) || is_name(token, b"true") || is_name(token, b"false")
 }
 
-/// The limit that what stands behind these tokens of rows passes; the first row is that of the cores.
+/// The limit that what stands after these tokens of rows passes; the first row is that of the cores.
 fn limit_in_rows(tokens: &[Token<'_>]) -> Limit {
     if !tokens
         .iter()

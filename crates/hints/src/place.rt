@@ -1,4 +1,4 @@
-//! The place of a fault in a text.
+//! The place of a fault in a text: a refusal has the line alone, and a hint names what stands there.
 
 use crate::quotes::{begins_with_letter, digits_and_letters, last_word, token};
 use litmus_tokens::line_of;

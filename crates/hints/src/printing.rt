@@ -1,4 +1,5 @@
-//! Hints as they are printed.
+//! Hints as they are printed. What is quoted of an input is cut to a few bytes and made printable: a hint must stay one
+//! short line, whatever was read.
 
 ghost use Rattle.std.specs.Prelude.{◌≡◌, IfOk, map, take, string_bytes};
 ghost use Rattle.std.specs.Str.{IsUtf8};
@@ -11,7 +12,7 @@ use crate::words::{Piece, Words};
 use std::alloc::{AllocError, Global};
 use tso_model::{Choice, NoMemory, Stall};
 
-/// Bytes of a hint, at most, with its line feed.
+/// Maximum length of a hint with its line feed, in bytes.
 pub const MAX_HINT: usize = 256;
 
 /// The limit is the number that the definitions have: a law, with nothing to run.
@@ -19,7 +20,7 @@ pub fn limits_are_as_defined()
     ensures { MAX_HINT ≡ longest_hint }
 {}
 
-/// Bytes that are shown of one thing, at most.
+/// Maximum length of what is shown of one thing, in bytes.
 const MAX_SHOWN: usize = 32;
 
 /// What a hint is about.

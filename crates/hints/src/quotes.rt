@@ -1,4 +1,5 @@
-//! What stands at a place of a text: the bytes that a hint names.
+//! What stands at a place of a text: the bytes that a hint names. They go by white space and names alone, since the text
+//! may be none that a lexer takes.
 
 use tso_model::names::continues_name;
 

@@ -1,4 +1,4 @@
-//! What is said of a row of a test, and of a test that is too large.
+//! What is said of a row of a test, and of a test that is too large: which limit it passes, and what is one too many.
 
 use crate::passed::{Limit, limit_at};
 use crate::place::Place;

@@ -1,4 +1,7 @@
-//! Why choices of a run stalled.
+//! Why choices of a run stalled: how many, and for each reason the first, which is enough to see what to change. No list of
+//! them is kept.
+
+ghost use Rattle.std.specs.Prelude.{◌<◌};
 
 use tso_model::{Choice, Stall};
 
@@ -6,12 +9,8 @@ use tso_model::{Choice, Stall};
 #[derive(Clone, Copy)]
 pub struct Stalls {
     count: usize,
-    done: Option<Choice>,
-    full: Option<Choice>,
-    fence: Option<Choice>,
-    lock: Option<Choice>,
-    empty: Option<Choice>,
-    bus: Option<Choice>,
+    /// Each reason has its [place](place_of).
+    firsts: [Option<Choice>; 6],
 }
 
 /// A reason to stall, and the first choice that did for it.
@@ -26,25 +25,17 @@ impl Stalls {
     pub fn none() -> Stalls {
         Stalls {
             count: 0,
-            done: None,
-            full: None,
-            fence: None,
-            lock: None,
-            empty: None,
-            bus: None,
+            firsts: [None; 6],
         }
     }
 
-    /// Notes a choice that stalled, and why.
+    /// Notes a choice that stalled, and why. A run may do so at each of its choices.
     pub fn note(&mut self, choice: Choice, reason: Stall) {
-        self.count = self.count.saturating_add(1);
-        match reason {
-            Stall::Done => note_first(&mut self.done, choice),
-            Stall::Full => note_first(&mut self.full, choice),
-            Stall::Fence => note_first(&mut self.fence, choice),
-            Stall::Lock => note_first(&mut self.lock, choice),
-            Stall::Empty => note_first(&mut self.empty, choice),
-            Stall::Bus => note_first(&mut self.bus, choice),
+        // No run has more choices than a `usize` counts.
+        self.count = self.count.wrapping_add(1);
+        let first = &mut self.firsts[place_of(reason)];
+        if first.is_none() {
+            *first = Some(choice);
         }
     }
 
@@ -56,22 +47,32 @@ impl Stalls {
     /// For each reason the first choice that stalled for it.
     pub fn firsts(&self) -> [FirstStall; 6] {
         [
-            first(Stall::Done, self.done),
-            first(Stall::Full, self.full),
-            first(Stall::Fence, self.fence),
-            first(Stall::Lock, self.lock),
-            first(Stall::Empty, self.empty),
-            first(Stall::Bus, self.bus),
+            self.first(Stall::Done),
+            self.first(Stall::Full),
+            self.first(Stall::Fence),
+            self.first(Stall::Lock),
+            self.first(Stall::Empty),
+            self.first(Stall::Bus),
         ]
     }
-}
 
-fn note_first(noted: &mut Option<Choice>, choice: Choice) {
-    if noted.is_none() {
-        *noted = Some(choice);
+    fn first(&self, reason: Stall) -> FirstStall {
+        FirstStall {
+            reason,
+            choice: self.firsts[place_of(reason)],
+        }
     }
 }
 
-fn first(reason: Stall, choice: Option<Choice>) -> FirstStall {
-    FirstStall { reason, choice }
+fn place_of(reason: Stall) -> usize
+    ensures { result < 6 }
+{
+    match reason {
+        Stall::Done => 0,
+        Stall::Full => 1,
+        Stall::Fence => 2,
+        Stall::Lock => 3,
+        Stall::Empty => 4,
+        Stall::Bus => 5,
+    }
 }

@@ -1,11 +1,12 @@
-//! What is said of a run or a search that didn't end, and of a sweep that saw too little.
+//! What is said of a run or a search that didn't end, and of a sweep that saw too little: what to ask for instead. A sweep
+//! that never saw a state doesn't show that there is none.
 
 use crate::orders::first_word;
 use crate::stalls::Stalls;
 use crate::words::{Piece, Words, around, eight, plain};
 use tso_model::{Core, Instr, Test};
 
-/// As many seeds as a sweep may have.
+/// Maximum number of seeds of a sweep.
 const MOST_SEEDS: u32 = 1000;
 
 /// Of a sweep whose seeds make so many choices: not all of its runs ended, or none.

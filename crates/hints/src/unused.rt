@@ -1,4 +1,5 @@
-//! A location that a condition names, and that nothing else of its test does.
+//! A location that a condition names, and that nothing else of its test does. Its name is probably misspelt: its word is
+//! then 0 in every run, and the answer says nothing.
 
 use crate::body::{body_of, ending_of, is_name};
 use crate::place::Place;

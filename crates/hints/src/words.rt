@@ -1,4 +1,4 @@
-//! The words of a hint, before they are printed.
+//! The words of a hint, before they are printed: a few pieces, borrowed, so that none takes memory.
 
 use crate::stalls::Stalls;
 

@@ -1,4 +1,4 @@
--- Tokens of a text without their places.
+-- Tokens of a text without their places: the grammar speaks of what is spelled, and places serve refusals alone.
 use Rattle.std.specs.Prelude.{◌≡◌, List, ◌++◌, map}
 use Rattle.litmus_tokens.specs.Terms.{Term}
 use Rattle.litmus_tokens.specs.Pieces.{Piece}

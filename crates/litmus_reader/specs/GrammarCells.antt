@@ -1,4 +1,5 @@
--- Which tokens spell which instruction in a cell.
+-- Which tokens spell which instruction in a cell: the x86 instructions as litmus tests write them. (Intel's manual, for
+-- what they are; litmus7 and herd, for the form.)
 use Rattle.std.specs.Prelude.{◌≡◌, ℕ, List, [], ◌∷◌, ◌++◌, codes, Some, IsTrue}
 use Rattle.tso_model.specs.Names.{is_location_name}
 use Rattle.tso_model.specs.Registers.{register_named, same_letters}

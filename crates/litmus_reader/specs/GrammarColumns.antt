@@ -1,4 +1,4 @@
--- Which tokens spell a header row of so many cores.
+-- Which tokens spell a header row of so many cores: it alone says how many there are.
 use Rattle.std.specs.Prelude.{◌≤◌, ℕ, ◌+◌, List, [], ◌∷◌}
 use Rattle.tso_model.specs.Limits.{most_cores}
 use Rattle.litmus_tokens.specs.declared.token.Symbol.TheVariants.{Semicolon, Bar}

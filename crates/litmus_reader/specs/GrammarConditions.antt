@@ -1,4 +1,4 @@
--- Which tokens spell which proposition.
+-- Which tokens spell which proposition: `/\` binds closer than `\/`, and `~` closer than both, so each is read in one way.
 use Rattle.std.specs.Prelude.{◌≤◌, ℕ, zero, suc, ◌+◌, true, false, List, [], ◌∷◌, ◌++◌, length, codes, IsTrue, Bool, ◌||◌}
 use Rattle.std.specs.List.{list_all}
 use Rattle.tso_model.specs.Condition.{Claim, TruthClaim, RegClaim, LocClaim, NotClaim, AndClaim, OrClaim}

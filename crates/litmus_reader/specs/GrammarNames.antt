@@ -1,4 +1,5 @@
--- The numbering of locations: by first appearance.
+-- The numbering of locations: by first appearance. Programs and conditions have locations by number; their names are kept
+-- beside them.
 use Rattle.std.specs.Prelude.{ℕ, List, [], ◌∷◌, ◌++◌, if◌then◌else◌}
 use Rattle.std.specs.List.{position_or_len, list_any}
 use Rattle.std.specs.Str.{bytes_eq}

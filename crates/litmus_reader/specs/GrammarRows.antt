@@ -1,4 +1,4 @@
--- Which tokens spell which row of the table.
+-- Which tokens spell which row of the table: as many cells as there are cores, each of them an instruction or empty.
 use Rattle.std.specs.Prelude.{◌≡◌, ℕ, List, [], ◌∷◌, ◌++◌, length, Option, Some, None}
 use Rattle.litmus_tokens.specs.declared.token.Symbol.TheVariants.{Semicolon, Bar}
 use Rattle.litmus_tokens.specs.Terms.{Term, symbol}

@@ -1,4 +1,4 @@
--- Which tokens spell which rows, and the instructions that these say.
+-- Which tokens spell which rows, and the instructions that these say: a core's program is its column, from top to bottom.
 use Rattle.std.specs.Prelude.{◌<◌, ◌≤◌, ℕ, ◌^◌, Bool, true, List, [], ◌∷◌, ◌++◌, length, All}
 use Rattle.std.specs.Prelude.{IfSome, Option, Some, None, ◌||◌, false, codes, slice_index_or}
 use Rattle.tso_model.specs.declared.instruction.Instr.{Instr}

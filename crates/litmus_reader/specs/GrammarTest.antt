@@ -1,4 +1,5 @@
--- Which text spells which test.
+-- Which text spells which test: the whole grammar, part by part. What a text means is said here, apart from how it is read,
+-- so that a slip of the reader can't change the meaning.
 use Rattle.std.specs.Prelude.{◌≤◌, ℕ, List, [], length, IsTrue, map}
 use Rattle.std.specs.List.{range_with_len}
 use Rattle.tso_model.specs.Litmus.{Litmus}

@@ -1,4 +1,4 @@
--- Locations numbered by first appearance.
+-- Locations numbered by first appearance, as the reader has them: names that are slices of the text.
 use Rattle.std.specs.Prelude.{ℕ, List, map}
 use denote.Ref.{Bor}
 

@@ -1,4 +1,5 @@
--- Which token doesn't fit: the first with which nothing of its kind goes on.
+-- Which token doesn't fit: the first with which nothing of its kind goes on. A refusal is at that one, so that it points
+-- where a person would look.
 use Rattle.std.specs.Prelude.{◌≡◌, ℕ, Bool, false, List, [], ◌∷◌, ◌++◌, ◌||◌}
 use Rattle.std.specs.Str.{bytes_eq}
 use Rattle.litmus_tokens.specs.declared.token.Symbol.TheVariants.{Semicolon, CloseCurly, Bar}

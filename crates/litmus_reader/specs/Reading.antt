@@ -1,4 +1,4 @@
--- The reading of a whole text, part by part in the order of the text.
+-- A fault at a place becomes a refusal with a line. Readings speak of places alone; here, at the end, lines are counted.
 use Rattle.std.specs.Prelude.{ℕ, List}
 use Rattle.litmus_tokens.specs.Line.{line_of}
 use Rattle.litmus_reader.specs.declared.fault.Fault.{Fault}

@@ -1,4 +1,5 @@
--- What is at fault in a header line, in information lines, and in the brackets of `locations [..]`.
+-- What is at fault in a header line, in information lines, and in the brackets of `locations [..]`: the parts that are read
+-- byte by byte, before there are tokens.
 use Rattle.std.specs.Prelude.{◌≡◌, ℕ, Bool, List, [], ◌∷◌, length, nat_lt, Some, None, Err, IsTrue, IsFalse, ◌==◌, ◌&&◌, ◌||◌}
 use Rattle.std.specs.List.{list_all}
 use Rattle.tso_model.specs.Limits.{longest_test_name}

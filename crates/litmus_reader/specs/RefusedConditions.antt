@@ -1,4 +1,4 @@
--- What is at fault in a condition.
+-- What is at fault in a condition: a token that doesn't fit, or a core, a number or a location that can't be meant.
 use Rattle.std.specs.Prelude.{◌≡◌, ◌≤◌, ◌^◌, ℕ, zero, suc, ◌+◌, List, ◌∷◌, ◌++◌, codes, IsTrue, IsFalse, ◌||◌, Bool}
 use Rattle.tso_model.specs.declared.condition.Quantifier.{Quantifier}
 use Rattle.litmus_tokens.specs.declared.token.Stop.{Stop}

@@ -1,4 +1,4 @@
--- What is at fault after the rows.
+-- What is at fault after the rows: something after the end of the test, or in `locations [..]` or a condition.
 use Rattle.std.specs.Prelude.{◌≡◌, ℕ, Bool, List, [], ◌∷◌, ◌++◌, codes, Option, Some, None, IsFalse, ◌||◌}
 use Rattle.litmus_tokens.specs.declared.token.Stop.{Stop}
 use Rattle.litmus_tokens.specs.declared.token.Stop.TheVariants.{End}

@@ -1,4 +1,4 @@
--- What is at fault in an initial state.
+-- What is at fault in an initial state: also a value that is given twice, since either one would be a guess.
 use Rattle.std.specs.Prelude.{◌≡◌, ◌≤◌, ◌<◌, ◌^◌, ℕ, List, [], ◌∷◌, ◌++◌, length, IsTrue, IsFalse}
 use Rattle.std.specs.List.{list_any}
 use Rattle.tso_model.specs.Limits.{most_locations}

@@ -1,4 +1,5 @@
--- What is at fault in a header row and in the rows after it.
+-- What is at fault in a header row and in the rows after it. A cell that spells no instruction is refused, never passed
+-- over.
 use Rattle.std.specs.Prelude.{◌≡◌, ◌≢◌, ◌<◌, ◌≤◌, ℕ, ◌+◌, List, [], ◌∷◌, ◌++◌, length, Option, Some, IsTrue, IsFalse}
 use Rattle.std.specs.List.{list_any, before_first, slice_split}
 use Rattle.tso_model.specs.Limits.{most_cores}

@@ -1,4 +1,5 @@
--- What the functions that read return: what a reading gives, unless memory ran out.
+-- What a function returned of the parts of a test: those of this test, unless memory ran out, which says nothing of the
+-- text.
 use Rattle.std.specs.Prelude.{◌≡◌, Option, Result, IfOk}
 use Rattle.std.specs.Option.{option_map}
 use Rattle.tso_model.specs.Condition.{Condition, condition_of}

@@ -1,4 +1,4 @@
--- Which text spells which test, and which refusal every other text gets.
+-- Which text spells which test, and which refusal every other text gets: each text has one of the two, and never both.
 use Rattle.std.specs.Prelude.{◌≡◌, ◌⊎◌, ℕ, List}
 use Rattle.tso_model.specs.Litmus.{Litmus}
 use Rattle.litmus_tokens.specs.Line.{line_of}

@@ -1,4 +1,4 @@
--- The names of refusals, as they are printed.
+-- The names of refusals, as they are printed. Scripts go by them, so each kind of fault has one that stays.
 use Rattle.std.specs.Prelude.{ℕ, List, codes}
 use Rattle.litmus_reader.specs.declared.fault.Why.{Why}
 use Rattle.litmus_reader.specs.declared.fault.Why.TheVariants as whys

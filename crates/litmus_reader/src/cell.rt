@@ -1,4 +1,5 @@
-//! Cells of a row, and the instructions that their forms say.
+//! Cells of a row, and the instructions that their forms say. A cell that spells no instruction must be refused: one that
+//! was passed over would leave a shorter program, and another test.
 
 ghost use Rattle.std.specs.Prelude.{◌≡◌, ◌<◌, ◌∷◌, length, position, IfSome};
 ghost use Rattle.litmus_tokens.specs.inner.Pieces.{piece_of, pieces};

@@ -1,4 +1,5 @@
-//! The header row: the names of the cores, and how many there are.
+//! The header row: the names of the cores, and how many there are. Every core that is named anywhere else is judged by this
+//! number.
 
 ghost use Rattle.std.specs.Prelude.{◌≡◌, ◌≤◌, ◌-◌, IfOk};
 ghost use Rattle.std.specs.Option.{option_map};

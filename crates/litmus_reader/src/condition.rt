@@ -1,4 +1,5 @@
-//! Conditions: atoms, units, propositions and quantifiers.
+//! Conditions: atoms, units, propositions and quantifiers. The units that may be open at once are limited: recursion is no
+//! deeper than that, and the stack stays small.
 
 ghost use Rattle.std.specs.Prelude.{◌≡◌, ◌≤◌, ◌<◌, ◌+◌, length, codes, Some, None, Ok, IfOk, IfSome};
 ghost use Rattle.std.specs.Option.{option_map};

@@ -1,4 +1,5 @@
-//! Why a text is refused, and at which line.
+//! Why a text is refused, and at which line. A fault has a place, the bytes from there on; its line is counted once, at the
+//! end.
 
 ghost use Rattle.std.specs.Prelude.{◌≡◌, ◌++◌, Some, codes};
 ghost use Rattle.std.specs.Fmt.{decimal};

@@ -1,4 +1,5 @@
-//! The forms of instructions, as cells spell them.
+//! The forms of instructions, as cells spell them. A form has its location by name and its number by digits; what they come
+//! to is judged after it.
 
 ghost use Rattle.std.specs.Prelude.{◌≡◌};
 ghost use Rattle.std.specs.Option.{option_map};

@@ -1,4 +1,5 @@
-//! The header line: `X86` and the name of the test.
+//! The header line: `X86` and the name of the test. The text's size is judged first, so no time is spent on one that is too
+//! large.
 
 ghost use Rattle.std.specs.Prelude.{◌≡◌, ◌≤◌, ◌==◌, ◌&&◌, nat_lt, length, position, None, IfOk};
 ghost use Rattle.std.specs.Option.{option_map};

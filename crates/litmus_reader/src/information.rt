@@ -1,4 +1,5 @@
-//! Information lines: quoted text and keys, which are passed over.
+//! Information lines: quoted text and keys, which are passed over. Anything may stand in quotation marks, so these lines
+//! are read as bytes, before there are tokens.
 
 ghost use Rattle.std.specs.Prelude.{◌≡◌, ◌≤◌, ◌<◌, length, IfOk, IfSome};
 ghost use Rattle.std.specs.Option.{option_map};

@@ -1,4 +1,5 @@
-//! The initial state: its items, and the first words that they give.
+//! The initial state: its items, and the first words that they give. A core that it names may not exist, which is known
+//! only after the header row: so such words are kept with their places.
 
 ghost use Rattle.litmus_tokens.specs.inner.Pieces.{pieces};
 ghost use Rattle.std.specs.Prelude.{◌≡◌, ◌≤◌, ◌<◌, ◌++◌, ◌∷◌, [], false, length, map, replicate, IfOk, OnOk};

@@ -1,4 +1,5 @@
-//! Values of registers and locations, as the initial state and conditions spell them.
+//! Values of registers and locations, as the initial state and conditions spell them: one reading for both, so that both
+//! refuse alike.
 
 ghost use Rattle.std.specs.Prelude.{◌≡◌, ◌<◌, ◌≤◌, length, None, IfSome, IfOk};
 ghost use Rattle.std.specs.Option.{option_map};

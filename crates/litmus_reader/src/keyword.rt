@@ -1,4 +1,4 @@
-//! Words that stand for themselves.
+//! Words that stand for themselves. To the lexer they are names like any other.
 
 ghost use Rattle.std.specs.Prelude.{◌≡◌, ◌<◌, length, IfSome};
 ghost use Rattle.std.specs.Option.{option_map};

@@ -1,4 +1,5 @@
-//! Laws of test texts. Each is the contract of a function that does nothing: who calls it knows it.
+//! Laws of test texts: each spells one test or gets one refusal, and never both. Each law is the contract of a function
+//! that does nothing: who calls it knows it.
 
 ghost use Rattle.std.specs.Prelude.{◌≡◌, ℕ, List, Ok, Err};
 ghost use Rattle.tso_model.specs.Litmus.{Litmus, IsTest};

@@ -1,15 +1,16 @@
-//! How long a text and the name in it may be, and how deep a condition.
+//! How long a text and the name in it may be, and how deep a condition: by these, reading has a bound on its time and its
+//! stack.
 ghost use Rattle.std.specs.Prelude.{◌≡◌};
 ghost use Rattle.tso_model.specs.Limits.{most_open, longest_test_name};
 ghost use Rattle.litmus_reader.specs.Limits.{longest_text};
 
-/// Bytes of a test text, at most.
+/// Maximum length of a test text, in bytes.
 pub const MAX_TEXT: usize = 65_536;
 
-/// Bytes of a test's name, at most.
+/// Maximum length of a test's name, in bytes.
 pub const MAX_TEST_NAME: usize = tso_model::limits::MAX_TEST_NAME;
 
-/// Negations and brackets of a condition that may be open at once.
+/// Maximum number of negations and brackets of a condition that are open at once.
 pub const MAX_OPEN: usize = tso_model::limits::MAX_OPEN;
 
 /// Each limit is the number that the definitions have: a law, with nothing to run.

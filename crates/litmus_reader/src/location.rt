@@ -1,4 +1,5 @@
-//! Locations by their names, each with its number.
+//! Locations by their names, each with its number: by first appearance in the text. One over the limit is refused where it
+//! appears.
 
 ghost use Rattle.std.specs.Prelude.{◌≡◌, OnOk};
 ghost use Rattle.litmus_reader.specs.inner.Faults.{Gives};

@@ -1,4 +1,5 @@
-//! The locations between square brackets, which are passed over.
+//! The locations between square brackets, which are passed over: they have no effect, and any bytes may stand there. Tokens
+//! begin anew after them.
 
 ghost use Rattle.std.specs.Prelude.{◌≡◌, codes};
 ghost use Rattle.std.specs.Option.{option_map};

@@ -1,4 +1,4 @@
-//! What an instruction works on, as a cell spells it.
+//! What an instruction works on, as a cell spells it: a register, a number after `$`, or a location in brackets.
 
 ghost use Rattle.std.specs.Prelude.{◌≡◌};
 ghost use Rattle.std.specs.Option.{option_map};

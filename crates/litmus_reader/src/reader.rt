@@ -1,4 +1,5 @@
-//! Whole texts: the parts of a test one after the other, and the first fault.
+//! Whole texts: the parts of a test one after the other, and the first fault. Parts are read in the order of the text, so
+//! that what is refused is the first thing at fault in it.
 
 ghost use Rattle.std.specs.Prelude.{◌≡◌, ◌≢◌, ◌≤◌, Ok, Err, IfOk, IfErr, MatchResult, IsTrue};
 ghost use Rattle.std.specs.Option.{option_map};

@@ -1,4 +1,5 @@
-//! The rows of the table, and the instructions of all cells.
+//! The rows of the table, and the instructions of all cells. A row without one cell for each core is refused as a whole,
+//! for nobody knows whose cell is missing.
 
 ghost use Rattle.std.specs.Prelude.{◌≡◌, ◌<◌, ◌≤◌, length, map, IfOk};
 ghost use Rattle.tso_model.specs.Limits.{most_cores};

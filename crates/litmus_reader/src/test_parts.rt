@@ -1,4 +1,4 @@
-//! The parts of a test, made of what was read.
+//! The parts of a test, made of what was read: only here are names copied; while reading they are slices of the text.
 
 ghost use Rattle.std.specs.Prelude.{◌≡◌, IfOk, All, map, replicate, string_bytes};
 ghost use Rattle.std.specs.Str.{IsUtf8};
@@ -75,7 +75,7 @@ fn programs_of(
 /// The parts of a test from what was read: the words of locations that the initial state doesn't
 /// name are 0.
 ///
-/// Fails only where it is out of memory.
+/// Errors: out of memory only.
 pub fn parts_of(
     alloc: Global,
     name: &[u8],

@@ -1,4 +1,4 @@
--- Single tokens at the front of some.
+-- Whether a token is a given symbol: by such tests it is said what may stand at the front of some tokens.
 use Rattle.std.specs.Prelude.{Bool, false}
 use Rattle.std.specs.Str.{bytes_eq}
 use Rattle.litmus_tokens.specs.declared.token.Symbol.{Symbol}

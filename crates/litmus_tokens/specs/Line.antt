@@ -1,4 +1,4 @@
--- Lines of places.
+-- Lines of places. A line is one more than the LF bytes before the place; no reader has to count along.
 use Rattle.std.specs.Prelude.{ℕ, ◌+◌, ◌-◌, List, length, take, count_by, ◌==◌}
 
 -- The line of the place from which so many bytes of the text stand: 1, and the number of LF bytes before it.

@@ -1,4 +1,5 @@
--- The tokens of a text with their places, and why there are no more.
+-- The tokens of a text with their places, and why there are no more. A byte that begins no token ends the list, and is a
+-- fault only where a reader gets that far.
 use Rattle.std.specs.Prelude.{ℕ, zero, suc, List, [], ◌∷◌, length, None, Result, Ok, Err}
 use Rattle.litmus_tokens.specs.declared.token.Stop.{Stop}
 use Rattle.litmus_tokens.specs.declared.token.Stop.TheVariants.{End}

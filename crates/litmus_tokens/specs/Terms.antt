@@ -1,4 +1,4 @@
--- Single tokens: numbers, names and symbols.
+-- Single tokens: numbers, names and symbols. A number has any size here: whether it is too great is said where it is used.
 use Rattle.std.specs.Prelude.{ℕ, ◌^◌, Bool, List, [], ◌∷◌, length, take, drop, Option, Some, None, Result, Ok, Err}
 use Rattle.std.specs.Prelude.{nat_lt, nat_eq, codes, ◌==◌, if◌then◌else◌}
 use Rattle.std.specs.List.{prefix_len, starts_with}

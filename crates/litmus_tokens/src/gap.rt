@@ -1,4 +1,4 @@
-//! White space and comments.
+//! White space and comments. A comment that doesn't end is told with the place where it begins, for its end is nowhere.
 
 ghost use Rattle.std.specs.Prelude.{◌≡◌, ◌≤◌, ◌<◌, length, None, IfOk, IfSome};
 ghost use Rattle.std.specs.Option.{option_map};

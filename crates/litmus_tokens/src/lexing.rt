@@ -1,4 +1,5 @@
-//! Bytes to tokens, one after the other.
+//! Bytes to tokens, one after the other. A byte that begins no token stops the list and fails nothing: it is a fault only
+//! if the readers come that far, so the first fault of a text stays the first.
 
 ghost use Rattle.std.specs.Prelude.{◌≡◌, ◌≤◌, ◌<◌, ◌==◌, length, IfOk, IfSome, true, slice_index};
 ghost use Rattle.std.specs.Option.{option_map};
@@ -23,7 +24,7 @@ use std::alloc::Global;
 use tso_model::NoMemory;
 use tso_model::names::{begins_name, continues_name};
 
-/// A longest name has so many bytes.
+/// Maximum length of a name, in bytes.
 pub const MAX_NAME: usize = tso_model::limits::MAX_NAME;
 
 /// The limit is the number that the definitions have: a law, with nothing to run.
@@ -154,8 +155,8 @@ fn token_at(bytes: &[u8]) -> Result<(Token<'_>, &[u8]), Stop>
 
 /// The tokens of a text, or of its end from some place on, and why there are no more.
 ///
-/// Fails only where it is out of memory: a lexical fault ends the list, and counts where a reader wants a
-/// token more.
+/// Errors: out of memory only. A lexical fault ends the list, and counts where a reader wants a token
+/// more.
 pub fn tokens_of(alloc: Global, bytes: &[u8]) -> Result<Tokens<'_>, NoMemory>
     ensures { IfOk result (λ found. (pieces found.items.items, found.stop) ≡ pieces_of bytes.now) }
 {

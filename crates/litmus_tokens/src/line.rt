@@ -1,4 +1,4 @@
-//! The line of a place in a text.
+//! The line of a place in a text, counted once for a refusal.
 
 ghost use Rattle.std.specs.Prelude.{◌≡◌};
 ghost use Rattle.litmus_tokens.specs.Line as line;

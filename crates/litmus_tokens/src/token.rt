@@ -1,4 +1,5 @@
-//! Tokens, and where a list of them stops.
+//! Tokens, and where a list of them stops. Each has its place, the bytes of the text from there on; by it a refusal finds
+//! its line.
 
 /// A symbol of the test texts.
 #[derive(Clone, Copy, PartialEq, Eq)]

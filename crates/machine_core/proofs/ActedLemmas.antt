@@ -1,5 +1,7 @@
 -- What an action of one core does, from what the calls in it say.
 use Rattle.std.proofs.Common.{◌≡◌, ◌++◌, ℕ, List, [], ◌∷◌, map, drop, Some, slice_get, append-nil, refl, sym, ap, ◌∙◌, subst}
+use Rattle.tso_model.specs.Access.{Access, NoAccess, Writes, drain_access}
+use Rattle.tso_model.specs.declared.instruction.Core.{Core}
 use Rattle.tso_model.specs.FlatMachine.{CoreState, Effect, stalled, memory_after}
 use Rattle.tso_model.specs.declared.choice.Stall.{Stall}
 use Rattle.tso_model.specs.declared.choice.Outcome.{Outcome}
@@ -9,33 +11,48 @@ use Rattle.store_buffer.specs.Stores.{Stores}
 use Rattle.order_builder.specs.inner.Noted.{Noted}
 use Rattle.snoop_bus.specs.Bus.{Bus, words_of}
 use Rattle.machine_core.specs.declared.processor.Processor.{Processor}
-use Rattle.machine_core.specs.declared.cache_use.CacheUse.{CacheUse}
-use Rattle.machine_core.specs.declared.cache_use.CacheUse.TheVariants.{Unused}
+use Rattle.machine_core.specs.declared.cache_use.CacheUse.TheVariants.{Unused, Through}
+use Rattle.machine_core.specs.declared.turn.Way.{Way}
+use Rattle.machine_core.specs.declared.turn.Way.TheVariants.{Whole, Asked}
+use Rattle.machine_core.specs.declared.turn.Turn.{Turn}
 use Rattle.machine_core.specs.Cores.{store_of, core_state}
 use Rattle.machine_core.specs.inner.Cores.{pending_in, drain_by}
-use Rattle.machine_core.specs.Caches.{caches_of, write_by}
-use Rattle.machine_core.specs.Performed.{HasUsed}
-use Rattle.machine_core.specs.inner.Acted.{HasActed, Waits, IsStored}
+use Rattle.machine_core.specs.Caches.{write_by}
+use Rattle.machine_core.specs.inner.Performed.{MayMakeBy, MayMake}
+use Rattle.machine_core.specs.inner.Turns.{HasAsked}
+use Rattle.machine_core.specs.inner.Acted.{HasActed, Waits, IsMade, IsStored}
+use Rattle.machine_core.proofs.Acting.{writes-oldest}
 use Rattle.machine_core.proofs.CacheUses.{rests}
 use Rattle.basic_laws.proofs.WithPending.{drain_with}
+use Rattle.snoop_bus.specs.declared.access.Access as bus_access
+
+-- only a load and a store are ever completed
+whole-by : (way : Way) (b : Bus) (core : Core) (what : Access) → (HasAsked b core what → ⊥) → MayMakeBy way b core what → way ≡ Whole
+whole-by Whole b core what never may = refl
+whole-by Asked b core what never may = absurd (never may)
+
+pub whole-none : (turn : Turn) (b : Bus) (what : Access) → what ≡ NoAccess → MayMake turn b what → turn.way ≡ Whole
+whole-none turn b what none may = whole-by turn.way b turn.core what (λ asked. subst (HasAsked b turn.core) none asked) may
 
 -- what waits in its core
-pub acts-waits : (core : ℕ) (p q : Processor) (b : Bus) (noted : Noted) (f : Effect) (answer : Outcome) → Waits core q f answer
-    → HasActed core p q b b noted noted f (answer, Unused)
-acts-waits core p q b noted f answer waits = record {
-  outcome = waits.outcome;
-  after = waits.after;
-  words = ap (λ es. memory_after es (words_of b)) (sym waits.commits);
-  commits = sym (append-nil noted.entries) ∙ ap (λ es. noted.entries ++ es) (sym waits.commits);
-  caches = rests b (pending_in core p) f.commits waits.commits;
-}
+pub acts-waits : (way : Way) (what : Access) (core : ℕ) (p q : Processor) (b : Bus) (noted : Noted) (f : Effect) (answer : Outcome) → way ≡ Whole → Waits core q f answer
+    → HasActed way what core p q b b noted noted f (answer, Unused)
+acts-waits way what core p q b noted f answer whole waits =
+    subst (λ w. HasActed w what core p q b b noted noted f (answer, Unused)) (sym whole) (record {
+      outcome = waits.outcome;
+      after = waits.after;
+      words = ap (λ es. memory_after es (words_of b)) (sym waits.commits);
+      commits = sym (append-nil noted.entries) ∙ ap (λ es. noted.entries ++ es) (sym waits.commits);
+      caches = rests b (pending_in core p) f.commits waits.commits;
+      holder = refl;
+    })
 
-pub acts-stalls : (core : ℕ) (p : Processor) (b : Bus) (noted : Noted) (f : Effect) (why : Stall) → stalled why (core_state core p) ≡ f
-    → HasActed core p p b b noted noted f (Stalled why, Unused)
-acts-stalls core p b noted f why e =
-    acts-waits core p p b noted f (Stalled why) (record { outcome = ap (λ g. g.outcome) e; after = ap (λ g. g.after) e; commits = ap (λ g. g.commits) (sym e) })
+pub acts-stalls : (way : Way) (what : Access) (core : ℕ) (p : Processor) (b : Bus) (noted : Noted) (f : Effect) (why : Stall) → way ≡ Whole → stalled why (core_state core p) ≡ f
+    → HasActed way what core p p b b noted noted f (Stalled why, Unused)
+acts-stalls way what core p b noted f why whole e =
+    acts-waits way what core p p b noted f (Stalled why) whole (record { outcome = ap (λ g. g.outcome) e; after = ap (λ g. g.after) e; commits = ap (λ g. g.commits) (sym e) })
 
--- the oldest buffered store
+-- the oldest pending store
 drained : (core : ℕ) (s : CoreState) (items : List Pending) (store : Pending) → Some store ≡ slice_get items 0 → drain_with s (map (store_of core) items) ≡ record {
   outcome = Committed;
   after = record { place = s.place; registers = s.registers; pending = map (store_of core) (drop 1 items) };
@@ -50,21 +67,24 @@ drained core s (x ∷ xs) store h =
       commits = store_of core y ∷ [];
     }) (sym e)
 
-pub acts-drains : (core : ℕ) (p : Processor) (left : Stores) (b b' : Bus) (noted noted' : Noted) (store : Pending) (how : CacheUse) → Some store ≡ slice_get p.stores.items 0
-    → left.items ≡ drop 1 p.stores.items → IsStored core store.place store.loc store.value b b' noted noted' → HasUsed (write_by (caches_of b) core store.loc.0) b' how
-    → HasActed core p (record { place = p.place; registers = p.registers; stores = left }) b b' noted noted' (drain_by core p (words_of b)) (Committed, how)
-acts-drains core p left b b' noted noted' store how h rest stored_is used =
+pub acts-drains : (turn : Turn) (p : Processor) (left : Stores) (b b' : Bus) (noted noted' : Noted) (store : Pending) (access : bus_access.Access) → Some store ≡ slice_get p.stores.items 0
+    → left.items ≡ drop 1 p.stores.items → IsStored turn.core.0 store b b' noted noted' → IsMade turn write_by store.loc b b' access
+    → HasActed turn.way (drain_access (pending_in turn.core.0 p)) turn.core.0 p (record { place = p.place; registers = p.registers; stores = left }) b b' noted noted' (drain_by turn.core.0 p (words_of b)) (Committed, Through access)
+acts-drains turn p left b b' noted noted' store access h rest stored_is made =
+    let core : ℕ = turn.core.0 in
     let f : Effect = record {
       outcome = Committed;
       after = record { place = p.place; registers = p.registers; pending = map (store_of core) (drop 1 p.stores.items) };
       commits = store_of core store ∷ [];
     } in
     let q : Processor = record { place = p.place; registers = p.registers; stores = left } in
-    let all : HasActed core p q b b' noted noted' f (Committed, how) = record {
+    let all : HasActed turn.way (Writes store.loc) core p q b b' noted noted' f (Committed, Through access) = record {
       outcome = refl;
       after = ap (λ items. record { place = p.place; registers = p.registers; pending = map (store_of core) items }) rest;
       words = stored_is.words;
       commits = stored_is.commits;
-      caches = used;
+      caches = made.caches;
+      holder = made.holder;
     } in
-    subst (λ g. HasActed core p q b b' noted noted' g (Committed, how)) (sym (drained core (core_state core p) p.stores.items store h)) all
+    subst (λ g. HasActed turn.way (drain_access (pending_in core p)) core p q b b' noted noted' g (Committed, Through access)) (sym (drained core (core_state core p) p.stores.items store h))
+    (subst (λ a. HasActed turn.way a core p q b b' noted noted' f (Committed, Through access)) (writes-oldest core p.stores.items store h) all)

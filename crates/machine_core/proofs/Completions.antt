@@ -1,58 +1,51 @@
--- What the holder's next choice on a split bus does to the parts of a machine.
-use Rattle.std.proofs.Common.{◌≡◌, ◌≢◌, ◌<◌, ℕ, List, [], ◌∷◌, true, false, length, slice_index_or, refl, sym, ap, ◌∙◌, subst}
+-- A locked instruction whose load part the holder's next choice commits.
+use Rattle.std.proofs.Common.{◌≡◌, ◌<◌, ◌++◌, [], ◌∷◌, length, slice_set, slice_index, slice_index_or, refl, sym, ap, ◌∙◌, subst}
+use Rattle.std.proofs.lemmas.List.{set-get_or}
 use Rattle.tso_model.specs.Litmus.{Litmus}
-use Rattle.tso_model.specs.FlatMachine.{State, effect_of, chosen, core_of}
-use Rattle.tso_model.specs.Access.{NoAccess, drain_access, access_of}
-use Rattle.tso_model.specs.SplitMachine.{Free, HeldBy, BusEffect, acts, completes}
-use Rattle.tso_model.specs.declared.bus.Bus.TheVariants.{Split}
-use Rattle.tso_model.specs.declared.instruction.Core.{Core}
+use Rattle.tso_model.specs.Thread.{entry}
+use Rattle.tso_model.specs.FlatMachine.{chosen, memory_after}
+use Rattle.tso_model.specs.Access.{Locks, access_of}
+use Rattle.tso_model.specs.SplitMachine.{HeldBy, HeldBetween, reads_first, completes}
+use Rattle.tso_model.specs.declared.instruction.Loc.{Loc}
 use Rattle.tso_model.specs.declared.execution.Entry.{Entry}
+use Rattle.tso_model.specs.declared.execution.Kind.TheVariants.{LR}
 use Rattle.tso_model.specs.declared.choice.Choice.{Choice}
-use Rattle.tso_model.specs.declared.choice.Choice.TheVariants.{Drain}
 use Rattle.tso_model.specs.declared.choice.Outcome.TheVariants.{Committed}
-use Rattle.split_laws.specs.Holders.{HolderFits}
-use Rattle.snoop_bus.specs.Bus.{words_of, holder_of}
+use Rattle.snoop_bus.specs.Bus.{Bus, words_of}
 use Rattle.machine_core.specs.declared.processor.Processor.{Processor}
-use Rattle.machine_core.specs.declared.cache_use.CacheUse.TheVariants.{Unused}
+use Rattle.machine_core.specs.declared.cache_use.CacheUse.TheVariants.{Through}
 use Rattle.machine_core.specs.declared.machine_parts.MachineParts.{MachineParts}
-use Rattle.machine_core.specs.inner.Cores.{pending_in, drain_by}
-use Rattle.machine_core.specs.Caches.{caches_of, at_access, not_through, completion_by, is_awaited, used_between}
-use Rattle.machine_core.specs.Kept.{IsHeldForAccess, held_as, held_for, core_in, state_in}
+use Rattle.machine_core.specs.Cores.{core_state}
+use Rattle.machine_core.specs.Caches.{caches_of, completing_by, completion_by, is_awaited}
+use Rattle.machine_core.specs.Kept.{state_in}
+use Rattle.machine_core.specs.Performed.{HasUsed, Performs}
 use Rattle.machine_core.specs.Split.{completes_in, use_by}
-use Rattle.machine_core.proofs.Accessing.{commits-at-once}
-use Rattle.machine_core.proofs.Performing.{access_of-drain, effect_in-drain}
+use Rattle.machine_core.proofs.Splitting.{use-frees}
+use Rattle.machine_core.proofs.Performing.{Performs-by, core_of-state_in}
+use Rattle.snoop_bus.specs.declared.access.Access as bus_access
 
--- the holder's access
-pub held-asked : {P : Type 0} (t : Litmus) (m : MachineParts P) (choice : Choice) → IsHeldForAccess t m → (state_in m).holder ≡ HeldBy choice
-    → holder_of m.bus ≡ held_for (core_in choice) (access_of t m.config.depth (state_in m).flat choice)
-held-asked t m choice held asked = held ∙ ap (held_as t m.config.depth (state_in m).flat) asked
+-- of a locked instruction the load part is committed
+completes-first : {P : Type 0} (t : Litmus) (m : MachineParts P) (choice : Choice) (loc : Loc) (p : Processor) → access_of t m.config.depth (state_in m).flat choice ≡ Locks loc
+    → chosen choice < length m.processors.items → p ≡ slice_index_or m.processors.items (chosen choice) p
+    → completes_in t m choice ≡ reads_first (core_state (chosen choice) p) (entry (chosen choice) p.place LR loc (slice_index (words_of m.bus) loc.0))
+completes-first t m choice loc p locks h at =
+    ap (completes t m.config.depth (state_in m).flat choice) locks
+    ∙ ap (λ s. reads_first s (entry (chosen choice) s.place LR loc (slice_index (words_of m.bus) loc.0))) (core_of-state_in m (chosen choice) p h at)
 
-pub some-asked : {P : Type 0} (t : Litmus) (m : MachineParts P) (choice : Choice) → HolderFits Split t m.config.depth (state_in m).flat (state_in m).holder → (state_in m).holder ≡ HeldBy choice
-    → access_of t m.config.depth (state_in m).flat choice ≢ NoAccess
-some-asked t m choice fits asked = subst (HolderFits Split t m.config.depth (state_in m).flat) asked fits
+pub performs-first : {P : Type 0} (t : Litmus) (m new : MachineParts P) (choice : Choice) (loc : Loc) (p : Processor) (e : Entry) → access_of t m.config.depth (state_in m).flat choice ≡ Locks loc
+    → chosen choice < length m.processors.items → p ≡ slice_index_or m.processors.items (chosen choice) p → e ≡ entry (chosen choice) p.place LR loc (slice_index (words_of m.bus) loc.0)
+    → new.processors.items ≡ m.processors.items → words_of new.bus ≡ words_of m.bus → new.commits.entries ≡ m.commits.entries ++ e ∷ [] → (state_in new).holder ≡ HeldBetween e
+    → Performs m new choice (completes_in t m choice) Committed
+performs-first t m new choice loc p e locks h at is processors words commits holder =
+    let same : new.processors.items ≡ slice_set m.processors.items (chosen choice) p =
+    processors ∙ sym (set-get_or m.processors.items (chosen choice) p) ∙ ap (slice_set m.processors.items (chosen choice)) (sym at) in
+    Performs-by m new choice Committed p (completes_in t m choice) (reads_first (core_state (chosen choice) p) e)
+    (completes-first t m choice loc p locks h at ∙ ap (reads_first (core_state (chosen choice) p)) (sym is)) same refl (words ∙ ap (λ f. memory_after (f ∷ []) (words_of m.bus)) (sym is)) commits holder refl
 
--- it uses the caches by its completion
-pub use-frees : {P : Type 0} (t : Litmus) (m : MachineParts P) (choice : Choice) (f : BusEffect) → (state_in m).holder ≡ HeldBy choice → is_awaited f.holder ≡ false
-    → use_by t m choice f
-    ≡ at_access (not_through Unused (caches_of m.bus)) (λ loc write. completion_by (caches_of m.bus) (chosen choice) loc.0) (access_of t m.config.depth (state_in m).flat choice)
-use-frees t m choice f asked free =
-    let what = access_of t m.config.depth (state_in m).flat choice in
-    let pending = (core_of (state_in m).flat (chosen choice)).pending in
-    ap (λ h. used_between (is_awaited h) (is_awaited f.holder) (caches_of m.bus) (chosen choice) what pending f.effect.commits) asked
-    ∙ ap (λ b. used_between true b (caches_of m.bus) (chosen choice) what pending f.effect.commits) free
-
--- a drain
-completes-drain : (t : Litmus) (depth : ℕ) (state : State) (choice : Choice) (pending : List Entry) → completes t depth state choice (drain_access pending) ≡ acts (effect_of t depth state choice) Free
-completes-drain t depth state choice [] = refl
-completes-drain t depth state choice (p ∷ ps) = refl
-
-pub completes_in-drain : {P : Type 0} (t : Litmus) (m : MachineParts P) (core : Core) (p : Processor) → core.0 < length m.processors.items → p ≡ slice_index_or m.processors.items core.0 p
-    → completes_in t m (Drain core) ≡ acts (drain_by core.0 p (words_of m.bus)) Free
-completes_in-drain t m core p h q =
-    ap (completes t m.config.depth (state_in m).flat (Drain core)) (access_of-drain t m core p h q)
-    ∙ completes-drain t m.config.depth (state_in m).flat (Drain core) (pending_in core.0 p) ∙ ap (λ f. acts f Free) (effect_in-drain t m core p h q)
-
-pub drain-commits : {P : Type 0} (t : Litmus) (m : MachineParts P) (core : Core) (p : Processor) → core.0 < length m.processors.items → p ≡ slice_index_or m.processors.items core.0 p
-    → access_of t m.config.depth (state_in m).flat (Drain core) ≢ NoAccess → (drain_by core.0 p (words_of m.bus)).outcome ≡ Committed
-drain-commits t m core p h q some =
-    ap (λ f. f.outcome) (sym (effect_in-drain t m core p h q)) ∙ (commits-at-once t m.config.depth (state_in m).flat (Drain core) some).outcome
+pub uses-first : {P : Type 0} (t : Litmus) (m : MachineParts P) (bus : Bus) (choice : Choice) (loc : Loc) (p : Processor) (access : bus_access.Access) → (state_in m).holder ≡ HeldBy choice
+    → access_of t m.config.depth (state_in m).flat choice ≡ Locks loc → chosen choice < length m.processors.items → p ≡ slice_index_or m.processors.items (chosen choice) p
+    → HasUsed (completion_by (caches_of m.bus) (chosen choice) loc.0) bus (Through access) → HasUsed (use_by t m choice (completes_in t m choice)) bus (Through access)
+uses-first t m bus choice loc p access asked locks h at used =
+    let same : use_by t m choice (completes_in t m choice) ≡ completion_by (caches_of m.bus) (chosen choice) loc.0 =
+    use-frees t m choice (completes_in t m choice) asked (ap (λ f. is_awaited f.holder) (completes-first t m choice loc p locks h at)) ∙ ap (completing_by (caches_of m.bus) (chosen choice)) locks in
+    subst (λ u. HasUsed u bus (Through access)) (sym same) used

@@ -36,7 +36,7 @@ pub newest_for-stores : (core loc word : ℕ) (items : List Pending)
     → unwrap_or (newest_for loc items) word ≡ last_value (filter (writes_to loc) (map (store_of core) items)) word
 newest_for-stores core loc word items = last_value-stores core loc word None items
 
--- the value that a load sees is that of the newest buffered store, or memory's word where there is none
+-- the value that a load sees is that of the newest pending store, or memory's word where there is none
 pub sees_buffered : (core loc word value : ℕ) (items : List Pending) → Some value ≡ newest_for loc items → value ≡ last_value (filter (writes_to loc) (map (store_of core) items)) word
 sees_buffered core loc word value items h = ap (λ o. unwrap_or o word) h ∙ newest_for-stores core loc word items
 
@@ -53,7 +53,7 @@ take-got [] k x h = absurd (let z : ⊥ = cc in z)
 take-got (y ∷ ys) zero x h = ap (λ (n : ℕ). n ∷ []) (let z : y ≡ x = cc in z)
 take-got (y ∷ ys) (suc k) x h = rw add-one (ap (λ zs. y ∷ zs) (rw add-one at (take-got ys k x h)))
 
--- something is buffered
+-- something is pending
 pub holds_some : (b : Bool) (items : List Pending) → (items ≡ [] → IsTrue b) → b ≡ false → items ≡ [] → ⊥
 holds_some b items h f e = let t : b ≡ true = h e in let z : true ≡ false = sym t ∙ f in let w : ⊥ = cc in w
 

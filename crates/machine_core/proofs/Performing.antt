@@ -3,8 +3,8 @@ use Rattle.std.proofs.Common.{◌≡◌, ◌<◌, ℕ, ◌++◌, None, Some, Res
 use Rattle.std.proofs.lemmas.List.Elements.{All-set}
 use Rattle.tso_model.specs.Litmus.{Litmus}
 use Rattle.tso_model.specs.FlatMachine.{Effect, stalled, step_of, drain_of, chosen, memory_after, program_of, core_of}
-use Rattle.tso_model.specs.Access.{NoAccess, access_of, step_access, drain_access}
-use Rattle.tso_model.specs.SplitMachine.{BusEffect, acts}
+use Rattle.tso_model.specs.Access.{Access, NoAccess, access_of, step_access, drain_access}
+use Rattle.tso_model.specs.SplitMachine.{Free, BusEffect, acts}
 use Rattle.tso_model.specs.declared.instruction.Core.{Core}
 use Rattle.tso_model.specs.declared.instruction.Instr.{Instr}
 use Rattle.tso_model.specs.declared.out_of_memory.NoMemory.{NoMemory}
@@ -12,21 +12,25 @@ use Rattle.tso_model.specs.declared.choice.Choice.{Choice}
 use Rattle.tso_model.specs.declared.choice.Choice.TheVariants.{Step, Drain}
 use Rattle.tso_model.specs.declared.choice.Outcome.{Outcome}
 use Rattle.tso_model.specs.declared.choice.Stall.TheVariants as stall
-use Rattle.snoop_bus.specs.Bus.{words_of, cores_of}
+use Rattle.snoop_bus.specs.Bus.{words_of, cores_of, holder_of}
 use Rattle.machine_core.specs.declared.processor.Processor.{Processor}
 use Rattle.machine_core.specs.declared.machine_parts.MachineParts.{MachineParts}
 use Rattle.machine_core.specs.Cores.{core_state, core_states}
 use Rattle.machine_core.specs.inner.Cores.{pending_in, step_by, drain_by}
-use Rattle.machine_core.specs.Caches.{caches_of, use_of}
-use Rattle.machine_core.specs.Kept.{IsCore, PartsFitTest, state_in}
+use Rattle.machine_core.specs.Caches.{caches_of, completing_by, use_of}
+use Rattle.machine_core.specs.Kept.{IsCore, PartsFitTest, core_in, state_in}
 use Rattle.machine_core.specs.Performed.{Answer, HasUsed, Performs}
-use Rattle.machine_core.specs.inner.Performed.{flat_effect_in}
+use Rattle.machine_core.specs.inner.Performed.{MayAct, MayMakeBy, MayMakeIn, flat_effect_in}
+use Rattle.machine_core.specs.inner.Turns.{by_way, HasAsked}
+use Rattle.machine_core.specs.declared.turn.Way.{Way}
+use Rattle.machine_core.specs.declared.turn.Way.TheVariants.{Whole, Asked}
 use Rattle.machine_core.specs.inner.Acted.{HasActed}
 use Rattle.machine_core.specs.Split.{use_by}
 use Rattle.machine_core.specs.Made.{HasMade}
-use Rattle.machine_core.specs.inner.Made.{whole_effect_in}
+use Rattle.machine_core.specs.inner.Made.{effect_made_in}
 use Rattle.machine_core.proofs.CoreLemmas.{core_states-get_or, core_states-set}
-use Rattle.machine_core.proofs.Splitting.{use-acts}
+use Rattle.machine_core.proofs.ActedLemmas.{whole-none}
+use Rattle.machine_core.proofs.Splitting.{flat_use_in, use-acts, use-frees, held-with, held-made}
 
 -- the core that a choice names, as the flat machine has it
 pub core_of-state_in : {P : Type 0} (m : MachineParts P) (i : ℕ) (p : Processor) → i < length m.processors.items → p ≡ slice_index_or m.processors.items i p → core_of (state_in m).flat i ≡ core_state i p
@@ -84,20 +88,42 @@ Performs-by m new choice o p f g e processors after memory commits holder outcom
     } in
     subst (λ h. Performs m new choice h o) (sym e) all
 
-pub IfOk-Makes : {P : Type 0} (r : Result Answer NoMemory) (t : Litmus) (m new : MachineParts P) (choice : Choice) (p q : Processor) (f : Effect) → flat_effect_in t m choice ≡ f
-    → chosen choice < length m.processors.items → p ≡ slice_index_or m.processors.items (chosen choice) p
-    → new.processors.items ≡ slice_set m.processors.items (chosen choice) q → (state_in new).holder ≡ (state_in m).holder
-    → IfOk r (HasActed (chosen choice) p q m.bus new.bus m.commits new.commits f) → IfOk r (HasMade t m new choice (whole_effect_in t m choice))
-IfOk-Makes (Ok x) t m new choice p q f e h at processors holder acted =
-    let used : use_by t m choice (whole_effect_in t m choice) ≡ use_of (caches_of m.bus) (pending_in (chosen choice) p) f.commits =
-    use-acts t m choice ∙ ap (λ s. use_of (caches_of m.bus) s.pending (flat_effect_in t m choice).commits) (core_of-state_in m (chosen choice) p h at)
-    ∙ ap (λ g. use_of (caches_of m.bus) (pending_in (chosen choice) p) g.commits) e in
+-- its core may make its access
+pub may-make : {P : Type 0} (way : Way) (t : Litmus) (m : MachineParts P) (choice : Choice) (what : Access) → access_of t m.config.depth (state_in m).flat choice ≡ what
+    → MayMakeIn way t m choice → MayMakeBy way m.bus (core_in choice) what
+may-make Whole t m (Step core) what a may = subst (MayAct m.bus core.0) a may
+may-make Whole t m (Drain core) what a may = subst (MayAct m.bus core.0) a may
+may-make Asked t m choice what a may = subst (HasAsked m.bus (core_in choice)) a may.1
+
+pub whole-done : {P : Type 0} (way : Way) (t : Litmus) (m : MachineParts P) (choice : Choice) → access_of t m.config.depth (state_in m).flat choice ≡ NoAccess → MayMakeIn way t m choice → way ≡ Whole
+whole-done way t m choice none may =
+    whole-none (record { core = core_in choice; way = way }) m.bus NoAccess refl (may-make way t m choice NoAccess none may)
+
+-- how it used the caches
+use-made : {P : Type 0} (way : Way) (t : Litmus) (m : MachineParts P) (choice : Choice) → MayMakeIn way t m choice → use_by t m choice (effect_made_in way t m choice)
+    ≡ by_way way (flat_use_in t m choice) (completing_by (caches_of m.bus) (chosen choice) (access_of t m.config.depth (state_in m).flat choice))
+use-made Whole t m choice may = use-acts t m choice
+use-made Asked t m choice may = use-frees t m choice (effect_made_in Asked t m choice) may.0 refl
+
+pub IfOk-Makes : {P : Type 0} (way : Way) (r : Result Answer NoMemory) (t : Litmus) (m new : MachineParts P) (choice : Choice) (what : Access) (p q : Processor) (f : Effect) → MayMakeIn way t m choice
+    → flat_effect_in t m choice ≡ f → access_of t m.config.depth (state_in m).flat choice ≡ what → chosen choice < length m.processors.items → p ≡ slice_index_or m.processors.items (chosen choice) p
+    → new.processors.items ≡ slice_set m.processors.items (chosen choice) q → new.next ≡ m.next
+    → IfOk r (HasActed way what (chosen choice) p q m.bus new.bus m.commits new.commits f) → IfOk r (HasMade t m new choice (effect_made_in way t m choice))
+IfOk-Makes way (Ok x) t m new choice what p q f may e a h at processors next acted =
+    let c = caches_of m.bus in
+    let done = completing_by c (chosen choice) in
+    let before = access_of t m.config.depth (state_in m).flat choice in
+    let used : use_by t m choice (effect_made_in way t m choice) ≡ by_way way (use_of c (pending_in (chosen choice) p) f.commits) (done what) =
+    use-made way t m choice may
+    ∙ ap (λ s. by_way way (use_of c s.pending (flat_effect_in t m choice).commits) (done before)) (core_of-state_in m (chosen choice) p h at)
+    ∙ ap (λ g. by_way way (use_of c (pending_in (chosen choice) p) g.commits) (done before)) e
+    ∙ ap (λ b. by_way way (use_of c (pending_in (chosen choice) p) f.commits) (done b)) a in
     record {
-      ok = Performs-by m new choice x.0 q (whole_effect_in t m choice) (acts f (state_in m).holder) (ap (λ g. acts g (state_in m).holder) e)
-          processors acted.after acted.words acted.commits holder acted.outcome;
+      ok = Performs-by m new choice x.0 q (effect_made_in way t m choice) (acts f (by_way way (state_in m).holder Free)) (ap (λ g. acts g (by_way way (state_in m).holder Free)) e)
+          processors acted.after acted.words acted.commits (ap (λ n. held-with n (holder_of new.bus)) next ∙ ap (held-with m.next) acted.holder ∙ held-made way m.next (holder_of m.bus)) acted.outcome;
       caches = subst (λ u. HasUsed u new.bus x.1) (sym used) acted.caches;
     }
-IfOk-Makes (Err x) t m new choice p q f e h at processors holder acted = tt
+IfOk-Makes way (Err x) t m new choice what p q f may e a h at processors next acted = tt
 
 -- the parts still fit the test when one core and memory have changed
 pub PartsFitTest-next : {P : Type 0} (t : Litmus) (m new : MachineParts P) (i : ℕ) (p : Processor) → PartsFitTest t m → new.config ≡ m.config → new.processors.items ≡ slice_set m.processors.items i p

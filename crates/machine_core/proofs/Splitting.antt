@@ -1,5 +1,5 @@
 -- A choice on a split bus that isn't the holder's next one.
-use Rattle.std.proofs.Common.{◌≡◌, ◌≢◌, ℕ, ◌++◌, Bool, true, false, List, [], Option, None, Some, option_map, Result, Ok, Err, IfOk, OnErr, inr, length, slice_set, append-nil, refl, sym, ap, ◌∙◌, subst}
+use Rattle.std.proofs.Common.{◌≡◌, ◌≢◌, ℕ, ◌++◌, Bool, true, false, List, [], Option, None, Some, option_map, Result, Ok, Err, IfOk, OnOk, OnErr, inr, length, slice_set, append-nil, refl, sym, ap, ◌∙◌, subst}
 use Rattle.std.proofs.lemmas.List.{set-get_or}
 use Rattle.tso_model.specs.Litmus.{Litmus}
 use Rattle.tso_model.specs.FlatMachine.{CoreState, State, Effect, stalled, after_choice, chosen, core_of, idle}
@@ -25,14 +25,17 @@ use Rattle.machine_core.specs.declared.cache_use.CacheUse.TheVariants.{Unused}
 use Rattle.machine_core.specs.declared.holding.Next.{Next}
 use Rattle.machine_core.specs.declared.holding.Next.TheVariants.{Complete, Write}
 use Rattle.machine_core.specs.declared.machine_parts.MachineParts.{MachineParts}
-use Rattle.machine_core.specs.Caches.{Caches, Used, caches_of, at_access, ask_by, not_through, hits_by, is_awaited, used_between, use_of}
+use Rattle.machine_core.specs.declared.turn.Way.{Way}
+use Rattle.machine_core.specs.inner.Turns.{by_way}
+use Rattle.machine_core.specs.Caches.{Caches, Used, caches_of, at_access, ask_by, not_through, hits_by, is_awaited, used_between, completing_by, use_of}
 use Rattle.machine_core.specs.Kept.{PartsFitTest, IsHeldForAccess, held_as, held_for, core_in, holder_by, state_in}
 use Rattle.machine_core.specs.Performed.{Answer, HasUsed, Performs}
 use Rattle.machine_core.specs.inner.Performed.{MayAct, attempt_in, flat_effect_in}
 use Rattle.machine_core.specs.Split.{use_by}
 use Rattle.machine_core.specs.inner.Split.{IsOther, begins_in}
 use Rattle.machine_core.specs.Made.{HasMade, IsUndone}
-use Rattle.machine_core.specs.inner.Made.{whole_effect_in}
+use Rattle.machine_core.specs.inner.Made.{effect_made_in}
+use Rattle.machine_core.specs.declared.turn.Way.TheVariants as way
 
 -- whether it needs the bus
 abbrev pub needs_in : {P : Type 0} → Litmus → MachineParts P → Choice → Bool
@@ -57,6 +60,15 @@ used-same false c core what pending commits = refl
 pub use-acts : {P : Type 0} (t : Litmus) (m : MachineParts P) (choice : Choice) → use_by t m choice (acts (flat_effect_in t m choice) (state_in m).holder) ≡ flat_use_in t m choice
 use-acts t m choice = used-same (is_awaited (state_in m).holder) _ _ _ _ _
 
+-- where what was awaited comes, by its completion
+pub use-frees : {P : Type 0} (t : Litmus) (m : MachineParts P) (choice : Choice) (f : BusEffect) → (state_in m).holder ≡ HeldBy choice → is_awaited f.holder ≡ false
+    → use_by t m choice f ≡ completing_by (caches_of m.bus) (chosen choice) (access_of t m.config.depth (state_in m).flat choice)
+use-frees t m choice f asked free =
+    let what = access_of t m.config.depth (state_in m).flat choice in
+    let pending = (core_of (state_in m).flat (chosen choice)).pending in
+    ap (λ h. used_between (is_awaited h) (is_awaited f.holder) (caches_of m.bus) (chosen choice) what pending f.effect.commits) asked
+    ∙ ap (λ b. used_between true b (caches_of m.bus) (chosen choice) what pending f.effect.commits) free
+
 -- an ask is no access
 asks-unused : (c : Caches) (core : ℕ) (access : Access) → Unused ≡ (at_access (not_through Unused c) (λ loc write. ask_by c core loc.0 write) access).how
 asks-unused c core NoAccess = refl
@@ -80,7 +92,7 @@ pub held-next : {P : Type 0} (r : Result Answer NoMemory) (t : Litmus) (m new : 
     → HolderFits Split t m.config.depth (state_in m).flat (state_in m).holder
     → ((a b : Choice) → access_of t m.config.depth (state_in m).flat a ≢ NoAccess → same_choice a b ≡ false
     → access_of t m.config.depth (after_choice t m.config.depth (state_in m).flat b) a ≡ access_of t m.config.depth (state_in m).flat a)
-    → new.config ≡ m.config → holder_of new.bus ≡ holder_of m.bus → IfOk r (HasMade t m new choice (whole_effect_in t m choice))
+    → new.config ≡ m.config → OnOk r (holder_of new.bus ≡ holder_of m.bus) → IfOk r (HasMade t m new choice (effect_made_in way.Whole t m choice))
     → OnErr r (IsUndone m new) → IsHeldForAccess t new
 held-next (Ok x) t m new choice held other fits waits config same done err =
     let flat : (state_in new).flat ≡ after_choice t m.config.depth (state_in m).flat choice = done.ok.flat in
@@ -88,7 +100,7 @@ held-next (Ok x) t m new choice held other fits waits config same done err =
     ∙ ap (λ s. held_as t m.config.depth s (state_in m).holder) (sym flat) ∙ ap (λ h. held_as t m.config.depth (state_in new).flat h) (sym done.ok.holder)
     ∙ ap (λ c. held_as t c.depth (state_in new).flat (state_in new).holder) (sym config)
 held-next (Err x) t m new choice held other fits waits config same done err =
-    same ∙ held ∙ ap (λ (s : BusState). held_as t m.config.depth s.flat s.holder) (sym err.state) ∙ ap (λ c. held_as t c.depth (state_in new).flat (state_in new).holder) (sym config)
+    ap holder_of err.bus ∙ held ∙ ap (λ (s : BusState). held_as t m.config.depth s.flat s.holder) (sym err.state) ∙ ap (λ c. held_as t c.depth (state_in new).flat (state_in new).holder) (sym config)
 
 -- the caches' answer fits
 pub answer-fits : (t : Litmus) (depth : ℕ) (state : State) (a : Attempt) (b : Bus) (holder : Holder) → holder_of b ≡ held_as t depth state holder
@@ -170,6 +182,11 @@ asks-taken s choice (Write e) holder h = rw h refl
 -- who holds the machine's bus, by the caches' bus and what its holder goes on with
 abbrev pub held-with : Next → Option bus_holder.Holder → Holder
 held-with next h = holder_by (option_map (λ x. next) h)
+
+-- an access that is made leaves it so
+pub held-made : (w : Way) (next : Next) (h : Option bus_holder.Holder) → held-with next (by_way w h None) ≡ by_way w (held-with next h) Free
+held-made way.Whole next h = refl
+held-made way.Asked next h = refl
 
 -- an access that needs the bus holds it once it was asked for
 pub asks-hold : (core : Core) (access : Access) (hit : Bool) (choice : Choice) → needs_bus access hit ≡ true → held-with (Complete choice) (held_for core access) ≡ HeldBy choice

@@ -1,4 +1,5 @@
 -- Choices with the caches' answers along a run: each choice is answered by the caches as the choices before it left them.
+-- On a split bus that answer, whether the access hits, decides whether a choice asks for the bus or acts at once.
 use Rattle.std.specs.Prelude.{ℕ, List, [], ◌∷◌}
 use Rattle.tso_model.specs.Litmus.{Litmus}
 use Rattle.tso_model.specs.FlatMachine.{start}

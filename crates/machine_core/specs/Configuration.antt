@@ -1,4 +1,5 @@
--- What a contract sees of a machine's configuration.
+-- What a contract sees of a machine's configuration. The depth of the store buffers decides which orders are in reach; on
+-- the atomic bus the shape of the caches has a part in the statistics alone. (This project's profile.)
 use Rattle.std.specs.Prelude.{ℕ, ◌≤◌}
 use Rattle.tso_model.specs.Limits.{most_depth}
 use Rattle.tso_model.specs.declared.bus.Bus.{Bus}

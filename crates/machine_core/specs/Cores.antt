@@ -1,4 +1,5 @@
--- A core of the machine as the flat machine has it: what its store buffer holds are its pending stores.
+-- A core of the machine as the flat machine has it: what its store buffer holds are its pending stores. So each choice of
+-- the code is held against one of the flat machine, and no promise has to speak of a buffer. (x86-TSO, section 3.)
 use Rattle.std.specs.Prelude.{ℕ, ◌+◌, ◌<◌, List, [], ◌∷◌, map, All}
 use Rattle.tso_model.specs.Thread.{entry}
 use Rattle.tso_model.specs.FlatMachine.{CoreState, State}
@@ -9,14 +10,14 @@ use Rattle.store_buffer.specs.Stores.{Stores}
 use Rattle.store_buffer.specs.inner.Stores.{stores}
 use Rattle.machine_core.specs.declared.processor.Processor.{Processor}
 
--- the entry that a buffered store of this core commits when it goes to memory
+-- the entry that a pending store of this core commits when it goes to memory
 abbrev pub store_of : ℕ → Pending → Entry
 store_of core p = entry core p.place W p.loc p.value
 
 abbrev pub core_state : ℕ → Processor → CoreState
 core_state core p = record { place = p.place; registers = p.registers; pending = map (store_of core) p.stores.items }
 
--- these buffered stores are to one of so many locations
+-- these pending stores are to one of so many locations
 abbrev pub AreKnown : ℕ → Stores → Type 0
 AreKnown locations s = All (λ p. p.loc.0 < locations) s.items
 

@@ -1,4 +1,5 @@
--- What the parts of a machine keep from choice to choice.
+-- What the parts of a machine keep from choice to choice: all cores are on one bus, buffers hold stores to the test's
+-- locations, and the caches' bus is held for just the access that its holder goes on with. (This project's profile.)
 use Rattle.std.specs.Prelude.{ℕ, ◌≡◌, ◌≤◌, length, All, Option, None, Some, option_map}
 use Rattle.tso_model.specs.Litmus.{Litmus}
 use Rattle.tso_model.specs.FlatMachine.{State}

@@ -1,4 +1,5 @@
--- What one who looks at a machine finds there.
+-- What one who looks at a machine finds there of the action that holds a split bus: its next choice, its location, and what
+-- its line is in until the words come. (Primer, chapter 7, transient states.)
 use Rattle.std.specs.Prelude.{ℕ, Option, None, Some, option_map}
 use Rattle.tso_model.specs.Litmus.{Litmus}
 use Rattle.tso_model.specs.FlatMachine.{State}

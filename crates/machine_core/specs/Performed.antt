@@ -1,4 +1,5 @@
--- A choice made on the parts of a machine. (This project's profile; what a choice does is the machine's on either bus.)
+-- A choice made on the parts of a machine: its outcome, its effect on the state and the commits, and how it used the
+-- caches, which is what is counted. (This project's profile; what a choice does is the machine's on either bus.)
 use Rattle.std.specs.Prelude.{◌≡◌, ◌++◌}
 use Rattle.tso_model.specs.FlatMachine.{applied, chosen}
 use Rattle.tso_model.specs.SplitMachine.{BusEffect}

@@ -1,4 +1,5 @@
--- Worked runs, for what their accesses come to.
+-- Worked runs, for what their accesses come to: each shows one rule of the statistics at work, on counts that one can make
+-- by hand. (Primer, chapter 7, for the tables that they go by.)
 use Rattle.std.specs.Prelude.{ℕ, List, [], ◌∷◌, None, codes}
 use Rattle.tso_model.specs.FlatMachine.{step, drain}
 use Rattle.tso_model.specs.Litmus.{Litmus}

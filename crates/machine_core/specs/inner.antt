@@ -10,3 +10,4 @@ pub mod Made
 pub mod Performed
 pub mod Running
 pub mod Split
+pub mod Turns

@@ -1,5 +1,7 @@
-//! What a choice does on a split bus: the holder's next choice completes what it asked for; any other
-//! asks for the bus, waits for it, or acts at once where it doesn't need it.
+//! What a choice does on a split bus: the holder's next choice completes what it asked for; any other asks for the bus,
+//! stalls while it is held, or acts at once where its access hits. Between the two parts of a locked instruction no write
+//! of another core to its location may hit: the instruction would no longer be atomic. (Primer, chapter 7, the
+//! split-transaction bus.)
 ghost use Rattle.std.specs.Prelude.{◌≡◌, ℕ, ◌<◌, true, IfOk, OnErr, Some, filter, length};
 ghost use Rattle.tso_model.specs.Litmus.{KnownLocation};
 ghost use Rattle.tso_model.specs.FlatMachine.{chosen};
@@ -24,6 +26,7 @@ use crate::holding::{Next, next_of};
 use crate::machine_parts::{MachineParts, act, core_of, instruction_at};
 use crate::memory_access::MemoryAccess;
 use crate::processor::Processor;
+use crate::turn::Way;
 use protocol_tables::Protocol;
 use snoop_bus::SnoopBus;
 use split_laws::accesses_wait;
@@ -91,7 +94,7 @@ fn begin<P: Protocol>(
     let core = core_of(choice);
     let access = access_of(parts, test, choice);
     if !needs_bus(&parts.bus, core, access) {
-        return act(parts, test, choice);
+        return act(parts, test, choice, Way::Whole);
     }
     match next_of(parts) {
         None => {
@@ -192,7 +195,7 @@ fn load_access(processor: &Processor, loc: Loc) -> MemoryAccess
     }
 }
 
-/// A locked instruction waits until nothing is buffered.
+/// A locked instruction waits until nothing is pending.
 fn locked_access(processor: &Processor, loc: Loc) -> MemoryAccess
     ensures value { (core : ℕ) → access_in result ≡ locked_access loc (pending_in core processor.now) }
     ensures known { (locations : ℕ) → loc.0 < locations → IsAccessAmong locations (access_in result) }
@@ -204,7 +207,7 @@ fn locked_access(processor: &Processor, loc: Loc) -> MemoryAccess
     }
 }
 
-/// A drain writes the oldest buffered store.
+/// A drain writes the oldest pending store.
 fn drain_access(processor: &Processor) -> MemoryAccess
     ensures value { (core : ℕ) → access_in result ≡ drain_access (pending_in core processor.now) }
     ensures known { (locations : ℕ) → AreKnown locations processor.now.stores → IsAccessAmong locations (access_in result) }

@@ -1,4 +1,5 @@
-//! What a choice had to do with the caches.
+//! What a choice had to do with the caches. A choice answers it beside its outcome, so that what is counted is the very
+//! access that was made, and not what a second look at changed caches would find.
 
 use snoop_bus::Access;
 

@@ -1,4 +1,5 @@
-//! How a machine is built.
+//! How a machine is built. A configuration is made only within the limits, so that nothing after it has to test them again.
+//! Depth 0 is a machine without store buffers, whose runs are sequentially consistent. (Primer, chapter 3.)
 
 ghost use Rattle.std.specs.Prelude.{◌≡◌, ◌≤◌, ◌↔◌, IsSome, IfSome};
 ghost use Rattle.snoop_bus.specs.Geometry.{IsLineSize, IsShapeWithinLimits};

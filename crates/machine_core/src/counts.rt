@@ -1,4 +1,5 @@
-//! What is counted of the accesses of a cache.
+//! The statistics of one core's cache. Each access is counted once, by the choice that makes it; a load that the store
+//! buffer answers (a forward) is no access of the cache. (Primer, chapters 6 and 7, for hits, misses and upgrades.)
 
 /// What the accesses of one core's cache were, counted over a run. A load that the core's own pending
 /// stores answer is no access; a locked instruction is one write access.

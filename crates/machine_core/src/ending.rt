@@ -1,4 +1,5 @@
-//! The final state of a test that has ended.
+//! The final state of a test that has ended. Memory's own words may be stale while a cache has a dirty line; so each dirty
+//! line is written back before memory is read.
 ghost use Rattle.std.specs.Prelude.{◌≡◌, IfOk, map};
 ghost use Rattle.snoop_bus.specs.Bus.{words_of, IsFree, IsSameMachine};
 ghost use Rattle.machine_core.specs.Kept.{PartsFitTest};

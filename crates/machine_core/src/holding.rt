@@ -1,4 +1,5 @@
-//! What the action that holds the bus goes on with.
+//! What the action that holds a split bus goes on with. The bus knows its access, and not its instruction: that a locked
+//! instruction has its store part still to do, and with which entry, is kept here.
 ghost use Rattle.std.specs.Prelude.{◌≡◌};
 ghost use Rattle.machine_core.specs.Kept.{next_in};
 

@@ -24,6 +24,7 @@ mod processor;
 mod restarting;
 mod tallying;
 pub mod telling;
+mod turn;
 pub mod worked;
 
 pub use cache_use::CacheUse;

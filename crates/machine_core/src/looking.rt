@@ -1,4 +1,5 @@
-//! A machine between two choices, for one who only looks. No call changes anything or takes memory.
+//! A machine between two choices, for one who only looks. No call changes anything or takes memory: a run that is looked at
+//! stays the same run.
 ghost use Rattle.std.specs.Prelude.{◌≡◌, option_copied, option_map, slice_get};
 ghost use Rattle.tso_model.specs.Thread.{value_in};
 ghost use Rattle.machine_core.specs.Cores.{core_state};

@@ -1,4 +1,6 @@
-//! The machine: a test, choices one at a time, and what is left.
+//! The machine: a test, choices one at a time, and what is left. Its calls do little themselves; what a choice does is said
+//! of its parts. Once memory was refused to a choice the machine has failed for good, so that nobody takes a run with a gap
+//! for a whole one.
 
 ghost use Rattle.std.specs.Prelude.{◌≡◌, ◌≢◌, ◌<◌, true, false, IsTrue, IsOk, IsErr, IfOk, OnOk, OnErr, length, map};
 ghost use Rattle.tso_model.specs.FlatMachine.{chosen};
@@ -63,7 +65,7 @@ impl<'a, P: Protocol> Model for Machine<'a, P> {
 
 impl<'a, P: Protocol> Machine<'a, P> {
     /// A machine at the beginning of the test: each core before its first instruction with its first
-    /// registers and nothing buffered, memory with the test's first words, the caches empty, the bus held
+    /// registers and nothing pending, memory with the test's first words, the caches empty, the bus held
     /// by nobody, and nothing committed or counted.
     ///
     /// Errors: out of memory only.
@@ -142,7 +144,7 @@ impl<'a, P: Protocol> Machine<'a, P> {
         made
     }
 
-    /// Whether the test has ended: each core is at the end of its program with nothing buffered, and
+    /// Whether the test has ended: each core is at the end of its program with nothing pending, and
     /// memory was never refused.
     pub fn is_ended(&self) -> bool
         ensures { result ≡ is_ended self.now }

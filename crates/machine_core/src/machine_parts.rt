@@ -1,6 +1,8 @@
-//! What a machine consists of, and what a choice does to it.
+//! What a machine consists of, and what a choice does to it: one core acts, on the caches' bus and on the list of commits.
+//! A stall, or memory that is refused, must leave all of them as they were; a choice made by half would put memory order
+//! and memory at odds.
 
-ghost use Rattle.std.specs.Prelude.{◌≡◌, ℕ, ◌<◌, ◌≤◌, IfOk, OnOk, OnErr, All, length, map, replicate, slice_get, take};
+ghost use Rattle.std.specs.Prelude.{◌≡◌, ℕ, ◌<◌, ◌≤◌, None, IfOk, OnOk, OnErr, All, length, map, replicate, slice_get, take};
 ghost use Rattle.tso_model.specs.Limits.{most_depth};
 ghost use Rattle.tso_model.specs.FlatMachine.{chosen, started};
 ghost use Rattle.tso_model.specs.Runs.{all_done};
@@ -11,10 +13,11 @@ ghost use Rattle.machine_core.specs.Statistics.{no_counts, no_statistics};
 ghost use Rattle.machine_core.specs.Kept.{IsCore, PartsFitTest, IsHeldForAccess, core_in, state_in};
 ghost use Rattle.machine_core.specs.inner.Kept.{IsTallied, statistics_in};
 ghost use Rattle.machine_core.specs.Performed.{Performs};
-ghost use Rattle.machine_core.specs.inner.Performed.{MayActIn, effect_in, flat_effect_in};
+ghost use Rattle.machine_core.specs.inner.Performed.{MayMakeIn, effect_in, flat_effect_in};
+ghost use Rattle.machine_core.specs.inner.Turns.{by_way};
 ghost use Rattle.machine_core.specs.inner.Acted.{SucceedsUnlessCommitting};
 ghost use Rattle.machine_core.specs.Made.{AreConsistent, AreOfTest};
-ghost use Rattle.machine_core.specs.inner.Made.{AreAtStart, AnswerFitsIn, IsAloneIn, whole_effect_in, use_in, statistics_next};
+ghost use Rattle.machine_core.specs.inner.Made.{AreAtStart, AnswerFitsIn, IsAloneIn, effect_made_in, use_in, statistics_next};
 ghost use Rattle.machine_core.specs.Made.{Makes, IsUndone, KeepsParts};
 
 use crate::asking::act_on_split;
@@ -25,6 +28,7 @@ use crate::holding::Next;
 use crate::pending_stores::PendingStores;
 use crate::processor::{Processor, drain, step as step_core};
 use crate::tallying::tally;
+use crate::turn::{Turn, Way};
 use order_builder::Commits;
 use protocol_tables::Protocol;
 use snoop_bus::SnoopBus;
@@ -171,33 +175,39 @@ fn act_on_bus<P: Protocol>(
     ensures of_test { AreOfTest test.now parts.new }
 {
     match parts.config.bus() {
-        Bus::Atomic => act(parts, test, choice),
+        Bus::Atomic => act(parts, test, choice, Way::Whole),
         Bus::Split => act_on_split(parts, test, choice),
     }
 }
 
-/// Makes a choice at once, and answers its outcome and what it had to do with the caches.
+/// Makes a choice whose access is made this way, and answers its outcome and what it had to do with the caches.
 pub fn act<P: Protocol>(
     parts: &mut MachineParts<P>,
     test: &Test,
     choice: Choice,
+    way: Way,
 ) -> Result<(Outcome, CacheUse), NoMemory>
     requires core { chosen choice < length test.now.programs }
     requires fits { PartsFitTest test.now parts.old }
-    requires free { MayActIn test.now parts.old choice }
+    requires free { MayMakeIn way test.now parts.old choice }
 
-    ensures makes { IfOk result (Makes whole_effect_in test.now parts.old parts.new choice) }
+    ensures makes { IfOk result (Makes (effect_made_in way) test.now parts.old parts.new choice) }
     ensures succeeds { SucceedsUnlessCommitting result (flat_effect_in test.now parts.old choice) }
     ensures err { OnErr result (IsUndone parts.old parts.new) }
     ensures keeps { KeepsParts parts.old parts.new }
-    ensures holder { holder_of parts.new.bus ≡ holder_of parts.old.bus }
+    ensures holder { OnOk result (holder_of parts.new.bus ≡ by_way way (holder_of parts.old.bus) None) }
     ensures fits { PartsFitTest test.now parts.new }
 {
     match choice {
-        Choice::Step(core) => step(parts, test, core),
+        Choice::Step(core) => step(parts, test, core, way),
         Choice::Drain(core) => {
             let processor = &mut parts.processors[core.0 as usize];
-            drain(processor, core, &mut parts.bus, &mut parts.commits)
+            drain(
+                processor,
+                Turn { core, way },
+                &mut parts.bus,
+                &mut parts.commits,
+            )
         }
     }
 }
@@ -207,23 +217,27 @@ fn step<P: Protocol>(
     parts: &mut MachineParts<P>,
     test: &Test,
     core: Core,
+    way: Way,
 ) -> Result<(Outcome, CacheUse), NoMemory>
     requires core { core.0 < length test.now.programs }
     requires fits { PartsFitTest test.now parts.old }
-    requires free { MayActIn test.now parts.old (Choice.Step core) }
+    requires free { MayMakeIn way test.now parts.old (Choice.Step core) }
 
-    ensures makes { IfOk result (Makes whole_effect_in test.now parts.old parts.new (Choice.Step core)) }
+    ensures makes { IfOk result (Makes (effect_made_in way) test.now parts.old parts.new (Choice.Step core)) }
     ensures succeeds { SucceedsUnlessCommitting result (flat_effect_in test.now parts.old (Choice.Step core)) }
     ensures err { OnErr result (IsUndone parts.old parts.new) }
     ensures keeps { KeepsParts parts.old parts.new }
-    ensures holder { holder_of parts.new.bus ≡ holder_of parts.old.bus }
+    ensures holder { OnOk result (holder_of parts.new.bus ≡ by_way way (holder_of parts.old.bus) None) }
     ensures fits { PartsFitTest test.now parts.new }
 {
     let program = test.program(core);
     let processor = &mut parts.processors[core.0 as usize];
     match instruction_at(program, processor.place) {
         None => Ok((Outcome::Stalled(Stall::Done), CacheUse::Unused)),
-        Some(instr) => step_core(processor, core, instr, &mut parts.bus, &mut parts.commits),
+        Some(instr) => {
+            let turn = Turn { core, way };
+            step_core(processor, turn, instr, &mut parts.bus, &mut parts.commits)
+        }
     }
 }
 
@@ -234,7 +248,7 @@ pub fn instruction_at(program: &[Instr], place: u8) -> Option<Instr>
     program.get(place as usize).copied()
 }
 
-/// Whether each core is at the end of its program with nothing buffered.
+/// Whether each core is at the end of its program with nothing pending.
 pub fn are_done<P: Protocol>(parts: &MachineParts<P>, test: &Test) -> bool
     requires { length parts.now.processors.items ≡ length test.now.programs }
     ensures { result ≡ all_done test.now.programs (core_states 0 parts.now.processors.items) }

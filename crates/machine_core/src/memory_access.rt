@@ -1,4 +1,5 @@
-//! What a choice is to read or write in memory.
+//! What a choice is to read or write beyond its core's own store buffer. A store that waits in the buffer, and a load that
+//! the buffer answers, access nothing there, and so need no bus.
 
 use tso_model::Loc;
 

@@ -1,4 +1,5 @@
-//! The pending stores of a core, with a buffer or without.
+//! The pending stores of a core, with a store buffer or without. Depth 0 has no buffer, and nothing is ever pending; one
+//! type for both lets a core take the same steps on either machine.
 
 ghost use Rattle.std.specs.Prelude.{◌≡◌, ◌<◌, ◌≤◌, ◌↔◌, [], ◌∷◌, ◌++◌, IsTrue, IfOk, OnOk, IfErr, length, drop, slice_get};
 ghost use Rattle.tso_model.specs.Limits.{most_depth};

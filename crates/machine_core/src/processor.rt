@@ -1,25 +1,31 @@
-//! A core, its steps and its drains.
+//! A core, its steps and its drains. TSO rests on these: a load sees the newest own pending store to its location
+//! (forwarding), a drain takes the oldest (first in, first out), and a fence or a locked instruction waits until nothing is
+//! pending. (x86-TSO, section 3; Primer, chapter 4.)
 
-ghost use Rattle.std.specs.Prelude.{◌≡◌, ℕ, ◌<◌, List, [], IfOk, OnOk, OnErr, length, filter, slice_get};
+ghost use Rattle.std.specs.Prelude.{◌≡◌, ℕ, ◌<◌, List, [], None, IfOk, OnOk, OnErr, length, filter, slice_get, slice_set};
 ghost use Rattle.tso_model.specs.Limits.{most_instructions};
 ghost use Rattle.tso_model.specs.Actions.{action_of};
 ghost use Rattle.tso_model.specs.Litmus.{KnownLocation};
 ghost use Rattle.tso_model.specs.ProgramOrder.{writes_to};
 ghost use Rattle.tso_model.specs.Thread.{value_in, with_value};
-ghost use Rattle.tso_model.specs.Access.{Writes, store_access, load_access, drain_access};
+ghost use Rattle.tso_model.specs.Access.{NoAccess, Reads, Writes, store_access, load_access, drain_access};
 ghost use Rattle.snoop_bus.specs.Bus.{Bus, words_of, cores_of, holder_of};
+ghost use Rattle.snoop_bus.specs.Accesses.{IsCurrentWord};
 ghost use Rattle.machine_core.specs.Cores.{AreKnown};
 ghost use Rattle.machine_core.specs.inner.Cores.{entries_in, pending_in, seen_by, at_next, own_access};
 ghost use Rattle.machine_core.specs.inner.Cores.{load_by, store_by, fence_by, step_by, drain_by};
 ghost use Rattle.machine_core.specs.Performed.{HasUsed};
-ghost use Rattle.machine_core.specs.inner.Performed.{MayAccess, MayAct};
-ghost use Rattle.machine_core.specs.Caches.{caches_of, load_after, write_by};
-ghost use Rattle.machine_core.specs.inner.Acted.{Acts, Waits, IsStored, SucceedsUnlessCommitting, AreUnchanged, KeepsBus};
+ghost use Rattle.machine_core.specs.inner.Performed.{MayAccess, MayMake};
+ghost use Rattle.machine_core.specs.inner.Turns.{by_way, whole};
+ghost use Rattle.machine_core.specs.Caches.{caches_of, load_after, write_by, completing_by};
+ghost use Rattle.machine_core.specs.Caches as caches;
+ghost use Rattle.machine_core.specs.inner.Acted.{Acts, Waits, IsMade, IsStored, SucceedsUnlessCommitting, AreUnchanged, HasSameSizes};
 
 use crate::cache_use::CacheUse;
 use crate::locked::{Locked, read_and_write};
-use crate::noting::entry;
+use crate::noting::{entry, store_entry};
 use crate::pending_stores::PendingStores;
+use crate::turn::{Turn, Way};
 use order_builder::Commits;
 use protocol_tables::Protocol;
 use snoop_bus::{Access, SnoopBus};
@@ -53,7 +59,7 @@ impl Processor {
         ensures { result ≡ slice_get (pending_in core.0 self.now) number }
     {
         let store = self.stores.get(number)?;
-        Some(entry(core, store.place, Kind::W, store.loc, store.value))
+        Some(store_entry(core, store))
     }
 
     /// The core goes back before its first instruction, with these registers and nothing pending.
@@ -65,7 +71,7 @@ impl Processor {
         self.stores.clear();
     }
 
-    /// Whether the core is at the end of this program with nothing buffered.
+    /// Whether the core is at the end of this program with nothing pending.
     pub fn is_done(&self, program: &[Instr]) -> bool
         ensures { (core : ℕ) → result ≡ is_done program.now (core_state core self.now) }
     {
@@ -78,38 +84,38 @@ impl Processor {
 /// Errors: out of memory only; nothing is changed then.
 pub fn step<P: Protocol>(
     processor: &mut Processor,
-    core: Core,
+    turn: Turn,
     instr: Instr,
     bus: &mut SnoopBus<P>,
     commits: &mut Commits,
 ) -> Result<(Outcome, CacheUse), NoMemory>
     requires place { processor.old.place < most_instructions }
-    requires core { core.0 < cores_of bus.old }
-    requires free { MayAct bus.old core.0 (own_access (action_of instr) core.0 processor.old) }
+    requires core { turn.core.0 < cores_of bus.old }
+    requires free { MayMake turn bus.old (own_access (action_of instr) turn.core.0 processor.old) }
     requires known { KnownLocation (length (words_of bus.old)) instr }
     requires stores { AreKnown (length (words_of bus.old)) processor.old.stores }
 
-    ensures acts { IfOk result (Acts (step_by instr) core.0 processor.old processor.new bus.old bus.new commits.old commits.new) }
-    ensures succeeds { SucceedsUnlessCommitting result (step_by instr core.0 processor.old (words_of bus.old)) }
+    ensures acts { IfOk result (Acts turn (own_access (action_of instr) turn.core.0 processor.old) (step_by instr) processor.old processor.new bus.old bus.new commits.old commits.new) }
+    ensures succeeds { SucceedsUnlessCommitting result (step_by instr turn.core.0 processor.old (words_of bus.old)) }
     ensures err { OnErr result (AreUnchanged processor.old processor.new bus.old bus.new commits.old commits.new) }
-    ensures keeps { KeepsBus bus.old bus.new }
+    ensures sizes { HasSameSizes bus.old bus.new }
     ensures depth { processor.new.stores.depth ≡ processor.old.stores.depth }
     ensures stores { AreKnown (length (words_of bus.old)) processor.new.stores }
 {
     match instr.action() {
         Action::Store(loc, operand) => {
             let value = operand.value(&processor.registers);
-            store(processor, core, loc, value, bus, commits)
+            store(processor, turn, loc, value, bus, commits)
         }
-        Action::Load(reg, loc) => load(processor, core, reg, loc, bus, commits),
+        Action::Load(reg, loc) => load(processor, turn, reg, loc, bus, commits),
         Action::Move(reg, operand) => {
             let value = operand.value(&processor.registers);
             Ok((set(processor, reg, value), CacheUse::Unused))
         }
-        Action::Fence => fence(processor, core, commits),
+        Action::Fence => fence(processor, turn.core, commits),
         Action::Lock(loc, reg, update) => {
             let locked = Locked { loc, reg, update };
-            read_and_write(processor, core, locked, bus, commits)
+            read_and_write(processor, turn.core, locked, bus, commits)
         }
     }
 }
@@ -117,26 +123,28 @@ pub fn step<P: Protocol>(
 /// A plain store waits in the buffer. Without one it goes to memory at once.
 fn store<P: Protocol>(
     processor: &mut Processor,
-    core: Core,
+    turn: Turn,
     loc: Loc,
     value: u32,
     bus: &mut SnoopBus<P>,
     commits: &mut Commits,
 ) -> Result<(Outcome, CacheUse), NoMemory>
     requires place { processor.old.place < most_instructions }
-    requires access { MayAccess bus.old core.0 loc (store_access processor.old.stores.depth loc) }
+    requires access { MayAccess turn bus.old loc (store_access processor.old.stores.depth loc) }
 
-    ensures acts { IfOk result (Acts (store_by loc value) core.0 processor.old processor.new bus.old bus.new commits.old commits.new) }
-    ensures succeeds { SucceedsUnlessCommitting result (store_by loc value core.0 processor.old (words_of bus.old)) }
+    ensures acts { IfOk result (Acts turn (store_access processor.old.stores.depth loc) (store_by loc value) processor.old processor.new bus.old bus.new commits.old commits.new) }
+    ensures succeeds { SucceedsUnlessCommitting result (store_by loc value turn.core.0 processor.old (words_of bus.old)) }
     ensures err { OnErr result (AreUnchanged processor.old processor.new bus.old bus.new commits.old commits.new) }
-    ensures keeps { KeepsBus bus.old bus.new }
+    ensures sizes { HasSameSizes bus.old bus.new }
     ensures depth { processor.new.stores.depth ≡ processor.old.stores.depth }
     ensures stores { (n : ℕ) → loc.0 < n → AreKnown n processor.old.stores → AreKnown n processor.new.stores }
 {
     if processor.stores.are_buffered() {
         return Ok((buffer(processor, loc, value), CacheUse::Unused));
     }
-    let access = write(core, processor.place, loc, value, bus, commits)?;
+    let place = processor.place;
+    let pending = Pending { place, loc, value };
+    let access = write(turn, pending, bus, commits)?;
     processor.place += 1;
     Ok((Outcome::Committed, CacheUse::Through(access)))
 }
@@ -149,11 +157,8 @@ fn buffer(processor: &mut Processor, loc: Loc, value: u32) -> Outcome
     ensures depth { processor.new.stores.depth ≡ processor.old.stores.depth }
     ensures stores { (n : ℕ) → loc.0 < n → AreKnown n processor.old.stores → AreKnown n processor.new.stores }
 {
-    match processor.stores.put(Pending {
-        place: processor.place,
-        loc,
-        value,
-    }) {
+    let place = processor.place;
+    match processor.stores.put(Pending { place, loc, value }) {
         Ok(()) => {
             processor.place += 1;
             Outcome::Buffered
@@ -162,52 +167,68 @@ fn buffer(processor: &mut Processor, loc: Loc, value: u32) -> Outcome
     }
 }
 
-/// A load reads the newest own store to the location, or memory's word where none is buffered.
+/// A load reads the newest own store to the location, or memory's word where none is pending.
 fn load<P: Protocol>(
     processor: &mut Processor,
-    core: Core,
+    turn: Turn,
     reg: Reg,
     loc: Loc,
     bus: &mut SnoopBus<P>,
     commits: &mut Commits,
 ) -> Result<(Outcome, CacheUse), NoMemory>
     requires place { processor.old.place < most_instructions }
-    requires access { MayAccess bus.old core.0 loc (own_access (Action.Load reg loc) core.0 processor.old) }
+    requires access { MayAccess turn bus.old loc (own_access (Action.Load reg loc) turn.core.0 processor.old) }
 
-    ensures acts { IfOk result (Acts (load_by reg loc) core.0 processor.old processor.new bus.old bus.new commits.old commits.new) }
+    ensures acts { IfOk result (Acts turn (own_access (Action.Load reg loc) turn.core.0 processor.old) (load_by reg loc) processor.old processor.new bus.old bus.new commits.old commits.new) }
     ensures err { OnErr result (AreUnchanged processor.old processor.new bus.old bus.new commits.old commits.new) }
-    ensures keeps { KeepsBus bus.old bus.new }
+    ensures sizes { HasSameSizes bus.old bus.new }
     ensures stores { processor.new.stores ≡ processor.old.stores }
 {
     commits.make_room(1)?;
-    let (value, cache_use) = see(&processor.stores, core, loc, bus)?;
-    commits.note(entry(core, processor.place, Kind::R, loc, value))?;
+    let (value, cache_use) = see(&processor.stores, turn, loc, bus)?;
+    commits.note(entry(turn.core, processor.place, Kind::R, loc, value))?;
     advance(processor, reg, value);
     Ok((Outcome::Committed, cache_use))
 }
 
-/// The value of the newest store to the location, or memory's word where none is buffered.
+/// The value of the newest store to the location, or memory's word where none is pending.
 fn see<P: Protocol>(
     stores: &PendingStores,
-    core: Core,
+    turn: Turn,
     loc: Loc,
     bus: &mut SnoopBus<P>,
 ) -> Result<(u32, CacheUse), NoMemory>
-    requires access { MayAccess bus.old core.0 loc (load_access loc (filter (writes_to loc.0) (entries_in core.0 stores.now))) }
+    requires access { MayAccess turn bus.old loc (load_access loc (filter (writes_to loc.0) (entries_in turn.core.0 stores.now))) }
 
-    ensures value { IfOk result (λ r. r.0 ≡ seen_by core.0 stores.now (words_of bus.old) loc) }
+    ensures value { IfOk result (λ r. r.0 ≡ seen_by turn.core.0 stores.now (words_of bus.old) loc) }
     ensures words { words_of bus.new ≡ words_of bus.old }
-    ensures caches { IfOk result (λ r. HasUsed (load_after (caches_of bus.old) (entries_in core.0 stores.now) core.0 loc.0) bus.new r.1) }
+    ensures caches { IfOk result (λ r. HasUsed (by_way turn.way (load_after (caches_of bus.old) (entries_in turn.core.0 stores.now) turn.core.0 loc.0) (completing_by (caches_of bus.old) turn.core.0 (load_access loc (filter (writes_to loc.0) (entries_in turn.core.0 stores.now))))) bus.new r.1) }
+    ensures holder { OnOk result (holder_of bus.new ≡ by_way turn.way (holder_of bus.old) None) }
     ensures cores { cores_of bus.new ≡ cores_of bus.old }
-    ensures holder { holder_of bus.new ≡ holder_of bus.old }
     ensures err { OnErr result (bus.new ≡ bus.old) }
 {
     match stores.newest_for(loc) {
         Some(value) => Ok((value, CacheUse::Forwarded)),
         None => {
-            let (word, access) = bus.load(core, loc)?;
+            let (word, access) = read(turn, loc, bus)?;
             Ok((word, CacheUse::Through(access)))
         }
+    }
+}
+
+/// The word at a location of the bus, and what the access was.
+fn read<P: Protocol>(turn: Turn, loc: Loc, bus: &mut SnoopBus<P>) -> Result<(u32, Access), NoMemory>
+    requires access { MayAccess turn bus.old loc (Reads loc) }
+
+    ensures word { IfOk result (λ r. IsCurrentWord bus.old loc.0 r.0) }
+    ensures words { words_of bus.new ≡ words_of bus.old }
+    ensures made { IfOk result (λ r. IsMade turn caches.load_by loc bus.old bus.new r.1) }
+    ensures cores { cores_of bus.new ≡ cores_of bus.old }
+    ensures err { OnErr result (bus.new ≡ bus.old) }
+{
+    match turn.way {
+        Way::Whole => bus.load(turn.core, loc),
+        Way::Asked => bus.complete_load(turn.core, loc),
     }
 }
 
@@ -221,14 +242,14 @@ fn set(processor: &mut Processor, reg: Reg, value: u32) -> Outcome
     Outcome::Moved
 }
 
-/// A fence waits until nothing is buffered.
+/// A fence waits until nothing is pending.
 fn fence(
     processor: &mut Processor,
     core: Core,
     commits: &mut Commits,
 ) -> Result<(Outcome, CacheUse), NoMemory>
     requires { processor.old.place < most_instructions }
-    ensures acts { (bus : Bus) → IfOk result (Acts fence_by core.0 processor.old processor.new bus bus commits.old commits.new) }
+    ensures acts { (bus : Bus) → IfOk result (Acts (whole core) NoAccess fence_by processor.old processor.new bus bus commits.old commits.new) }
     ensures succeeds { SucceedsUnlessCommitting result (fence_by core.0 processor.old []) }
     ensures err { (bus : Bus) → OnErr result (AreUnchanged processor.old processor.new bus bus commits.old commits.new) }
     ensures stores { processor.new.stores ≡ processor.old.stores }
@@ -250,31 +271,30 @@ pub fn advance(processor: &mut Processor, reg: Reg, value: u32)
     processor.place += 1;
 }
 
-/// The oldest buffered store goes to memory, if there is one.
+/// The oldest pending store goes to memory, if there is one.
 ///
 /// Errors: out of memory only; nothing is changed then.
 pub fn drain<P: Protocol>(
     processor: &mut Processor,
-    core: Core,
+    turn: Turn,
     bus: &mut SnoopBus<P>,
     commits: &mut Commits,
 ) -> Result<(Outcome, CacheUse), NoMemory>
-    requires core { core.0 < cores_of bus.old }
-    requires free { MayAct bus.old core.0 (drain_access (pending_in core.0 processor.old)) }
+    requires core { turn.core.0 < cores_of bus.old }
+    requires free { MayMake turn bus.old (drain_access (pending_in turn.core.0 processor.old)) }
     requires stores { AreKnown (length (words_of bus.old)) processor.old.stores }
 
-    ensures acts { IfOk result (Acts drain_by core.0 processor.old processor.new bus.old bus.new commits.old commits.new) }
-    ensures succeeds { SucceedsUnlessCommitting result (drain_by core.0 processor.old (words_of bus.old)) }
+    ensures acts { IfOk result (Acts turn (drain_access (pending_in turn.core.0 processor.old)) drain_by processor.old processor.new bus.old bus.new commits.old commits.new) }
+    ensures succeeds { SucceedsUnlessCommitting result (drain_by turn.core.0 processor.old (words_of bus.old)) }
     ensures err { OnErr result (AreUnchanged processor.old processor.new bus.old bus.new commits.old commits.new) }
-    ensures keeps { KeepsBus bus.old bus.new }
+    ensures sizes { HasSameSizes bus.old bus.new }
     ensures depth { processor.new.stores.depth ≡ processor.old.stores.depth }
     ensures stores { AreKnown (length (words_of bus.old)) processor.new.stores }
 {
     match processor.stores.oldest() {
         None => Ok((Outcome::Stalled(Stall::Empty), CacheUse::Unused)),
         Some(store) => {
-            let Pending { place, loc, value } = store;
-            let access = write(core, place, loc, value, bus, commits)?;
+            let access = write(turn, store, bus, commits)?;
             processor.stores.take_oldest();
             Ok((Outcome::Committed, CacheUse::Through(access)))
         }
@@ -285,24 +305,43 @@ pub fn drain<P: Protocol>(
 ///
 /// Errors: out of memory only; nothing is changed then.
 fn write<P: Protocol>(
-    core: Core,
-    place: u8,
-    loc: Loc,
-    value: u32,
+    turn: Turn,
+    store: Pending,
     bus: &mut SnoopBus<P>,
     commits: &mut Commits,
 ) -> Result<Access, NoMemory>
-    requires access { MayAccess bus.old core.0 loc (Writes loc) }
+    requires access { MayAccess turn bus.old store.loc (Writes store.loc) }
 
-    ensures stored { OnOk result (IsStored core.0 place loc value bus.old bus.new commits.old commits.new) }
-    ensures caches { IfOk result (λ access. HasUsed (write_by (caches_of bus.old) core.0 loc.0) bus.new (CacheUse.Through access)) }
+    ensures stored { OnOk result (IsStored turn.core.0 store bus.old bus.new commits.old commits.new) }
+    ensures made { IfOk result (IsMade turn write_by store.loc bus.old bus.new) }
 
     ensures err_bus { OnErr result (bus.new ≡ bus.old) }
     ensures err_commits { OnErr result (commits.new.entries ≡ commits.old.entries) }
-    ensures keeps { KeepsBus bus.old bus.new }
+    ensures sizes { HasSameSizes bus.old bus.new }
 {
     commits.make_room(1)?;
-    let access = bus.store(core, loc, value)?;
-    commits.note(entry(core, place, Kind::W, loc, value))?;
+    let access = write_word(turn, store.loc, store.value, bus)?;
+    commits.note(store_entry(turn.core, store))?;
     Ok(access)
+}
+
+/// Writes the word at a location of the bus, and answers what the access was.
+fn write_word<P: Protocol>(
+    turn: Turn,
+    loc: Loc,
+    value: u32,
+    bus: &mut SnoopBus<P>,
+) -> Result<Access, NoMemory>
+    requires access { MayAccess turn bus.old loc (Writes loc) }
+
+    ensures words { OnOk result (words_of bus.new ≡ slice_set (words_of bus.old) loc.0 value) }
+    ensures made { IfOk result (IsMade turn write_by loc bus.old bus.new) }
+
+    ensures err { OnErr result (bus.new ≡ bus.old) }
+    ensures sizes { HasSameSizes bus.old bus.new }
+{
+    match turn.way {
+        Way::Whole => bus.store(turn.core, loc, value),
+        Way::Asked => bus.complete_store(turn.core, loc, value),
+    }
 }

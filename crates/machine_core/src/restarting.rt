@@ -1,4 +1,5 @@
-//! A machine that goes back to the beginning of its test, in the room that it has.
+//! A machine that goes back to the beginning of its test, in the room that it has: many runs, one for each seed, then take
+//! no memory of their own. Whatever isn't set back here would leak into the next run.
 ghost use Rattle.std.specs.Prelude.{◌≡◌, ℕ, All, length, map, replicate};
 ghost use Rattle.tso_model.specs.Litmus.{IsTest};
 ghost use Rattle.tso_model.specs.FlatMachine.{started};

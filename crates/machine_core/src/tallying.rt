@@ -1,4 +1,5 @@
-//! How the accesses of a run are counted.
+//! How the accesses of a run are counted. All counts are the acting core's, but for a flush: that is the core's whose copy
+//! was sent to memory when another one loaded the line.
 ghost use Rattle.std.specs.Prelude.{◌≡◌, ◌<◌, All, IfSome, length};
 ghost use Rattle.machine_core.specs.Statistics.{counted, at_core, with_access, with_write_back, with_forward, with_flush};
 ghost use Rattle.machine_core.specs.Kept.{IsAtMost};

@@ -1,4 +1,5 @@
-//! Worked runs, for what their accesses come to. The body is empty: the clauses are what is stated.
+//! Worked runs, for what their accesses come to. The body is empty: the clauses are what is stated. They are small enough
+//! to be counted by hand from the protocols' tables; code and definitions that are wrong in the same way would show here.
 ghost use Rattle.std.specs.Prelude.{◌≡◌, [], ◌∷◌};
 ghost use Rattle.tso_model.specs.Examples.{sb, sb_choices, n6};
 ghost use Rattle.tso_model.specs.declared.bus.Bus.TheVariants.{Atomic, Split};

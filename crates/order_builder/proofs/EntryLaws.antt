@@ -41,7 +41,7 @@ after-found front text rest e =
       | inr miss ↦ absurd cc
     ]
 
--- a step that did not fail
+-- a step that found something
 bound : {A B : Type 0} (o : Option A) (f : A → Option B) (y : B) → (o >>= f) ≡ Some y → (x : A) × (o ≡ Some x) × (f x ≡ Some y)
 bound (Some x) f y e = (x, refl, e)
 bound None f y e = absurd cc

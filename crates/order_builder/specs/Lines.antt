@@ -1,4 +1,5 @@
--- The lines of a text.
+-- The lines of a text: it may come from a system that ends them in CR LF, so one carriage return at an end is no part of a
+-- line.
 use Rattle.std.specs.Prelude.{ℕ, ◌==◌, Bool, not, List, [], ◌∷◌, length, if◌then◌else◌}
 use Rattle.std.specs.List.{slice_split, list_all}
 use Rattle.std.specs.Str.Lines.{strip_carriage_return}

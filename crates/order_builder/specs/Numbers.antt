@@ -1,4 +1,5 @@
--- Numbers as an order is written with them: decimal, without leading zeros.
+-- Numbers as an order is written with them: decimal, without leading zeros. So each number has one text, and each order
+-- too.
 use Rattle.std.specs.Prelude.{ℕ, ◌==◌, ◌&&◌, ◌||◌, nat_lt, Bool, not, List, length, slice_index}
 use Rattle.std.specs.List.{list_all}
 use Rattle.std.specs.Char.{is_ascii_digit}

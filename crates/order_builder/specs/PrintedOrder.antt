@@ -1,4 +1,4 @@
--- The printed text of an order, and of one entry.
+-- The printed text of an order, and of one entry. It is the text that is read again: nothing of an entry is left out of it.
 use Rattle.std.specs.Prelude.{ℕ, ◌<◌, ◌^◌, List, [], ◌∷◌, ◌++◌, length, map, slice_index_or, codes}
 use Rattle.std.specs.Fmt.{decimal}
 use Rattle.tso_model.specs.Litmus.{Litmus}

@@ -1,4 +1,5 @@
--- An order as it is read from the lines of a text, or the first fault in their order.
+-- How what was answered is held against the reading of an order's text: it is what reading gives, or its fault; out of
+-- memory says nothing of the text.
 use Rattle.std.specs.Prelude.{◌≡◌, List, Result, Ok, Err}
 use Rattle.tso_model.specs.declared.execution.Entry.{Entry}
 use Rattle.tso_model.specs.declared.execution.Execution.{Execution}

@@ -1,4 +1,5 @@
-//! How commits become an order.
+//! How commits become an order: each load part of a locked instruction is put directly before its store part, where the
+//! axioms want it. On a split bus others may commit between the two. (Primer, chapter 4.)
 ghost use Rattle.std.specs.Prelude.{◌≡◌, IfOk};
 ghost use Rattle.tso_model.specs.Axioms.{IsAdjacent};
 ghost use Rattle.tso_model.specs.ProgramOrder.{same_kind};

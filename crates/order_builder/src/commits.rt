@@ -1,4 +1,5 @@
-//! The commits of a run, in the order in which they are noted.
+//! The commits of a run, in the order in which they are noted: on the atomic bus this is memory order. An entry that was
+//! left out, or noted twice, would make the run no execution.
 ghost use Rattle.std.specs.Prelude.{◌≡◌, ◌+◌, ◌<◌, ◌≤◌, [], ◌∷◌, ◌++◌, IsOk, OnOk, OnErr};
 
 use std::alloc::Global;

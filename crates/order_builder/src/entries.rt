@@ -1,4 +1,5 @@
-//! The lines of an order text, one by one.
+//! The lines of an order text, one by one, each an entry or a fault. A line that is nearly an entry is refused, never
+//! mended.
 
 ghost use Rattle.std.specs.Prelude.{◌≡◌, ◌<◌, length, IfSome, ◌^◌, ◌-◌};
 ghost use Rattle.std.specs.Option.{option_map};

@@ -1,4 +1,4 @@
-//! Why a text spells no order.
+//! Why a text spells no order, with the line that is at fault.
 
 ghost use Rattle.std.specs.Prelude.{◌≡◌};
 ghost use Rattle.order_builder.specs.declared.fault.OrderFault.TheVariants as faults;

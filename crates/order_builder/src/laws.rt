@@ -1,4 +1,5 @@
-//! Laws of order texts. Each is the contract of a function that does nothing: who calls it knows it.
+//! Laws of order texts: a printed order is read back as it was, and each text is read in one way. Each is the contract of a
+//! function that does nothing: who calls it knows it.
 
 ghost use Rattle.std.specs.Prelude.{◌≡◌, ◌↔◌, ◌<◌, ◌^◌, ◌++◌, ◌⊎◌, ℕ, List, All, Ok, Err, length};
 ghost use Rattle.tso_model.specs.Litmus.{Litmus, IsTest};

@@ -1,4 +1,5 @@
-//! The order of memory actions that a machine's commits make, and the texts of orders, printed and read.
+//! The order of memory actions that a machine's commits make, and the texts of orders, printed and read. What is printed of
+//! an order has to be read as that order again: so any run can be checked by its text.
 #![tactic(auto)]
 
 mod building;

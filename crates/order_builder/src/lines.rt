@@ -1,4 +1,4 @@
-//! The lines of a text.
+//! The lines of a text, borrowed from it, with a carriage return at the end taken off.
 
 ghost use Rattle.std.specs.Prelude.{◌≡◌, ◌<◌, ◌∷◌, [], ◌==◌, length, position, IfSome, IfNone};
 ghost use Rattle.std.specs.Option.{option_map};

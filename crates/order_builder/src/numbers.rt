@@ -1,4 +1,4 @@
-//! Numbers as an order is written with them: decimal, without leading zeros.
+//! Numbers as an order is written with them: decimal, without leading zeros, and refused where they pass their limit.
 
 ghost use Rattle.std.specs.Prelude.{◌≡◌, ◌≤◌, ◌==◌, IfSome};
 ghost use Rattle.decimals.specs.Decimals.{decimal_value};

@@ -1,4 +1,5 @@
--- The final states of a test: of the machine's runs, and of the TSO executions.
+-- The final states of a test: of the machine's runs, and of the TSO executions. That these are the same makes a search of
+-- the machine an answer about TSO. (Primer, chapter 4; chapter 3 for runs without store buffers.)
 use Rattle.std.specs.Prelude.{ℕ, ◌+◌, ◌≡◌, ◌≤◌, ◌<◌, ◌↔◌, true, List, length}
 use Rattle.tso_model.specs.Limits.{most_depth}
 use Rattle.tso_model.specs.Litmus.{Litmus, IsTest}
@@ -72,7 +73,7 @@ pub record EndsAreWhatTsoAllows : Type 0 where
   pub unbuffered : (t : Litmus) (registers : List (List ℕ)) (memory : List ℕ)
       → IsTest t → IsEnd t 0 registers memory ↔ IsAllowedSequentially t registers memory
 
--- all such choices of a test are as many: one for each instruction, and where stores are buffered one more for each plain store
+-- all such choices of a test are as many: one for each instruction, and with store buffers one more for each plain store
 pub record ChoicesToAnEndAreCounted : Type 0 where
   pub buffered : (t : Litmus) (depth : ℕ) (choices : List Choice) (registers : List (List ℕ)) (memory : List ℕ)
       → 0 < depth → LeadToEnd t depth choices registers memory → length choices ≡ instructions t.programs + stores t.programs

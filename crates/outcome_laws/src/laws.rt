@@ -1,4 +1,5 @@
-//! The laws of the final states of a test.
+//! The laws of the final states of a test: the ends of the machine's runs are what TSO allows, and without store buffers
+//! what sequential consistency allows. (Primer, chapters 3 and 4.)
 
 ghost use Rattle.outcome_laws.specs.Outcomes.{ChoicesToAnEndAreCounted, EndsAreWhatTsoAllows};
 ghost use Rattle.outcome_laws.specs.Outcomes.{UnbufferedRunsReachExactlyTheSequentiallyConsistent};
@@ -32,7 +33,7 @@ pub fn ends_are_what_tso_allows()
 }
 
 /// All choices that lead to an end of a test, with none that stalls and none left over, are as many:
-/// one for each instruction and, where stores are buffered, one more for each plain store.
+/// one for each instruction and, with store buffers, one more for each plain store.
 pub fn choices_to_an_end_are_counted()
     ensures { ChoicesToAnEndAreCounted }
 {

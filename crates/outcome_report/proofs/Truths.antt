@@ -15,7 +15,7 @@ use Rattle.outcome_report.specs.inner.Kept.{IsOf, kept_of, outcomes_at, AreShown
 abbrev pub Entries : Type 0
 Entries = List (Vec ℕ Global × Bor FinalState)
 
--- what fails the test is what is left
+-- what the test isn't true of is what is left
 others-counted : {X : Type 0} (p : X → Bool) (xs : List X) → count_by p xs + count_by (λ x. not (p x)) xs ≡ length xs
 others-counted p [] = refl
 others-counted p (x ∷ xs) =

@@ -1,4 +1,5 @@
--- What the laws say that are too long for a line: each is the contract of the function of the same name.
+-- What the laws say that are too long for a line: each is the contract of the function of the same name. So it doesn't
+-- matter which of two states that look alike is printed.
 use Rattle.std.specs.Prelude.{ℕ, ◌≡◌, ◌↔◌, List, map, Some, Contains}
 use Rattle.std.specs.Option.{ForSome}
 use Rattle.std.specs.Ordering.{nat_cmp}

@@ -1,4 +1,4 @@
--- What `outcomes` prints, in either form: lines of text, or a JSON value on one line.
+-- What `outcomes` prints, in either form: lines of text, or a JSON value on one line. Both show the same states.
 use Rattle.std.specs.Prelude.{ℕ, ◌≡◌, Bool, true, false, List}
 use Rattle.tso_model.specs.Litmus.{Litmus}
 use Rattle.explorer.specs.declared.final_states.FinalState.{FinalState}

@@ -1,4 +1,5 @@
-//! In how many of the states that are printed the condition's proposition is true, and in how many false.
+//! In how many of the states that are printed the condition's proposition is true, and in how many false. States that look
+//! alike count as one: the proposition has one truth in all of them.
 
 ghost use Rattle.std.specs.Prelude.{◌≡◌};
 ghost use Rattle.std.specs.Map.{values_of};

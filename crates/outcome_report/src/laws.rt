@@ -1,5 +1,5 @@
-//! Laws of what is printed. Each is the contract of a function that does nothing: who calls it knows it. What they say
-//! stands in `specs/Laws.antt`, under the names of the functions.
+//! Laws of what is printed: states that look alike are told by any one of them. Each is the contract of a function that
+//! does nothing: who calls it knows it.
 
 ghost use Rattle.outcome_report.specs.Laws.{TruthIsShown, OutcomesAreOneButForChoices};
 ghost use Rattle.outcome_report.specs.Laws.{OutcomesOfTheSameValuesAreAlike};

@@ -1,4 +1,5 @@
-//! The final states that are printed: of those that look alike the first.
+//! The final states that are printed: of those that look alike the first, in ascending order of their values, so that two
+//! searches of one test print one list.
 
 ghost use Rattle.std.specs.Prelude.{◌≡◌, [], IfOk, OnOk, All};
 ghost use Rattle.outcome_report.specs.Outcomes.{outcome_of};

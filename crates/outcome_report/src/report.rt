@@ -1,4 +1,5 @@
-//! The final states of a test as they are printed: lines of text, or a JSON value on one line.
+//! The final states of a test as they are printed: lines of text, or a JSON value on one line. A search that met its limit
+//! prints no state at all.
 
 ghost use Rattle.std.specs.Prelude.{◌≡◌, IfOk, string_bytes};
 ghost use Rattle.explorer.specs.FinalStates.{AreReached};

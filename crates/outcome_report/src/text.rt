@@ -1,4 +1,5 @@
-//! The final states of a test as lines of text.
+//! The final states of a test as lines of text: its values, and the choices that lead there, in the form in which they can
+//! be run again.
 
 ghost use Rattle.std.specs.Prelude.{◌≡◌, ◌++◌, IfOk, OnOk, string_bytes};
 ghost use Rattle.std.specs.Map.{values_of};

@@ -1,4 +1,5 @@
--- What the numbers of the page ask for, and what answers them.
+-- What the numbers of the page ask for, and what answers them: the same settings and answers as those of the program, so
+-- that its promises hold of the page.
 use Rattle.std.specs.Prelude.{ℕ, ◌≡◌, ◌<◌, ◌≤◌, ◌⊎◌, true, List, Some}
 use Rattle.tso_model.specs.declared.bus.Bus.{Bus}
 use Rattle.snoop_bus.specs.Geometry.{geometry, IsShapeWithinLimits}

@@ -1,4 +1,5 @@
-//! What numbers ask for.
+//! What numbers ask for: settings, where they are within the limits, and else nothing. The page is no part of what is
+//! proved, so nothing it sends is believed.
 
 ghost use Rattle.std.specs.Prelude.{◌≡◌, ◌≢◌, ◌<◌, ◌≤◌, ◌↔◌, IsSome, IfSome};
 ghost use Rattle.tso_model.specs.Limits.{most_depth};

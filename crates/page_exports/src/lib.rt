@@ -35,7 +35,7 @@ pub struct Told {
 }
 
 /// Answers what is asked of an input, as the program with these settings answers it on its standard input: the answer
-/// into one room, the hint beside it into another. What a room holds behind them is left open. Of a trace the last step
+/// into one room, the hint beside it into another. What a room holds after them is left open. Of a trace the last step
 /// alone is answered too, with the status and the hint of the trace: so that one more choice costs the same however many
 /// were made before it.
 ///

@@ -1,4 +1,4 @@
--- The runs of a machine, and what is printed of them.
+-- The runs of a machine, and what is printed of them: where the same is printed of two, the same is shown of both.
 use Rattle.std.specs.Prelude.{◌≡◌, ◌≤◌, Bool, true, false, List, length}
 use Rattle.tso_model.specs.Litmus.{Litmus, IsTest}
 use Rattle.tso_model.specs.declared.choice.Choice.{Choice}

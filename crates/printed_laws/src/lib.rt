@@ -1,8 +1,8 @@
 //! What is printed tells what it shows: no form of an answer loses a part of it, and none prints two things alike.
 //!
 //! Nothing here computes. Each public function has no code of its own, and its contract is a law on the definitions of what
-//! `run` and `sweep` print. What the laws say stands in `specs/`: of what may be shown and counted in `Telling.antt`, of the
-//! runs of a machine in `OfRuns.antt`.
+//! `run` and `sweep` print. What the laws say stands in `specs/`: of what may be shown and counted, and of the runs of a
+//! machine.
 #![tactic(auto)]
 
 ghost use Rattle.std.specs.Prelude.{true, false};

@@ -1,4 +1,5 @@
-//! What the calls of a bus leave, beyond the words that are seen: coherent copies, and the lines in memory.
+//! What the calls of a bus leave, beyond the words that are seen: coherent copies, and the lines in memory. No crate above
+//! rests on either, so here it is asked for. (Primer, chapters 2 and 6.)
 
 ghost use Rattle.std.specs.Prelude.{◌≡◌, ◌<◌, ◌≤◌, false, true, IfOk, length, option_copied};
 ghost use Rattle.cache_set.specs.Contents.{copy_of};

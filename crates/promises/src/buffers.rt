@@ -1,4 +1,5 @@
-//! What a store buffer says of its room.
+//! What a store buffer says of its room: full exactly at its depth. A core stalls by what a store's refusal says, and never
+//! asks this.
 
 ghost use Rattle.std.specs.Prelude.{◌≡◌, ◌<◌, ◌≤◌, true, false, length};
 

@@ -1,4 +1,5 @@
-//! What a command writes, what it takes of its streams, and what is told of its end.
+//! What a command writes, what it takes of its streams, and what is told of its end: the headline, and each fault of a
+//! device.
 
 ghost use Rattle.std.specs.Prelude.{ℕ, ◌≡◌, ◌+◌, ◌-◌, ◌^◌, ◌<◌, ◌≤◌, ◌↔◌, ◌⊎◌, List, [], Ok, Err, IfOk, length, string_bytes};
 ghost use Rattle.std.specs.Io.KnownBytes.{Keeps};

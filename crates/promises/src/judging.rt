@@ -1,4 +1,5 @@
-//! How often an order is looked at while it is judged.
+//! How often an order is looked at while it is judged: three looks for each entry, so no pair of entries is compared with
+//! every other.
 
 ghost use Rattle.std.specs.Prelude.{◌≡◌, ◌+◌, ◌*◌, ◌<◌, ◌≤◌, length};
 ghost use Rattle.axiom_checker.specs.FirstBreach.{IsJudged};

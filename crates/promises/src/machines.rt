@@ -1,4 +1,5 @@
-//! When a machine answers a choice, and what it keeps where it doesn't.
+//! When a machine answers a choice, and what it keeps where it doesn't: only a commit takes memory, and one that is refused
+//! changes nothing.
 
 ghost use Rattle.std.specs.Prelude.{◌≡◌, ◌≢◌, ◌<◌, true, false, Ok, OnErr, length};
 ghost use Rattle.tso_model.specs.FlatMachine.{chosen};

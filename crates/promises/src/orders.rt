@@ -1,4 +1,4 @@
-//! What the order of a run's commits keeps.
+//! What the order of a run's commits keeps: the two parts of each locked instruction are adjacent. (Primer, chapter 4.)
 
 ghost use Rattle.std.specs.Prelude.{◌≡◌, ℕ, ◌+◌, ◌++◌, Some, IfOk, OnOk, All, slice_get, string_bytes};
 ghost use Rattle.tso_model.specs.ProgramOrder.{IsStorePart};

@@ -1,4 +1,4 @@
-//! What is read of texts: what they spell, and how they are refused, memory aside.
+//! What is read of texts: what they spell, and how they are refused, memory aside. Each text has one or the other.
 
 ghost use Rattle.std.specs.Prelude.{◌≡◌, ◌≢◌, ◌<◌, List, Ok, Err, IfOk, IfErr, MatchResult};
 ghost use Rattle.tso_model.specs.Litmus.{Litmus};

@@ -1,4 +1,5 @@
-//! All final states: what a search finds, and what is printed of it.
+//! All final states: what a search finds, and what is printed of it: no state is missed, and none is printed that can't be
+//! reached.
 
 ghost use Rattle.std.specs.Prelude.{◌≡◌, ◌↔◌, ℕ, Bool, IfOk, List, Some};
 ghost use Rattle.tso_model.specs.Condition.{Condition, truth_of};

@@ -1,4 +1,4 @@
-//! What leaves a set of a cache.
+//! What leaves a set of a cache: the very copy that stood there, for its words may be the only ones.
 
 ghost use Rattle.std.specs.Prelude.{◌≡◌, Some};
 ghost use Rattle.cache_set.specs.Contents.{copy_of};

@@ -1,4 +1,4 @@
-//! What a simulation says of runs that end.
+//! What a simulation says of runs that end: how many choices they took, and how many fair rounds are enough.
 
 ghost use Rattle.std.specs.Prelude.{◌≡◌, ◌*◌, IfOk, length};
 ghost use Rattle.tso_model.specs.Runs.{CoresExist};
@@ -11,7 +11,7 @@ use std::alloc::Global;
 use tso_cli::{Ending, SimFault, simulate};
 use tso_model::Test;
 
-/// On the atomic bus, an ended run took each instruction once and drained each store once that was buffered; and as many
+/// On the atomic bus, an ended run took each instruction once and drained each store once that was pending; and as many
 /// fair rounds as the longest program has instructions, twice, end the test.
 pub fn a_simulation_on_the_atomic_bus(
     alloc: Global,

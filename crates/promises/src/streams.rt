@@ -1,4 +1,4 @@
-//! What is counted of a stream.
+//! What is counted of a stream: each call that failed, a flush too.
 
 ghost use Rattle.std.specs.Prelude.{◌≡◌};
 ghost use Rattle.tso_cli.specs.inner.Streams.{counts_error};

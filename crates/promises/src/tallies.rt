@@ -1,4 +1,4 @@
-//! What a tally has counted.
+//! What a tally has counted: every run once, and with a condition each ended run as true or false.
 
 ghost use Rattle.std.specs.Prelude.{◌≡◌, ◌+◌, true, is_some};
 ghost use Rattle.tso_report.specs.Tally.{runs_in, ended_in};

@@ -1,4 +1,4 @@
-//! What a test begins with, and what its programs leave.
+//! What a test begins with, and what its programs leave by the values that their reads return.
 
 ghost use Rattle.std.specs.Prelude.{◌≡◌, ◌<◌, [], IfOk, length, slice_index, slice_index_or};
 ghost use Rattle.tso_model.specs.Registers.{index_of};

@@ -1,4 +1,5 @@
-//! What the choices of a witness lead to, and what a refusal of them says.
+//! What the choices of a witness lead to, and what a refusal of them says: the very order, or that no choices at this depth
+//! reach it.
 
 ghost use Rattle.std.specs.Prelude.{◌≡◌, ◌≢◌, ◌≤◌, true, List, IfOk, IfErr, length};
 ghost use Rattle.tso_model.specs.Axioms.{IsTsoExecution};
@@ -44,7 +45,7 @@ pub fn a_refused_order_is_out_of_reach(
     witness(alloc, test, execution, depth)
 }
 
-/// At a depth of as many stores as any program has, an order is refused for want of nothing but memory.
+/// At a depth of as many stores as any program has, an order is refused only where the allocator is out of memory.
 pub fn a_great_depth_is_enough(
     alloc: Global,
     test: &Test,

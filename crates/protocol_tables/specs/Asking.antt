@@ -1,4 +1,5 @@
--- What a line is in between its core's request and the words' coming in. (Primer, chapter 7.)
+-- What a line is in between its core's request and the words' coming in (transient states): which of them tells whether its
+-- own core may still read it. (Primer, chapter 7.)
 use Rattle.std.specs.Prelude.{Option, Some, None}
 use Rattle.protocol_tables.specs.declared.state.State.{State}
 use Rattle.protocol_tables.specs.declared.state.State.TheVariants.{I, S, E, O, M}

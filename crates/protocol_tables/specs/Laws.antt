@@ -1,6 +1,5 @@
--- What every snooping protocol keeps, said of the columns of its table. M and O are the dirty states:
--- memory may be stale. (Primer, chapters 6 and 7, for the states; which copies supply, and which are
--- sent to memory, is this project's profile.)
+-- Of the laws of a snooping protocol those that public contracts name: which states are dirty, so that memory may be stale
+-- (M and O), and which copies are written without the bus (M and E). (Primer, chapters 6 and 7, for the states.)
 use Rattle.std.specs.Prelude.{◌≡◌, Bool, true, false, Option, Some, None}
 use Rattle.protocol_tables.specs.declared.state.State.{State}
 use Rattle.protocol_tables.specs.declared.state.State.TheVariants.{I, S, E, O, M}

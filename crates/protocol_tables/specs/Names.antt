@@ -1,4 +1,4 @@
--- The names of the protocols.
+-- The names of the protocols, by which a command line chooses one and a report tells which it was.
 use Rattle.std.specs.Prelude.{ℕ, List, codes}
 use Rattle.protocol_tables.specs.declared.kind.ProtocolKind.{ProtocolKind}
 use Rattle.protocol_tables.specs.declared.kind.ProtocolKind.TheVariants.{Msi, Mesi, Moesi, Mosi}

@@ -1,4 +1,5 @@
--- The text of a protocol's table.
+-- The text of a protocol's table. It is made of the table's own columns, so that the printed rows are the ones that the
+-- caches go by.
 use Rattle.std.specs.Prelude.{ℕ, Bool, true, false, List, [], ◌∷◌, ◌++◌, Option, Some, None, codes, if◌then◌else◌}
 use Rattle.protocol_tables.specs.declared.state.State.{State}
 use Rattle.protocol_tables.specs.declared.state.State.TheVariants.{I, S, E, O, M}

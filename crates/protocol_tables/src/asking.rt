@@ -1,4 +1,5 @@
-//! Requests on the bus, and the states of a line while its words are under way.
+//! Requests on the bus (GetS to read, GetM to write), and the transient states of a line while its words are under way. On
+//! a split bus other accesses go on in that time, so the line needs a state of its own. (Primer, chapter 7.)
 
 /// A core's request for a line, which every other cache sees on the bus.
 #[derive(Clone, Copy)]

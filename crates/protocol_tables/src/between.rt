@@ -1,4 +1,5 @@
-//! From which state to which a line goes while its words are under way.
+//! From which state to which a line goes while its words are under way. (Primer, chapter 7, the transient states of a split
+//! bus.)
 
 ghost use Rattle.std.specs.Prelude.{◌≡◌};
 ghost use Rattle.protocol_tables.specs.Asking.{transient_of};

@@ -1,4 +1,5 @@
-//! The protocols by their names.
+//! The protocols by their names, as the command line chooses one: from there on a type stands for it, and its laws are
+//! proved.
 
 ghost use Rattle.std.specs.Prelude.{◌≡◌};
 ghost use Rattle.protocol_tables.specs.Names.{protocol_name};

@@ -1,4 +1,5 @@
-//! Snooping protocols as tables of states, and the laws that a cache bus rests on.
+//! Snooping protocols as tables of states, and the laws that a cache bus rests on. The bus is proved from the laws alone,
+//! so a further protocol is a further table for which they hold. (Primer, chapters 6 and 7.)
 #![tactic(auto)]
 
 pub mod asking;

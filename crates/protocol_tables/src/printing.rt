@@ -1,4 +1,5 @@
-//! The text of a protocol's table.
+//! The text of a protocol's table, made of what the caches themselves ask the protocol: what is printed can't differ from
+//! what is run.
 
 ghost use Rattle.std.specs.Prelude.{◌≡◌, ◌++◌, Some, IfOk, OnOk, codes, string_bytes};
 ghost use Rattle.protocol_tables.specs.Names.{protocol_name};

@@ -1,4 +1,5 @@
-//! What a protocol is: its table, and the laws that it keeps.
+//! What a protocol is: its table, and the laws that it keeps. A table that breaks a law, such as one that keeps a copy on
+//! another core's GetM, has no proof. (Primer, chapters 6 and 7.)
 
 ghost use Rattle.std.specs.Prelude.{◌≡◌, List, ℕ};
 ghost use Rattle.protocol_tables.specs.Tables.{Table};

@@ -1,4 +1,5 @@
-//! The tables of the protocols.
+//! The tables of the protocols: MSI, MESI, MOESI and MOSI, each with its laws proved. All caches of a machine follow one of
+//! them; a cell that is wrong loses a store or reads a stale word. (Primer, chapter 7.)
 
 ghost use Rattle.std.specs.Prelude.{◌≡◌, true, false};
 ghost use Rattle.std.proofs.Common.{rules};

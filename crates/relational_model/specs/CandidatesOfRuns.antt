@@ -1,4 +1,4 @@
--- Candidates of runs of the flat machine.
+-- Candidates of runs of the flat machine: the order of a run's commits, seen as a relational model sees it.
 use Rattle.std.specs.Prelude.{◌≡◌}
 use Rattle.tso_model.specs.Litmus.{Litmus}
 use Rattle.tso_model.specs.FlatMachine.{registers_in}

@@ -1,4 +1,4 @@
--- Events in lists, and relations between events.
+-- Events in lists, and relations between events: the vocabulary of herd's models, with no order over all events.
 use Rattle.std.specs.Prelude.{ℕ, ◌<◌, ◌≡◌, List, Some, slice_get}
 use Rattle.tso_model.specs.declared.execution.Entry.{Entry}
 

@@ -1,4 +1,4 @@
--- Worked candidates.
+-- Worked candidates: the literature's small tests, and what the relational model allows of each. (Herding Cats, 2014.)
 use Rattle.std.specs.Prelude.{ℕ, ◌==◌, ◌&&◌, if◌then◌else◌, List, [], ◌∷◌, Option, Some, None, zero, suc, codes}
 use Rattle.tso_model.specs.Litmus.{Litmus}
 use Rattle.tso_model.specs.Thread.{entry}

@@ -84,9 +84,18 @@ no_words (b ∷ bs) none =
       | inr is ↦ absurd (let some = ap length (no-space-past b bs is) in omega arith)
     ]
 
+-- the white space that ends the word is no part of the words after it
+word-ended : (text : List ℕ) → words_of (past_word text) ≡ words_of (drop 1 (past_word text))
+word-ended [] = refl
+word-ended (b ∷ bs) =
+    elim (either (is_space b)) [
+      | inl is ↦ rw (no-word-past b bs is) (space-first b bs is)
+      | inr is ↦ rw (word-past b bs is) (word-ended bs)
+    ]
+
 -- what is said of the text after the white space is said of the text
 abbrev Begins : List ℕ → List ℕ → Type 0
-Begins text left = (words_of text ≡ word_in left ∷ words_of (past_word left)) × (length (past_word left) < length text)
+Begins text left = (words_of text ≡ word_in left ∷ words_of (drop 1 (past_word left))) × (length (drop 1 (past_word left)) < length text)
 
 begins : (text : List ℕ) → 0 < length (past_space text) → Begins text (past_space text)
 begins [] some = absurd (omega arith)
@@ -97,12 +106,14 @@ begins (b ∷ bs) some =
           let more = begins bs (let s = ap length same in omega arith) in
           subst (Begins (b ∷ bs)) (sym same) (space-first b bs is ∙ more.0, let l = more.1 in omega arith)
       | inr is ↦
-          subst (Begins (b ∷ bs)) (sym (no-space-past b bs is))
-          (word-first b bs is, let l = ap length (word-past b bs is) in omega (arith, length-drop (prefix_len is_of_word bs) bs))
+          subst (Begins (b ∷ bs)) (sym (no-space-past b bs is)) (
+            word-first b bs is ∙ ap (λ (ws : List (List ℕ)). word_in (b ∷ bs) ∷ ws) (word-ended (b ∷ bs)),
+            let l = ap length (word-past b bs is) in omega (arith, length-drop (prefix_len is_of_word bs) bs, length-drop 1 (past_word (b ∷ bs))),
+          )
     ]
 
-pub word_first : (text left : List ℕ) → left ≡ past_space text → 0 < length left → words_of text ≡ word_in left ∷ words_of (past_word left)
+pub word_first : (text left : List ℕ) → left ≡ past_space text → 0 < length left → words_of text ≡ word_in left ∷ words_of (drop 1 (past_word left))
 word_first text left is some = (subst (Begins text) (sym is) (begins text (subst (λ (l : List ℕ). 0 < length l) is some))).0
 
-pub word_shorter : (text left : List ℕ) → left ≡ past_space text → 0 < length left → length (past_word left) < length text
+pub word_shorter : (text left : List ℕ) → left ≡ past_space text → 0 < length left → length (drop 1 (past_word left)) < length text
 word_shorter text left is some = (subst (Begins text) (sym is) (begins text (subst (λ (l : List ℕ). 0 < length l) is some))).1

@@ -1,12 +1,18 @@
 -- How one item is read, case by case.
-use Rattle.std.proofs.Common.{◌≡◌, ℕ, ◌+◌, ◌-◌, true, false, eqb, List, [], ◌∷◌, ◌++◌, length, get_or, take, drop, Some, None, Ok, Err, refl, ◌∙◌, arith}
+use Rattle.std.proofs.Common.{◌≡◌, ◌≢◌, ℕ, ◌+◌, ◌-◌, ◌<◌, true, false, eqb, leb, min, List, [], ◌∷◌, ◌++◌, length, get_or, take, drop, Some, None, Result, Ok, Err, refl, ap, ◌∙◌, arith}
+use Rattle.std.specs.Str.{bytes_eq}
+use Rattle.std.specs.Prelude.{codes}
+use Rattle.std.proofs.lemmas.Bool.{le-leb, lt-leb}
 use Rattle.std.proofs.lemmas.List.{take_at, get_or_at, length-append}
 use Rattle.scheduler.specs.declared.fault.ChoiceFault.TheVariants.{BadWord, NoSuchCore, TooMany}
 use Rattle.scheduler.specs.declared.item.Action.{Action}
+use Rattle.scheduler.specs.declared.fault.ChoiceFault.{ChoiceFault}
+use Rattle.scheduler.specs.declared.item.Item.{Item}
 use Rattle.scheduler.specs.declared.item.Item.TheVariants.{One, Seeded}
+use Rattle.decimals.specs.Decimals.{decimal_value}
 use Rattle.decimals.specs.inner.Decimals.{number_up_to}
 use Rattle.scheduler.specs.Words.{is_numeral}
-use Rattle.scheduler.specs.inner.Reading.{action_of, choice_by, one_from, one_of, seed_of, seeded_from, seeded_of}
+use Rattle.scheduler.specs.inner.Reading.{action_of, choice_by, one_from, one_of, seed_of, seeded_from, seeded_of, item_of}
 
 pub one_is : (cores room number : ℕ) (word digits : List ℕ) (letter : ℕ) → word ≡ digits ++ letter ∷ [] → one_of cores room number word ≡ one_from cores room number digits (action_of letter)
 unfolding one_of
@@ -27,17 +33,32 @@ pub one_bad_digits : (cores room number : ℕ) (word digits : List ℕ) (letter 
     → one_of cores room number word ≡ Err (BadWord number)
 one_bad_digits cores room number word digits letter action is has bad = one_is cores room number word digits letter is ∙ rw (← has, bad) refl
 
-pub one_no_core : (cores room number : ℕ) (word digits : List ℕ) (letter : ℕ) (action : Action) → word ≡ digits ++ letter ∷ [] → Some action ≡ action_of letter → is_numeral digits ≡ true
-    → None ≡ number_up_to (cores - 1) digits → one_of cores room number word ≡ Err (NoSuchCore number)
-one_no_core cores room number word digits letter action is has good none = one_is cores room number word digits letter is ∙ rw (← has, good, ← none) refl
+-- a core that is there, and one that isn't: a number that isn't read past the number of cores tells them apart
+core_out : (cores core : ℕ) (digits : List ℕ) → 0 < cores → core ≡ min (decimal_value digits) cores → core ≡ cores → number_up_to (cores - 1) digits ≡ None
+unfolding number_up_to
+core_out cores core digits some is past = let over : leb (decimal_value digits) (cores - 1) ≡ false = lt-leb _ _ (omega arith) in rw over refl
+
+core_in : (cores core : ℕ) (digits : List ℕ) → core ≡ min (decimal_value digits) cores → core ≢ cores → number_up_to (cores - 1) digits ≡ Some core
+unfolding number_up_to
+core_in cores core digits is other =
+    let there : leb (decimal_value digits) (cores - 1) ≡ true = le-leb _ _ (omega arith) in
+    let same : decimal_value digits ≡ core = omega arith in
+    rw there (ap (λ (n : ℕ). Some n) same)
+
+pub one_no_core : (cores room number : ℕ) (word digits : List ℕ) (letter core : ℕ) (action : Action) → 0 < cores → word ≡ digits ++ letter ∷ [] → Some action ≡ action_of letter → is_numeral digits ≡ true
+    → core ≡ min (decimal_value digits) cores → core ≡ cores → one_of cores room number word ≡ Err (NoSuchCore number)
+one_no_core cores room number word digits letter core action some is has good capped past =
+    one_is cores room number word digits letter is ∙ rw (← has, good, core_out cores core digits some capped past) refl
 
 pub one_full : (cores room number : ℕ) (word digits : List ℕ) (letter core : ℕ) (action : Action) → word ≡ digits ++ letter ∷ [] → Some action ≡ action_of letter → is_numeral digits ≡ true
-    → Some core ≡ number_up_to (cores - 1) digits → room ≡ 0 → one_of cores room number word ≡ Err (TooMany number)
-one_full cores room number word digits letter core action is has good there none = one_is cores room number word digits letter is ∙ rw (← has, good, ← there, none) refl
+    → core ≡ min (decimal_value digits) cores → core ≢ cores → room ≡ 0 → one_of cores room number word ≡ Err (TooMany number)
+one_full cores room number word digits letter core action is has good capped there none =
+    one_is cores room number word digits letter is ∙ rw (← has, good, core_in cores core digits capped there, none) refl
 
 pub one_there : (cores room number : ℕ) (word digits : List ℕ) (letter core : ℕ) (action : Action) → word ≡ digits ++ letter ∷ [] → Some action ≡ action_of letter → is_numeral digits ≡ true
-    → Some core ≡ number_up_to (cores - 1) digits → eqb room 0 ≡ false → one_of cores room number word ≡ Ok (One (choice_by action core))
-one_there cores room number word digits letter core action is has good there some = one_is cores room number word digits letter is ∙ rw (← has, good, ← there, some) refl
+    → core ≡ min (decimal_value digits) cores → core ≢ cores → eqb room 0 ≡ false → one_of cores room number word ≡ Ok (One (choice_by action core))
+one_there cores room number word digits letter core action is has good capped there some =
+    one_is cores room number word digits letter is ∙ rw (← has, good, core_in cores core digits capped there, some) refl
 
 -- ---- the choices of a seed
 
@@ -71,6 +92,18 @@ seeded_there room number ws us vs seed count n m first second some good is = see
 
 pub after_two : (ws us vs : List (List ℕ)) (seed count : List ℕ) → ws ≡ seed ∷ us → us ≡ count ∷ vs → vs ≡ drop 2 ws
 after_two ws us vs seed count first second = rw (first, second) refl
+
+-- ---- either
+
+pub item_one : (cores room number : ℕ) (word : List ℕ) (rest : List (List ℕ)) (r : Result Item ChoiceFault) → bytes_eq word (codes "seed") ≡ false → one_of cores room number word ≡ r
+    → item_of cores room number word rest ≡ r
+unfolding item_of
+item_one cores room number word rest r other is = rw other is
+
+pub item_seeded : (cores room number : ℕ) (word : List ℕ) (rest : List (List ℕ)) (r : Result Item ChoiceFault) → bytes_eq word (codes "seed") ≡ true → seeded_of room number rest ≡ r
+    → item_of cores room number word rest ≡ r
+unfolding item_of
+item_seeded cores room number word rest r same is = rw same is
 
 -- each way that a word is read, and the words after `seed`
 pub ruleset one_word = (one_none, one_bad_letter, one_bad_digits, one_no_core, one_full, one_there)

@@ -4,6 +4,7 @@ pub mod ChoiceWords
 pub mod Found
 pub mod Whole
 pub mod Loop
+pub mod Capped
 pub mod Stopping
 pub mod Cores
 mod FirstWord

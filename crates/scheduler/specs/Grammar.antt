@@ -1,4 +1,5 @@
--- Which text spells which choices.
+-- Which text spells which choices: the grammar as it is told to people, apart from how a reader goes about it. (This
+-- project's profile.)
 use Rattle.std.specs.Prelude.{◌<◌, ◌≤◌, ◌^◌, ◌++◌, ℕ, List, [], ◌∷◌, length, codes, IsTrue}
 use Rattle.tso_model.specs.FlatMachine.{chosen}
 use Rattle.tso_model.specs.declared.choice.Choice.{Choice}

@@ -1,6 +1,6 @@
--- How many choices a text may spell.
+-- How many choices a text may spell. `seed N M` says M choices in three words, so a text's length alone gives no bound.
 use Rattle.std.specs.Prelude.{ℕ}
 
--- choices of a text, at most
+-- maximum number of choices of a text
 abbrev pub most_choices : ℕ
 most_choices = 100000

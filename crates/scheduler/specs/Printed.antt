@@ -1,4 +1,4 @@
--- The printed text of choices.
+-- The printed text of choices, in the form in which choices are read: what one command prints another can be given.
 use Rattle.std.specs.Prelude.{ℕ, List, [], ◌∷◌, ◌++◌, codes}
 use Rattle.std.specs.Fmt.{decimal}
 use Rattle.tso_model.specs.declared.choice.Choice.{Choice}

@@ -1,4 +1,5 @@
--- Which orders no choices reach at a depth.
+-- Which orders no choices reach at a depth. An order in which many stores stand after a later load needs a store buffer for
+-- as many. (This project's profile.)
 use Rattle.std.specs.Prelude.{ℕ, ◌≡◌, ◌≢◌, ◌<◌, List}
 use Rattle.tso_model.specs.Litmus.{Litmus}
 use Rattle.tso_model.specs.Runs.{run}

@@ -1,4 +1,4 @@
--- Which word of a text says a choice.
+-- Which word of a text says a choice, for a refusal that names it: the choices of `seed N M` all have one word.
 use Rattle.std.specs.Prelude.{ℕ, ◌≡◌, ◌<◌, ◌≤◌, ◌+◌, ◌++◌, List, length}
 use Rattle.tso_model.specs.declared.choice.Choice.{Choice}
 use Rattle.scheduler.specs.Words.{words_of}

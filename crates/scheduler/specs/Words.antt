@@ -1,4 +1,5 @@
--- The words of a choice text, and which of them are numbers.
+-- The words of a choice text, and which of them are numbers. A number may have any length and leading zeros here; which
+-- ones are too great is for each item to say.
 use Rattle.std.specs.Prelude.{ℕ, Bool, List, length, filter, not, ◌==◌, ◌||◌, ◌&&◌, nat_lt}
 use Rattle.std.specs.Char.{is_ascii_digit}
 use Rattle.std.specs.List.{slice_split, list_all}

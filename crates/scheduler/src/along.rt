@@ -1,4 +1,5 @@
-//! The choices along an order: each entry steps its core only as far as that entry needs.
+//! The choices along an order: each entry steps its core only as far as that entry needs. A core that steps further than it
+//! must may fill its store buffer, and then needs a deeper one than the order does.
 
 ghost use Rattle.std.specs.Prelude.{◌≡◌, ◌<◌, ◌++◌, IfOk, OnOk, All, length};
 ghost use Rattle.tso_laws.specs.Along.{steps, choices_for, places_after, last_steps, choices_along};

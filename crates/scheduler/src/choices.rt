@@ -1,4 +1,5 @@
-//! The choices that a text spells.
+//! The choices that a text spells, or its first fault. The limit is judged before an item's choices are made, so that three
+//! words can't ask for more room than a text may.
 
 ghost use Rattle.std.specs.Prelude.{◌≡◌, ◌≢◌, ◌<◌, List, IfOk, IfErr, MatchResult};
 ghost use Rattle.scheduler.specs.Limits.{most_choices};
@@ -9,7 +10,7 @@ ghost use Rattle.scheduler.specs.declared.fault.ChoiceFault.{ChoiceFault};
 ghost use Rattle.tso_model.specs.declared.choice.Choice.{Choice};
 
 use crate::fault::ChoiceFault;
-use crate::item::read_item;
+use crate::item::{is_seed, read_one, read_seeded};
 use crate::words::first_word;
 use std::alloc::Global;
 use tso_model::Choice;
@@ -32,10 +33,16 @@ fn choices_of(alloc: Global, cores: u8, text: &[u8]) -> Result<Vec<Choice>, Choi
     let mut words = 0;
     while let Some((word, after)) = first_word(text) {
         let room = MAX_CHOICES - choices.len();
-        let read = read_item(cores, room, words + 1, word, after)?;
-        read.item.push_to(&mut choices, cores)?;
-        words += read.item.words();
-        text = read.after;
+        if is_seed(word) {
+            let read = read_seeded(room, words + 1, after)?;
+            read.item.push_to(&mut choices, cores)?;
+            words += read.item.words();
+            text = read.after;
+        } else {
+            choices.push(read_one(cores, room, words + 1, word)?)?;
+            words += 1;
+            text = after;
+        }
     }
     Ok(choices)
 }

@@ -1,4 +1,5 @@
-//! The choices of a run, one after the other: those of a list, or those of a seed, drawn as they are asked for.
+//! The choices of a run, one after the other: those of a list, or those of a seed, drawn as they are asked for. So a sweep
+//! keeps no list, and what runs a test needn't know which of the two it has.
 
 ghost use Rattle.std.specs.Prelude.{◌≡◌, ◌<◌, List, length, map};
 ghost use Rattle.tso_model.specs.Runs.{CoresExist};

@@ -1,4 +1,5 @@
-//! How deep a store buffer an order needs.
+//! How deep a store buffer an order needs: it must have room for all plain stores that one load has passed. At a smaller
+//! depth no choices reach the order.
 
 ghost use Rattle.std.specs.Prelude.{◌≡◌, ◌<◌, ◌^◌, ℕ, IfOk, All, Some, [], length, sum};
 ghost use Rattle.tso_model.specs.Limits.{most_instructions};

@@ -1,9 +1,11 @@
-//! Why a text spells no choices, and why an order isn't reached.
+//! Why a text spells no choices, and why an order isn't reached. Each fault has what its line has to name: the word, the
+//! core or the depth.
 
 ghost use Rattle.std.specs.Prelude.{◌≡◌};
 ghost use Rattle.scheduler.specs.declared.fault.ChoiceFault.TheVariants as fault;
 ghost use Rattle.scheduler.specs.declared.fault.WitnessFault.TheVariants as witness_fault;
 
+use std::alloc::AllocFailed;
 use std::error::Error;
 use std::fmt;
 
@@ -14,7 +16,7 @@ pub enum ChoiceFault {
     BadWord(usize),
     /// This word names a core that isn't there.
     NoSuchCore(usize),
-    /// The item that begins at this word passes the greatest number of choices of a text.
+    /// The item that begins at this word passes the maximum number of choices of a text.
     TooMany(usize),
     /// The allocator refused a growth. It is answered for no other reason.
     NoMemory,
@@ -37,6 +39,14 @@ impl From<tso_model::NoMemory> for ChoiceFault {
     ghost from_gives = { λ _ e. e ≡ fault.NoMemory };
 
     fn from(_: tso_model::NoMemory) -> ChoiceFault {
+        ChoiceFault::NoMemory
+    }
+}
+
+impl<T: Drop> From<AllocFailed<T>> for ChoiceFault {
+    ghost from_gives = { λ _ e. e ≡ fault.NoMemory };
+
+    fn from(_: AllocFailed<T>) -> ChoiceFault {
         ChoiceFault::NoMemory
     }
 }

@@ -1,12 +1,15 @@
-//! One item of a choice text.
+//! One item of a choice text: a word, or the three words of a seed. Its faults are judged in one order, so that a text with
+//! several gets the same refusal each time.
 
-ghost use Rattle.std.specs.Prelude.{◌≡◌, ◌<◌, ◌≤◌, ◌+◌, ◌-◌, ◌^◌, ◌++◌, ℕ, length, drop, IfOk, OnOk};
+ghost use Rattle.std.specs.Prelude.{◌≡◌, ◌<◌, ◌≤◌, ◌+◌, ◌-◌, ◌^◌, ◌++◌, ℕ, Ok, Err, length, drop, codes, IfOk, IfErr, OnOk};
+ghost use Rattle.std.specs.Str.{bytes_eq};
 ghost use Rattle.scheduler.specs.Words.{words_of};
 ghost use Rattle.scheduler.specs.inner.Reading.{made_of, words_in, action_of, choice_by, one_of, seed_of, seeded_of, item_of};
 ghost use Rattle.scheduler.specs.inner.ItemsRead.{IsItemRead};
+ghost use Rattle.scheduler.specs.declared.item.Item.TheVariants.{One};
 
 use crate::fault::ChoiceFault;
-use crate::numbers::is_numeral;
+use crate::numbers::{capped_number, is_numeral};
 use crate::seeds::push_seeded;
 use crate::words::first_word;
 use decimals::number_up_to;
@@ -91,10 +94,11 @@ pub struct ItemRead<'a> {
 
 /// Reads a word that is to be digits and the letter of a step or a drain, where `room` choices more are allowed.
 #[tactic(auto, using(crate::proofs::Items::one_word))]
-fn read_one(cores: u8, room: usize, number: usize, word: &[u8]) -> Result<Item, ChoiceFault>
+#[inline(always)]
+pub fn read_one(cores: u8, room: usize, number: usize, word: &[u8]) -> Result<Choice, ChoiceFault>
     requires { 0 < cores }
-    ensures exact { result ≡ one_of cores room number word.now }
-    ensures one { IfOk result (λ item. words_in item ≡ 1) }
+    ensures choice { IfOk result (λ choice. one_of cores room number word.now ≡ Ok (One choice)) }
+    ensures fault { IfErr result (λ fault. one_of cores room number word.now ≡ Err fault) }
 {
     let Some((letter, digits)) = word.split_last() else {
         return Err(ChoiceFault::BadWord(number));
@@ -102,16 +106,23 @@ fn read_one(cores: u8, room: usize, number: usize, word: &[u8]) -> Result<Item, 
     let Some(action) = Action::of(*letter) else {
         return Err(ChoiceFault::BadWord(number));
     };
-    if !is_numeral(digits) {
+    let Some(core) = capped_number(cores, digits) else {
         return Err(ChoiceFault::BadWord(number));
-    }
-    let Some(core) = number_up_to(u64::from(cores) - 1, digits) else {
-        return Err(ChoiceFault::NoSuchCore(number));
     };
+    if core == cores {
+        return Err(ChoiceFault::NoSuchCore(number));
+    }
     if room == 0 {
         return Err(ChoiceFault::TooMany(number));
     }
-    Ok(Item::One(action.by(Core(core as u8))))
+    Ok(action.by(Core(core)))
+}
+
+/// Whether a word begins the choices of a seed.
+pub fn is_seed(word: &[u8]) -> bool
+    ensures { result ≡ bytes_eq word.now (codes "seed") }
+{
+    word == b"seed".as_slice()
 }
 
 /// The seed that a word says, if it is a number below 2^64.
@@ -128,7 +139,7 @@ fn seed_of(word: &[u8]) -> Option<u64>
 
 /// Reads the two words after `seed`, whose own number is `number`, where `room` choices more are allowed.
 #[tactic(auto, using(crate::proofs::Items::seed_words))]
-fn read_seeded(room: usize, number: usize, text: &[u8]) -> Result<ItemRead<'_>, ChoiceFault>
+pub fn read_seeded(room: usize, number: usize, text: &[u8]) -> Result<ItemRead<'_>, ChoiceFault>
     requires { number + length text.now < 2 ^ 64 }
     ensures item { IsItemRead (seeded_of room number (words_of text.now)) result }
     ensures after { IfOk result (λ r. words_of r.after.now ≡ drop (words_in r.item - 1) (words_of text.now)) }
@@ -169,10 +180,10 @@ pub fn read_item<'a>(
     ensures after { IfOk result (λ r. words_of r.after.now ≡ drop (words_in r.item - 1) (words_of text.now)) }
     ensures shorter { IfOk result (λ r. words_in r.item + length r.after.now ≤ 1 + length text.now) }
 {
-    if word == b"seed".as_slice() {
+    if is_seed(word) {
         read_seeded(room, number, text)
     } else {
-        let item = read_one(cores, room, number, word)?;
+        let item = Item::One(read_one(cores, room, number, word)?);
         Ok(ItemRead { item, after: text })
     }
 }

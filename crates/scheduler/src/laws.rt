@@ -1,4 +1,5 @@
-//! Laws of texts and their choices, with nothing to run: who calls a function knows what its contract says.
+//! Laws of texts and their choices, with nothing to run: each text is read in one way, and printed choices are read back as
+//! they were. Who calls a function knows what its contract says.
 
 ghost use Rattle.std.specs.Prelude.{◌<◌, ◌≤◌, ◌^◌, ◌++◌, ℕ, List, IsTrue, length};
 ghost use Rattle.std.specs.List.{list_all};

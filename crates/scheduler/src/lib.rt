@@ -1,4 +1,5 @@
-//! What is chosen next, and by which core: the texts that say it, and the choices of a seed.
+//! What is chosen next, and by which core: the texts that say it, the choices of a seed, and those that reach a given
+//! order. By them alone a run on the machine is decided.
 #![tactic(auto)]
 
 mod along;

@@ -1,4 +1,5 @@
-//! The word of a choice text that says a choice.
+//! The word of a choice text that says a choice: what is told to a person names the word that is there to be seen; the
+//! choices of `seed N M` all have one.
 
 ghost use Rattle.std.specs.Prelude.{◌≡◌, ◌<◌, ℕ, List, Some, IfSome, IsSome, length};
 ghost use Rattle.tso_model.specs.declared.choice.Choice.{Choice};

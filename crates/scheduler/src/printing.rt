@@ -1,4 +1,4 @@
-//! Choices as they are printed: `0s 1d`.
+//! Choices as they are printed: `0s 1d`. It is the form in which they are read.
 
 ghost use Rattle.std.specs.Prelude.{◌≡◌, ◌++◌, IfOk, OnOk, string_bytes};
 ghost use Rattle.scheduler.specs.Printed.{printed_choice, printed_after, printed_choices};

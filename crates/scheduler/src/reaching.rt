@@ -1,4 +1,5 @@
-//! The choices that reach an order.
+//! The choices that reach an order (a witness): that they are found for every TSO execution shows that the machine leaves
+//! out nothing that TSO allows, if its store buffers are deep enough.
 
 ghost use Rattle.std.specs.Prelude.{◌≡◌, ◌≢◌, ◌≤◌, IfOk, IfErr, MatchResult};
 ghost use Rattle.tso_model.specs.Limits.{least_depth, most_depth};

@@ -1,4 +1,5 @@
-//! The choices of a seed.
+//! The choices of a seed. They are decided by a published generator (PCG XSH RR 64/32, O'Neill) and not by the machine that
+//! it runs on, so that a seed gives the same run everywhere.
 
 ghost use Rattle.std.specs.Prelude.{◌≡◌, ◌<◌, ◌++◌, IfOk, OnOk};
 ghost use Rattle.scheduler.specs.Seeds.{choice_of_word, seeded_choices};

@@ -1,6 +1,6 @@
-//! The words of a text, one after the other.
+//! The words of a text, one after the other, borrowed from it: no text is copied to be read.
 
-ghost use Rattle.std.specs.Prelude.{◌≡◌, ◌<◌, ◌≤◌, ◌∷◌, [], not, length, IfSome};
+ghost use Rattle.std.specs.Prelude.{◌≡◌, ◌<◌, ◌≤◌, ◌∷◌, [], not, length, drop, IfSome};
 ghost use Rattle.std.specs.List.{prefix_len};
 ghost use Rattle.std.specs.Option.{IfNone};
 ghost use Rattle.scheduler.specs.Words.{is_space, words_of};
@@ -29,7 +29,17 @@ fn word_length(text: &[u8]) -> usize
     text.iter().take_while(|byte| !is_space(**byte)).count()
 }
 
-/// The first word of a text, and what stands after it.
+/// What stands after the first byte of a text, if it has one.
+fn after_first(text: &[u8]) -> &[u8]
+    ensures { result.now ≡ drop 1 text.now }
+{
+    match text {
+        [] => text,
+        [_, rest @ ..] => rest,
+    }
+}
+
+/// The first word of a text, and what stands after it and the white space that ends it.
 #[tactic(auto, using(crate::proofs::FirstWord::no_words, crate::proofs::FirstWord::word_first, crate::proofs::FirstWord::word_shorter))]
 pub fn first_word(text: &[u8]) -> Option<(&[u8], &[u8])>
     ensures none { IfNone result (words_of text.now ≡ []) }
@@ -40,5 +50,6 @@ pub fn first_word(text: &[u8]) -> Option<(&[u8], &[u8])>
     if text.is_empty() {
         return None;
     }
-    Some(text.split_at(word_length(text)))
+    let (word, after) = text.split_at(word_length(text));
+    Some((word, after_first(after)))
 }

@@ -4,6 +4,7 @@ use Rattle.protocol_tables.specs.Tables.{Table}
 use Rattle.cache_set.specs.declared.Line.{Line}
 use Rattle.snoop_bus.specs.declared.access.Access.{Access}
 use Rattle.snoop_bus.specs.declared.access.Updated.{Updated}
+use Rattle.snoop_bus.specs.declared.hierarchy.Hierarchy.{Hierarchy}
 use Rattle.snoop_bus.specs.declared.access.AccessKind.TheVariants.{Miss}
 use Rattle.snoop_bus.specs.Geometry.{Geometry}
 use Rattle.snoop_bus.specs.Lines.{Words, line_in, words_in}
@@ -29,17 +30,17 @@ pub loc_in : (words n : ℕ) (caches : List Sets) (memory : List Words) (loc : �
 loc_in words n caches memory loc b = rw (length-words words (current_words caches memory) n) at b
 
 -- a core's access to a location of the bus
-pub bus_ready : (shape : Geometry) (locations : ℕ) (caches : List Sets) (memory : List Words) (held : Option Held) (core loc : ℕ) →
-    IsBus shape locations caches memory held → core < length caches →
-    loc < length (program_words shape locations (counted held caches) memory) → IsReady held core (loc / shape.words) caches memory
-bus_ready shape locations caches memory held core loc h core_in word_in = record {
-  coherent = h.coherent;
-  awaited = h.awaited;
+pub bus_ready : (shape : Geometry) (locations : ℕ) (h : Hierarchy) (held : Option Held) (core loc : ℕ) →
+    IsBus shape locations h.caches.items h.memory.items held → core < length h.caches.items →
+    loc < length (program_words shape locations (counted held h.caches.items) h.memory.items) → IsReady held core (loc / shape.words) h
+bus_ready shape locations h held core loc b core_in word_in = record {
+  coherent = b.coherent;
+  awaited = b.awaited;
   core_in = core_in;
-  few_cores = h.few_cores;
+  few_cores = b.few_cores;
   line_in =
-      line_below shape.words locations (length memory) loc h.some_word h.enough_lines
-      (loc_in shape.words locations (counted held caches) memory loc word_in);
+      line_below shape.words locations (length h.memory.items) loc b.some_word b.enough_lines
+      (loc_in shape.words locations (counted held h.caches.items) h.memory.items loc word_in);
 }
 
 -- what may go on: nobody holds the bus, or the access is a hit
@@ -49,12 +50,12 @@ pub free_or_hit : (t : Table) (shape : Geometry) (locations : ℕ) (caches : Lis
 free_or_hit t shape locations caches memory held core loc write (inl e) = inl (free-held held e)
 free_or_hit t shape locations caches memory held core loc write (inr e) = inr (rw (table_of-rows t) at e)
 
-module _ (t : Table) (shape : Geometry) (locations : ℕ) (c0 c2 : List Sets) (m0 m2 : List Words) (held : Option Held) (core loc : ℕ) where
+module _ (t : Table) (shape : Geometry) (locations : ℕ) (old new : Hierarchy) (held : Option Held) (core loc : ℕ) where
   abbrev before : Bus
-  before = bus_with t shape locations c0 m0 held
+  before = bus_with t shape locations old.caches.items old.memory.items held
 
   abbrev after : Bus
-  after = bus_with t shape locations c2 m2 held
+  after = bus_with t shape locations new.caches.items new.memory.items held
 
   same_holder : KeepsHolder before after
   same_holder = record { holder_is = refl; awaited_is = refl }
@@ -62,56 +63,56 @@ module _ (t : Table) (shape : Geometry) (locations : ℕ) (c0 c2 : List Sets) (m
   back : t ≡ table_of_rows (rows_of t)
   back = sym (table_of-rows t)
 
-  pub load_done : {E : Type 0} (r : Result (ℕ × Access) E) → 0 < shape.words → locations ≤ length m0 * shape.words → loc < locations →
-      IfOk r (λ r. Loads t held core (loc / shape.words) (loc % shape.words) c0 c2 m0 m2 r.0 r.1) → KeepsWords (counted held c0) (counted held c2) m0 m2 → IfOk r (λ r. LoadsAt before after core loc r.0 r.1)
+  pub load_done : {E : Type 0} (r : Result (ℕ × Access) E) → 0 < shape.words → locations ≤ length old.memory.items * shape.words → loc < locations →
+      IfOk r (λ r. Loads t held core (loc / shape.words) (loc % shape.words) old.caches.items new.caches.items old.memory.items new.memory.items r.0 r.1) → KeepsWords (counted held old.caches.items) (counted held new.caches.items) old.memory.items new.memory.items → IfOk r (λ r. LoadsAt before after core loc r.0 r.1)
   load_done (Err e) some enough within h keeps = tt
   load_done (Ok x) some enough within h keeps = record {
-    word_is = words-get shape.words (current_words (counted held c0) m0) locations loc within ∙ ap (λ (w : ℕ). Some w) (sym h.word_is);
-    words = words-same shape.words locations (length m0) (current_words (counted held c0) m0) (current_words (counted held c2) m2) some enough keeps.words;
-    access_is = h.access_is ∙ ap (λ (u : Table). (loaded u core (loc / shape.words) (tags_of c0)).access) back;
-    contents = h.tags ∙ ap (λ (u : Table). (loaded u core (loc / shape.words) (tags_of c0)).caches) back;
-    memory = h.memory ∙ ap (λ (u : Table). loaded_memory u core (loc / shape.words) c0 m0) back;
+    word_is = words-get shape.words (current_words (counted held old.caches.items) old.memory.items) locations loc within ∙ ap (λ (w : ℕ). Some w) (sym h.word_is);
+    words = words-same shape.words locations (length old.memory.items) (current_words (counted held old.caches.items) old.memory.items) (current_words (counted held new.caches.items) new.memory.items) some enough keeps.words;
+    access_is = h.access_is ∙ ap (λ (u : Table). (loaded u core (loc / shape.words) (tags_of old.caches.items)).access) back;
+    contents = h.tags ∙ ap (λ (u : Table). (loaded u core (loc / shape.words) (tags_of old.caches.items)).caches) back;
+    memory = h.memory ∙ ap (λ (u : Table). loaded_memory u core (loc / shape.words) old.caches.items old.memory.items) back;
     held = same_holder;
   }
 
   -- the word that was there
-  pub write_word : {E : Type 0} (r : Result Updated E) → loc < locations → IfOk r (Updates t held core (loc / shape.words) (loc % shape.words) c0 c2 m0 m2) →
+  pub write_word : {E : Type 0} (r : Result Updated E) → loc < locations → IfOk r (Updates t held core (loc / shape.words) (loc % shape.words) old.caches.items new.caches.items old.memory.items new.memory.items) →
       IfOk r (λ r. IsCurrentWord before loc r.before)
   write_word (Err e) within h = tt
-  write_word (Ok x) within h = words-get shape.words (current_words (counted held c0) m0) locations loc within ∙ ap (λ (w : ℕ). Some w) (sym h.word_is)
+  write_word (Ok x) within h = words-get shape.words (current_words (counted held old.caches.items) old.memory.items) locations loc within ∙ ap (λ (w : ℕ). Some w) (sym h.word_is)
 
   -- the word that is written may rest on the one that was there
-  pub write_done : {E : Type 0} (r : Result Updated E) → 0 < shape.words → locations ≤ length m0 * shape.words → loc < locations →
-      IfOk r (Updates t held core (loc / shape.words) (loc % shape.words) c0 c2 m0 m2) → IfOk r (λ r. WritesAt before after core loc r.after r.access)
+  pub write_done : {E : Type 0} (r : Result Updated E) → 0 < shape.words → locations ≤ length old.memory.items * shape.words → loc < locations →
+      IfOk r (Updates t held core (loc / shape.words) (loc % shape.words) old.caches.items new.caches.items old.memory.items new.memory.items) → IfOk r (λ r. WritesAt before after core loc r.after r.access)
   write_done (Err e) some enough within h = tt
   write_done (Ok x) some enough within h = record {
-    words = words-set shape.words locations (length m0) (current_words (counted held c0) m0) (current_words (counted held c2) m2) loc x.after some enough within h.place_in h.lines;
-    access_is = h.access_is ∙ ap (λ (u : Table). (written u core (loc / shape.words) (tags_of c0)).access) back;
-    contents = h.tags ∙ ap (λ (u : Table). (written u core (loc / shape.words) (tags_of c0)).caches) back;
-    memory = h.memory ∙ ap (λ (u : Table). written_memory u core (loc / shape.words) c0 m0) back;
+    words = words-set shape.words locations (length old.memory.items) (current_words (counted held old.caches.items) old.memory.items) (current_words (counted held new.caches.items) new.memory.items) loc x.after some enough within h.place_in h.lines;
+    access_is = h.access_is ∙ ap (λ (u : Table). (written u core (loc / shape.words) (tags_of old.caches.items)).access) back;
+    contents = h.tags ∙ ap (λ (u : Table). (written u core (loc / shape.words) (tags_of old.caches.items)).caches) back;
+    memory = h.memory ∙ ap (λ (u : Table). written_memory u core (loc / shape.words) old.caches.items old.memory.items) back;
     held = same_holder;
   }
 
-  same_bus : c2 ≡ c0 → m2 ≡ m0 → after ≡ before
+  same_bus : new.caches.items ≡ old.caches.items → new.memory.items ≡ old.memory.items → after ≡ before
   same_bus p q = rw (p, q) refl
 
-  pub load_refused : {V E : Type 0} (r : Result V E) → (IsSome (copy_at c0 core (loc / shape.words)) → IsOk r) → OnErr r (IsUnchanged c0 c2 m0 m2) →
+  pub load_refused : {V E : Type 0} (r : Result V E) → (IsSome (copy_at old.caches.items core (loc / shape.words)) → IsOk r) → OnErr r (IsUnchanged old new) →
       OnErr r (IsOutOfMemory before after (load_of before core loc).access)
   load_refused (Ok x) succeeds unchanged = tt
-  load_refused (Err e) succeeds unchanged = record { miss = by_copy (copy_at c0 core (loc / shape.words)) refl; same = same_bus unchanged.caches unchanged.memory }
+  load_refused (Err e) succeeds unchanged = record { miss = by_copy (copy_at old.caches.items core (loc / shape.words)) refl; same = same_bus unchanged.caches unchanged.memory }
     where
-      by_copy : (o : Option Line) → copy_at c0 core (loc / shape.words) ≡ o → (load_of before core loc).access.kind ≡ Miss
-      by_copy None absent = ap (λ (a : Accessed). a.access.kind) (loaded-miss (table_of_rows (rows_of t)) c0 core (loc / shape.words) absent)
-      by_copy (Some copy) found = let here : IsSome (copy_at c0 core (loc / shape.words)) = rw found refl in let no = succeeds here in cc
+      by_copy : (o : Option Line) → copy_at old.caches.items core (loc / shape.words) ≡ o → (load_of before core loc).access.kind ≡ Miss
+      by_copy None absent = ap (λ (a : Accessed). a.access.kind) (loaded-miss (table_of_rows (rows_of t)) old.caches.items core (loc / shape.words) absent)
+      by_copy (Some copy) found = let here : IsSome (copy_at old.caches.items core (loc / shape.words)) = rw found refl in let no = succeeds here in cc
 
-  pub write_refused : {V E : Type 0} (r : Result V E) → (IsSome (copy_at c0 core (loc / shape.words)) → IsOk r) → OnErr r (IsUnchanged c0 c2 m0 m2) →
+  pub write_refused : {V E : Type 0} (r : Result V E) → (IsSome (copy_at old.caches.items core (loc / shape.words)) → IsOk r) → OnErr r (IsUnchanged old new) →
       OnErr r (IsOutOfMemory before after (write_of before core loc).access)
   write_refused (Ok x) succeeds unchanged = tt
-  write_refused (Err e) succeeds unchanged = record { miss = by_copy (copy_at c0 core (loc / shape.words)) refl; same = same_bus unchanged.caches unchanged.memory }
+  write_refused (Err e) succeeds unchanged = record { miss = by_copy (copy_at old.caches.items core (loc / shape.words)) refl; same = same_bus unchanged.caches unchanged.memory }
     where
-      by_copy : (o : Option Line) → copy_at c0 core (loc / shape.words) ≡ o → (write_of before core loc).access.kind ≡ Miss
-      by_copy None absent = ap (λ (a : Accessed). a.access.kind) (written-miss (table_of_rows (rows_of t)) c0 core (loc / shape.words) absent)
-      by_copy (Some copy) found = let here : IsSome (copy_at c0 core (loc / shape.words)) = rw found refl in let no = succeeds here in cc
+      by_copy : (o : Option Line) → copy_at old.caches.items core (loc / shape.words) ≡ o → (write_of before core loc).access.kind ≡ Miss
+      by_copy None absent = ap (λ (a : Accessed). a.access.kind) (written-miss (table_of_rows (rows_of t)) old.caches.items core (loc / shape.words) absent)
+      by_copy (Some copy) found = let here : IsSome (copy_at old.caches.items core (loc / shape.words)) = rw found refl in let no = succeeds here in cc
 
 -- once memory has each line that is seen, its own words are the words that are seen
 pub settled_words : (words locations : ℕ) (c0 : List Sets) (m0 m2 : List Words) → 0 < words → locations ≤ length m0 * words →

@@ -20,6 +20,7 @@ use Rattle.snoop_bus.specs.Bus.{current_words, AllCoherent, empty_caches}
 use Rattle.snoop_bus.specs.inner.Bus.{HasWholeLines, IsBus}
 use Rattle.snoop_bus.proofs.CurrentWords.{seen_is, all_coherent}
 use Rattle.snoop_bus.specs.declared.access.Updated.{Updated}
+use Rattle.snoop_bus.specs.declared.hierarchy.Hierarchy.{Hierarchy}
 use Rattle.snoop_bus.specs.declared.holding.Held.{Held}
 use Rattle.snoop_bus.specs.Held.{counted}
 use Rattle.snoop_bus.specs.inner.Held.{IsHeld, IsPlaced}
@@ -127,16 +128,16 @@ new-bus cores lines shape init some few words small locations enough close exact
 pub same_cores : (c0 c2 : List Sets) → ways_of c2 ≡ ways_of c0 → length c2 ≡ length c0
 same_cores c0 c2 same = sym (length-map c2 (map (λ (s : Contents). s.ways))) ∙ ap length same ∙ length-map c0 (map (λ (s : Contents). s.ways))
 
-pub bus-after : (shape : Geometry) (locations : ℕ) (c0 c2 : List Sets) (m0 m2 : List Words) (h0 h2 : Option Held) → IsBus shape locations c0 m0 h0 → length m2 ≡ length m0 → AllCoherent (counted h2 c2) m2 → ways_of c2 ≡ ways_of c0 →
-    HasWholeLines shape locations (counted h2 c2) m2 → IfSome h2 (IsHeld c2 m2) → IfSome h2 (IsPlaced shape locations) → IsBus shape locations c2 m2 h2
-bus-after shape locations c0 c2 m0 m2 h0 h2 h size coherent ways lines awaited placed = record {
+pub bus-after : (shape : Geometry) (locations : ℕ) (old new : Hierarchy) (h0 h2 : Option Held) → IsBus shape locations old.caches.items old.memory.items h0 → length new.memory.items ≡ length old.memory.items → AllCoherent (counted h2 new.caches.items) new.memory.items → ways_of new.caches.items ≡ ways_of old.caches.items →
+    HasWholeLines shape locations (counted h2 new.caches.items) new.memory.items → IfSome h2 (IsHeld new.caches.items new.memory.items) → IfSome h2 (IsPlaced shape locations) → IsBus shape locations new.caches.items new.memory.items h2
+bus-after shape locations old new h0 h2 h size coherent ways lines awaited placed = record {
   coherent = coherent;
   lines = lines;
   awaited = awaited;
   placed = placed;
-  shaped = ways ∙ rw (same_cores c0 c2 ways) h.shaped;
-  some_core = rw (same_cores c0 c2 ways) h.some_core;
-  few_cores = rw (same_cores c0 c2 ways) h.few_cores;
+  shaped = ways ∙ rw (same_cores old.caches.items new.caches.items ways) h.shaped;
+  some_core = rw (same_cores old.caches.items new.caches.items ways) h.some_core;
+  few_cores = rw (same_cores old.caches.items new.caches.items ways) h.few_cores;
   few_locations = h.few_locations;
   some_word = h.some_word;
   few_lines = rw size h.few_lines;
@@ -145,24 +146,24 @@ bus-after shape locations c0 c2 m0 m2 h0 h2 h size coherent ways lines awaited p
 }
 
 -- a bus whose words stay
-pub bus-kept : (shape : Geometry) (locations : ℕ) (c0 c2 : List Sets) (m0 m2 : List Words) (h0 h2 : Option Held) → IsBus shape locations c0 m0 h0 → length m2 ≡ length m0 → KeepsWords (counted h0 c0) (counted h2 c2) m0 m2 →
-    ways_of c2 ≡ ways_of c0 → IfSome h2 (IsHeld c2 m2) → IfSome h2 (IsPlaced shape locations) → IsBus shape locations c2 m2 h2
-bus-kept shape locations c0 c2 m0 m2 h0 h2 h size keeps ways awaited placed = bus-after shape locations c0 c2 m0 m2 h0 h2 h size keeps.coherent ways
-    (λ k b. lines-same shape.words locations (length m0) (current_words (counted h0 c0) m0) (current_words (counted h2 c2) m2) h.some_word h.enough_lines keeps.words h.lines k (rw size at b)) awaited placed
+pub bus-kept : (shape : Geometry) (locations : ℕ) (old new : Hierarchy) (h0 h2 : Option Held) → IsBus shape locations old.caches.items old.memory.items h0 → length new.memory.items ≡ length old.memory.items → KeepsWords (counted h0 old.caches.items) (counted h2 new.caches.items) old.memory.items new.memory.items →
+    ways_of new.caches.items ≡ ways_of old.caches.items → IfSome h2 (IsHeld new.caches.items new.memory.items) → IfSome h2 (IsPlaced shape locations) → IsBus shape locations new.caches.items new.memory.items h2
+bus-kept shape locations old new h0 h2 h size keeps ways awaited placed = bus-after shape locations old new h0 h2 h size keeps.coherent ways
+    (λ k b. lines-same shape.words locations (length old.memory.items) (current_words (counted h0 old.caches.items) old.memory.items) (current_words (counted h2 new.caches.items) new.memory.items) h.some_word h.enough_lines keeps.words h.lines k (rw size at b)) awaited placed
 
 -- a bus once a word was written, where nobody holds it then
-pub bus-set : (shape : Geometry) (locations : ℕ) (c0 c2 : List Sets) (m0 m2 : List Words) (h0 : Option Held) (loc value : ℕ) → IsBus shape locations c0 m0 h0 → length m2 ≡ length m0 → loc < locations →
-    SetsWord (loc / shape.words) (loc % shape.words) value (counted h0 c0) c2 m0 m2 → ways_of c2 ≡ ways_of c0 → IsBus shape locations c2 m2 None
-bus-set shape locations c0 c2 m0 m2 h0 loc value h size within sets ways = bus-after shape locations c0 c2 m0 m2 h0 None h size sets.coherent ways
-    (λ k b. lines-set shape.words locations (length m0) (current_words (counted h0 c0) m0) (current_words c2 m2) loc value h.some_word h.enough_lines within sets.place_in sets.lines h.lines k (rw size at b)) tt tt
+pub bus-set : (shape : Geometry) (locations : ℕ) (old new : Hierarchy) (h0 : Option Held) (loc value : ℕ) → IsBus shape locations old.caches.items old.memory.items h0 → length new.memory.items ≡ length old.memory.items → loc < locations →
+    SetsWord (loc / shape.words) (loc % shape.words) value (counted h0 old.caches.items) new.caches.items old.memory.items new.memory.items → ways_of new.caches.items ≡ ways_of old.caches.items → IsBus shape locations new.caches.items new.memory.items None
+bus-set shape locations old new h0 loc value h size within sets ways = bus-after shape locations old new h0 None h size sets.coherent ways
+    (λ k b. lines-set shape.words locations (length old.memory.items) (current_words (counted h0 old.caches.items) old.memory.items) (current_words new.caches.items new.memory.items) loc value h.some_word h.enough_lines within sets.place_in sets.lines h.lines k (rw size at b)) tt tt
 
 -- a bus once a write access was made, or was refused
-pub bus-written : {E : Type 0} (t : Table) (held : Option Held) (r : Result Updated E) (shape : Geometry) (locations : ℕ) (c0 c2 : List Sets) (m0 m2 : List Words) (core loc : ℕ) →
-    IsBus shape locations c0 m0 held → length m2 ≡ length m0 → loc < locations → AllCoherent (counted held c2) m2 → IfSome held (IsHeld c2 m2) → ways_of c2 ≡ ways_of c0 →
-    IfOk r (Updates t held core (loc / shape.words) (loc % shape.words) c0 c2 m0 m2) → OnErr r (IsUnchanged c0 c2 m0 m2) → IsBus shape locations c2 m2 held
-bus-written t held (Ok x) shape locations c0 c2 m0 m2 core loc h size within coherent awaited ways writes unchanged = bus-after shape locations c0 c2 m0 m2 held held h size coherent ways
-    (λ k b. lines-set shape.words locations (length m0) (current_words (counted held c0) m0) (current_words (counted held c2) m2) loc x.after h.some_word h.enough_lines within writes.place_in writes.lines h.lines k (rw size at b)) awaited h.placed
-bus-written t held (Err e) shape locations c0 c2 m0 m2 core loc h size within coherent awaited ways writes unchanged = rw (unchanged.caches, unchanged.memory) h
+pub bus-written : {E : Type 0} (t : Table) (held : Option Held) (r : Result Updated E) (shape : Geometry) (locations : ℕ) (old new : Hierarchy) (core loc : ℕ) →
+    IsBus shape locations old.caches.items old.memory.items held → length new.memory.items ≡ length old.memory.items → loc < locations → AllCoherent (counted held new.caches.items) new.memory.items → IfSome held (IsHeld new.caches.items new.memory.items) → ways_of new.caches.items ≡ ways_of old.caches.items →
+    IfOk r (Updates t held core (loc / shape.words) (loc % shape.words) old.caches.items new.caches.items old.memory.items new.memory.items) → OnErr r (IsUnchanged old new) → IsBus shape locations new.caches.items new.memory.items held
+bus-written t held (Ok x) shape locations old new core loc h size within coherent awaited ways writes unchanged = bus-after shape locations old new held held h size coherent ways
+    (λ k b. lines-set shape.words locations (length old.memory.items) (current_words (counted held old.caches.items) old.memory.items) (current_words (counted held new.caches.items) new.memory.items) loc x.after h.some_word h.enough_lines within writes.place_in writes.lines h.lines k (rw size at b)) awaited h.placed
+bus-written t held (Err e) shape locations old new core loc h size within coherent awaited ways writes unchanged = rw (unchanged.caches, unchanged.memory) h
 
 -- each core has as many sets as the shape says
 pub cache-sets : (shape : Geometry) (locations : ℕ) (caches : List Sets) (memory : List Words) (held : Option Held) (core : ℕ) → IsBus shape locations caches memory held → core < length caches → length (cache_of caches core) ≡ shape.sets

@@ -1,4 +1,6 @@
--- What a contract sees of a bus: the caches of all cores and memory, and the words that a program sees.
+-- What a contract sees of a bus: the caches of all cores and memory, and the words that a program sees: a copy's where
+-- there is one, else memory's. That these words are one list, whatever the caches hold, is what coherence buys. (Primer,
+-- chapter 2.)
 use Rattle.std.specs.Prelude.{◌≡◌, ◌≤◌, ◌<◌, ℕ, List, [], ◌∷◌, length, replicate, Option, None, unwrap_or, option_map}
 use Rattle.std.specs.Option.{option_or}
 use Rattle.cache_set.specs.Contents.{contents}

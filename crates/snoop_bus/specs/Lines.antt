@@ -1,5 +1,5 @@
--- Lines of words. Location l lies in line l / words at place l % words, where a line has so many words; each line has
--- room for four, and the places past its words are 0.
+-- Lines of words: coherence is kept line by line, and a program reads and writes words. Location l lies in line l / words
+-- at place l % words, where a line has so many words; each line has room for four, and the places past its words are 0.
 use Rattle.std.specs.Prelude.{ℕ, ◌+◌, ◌*◌, ◌/◌, ◌%◌, List, [], map, nat_lt, slice_index, slice_index_or, if◌then◌else◌}
 use Rattle.std.specs.List.{range_with_len}
 use Rattle.cache_set.specs.Limits.{most_words}

@@ -1,4 +1,5 @@
--- What the steps of an access leave: a request is seen by the other caches, its words are found; and what settling leaves.
+-- What a request on the bus asks of another core's copy: the column of the protocol's table for it (the snoop). (Primer,
+-- chapter 7.)
 use Rattle.protocol_tables.specs.declared.state.State.{State}
 use Rattle.protocol_tables.specs.declared.state.Snoop.{Snoop}
 use Rattle.protocol_tables.specs.Tables.{Table}

@@ -1,4 +1,5 @@
--- A protocol's table written out, row by row: as what a contract sees of a bus, which holds no function.
+-- A protocol's table written out, row by row: as what a contract sees of a bus, which holds no function. Two buses are then
+-- compared by lists.
 use Rattle.std.specs.Prelude.{Bool, true, false, List, [], ◌∷◌, Option, None, slice_index_or}
 use Rattle.protocol_tables.specs.declared.state.State.{State}
 use Rattle.protocol_tables.specs.declared.state.State.TheVariants.{I, S, E, O, M}

@@ -1,4 +1,6 @@
-//! The caches of all cores on one bus, and the calls of it.
+//! The caches of all cores on one bus, and the calls of it. Coherence is the invariant: a line has a single writer, or many
+//! equal copies, and memory is stale only where a copy is dirty. Every call keeps it, and an access changes no word that is
+//! seen but the one it writes. (Primer, chapters 2, 6 and 7.)
 
 ghost use Rattle.std.specs.Prelude.{◌≡◌, ◌+◌, ◌%◌, ◌^◌, ◌<◌, ◌≤◌, true, false};
 ghost use Rattle.std.specs.Prelude.{Some, IfSome, IfOk, OnOk, OnErr, length, slice_set};
@@ -14,26 +16,21 @@ ghost use Rattle.snoop_bus.specs.Accesses.{IsCurrentWord, LoadsAt, WritesAt, Ask
 ghost use Rattle.snoop_bus.specs.inner.Accesses.{MayGoOn, KeepsOut, IsOutOfMemory};
 
 use crate::access::{Access, Updated};
-use crate::asking::{ask, hits};
 use crate::cache::Cache;
-use crate::completing::{complete_load, complete_read, complete_store};
+use crate::hierarchy::Hierarchy;
 use crate::holding::{Held, Stage, held_at};
 use crate::lines::lines_of;
-use crate::loading::load;
-use crate::settling::settle;
 use crate::shape::Shape;
 use crate::target::{Change, Wanted};
-use crate::writing::{self, write};
-use cache_set::MAX_WORDS;
 use protocol_tables::Protocol;
 use std::alloc::Global;
 use std::marker::Model;
 use tso_model::{Core, Loc, NoMemory, Update};
 
-/// How many cores a bus has, at most.
+/// Maximum number of cores of a bus.
 pub const MAX_CORES: u8 = 8;
 
-/// How many locations memory has, at most.
+/// Maximum number of locations of memory.
 pub const MAX_LOCATIONS: usize = tso_model::limits::MAX_LOCATIONS;
 
 /// The caches of all cores on one bus, and memory after them. Where a line has so many words, location `l`
@@ -51,8 +48,7 @@ pub struct SnoopBus<P: Protocol> {
     protocol: P,
     pub(crate) shape: Shape,
     locations: usize,
-    pub(crate) caches: Vec<Cache>,
-    pub(crate) memory: Vec<[u32; MAX_WORDS]>,
+    pub(crate) hierarchy: Hierarchy,
     pub(crate) held: Option<Held>,
 }
 
@@ -62,9 +58,9 @@ impl<P: Protocol> Model for SnoopBus<P> {
 
     ghost Value = { Bus };
 
-    ghost view = { λ b. bus_with (P.table b.protocol) b.shape b.locations b.caches.items b.memory.items b.held };
+    ghost view = { λ b. bus_with (P.table b.protocol) b.shape b.locations b.hierarchy.caches.items b.hierarchy.memory.items b.held };
 
-    ghost invariant = { λ b. IsBus b.shape b.locations b.caches.items b.memory.items b.held };
+    ghost invariant = { λ b. IsBus b.shape b.locations b.hierarchy.caches.items b.hierarchy.memory.items b.held };
 }
 
 impl<P: Protocol> SnoopBus<P> {
@@ -96,8 +92,7 @@ impl<P: Protocol> SnoopBus<P> {
             protocol,
             shape,
             locations: init.len(),
-            caches,
-            memory,
+            hierarchy: Hierarchy { caches, memory },
             held: None,
         })
     }
@@ -117,13 +112,7 @@ impl<P: Protocol> SnoopBus<P> {
         ensures machine { IsSameMachine self.old self.new }
     {
         let target = self.shape.target_of(core, loc);
-        load(
-            &mut self.caches,
-            &mut self.memory,
-            &self.protocol,
-            self.held,
-            target,
-        )
+        self.hierarchy.load(&self.protocol, self.held, target)
     }
 
     /// Writes the word at a location. Answers what the access was. No other word that is seen changes.
@@ -203,14 +192,8 @@ impl<P: Protocol> SnoopBus<P> {
     {
         let target = self.shape.target_of(core, loc);
         let change = Change { update, value };
-        writing::update(
-            &mut self.caches,
-            &mut self.memory,
-            &self.protocol,
-            self.held,
-            target,
-            change,
-        )
+        self.hierarchy
+            .update(&self.protocol, self.held, target, change)
     }
 
     /// Whether an access would be a hit, which needs no bus. While another core's write access holds the bus,
@@ -220,13 +203,9 @@ impl<P: Protocol> SnoopBus<P> {
         ensures value { result ≡ would_hit self.now core.0 loc.0 write }
         ensures taken { IfSome (holder_of self.now) (KeepsOut self.now core loc result) }
     {
-        hits(
-            &self.caches,
-            &self.protocol,
-            usize::from(core.0),
-            self.shape.line_of(loc),
-            write,
-        )
+        let at = usize::from(core.0);
+        let line = self.shape.line_of(loc);
+        self.hierarchy.hits(&self.protocol, at, line, write)
     }
 
     /// The first half of an access that isn't a load's hit. The other caches see the request, where there is
@@ -248,7 +227,7 @@ impl<P: Protocol> SnoopBus<P> {
             line,
             write,
         };
-        let held = ask(&mut self.caches, &mut self.memory, &self.protocol, wanted);
+        let held = self.hierarchy.ask(&self.protocol, wanted);
         self.held = Some(held);
     }
 
@@ -269,13 +248,9 @@ impl<P: Protocol> SnoopBus<P> {
     {
         let held = self.held.unwrap();
         let target = self.shape.target_of(core, loc);
-        let done = complete_load(
-            &mut self.caches,
-            &mut self.memory,
-            &self.protocol,
-            target,
-            held.transaction,
-        )?;
+        let done = self
+            .hierarchy
+            .complete_load(&self.protocol, target, held.transaction)?;
         self.held = None;
         Ok(done)
     }
@@ -297,14 +272,9 @@ impl<P: Protocol> SnoopBus<P> {
     {
         let held = self.held.unwrap();
         let target = self.shape.target_of(core, loc);
-        let access = complete_store(
-            &mut self.caches,
-            &mut self.memory,
-            &self.protocol,
-            target,
-            held.transaction,
-            value,
-        )?;
+        let access = self
+            .hierarchy
+            .complete_store(&self.protocol, target, held.transaction, value)?;
         self.held = None;
         Ok(access)
     }
@@ -328,13 +298,9 @@ impl<P: Protocol> SnoopBus<P> {
     {
         let held = self.held.unwrap();
         let target = self.shape.target_of(core, loc);
-        let done = complete_read(
-            &mut self.caches,
-            &mut self.memory,
-            &self.protocol,
-            target,
-            held.transaction,
-        )?;
+        let done = self
+            .hierarchy
+            .complete_read(&self.protocol, target, held.transaction)?;
         self.held = Some(held_at(core, loc, Stage::Locked, held.line, None));
         Ok(done)
     }
@@ -353,7 +319,7 @@ impl<P: Protocol> SnoopBus<P> {
         ensures machine { IsSameMachine self.old self.new }
     {
         let target = self.shape.target_of(core, loc);
-        write(&mut self.caches, target, value);
+        self.hierarchy.write(target, value);
         self.held = None;
     }
 
@@ -368,6 +334,6 @@ impl<P: Protocol> SnoopBus<P> {
         ensures machine { IsSameMachine self.old self.new }
         ensures free { IsFree self.new }
     {
-        settle(&mut self.caches, &mut self.memory, &self.protocol);
+        self.hierarchy.settle(&self.protocol);
     }
 }

@@ -1,5 +1,5 @@
-//! One walk over the caches for a line that a core asks for: who has it, whose words it gets, and whose
-//! copy is sent to memory.
+//! One walk over the caches for a line that a core asks for: who has it, whose words it gets, and whose copy is sent to
+//! memory. Memory may be stale: where a dirty copy is, the words must come from it. (Primer, chapter 7.)
 ghost use Rattle.std.specs.Prelude.{◌≡◌, ◌<◌, ◌≤◌, ℕ, None, length, slice_index_or, is_some};
 ghost use Rattle.std.specs.List.{list_any};
 ghost use Rattle.tso_model.specs.Limits.{most_cores};
@@ -11,7 +11,7 @@ ghost use Rattle.snoop_bus.specs.inner.Requests.{HasSupplied};
 ghost use Rattle.snoop_bus.specs.inner.Finding.{nothing_found, noting};
 
 use crate::bus::MAX_CORES;
-use crate::cache::Cache;
+use crate::hierarchy::Hierarchy;
 use crate::snoop::answer;
 use cache_set::{Line, MAX_WORDS};
 use protocol_tables::{Protocol, Request, Snoop, State};
@@ -69,20 +69,22 @@ impl Found {
     }
 }
 
-/// Looks for the line once in each cache.
-pub fn find<P: Protocol>(caches: &[Cache], protocol: &P, request: Request, line: u8) -> Found
-    requires few { length caches.now ≤ most_cores }
-    ensures words { HasSupplied (asked (P.table protocol.now) request) caches.now line result.words }
-    ensures shared { result.shared ≡ list_any (λ sets. is_some (copy_in sets line)) caches.now }
-    ensures flushed { result.flushed ≡ flusher_from 0 (asked (P.table protocol.now) request) line (tags_of caches.now) }
-    ensures states { (i : ℕ) → slice_index_or result.states i None ≡ state_at caches.now i line }
-{
-    let mut found = Found::nothing();
-    for core in 0..caches.len() {
-        if let Some(copy) = caches[core].look(line).copied() {
-            let snoop = answer(protocol, request, copy.state);
-            found = found.with(core, copy, snoop);
+impl Hierarchy {
+    /// Looks for the line once in each cache.
+    pub fn find<P: Protocol>(&self, protocol: &P, request: Request, line: u8) -> Found
+        requires few { length self.now.caches.items ≤ most_cores }
+        ensures words { HasSupplied (asked (P.table protocol.now) request) self.now.caches.items line result.words }
+        ensures shared { result.shared ≡ list_any (λ sets. is_some (copy_in sets line)) self.now.caches.items }
+        ensures flushed { result.flushed ≡ flusher_from 0 (asked (P.table protocol.now) request) line (tags_of self.now.caches.items) }
+        ensures states { (i : ℕ) → slice_index_or result.states i None ≡ state_at self.now.caches.items i line }
+    {
+        let mut found = Found::nothing();
+        for core in 0..self.caches.len() {
+            if let Some(copy) = self.caches[core].look(line).copied() {
+                let snoop = answer(protocol, request, copy.state);
+                found = found.with(core, copy, snoop);
+            }
         }
+        found
     }
-    found
 }

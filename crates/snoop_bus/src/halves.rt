@@ -1,4 +1,5 @@
-//! That a whole access is its two halves: laws.
+//! That a whole access is its two halves: laws. So a machine on the atomic bus and one on a split bus differ in when things
+//! happen, and not in what an access does.
 
 ghost use Rattle.protocol_tables.specs.Laws.{WritesInPlace};
 ghost use Rattle.protocol_tables.specs.Tables.{Table};

@@ -1,4 +1,5 @@
-//! Who holds the bus, and how far the access is.
+//! Who holds the split bus, and how far the access is. One action holds it at a time, from its request to its answer; of a
+//! locked instruction, until it has written. (Primer, chapter 7.)
 
 ghost use Rattle.std.specs.Prelude.{◌≡◌, IfSome};
 ghost use Rattle.snoop_bus.specs.Bus.{holder_of};

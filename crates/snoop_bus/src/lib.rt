@@ -14,6 +14,7 @@ mod cache;
 mod completing;
 mod finding;
 pub mod halves;
+mod hierarchy;
 pub mod holding;
 mod lines;
 mod loading;

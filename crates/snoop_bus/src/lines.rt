@@ -1,4 +1,4 @@
-//! Memory as lines of words.
+//! Memory as lines of words: caches hold whole lines, so memory hands them out and takes them back whole.
 
 ghost use Rattle.std.specs.Prelude.{◌≡◌, ◌≤◌, IfOk, length};
 ghost use Rattle.tso_model.specs.Limits.{most_locations};

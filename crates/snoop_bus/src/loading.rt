@@ -1,4 +1,6 @@
-//! Loads.
+//! Loads: a hit reads the core's own copy, and a miss asks with GetS. Which copy then supplies the words, and whether it
+//! goes to memory too, is the protocol's table to say; a load that took stale memory's word in its place would break
+//! coherence.
 
 ghost use Rattle.std.specs.Prelude.{◌≡◌, ◌<◌, ◌⊎◌, None, IsSome, IfSome, IsOk, IfOk, OnErr};
 ghost use Rattle.cache_set.specs.Limits.{most_words};
@@ -9,80 +11,77 @@ ghost use Rattle.snoop_bus.specs.inner.Held.{IsHeld};
 ghost use Rattle.snoop_bus.specs.inner.Accessing.{IsReady, Loads, KeepsWords, IsUnchanged};
 
 use crate::access::{Access, AccessKind};
-use crate::cache::Cache;
-use crate::finding::find;
+use crate::hierarchy::Hierarchy;
 use crate::holding::Held;
-use crate::snoop::{flush, snoop_others, write_back};
 use crate::target::Target;
-use cache_set::MAX_WORDS;
 use protocol_tables::{Protocol, Request};
 use tso_model::NoMemory;
 
-/// A core's load of a word of a line: the word, and what the access was.
-///
-/// Errors: out of memory only, which only a miss takes; nothing is changed then.
-pub fn load<P: Protocol>(
-    caches: &mut [Cache],
-    memory: &mut [[u32; MAX_WORDS]],
-    protocol: &P,
-    held: Option<Held>,
-    target: Target,
-) -> Result<(u32, Access), NoMemory>
-    requires ready { IsReady held target.core target.line caches.old memory.old }
-    requires place { target.place < most_words }
-    requires free { (held ≡ None) ⊎ IsSome (copy_at caches.old target.core target.line) }
+impl Hierarchy {
+    /// A core's load of a word of a line: the word, and what the access was.
+    ///
+    /// Errors: out of memory only, which only a miss takes; nothing is changed then.
+    pub fn load<P: Protocol>(
+        &mut self,
+        protocol: &P,
+        held: Option<Held>,
+        target: Target,
+    ) -> Result<(u32, Access), NoMemory>
+        requires ready { IsReady held target.core target.line self.old }
+        requires place { target.place < most_words }
+        requires free { (held ≡ None) ⊎ IsSome (copy_at self.old.caches.items target.core target.line) }
 
-    ensures ok { IfOk result (λ r. Loads (P.table protocol.now) held target.core target.line target.place caches.old caches.new memory.old memory.new r.0 r.1) }
-    ensures words { KeepsWords (counted held caches.old) (counted held caches.new) memory.old memory.new }
-    ensures awaited { IfSome held (IsHeld caches.new memory.new) }
-    ensures ways { ways_of caches.new ≡ ways_of caches.old }
+        ensures ok { IfOk result (λ r. Loads (P.table protocol.now) held target.core target.line target.place self.old.caches.items self.new.caches.items self.old.memory.items self.new.memory.items r.0 r.1) }
+        ensures words { KeepsWords (counted held self.old.caches.items) (counted held self.new.caches.items) self.old.memory.items self.new.memory.items }
+        ensures awaited { IfSome held (IsHeld self.new.caches.items self.new.memory.items) }
+        ensures ways { ways_of self.new.caches.items ≡ ways_of self.old.caches.items }
 
-    ensures succeeds { IsSome (copy_at caches.old target.core target.line) → IsOk result }
-    ensures refused { OnErr result (IsUnchanged caches.old caches.new memory.old memory.new) }
-{
-    let Target { core, line, place } = target;
-    if let Some(copy) = caches[core].look(line).copied() {
-        let cache = &mut caches[core];
-        cache.touch(line);
-        return Ok((
-            copy.words[usize::from(place)],
-            Access::quiet(AccessKind::Hit),
-        ));
+        ensures succeeds { IsSome (copy_at self.old.caches.items target.core target.line) → IsOk result }
+        ensures refused { OnErr result (IsUnchanged self.old self.new) }
+    {
+        let Target { core, line, place } = target;
+        if let Some(copy) = self.caches[core].look(line).copied() {
+            let cache = &mut self.caches[core];
+            cache.touch(line);
+            return Ok((
+                copy.words[usize::from(place)],
+                Access::quiet(AccessKind::Hit),
+            ));
+        }
+        // Only a hit goes on beside an action that holds the bus.
+        prove!(held.is_none());
+        self.load_miss(protocol, target)
     }
-    // Only a hit goes on beside an action that holds the bus.
-    prove!(held.is_none());
-    load_miss(caches, memory, protocol, target)
-}
 
-/// A load of a line that the core doesn't have.
-fn load_miss<P: Protocol>(
-    caches: &mut [Cache],
-    memory: &mut [[u32; MAX_WORDS]],
-    protocol: &P,
-    target: Target,
-) -> Result<(u32, Access), NoMemory>
-    requires ready { IsReady None target.core target.line caches.old memory.old }
-    requires place { target.place < most_words }
-    requires absent { copy_at caches.old target.core target.line ≡ None }
+    /// A load of a line that the core doesn't have.
+    fn load_miss<P: Protocol>(
+        &mut self,
+        protocol: &P,
+        target: Target,
+    ) -> Result<(u32, Access), NoMemory>
+        requires ready { IsReady None target.core target.line self.old }
+        requires place { target.place < most_words }
+        requires absent { copy_at self.old.caches.items target.core target.line ≡ None }
 
-    ensures ok { IfOk result (λ r. Loads (P.table protocol.now) None target.core target.line target.place caches.old caches.new memory.old memory.new r.0 r.1) }
-    ensures words { KeepsWords caches.old caches.new memory.old memory.new }
+        ensures ok { IfOk result (λ r. Loads (P.table protocol.now) None target.core target.line target.place self.old.caches.items self.new.caches.items self.old.memory.items self.new.memory.items r.0 r.1) }
+        ensures words { KeepsWords self.old.caches.items self.new.caches.items self.old.memory.items self.new.memory.items }
 
-    ensures refused { OnErr result (IsUnchanged caches.old caches.new memory.old memory.new) }
-{
-    let Target { core, line, place } = target;
-    let found = find(caches, protocol, Request::GetS, line);
-    let words = found.words.unwrap_or(memory[usize::from(line)]);
-    let state = protocol.filled(found.shared);
-    let cache = &mut caches[core];
-    let victim = cache.fill(line, state, words)?;
-    let wrote_back = write_back(memory, protocol, victim);
-    snoop_others(caches, protocol, Request::GetS, core, line, &found.states);
-    flush(memory, line, words, found.flushed);
-    let access = Access {
-        kind: AccessKind::Miss,
-        wrote_back,
-        flushed: found.flushed,
-    };
-    Ok((words[usize::from(place)], access))
+        ensures refused { OnErr result (IsUnchanged self.old self.new) }
+    {
+        let Target { core, line, place } = target;
+        let found = self.find(protocol, Request::GetS, line);
+        let words = found.words.unwrap_or(self.memory[usize::from(line)]);
+        let state = protocol.filled(found.shared);
+        let cache = &mut self.caches[core];
+        let victim = cache.fill(line, state, words)?;
+        let wrote_back = self.write_back(protocol, victim);
+        self.snoop_others(protocol, Request::GetS, core, line, &found.states);
+        self.flush(line, words, found.flushed);
+        let access = Access {
+            kind: AccessKind::Miss,
+            wrote_back,
+            flushed: found.flushed,
+        };
+        Ok((words[usize::from(place)], access))
+    }
 }

@@ -1,4 +1,5 @@
-//! What a bus holds, for one who only looks. No call changes anything.
+//! What a bus holds, for one who only looks. No call changes anything: a look is no access, moves no line to the front, and
+//! isn't counted.
 
 ghost use Rattle.std.specs.Prelude.{◌≡◌, ◌<◌, IfSome, length, option_map, slice_get};
 ghost use Rattle.snoop_bus.specs.Lines.{line_of_words};
@@ -11,6 +12,7 @@ ghost use Rattle.snoop_bus.specs.inner.Accesses.{copies_of, ranked_line, memory_
 
 use crate::bus::SnoopBus;
 use crate::cache::Cache;
+use crate::hierarchy::Hierarchy;
 use crate::holding::Held;
 use cache_set::{CacheSet, Line, MAX_WORDS};
 use protocol_tables::{Protocol, State, Transient};
@@ -32,7 +34,7 @@ impl<P: Protocol> SnoopBus<P> {
     {
         let line = self.shape.line_of(loc);
         let place = self.shape.place_of(loc);
-        seen(&self.caches, &self.memory, self.held, line)[usize::from(place)]
+        self.hierarchy.seen(self.held, line)[usize::from(place)]
     }
 
     /// Memory's own word at a location, which may be stale where a cache has a dirty copy, or an action holds
@@ -44,7 +46,7 @@ impl<P: Protocol> SnoopBus<P> {
     {
         let line = self.shape.line_of(loc);
         let place = self.shape.place_of(loc);
-        self.memory[usize::from(line)][usize::from(place)]
+        self.hierarchy.memory[usize::from(line)][usize::from(place)]
     }
 
     /// A core's set with this number, in which its copies stand with their words: all those of their lines,
@@ -56,7 +58,7 @@ impl<P: Protocol> SnoopBus<P> {
         ensures coherent { IsCoherent self.now }
         ensures lines { HasLines self.now }
     {
-        self.caches[usize::from(core.0)].set(set)
+        self.hierarchy.caches[usize::from(core.0)].set(set)
     }
 
     /// The line of this rank in a core's set, where rank 0 is the most recently used; its words are those that a
@@ -78,7 +80,7 @@ impl<P: Protocol> SnoopBus<P> {
         ensures value { result ≡ slice_get (copies_of self.now core.0 set).copies rank }
         ensures words { IfSome result (λ r. r.1.words ≡ line_of_words self.now.shape.words (words_of self.now) r.0) }
     {
-        let cache = self.caches.get(usize::from(core.0))?;
+        let cache = self.hierarchy.caches.get(usize::from(core.0))?;
         // A line lies in its own set alone.
         if usize::from(set) >= cache.len() {
             return None;
@@ -97,22 +99,19 @@ impl<P: Protocol> SnoopBus<P> {
     }
 }
 
-/// The words of a line that a program sees: a copy's where there is one, and else memory's. What the bus keeps
-/// for its holder counts as a copy.
-fn seen(
-    caches: &[Cache],
-    memory: &[[u32; MAX_WORDS]],
-    held: Option<Held>,
-    line: u8,
-) -> [u32; MAX_WORDS]
-    requires coherent { AllCoherent (counted held caches.now) memory.now }
-    requires awaited { IfSome held (IsHeld caches.now memory.now) }
-    requires line { line < length memory.now }
-    ensures { result ≡ current_words (counted held caches.now) memory.now line }
-{
-    kept_words(held, line)
-        .or(copied_words(caches, line))
-        .unwrap_or(memory[usize::from(line)])
+impl Hierarchy {
+    /// The words of a line that a program sees: a copy's where there is one, and else memory's. What the bus keeps
+    /// for its holder counts as a copy.
+    fn seen(&self, held: Option<Held>, line: u8) -> [u32; MAX_WORDS]
+        requires coherent { AllCoherent (counted held self.now.caches.items) self.now.memory.items }
+        requires awaited { IfSome held (IsHeld self.now.caches.items self.now.memory.items) }
+        requires line { line < length self.now.memory.items }
+        ensures { result ≡ current_words (counted held self.now.caches.items) self.now.memory.items line }
+    {
+        kept_words(held, line)
+            .or(copied_words(&self.caches, line))
+            .unwrap_or(self.memory[usize::from(line)])
+    }
 }
 
 /// The words that the bus keeps for its holder, if they are this line's.

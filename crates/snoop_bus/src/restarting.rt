@@ -1,4 +1,5 @@
-//! A bus that begins anew, with its room.
+//! A bus that begins anew, with its room: one machine runs a test again and again, and takes no memory for the next run. A
+//! line that stayed in a cache would be a copy of the run before.
 ghost use Rattle.std.specs.Prelude.{◌≡◌, length, map};
 ghost use Rattle.snoop_bus.specs.Rows.{table_of_rows};
 ghost use Rattle.snoop_bus.specs.inner.Copies.{emptied};
@@ -20,8 +21,8 @@ impl<P: Protocol> SnoopBus<P> {
         ensures coherent { IsCoherent self.new }
         ensures machine { IsSameMachine self.old self.new }
     {
-        clear_caches(&mut self.caches);
-        put_lines(&mut self.memory, self.shape, init);
+        clear_caches(&mut self.hierarchy.caches);
+        put_lines(&mut self.hierarchy.memory, self.shape, init);
         self.held = None;
     }
 }

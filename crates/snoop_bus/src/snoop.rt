@@ -1,4 +1,5 @@
-//! What the other caches make of a core's request for a line, and what memory gets.
+//! The snoop: what the other caches make of a core's request for a line, and what memory gets. A copy that stays where GetM
+//! was asked, or a dirty one that is lost, would break coherence. (Primer, chapters 6 and 7.)
 ghost use Rattle.std.specs.Prelude.{◌≡◌, ◌≢◌, ◌<◌, ◌≤◌, ℕ, None, IfSome, length};
 ghost use Rattle.std.specs.Prelude.{slice_set, slice_index_or, is_some, option_map, if◌then◌else◌};
 ghost use Rattle.tso_model.specs.Limits.{most_cores};
@@ -11,6 +12,7 @@ ghost use Rattle.snoop_bus.specs.MemoryAfter.{written_back};
 
 use crate::bus::MAX_CORES;
 use crate::cache::Cache;
+use crate::hierarchy::Hierarchy;
 use cache_set::{MAX_WORDS, Victim};
 use protocol_tables::{Protocol, Request, Snoop, State};
 use tso_model::Core;
@@ -55,86 +57,83 @@ fn snoop_one<P: Protocol>(
     }
 }
 
-/// A cache, whose copy of the line is in this state, sees a core's request for the line, if it isn't that
-/// core's own.
-fn snoop_at<P: Protocol>(
-    caches: &mut [Cache],
-    protocol: &P,
-    seen: Seen,
-    other: usize,
-    state: Option<State>,
-)
-    requires other { other < length caches.old }
-    requires state { other ≢ seen.core → state ≡ state_at caches.old other seen.line }
-    ensures seen { SeenAt other (asked (P.table protocol.now) seen.request) seen.core seen.line caches.old caches.new }
-    ensures copies { LeftAt other (asked (P.table protocol.now) seen.request) seen.core seen.line caches.old caches.new }
-    ensures ways { ways_of caches.new ≡ ways_of caches.old }
-{
-    if other == seen.core {
-        return;
+impl Hierarchy {
+    /// A cache, whose copy of the line is in this state, sees a core's request for the line, if it isn't that
+    /// core's own.
+    fn snoop_at<P: Protocol>(
+        &mut self,
+        protocol: &P,
+        seen: Seen,
+        other: usize,
+        state: Option<State>,
+    )
+        requires other { other < length self.old.caches.items }
+        requires state { other ≢ seen.core → state ≡ state_at self.old.caches.items other seen.line }
+        ensures seen { SeenAt other (asked (P.table protocol.now) seen.request) seen.core seen.line self.old.caches.items self.new.caches.items }
+        ensures copies { LeftAt other (asked (P.table protocol.now) seen.request) seen.core seen.line self.old.caches.items self.new.caches.items }
+        ensures ways { ways_of self.new.caches.items ≡ ways_of self.old.caches.items }
+        ensures memory { self.new.memory.items ≡ self.old.memory.items }
+    {
+        if other == seen.core {
+            return;
+        }
+        let cache = &mut self.caches[other];
+        snoop_one(cache, protocol, seen.request, seen.line, state);
     }
-    let cache = &mut caches[other];
-    snoop_one(cache, protocol, seen.request, seen.line, state);
-}
 
-/// Every cache but the core's own sees its request for a line. Their copies of it are in these states, core
-/// by core.
-pub fn snoop_others<P: Protocol>(
-    caches: &mut [Cache],
-    protocol: &P,
-    request: Request,
-    core: usize,
-    line: u8,
-    states: &[Option<State>; MAX_CORES as usize],
-)
-    requires few { length caches.old ≤ most_cores }
-    requires states { (i : ℕ) → i ≢ core → slice_index_or states.now i None ≡ state_at caches.old i line }
-    ensures tags { tags_of caches.new ≡ requested (asked (P.table protocol.now) request) core line (tags_of caches.old) }
-    ensures own { cache_of caches.new core ≡ cache_of caches.old core }
-    ensures copies { LeftByOthers (asked (P.table protocol.now) request) core line caches.old caches.new }
-    ensures ways { ways_of caches.new ≡ ways_of caches.old }
-{
-    let seen = Seen {
-        request,
-        core,
-        line,
-    };
-    for other in 0..caches.len() {
-        snoop_at(caches, protocol, seen, other, states[other]);
-    }
-}
-
-/// A victim is written to memory if it is dirty. Answers whether it was.
-pub fn write_back<P: Protocol>(
-    memory: &mut [[u32; MAX_WORDS]],
-    protocol: &P,
-    victim: Option<Victim>,
-) -> bool
-    requires { IfSome victim (λ v. v.line < length memory.old) }
-    ensures memory { memory.new ≡ written_back (P.table protocol.now) victim memory.old }
-    ensures dirty { result ≡ dirty_in (P.table protocol.now) (option_map (λ v. (v.line, v.content.state)) victim) }
-{
-    if let Some(victim) = victim {
-        if protocol.evicts_dirty(victim.content.state) {
-            let words = victim.content.words;
-            memory[usize::from(victim.line)] = words;
-            return true;
+    /// Every cache but the core's own sees its request for a line. Their copies of it are in these states, core
+    /// by core.
+    pub fn snoop_others<P: Protocol>(
+        &mut self,
+        protocol: &P,
+        request: Request,
+        core: usize,
+        line: u8,
+        states: &[Option<State>; MAX_CORES as usize],
+    )
+        requires few { length self.old.caches.items ≤ most_cores }
+        requires states { (i : ℕ) → i ≢ core → slice_index_or states.now i None ≡ state_at self.old.caches.items i line }
+        ensures tags { tags_of self.new.caches.items ≡ requested (asked (P.table protocol.now) request) core line (tags_of self.old.caches.items) }
+        ensures own { cache_of self.new.caches.items core ≡ cache_of self.old.caches.items core }
+        ensures copies { LeftByOthers (asked (P.table protocol.now) request) core line self.old.caches.items self.new.caches.items }
+        ensures ways { ways_of self.new.caches.items ≡ ways_of self.old.caches.items }
+        ensures memory { self.new.memory.items ≡ self.old.memory.items }
+    {
+        let seen = Seen {
+            request,
+            core,
+            line,
+        };
+        for other in 0..self.caches.len() {
+            self.snoop_at(protocol, seen, other, states[other]);
         }
     }
-    false
-}
 
-/// The words of a copy that is sent to memory on GetS go there, if there is one.
-pub fn flush(
-    memory: &mut [[u32; MAX_WORDS]],
-    line: u8,
-    words: [u32; MAX_WORDS],
-    flusher: Option<Core>,
-)
-    requires { line < length memory.old }
-    ensures { memory.new ≡ (if is_some flusher then slice_set memory.old line words else memory.old) }
-{
-    if flusher.is_some() {
-        memory[usize::from(line)] = words;
+    /// A victim is written to memory if it is dirty. Answers whether it was.
+    pub fn write_back<P: Protocol>(&mut self, protocol: &P, victim: Option<Victim>) -> bool
+        requires { IfSome victim (λ v. v.line < length self.old.memory.items) }
+        ensures memory { self.new.memory.items ≡ written_back (P.table protocol.now) victim self.old.memory.items }
+        ensures dirty { result ≡ dirty_in (P.table protocol.now) (option_map (λ v. (v.line, v.content.state)) victim) }
+        ensures caches { self.new.caches.items ≡ self.old.caches.items }
+    {
+        if let Some(victim) = victim {
+            if protocol.evicts_dirty(victim.content.state) {
+                let words = victim.content.words;
+                self.memory[usize::from(victim.line)] = words;
+                return true;
+            }
+        }
+        false
+    }
+
+    /// The words of a copy that is sent to memory on GetS go there, if there is one.
+    pub fn flush(&mut self, line: u8, words: [u32; MAX_WORDS], flusher: Option<Core>)
+        requires { line < length self.old.memory.items }
+        ensures memory { self.new.memory.items ≡ (if is_some flusher then slice_set self.old.memory.items line words else self.old.memory.items) }
+        ensures caches { self.new.caches.items ≡ self.old.caches.items }
+    {
+        if flusher.is_some() {
+            self.memory[usize::from(line)] = words;
+        }
     }
 }

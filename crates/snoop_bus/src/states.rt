@@ -1,4 +1,4 @@
-//! The states of the lines in the caches, and what is awaited on the bus, for one who only looks.
+//! The states of the lines in the caches, and what is awaited on the bus, for one who only looks: no look is an access.
 
 ghost use Rattle.std.specs.Prelude.{◌≡◌, ◌<◌, length, option_map};
 ghost use Rattle.snoop_bus.specs.Bus.{cores_of};
@@ -18,7 +18,7 @@ impl<P: Protocol> SnoopBus<P> {
         requires { core.0 < cores_of self.now }
         ensures { result ≡ tag_at core.0 line (contents_of self.now) }
     {
-        state_of(&self.caches, usize::from(core.0), line)
+        state_of(&self.hierarchy.caches, usize::from(core.0), line)
     }
 
     /// The request that the other caches have seen and whose line isn't yet filled; `None` where nobody holds

@@ -1,4 +1,5 @@
-//! What an access is to, and what a write access makes of it.
+//! What an access is to, and what a write access makes of it: a line asked of the bus, and one word of it that is read or
+//! written.
 
 use tso_model::{Core, Loc, Update};
 

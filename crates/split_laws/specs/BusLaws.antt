@@ -1,4 +1,5 @@
--- What the laws say that are too long for a line: each is the contract of the function of the same name.
+-- What the laws say that are too long for a line: each is the contract of the function of the same name. (Primer, chapter
+-- 7, for the split bus; what asks, waits and acts at once is this project's profile.)
 use Rattle.std.specs.Prelude.{ℕ, ◌*◌, ◌≡◌, true, List, length}
 use Rattle.tso_model.specs.Litmus.{Litmus, IsTest}
 use Rattle.tso_model.specs.FlatMachine.{start}

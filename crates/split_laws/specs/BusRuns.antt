@@ -1,4 +1,5 @@
--- What runs on either bus leave, and where they stop.
+-- What runs on either bus leave, and where they stop: an order, once each locked instruction's parts are put together, and
+-- its final state.
 use Rattle.std.specs.Prelude.{ℕ, ◌+◌, ◌≡◌, true, if◌then◌else◌, List, [], ◌∷◌, ◌++◌, length, take}
 use Rattle.tso_model.specs.Litmus.{Litmus}
 use Rattle.tso_model.specs.ProgramOrder.{same_kind}

@@ -1,4 +1,5 @@
--- What holds of the commits and the state after any list of choices, whether the test has ended or not.
+-- What holds of the commits and the state after any list of choices, whether the test has ended or not: the flat machine
+-- comes to the same state, with the parts of locked instructions put together.
 use Rattle.std.specs.Prelude.{ℕ, ◌≡◌, List, ◌++◌}
 use Rattle.tso_model.specs.Litmus.{Litmus}
 use Rattle.tso_model.specs.EitherBus.{BusState}

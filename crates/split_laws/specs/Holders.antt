@@ -1,4 +1,5 @@
--- What is known of who holds the bus.
+-- What is known of who holds the bus: its action still has its access to make, and a locked instruction's word is still
+-- memory's.
 use Rattle.std.specs.Prelude.{ℕ, ◌≡◌, ◌≢◌, slice_index}
 use Rattle.tso_model.specs.Litmus.{Litmus}
 use Rattle.tso_model.specs.FlatMachine.{State, core_of}

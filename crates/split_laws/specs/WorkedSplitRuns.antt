@@ -1,4 +1,4 @@
--- Worked runs on the split bus.
+-- Worked runs on the split bus: asks, waits and hits beside a held bus, each to be followed by eye. (Primer, chapter 7.)
 use Rattle.std.specs.Prelude.{ℕ, true, false, List, [], ◌∷◌, None, codes}
 use Rattle.tso_model.specs.FlatMachine.{step, drain}
 use Rattle.tso_model.specs.Litmus.{Litmus}

@@ -1,4 +1,5 @@
-//! The laws of the machine on either bus. Each stands in `specs/BusLaws.antt`, under the name of its function.
+//! The laws of the machine on either bus: each run is followed by a run of the flat machine, so a split bus adds no
+//! execution. Each law stands in `specs/`, under the name of its function. (Primer, chapter 7, for the bus.)
 
 ghost use Rattle.split_laws.specs.BusLaws.{WhatHoldsSoFarOnEitherBus};
 ghost use Rattle.split_laws.specs.inner.BusLaws.{AttemptsLeadFromStateToState, RunsOnEitherBusStopWhereTheyEnd};
@@ -61,7 +62,7 @@ pub fn runs_on_either_bus_are_flat_runs()
     ensures { RunsOnEitherBusAreFlatRuns }
 {}
 
-/// At depth 0, where no store is buffered, the order of an ended run keeps every two entries of
+/// At depth 0, where no store is ever pending, the order of an ended run keeps every two entries of
 /// program order, without exception: sequential consistency.
 pub fn no_buffer_no_reordering_on_either_bus()
     ensures { NoBufferNoReorderingOnEitherBus }

@@ -70,7 +70,7 @@ one-made m next memory own done c cs whole d sound going next_is own_is d_is so_
     ∙ (ap (λ rest. done ++ step_to (step_of m c) after (own_words after memory) ∷ rest) rest_same
     ∙ (sym (ap (λ list. done ++ list) (steps-next m memory c cs (end-of m false sound going))) ∙ so_far)))
 
--- a step's value with the machine behind it
+-- a step's value with the machine after it
 pub one-step : (t : Litmus) (words : ℕ) (s told : Shown) (next : Running) (own : List ℕ) (after d : Data)
     → d ≡ step_json t words s after → after ≡ machine_json next own → s ≡ told → next.test ≡ t → words_in next ≡ words → d ≡ step_to told next own
 one-step t words s told next own after d is after_is s_is test_is words_are =
@@ -99,7 +99,7 @@ next-told m next memory own last s c cs whole sound going next_is own_is s_is so
     ap (λ d. last_or d (steps_json next own cs)) step_same ∙ (ap (λ l. last_or (step_to (step_of m c) after (own_words after memory)) l) rest_same
     ∙ (sym (ap (last_or (told_last last m memory)) (steps-next m memory c cs (end-of m false sound going))) ∙ so_far))
 
--- ---- the machine behind a choice has its words, and is one that is shown
+-- ---- the machine after a choice has its words, and is one that is shown
 
 length-memory_after : (es : List Entry) (memory : List ℕ) → length (memory_after es memory) ≡ length memory
 length-memory_after [] memory = refl

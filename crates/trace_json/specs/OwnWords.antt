@@ -31,6 +31,6 @@ own_words_from m loc [] seen = []
 own_words_from m loc (b ∷ before) [] = []
 own_words_from m loc (b ∷ before) (s ∷ seen) = own_word m loc b s ∷ own_words_from m (loc + 1) before seen
 
--- memory's own words on a machine behind a choice, where it had these before it
+-- memory's own words on a machine after a choice, where it had these before it
 abbrev pub own_words : Running → List ℕ → List ℕ
 own_words m before = own_words_from m 0 before m.state.flat.memory

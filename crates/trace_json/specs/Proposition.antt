@@ -1,4 +1,4 @@
--- The proposition of a test's condition as a text. (This project's profile.)
+-- The proposition of a test's condition as a text, as the grammar of conditions reads it. (This project's profile.)
 use Rattle.std.specs.Prelude.{ℕ, Bool, true, false, List, [], ◌++◌, slice_index_or, codes}
 use Rattle.std.specs.Option.{option_map}
 use Rattle.std.specs.Fmt.{decimal}

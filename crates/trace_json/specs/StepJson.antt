@@ -1,4 +1,4 @@
--- What a choice did as a JSON value, with the machine behind it. Its keys stand in the order of their bytes. (This project's
+-- What a choice did as a JSON value, with the machine after it. Its keys stand in the order of their bytes. (This project's
 -- profile; the texts are those of the trace's lines.)
 use Rattle.std.specs.Prelude.{ℕ, List, map, Option, Some, None, option_map, codes}
 use Rattle.serde_json.specs.Data.{Data, boolean, string, object, no_members, member}
@@ -28,7 +28,7 @@ stall_in Moved = None
 stall_in Asked = None
 stall_in (Stalled why) = Some why
 
--- a step of the test on caches whose lines have so many words, with the machine behind it
+-- a step of the test on caches whose lines have so many words, with the machine after it
 abbrev pub step_json : Litmus → ℕ → Shown → Data → Data
 step_json t words s after =
     object (member (codes "access") (text_or_null (option_map access_name s.access))

@@ -1,5 +1,5 @@
--- The trace of a run as a JSON value: the machine before the first choice, and a step for each choice that was used, with the
--- machine behind it. (This project's profile.)
+-- The trace of a run as a JSON value: the machine before the first choice, and a step for each choice that was used, with
+-- the machine after it. (This project's profile.)
 use Rattle.std.specs.Prelude.{ℕ, if◌then◌else◌, List, [], ◌∷◌, codes}
 use Rattle.serde_json.specs.Data.{Data, array, object, no_members, member}
 use Rattle.serde_json.specs.View.{items_of}

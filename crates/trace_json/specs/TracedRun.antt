@@ -14,7 +14,7 @@ use Rattle.trace_json.specs.Programs.{programs_value}
 use Rattle.trace_json.specs.Proposition.{proposition_value}
 use Rattle.trace_json.specs.TraceJson.{trace_json, last_step_json}
 
--- a trace as a JSON value has so many steps at most
+-- maximum number of steps of a trace as a JSON value
 abbrev pub most_steps : ℕ
 most_steps = 1000
 

@@ -1,4 +1,4 @@
--- Values that a trace is made of.
+-- Values that a trace is made of: lists of numbers and texts, and `null` where there is nothing to tell.
 use Rattle.std.specs.Prelude.{ℕ, List, map, Option, Some, None}
 use Rattle.serde_json.specs.Data.{Data, array, null, string}
 use Rattle.serde_json.specs.View.{items_of}

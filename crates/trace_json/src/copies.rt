@@ -1,4 +1,5 @@
-//! The lines of a core's cache as a value.
+//! The lines of a core's cache as a value, set by set and the most recently used first: so one sees which line would give
+//! way next.
 
 ghost use Rattle.std.specs.Prelude.{◌≡◌, ◌<◌, ◌≤◌, IfOk, length, map};
 ghost use Rattle.serde_json.specs.Data.{array};

@@ -1,4 +1,4 @@
-//! The cores of a machine as a value.
+//! The cores of a machine as a value: place, registers, store buffer and cache of each, as one who draws them needs.
 
 ghost use Rattle.std.specs.Prelude.{◌≡◌, ◌<◌, IfOk, length, map};
 ghost use Rattle.serde_json.specs.Data.{array};

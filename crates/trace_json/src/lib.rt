@@ -1,5 +1,5 @@
-//! The trace of a run as JSON: the machine before the first choice, and for each choice that was used what it did and
-//! the machine behind it.
+//! The trace of a run as JSON: the machine before the first choice, and for each choice that was used what it did and the
+//! machine after it. So one who draws a machine needs no model of it.
 #![tactic(auto)]
 
 mod copies;

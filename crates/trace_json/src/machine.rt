@@ -1,4 +1,4 @@
-//! A machine between two choices as a value.
+//! A machine between two choices as a value: all that can be seen of it, so that each step can be drawn by itself.
 
 ghost use Rattle.std.specs.Prelude.{◌≡◌, ◌<◌, IfOk, length};
 ghost use Rattle.serde_json.specs.View.{view};

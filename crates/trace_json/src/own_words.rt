@@ -1,4 +1,5 @@
-//! Memory's own words along a run.
+//! Memory's own words along a run. They are stale while a copy is dirty, and a machine shows the words that are seen; so
+//! these are followed from step to step. (Primer, chapters 6 and 7.)
 
 ghost use Rattle.std.specs.Prelude.{◌≡◌, ◌<◌, if◌then◌else◌, IfOk, length};
 ghost use Rattle.machine_core.specs.Looked.{bus_holder_of};
@@ -12,7 +13,7 @@ use trace_report::LineState;
 use trace_report::states::line_state;
 use tso_model::{Core, Loc, NoMemory, Test};
 
-/// Memory's own words on a machine behind a choice, where it had these before it and lines have so many words.
+/// Memory's own words on a machine after a choice, where it had these before it and lines have so many words.
 ///
 /// Errors: out of memory only.
 pub fn own_words<P: Protocol>(

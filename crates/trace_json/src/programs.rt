@@ -1,4 +1,4 @@
-//! The programs of a test as a value.
+//! The programs of a test as a value: each instruction as a test's text spells it.
 
 ghost use Rattle.std.specs.Prelude.{◌≡◌, ◌<◌, ◌++◌, All, IfOk, OnOk, length, string_bytes};
 ghost use Rattle.serde_json.specs.View.{view};

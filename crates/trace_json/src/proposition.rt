@@ -1,4 +1,4 @@
-//! The proposition of a condition as a text.
+//! The proposition of a condition as a text, with brackets only where it would be read in another way without.
 
 ghost use Rattle.std.specs.Prelude.{◌≡◌, ◌<◌, ◌++◌, IfOk, OnOk, length, string_bytes};
 ghost use Rattle.serde_json.specs.View.{view};

@@ -1,4 +1,5 @@
-//! What a choice did as a value.
+//! What a choice did as a value: the members of a step, and `null` for what this choice has nothing of, so that each step
+//! has all of them.
 
 ghost use Rattle.std.specs.Prelude.{◌≡◌, ◌<◌, [], IfOk, OnOk, IfSome, All, map, option_map};
 ghost use Rattle.serde_json.specs.View.{view, members_view};
@@ -21,7 +22,7 @@ use trace_report::{LineRequest, Moved, StateChange, Step};
 use tso_model::{Core, NoMemory, Outcome, Test};
 use tso_report::json::order_value;
 
-/// What a choice did, on caches whose lines have so many words, and this machine behind it.
+/// What a choice did, on caches whose lines have so many words, and this machine after it.
 ///
 /// Errors: out of memory only.
 pub fn step_value(
@@ -41,7 +42,7 @@ pub fn step_value(
     Ok(Value::Object(members))
 }
 
-/// Puts what the choice did, to `moved`, and the machine behind it.
+/// Puts what the choice did, to `moved`, and the machine after it.
 fn put_done(
     members: &mut Map<String, Value>,
     alloc: Global,

@@ -1,4 +1,4 @@
-//! Texts and numbers as values.
+//! Texts and numbers as values, and lists of them.
 
 ghost use Rattle.std.specs.Prelude.{◌≡◌, ◌<◌, [], IfOk, map, option_map, slice_index_or, string_bytes};
 ghost use Rattle.serde_json.specs.View.{view};

@@ -1,4 +1,4 @@
-//! The trace of a run as a value.
+//! The trace of a run as a value: the machine goes along once, and each step is made as it happens.
 
 ghost use Rattle.std.specs.Prelude.{◌≡◌, ◌<◌, IfOk, OnOk, IfSome, length, map, option_map};
 ghost use Rattle.serde_json.specs.View.{view};
@@ -28,7 +28,7 @@ use tso_model::{NoMemory, Test};
 
 /// The trace of a test's run under these choices, on a machine of this protocol and configuration: an object of the
 /// machine before the first choice, and of a step for each choice up to the first moment at which the test has
-/// ended, with the machine behind it.
+/// ended, with the machine after it.
 ///
 /// Errors: out of memory only.
 pub fn traced(
@@ -125,7 +125,7 @@ fn steps_of<P: Protocol>(
 }
 
 /// Makes a choice on a machine, and answers what it did. The states of the machine's lines and memory's own words are
-/// those before it, and then those behind it.
+/// those before it, and then those after it.
 fn tell_on<P: Protocol>(
     alloc: Global,
     machine: &mut Machine<P>,
@@ -151,7 +151,7 @@ fn tell_on<P: Protocol>(
     Ok(step)
 }
 
-/// What a choice did, and this machine behind it, whose memory has these words.
+/// What a choice did, and this machine after it, whose memory has these words.
 fn step_to<P: Protocol>(
     alloc: Global,
     machine: &Machine<P>,
@@ -201,7 +201,7 @@ fn last_by<P: Protocol>(
 }
 
 /// Makes the choices on a machine until the test has ended, and answers what the last one did that was made. Memory's
-/// own words are those before the choices, and then those behind them.
+/// own words are those before the choices, and then those after them.
 fn tell_last<P: Protocol>(
     alloc: Global,
     machine: &mut Machine<P>,

@@ -9,7 +9,7 @@ use Rattle.tso_model.specs.declared.instruction.Core.{Core}
 use Rattle.tso_model.specs.declared.choice.Choice.{Choice}
 use Rattle.snoop_bus.specs.declared.access.AccessKind.{AccessKind}
 use Rattle.snoop_bus.specs.declared.access.AccessKind.TheVariants.{Hit, Upgrade, Miss}
-use Rattle.machine_core.specs.Running.{Running, new_machine, use_by, machine_after}
+use Rattle.machine_core.specs.Running.{Running, use_by, machine_after}
 use Rattle.machine_core.specs.Statistics.{Statistics, no_counts, with_access, with_forward, with_write_back, with_flush, at_core, flush_counted, counted, statistics_from}
 use Rattle.machine_core.specs.declared.counts.Counts.{Counts}
 use Rattle.machine_core.specs.declared.cache_use.CacheUse.{CacheUse}
@@ -17,7 +17,7 @@ use Rattle.machine_core.specs.declared.cache_use.CacheUse.TheVariants.{Unused, F
 use Rattle.machine_core.proofs.CountBounds.{length-counted}
 use Rattle.trace_report.specs.Shown.{Shown}
 use Rattle.trace_report.specs.Steps.{is_forwarded, access_in, step_of, steps_from}
-use Rattle.trace_report.specs.TraceLaws.{count_of, is_kind, is_access, tells_access, tells_forward, one_if, steps_that, AccessesAreTold}
+use Rattle.trace_report.specs.TraceLaws.{count_of, is_kind, is_access, tells_access, tells_forward, one_if, steps_that}
 
 -- the counts of one core among those of all
 abbrev pub of : List Counts → ℕ → Counts

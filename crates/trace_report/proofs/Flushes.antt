@@ -186,19 +186,22 @@ flat-quiet c t depth state (Step core) stores free = step-quiet c depth core.0 s
 flat-quiet c t depth state (Drain core) stores free = drain-quiet c core.0 (core_of state core.0).pending (core_of state core.0) (core_of state core.0).pending (stores core.0)
 
 -- the store part of a locked instruction makes no access
-last-when : (c : Caches) (pending : List Entry) (s : CoreState) (why : Stall) (f : Effect) (b : Bool) → IsQuiet c pending (drop 1 f.commits) → IsQuiet c pending (drop 1 (if b then f else stalled why s).commits)
+abbrev IsNoUse : Caches → List Entry → List Entry → Type 0
+IsNoUse c pending commits = use_of c pending commits ≡ not_through Unused c
+
+last-when : (c : Caches) (pending : List Entry) (s : CoreState) (why : Stall) (f : Effect) (b : Bool) → IsNoUse c pending (drop 1 f.commits) → IsNoUse c pending (drop 1 (if b then f else stalled why s).commits)
 last-when c pending s why f true h = h
 last-when c pending s why f false h = refl
 
-last-stored : (c : Caches) (pending : List Entry) (depth : ℕ) (s : CoreState) (e : Entry) → IsQuiet c pending (drop 1 (stored depth s e).commits)
+last-stored : (c : Caches) (pending : List Entry) (depth : ℕ) (s : CoreState) (e : Entry) → IsNoUse c pending (drop 1 (stored depth s e).commits)
 last-stored c pending zero s e = refl
 last-stored c pending (suc n) s e = last-when c pending s stall.Full _ (nat_lt (length s.pending) (suc n)) refl
 
-last-quiet : (c : Caches) (pending : List Entry) (depth core : ℕ) (memory : List ℕ) (i : Option Instr) (s : CoreState) → IsQuiet c pending (drop 1 (step_of depth memory core i s).commits)
-last-quiet c pending depth core memory None s = refl
-last-quiet c pending depth core memory (Some x) s = by_action (action_of x)
+pub last-unused : (c : Caches) (pending : List Entry) (depth core : ℕ) (memory : List ℕ) (i : Option Instr) (s : CoreState) → IsNoUse c pending (drop 1 (step_of depth memory core i s).commits)
+last-unused c pending depth core memory None s = refl
+last-unused c pending depth core memory (Some x) s = by_action (action_of x)
   where
-    by_action : (a : Action) → IsQuiet c pending (drop 1 (effect_by depth memory core a s).commits)
+    by_action : (a : Action) → IsNoUse c pending (drop 1 (effect_by depth memory core a s).commits)
     by_action (Store loc operand) = last-stored c pending depth s _
     by_action (Load reg loc) = refl
     by_action (Move reg operand) = refl
@@ -291,7 +294,8 @@ writes-turn : (r : Option LineRequest) (c : Caches) (t : Litmus) (depth : ℕ) (
     → TurnsBy r c core what pending (HeldBetween other) (writes_last t depth state e)
 writes-turn r c t depth state e other core what pending =
     let f = effect_of t depth (as_read state e) (Step e.core) in
-    let quiet : IsQuiet c pending (drop 1 f.commits) = last-quiet c pending depth e.core.0 (as_read state e).memory (next_of t state e.core.0) (core_of state e.core.0) in
+    let quiet : IsQuiet c pending (drop 1 f.commits) =
+    ap (λ (u : Used). flush_in u.how) (last-unused c pending depth e.core.0 (as_read state e).memory (next_of t state e.core.0) (core_of state e.core.0)) in
     whole (ap (λ x. x.flushed) (flat-nothing t depth (as_read state e) (Step e.core) r _) ∙ sym quiet) (whole-awaits c pending (drop 1 f.commits)) refl
 
 split-turn : (r : Option LineRequest) (c : Caches) (t : Litmus) (depth : ℕ) (state : State) (a : Choice) (holder : Holder) → Holding Split t depth state holder → AllStores state → UpgradesQuietly c.awaited

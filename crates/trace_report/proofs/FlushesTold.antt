@@ -5,7 +5,7 @@ use Rattle.std.specs.List.{list_any}
 use Rattle.basic_laws.proofs.Lists.{Each}
 use Rattle.tso_model.specs.Litmus.{Litmus}
 use Rattle.tso_model.specs.FlatMachine.{State, idle, program_of, chosen, core_of, applied, effect_of}
-use Rattle.tso_model.specs.Runs.{has_ended, is_done, CoresExist}
+use Rattle.tso_model.specs.Runs.{has_ended, is_done}
 use Rattle.tso_model.specs.ProgramOrder.{writes_to}
 use Rattle.tso_model.specs.Access.{Access, NoAccess, Reads, Writes, Locks, step_access, drain_access, access_of}
 use Rattle.tso_model.specs.SplitMachine.{Holder, Free, HeldBy, HeldBetween, Attempt, same_choice, needs_bus, acts, asks, begins, completes, as_read, writes_last, split_effect}
@@ -49,8 +49,8 @@ use Rattle.machine_core.specs.inner.Kept.{IsAmong, IsFlusherAmong, IsSenderAmong
 use Rattle.machine_core.proofs.CountBounds.{length-counted}
 use Rattle.machine_core.proofs.CountsOnBus.{senders}
 use Rattle.trace_report.specs.Steps.{step_of, steps_from, request_at}
-use Rattle.trace_report.specs.TraceLaws.{count_of, is_sender, tells_flush, one_if, steps_that, AccessesAreTold}
-use Rattle.trace_report.proofs.AccessesTold.{of, kept, added, counts_after, counting, stopped, no-counts, none-of, accesses-told, forwards-told}
+use Rattle.trace_report.specs.TraceLaws.{is_sender, tells_flush, one_if, steps_that}
+use Rattle.trace_report.proofs.AccessesTold.{of, kept, added, counts_after, counting, stopped}
 use Rattle.trace_report.proofs.RunsTold.{run_of, going}
 use Rattle.trace_report.proofs.Flushes.{flush_in, flush_awaited, UpgradesQuietly, Turns, whole, asked, arrived, choice-turn}
 

@@ -14,7 +14,9 @@ pub mod AccessesTold
 pub mod Flushes
 pub mod Victims
 pub mod VictimsLeave
+pub mod UsesOnBus
+pub mod Awaiting
 pub mod LinesLeft
-pub mod WriteBacksTold
 pub mod FlushesTold
 pub mod VictimsTold
+pub mod WriteBacksTold

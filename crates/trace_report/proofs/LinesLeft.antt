@@ -8,8 +8,7 @@ use Rattle.protocol_tables.specs.declared.asking.Transient.TheVariants.{IsD, ImD
 use Rattle.protocol_tables.specs.declared.state.State as protocol
 use Rattle.protocol_tables.specs.declared.state.State.TheVariants as tag
 use Rattle.machine_core.specs.Running.{Running}
-use Rattle.trace_report.specs.Steps.{state_with, line_state, placed, line_states, core_states, lines_of, states_of, number_of, change_of, changes_in, is_absent, left_by}
-use Rattle.trace_report.specs.declared.step.LineState.{LineState}
+use Rattle.trace_report.specs.Steps.{state_with, line_state, line_states, lines_of, states_of, number_of, changes_in, is_absent, left_by}
 use Rattle.trace_report.specs.declared.step.StateChange.{StateChange}
 use Rattle.trace_report.specs.declared.states.PlacedState.{PlacedState}
 use Rattle.trace_report.proofs.LaidIn.{grid, grid-is}

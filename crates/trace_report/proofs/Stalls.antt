@@ -1,15 +1,13 @@
 -- A choice that stalled: nothing else is told of it.
-use Rattle.std.proofs.Common.{◌≡◌, ◌⊎◌, inl, inr, ◌∙◌, ℕ, zero, suc, Bool, true, false, nat_lt, if◌then◌else◌, List, [], ◌∷◌, ◌++◌, length, drop, Option, Some, None, slice_get, refl, sym, ap, subst}
+use Rattle.std.proofs.Common.{◌≡◌, ◌⊎◌, inl, inr, ◌∙◌, ℕ, Bool, true, false, if◌then◌else◌, List, [], ◌++◌, length, drop, Option, Some, None, refl, sym, ap, subst}
 use Rattle.tso_model.specs.Litmus.{Litmus}
 use Rattle.tso_model.specs.Actions.{action_of}
-use Rattle.tso_model.specs.FlatMachine.{CoreState, State, Effect, effect_by, step_of, effect_of, core_of, chosen}
-use Rattle.tso_model.specs.FlatMachine as flat
+use Rattle.tso_model.specs.FlatMachine.{CoreState, State, effect_by, step_of, effect_of, core_of, chosen}
 use Rattle.tso_model.specs.Access.{Access, NoAccess, Reads, Writes, Locks, access_by, step_access, access_of, next_of}
 use Rattle.tso_model.specs.SplitMachine.{Holder, Free, HeldBy, HeldBetween, Attempt, same_choice, needs_bus, acts, asks, begins, completes, as_read, writes_last, split_effect}
 use Rattle.tso_model.specs.EitherBus.{BusState, effect_on}
 use Rattle.tso_model.specs.declared.bus.Bus.{Bus}
 use Rattle.tso_model.specs.declared.bus.Bus.TheVariants.{Atomic, Split}
-use Rattle.tso_model.specs.declared.instruction.Loc.{Loc}
 use Rattle.tso_model.specs.declared.instruction.Instr.{Instr}
 use Rattle.tso_model.specs.declared.action.Action.{Action}
 use Rattle.tso_model.specs.declared.action.Action.TheVariants.{Store, Load, Move, Fence, Lock}

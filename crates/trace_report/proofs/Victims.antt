@@ -1,5 +1,5 @@
--- Sets of tags under accesses: each line lies in one set alone and once, and the line that leaves a set is gone.
-use Rattle.std.proofs.Common.{arith, ◌≡◌, ◌≢◌, ◌∙◌, ◌<◌, ◌≤◌, ◌-◌, ◌+◌, ◌%◌, ℕ, zero, suc, Bool, true, false, List, [], ◌∷◌, length, take, map, slice_get, slice_set, slice_index_or, Option, Some, None, nat_eq, if◌then◌else◌, ◌⊎◌, inl, inr, refl, sym, ap, subst, get_or-set_same, get_or-set_other}
+-- Sets of tags under accesses: each line lies in one set alone and once, none is in I, and the line that leaves a set is gone.
+use Rattle.std.proofs.Common.{arith, ◌≡◌, ◌≢◌, ◌<◌, ◌≤◌, ◌-◌, ◌%◌, ℕ, zero, suc, false, List, [], ◌∷◌, length, take, map, slice_get, slice_set, slice_index_or, Option, Some, None, nat_eq, if◌then◌else◌, ◌⊎◌, inl, inr, refl, sym, subst, get_or-set_same, get_or-set_other}
 use Rattle.std.proofs.lemmas.Bool.Decides.{eqb_tells}
 use Rattle.std.proofs.lemmas.Bool.{eq-eqb}
 use Rattle.std.proofs.lemmas.List.{get_or_past}
@@ -9,34 +9,34 @@ use Rattle.basic_laws.proofs.Basics.{decide, lt-or}
 use Rattle.protocol_tables.specs.declared.state.State.{State}
 use Rattle.protocol_tables.specs.declared.state.State.TheVariants.{I, S, E, O, M}
 use Rattle.protocol_tables.specs.declared.state.Snoop.{Snoop}
-use Rattle.snoop_bus.specs.Tags.{TagSet, tag_set, tag_of, used, filled, leaving, restated, removed, in_next, snooped, snooped_in}
+use Rattle.snoop_bus.specs.Tags.{TagSet, tag_set, tag_of, used, filled, leaving, restated, in_next, snooped, snooped_in}
 use Rattle.snoop_bus.specs.CacheContents.{TagSets, tags_at, tag_in, at_line, sets_of, at_core, at_others, requested, used_by, filled_by}
 
 -- ---- the tags of one set
 
--- lines of this kind alone
-abbrev pub OfKind : (ℕ → Type 0) → List (ℕ × State) → Type 0
+-- lines in states of this kind alone
+abbrev pub OfKind : (ℕ → State → Type 0) → List (ℕ × State) → Type 0
 OfKind P [] = Unit {0}
-OfKind P (e ∷ es) = P e.0 × OfKind P es
+OfKind P (e ∷ es) = P e.0 e.1 × OfKind P es
 
 -- no line twice
 abbrev pub Once : List (ℕ × State) → Type 0
 Once [] = Unit {0}
 Once (e ∷ es) = (lookup (nat_eq e.0) es ≡ None) × Once es
 
-kind-remove : (P : ℕ → Type 0) (line : ℕ) (es : List (ℕ × State)) → OfKind P es → OfKind P (remove_entry (nat_eq line) es)
+kind-remove : (P : ℕ → State → Type 0) (line : ℕ) (es : List (ℕ × State)) → OfKind P es → OfKind P (remove_entry (nat_eq line) es)
 kind-remove P line [] h = tt
 kind-remove P line (e ∷ es) h = elim (eqb_tells line e.0) [
   | inl p ↦ rw p.0 h.1
   | inr p ↦ rw p.0 (h.0, kind-remove P line es h.1)
 ]
 
-kind-take : (P : ℕ → Type 0) (n : ℕ) (es : List (ℕ × State)) → OfKind P es → OfKind P (take n es)
+kind-take : (P : ℕ → State → Type 0) (n : ℕ) (es : List (ℕ × State)) → OfKind P es → OfKind P (take n es)
 kind-take P zero es h = tt
 kind-take P (suc n) [] h = tt
 kind-take P (suc n) (e ∷ es) h = (h.0, kind-take P n es h.1)
 
-absent-remove : (line k : ℕ) (es : List (ℕ × State)) → lookup (nat_eq k) es ≡ None → lookup (nat_eq k) (remove_entry (nat_eq line) es) ≡ None
+pub absent-remove : (line k : ℕ) (es : List (ℕ × State)) → lookup (nat_eq k) es ≡ None → lookup (nat_eq k) (remove_entry (nat_eq line) es) ≡ None
 absent-remove line k [] h = refl
 absent-remove line k (e ∷ es) h = elim (eqb_tells k e.0) [
   | inl p ↦ let found : Some e.1 ≡ None = rw p.0 at h in absurd (let z : ⊥ = cc in z)
@@ -76,11 +76,11 @@ once-take (suc n) (e ∷ es) h = (absent-take n e.0 es h.0, once-take n es h.1)
 abbrev restate : ℕ → State → List (ℕ × State) → List (ℕ × State)
 restate line state es = map (λ e. if nat_eq line e.0 then (e.0, state) else e) es
 
-kind-restate : (P : ℕ → Type 0) (line : ℕ) (state : State) (es : List (ℕ × State)) → OfKind P es → OfKind P (restate line state es)
-kind-restate P line state [] h = tt
-kind-restate P line state (e ∷ es) h = elim (eqb_tells line e.0) [
-  | inl p ↦ rw p.0 (h.0, kind-restate P line state es h.1)
-  | inr p ↦ rw p.0 (h.0, kind-restate P line state es h.1)
+kind-restate : (P : ℕ → State → Type 0) (line : ℕ) (state : State) (es : List (ℕ × State)) → ((k : ℕ) (s : State) → P k s → P k state) → OfKind P es → OfKind P (restate line state es)
+kind-restate P line state [] may h = tt
+kind-restate P line state (e ∷ es) may h = elim (eqb_tells line e.0) [
+  | inl p ↦ rw p.0 (may e.0 e.1 h.0, kind-restate P line state es may h.1)
+  | inr p ↦ rw p.0 (h.0, kind-restate P line state es may h.1)
 ]
 
 absent-restate : (line k : ℕ) (state : State) (es : List (ℕ × State)) → lookup (nat_eq k) es ≡ None → lookup (nat_eq k) (restate line state es) ≡ None
@@ -120,51 +120,67 @@ gone-before (suc n) x (e ∷ es) d h =
       | inr p ↦ rw p.0 (gone-before n x es d.1 h)
     ]
 
+-- a line that is found is of the kind
+kind-found : (P : ℕ → State → Type 0) (line : ℕ) (state : State) (es : List (ℕ × State)) → OfKind P es → lookup (nat_eq line) es ≡ Some state → P line state
+kind-found P line state [] h q = absurd (let z : ⊥ = cc in z)
+kind-found P line state (e ∷ es) h q = elim (eqb_tells line e.0) [
+  | inl p ↦
+      let found : Some e.1 ≡ Some state = rw p.0 at q in
+      let same : e.1 ≡ state = cc in
+      subst (λ k. P k state) (sym p.1) (subst (P e.0) same h.0)
+  | inr p ↦ kind-found P line state es h.1 (rw p.0 at q)
+]
+
 -- ---- one set
 
--- lines of this kind alone, and none twice
-pub record IsNeat (P : ℕ → Type 0) (s : TagSet) : Type 0 where
+-- lines in states of this kind alone, and no line twice
+pub record IsNeat (P : ℕ → State → Type 0) (s : TagSet) : Type 0 where
   pub kind : OfKind P s.tags
   pub once : Once s.tags
 
-used-neat : (P : ℕ → Type 0) (line : ℕ) (state : State) (s : TagSet) → P line → IsNeat P s → IsNeat P (used line state s)
+used-neat : (P : ℕ → State → Type 0) (line : ℕ) (state : State) (s : TagSet) → P line state → IsNeat P s → IsNeat P (used line state s)
 used-neat P line state s p h = record { kind = (p, kind-remove P line s.tags h.kind); once = (gone-remove line s.tags h.once, once-remove line s.tags h.once) }
 
-filled-neat : (P : ℕ → Type 0) (line : ℕ) (state : State) (s : TagSet) → P line → tag_of s line ≡ None → IsNeat P s → IsNeat P (filled line state s)
+filled-neat : (P : ℕ → State → Type 0) (line : ℕ) (state : State) (s : TagSet) → P line state → tag_of s line ≡ None → IsNeat P s → IsNeat P (filled line state s)
 filled-neat P line state s p none h = record {
   kind = kind-take P s.ways ((line, state) ∷ s.tags) (p, h.kind);
   once = once-take s.ways ((line, state) ∷ s.tags) (none, h.once);
 }
 
-restated-neat : (P : ℕ → Type 0) (line : ℕ) (state : State) (s : TagSet) → IsNeat P s → IsNeat P (restated line state s)
-restated-neat P line state s h = record { kind = kind-restate P line state s.tags h.kind; once = once-restate line state s.tags h.once }
+-- a line of the kind may be in any state but I
+abbrev InAnyState : (ℕ → State → Type 0) → Type 0
+InAnyState P = (line : ℕ) (state next : State) → next ≢ I → P line state → P line next
 
-snooped-neat : (P : ℕ → Type 0) (on : State → Snoop) (line : ℕ) (s : TagSet) → IsNeat P s → IsNeat P (snooped on line s)
-snooped-neat P on line s h = by_tag (tag_of s line)
+restated-neat : (P : ℕ → State → Type 0) (line : ℕ) (state : State) (s : TagSet) → InAnyState P → state ≢ I → IsNeat P s → IsNeat P (restated line state s)
+restated-neat P line state s may valid h =
+    record { kind = kind-restate P line state s.tags (λ k old. may k old state valid) h.kind; once = once-restate line state s.tags h.once }
+
+snooped-neat : (P : ℕ → State → Type 0) (on : State → Snoop) (line : ℕ) (s : TagSet) → InAnyState P → IsNeat P s → IsNeat P (snooped on line s)
+snooped-neat P on line s may h = by_tag (tag_of s line)
   where
     by_next : (state : State) → IsNeat P (in_next line state s)
     by_next I = record { kind = kind-remove P line s.tags h.kind; once = once-remove line s.tags h.once }
-    by_next S = restated-neat P line S s h
-    by_next E = restated-neat P line E s h
-    by_next O = restated-neat P line O s h
-    by_next M = restated-neat P line M s h
+    by_next S = restated-neat P line S s may (λ q. let z : ⊥ = cc in z) h
+    by_next E = restated-neat P line E s may (λ q. let z : ⊥ = cc in z) h
+    by_next O = restated-neat P line O s may (λ q. let z : ⊥ = cc in z) h
+    by_next M = restated-neat P line M s may (λ q. let z : ⊥ = cc in z) h
 
     by_tag : (o : Option State) → IsNeat P (snooped_in on line o s)
     by_tag None = h
     by_tag (Some state) = by_next (on state).next
 
 -- what leaves a neat set for another line was there, and is gone then
-pub record HasLeft (P : ℕ → Type 0) (line : ℕ) (state : State) (s : TagSet) (victim : ℕ × State) : Type 0 where
-  pub kind : P victim.0
+pub record HasLeft (P : ℕ → State → Type 0) (line : ℕ) (state : State) (s : TagSet) (victim : ℕ × State) : Type 0 where
+  pub kind : P victim.0 victim.1
   pub before : tag_of s victim.0 ≡ Some victim.1
   pub after : tag_of (filled line state s) victim.0 ≡ None
 
-kind-at : (P : ℕ → Type 0) (n : ℕ) (x : ℕ × State) (es : List (ℕ × State)) → OfKind P es → slice_get es n ≡ Some x → P x.0
+kind-at : (P : ℕ → State → Type 0) (n : ℕ) (x : ℕ × State) (es : List (ℕ × State)) → OfKind P es → slice_get es n ≡ Some x → P x.0 x.1
 kind-at P n x [] h q = absurd (let z : ⊥ = cc in z)
-kind-at P zero x (e ∷ es) h q = let same : e ≡ x = cc in subst (λ (y : ℕ × State). P y.0) same h.0
+kind-at P zero x (e ∷ es) h q = let same : e ≡ x = cc in subst (λ (y : ℕ × State). P y.0 y.1) same h.0
 kind-at P (suc n) x (e ∷ es) h q = kind-at P n x es h.1 q
 
-has-left : (P : ℕ → Type 0) (line : ℕ) (state : State) (s : TagSet) (victim : ℕ × State) → IsNeat P s → tag_of s line ≡ None → leaving s ≡ Some victim → HasLeft P line state s victim
+has-left : (P : ℕ → State → Type 0) (line : ℕ) (state : State) (s : TagSet) (victim : ℕ × State) → IsNeat P s → tag_of s line ≡ None → leaving s ≡ Some victim → HasLeft P line state s victim
 has-left P line state s victim h none leaves =
     let there = found-at (s.ways - 1) victim s.tags h.once leaves in
     record { kind = kind-at P (s.ways - 1) victim s.tags h.kind leaves; before = there; after = by_ways s.ways leaves }
@@ -188,22 +204,23 @@ has-left P line state s victim h none leaves =
 abbrev pub no_set : TagSet
 no_set = tag_set [] 1
 
--- lines of a test that has so many, in the set in which they lie
-pub record Lies (lines sets index line : ℕ) : Type 0 where
+-- lines of a test that has so many, in the set in which they lie, and in states other than I
+pub record Lies (lines sets index line : ℕ) (state : State) : Type 0 where
   pub within : line < lines
   pub place : line % sets ≡ index
+  pub valid : state ≢ I
 
 -- each set is neat
 abbrev pub AreNeat : ℕ → TagSets → Type 0
 AreNeat lines sets = (i : ℕ) → IsNeat (Lies lines (length sets) i) (slice_index_or sets i no_set)
 
-pub none-neat : (P : ℕ → Type 0) → IsNeat P no_set
+pub none-neat : (P : ℕ → State → Type 0) → IsNeat P no_set
 none-neat P = record { kind = tt; once = tt }
 
 pub no-sets : (lines : ℕ) → AreNeat lines []
 no-sets lines i = none-neat (Lies lines 0 i)
 
-pub set-changed : (lines line : ℕ) (change : TagSet → TagSet) (sets : TagSets) → AreNeat lines sets
+set-changed : (lines line : ℕ) (change : TagSet → TagSet) (sets : TagSets) → AreNeat lines sets
     → (IsNeat (Lies lines (length sets) (line % length sets)) (tags_at sets line) → IsNeat (Lies lines (length sets) (line % length sets)) (change (tags_at sets line)))
     → AreNeat lines (at_line line change sets)
 set-changed lines line change sets h changed i =
@@ -221,21 +238,30 @@ set-changed lines line change sets h changed i =
       | inr n ↦ subst (λ s. IsNeat (Lies lines (length sets) i) s) (sym (get_or-set_other sets there i new no_set n)) (h i)
     ])
 
-pub sets-used : (lines line : ℕ) (state : State) (sets : TagSets) → line < lines → AreNeat lines sets → AreNeat lines (at_line line (used line state) sets)
-sets-used lines line state sets l h =
-    set-changed lines line (used line state) sets h (used-neat (Lies lines (length sets) (line % length sets)) line state (tags_at sets line) (record { within = l; place = refl }))
+-- a copy that is found is in a state other than I
+pub found-valid : (lines line : ℕ) (state : State) (sets : TagSets) → AreNeat lines sets → tag_in sets line ≡ Some state → state ≢ I
+found-valid lines line state sets h q =
+    (kind-found (Lies lines (length sets) (line % length sets)) line state (tags_at sets line).tags (h (line % length sets)).kind q).valid
 
-pub sets-filled : (lines line : ℕ) (state : State) (sets : TagSets) → line < lines → tag_in sets line ≡ None → AreNeat lines sets → AreNeat lines (at_line line (filled line state) sets)
-sets-filled lines line state sets l none h =
+sets-used : (lines line : ℕ) (state : State) (sets : TagSets) → line < lines → state ≢ I → AreNeat lines sets → AreNeat lines (at_line line (used line state) sets)
+sets-used lines line state sets l valid h =
+    set-changed lines line (used line state) sets h
+    (used-neat (Lies lines (length sets) (line % length sets)) line state (tags_at sets line) (record { within = l; place = refl; valid = valid }))
+
+sets-filled : (lines line : ℕ) (state : State) (sets : TagSets) → line < lines → state ≢ I → tag_in sets line ≡ None → AreNeat lines sets → AreNeat lines (at_line line (filled line state) sets)
+sets-filled lines line state sets l valid none h =
     set-changed lines line (filled line state) sets h
-    (filled-neat (Lies lines (length sets) (line % length sets)) line state (tags_at sets line) (record { within = l; place = refl }) none)
+    (filled-neat (Lies lines (length sets) (line % length sets)) line state (tags_at sets line) (record { within = l; place = refl; valid = valid }) none)
 
-pub sets-snooped : (lines : ℕ) (on : State → Snoop) (line : ℕ) (sets : TagSets) → AreNeat lines sets → AreNeat lines (at_line line (snooped on line) sets)
-sets-snooped lines on line sets h = set-changed lines line (snooped on line) sets h (snooped-neat (Lies lines (length sets) (line % length sets)) on line (tags_at sets line))
+sets-snooped : (lines : ℕ) (on : State → Snoop) (line : ℕ) (sets : TagSets) → AreNeat lines sets → AreNeat lines (at_line line (snooped on line) sets)
+sets-snooped lines on line sets h =
+    set-changed lines line (snooped on line) sets h
+    (snooped-neat (Lies lines (length sets) (line % length sets)) on line (tags_at sets line) (λ k old next valid there. record { within = there.within; place = there.place; valid = valid }))
 
 -- a dirty line that leaves was in the cache, and isn't then
 pub record Leaves (lines line : ℕ) (state : State) (sets : TagSets) (victim : ℕ × State) : Type 0 where
   pub within : victim.0 < lines
+  pub valid : victim.1 ≢ I
   pub before : tag_in sets victim.0 ≡ Some victim.1
   pub after : tag_in (at_line line (filled line state) sets) victim.0 ≡ None
 
@@ -249,6 +275,7 @@ sets-leave lines line state sets victim h none leaves =
     let size : length (at_line line (filled line state) sets) ≡ length sets = length-set sets there new in
     record {
       within = left.kind.within;
+      valid = left.kind.valid;
       before = subst (λ k. tag_of (slice_index_or sets k no_set) victim.0 ≡ Some victim.1) (sym place) left.before;
       after = subst (λ n. tag_of (slice_index_or (slice_set sets there new) (victim.0 % n) no_set) victim.0 ≡ None) (sym size)
           (subst (λ k. tag_of (slice_index_or (slice_set sets there new) k no_set) victim.0 ≡ None) (sym place) (in_place (lt-or (length sets) there) left.after));
@@ -266,7 +293,7 @@ sets-leave lines line state sets victim h none leaves =
 abbrev pub AllNeat : ℕ → List TagSets → Type 0
 AllNeat lines caches = (core : ℕ) → AreNeat lines (sets_of caches core)
 
-pub own-changed : (lines core : ℕ) (change : TagSets → TagSets) (caches : List TagSets) → AllNeat lines caches → (AreNeat lines (sets_of caches core) → AreNeat lines (change (sets_of caches core)))
+own-changed : (lines core : ℕ) (change : TagSets → TagSets) (caches : List TagSets) → AllNeat lines caches → (AreNeat lines (sets_of caches core) → AreNeat lines (change (sets_of caches core)))
     → AllNeat lines (at_core core change caches)
 own-changed lines core change caches h changed k = elim (decide k core) [
   | inl q ↦ elim (lt-or (length caches) core) [
@@ -284,7 +311,7 @@ each-changed lines change [] changed h k = no-sets lines
 each-changed lines change (sets ∷ caches) changed h zero = changed sets (h 0)
 each-changed lines change (sets ∷ caches) changed h (suc k) = each-changed lines change caches changed (λ j. h (suc j)) k
 
-pub others-changed : (lines core : ℕ) (change : TagSets → TagSets) (caches : List TagSets) → ((sets : TagSets) → AreNeat lines sets → AreNeat lines (change sets)) → AllNeat lines caches
+others-changed : (lines core : ℕ) (change : TagSets → TagSets) (caches : List TagSets) → ((sets : TagSets) → AreNeat lines sets → AreNeat lines (change sets)) → AllNeat lines caches
     → AllNeat lines (at_others core change caches)
 others-changed lines core change [] changed h k = no-sets lines
 others-changed lines zero change (sets ∷ caches) changed h zero = h 0
@@ -301,16 +328,9 @@ own-kept (suc core) change (sets ∷ caches) = own-kept core change caches
 pub all-requested : (lines : ℕ) (on : State → Snoop) (core line : ℕ) (caches : List TagSets) → AllNeat lines caches → AllNeat lines (requested on core line caches)
 all-requested lines on core line caches h = others-changed lines core (at_line line (snooped on line)) caches (sets-snooped lines on line) h
 
-pub all-used : (lines core line : ℕ) (state : State) (caches : List TagSets) → line < lines → AllNeat lines caches → AllNeat lines (used_by core line state caches)
-all-used lines core line state caches l h = own-changed lines core (at_line line (used line state)) caches h (sets-used lines line state (sets_of caches core) l)
+pub all-used : (lines core line : ℕ) (state : State) (caches : List TagSets) → line < lines → state ≢ I → AllNeat lines caches → AllNeat lines (used_by core line state caches)
+all-used lines core line state caches l valid h = own-changed lines core (at_line line (used line state)) caches h (sets-used lines line state (sets_of caches core) l valid)
 
-pub all-filled : (lines core line : ℕ) (state : State) (caches : List TagSets) → line < lines → tag_in (sets_of caches core) line ≡ None → AllNeat lines caches → AllNeat lines (filled_by core line state caches)
-all-filled lines core line state caches l none h = own-changed lines core (at_line line (filled line state)) caches h (sets-filled lines line state (sets_of caches core) l none)
-
--- what leaves a core's cache when it fills a line, by all caches before it and after it
-pub filled-leaves : (lines core line : ℕ) (state : State) (caches : List TagSets) (victim : ℕ × State) → core < length caches → AllNeat lines caches → tag_in (sets_of caches core) line ≡ None
-    → leaving (tags_at (sets_of caches core) line) ≡ Some victim
-    → (tag_in (sets_of caches core) victim.0 ≡ Some victim.1) × ((tag_in (sets_of (filled_by core line state caches) core) victim.0 ≡ None) × (victim.0 < lines))
-filled-leaves lines core line state caches victim l h none leaves =
-    let left = sets-leave lines line state (sets_of caches core) victim (h core) none leaves in
-    (left.before, (subst (λ sets. tag_in sets victim.0 ≡ None) (sym (get_or-set_same caches core (at_line line (filled line state) (sets_of caches core)) [] l)) left.after, left.within))
+pub all-filled : (lines core line : ℕ) (state : State) (caches : List TagSets) → line < lines → state ≢ I → tag_in (sets_of caches core) line ≡ None → AllNeat lines caches
+    → AllNeat lines (filled_by core line state caches)
+all-filled lines core line state caches l valid none h = own-changed lines core (at_line line (filled line state)) caches h (sets-filled lines line state (sets_of caches core) l valid none)

@@ -6,10 +6,7 @@ use Rattle.tso_model.specs.FlatMachine.{idle, core_of, chosen}
 use Rattle.tso_model.specs.Access.{access_of}
 use Rattle.tso_model.specs.declared.instruction.Core.{Core}
 use Rattle.tso_model.specs.declared.choice.Choice.{Choice}
-use Rattle.tso_model.specs.declared.choice.Stall.{Stall}
 use Rattle.tso_model.specs.declared.choice.Outcome.{Outcome}
-use Rattle.tso_model.specs.declared.choice.Outcome.TheVariants.{Committed, Buffered, Asked, Stalled}
-use Rattle.tso_model.specs.declared.choice.Outcome.TheVariants as out
 use Rattle.tso_model.specs.declared.execution.Entry.{Entry}
 use Rattle.snoop_bus.specs.declared.access.AccessKind.{AccessKind}
 use Rattle.snoop_bus.specs.Geometry.{Geometry, IsLineSize}

@@ -1,21 +1,28 @@
--- The write-backs that a trace tells, and those that are counted.
-use Rattle.std.proofs.Common.{◌≡◌, ◌∙◌, ℕ, ◌+◌, ◌<◌, ◌≤◌, ◌==◌, ◌&&◌, Bool, true, false, if◌then◌else◌, List, [], ◌∷◌, length, Option, Some, None, is_some, refl, sym, ap, subst, arith}
+-- The write-backs that a trace tells are those that are counted; and all that it tells of the accesses.
+use Rattle.std.proofs.Common.{◌≡◌, ◌≢◌, ◌∙◌, ℕ, ◌+◌, ◌<◌, ◌==◌, ◌&&◌, Bool, true, false, List, [], ◌∷◌, length, Some, refl, sym, ap, subst, arith}
+use Rattle.std.proofs.lemmas.List.{length-replicate}
 use Rattle.tso_model.specs.FlatMachine.{chosen}
 use Rattle.tso_model.specs.Runs.{has_ended, CoresExist}
 use Rattle.tso_model.specs.declared.choice.Choice.{Choice}
+use Rattle.protocol_tables.specs.Tables.{filled_shared, filled_by_company, write}
+use Rattle.protocol_tables.specs.declared.kind.ProtocolKind.TheVariants.{Msi, Mesi, Moesi, Mosi}
+use Rattle.protocol_tables.specs.declared.state.State.{State}
+use Rattle.protocol_tables.specs.declared.state.State.TheVariants.{I, S, E, O, M}
 use Rattle.snoop_bus.specs.declared.access.AccessKind.{AccessKind}
 use Rattle.snoop_bus.specs.declared.access.AccessKind.TheVariants.{Hit, Upgrade, Miss}
-use Rattle.machine_core.specs.Running.{Running, use_by, machine_after}
-use Rattle.machine_core.specs.Statistics.{Statistics, with_access, with_forward, with_write_back, with_flush, at_core, counted}
+use Rattle.machine_core.specs.Running.{Running, new_machine, use_by, machine_after}
+use Rattle.machine_core.specs.Statistics.{Statistics, no_counts, with_access, with_forward, with_write_back, at_core, counted}
 use Rattle.machine_core.specs.declared.counts.Counts.{Counts}
 use Rattle.machine_core.specs.declared.cache_use.CacheUse.{CacheUse}
 use Rattle.machine_core.specs.declared.cache_use.CacheUse.TheVariants.{Unused, Forwarded, Through}
 use Rattle.machine_core.proofs.CountBounds.{length-counted}
-use Rattle.trace_report.specs.Steps.{changes_in, left_by, states_of, step_of, steps_from, wrote_back_by}
-use Rattle.trace_report.specs.TraceLaws.{one_if, steps_that, tells_write_back}
-use Rattle.trace_report.specs.declared.step.StateChange.{StateChange}
+use Rattle.trace_report.specs.Steps.{step_of, steps_from}
+use Rattle.trace_report.specs.TraceLaws.{count_of, is_sender, tells_write_back, one_if, steps_that, ProtocolsKeepNoCopyInI, AccessesAreTold}
+use Rattle.trace_report.proofs.AccessesTold.{of, kept, added, flushed-kept, none-told, counts_after, counting, stopped, no-counts, none-of, accesses-told, forwards-told}
+use Rattle.trace_report.proofs.Flushes.{flush_awaited}
+use Rattle.trace_report.proofs.FlushesTold.{sound-first, flushes-told}
 use Rattle.trace_report.proofs.VictimsLeave.{wrote_in}
-use Rattle.trace_report.proofs.AccessesTold.{of, kept, added, flushed-kept, none-told, counts_after, counting, stopped}
+use Rattle.trace_report.proofs.VictimsTold.{IsKept, kept-first, kept-after, step-told}
 
 adds : (wrote_back : Bool) (kind : AccessKind) (n : Counts) → (with_write_back wrote_back (with_access kind n)).write_backs ≡ n.write_backs + one_if wrote_back
 adds true Hit n = refl
@@ -25,7 +32,7 @@ adds false Hit n = omega arith
 adds false Miss n = omega arith
 adds false Upgrade n = omega arith
 
-pub counted-write-back : (core k : ℕ) (how : CacheUse) (cs : List Counts) → core < length cs
+counted-write-back : (core k : ℕ) (how : CacheUse) (cs : List Counts) → core < length cs
     → (of (counted core how cs) k).write_backs ≡ (of cs k).write_backs + one_if ((core == k) && wrote_in how)
 counted-write-back core k Unused cs h = none-told (core == k) (of cs k).write_backs
 counted-write-back core k Forwarded cs h = kept (λ (n : Counts). n.write_backs) core k with_forward cs (λ n. refl) ∙ none-told (core == k) (of cs k).write_backs
@@ -33,31 +40,16 @@ counted-write-back core k (Through a) cs h =
     flushed-kept (λ (n : Counts). n.write_backs) k a.flushed (at_core core (λ n. with_write_back a.wrote_back (with_access a.kind n)) cs) (λ n. refl)
     ∙ added (λ (n : Counts). n.write_backs) core k (λ n. with_write_back a.wrote_back (with_access a.kind n)) cs a.wrote_back h (adds a.wrote_back a.kind)
 
--- what is told is counted
-told-counted : (mine : Bool) (how : CacheUse) (core : ℕ) (changes : List StateChange) → one_if (mine && is_some (wrote_back_by how core changes)) ≤ one_if (mine && wrote_in how)
-told-counted false how core changes = omega arith
-told-counted true Unused core changes = omega arith
-told-counted true Forwarded core changes = omega arith
-told-counted true (Through a) core changes = by_test a.wrote_back (is_some (left_by core changes)) refl
-  where
-    by_test : (b some : Bool) → is_some (left_by core changes) ≡ some → one_if (is_some (if b then left_by core changes else None)) ≤ one_if b
-    by_test true true q = subst (λ s. one_if s ≤ 1) (sym q) (omega arith)
-    by_test true false q = subst (λ s. one_if s ≤ 1) (sym q) (omega arith)
-    by_test false some q = omega arith
-
-step-counted : (k : ℕ) (m : Running) (c : Choice) → one_if (tells_write_back k (step_of m c)) ≤ one_if ((chosen c == k) && wrote_in (use_by m c).how)
-unfolding step_of
-step-counted k m c = told-counted (chosen c == k) (use_by m c).how (chosen c) (changes_in (states_of m) (states_of (machine_after m c)))
-
-pub write-backs-told : (m : Running) (choices : List Choice) (k : ℕ) → CoresExist (length m.statistics.counts) choices
-    → (of m.statistics.counts k).write_backs + steps_that (tells_write_back k) (steps_from m choices) ≤ (of (counts_after m choices) k).write_backs
-write-backs-told m [] k cores = omega arith
-write-backs-told m (c ∷ cs) k cores =
-    go (has_ended m.test m.state.flat) refl (write-backs-told (machine_after m c) cs k (subst (λ n. CoresExist n cs) (sym (length-counted (chosen c) (use_by m c).how m.statistics.counts)) cores.1))
+write-backs-counted : (m : Running) (choices : List Choice) (k : ℕ) → IsKept m → CoresExist (length m.statistics.counts) choices
+    → (of (counts_after m choices) k).write_backs ≡ (of m.statistics.counts k).write_backs + steps_that (tells_write_back k) (steps_from m choices)
+write-backs-counted m [] k kept cores = omega arith
+write-backs-counted m (c ∷ cs) k kept cores =
+    go (has_ended m.test m.state.flat) refl
+    (write-backs-counted (machine_after m c) cs k (kept-after m c kept) (subst (λ n. CoresExist n cs) (sym (length-counted (chosen c) (use_by m c).how m.statistics.counts)) cores.1))
   where
     go : (b : Bool) → has_ended m.test m.state.flat ≡ b
-        → (of (machine_after m c).statistics.counts k).write_backs + steps_that (tells_write_back k) (steps_from (machine_after m c) cs) ≤ (of (counts_after (machine_after m c) cs) k).write_backs
-        → (of m.statistics.counts k).write_backs + steps_that (tells_write_back k) (steps_from m (c ∷ cs)) ≤ (of (counts_after m (c ∷ cs)) k).write_backs
+        → (of (counts_after (machine_after m c) cs) k).write_backs ≡ (of (machine_after m c).statistics.counts k).write_backs + steps_that (tells_write_back k) (steps_from (machine_after m c) cs)
+        → (of (counts_after m (c ∷ cs)) k).write_backs ≡ (of m.statistics.counts k).write_backs + steps_that (tells_write_back k) (steps_from m (c ∷ cs))
     go true over rest =
         let steps : steps_that (tells_write_back k) (steps_from m (c ∷ cs)) ≡ 0 = rw over refl in
         let counts : (of (counts_after m (c ∷ cs)) k).write_backs ≡ (of m.statistics.counts k).write_backs = ap (λ (x : Statistics). (of x.counts k).write_backs) (stopped m c cs over) in
@@ -67,5 +59,52 @@ write-backs-told m (c ∷ cs) k cores =
         let counts : (of (counts_after m (c ∷ cs)) k).write_backs ≡ (of (counts_after (machine_after m c) cs) k).write_backs = ap (λ (x : Statistics). (of x.counts k).write_backs) (counting m c cs live) in
         let one : (of (machine_after m c).statistics.counts k).write_backs ≡ (of m.statistics.counts k).write_backs + one_if ((chosen c == k) && wrote_in (use_by m c).how) =
         counted-write-back (chosen c) k (use_by m c).how m.statistics.counts cores.0 in
-        let told = step-counted k m c in
+        let told : one_if (tells_write_back k (step_of m c)) ≡ one_if ((chosen c == k) && wrote_in (use_by m c).how) = ap one_if (step-told k m c kept cores.0) in
         omega arith
+
+-- ---- all of it
+
+pub all-told : AccessesAreTold
+all-told table c t choices k cores =
+    let m = new_machine table c t in
+    let there : CoresExist (length m.statistics.counts) choices = subst (λ n. CoresExist n choices) (sym (length-replicate (length t.programs) no_counts)) cores in
+    let none : of m.statistics.counts k ≡ no_counts = no-counts (length t.programs) k in
+    let unwritten : (of m.statistics.counts k).write_backs ≡ 0 = ap (λ (n : Counts). n.write_backs) none in
+    record {
+      accesses = λ kind.
+          let all = accesses-told kind m choices k there in
+          let first : count_of kind (of m.statistics.counts k) ≡ 0 = ap (count_of kind) none ∙ none-of kind in
+          omega arith;
+      forwards =
+          let all = forwards-told m choices k there in
+          let first : (of m.statistics.counts k).forwards ≡ 0 = ap (λ (n : Counts). n.forwards) none in
+          omega arith;
+      write_backs = λ test words keeps. let all = write-backs-counted m choices k (kept-first table c t test words keeps) there in omega arith;
+      flushes = λ ended.
+          let all = flushes-told m choices k (sound-first table c t) ended in
+          let first : (of m.statistics.counts k).flushes ≡ 0 = ap (λ (n : Counts). n.flushes) none in
+          let nothing : one_if (is_sender k (flush_awaited m.statistics.caches.awaited)) ≡ 0 = refl in
+          omega arith;
+    }
+
+-- ---- the protocols
+
+write-valid : (s : State) → write s ≢ Some I
+write-valid I q = let z : ⊥ = cc in z
+write-valid S q = let z : ⊥ = cc in z
+write-valid E q = let z : ⊥ = cc in z
+write-valid O q = let z : ⊥ = cc in z
+write-valid M q = let z : ⊥ = cc in z
+
+shared-valid : (shared : Bool) → filled_shared shared ≢ I
+shared-valid shared q = let z : ⊥ = cc in z
+
+company-valid : (shared : Bool) → filled_by_company shared ≢ I
+company-valid true q = let z : ⊥ = cc in z
+company-valid false q = let z : ⊥ = cc in z
+
+pub protocols-keep : ProtocolsKeepNoCopyInI
+protocols-keep Msi = record { filled = shared-valid; written = write-valid }
+protocols-keep Mesi = record { filled = company-valid; written = write-valid }
+protocols-keep Moesi = record { filled = company-valid; written = write-valid }
+protocols-keep Mosi = record { filled = shared-valid; written = write-valid }

@@ -1,4 +1,4 @@
--- What a step needs to be printed: each of its locations and lines is one of the test's.
+-- What a step needs to be printed: each of its locations and lines is one of the test's, and so has a name.
 use Rattle.std.specs.Prelude.{ℕ, ◌<◌, ◌*◌, length, All, IfSome}
 use Rattle.tso_model.specs.Litmus.{Litmus}
 use Rattle.tso_model.specs.FlatMachine.{State, core_of}

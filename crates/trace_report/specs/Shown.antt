@@ -1,4 +1,4 @@
--- What a trace shows of a choice.
+-- What a trace shows of a choice, as one record: text and JSON are functions of it.
 use Rattle.std.specs.Prelude.{ℕ, Bool, List, Option}
 use Rattle.std.specs.Option.{option_map}
 use Rattle.tso_model.specs.declared.instruction.Core.{Core}

@@ -1,4 +1,4 @@
--- What is shown of a choice that stalls, and its line.
+-- What is shown of a choice that stalls, and its line: why it stalled and nothing else, since nothing changed.
 use Rattle.std.specs.Prelude.{ℕ, false, List, [], None}
 use Rattle.tso_model.specs.declared.choice.Choice.{Choice}
 use Rattle.tso_model.specs.declared.choice.Outcome.TheVariants.{Stalled}

@@ -1,4 +1,4 @@
--- A machine whose choices are told.
+-- A machine whose choices are told: it runs the test, and was never refused memory, so each choice is the machine's own.
 use Rattle.std.specs.Prelude.{◌≡◌, false, List, length}
 use Rattle.tso_model.specs.Litmus.{Litmus}
 use Rattle.machine_core.specs.Configuration.{Configuration}

@@ -1,5 +1,6 @@
--- What a trace says of its run, as laws.
-use Rattle.std.specs.Prelude.{ℕ, ◌+◌, ◌≡◌, ◌≢◌, ◌<◌, ◌≤◌, ◌==◌, ◌&&◌, Bool, true, false, if◌then◌else◌, List, [], ◌∷◌, ◌++◌, length, map, Option, Some, None, is_some, slice_index_or, All, Contains}
+-- What a trace says of its run, as laws: its commits are the run's order, its stalls and accesses the run's counts. A trace
+-- that told of another run than the report would break one of them.
+use Rattle.std.specs.Prelude.{ℕ, ◌+◌, ◌≡◌, ◌≢◌, ◌<◌, ◌==◌, ◌&&◌, Bool, true, false, if◌then◌else◌, List, [], ◌∷◌, ◌++◌, length, map, Option, Some, None, is_some, slice_index_or, All, Contains}
 use Rattle.tso_model.specs.Litmus.{Litmus, IsTest}
 use Rattle.tso_model.specs.FlatMachine.{chosen}
 use Rattle.tso_model.specs.Runs.{Run, CoresExist, run, stall_count}
@@ -11,7 +12,9 @@ use Rattle.tso_model.specs.declared.choice.Choice.{Choice}
 use Rattle.tso_model.specs.declared.choice.Outcome.{Outcome}
 use Rattle.tso_model.specs.declared.choice.Outcome.TheVariants.{Committed, Buffered, Moved, Asked, Stalled}
 use Rattle.tso_model.specs.declared.execution.Entry.{Entry}
-use Rattle.protocol_tables.specs.Tables.{Table}
+use Rattle.protocol_tables.specs.Tables.{Table, table_of}
+use Rattle.protocol_tables.specs.declared.kind.ProtocolKind.{ProtocolKind}
+use Rattle.protocol_tables.specs.declared.state.State.{State}
 use Rattle.protocol_tables.specs.declared.state.State.TheVariants.{I}
 use Rattle.machine_core.specs.Configuration.{Configuration}
 use Rattle.snoop_bus.specs.declared.access.AccessKind.{AccessKind}
@@ -136,23 +139,22 @@ is_sender core (Some sender) = sender.0 == core
 abbrev pub tells_flush : ℕ → Shown → Bool
 tells_flush core s = is_sender core s.flushed
 
--- a machine on the atomic bus, for a test within the limits, whose lines have a word at least, and whose protocol writes no line
--- back that is in I
-pub record IsOnAtomicBus (table : Table) (c : Configuration) (t : Litmus) : Type 0 where
-  pub bus : c.bus ≡ Atomic
-  pub test : IsTest t
-  pub words : 0 < c.shape.words
-  pub clean : table.evicts_dirty I ≡ false
+-- a protocol under which no core's read or write leaves its copy in I, the state that says that there is none
+pub record KeepsNoCopyInI (table : Table) : Type 0 where
+  pub filled : (shared : Bool) → table.filled shared ≢ I
+  pub written : (state : State) → table.written state ≢ Some I
+
+-- each of the protocols is one
+abbrev pub ProtocolsKeepNoCopyInI : Type 0
+ProtocolsKeepNoCopyInI = (kind : ProtocolKind) → KeepsNoCopyInI (table_of kind)
 
 -- what the steps tell of this core's cache is what is counted of it: its hits, misses and upgrades, the loads that the core's own
--- pending stores answered, and on the atomic bus its write-backs; and once the test has ended its flushes. On neither bus more
--- write-backs are told than are counted. (On a split bus a flush is told where the line is asked for, and counted where the access
--- is made.)
+-- pending stores answered, and of a test within the limits, on lines of a word at least, its write-backs; and once the test has
+-- ended its flushes. (On a split bus a flush is told where the line is asked for, and counted where the access is made.)
 pub record AreTold (table : Table) (c : Configuration) (t : Litmus) (core : ℕ) (steps : List Shown) (ended : Bool) (n : Counts) : Type 0 where
   pub accesses : (kind : AccessKind) → steps_that (tells_access kind core) steps ≡ count_of kind n
   pub forwards : steps_that (tells_forward core) steps ≡ n.forwards
-  pub write_backs : IsOnAtomicBus table c t → steps_that (tells_write_back core) steps ≡ n.write_backs
-  pub no_more_write_backs : steps_that (tells_write_back core) steps ≤ n.write_backs
+  pub write_backs : IsTest t → 0 < c.shape.words → KeepsNoCopyInI table → steps_that (tells_write_back core) steps ≡ n.write_backs
   pub flushes : ended ≡ true → steps_that (tells_flush core) steps ≡ n.flushes
 
 -- this is so of each core in the trace of a run

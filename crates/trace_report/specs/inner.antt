@@ -2,3 +2,4 @@
 pub mod Left
 pub mod Told
 pub mod Steps
+pub mod ToldSteps

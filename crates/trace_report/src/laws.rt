@@ -1,7 +1,8 @@
-//! What a trace says of its run. Each law is the contract of a function that does nothing: who calls it knows it.
-//! They stand in `specs/TraceLaws.antt`, under the names of their functions.
+//! What a trace says of its run: its entries are the run's order, its changes lead from state to state, its accesses are
+//! those that were counted. Each law is the contract of a function that does nothing: who calls it knows it.
 
 ghost use Rattle.trace_report.specs.TraceLaws.{TracesTellTheirRuns, ChangesLeadFromStatesToStates, AccessesAreTold};
+ghost use Rattle.trace_report.specs.TraceLaws.{ProtocolsKeepNoCopyInI};
 
 use split_laws::atomic_runs_are_flat_runs;
 
@@ -20,9 +21,11 @@ pub fn changes_lead_from_states_to_states()
     ensures { ChangesLeadFromStatesToStates }
 {}
 
-/// Core by core, the steps of a trace that tell a hit, a miss, an upgrade or a load that the core's own pending stores
-/// answered are as many as the run's statistics count, whether the test has ended or not; and once it has ended, so are
-/// those that tell a flush. Those that tell a write-back are at most as many as are counted.
+/// Core by core, the steps of a trace that tell a hit, a miss, an upgrade, a write-back or a load that the core's own
+/// pending stores answered are as many as the run's statistics count, whether the test has ended or not; and once it
+/// has ended, so are those that tell a flush. Write-backs are so for a test within the limits, lines of a word at
+/// least, and a protocol that keeps no copy in I; each of the four is one.
 pub fn accesses_are_told()
-    ensures { AccessesAreTold }
+    ensures counts { AccessesAreTold }
+    ensures protocols { ProtocolsKeepNoCopyInI }
 {}

@@ -12,5 +12,5 @@ pub mod text;
 
 pub use states::states_of;
 pub use step::{LineRequest, LineState, Moved, StateChange, Step};
-pub use telling::tell;
+pub use telling::{Told, tell, tell_or_stall};
 pub use text::{write_end, write_stall, write_start, write_step};

@@ -1,4 +1,5 @@
-//! The words for what a step tells.
+//! The words for what a step tells, in the field's terms: requests and states by the letters of the literature. (Primer,
+//! chapter 7.)
 
 ghost use Rattle.std.specs.Prelude.{◌≡◌};
 ghost use Rattle.protocol_tables.specs.PrintedTable.{letter};

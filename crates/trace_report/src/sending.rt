@@ -1,4 +1,5 @@
-//! What a choice puts on the bus, and sends to memory from another core's cache.
+//! What a choice puts on the bus, and sends to memory from another core's cache. On a split bus that is told at the ask,
+//! for then the other caches see it. (Primer, chapter 7.)
 
 ghost use Rattle.std.specs.Prelude.{◌≡◌, ◌<◌, ◌/◌, option_map};
 ghost use Rattle.snoop_bus.specs.Asks.{awaited_by};

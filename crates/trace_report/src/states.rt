@@ -1,4 +1,5 @@
-//! What the lines of all cores are in, and which of them changed.
+//! What the lines of all cores are in, and which of them changed. They are looked at before a choice and after it: what
+//! changed is seen, and not concluded from what the choice should do.
 
 ghost use Rattle.std.specs.Prelude.{◌≡◌, ◌<◌, ◌++◌, IfOk, OnOk, length};
 ghost use Rattle.std.specs.Int.{div_ceil};

@@ -1,4 +1,4 @@
-//! What a choice did: a step of a trace.
+//! What a choice did: a step of a trace. Text and JSON are both made of it, so they can't disagree.
 
 ghost use Rattle.std.specs.Prelude.{◌≡◌};
 ghost use Rattle.tso_model.specs.FlatMachine.{chosen};

@@ -1,10 +1,12 @@
-//! What each choice on a machine did, told from the machine before it and after it.
+//! What each choice on a machine did, told from the machine before it and after it. The machine makes the choice as it
+//! would in any run; looking changes nothing.
 
 ghost use Rattle.std.specs.Prelude.{◌≡◌, ◌<◌, ◌+◌, ◌^◌, ◌++◌, IfOk, OnOk, length, drop};
 ghost use Rattle.std.specs.Option.{option_map};
 ghost use Rattle.tso_model.specs.Litmus.{IsTest};
 ghost use Rattle.tso_model.specs.Actions.{action_of};
 ghost use Rattle.tso_model.specs.FlatMachine.{chosen, core_of};
+ghost use Rattle.tso_model.specs.Runs.{stall_count};
 ghost use Rattle.machine_core.specs.Running.{machine_after, AnswerFits};
 ghost use Rattle.trace_report.specs.Shown.{shown};
 ghost use Rattle.trace_report.specs.inner.Steps.{waited_before};
@@ -14,6 +16,7 @@ ghost use Rattle.trace_report.specs.inner.Told.{IsLookedAt};
 ghost use Rattle.trace_report.specs.Told.{IsTold};
 ghost use Rattle.trace_report.specs.inner.Left.{IsLeftBy};
 ghost use Rattle.trace_report.specs.Stalls.{stalled_step};
+ghost use Rattle.trace_report.specs.inner.ToldSteps.{told_step, stalls_told};
 
 use crate::sending::{request_at, sent_on};
 use crate::states::{PlacedState, changes_in, left_by, states_of};
@@ -23,6 +26,13 @@ use protocol_tables::Protocol;
 use snoop_bus::AccessKind;
 use std::alloc::Global;
 use tso_model::{Action, Choice, Core, Entry, Instr, NoMemory, Outcome, Stall, Test};
+
+/// What is told of a choice: that it stalled and nothing else, or its step.
+#[derive(Drop)]
+pub enum Told {
+    Stalled(Stall),
+    Made(Step),
+}
 
 /// Makes a choice on a machine, and answers what it did. The states are those of the machine's lines, before it and then
 /// after it.
@@ -49,6 +59,39 @@ pub fn tell<P: Protocol>(
     // Between the two parts of a locked instruction no write of another core to its location hits.
     ensures answer { OnOk result (AnswerFits machine.old choice) }
 {
+    match tell_or_stall(alloc, machine, states, test, config, choice)? {
+        Told::Stalled(stall) => Ok(stalled_step(alloc, choice, stall)),
+        Told::Made(step) => Ok(step),
+    }
+}
+
+/// What [`tell`] answers, but no step of a choice that stalled. A run may stall at each of its choices, so it is inlined:
+/// then no step is laid out where there is none.
+///
+/// Errors: out of memory only.
+#[inline(always)]
+pub fn tell_or_stall<P: Protocol>(
+    alloc: Global,
+    machine: &mut Machine<P>,
+    states: &mut Vec<PlacedState>,
+    test: &Test,
+    config: Config,
+    choice: Choice,
+) -> Result<Told, NoMemory>
+    requires core { chosen choice < length test.now.programs }
+    requires told { IsTold test.now config machine.old states.old.items }
+    ensures step { IfOk result (λ told. told_step choice told ≡ step_of machine.old choice) }
+    ensures known { IfOk result (λ told. IsKnown test.now config.shape.words (told_step choice told)) }
+    ensures stalls { IfOk result (λ told. stalls_told told ≡ stall_count (told_step choice told).outcome) }
+    ensures after { OnOk result (machine.new ≡ machine_after machine.old choice) }
+    ensures told { OnOk result (IsTold test.now config machine.new states.new.items) }
+
+    // A stall changes nothing.
+    ensures same { IfOk result (λ told. stalls_told told ≡ 1 → machine.new ≡ machine.old) }
+
+    // Between the two parts of a locked instruction no write of another core to its location hits.
+    ensures answer { OnOk result (AnswerFits machine.old choice) }
+{
     know_test(test);
     let core = core_of(choice);
     let place = machine.place(core).unwrap_or(0);
@@ -56,7 +99,7 @@ pub fn tell<P: Protocol>(
     let request = request_at(machine.access(choice), config.words());
     let (outcome, cache_use) = machine.choose_telling(choice)?;
     if let Outcome::Stalled(stall) = outcome {
-        return Ok(stalled_step(alloc, choice, stall));
+        return Ok(Told::Stalled(stall));
     }
     let made = Made {
         choice,
@@ -66,7 +109,7 @@ pub fn tell<P: Protocol>(
     let left = left_behind(alloc, machine, states, test, config, made)?;
     let sent = sent_on(config.bus(), outcome, request, cache_use, machine.awaited());
     let wrote_back = wrote_back_by(cache_use, core, &left.changes);
-    Ok(Step {
+    Ok(Told::Made(Step {
         choice,
         outcome,
         entries: left.entries,
@@ -78,7 +121,7 @@ pub fn tell<P: Protocol>(
         wrote_back,
         changes: left.changes,
         buffer: left.buffer,
-    })
+    }))
 }
 
 /// The step of a choice that stalled.

@@ -1,4 +1,5 @@
-//! The lines of a trace.
+//! The lines of a trace: one for each choice that was used. A line tells what the choice did and nothing that stayed as it
+//! was.
 
 ghost use Rattle.std.specs.Prelude.{◌≡◌, ◌++◌, OnOk, All, IfSome, Some, codes, string_bytes};
 ghost use Rattle.std.specs.Fmt.{decimal};
@@ -124,9 +125,14 @@ fn write_choice(text: &mut String, choice: Choice) -> Result<(), NoMemory>
 }
 
 /// A number, in decimal. It goes past `write!`, which would take longer for it than the rest of a short line does.
+#[tactic(auto, using(std::proofs::lemmas::Fmt::decimal_digit))]
 fn write_number(text: &mut String, number: usize) -> Result<(), NoMemory>
     ensures { OnOk result (string_bytes text.new ≡ string_bytes text.old ++ decimal number) }
 {
+    if number < 10 {
+        text.push(char::from(b'0' + number as u8))?;
+        return Ok(());
+    }
     let mut digits = Buffer::new();
     text.push_str(digits.format(number))?;
     Ok(())

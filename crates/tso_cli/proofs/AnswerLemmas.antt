@@ -1,5 +1,5 @@
 -- From what an answer is to what it means.
-use Rattle.std.proofs.Common.{◌≡◌, ℕ, List, Result, Ok, Err, IfOk, OnOk, string_bytes, subst, sym}
+use Rattle.std.proofs.Common.{ℕ, List, Result, Ok, Err, IfOk, OnOk, string_bytes, subst, sym}
 use Rattle.tso_cli.specs.inner.Answers.{Says}
 use Rattle.tso_cli.specs.declared.answer.Answer.{Answer}
 use Rattle.tso_cli.specs.declared.answer.Status.{Status}

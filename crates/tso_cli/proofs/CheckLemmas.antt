@@ -7,7 +7,6 @@ use Rattle.tso_model.specs.Axioms.{IsWhole, IsTsoExecution}
 use Rattle.tso_model.specs.Standing.{StandsIn}
 use Rattle.tso_model.specs.Runs.{Run}
 use Rattle.tso_model.specs.FlatMachine.{program_of}
-use Rattle.tso_model.specs.declared.choice.Choice.{Choice}
 use Rattle.tso_model.specs.declared.execution.Entry.{Entry}
 use Rattle.tso_model.specs.declared.execution.Kind.{Kind}
 use Rattle.tso_model.specs.declared.execution.Kind.TheVariants.{R, W, F, LR, LW}

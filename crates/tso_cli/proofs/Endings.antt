@@ -1,5 +1,5 @@
 -- What a driven machine is left with, as the answer of a simulation.
-use Rattle.std.proofs.Common.{◌≡◌, ◌-◌, ℕ, true, List, length, is_some, refl, sym, ap, subst, ◌∙◌}
+use Rattle.std.proofs.Common.{◌≡◌, ◌-◌, ℕ, List, length, is_some, sym, ap, subst, ◌∙◌}
 use Rattle.tso_model.specs.Litmus.{Litmus, IsTest}
 use Rattle.tso_model.specs.Axioms.{IsWhole}
 use Rattle.tso_model.specs.declared.choice.Choice.{Choice}

@@ -1,5 +1,5 @@
 -- What a search answers, and what that means.
-use Rattle.std.proofs.Common.{◌≡◌, ◌∙◌, ◌↔◌, ◌≤◌, ◌<◌, ℕ, zero, suc, Bool, List, [], ◌∷◌, Some, map, length, All, Contains, slice_get, slice_index_or, refl, sym, ap, subst, arith}
+use Rattle.std.proofs.Common.{◌≡◌, ◌∙◌, ◌≤◌, ℕ, zero, suc, Bool, List, [], ◌∷◌, Some, map, length, All, Contains, slice_get, refl, sym, ap, subst, arith}
 use Rattle.std.specs.List.{AllByRecursion}
 use Rattle.std.proofs.lemmas.List.{append-nil}
 use Rattle.std.proofs.lemmas.List.Elements.{All-weaker, All-contains, All-from_recursion}
@@ -8,9 +8,8 @@ use Rattle.tso_model.specs.Limits.{most_depth}
 use Rattle.tso_model.specs.Litmus.{Litmus, IsTest}
 use Rattle.tso_model.specs.Axioms.{IsTsoExecution}
 use Rattle.tso_model.specs.FinalState.{final_words, final_registers}
-use Rattle.tso_model.specs.declared.choice.Choice.{Choice}
 use Rattle.tso_model.specs.declared.execution.Entry.{Entry}
-use Rattle.outcome_laws.specs.Outcomes.{IsEnd, LeadToEnd, IsAllowedByTso, IsAllowedSequentially, IsSequentiallyConsistent, EndsAreWhatTsoAllows, ChoicesToAnEndAreCounted}
+use Rattle.outcome_laws.specs.Outcomes.{IsEnd, LeadToEnd, IsSequentiallyConsistent, EndsAreWhatTsoAllows, ChoicesToAnEndAreCounted}
 use Rattle.explorer.specs.FinalStates.{AreReached, HaveEveryEnd}
 use Rattle.explorer.specs.declared.final_states.FinalState.{FinalState}
 use Rattle.scheduler.specs.Grammar.{SpellsChoices}
@@ -20,7 +19,7 @@ use Rattle.outcome_report.specs.Outcomes.{Outcome, outcome_of, shown_values}
 use Rattle.outcome_report.specs.Printed.{PrintsOutcomes}
 use Rattle.command_line.specs.Search.{Search}
 use Rattle.tso_cli.specs.Outcomes.{AreAllOutcomes, IsOutcomesAnswer, found, too_many}
-use Rattle.tso_cli.specs.OutcomesHeadline.{AreExactly, PrintsAllOutcomes, HeadlineOfOutcomes, all, too_many}
+use Rattle.tso_cli.specs.OutcomesHeadline.{AreExactly, HeadlineOfOutcomes, all, too_many}
 use Rattle.tso_cli.specs.SweepHeadline.{values_after}
 use Rattle.tso_cli.specs.declared.answer.Status.{Status}
 use Rattle.tso_cli.specs.declared.answer.Status.TheVariants.{Good}

@@ -1,11 +1,9 @@
 -- What `outcomes` prints, once more; and what `run` answers to its choices.
-use Rattle.std.proofs.Common.{◌≡◌, ◌∙◌, ◌≤◌, ◌↔◌, ℕ, Bool, List, map, length, All, Contains, refl, sym, ap, subst, arith}
+use Rattle.std.proofs.Common.{◌≡◌, ◌∙◌, ℕ, Bool, List, map, length, Contains, refl, ap, subst, arith}
 use Rattle.std.proofs.lemmas.List.Elements.{All-weaker, All-contains}
-use Rattle.tso_model.specs.Litmus.{Litmus, IsTest}
-use Rattle.tso_model.specs.FlatMachine.{registers_in}
+use Rattle.tso_model.specs.Litmus.{Litmus}
 use Rattle.tso_model.specs.Runs.{run}
 use Rattle.tso_model.specs.declared.bus.Bus.TheVariants.{Atomic}
-use Rattle.outcome_laws.specs.Outcomes.{LeadToEnd}
 use Rattle.litmus_reader.specs.Spelling.{SpellsTest}
 use Rattle.scheduler.specs.Printed.{printed_choices}
 use Rattle.protocol_tables.specs.declared.kind.ProtocolKind.{ProtocolKind}
@@ -19,7 +17,7 @@ use Rattle.tso_cli.specs.Answers.{IsInputAnswer, too_large, refused, answered}
 use Rattle.tso_cli.specs.OneText.{ShowTheSameStates}
 use Rattle.tso_cli.specs.Outcomes.{AreAllOutcomes, IsOutcomesAnswer, found, too_many}
 use Rattle.tso_cli.specs.Parts.{parts_of, joined}
-use Rattle.tso_cli.specs.Revisited.{ReportsValues, IsRevisited, AreRevisited}
+use Rattle.tso_cli.specs.Revisited.{IsRevisited, AreRevisited}
 use Rattle.tso_cli.specs.Runs.{counts_under}
 use Rattle.tso_cli.specs.Simulation.{shown_of}
 use Rattle.command_line.specs.declared.settings.Settings.TheVariants as settings

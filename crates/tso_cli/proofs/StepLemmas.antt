@@ -1,5 +1,5 @@
 -- From the last step of a test's trace to what is answered to an input; the status of a run that left its test.
-use Rattle.std.proofs.Common.{◌≡◌, ◌≤◌, ℕ, Bool, true, false, List, length, refl, sym, ap, ◌∙◌}
+use Rattle.std.proofs.Common.{◌≡◌, ◌≤◌, ℕ, List, length, refl}
 use Rattle.tso_model.specs.Litmus.{Litmus}
 use Rattle.tso_model.specs.Runs.{Run}
 use Rattle.litmus_reader.specs.Spelling.{SpellsTest}

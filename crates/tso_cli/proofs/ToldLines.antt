@@ -10,12 +10,16 @@ use Rattle.protocol_tables.specs.PrintedTable.{line}
 use Rattle.protocol_tables.specs.Tables.{Table}
 use Rattle.machine_core.specs.Configuration.{Configuration}
 use Rattle.machine_core.specs.Running.{Running, new_machine, machine_after}
-use Rattle.trace_report.specs.Shown.{Shown}
+use Rattle.trace_report.specs.Shown.{Shown, shown}
 use Rattle.trace_report.specs.Steps.{step_of, steps_from, trace_of}
-use Rattle.trace_report.specs.Stalls.{stalled_step, stall_line}
+use Rattle.trace_report.specs.Stalls.{stall_line}
+use Rattle.trace_report.specs.inner.ToldSteps.{told_step}
+use Rattle.trace_report.specs.declared.step.Step.{Step}
+use Rattle.trace_report.specs.declared.telling.Told.{Told}
+use Rattle.trace_report.specs.declared.telling.Told.TheVariants.{Stalled, Made}
 use Rattle.trace_report.specs.Lines.{step_line, step_lines, end_line, trace_text}
 
--- what is still to come, behind so many choices, and the text of the whole
+-- what is still to come, after so many choices, and the text of the whole
 pub record SoFar (t : Litmus) (words : ℕ) (old m : Running) (choices : List Choice) (i : ℕ) (begun text : List ℕ) : Type 0 where
   pub cores : CoresExist (length t.programs) (drop i choices)
   pub steps : i + length (steps_from m (drop i choices)) ≡ length (steps_from old choices)
@@ -39,9 +43,18 @@ one-more t words old m next choices i c step begun text after list going next_is
           ∙ (sym (ap (λ ss. text ++ step_lines t words (i + 1) ss) more) ∙ s.lines));
     }
 
--- the line of a step that stalled
-pub stalled-line : (t : Litmus) (words number : ℕ) (s : Shown) (choice : Choice) (why : Stall) → s ≡ stalled_step choice why → stall_line number choice why ≡ step_line t words number s
-stalled-line t words number s choice why is = sym (ap (step_line t words number) is)
+-- the line of a choice that stalled
+pub stall-written : (t : Litmus) (words used i : ℕ) (choice : Choice) (told : Told) (why : Stall) (text after joined : List ℕ) → joined ≡ after → after ≡ text ++ stall_line (used + 1) choice why
+    → used ≡ i → told ≡ Stalled why → joined ≡ text ++ step_line t words (i + 1) (told_step choice told)
+stall-written t words used i choice told why text after joined is writes same stalls =
+    is ∙ (writes ∙ (ap (λ n. text ++ stall_line (n + 1) choice why) same ∙ sym (ap (λ x. text ++ step_line t words (i + 1) (told_step choice x)) stalls)))
+
+-- and of one that has a step
+pub step-written : (t : Litmus) (words lines used i : ℕ) (choice : Choice) (told : Told) (step : Step) (text after joined : List ℕ) → joined ≡ after → after ≡ text ++ step_line t lines (used + 1) (shown step)
+    → lines ≡ words → used ≡ i → told ≡ Made step → joined ≡ text ++ step_line t words (i + 1) (told_step choice told)
+step-written t words lines used i choice told step text after joined is writes alike same made =
+    is ∙ (writes ∙ (ap (λ n. text ++ step_line t n (used + 1) (shown step)) alike ∙ (ap (λ n. text ++ step_line t words (n + 1) (shown step)) same
+    ∙ sym (ap (λ x. text ++ step_line t words (i + 1) (told_step choice x)) made))))
 
 -- ---- where the writing stops
 

@@ -1,4 +1,5 @@
--- The answer to an input: what is written, and the status.
+-- The answer to an input: what is written, and the status. Everything that the program promises is said of this; that each
+-- answer meets the headline is a law of it.
 use Rattle.std.specs.Prelude.{ℕ, ◌+◌, ◌<◌, ◌≤◌, ◌≡◌, Bool, if◌then◌else◌, List, length, Option, IfSome}
 use Rattle.tso_model.specs.Litmus.{Litmus}
 use Rattle.tso_model.specs.Axioms.{IsTsoExecution}
@@ -99,7 +100,7 @@ abbrev pub IsAnswer : Settings → Option (List ℕ) → List ℕ → Status →
 IsAnswer (settings.Tables kind) known out status = IsTableAnswer kind out status
 IsAnswer s known out status = IfSome known (λ input. IsInputAnswer s input out status)
 
--- how many bytes are read, at most: one more than an input may have shows that it has too many
+-- maximum number of bytes that are read: one more than an input may have shows that it has too many
 abbrev pub most_read : Settings → ℕ
 most_read (settings.Tables kind) = 0
 most_read _ = longest_input + 1

@@ -1,4 +1,4 @@
--- The lines that `check` writes.
+-- The lines that `check` writes: that an order is valid, or its first breach with the entries concerned.
 use Rattle.std.specs.Prelude.{ℕ, List, [], ◌++◌, slice_index_or, codes}
 use Rattle.std.specs.Fmt.{decimal}
 use Rattle.tso_model.specs.Litmus.{Litmus}

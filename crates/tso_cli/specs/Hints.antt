@@ -1,4 +1,5 @@
--- What is told of an answer beside it.
+-- What is told of an answer beside it, on standard error: a line of one form, or nothing. It is no part of the answer, and
+-- promises no more than its form.
 use Rattle.std.specs.Prelude.{◌≡◌, ◌⊎◌, Bool, true, false, not, ℕ, List, []}
 use Rattle.hints.specs.Hint.{IsHint}
 use Rattle.command_line.specs.declared.settings.Settings.{Settings}

@@ -1,4 +1,5 @@
--- What `check` and `witness` print of an order. (Primer, chapter 4, for the axioms.)
+-- What `check` and `witness` print of an order: that it is valid exactly where it is a TSO execution, and else its first
+-- breach; a witness choices that reach it, or the depth that it needs. (Primer, chapter 4, for the axioms.)
 use Rattle.std.specs.Prelude.{ℕ, ◌≡◌, ◌≢◌, ◌↔◌, List, length}
 use Rattle.tso_model.specs.Litmus.{Litmus}
 use Rattle.tso_model.specs.Axioms.{IsTsoExecution}

@@ -1,6 +1,6 @@
--- How long an input may be.
+-- How long an input may be, as a plain number: it bounds what is read, and the room for it.
 use Rattle.std.specs.Prelude.{ℕ}
 
--- bytes of an input, at most
+-- maximum length of an input, in bytes
 abbrev pub longest_input : ℕ
 longest_input = 1048576

@@ -1,4 +1,5 @@
--- The lines that are written where no report is.
+-- The lines that are written where no report is: refusals, with the line or the word at fault, and how far an unfinished
+-- run came.
 use Rattle.std.specs.Prelude.{ℕ, List, [], ◌++◌, codes}
 use Rattle.std.specs.Fmt.{decimal}
 use Rattle.tso_report.specs.Report.{line}

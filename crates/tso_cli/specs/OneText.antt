@@ -1,4 +1,5 @@
--- What the headline leaves open: two texts of which it holds.
+-- What the headline leaves open: two texts of which it holds. Where it leaves one text alone, nothing that is printed can
+-- go wrong unnoticed.
 use Rattle.std.specs.Prelude.{ℕ, ◌≡◌, ◌⊎◌, Bool, true, false, List, ◌++◌, length}
 use Rattle.tso_model.specs.Litmus.{Litmus}
 use Rattle.tso_model.specs.declared.choice.Choice.{Choice}

@@ -1,6 +1,6 @@
 -- What `outcomes` prints: every final state that TSO allows, and how to get there.
 -- (Primer, chapter 4, for the axioms, and chapter 3 for sequential consistency.)
-use Rattle.std.specs.Prelude.{ℕ, ◌<◌, ◌≤◌, ◌≡◌, ◌↔◌, Bool, List, length, map, All, Contains}
+use Rattle.std.specs.Prelude.{ℕ, ◌≡◌, ◌↔◌, Bool, List, length, map, All, Contains}
 use Rattle.tso_model.specs.Limits.{most_depth}
 use Rattle.tso_model.specs.Litmus.{Litmus}
 use Rattle.tso_model.specs.Axioms.{IsTsoExecution}

@@ -1,4 +1,5 @@
--- The choices that `outcomes` prints, handed to `run`.
+-- The choices that `outcomes` prints, handed to `run`: they end in the state that was printed, so every state can be seen
+-- to come up.
 use Rattle.std.specs.Prelude.{◌≡◌, ℕ, Bool, List, All, Some}
 use Rattle.tso_model.specs.Litmus.{Litmus}
 use Rattle.scheduler.specs.Printed.{printed_choices}

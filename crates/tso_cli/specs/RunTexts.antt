@@ -1,4 +1,4 @@
--- What is written of a run: lines, or a JSON value on one line.
+-- What is written of a run: lines, or a JSON value on one line. Both show the same run.
 use Rattle.std.specs.Prelude.{ℕ, Bool, true, false, List}
 use Rattle.tso_model.specs.Litmus.{Litmus}
 use Rattle.protocol_tables.specs.declared.kind.ProtocolKind.{ProtocolKind}

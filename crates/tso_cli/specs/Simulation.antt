@@ -1,4 +1,5 @@
--- What a simulation answers: the machine's run, as a report shows it.
+-- What a simulation answers: the machine's run, as a report shows it: its order, registers, memory and verdict, and its
+-- counts.
 use Rattle.std.specs.Prelude.{ℕ, zero, suc, ◌+◌, ◌≡◌, Bool, true, false, List, length, Option}
 use Rattle.std.specs.Option.{option_map}
 use Rattle.tso_model.specs.Litmus.{Litmus}

@@ -1,4 +1,5 @@
--- What a call does to a reader and a writer.
+-- What a call does to a reader and a writer: which bytes are taken, which are appended. A writer that fails has taken a
+-- beginning of the answer, and never something else.
 use Rattle.std.specs.Prelude.{ℕ, ◌≤◌, List, length, take, Option}
 use Rattle.std.specs.Io.KnownBytes.{Appends, Consumes}
 use Rattle.tso_cli.specs.declared.answer.Status.{Status}

@@ -1,4 +1,4 @@
--- The answer of `sweep`: what is counted of the runs under many seeds.
+-- The answer of `sweep`: what is counted of the runs under many seeds. Each run is one that `run` makes of `seed N M`.
 use Rattle.std.specs.Prelude.{ℕ, zero, suc, ◌+◌, ◌<◌, ◌≡◌, ◌==◌, if◌then◌else◌, List, ◌++◌, length}
 use Rattle.tso_model.specs.Litmus.{Litmus}
 use Rattle.tso_model.specs.FlatMachine.{registers_in}

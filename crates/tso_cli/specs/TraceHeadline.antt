@@ -1,4 +1,5 @@
--- What `trace` prints: what `run` prints of a run, with what each choice of that very run did.
+-- What `trace` prints: what `run` prints of a run, with what each choice of that very run did. A trace of another run would
+-- explain nothing.
 use Rattle.std.specs.Prelude.{ℕ, ◌≡◌, Bool, true, false, List, ◌++◌, length}
 use Rattle.tso_model.specs.Litmus.{Litmus}
 use Rattle.tso_model.specs.Runs.{Run, run}

@@ -1,4 +1,5 @@
--- The answer of `witness`: the choices that reach an order.
+-- The answer of `witness`: the choices that reach an order, or the depth that it needs, or its first breach. (Primer,
+-- chapter 4.)
 use Rattle.std.specs.Prelude.{ℕ, ◌≡◌, ◌<◌, ◌≤◌, Bool, List}
 use Rattle.tso_model.specs.Litmus.{Litmus}
 use Rattle.tso_model.specs.Axioms.{IsTsoExecution}

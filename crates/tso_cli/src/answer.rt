@@ -1,4 +1,5 @@
-//! The answer to an input: its size first, then the test, then the second part.
+//! The answer to an input: its size first, then the test, then the second part. What comes first in the text is judged
+//! first, so that an input with several faults gets one refusal, and always the same.
 
 ghost use Rattle.std.specs.Prelude.{Some, IfOk, string_bytes};
 ghost use Rattle.litmus_reader.specs.Reading.{refusal};

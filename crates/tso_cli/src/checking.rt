@@ -1,4 +1,5 @@
-//! The answer of `check`, and the text of a breach.
+//! The answer of `check`, and the text of a breach. `valid` and the breaches exclude each other: an order gets the one
+//! exactly where it gets none of the other. (Primer, chapter 4, for the axioms.)
 
 ghost use Rattle.std.specs.Prelude.{◌≡◌, ◌≢◌, ◌++◌, IfOk, OnOk, string_bytes, codes};
 ghost use Rattle.order_builder.specs.PrintedOrder.{printed_entry, HasLocation, IsLocationFor};

@@ -1,4 +1,5 @@
-//! A command from its streams' bytes to its status.
+//! A command from its streams' bytes to its status. The answer is made whole before its first byte is written: a command
+//! that runs out of memory has written nothing.
 
 ghost use Rattle.std.specs.Prelude.{◌≡◌, ◌+◌, ◌-◌, ◌^◌, ◌<◌, ◌≤◌, ◌↔◌, ◌⊎◌, IfOk, Err, string_bytes};
 ghost use Rattle.std.specs.Io.KnownBytes.{Keeps};
@@ -110,7 +111,7 @@ fn answer_from<R: Read>(
     Ok(Answered { input, answer })
 }
 
-/// How many bytes a command reads, at most.
+/// Maximum number of bytes that a command reads.
 fn most_read(settings: &Settings) -> usize
     ensures { result ≡ most_read settings.now }
 {

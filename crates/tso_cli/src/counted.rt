@@ -1,4 +1,5 @@
-//! Streams that count which of their calls failed.
+//! Streams that count which of their calls failed. By the counts a contract can say that a fault is told exactly where a
+//! device had one.
 
 ghost use Rattle.std.specs.Prelude.{◌≡◌, ℕ, ◌-◌, ◌<◌};
 ghost use Rattle.std.specs.Io.KnownBytes.{ReadConsumes, WriteAppends, Keeps};

@@ -1,4 +1,5 @@
-//! Laws of the commands. Each is the contract of a function that does nothing: who calls it knows it.
+//! Laws of the commands: answers meet the headline, there is one answer to an input, and what one command prints another
+//! reads. Each is the contract of a function that does nothing: who calls it knows it.
 
 ghost use Rattle.std.specs.Prelude.{◌≡◌, ◌<◌, ◌≤◌, ◌^◌, ℕ, Bool, false, List, Option, Some, length};
 ghost use Rattle.tso_model.specs.Limits.{most_depth};

@@ -1,4 +1,5 @@
-//! The commands of `tso`, from bytes to bytes.
+//! The commands of `tso`, from bytes to bytes. Streams and exit statuses come from outside, so that all of what is answered
+//! can be promised, and another program can ask for it too.
 #![tactic(auto)]
 
 pub mod answer;

@@ -1,4 +1,5 @@
-//! How a run whose trace is to be JSON left its test, or that it is too long for that.
+//! How a run whose trace is to be JSON left its test, or that it is too long for that. It is run once without its trace,
+//! before any of that is made.
 
 ghost use Rattle.std.specs.Prelude.{◌≡◌, IfOk, length};
 ghost use Rattle.tso_model.specs.Runs.{CoresExist};

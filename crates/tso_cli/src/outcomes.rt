@@ -1,4 +1,5 @@
-//! The answer of `outcomes`.
+//! The answer of `outcomes`: every final state that the flat machine can reach, or that it can reach more states than may
+//! be kept. A list with a gap must never look like a whole one.
 
 ghost use Rattle.std.specs.Prelude.{IfOk, string_bytes};
 ghost use Rattle.explorer.specs.FinalStates.{AreReached, HaveEveryEnd, HasMoreStates};

@@ -1,4 +1,4 @@
-//! The two parts of an input.
+//! The two parts of an input, before and after the dividing line, borrowed from the one copy that was read.
 
 ghost use Rattle.std.specs.Prelude.{◌≡◌, ◌<◌, ◌≤◌, length};
 ghost use Rattle.std.specs.Option.{option_map};

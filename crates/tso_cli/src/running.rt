@@ -1,4 +1,5 @@
-//! The answer of `run`.
+//! The answer of `run`: the report of a run that ended, or how far it came. Only of an ended run is an order printed, for
+//! only that is an execution of the test.
 
 ghost use Rattle.std.specs.Prelude.{◌≡◌, ◌≢◌, IfOk, OnOk, length, string_bytes};
 ghost use Rattle.tso_model.specs.Runs.{CoresExist};

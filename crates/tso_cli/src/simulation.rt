@@ -1,4 +1,5 @@
-//! Choices on a machine, until the test has ended.
+//! Choices on a machine, until the test has ended. It stops at the first moment at which it has: which choices are used,
+//! and so what is printed, must not depend on those after it.
 
 ghost use Rattle.std.specs.Prelude.{◌≡◌, ◌+◌, ◌*◌, ◌^◌, ◌<◌, false, IfOk, OnOk, length};
 ghost use Rattle.tso_model.specs.Runs.{CoresExist};
@@ -71,7 +72,7 @@ pub fn simulate(
     // The counts go by the protocol's table and the shape of the caches too.
     ensures counts { IfOk result (HasCounts (counts_under test.now protocol config choices.now)) }
 
-    // On the atomic bus an ended run took each instruction once, and drained each plain store once that was buffered.
+    // On the atomic bus an ended run took each instruction once, and drained each plain store once that was pending.
     ensures counting { config.bus ≡ Bus.Atomic → IfOk result (IsCounted test.now config.depth) }
 
     // Without buffers the order of an ended run keeps program order, without exception.

@@ -1,4 +1,5 @@
-//! The answer of `step`, which the page asks for after each choice that is made there.
+//! The answer of `step`, which the page asks for after each choice that is made there: of the trace the last step alone, so
+//! that the page needn't take in again what it has.
 
 ghost use Rattle.std.specs.Prelude.{◌≡◌, IfOk, length, string_bytes};
 ghost use Rattle.tso_model.specs.Runs.{CoresExist};

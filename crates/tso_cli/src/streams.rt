@@ -1,4 +1,5 @@
-//! Reading an input, and writing an answer.
+//! Reading an input, and writing an answer. No call is tried again after it failed, and at most one byte more than an input
+//! may have is read: that tells one that is too large.
 
 ghost use Rattle.std.specs.Prelude.{◌≡◌, ℕ, ◌+◌, ◌-◌, ◌^◌, ◌<◌, ◌≤◌, length, IfOk, OnOk};
 ghost use Rattle.std.specs.Io.KnownBytes.{Consumes, Appends, IsAtEnd};
@@ -12,10 +13,10 @@ use std::io::{Read, Write};
 use thiserror::Error;
 use tso_model::NoMemory;
 
-/// Bytes of an input, at most.
+/// Maximum length of an input, in bytes.
 pub const MAX_INPUT: usize = 1_048_576;
 
-/// How many bytes are read, at most: one more than an input may have shows that it has too many.
+/// Maximum number of bytes that are read: one more than an input may have shows that it has too many.
 pub const READ_LIMIT: usize = MAX_INPUT + 1;
 
 /// The limit of inputs is the number that the definitions have: a law, with nothing to run.

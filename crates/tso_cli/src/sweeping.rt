@@ -1,4 +1,5 @@
-//! The answer of `sweep`.
+//! The answer of `sweep`: one machine makes the runs of all seeds, each from the beginning of the test, and only their
+//! tally is kept. So room doesn't grow with the number of runs.
 
 ghost use Rattle.std.specs.Prelude.{◌≡◌, ◌<◌, ◌-◌, ◌^◌, ◌==◌, if◌then◌else◌, IfOk, OnOk, length, string_bytes};
 ghost use Rattle.tso_model.specs.Runs.{CoresExist};

@@ -1,4 +1,5 @@
-//! A run whose choices are told as they are made.
+//! A run whose choices are told as they are made: before and after each, the machine is looked at. It has a loop of its
+//! own, so that a run without a trace pays nothing for this.
 
 ghost use Rattle.std.specs.Prelude.{◌≡◌, ◌≤◌, ◌++◌, IfOk, OnOk, length, string_bytes};
 ghost use Rattle.tso_model.specs.Runs.{CoresExist, stall_count};
@@ -16,16 +17,18 @@ ghost use Rattle.tso_cli.specs.inner.Simulation.{Drives};
 use crate::laws::ended_runs_of_machines_are_executions;
 use crate::simulation::{Ending, Progress, ending_of};
 use hints::Stalls;
-use machine_core::{Choice, Config, Machine, Outcome};
+use machine_core::{Choice, Config, Machine};
 use protocol_tables::{Mesi, Moesi, Mosi, Msi, Protocol, ProtocolKind};
 use split_laws::{
     atomic_runs_are_flat_runs, attempts_lead_from_state_to_state,
     runs_on_either_bus_stop_where_they_end, what_holds_so_far_on_either_bus,
 };
 use std::alloc::Global;
-use trace_report::{Step, states_of, tell, write_end, write_stall, write_start, write_step};
+use trace_report::{
+    Told, states_of, tell_or_stall, write_end, write_stall, write_start, write_step,
+};
 use tso_laws::whole_orders_have_each_entry_once;
-use tso_model::{NoMemory, Stall, Test};
+use tso_model::{NoMemory, Test};
 
 /// What `simulate` answers, with the run's trace written: on one machine, which makes each choice once. Which choices
 /// stalled is noted for a hint.
@@ -118,46 +121,20 @@ fn drive_telling<P: Protocol>(
         if ended {
             return Ok(Progress { used, stalled });
         }
-        let step = tell(alloc, machine, &mut states, test, config, *choice)?;
+        let told = tell_or_stall(alloc, machine, &mut states, test, config, *choice)?;
         used += 1;
-        write_line(text, alloc, test, words, used, &step)?;
-        stalled += note_stall(stalls, *choice, step.outcome);
-        ended = machine.is_ended();
+        match told {
+            // A stall changes nothing, so no test ends by one.
+            Told::Stalled(reason) => {
+                write_stall(text, used, *choice, reason)?;
+                stalled += 1;
+                stalls.note(*choice, reason);
+            }
+            Told::Made(step) => {
+                write_step(text, alloc, test, words, used, &step)?;
+                ended = machine.is_ended();
+            }
+        }
     }
     Ok(Progress { used, stalled })
-}
-
-/// Notes a choice with this outcome where it stalled, and answers how many stalls that is.
-fn note_stall(stalls: &mut Stalls, choice: Choice, outcome: Outcome) -> usize
-    ensures count { result ≡ stall_count outcome }
-    ensures few { result ≤ 1 }
-{
-    match outcome {
-        Outcome::Stalled(reason) => {
-            stalls.note(choice, reason);
-            1
-        }
-        Outcome::Committed | Outcome::Buffered | Outcome::Moved | Outcome::Asked => 0,
-    }
-}
-
-/// Writes the line of a step with this number; of one that stalled nothing else is told.
-fn write_line(
-    text: &mut String,
-    alloc: Global,
-    test: &Test,
-    words: u8,
-    number: usize,
-    step: &Step,
-) -> Result<(), NoMemory>
-    requires known { IsKnown test.now words (shown step.now) }
-    requires stall { (why : Stall) → step.now.outcome ≡ Outcome.Stalled why → shown step.now ≡ stalled_step step.now.choice why }
-    ensures { OnOk result (string_bytes text.new ≡ string_bytes text.old ++ step_line test.now words number (shown step.now)) }
-{
-    match step.outcome {
-        Outcome::Stalled(stall) => write_stall(text, number, step.choice, stall),
-        Outcome::Committed | Outcome::Buffered | Outcome::Moved | Outcome::Asked => {
-            write_step(text, alloc, test, words, number, step)
-        }
-    }
 }

@@ -1,4 +1,5 @@
-//! The answer of `trace`.
+//! The answer of `trace`: what `run` answers, and with it what each choice did. Both are of one run, or the trace would
+//! explain another one.
 
 ghost use Rattle.std.specs.Prelude.{◌≡◌, true, false, IfOk, OnOk, length, string_bytes};
 ghost use Rattle.tso_model.specs.Runs.{CoresExist};

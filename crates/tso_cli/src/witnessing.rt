@@ -1,4 +1,5 @@
-//! The answer of `witness`.
+//! The answer of `witness`: the order is judged first, and only a TSO execution gets choices, which `run` follows to that
+//! very order.
 
 ghost use Rattle.std.specs.Prelude.{IfOk, string_bytes};
 ghost use Rattle.tso_model.specs.Axioms.{IsTsoExecution};

@@ -97,7 +97,7 @@ more-now d c program first words commits s i registers h e X q =
 next-within : (program : List Instr) (n : ℕ) (i : Instr) → slice_get program n ≡ Some i → n + 1 ≤ length program
 next-within program n i e = let l = slice_get_within program n i e in omega arith
 
--- a store of the core is buffered
+-- a store of the core becomes pending
 pub holds-store : (d c : ℕ) (program : List Instr) (first words : List ℕ) (commits : List Entry) (s : CoreState) (i : Instr) (e : Entry) → Holds d c program first words commits s
     → slice_get program s.place ≡ Some i → e.core.0 ≡ c → e.place ≡ s.place → e.kind ≡ W → e.loc.0 < length words → length s.pending < d
     → ((X : List Entry) → Issues c s i X (e ∷ []) s.registers)

@@ -1,4 +1,5 @@
--- Choices made along an order, and what it is that choices lead to an order.
+-- Choices made along an order, and what it is that choices lead to an order: with these, what TSO allows is shown to be in
+-- reach.
 use Rattle.std.specs.Prelude.{max, ℕ, ◌+◌, ◌-◌, ◌≡◌, true, if◌then◌else◌, List, [], ◌∷◌, ◌++◌, length, slice_index, slice_set, zero, suc}
 use Rattle.tso_model.specs.FlatMachine.{step, drain}
 use Rattle.tso_model.specs.Litmus.{Litmus}

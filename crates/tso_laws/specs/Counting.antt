@@ -1,4 +1,5 @@
--- How much there is to do in a test.
+-- How much there is to do in a test: its instructions, and its plain stores, each of which is also drained. By these
+-- numbers the choices of a run are counted, and the rounds that end it.
 use Rattle.std.specs.Prelude.{max, ℕ, ◌+◌, List, [], ◌∷◌, length}
 use Rattle.tso_model.specs.Actions.{action_of}
 use Rattle.tso_model.specs.declared.instruction.Instr.{Instr}

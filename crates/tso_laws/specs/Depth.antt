@@ -1,4 +1,5 @@
--- How deep a store buffer an order needs.
+-- How deep a store buffer an order needs: as many places as the stores that a load passes. (This project's profile; the
+-- store buffers of x86-TSO, section 3, have no bound.)
 use Rattle.std.specs.Prelude.{max, ℕ, ◌&&◌, if◌then◌else◌, List, [], ◌∷◌, filter, length}
 use Rattle.tso_model.specs.ProgramOrder.{is_before, is_load, is_store}
 use Rattle.tso_model.specs.declared.execution.Entry.{Entry}

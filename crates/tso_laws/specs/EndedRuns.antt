@@ -1,4 +1,4 @@
--- Runs that have ended, and what they leave.
+-- Runs that have ended, and what they leave: the order of their commits, and the final state of that order.
 use Rattle.std.specs.Prelude.{ℕ, ◌≡◌, true, List}
 use Rattle.tso_model.specs.Litmus.{Litmus}
 use Rattle.tso_model.specs.Axioms.{IsTsoExecution}

@@ -1,4 +1,5 @@
--- What every entry of a test's programs is.
+-- What every entry of a test's programs is: of a core, a place and a location of the test, whatever values its reads
+-- return.
 use Rattle.std.specs.Prelude.{◌<◌, ◌≡◌, ◌≢◌, length}
 use Rattle.tso_model.specs.Litmus.{Litmus}
 use Rattle.tso_model.specs.FlatMachine.{program_of}

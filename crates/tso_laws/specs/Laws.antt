@@ -1,4 +1,5 @@
--- What the laws say that are too long for a line: each is the contract of the function of the same name.
+-- What the laws say that are too long for a line: each is the contract of the function of the same name. (Primer, chapter
+-- 4; x86-TSO, section 3.)
 use Rattle.std.specs.Prelude.{ℕ, ◌+◌, ◌*◌, ◌<◌, ◌≤◌, ◌≡◌, ◌≢◌, ◌↔◌, List, length, All}
 use Rattle.tso_model.specs.Limits.{most_depth}
 use Rattle.tso_model.specs.Litmus.{Litmus, IsTest}
@@ -26,7 +27,7 @@ pub record WhatHoldsSoFar : Type 0 where
   pub in_runs : (t : Litmus) (depth : ℕ) (choices : List Choice)
       → IsTest t → SoFar t depth (run t depth choices).commits (run t depth choices).state
 
--- the choices that an ended run used, less those that stalled: one for each instruction, and where stores are buffered
+-- the choices that an ended run used, less those that stalled: one for each instruction, and with store buffers
 -- one more for each plain store
 pub record RunsAreCounted : Type 0 where
   pub buffered : (t : Litmus) (depth : ℕ) (choices : List Choice) → 0 < depth → End t depth choices

@@ -1,4 +1,4 @@
--- Orders that runs end with.
+-- Orders that runs end with: that these are exactly the TSO executions is the law that makes the machine a machine for TSO.
 use Rattle.std.specs.Prelude.{ℕ, ◌≡◌, true, List, length}
 use Rattle.tso_model.specs.Litmus.{Litmus}
 use Rattle.tso_model.specs.Runs.{run, CoresExist}

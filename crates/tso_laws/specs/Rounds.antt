@@ -1,4 +1,5 @@
--- Rounds of choices.
+-- Rounds of choices, in which each core has its turn to step and to drain: a fair schedule, under which no test goes on for
+-- ever.
 use Rattle.std.specs.Prelude.{ℕ, ◌<◌, ◌≡◌, List, [], ◌∷◌, ◌++◌, ◌⊎◌, zero, suc}
 use Rattle.tso_model.specs.FlatMachine.{step, drain}
 use Rattle.tso_model.specs.declared.choice.Choice.{Choice}

@@ -1,4 +1,4 @@
--- Values are words.
+-- Values are words: of 32 bits, in all that a run commits and leaves. Sums are taken modulo 2^32, so none gets larger.
 use Rattle.std.specs.Prelude.{List, All}
 use Rattle.tso_model.specs.Registers.{IsWord, AreRegisters}
 use Rattle.tso_model.specs.FlatMachine.{State}

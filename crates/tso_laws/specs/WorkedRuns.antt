@@ -1,4 +1,5 @@
--- Worked runs, and choices along worked orders.
+-- Orders that TSO doesn't allow, each spoiled for one part of what makes an execution: so none of these parts could be left
+-- out. (Primer, chapter 4.)
 use Rattle.std.specs.Prelude.{List, [], ◌∷◌}
 use Rattle.tso_model.specs.Thread.{entry}
 use Rattle.tso_model.specs.Examples.{loc_x, loc_y}

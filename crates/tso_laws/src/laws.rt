@@ -1,5 +1,6 @@
-//! The laws of the flat machine. A law that is too long for its clause stands in `specs/Laws.antt`, under the name of its
-//! function.
+//! The laws of the flat machine: its ended runs are TSO executions, and each TSO execution is such a run where the store
+//! buffers are deep enough. A law that is too long for its clause stands in `specs/`, under the name of its function.
+//! (Primer, chapter 4; x86-TSO, section 3.)
 
 ghost use Rattle.std.specs.Prelude.{ℕ, max, ◌≤◌, ◌≡◌, List, [], ◌∷◌};
 ghost use Rattle.tso_model.specs.Limits.{most_depth};
@@ -65,9 +66,9 @@ pub fn stalls_change_nothing()
     ensures { StallsChangeNothing }
 {}
 
-/// In an ended run the choices that didn't stall are as many as all instructions and, where stores
-/// are buffered, all plain stores together: each instruction took effect once, and each plain store
-/// was drained once.
+/// In an ended run the choices that didn't stall are as many as all instructions and, with store
+/// buffers, all plain stores together: each instruction took effect once, and each plain store was
+/// drained once.
 pub fn runs_are_counted()
     ensures { RunsAreCounted }
 {}
@@ -78,7 +79,7 @@ pub fn fair_rounds_end()
     ensures { FairRoundsEnd }
 {}
 
-/// At depth 0, where no store is buffered, the order of a run keeps every two entries of program
+/// At depth 0, where no store is ever pending, the order of a run keeps every two entries of program
 /// order, without exception: sequential consistency.
 pub fn no_buffer_no_reordering()
     ensures { (t : Litmus) (choices : List Choice) → IsTest t → KeepsAllOrder (run t 0 choices).commits }

@@ -12,7 +12,7 @@ pub All-from_map : {X Y : Type 0} (P : Y → Type 0) (f : X → Y) (xs : List X)
 All-from_map P f xs h =
     λ k d l. subst P (slice_index_or-map f xs k d (f d) l) (h k (f d) (let q = length-map xs f in omega arith))
 
--- what is said of the element at an index, whatever stands for one that isn't there
+-- what is said of the element at a place, whatever stands for one that isn't there
 pub HoldsAt-from_one : {X : Type 0} (P : X → Type 0) (xs : List X) (i : ℕ) (d : X) → i < length xs → P (get_or xs i d) → HoldsAt P xs i
 HoldsAt-from_one P [] i d l h = absurd (omega arith)
 HoldsAt-from_one P (x ∷ xs) zero d l h = λ e. h

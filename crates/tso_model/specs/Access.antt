@@ -20,7 +20,7 @@ pub data Access : Type 0 where
   Writes : Loc → Access
   Locks : Loc → Access
 
--- a plain store writes at its step where no store is buffered
+-- a plain store writes at its step where there is no store buffer
 abbrev pub store_access : ℕ → Loc → Access
 store_access zero loc = Writes loc
 store_access (suc n) loc = NoAccess

@@ -1,4 +1,5 @@
--- Propositions on a final state, and their truth.
+-- Propositions on a final state, and their truth in one state: what a litmus test asks. The quantifier has no part in that
+-- truth; it says what is asked of all final states together. (litmus7 and herd, for the form.)
 use Rattle.std.specs.Prelude.{ℕ, ◌+◌, ◌<◌, ◌==◌, ◌&&◌, ◌||◌, Bool, not, max, List, [], slice_index, slice_index_or}
 use Rattle.tso_model.specs.Registers.{index_of}
 use Rattle.tso_model.specs.declared.register.Reg.{Reg}

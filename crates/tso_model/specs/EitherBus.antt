@@ -1,4 +1,5 @@
--- The machine on either bus, and its runs. On the atomic bus each choice is made whole, as on the flat machine.
+-- The machine on either bus, and its runs. On the atomic bus each choice is made whole, as on the flat machine; so whoever
+-- stands above has one machine to speak of, and one law for both buses.
 use Rattle.std.specs.Prelude.{ℕ, ◌≡◌, ◌≢◌, Bool, true, if◌then◌else◌, List, [], ◌∷◌, length, map}
 use Rattle.tso_model.specs.Litmus.{Litmus}
 use Rattle.tso_model.specs.FlatMachine.{State, chosen, effect_of, applied, start}

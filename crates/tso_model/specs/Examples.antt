@@ -1,4 +1,5 @@
--- Worked tests, and orders of their entries.
+-- Worked tests, and orders of their entries: store buffering and its like, on which definitions can be held against what
+-- everyone knows of them. (x86-TSO, section 3; Primer, chapter 4.)
 use Rattle.std.specs.Prelude.{ℕ, List, [], ◌∷◌, None, codes}
 use Rattle.tso_model.specs.Litmus.{Litmus}
 use Rattle.tso_model.specs.Thread.{entry}

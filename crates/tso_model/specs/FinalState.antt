@@ -1,4 +1,5 @@
--- The registers and the memory that an order of a test leaves. (Primer, chapter 4.)
+-- The registers and the memory that an order of a test leaves: the last write to each location, and what the threads
+-- compute from their reads. No machine has a part in it. (Primer, chapter 4.)
 use Rattle.std.specs.Prelude.{ℕ, ◌+◌, List, [], ◌∷◌, filter, slice_index_or}
 use Rattle.tso_model.specs.Thread.{registers_after}
 use Rattle.tso_model.specs.ProgramOrder.{writes_to}

@@ -1,35 +1,36 @@
--- How large a test may be, and how deep the store buffer of a core.
+-- How large a test may be, and how deep the store buffer of a core, as plain numbers: every bound on time and room rests on
+-- these.
 use Rattle.std.specs.Prelude.{ℕ}
 
--- cores of a test, at most
+-- maximum number of cores of a test
 abbrev pub most_cores : ℕ
 most_cores = 8
 
--- locations of a test, at most
+-- maximum number of locations of a test
 abbrev pub most_locations : ℕ
 most_locations = 16
 
--- instructions of one core's program, at most
+-- maximum length of a core's program, in instructions
 abbrev pub most_instructions : ℕ
 most_instructions = 32
 
--- atoms of a condition, at most; `true` and `false` count
+-- maximum size of a condition, in atoms; `true` and `false` count
 abbrev pub most_atoms : ℕ
 most_atoms = 256
 
--- negations of a condition, and brackets of its text, that stand within one another, at most
+-- maximum nesting of a condition's negations, and of the brackets of its text
 abbrev pub most_open : ℕ
 most_open = 64
 
--- bytes of a location's name, at most
+-- maximum length of a location's name, in bytes
 abbrev pub longest_name : ℕ
 longest_name = 32
 
--- bytes of a test's name, at most
+-- maximum length of a test's name, in bytes
 abbrev pub longest_test_name : ℕ
 longest_test_name = 64
 
--- stores that the buffer of a core has room for, at least and at most
+-- minimum and maximum depth of a store buffer, in stores
 abbrev pub least_depth : ℕ
 least_depth = 1
 

@@ -1,4 +1,5 @@
--- A test, and the limits that every test keeps.
+-- A test, and the limits that every test keeps. That each location of a program has a word, and each core its registers, is
+-- part of them: without it reads would have no value. (This project's profile.)
 use Rattle.std.specs.Prelude.{ℕ, ◌<◌, ◌≤◌, ◌≡◌, ◌&&◌, Bool, IsTrue, true, not, List, [], ◌∷◌, length, Option, IfSome, All}
 use Rattle.std.specs.Option.{ForSome}
 use Rattle.std.specs.List.{list_all}

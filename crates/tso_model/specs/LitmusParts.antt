@@ -1,4 +1,5 @@
--- The test that its parts make, and how a test is stored in a proof.
+-- The test that its parts make: lists in place of vectors and strings, so that no promise depends on how they lie in
+-- memory.
 use Rattle.std.specs.Prelude.{map, string_bytes}
 use Rattle.tso_model.specs.Litmus.{Litmus}
 use Rattle.tso_model.specs.Condition.{condition_of}

@@ -1,4 +1,5 @@
--- The names that tests and locations may have.
+-- The names that tests and locations may have. A location named as a register or a word of conditions could be read in two
+-- ways, so none is.
 use Rattle.std.specs.Prelude.{ℕ, ◌==◌, ◌&&◌, ◌||◌, nat_le, Bool, false, not, List, [], ◌∷◌, length, is_some, codes}
 use Rattle.std.specs.List.{list_all, list_any}
 use Rattle.std.specs.Str.{bytes_eq}

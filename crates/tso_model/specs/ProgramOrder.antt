@@ -1,4 +1,5 @@
--- Kinds of entries, and their order in a program. (Primer, chapter 4: memory actions and program order.)
+-- Kinds of entries, and their order in a program: by place, and of a locked instruction the load part first. (Primer,
+-- chapter 4: memory actions and program order.)
 use Rattle.std.specs.Prelude.{ℕ, ◌==◌, ◌&&◌, ◌||◌, nat_lt, not, Bool, true, false, ◌≡◌}
 use Rattle.tso_model.specs.declared.execution.Entry.{Entry}
 use Rattle.tso_model.specs.declared.execution.Kind.{Kind}

@@ -1,4 +1,5 @@
--- Words, and the six general registers: their numbers and their names.
+-- Words of 32 bits, and the six general registers that litmus tests use: their numbers and their names. (Intel's manual:
+-- EAX and so on; ESP and EBP are none of them.)
 use Rattle.std.specs.Prelude.{ℕ, ◌<◌, ◌≡◌, ◌^◌, List, length, map, All, Bool, Option, Some, None, if◌then◌else◌, codes}
 use Rattle.std.specs.Str.{bytes_eq}
 use Rattle.std.specs.Char.{to_ascii_lowercase}

@@ -1,4 +1,5 @@
--- Runs of the flat machine under a list of choices, up to the first moment at which the test has ended.
+-- Runs of the flat machine under a list of choices, up to the first moment at which the test has ended. Choices after that
+-- moment have no part in the run, and are told as unused.
 use Rattle.std.specs.Prelude.{ℕ, ◌+◌, ◌<◌, ◌==◌, ◌&&◌, Bool, true, if◌then◌else◌, List, [], ◌∷◌, ◌++◌, length, suc}
 use Rattle.tso_model.specs.Litmus.{Litmus}
 use Rattle.tso_model.specs.FlatMachine.{CoreState, State, Effect, is_none_pending, effect_of, after_choice, start, chosen}

@@ -1,4 +1,5 @@
--- The order of sequential consistency. (Primer, chapter 3.)
+-- The order of sequential consistency: all of program order is kept, without the exception that TSO makes for a store and a
+-- later load. (Primer, chapter 3.)
 use Rattle.std.specs.Prelude.{ℕ, ◌<◌, ◌≡◌, true, List, Some, slice_get}
 use Rattle.tso_model.specs.ProgramOrder.{is_before}
 use Rattle.tso_model.specs.declared.execution.Entry.{Entry}

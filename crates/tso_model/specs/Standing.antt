@@ -1,4 +1,4 @@
--- Which entries stand in an order.
+-- When an entry stands in an order: at some place of it. How often it does is for the axioms to say.
 use Rattle.std.specs.Prelude.{ℕ, ◌≡◌, List, Some, slice_get}
 use Rattle.tso_model.specs.declared.execution.Entry.{Entry}
 

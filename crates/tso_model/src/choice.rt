@@ -1,4 +1,5 @@
-//! The choices of a schedule, and what may come of one.
+//! The choices of a schedule, and what may come of one. A run is decided by its choices alone, so that it can be made
+//! again; a choice that can't take effect is a stall, and changes nothing.
 
 use crate::instruction::Core;
 

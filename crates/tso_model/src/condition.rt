@@ -1,4 +1,5 @@
-//! Conditions on final states, and their truth in one state.
+//! Conditions on final states, and their truth in one state. The quantifier plays no part in that truth: one run is one
+//! state.
 ghost use Rattle.std.specs.Prelude.{◌≡◌, length};
 ghost use Rattle.tso_model.specs.Condition.{truth_of, NamesExist, claim_of};
 

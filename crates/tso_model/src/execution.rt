@@ -1,4 +1,5 @@
-//! Memory actions, and orders of them.
+//! Memory actions (entries), and orders of them: the vocabulary in which TSO is said. (Primer, chapter 4; x86-TSO, section
+//! 3.)
 
 use crate::instruction::{Core, Loc};
 

@@ -1,4 +1,5 @@
-//! Cores, locations and instructions.
+//! Cores, locations and instructions of a litmus test: straight-line programs of x86. (Intel's manual: MOV, MFENCE, XCHG,
+//! LOCK XADD.)
 
 use crate::register::Reg;
 

@@ -1,4 +1,5 @@
-//! How large a test may be, and how deep the store buffer of a core.
+//! How large a test may be, and how deep the store buffer of a core. What is larger is refused, so that counters can't
+//! overflow, and time and room have bounds that are known.
 
 ghost use Rattle.std.specs.Prelude.{◌≡◌};
 ghost use Rattle.tso_model.specs.Limits.{most_cores, most_locations, most_instructions, most_atoms, most_open};

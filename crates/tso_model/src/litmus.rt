@@ -1,4 +1,5 @@
-//! Litmus tests within the limits.
+//! Litmus tests within the limits. Whoever has a test has one whose names, numbers and lengths fit together; nothing after
+//! it tests them again.
 ghost use Rattle.std.specs.Prelude.{◌≡◌, ◌<◌, ◌≤◌, ◌↔◌, length, slice_index, slice_index_or, [], IsSome, IfSome, All};
 ghost use Rattle.std.specs.Option.{option_map};
 ghost use Rattle.tso_model.specs.Condition.{condition_of};

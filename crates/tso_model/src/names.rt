@@ -1,4 +1,5 @@
-//! The names that tests and locations may have.
+//! The names that tests and locations may have. No location may be named as a register or a word of conditions: such an
+//! atom of a condition could be read in two ways.
 ghost use Rattle.std.specs.Prelude.{◌≡◌, nat_le, length};
 ghost use Rattle.std.specs.List.{list_all};
 ghost use Rattle.tso_model.specs.Names as words;

@@ -1,4 +1,5 @@
-//! The error of a call whose growth the allocator refused.
+//! The error of a call whose growth the allocator refused. It has a type of its own, so that a call that can fail in no
+//! other way says so by its signature.
 
 use std::alloc::{AllocError, AllocFailed};
 use std::error::Error;

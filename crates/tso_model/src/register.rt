@@ -1,4 +1,4 @@
-//! The general registers, their numbers and their names.
+//! The general registers, their numbers and their names. One order of them holds wherever registers are listed.
 ghost use Rattle.std.specs.Prelude.{◌≡◌, ◌<◌};
 ghost use Rattle.tso_model.specs.Registers.{index_of, name_of, register_named};
 

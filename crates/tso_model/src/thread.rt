@@ -1,4 +1,5 @@
-//! What a core's program does, given the values that its reads return.
+//! What a core's program does, given the values that its reads return: its entries in program order, and its registers at
+//! the end. No memory has a part in it; which values those are is the memory model's to say. (x86-TSO, section 3.)
 ghost use Rattle.std.specs.Prelude.{◌≡◌, ◌<◌, ◌≤◌, ◌+◌, List, [], ◌∷◌, ◌++◌, length, IfOk, slice_index_or};
 ghost use Rattle.tso_model.specs.declared.instruction.Instr.{Instr};
 ghost use Rattle.tso_model.specs.Thread.{entry, entries_of, registers_after, reads_in, entries_with, registers_with};

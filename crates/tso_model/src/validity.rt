@@ -1,4 +1,5 @@
-//! Whether the parts of a test are within the limits.
+//! Whether the parts of a test are within the limits. A case that is missing here would let a test be made on which a core
+//! reads a location that has no word.
 ghost use Rattle.std.specs.Prelude.{◌≡◌, ◌<◌, ◌≤◌, ◌-◌, ◌↔◌, length, IsTrue, All, map, string_bytes};
 ghost use Rattle.std.specs.List.{list_all};
 ghost use Rattle.std.specs.Option.{SomeIff, ForSome, option_map};

@@ -1,4 +1,5 @@
-//! An order that counts how often an entry of it is looked at.
+//! An order that counts how often an entry of it is looked at. The count exists in contracts alone; by it a clause can say
+//! how long a check takes.
 ghost use Rattle.std.specs.Prelude.{◌≡◌, ◌+◌, ◌<◌, length, slice_get, Some};
 ghost use Rattle.tso_model.specs.inner.Watched.{watched};
 

@@ -1,5 +1,5 @@
-//! What the types of a test's parts say of their values. Nothing here tests anything: who calls one of
-//! these functions knows its clause from then on.
+//! What the types of a test's parts say of their values: each is a word of 32 bits. Nothing here tests anything: who calls
+//! one of these functions knows its clause from then on.
 
 ghost use Rattle.std.specs.Prelude.{All};
 ghost use Rattle.tso_model.specs.Registers.{IsWord, AreRegisters};

@@ -1,4 +1,5 @@
--- A report as JSON, of which the members `cache` and `machine` are left open.
+-- A report as JSON, of which the members `cache` and `machine` are left open: what else stands there no cache has a part
+-- in, on the atomic bus.
 use Rattle.std.specs.Prelude.{ℕ, List, codes}
 use Rattle.serde_json.specs.Data.{Data, object, no_members, member}
 use Rattle.serde_json.specs.Written.{compact_text}

@@ -1,4 +1,4 @@
--- How long a report is, at most.
+-- How long a report may be: whatever a run of the largest test can leave has room in it.
 use Rattle.std.specs.Prelude.{ℕ, ◌*◌, ◌-◌, ◌<◌, ◌≤◌, ◌^◌, length, All}
 use Rattle.tso_model.specs.Limits.{most_cores, most_instructions}
 use Rattle.tso_model.specs.Litmus.{Litmus}
@@ -7,11 +7,11 @@ use Rattle.order_builder.specs.Spelling.{IsOrderFor}
 use Rattle.machine_core.specs.Kept.{IsAtMost}
 use Rattle.tso_report.specs.Shown.{Shown}
 
--- bytes of a report, at most
+-- maximum length of a report, in bytes
 abbrev pub longest_report : ℕ
 longest_report = 32768
 
--- entries of an order that a run of a test leaves, at most: a locked instruction has two
+-- maximum length of an order that a run of a test leaves, in entries: a locked instruction has two
 abbrev pub most_entries : ℕ
 most_entries = 2 * (most_instructions * most_cores)
 

@@ -1,4 +1,5 @@
--- The text of a run that ended.
+-- The text of a run that ended: lines, each of which tells one thing, so that scripts can look for them by their first
+-- word.
 use Rattle.std.specs.Prelude.{ℕ, ◌+◌, Bool, true, false, List, [], ◌∷◌, ◌++◌, Option, Some, None, codes}
 use Rattle.std.specs.Fmt.{decimal}
 use Rattle.tso_model.specs.Litmus.{Litmus}

@@ -1,4 +1,4 @@
--- What a report shows of a run.
+-- What a report shows of a run. Both forms, lines and JSON, are functions of this, so they can't disagree.
 use Rattle.std.specs.Prelude.{ℕ, ◌≡◌, Bool, List, length, Option, is_some, All}
 use Rattle.tso_model.specs.Litmus.{Litmus}
 use Rattle.tso_model.specs.declared.execution.Entry.{Entry}

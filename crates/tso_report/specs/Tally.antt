@@ -1,4 +1,5 @@
--- What is counted of a sweep, the runs of one test under many lists of choices, and its text.
+-- What is counted of a sweep, the runs of one test under many lists of choices, and its text. Runs are told apart by what
+-- the test's condition names, as herd and litmus7 do it.
 use Rattle.std.specs.Prelude.{ℕ, zero, suc, ◌+◌, ◌==◌, ◌&&◌, ◌||◌, Bool, true, false, if◌then◌else◌, Option, Some, None}
 use Rattle.std.specs.Prelude.{List, [], ◌∷◌, ◌++◌, map, filter, sum, length, slice_index, slice_index_or, codes}
 use Rattle.std.specs.Fmt.{decimal}

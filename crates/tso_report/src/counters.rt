@@ -1,4 +1,5 @@
-//! The counts of a sweep's runs.
+//! The counts of a sweep's runs. Each run is counted once: by its values where it ended, and as unfinished where it didn't;
+//! one that was left out would make a rare state look rarer.
 
 ghost use Rattle.std.specs.Prelude.{◌≡◌, ◌+◌, ◌<◌, ◌^◌, ◌-◌, Bool, OnOk, OnErr, sum, is_some};
 ghost use Rattle.std.specs.Map.{values_of};

@@ -1,5 +1,5 @@
-//! Laws of reports. Each is the contract of a function that does nothing: who calls it knows it. What they say stands in
-//! `specs/Laws.antt`, under the names of the functions.
+//! Laws of reports: a printed order is read back, a report is short, and one more run raises one count. Each is the
+//! contract of a function that does nothing: who calls it knows it.
 
 ghost use Rattle.tso_report.specs.Laws.{ReportSpellsItsOrder, ReportsAreShort, OneMoreRunIsCounted};
 

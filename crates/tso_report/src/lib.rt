@@ -1,4 +1,5 @@
-//! What is printed of a run.
+//! What is printed of a run, and of many runs: texts that are functions of what a run left, so that all that is proved of
+//! the run holds of what is read.
 #![tactic(auto)]
 
 mod counters;

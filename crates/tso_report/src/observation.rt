@@ -1,4 +1,5 @@
-//! In how many final states, or runs, the condition's proposition was true and false.
+//! In how many final states, or runs, the condition's proposition was true and false: the line `Observation` of herd and
+//! litmus7.
 
 ghost use Rattle.std.specs.Prelude.{◌≡◌, ◌++◌, OnOk, string_bytes};
 ghost use Rattle.tso_report.specs.Tally.{frequency, frequency_text, observed_line};

@@ -1,4 +1,5 @@
-//! The values of a final state as they are printed, each with the register or the location that it is of.
+//! The values of a final state as they are printed, each with the register or the location that it is of: one form for a
+//! sweep's states and for those that a search found.
 
 ghost use Rattle.std.specs.Prelude.{◌≡◌, ◌++◌, OnOk, All, string_bytes, length};
 ghost use Rattle.tso_report.specs.Tally.{printed_value, printed_values};

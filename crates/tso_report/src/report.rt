@@ -1,4 +1,5 @@
-//! The report of a run, line by line.
+//! The report of a run, line by line. The order stands in it as it is read again, so that a report can be checked by
+//! itself.
 
 ghost use Rattle.std.specs.Prelude.{◌≡◌, ◌++◌, ◌∷◌, [], IfOk, OnOk, string_bytes, length, slice_index_or, Option, is_some, All};
 ghost use Rattle.order_builder.specs.PrintedOrder.{printed_order, HasWord};

@@ -1,4 +1,4 @@
-//! A run that ended, as it is reported.
+//! A run that ended, as it is reported. Nothing is kept of one that didn't: its order is no execution of the test.
 
 use machine_core::Final;
 

@@ -1,4 +1,5 @@
-//! What a sweep says of its runs: the tally of them, and its text.
+//! What a sweep says of its runs: the tally of them, and its text. It grows with the states that were seen, and not with
+//! the runs.
 
 ghost use Rattle.std.specs.Prelude.{◌≡◌, ◌+◌, ◌<◌, ◌^◌, ◌-◌, true, IfOk, OnOk, OnErr, length, string_bytes, is_some};
 ghost use Rattle.tso_report.specs.Shown.{shown};

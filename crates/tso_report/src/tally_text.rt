@@ -1,4 +1,5 @@
-//! The text of a tally: the line of the sweep, a line for each list of values, and the observation.
+//! The text of a tally: the line of the sweep, a line for each list of values in ascending order, and the observation. In
+//! which order the runs were counted has no part in it.
 
 ghost use Rattle.std.specs.Prelude.{◌≡◌, ◌+◌, ◌<◌, ◌^◌, ◌++◌, OnOk, string_bytes};
 ghost use Rattle.tso_report.specs.Tally.{looked_at, state_line, state_lines, ends_text, sweep_line, observation};

@@ -1,4 +1,5 @@
--- The line of a locked instruction that has read and not yet written.
+-- The line of a locked instruction that has read and not yet written: a load of its own core hits there, and no access of
+-- another core.
 use Rattle.std.specs.Prelude.{ℕ, ◌/◌, ◌≡◌, ◌≢◌, Bool, true, false}
 use Rattle.tso_model.specs.SplitMachine.{HeldBetween}
 use Rattle.tso_model.specs.declared.execution.Entry.{Entry}

@@ -1,4 +1,4 @@
-//! The line of a locked instruction that has read and not yet written.
+//! The line of a locked instruction that has read and not yet written: what a caller of the machine knows of it there.
 
 ghost use Rattle.std.specs.Prelude.{◌<◌, OnOk, length};
 ghost use Rattle.tso_model.specs.FlatMachine.{chosen};

@@ -1,4 +1,4 @@
-//! One set of a cache: which line leaves, and what keeps its place.
+//! One set of a cache: which line leaves, and what keeps its place, step by step as one counts by hand.
 
 use crate::named::MEMORY;
 use cache_set::{CacheSet, Line, Victim};

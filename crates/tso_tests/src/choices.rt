@@ -1,4 +1,4 @@
-//! The words of seeds, against published ones.
+//! The words of seeds, against published ones: a seed must give the same run on every machine and in every version.
 
 use rand_core::SeedableRng;
 use rand_core::utils::NextWord;

@@ -1,4 +1,4 @@
-//! How many final states tests of the literature have, with ample memory.
+//! How many final states tests of the literature have, with ample memory, against the numbers that are published.
 
 use crate::named::{MEMORY, test_of};
 use explorer::{ExploreFault, explore};

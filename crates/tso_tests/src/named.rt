@@ -1,4 +1,5 @@
-//! Cores and locations by the names that the text of a test gives them, and such a test.
+//! Cores and locations by the names that the text of a test gives them, and such a test: so a test here reads as one in a
+//! text.
 
 use litmus_reader::read_test;
 use std::alloc::Global;

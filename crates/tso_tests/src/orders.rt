@@ -1,4 +1,4 @@
-//! Orders that no text can spell, and what a breach says of itself.
+//! Orders that no text can spell, and what a breach says of itself: no row of the program can show either.
 
 use crate::named::{MEMORY, P0, X, Y, test_of};
 use axiom_checker::{Breach, check_order};

@@ -1,4 +1,4 @@
-//! A thread's entries and registers, from the values that its reads returned.
+//! A thread's entries and registers, from the values that its reads returned, with ample memory.
 
 use crate::named::{MEMORY, P0, X, test_of};
 use std::alloc::Global;

@@ -1,4 +1,4 @@
--- Where locations and lines lie, and lines in the order of their use.
+-- Where locations and lines lie, and lines in the order of their use, in caches small enough to be followed by eye.
 use Rattle.std.specs.Prelude.{ℕ, Bool, List, [], ◌∷◌, Option}
 use Rattle.tso_model.specs.declared.instruction.Core.{Core}
 use Rattle.protocol_tables.specs.declared.state.State.{State}

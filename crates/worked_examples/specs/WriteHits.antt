@@ -1,4 +1,5 @@
 -- Writes on the split bus to a line that their core has: where it may be written in place, they are committed at once.
+-- (Primer, chapters 6 and 7: a silent write in M or E.)
 use Rattle.std.specs.Prelude.{ℕ, List, [], ◌∷◌, None, codes}
 use Rattle.tso_model.specs.Litmus.{Litmus}
 use Rattle.tso_model.specs.SplitMachine.{Attempt}

@@ -1,4 +1,4 @@
-//! The access that each choice makes, and which accesses need the bus.
+//! The access that each choice makes, and which accesses need the bus: a forwarded load makes none, a hit needs none.
 
 ghost use Rattle.std.specs.Prelude.{◌≡◌, true, false, [], ◌∷◌};
 ghost use Rattle.tso_model.specs.Access.{NoAccess, Reads, Writes, Locks};

@@ -1,4 +1,5 @@
-//! The truth of propositions in one final state, and how they are counted.
+//! The truth of propositions in one final state, and how they are counted. All values there differ, so that no atom is true
+//! by chance.
 
 ghost use Rattle.std.specs.Prelude.{◌≡◌, true, false};
 ghost use Rattle.tso_model.specs.Condition.{RegClaim, LocClaim, NotClaim, AndClaim, OrClaim, atoms_in, negations_in};

@@ -1,4 +1,5 @@
-//! Which names a test and a location may have, and which a register has.
+//! Which names a test and a location may have, and which a register has: names that keep the rules, and one that breaks
+//! each of them.
 
 ghost use Rattle.std.specs.Prelude.{◌≡◌, true, false, codes, replicate, Some, None, [], ◌∷◌};
 ghost use Rattle.tso_model.specs.Names.{is_test_name, is_location_name, is_among};

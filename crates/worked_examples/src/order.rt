@@ -1,4 +1,5 @@
-//! Program order between two entries, and the one pair that may be passed.
+//! Program order between two entries, and the one pair that may be passed: a plain store by a later plain load. (Primer,
+//! chapter 4.)
 
 ghost use Rattle.std.specs.Prelude.{◌≡◌, true, false, [], ◌∷◌};
 ghost use Rattle.tso_model.specs.ProgramEntries.{read_value};

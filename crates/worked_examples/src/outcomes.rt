@@ -1,4 +1,4 @@
-//! Each outcome and each stall of the flat machine, by name: what one choice comes to after others.
+//! Each outcome and each stall of the flat machine, by name: what one choice comes to after others. (x86-TSO, section 3.)
 
 ghost use Rattle.std.specs.Prelude.{◌≡◌, true, false, [], ◌∷◌};
 ghost use Rattle.tso_model.specs.Runs.{run};

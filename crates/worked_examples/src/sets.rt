@@ -1,4 +1,5 @@
-//! What each call makes of one set, copies with their words, the most recently used first.
+//! What each call makes of one set, copies with their words, the most recently used first: a hit that kept its place, or a
+//! fill that dropped the wrong line, would show here.
 
 ghost use Rattle.std.specs.Prelude.{◌≡◌, [], ◌∷◌, Some, None};
 ghost use Rattle.protocol_tables.specs.declared.state.State.TheVariants.{S, E, M};

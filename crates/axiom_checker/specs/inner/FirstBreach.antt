@@ -1,4 +1,5 @@
--- What the steps of the check tell each other of the first breach.
+-- What the steps of the check tell each other of the first breach: it is found, or there is none and the order is a TSO
+-- execution.
 use Rattle.std.specs.Prelude.{List, Option, IfSome, IsNone}
 use Rattle.tso_model.specs.Litmus.{Litmus}
 use Rattle.tso_model.specs.Axioms.{IsTsoExecution}

@@ -1,4 +1,5 @@
--- What the programs make for given read values.
+-- What the programs make for given read values: first with zeros, which shows which entries there must be, then with the
+-- order's own.
 use Rattle.std.specs.Prelude.{ℕ, ◌+◌, List, [], ◌∷◌, ◌++◌, Option, None, if◌then◌else◌, replicate, slice_index_or, take}
 use Rattle.std.specs.Prelude.{drop}
 use Rattle.std.specs.Option.{unwrap_or}

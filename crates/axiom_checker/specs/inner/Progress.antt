@@ -1,4 +1,5 @@
--- How far the entries of each core have come: one more than the greatest rank among them.
+-- How far the entries of each core have come: one more than the greatest rank among them. An entry of a smaller rank comes
+-- too late.
 use Rattle.std.specs.Prelude.{ℕ, ◌+◌, Bool, nat_lt, if◌then◌else◌, List, max, slice_index, slice_set}
 use Rattle.tso_model.specs.ProgramOrder.{is_load, is_store, is_write}
 use Rattle.basic_laws.specs.Ranks.{rank}

@@ -1,4 +1,5 @@
--- How the checker finds the program's entry of an entry of the order.
+-- How the checker finds the program's entry of an entry of the order: no two have one slot, so one look in a table is
+-- enough.
 use Rattle.std.specs.Prelude.{ℕ, ◌+◌, ◌*◌, ◌≤◌, ◌<◌, ◌≡◌, true, List, [], ◌∷◌, Option, Some, None, slice_get}
 use Rattle.tso_model.specs.Limits.{most_instructions}
 use Rattle.basic_laws.specs.Ranks.{rank}

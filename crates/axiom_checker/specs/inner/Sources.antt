@@ -1,4 +1,5 @@
--- The write of its own program that an entry comes after.
+-- The write of its own program that an entry comes after: a load may return it while it is still pending, before memory
+-- order has it.
 use Rattle.std.specs.Prelude.{ℕ, ◌≡◌, ◌≤◌, ◌==◌, true, if◌then◌else◌, List, Option, Some, None, slice_get, slice_set}
 use Rattle.tso_model.specs.ProgramOrder.{is_before, is_write, writes_to}
 use Rattle.basic_laws.specs.Ranks.{rank}

@@ -1,4 +1,5 @@
--- What each call makes of one set's copies, and what a set always keeps.
+-- What each call makes of one set's copies, and what a set always keeps: no line twice, none in state I, no more than its
+-- ways. Of a line that stood there twice one copy would miss what is written to the other.
 use Rattle.std.specs.Prelude.{◌≡◌, ◌≢◌, ◌<◌, ◌≤◌, ℕ, nat_eq, if◌then◌else◌, ⊤, List, [], ◌∷◌, length, map, take, Option}
 use Rattle.std.specs.Prelude.{Some, None}
 use Rattle.std.specs.Option.{option_map_or}

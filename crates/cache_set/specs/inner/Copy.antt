@@ -1,4 +1,5 @@
--- A copy of a line, and what a change makes of it. Nothing else in this folder looks at its words.
+-- A copy of a line, and what a change makes of it. Nothing else in this folder looks at its words: which line gives way
+-- goes by the order of use alone.
 use Rattle.std.specs.Prelude.{ℕ, List, slice_set}
 use Rattle.protocol_tables.specs.declared.state.State.{State}
 use Rattle.cache_set.specs.declared.Line.{Line}

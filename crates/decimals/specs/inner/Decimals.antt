@@ -1,4 +1,4 @@
--- A number that digits say, where it is within a limit.
+-- A number that digits say, where it is within a limit: however many digits there are, it never wraps.
 use Rattle.std.specs.Prelude.{ℕ, nat_le, List, Option, Some, None, if◌then◌else◌}
 use Rattle.decimals.specs.Decimals.{decimal_value}
 

@@ -1,4 +1,4 @@
--- States at which nothing is left to do, and how far they are.
+-- States at which nothing is left to do, and how far they are: by the number of choices that lead there.
 use Rattle.std.specs.Prelude.{ℕ, ◌≡◌, ◌⊎◌, zero, suc, length}
 use Rattle.tso_model.specs.Litmus.{Litmus}
 use Rattle.tso_model.specs.FlatMachine.{State, after_choice}

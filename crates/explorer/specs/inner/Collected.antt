@@ -1,4 +1,5 @@
--- The final states that are collected from the snapshots of a search, as far as it has come.
+-- The final states that are collected from the snapshots of a search, as far as it has come: each once, with what it was
+-- made of.
 use Rattle.std.specs.Prelude.{ℕ, ◌≡◌, ◌<◌, true, List, Some, slice_get}
 use Rattle.tso_model.specs.Litmus.{Litmus}
 use Rattle.tso_model.specs.FlatMachine.{registers_in}

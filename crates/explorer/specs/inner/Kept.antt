@@ -1,4 +1,5 @@
--- What the search keeps from step to step.
+-- What the search keeps from step to step: whatever a choice leads to from a state that was gone through is covered by a
+-- state that is kept. Nothing else shows that no end is missed.
 use Rattle.std.specs.Prelude.{ℕ, ◌≡◌, ◌≤◌, ◌++◌, List, length, map, Some, slice_get, ◌⊎◌, All, zero, suc}
 use Rattle.tso_model.specs.Litmus.{Litmus}
 use Rattle.tso_model.specs.FlatMachine.{State, start, after_choice, step, drain}

@@ -1,8 +1,8 @@
--- How the words of a hint are shown.
+-- How the words of a hint are shown: a byte that a terminal could take for a command is shown as a question mark.
 use Rattle.std.specs.Prelude.{ℕ, ◌==◌, ◌||◌, if◌then◌else◌}
 use Rattle.tso_model.specs.Names.{is_printable}
 
--- bytes of its words, at most: six stand before them, and one after
+-- maximum length of its words, in bytes: six stand before them, and one after
 abbrev pub most_words : ℕ
 most_words = 249
 

@@ -1,4 +1,4 @@
--- The cells of a row, read from left to right.
+-- The cells of a row, read from left to right: in this order names get their numbers, and the first fault is found.
 use Rattle.std.specs.Prelude.{ℕ, ◌+◌, List, [], ◌∷◌, ◌++◌, count_by, Option, Some, None, Result, Ok, Err, nat_lt, ◌==◌}
 use Rattle.std.specs.Prelude.{if◌then◌else◌}
 use Rattle.tso_model.specs.declared.instruction.Instr.{Instr}

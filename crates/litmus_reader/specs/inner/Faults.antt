@@ -1,4 +1,4 @@
--- Readings that may fail, and what a function that reads returns.
+-- Readings that may refuse, and what a function that reads returns.
 use Rattle.std.specs.Prelude.{◌≡◌, List, Option, Some, None, Result, Ok, Err}
 use Rattle.litmus_tokens.specs.Pieces.{Piece}
 use Rattle.litmus_reader.specs.declared.fault.Fault.{Fault}

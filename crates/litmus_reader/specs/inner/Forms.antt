@@ -1,4 +1,4 @@
--- The instructions as they are spelled in cells.
+-- The instructions as they are spelled in cells: one form for each, by the operands that it takes.
 use Rattle.std.specs.Prelude.{ℕ, List, [], ◌∷◌, codes, Option, Some, None, if◌then◌else◌}
 use Rattle.tso_model.specs.Registers.{same_letters}
 use Rattle.decimals.specs.Decimals.{decimal_value}

@@ -1,4 +1,4 @@
--- The size of a text and its header line.
+-- The size of a text and its header line. The size is judged first: a text that is too large is read no further.
 use Rattle.std.specs.Prelude.{ℕ, List, length, Option, Some, None, Result, Ok, Err, nat_lt, ◌&&◌, if◌then◌else◌}
 use Rattle.std.specs.List.{list_all}
 use Rattle.tso_model.specs.Limits.{longest_test_name}

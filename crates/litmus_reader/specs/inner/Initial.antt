@@ -1,4 +1,4 @@
--- The initial state.
+-- The initial state, as it is read: its items one after the other, each refused where it gives a second value.
 use Rattle.std.specs.Prelude.{ℕ, ◌≡◌, map, ◌-◌, zero, suc, Bool, List, [], ◌∷◌, ◌++◌, length, replicate, Result, Ok}
 use Rattle.std.specs.Prelude.{Err, nat_lt, slice_index_or, slice_set, ◌==◌, ◌&&◌, if◌then◌else◌, false, ◌||◌}
 use Rattle.std.specs.List.{list_any}

@@ -1,4 +1,4 @@
--- Words of the grammar.
+-- Words of the grammar: `exists` and its like are names to the lexer, and words only where the grammar has them.
 use Rattle.std.specs.Prelude.{ℕ, List, Option, Some, None, if◌then◌else◌}
 use Rattle.std.specs.Str.{bytes_eq}
 use Rattle.litmus_tokens.specs.Pieces.{Piece}

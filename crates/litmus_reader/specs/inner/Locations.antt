@@ -1,4 +1,4 @@
--- Locations numbered by first appearance.
+-- Locations numbered by first appearance: the number of a name, and the names after it; one too many is refused there.
 use Rattle.std.specs.Prelude.{ℕ, List, Result, Ok, Err, nat_lt, if◌then◌else◌}
 use Rattle.tso_model.specs.declared.instruction.Loc.{Loc}
 use Rattle.tso_model.specs.Limits.{most_locations}

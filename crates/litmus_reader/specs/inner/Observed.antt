@@ -1,4 +1,4 @@
--- `locations [..]`, which is read and has no effect.
+-- `locations [..]`, which is read and has no effect: any bytes may stand in the brackets, so tokens begin anew after them.
 use Rattle.std.specs.Prelude.{ℕ, zero, suc, List, [], ◌∷◌, length, codes, None, Result, Ok, Err, ◌==◌, if◌then◌else◌}
 use Rattle.litmus_tokens.specs.declared.token.Stop.{Stop}
 use Rattle.litmus_tokens.specs.declared.token.Symbol.TheVariants.{OpenSquare}

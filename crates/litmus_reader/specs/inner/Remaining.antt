@@ -1,4 +1,5 @@
--- What stands after brackets, found by tokens that there are already.
+-- What stands after brackets, found by tokens that there are already: they are used as far as they go, and only where they
+-- stop within the brackets is the text cut into tokens anew.
 use Rattle.std.specs.Prelude.{◌≡◌, ℕ, List, [], ◌∷◌, ◌++◌, Option, Some, None, Result, Err, if◌then◌else◌}
 use Rattle.litmus_tokens.specs.declared.token.Stop.{Stop}
 use Rattle.litmus_tokens.specs.declared.token.Symbol.TheVariants.{CloseSquare}

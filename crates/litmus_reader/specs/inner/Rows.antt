@@ -1,4 +1,4 @@
--- The rows of the table.
+-- The rows of the table: the number of cells is judged before any cell is read, so that a missing bar is refused as such.
 use Rattle.std.specs.Prelude.{ℕ, zero, suc, List, [], length, Result, Ok, Err, nat_lt, ◌==◌, if◌then◌else◌}
 use Rattle.std.specs.List.{position_or_len, before_first, after_first}
 use Rattle.litmus_tokens.specs.declared.token.Symbol.TheVariants.{Semicolon}

@@ -1,4 +1,4 @@
--- White space and comments, as they are passed over step by step.
+-- White space and comments, as they are passed over step by step: each step leaves less, so they come to an end.
 use Rattle.std.specs.Prelude.{◌≡◌, ◌<◌, ℕ, List, [], ◌∷◌, length, Option, Some, None, Result, Ok, Err, if◌then◌else◌}
 use denote.Ref.{Bor}
 use Rattle.litmus_tokens.specs.declared.token.Stop.{Stop}

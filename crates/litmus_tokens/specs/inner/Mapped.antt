@@ -1,4 +1,4 @@
--- What a result gives, as a definition speaks of it.
+-- What a result gives, as a definition speaks of it: a view of what was found, or the same fault.
 use Rattle.std.specs.Prelude.{Result, Ok, Err}
 
 -- a result, with `view` of what was found

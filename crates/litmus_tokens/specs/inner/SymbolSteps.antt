@@ -1,4 +1,5 @@
--- A symbol by its first byte and its second, as the lexer looks for it.
+-- A symbol by its first byte and its second, as the lexer looks for it: no symbol of two bytes begins with one of a single
+-- byte, so it doesn't matter which is looked for first.
 use Rattle.std.specs.Prelude.{ℕ, List, [], ◌∷◌, Option, Some, None, ◌==◌, ◌&&◌, if◌then◌else◌}
 use Rattle.litmus_tokens.specs.declared.token.Symbol.{Symbol}
 use Rattle.litmus_tokens.specs.declared.token.Symbol.TheVariants.{Equals, Semicolon, Colon, OpenSquare, CloseSquare}

@@ -1,4 +1,5 @@
--- The stores that a core has pending, in its buffer.
+-- The stores that a core has pending, in its buffer. No buffer counts as one of depth 0 in which nothing is pending, so
+-- that one definition of a core serves both.
 use Rattle.std.specs.Prelude.{◌<◌, [], Option, None, Some}
 use Rattle.store_buffer.specs.Stores.{Stores}
 use Rattle.store_buffer.specs.inner.Stores.{stores}

@@ -1,4 +1,5 @@
--- A core of the code as the flat machine has it, and what each of its calls does.
+-- A core of the code as the flat machine has it, and what each of its calls does: an action of the flat machine, at the
+-- depth of the core's own buffer, with memory as the words that the bus shows.
 use Rattle.std.specs.Prelude.{ℕ, ◌+◌, List, [], ◌∷◌, map, filter, slice_index}
 use Rattle.tso_model.specs.Actions.{action_of}
 use Rattle.tso_model.specs.Access.{Access, access_by}
@@ -20,7 +21,7 @@ use Rattle.snoop_bus.specs.Bus.{Bus, words_of}
 use Rattle.machine_core.specs.declared.processor.Processor.{Processor}
 use Rattle.machine_core.specs.Cores.{core_state, store_of}
 
--- the entries of a core's buffered stores, and its pending stores
+-- the entries of the stores in a core's buffer, and so its pending stores
 abbrev pub entries_in : ℕ → Stores → List Entry
 entries_in core s = map (store_of core) s.items
 
@@ -58,7 +59,7 @@ drain_by core p memory = drain_of (core_state core p)
 abbrev pub own_access : Action → ℕ → Processor → Access
 own_access action core p = access_by p.stores.depth action (pending_in core p)
 
--- what a core with these buffered stores sees at a location of this memory
+-- what a core with these pending stores sees at a location of this memory
 abbrev pub seen_by : ℕ → Stores → List ℕ → Loc → ℕ
 seen_by core s memory loc = last_value (filter (writes_to loc.0) (entries_in core s)) (slice_index memory loc.0)
 

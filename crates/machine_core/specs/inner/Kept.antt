@@ -1,4 +1,5 @@
--- What the parts of a machine keep from choice to choice.
+-- What the parts of a machine keep from choice to choice, for counting: no count is larger than the number of instructions
+-- that have made their accesses. So no counter can overflow.
 use Rattle.std.specs.Prelude.{ℕ, ◌≡◌, ◌<◌, ◌≤◌, ◌+◌, ◌-◌, ◌*◌, length, All, Option, None, Some}
 use Rattle.std.specs.List.{sum_by}
 use Rattle.tso_model.specs.Limits.{most_cores, most_instructions}

@@ -1,4 +1,5 @@
--- What one who looks at a machine finds there.
+-- What one who looks at a machine finds there: a core, a pending store, a line of a set; nothing where there is no such
+-- one.
 use Rattle.std.specs.Prelude.{ℕ, Option, option_map, slice_get}
 use Rattle.std.specs.Option.{option_and_then}
 use Rattle.tso_model.specs.FlatMachine.{CoreState}

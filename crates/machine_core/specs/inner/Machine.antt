@@ -1,4 +1,5 @@
--- A machine from its parts.
+-- A machine from its parts. It keeps that choices of its test lead to its state: so what the laws say of runs holds of
+-- every machine.
 use Rattle.std.specs.Prelude.{Bool}
 use Rattle.tso_model.specs.Litmus.{Litmus}
 use Rattle.split_laws.specs.BusChoices.{IsPossibleOn}

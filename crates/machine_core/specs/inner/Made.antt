@@ -3,7 +3,7 @@ use Rattle.std.specs.Prelude.{◌≡◌, ◌≢◌, ℕ, [], true, Some}
 use Rattle.tso_model.specs.Litmus.{Litmus}
 use Rattle.tso_model.specs.FlatMachine.{start}
 use Rattle.tso_model.specs.Access.{Access, Writes}
-use Rattle.tso_model.specs.SplitMachine.{HeldBetween, BusEffect, acts}
+use Rattle.tso_model.specs.SplitMachine.{Free, HeldBetween, BusEffect, acts}
 use Rattle.tso_model.specs.EitherBus.{unheld, HitFits}
 use Rattle.tso_model.specs.declared.instruction.Loc.{Loc}
 use Rattle.tso_model.specs.declared.execution.Entry.{Entry}
@@ -18,6 +18,8 @@ use Rattle.machine_core.specs.Statistics.{Statistics, statistics_after}
 use Rattle.machine_core.specs.Kept.{PartsFitTest, IsHeldForAccess, state_in}
 use Rattle.machine_core.specs.inner.Kept.{IsTallied, statistics_in}
 use Rattle.machine_core.specs.inner.Performed.{attempt_in, flat_effect_in}
+use Rattle.machine_core.specs.inner.Turns.{by_way}
+use Rattle.machine_core.specs.declared.turn.Way.{Way}
 
 -- the parts are of this test, and it is at its beginning: nobody holds the bus, and nothing is committed or counted
 pub record AreAtStart {P : Type 0} (t : Litmus) (m : MachineParts P) : Type 0 where
@@ -41,9 +43,10 @@ LeavesLocked b core access =
     (e : Entry) (loc : Loc) → holder_of b ≡ Some (holder e.core e.loc Locked) → access ≡ Writes loc
     → hits_by (caches_of b) core access ≡ true → core ≢ e.core.0 → loc.0 ≢ e.loc.0
 
--- what a choice does that is made at once: who holds the bus stays so
-abbrev pub whole_effect_in : {P : Type 0} → Litmus → MachineParts P → Choice → BusEffect
-whole_effect_in t m choice = acts (flat_effect_in t m choice) (state_in m).holder
+-- what a choice does whose access is made this way: at once, so that who holds the bus stays so, or as what was asked for,
+-- which frees the bus
+abbrev pub effect_made_in : {P : Type 0} → Way → Litmus → MachineParts P → Choice → BusEffect
+effect_made_in way t m choice = acts (flat_effect_in t m choice) (by_way way (state_in m).holder Free)
 
 -- how a choice uses the caches
 abbrev pub use_in : {P : Type 0} → Litmus → MachineParts P → Choice → Used

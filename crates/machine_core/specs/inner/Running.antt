@@ -1,4 +1,4 @@
--- A choice on a machine, and what it leaves where memory is refused.
+-- A choice on a machine, and what it leaves where memory is refused: all as it was, and a machine that has failed.
 use Rattle.std.specs.Prelude.{◌≡◌, ◌&&◌, Bool, true, not}
 use Rattle.tso_model.specs.Runs.{has_ended}
 use Rattle.tso_model.specs.SplitMachine.{HeldBetween}

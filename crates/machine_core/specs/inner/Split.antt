@@ -1,4 +1,5 @@
--- A choice made on the parts of a machine with a split bus.
+-- A choice made on the parts of a machine with a split bus: the holder's next one, which completes, or any other, which
+-- asks, waits or acts at once. (Primer, chapter 7; this project's profile.)
 use Rattle.std.specs.Prelude.{◌≡◌, ◌<◌, ℕ, false, List}
 use Rattle.tso_model.specs.Litmus.{Litmus}
 use Rattle.tso_model.specs.Access.{Access, NoAccess, Reads, Writes, Locks}

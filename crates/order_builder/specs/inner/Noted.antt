@@ -1,4 +1,5 @@
--- What a contract sees of noted commits.
+-- What a contract sees of noted commits: the entries in their order, and how much room is left, within which no memory is
+-- taken.
 use Rattle.std.specs.Prelude.{ℕ, ◌-◌, List}
 use Rattle.std.specs.Vec.{vec_len, vec_capacity}
 use Rattle.std.specs.declared.vec.Vec.{Vec}

@@ -1,4 +1,4 @@
--- A number of an order as it is read, where it is within a limit.
+-- A number of an order as it is read, where it is within a limit: a digit more must not make it wrap.
 use Rattle.std.specs.Prelude.{ℕ, List, Option, None, if◌then◌else◌}
 use Rattle.decimals.specs.inner.Decimals.{number_up_to}
 use Rattle.order_builder.specs.Numbers.{is_number}

@@ -1,4 +1,4 @@
--- Load parts that wait for their store parts.
+-- Load parts that wait for their store parts: on a split bus entries of other cores may be committed between the two.
 use Rattle.std.specs.Prelude.{ℕ, ◌≡◌, ◌≢◌, ◌==◌, if◌then◌else◌, IsTrue, List, [], ◌∷◌, ◌++◌, Option, None, Some}
 use Rattle.tso_model.specs.Together.{put_before, put_together}
 use Rattle.tso_model.specs.declared.execution.Entry.{Entry}

@@ -1,4 +1,5 @@
--- The final states that are kept to be printed, as far as the list of them was gone through.
+-- The final states that are kept to be printed, as far as the list of them was gone through: the first of those that look
+-- alike, at their values.
 use Rattle.std.specs.Prelude.{ℕ, ◌≡◌, Bool, List, [], ◌∷◌, map, length, All, Vec, is_some, if◌then◌else◌}
 use Rattle.std.specs.Borrow.{Bor}
 use Rattle.std.specs.Ordering.{nat_cmp}

@@ -1,4 +1,4 @@
--- What the numbers of the page ask for, and what answers them.
+-- A witness is asked for at a depth within its limits: all that the answers ask of the page's numbers beforehand.
 use Rattle.command_line.specs.Limits.{HasDepth}
 use Rattle.page_exports.specs.declared.asked.Question.{Question}
 use Rattle.page_exports.specs.Asked.{settings_of}

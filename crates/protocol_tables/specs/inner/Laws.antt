@@ -1,4 +1,5 @@
--- Those laws of a protocol's table that the calls of a bus ask for one by one.
+-- Those laws of a protocol's table that the calls of a bus ask for one by one: coherence is proved from them alone,
+-- whatever the table. (Primer, chapters 6 and 7.)
 use Rattle.std.specs.Prelude.{◌≡◌, ◌⊎◌, Bool, true, false, IsTrue}
 use Rattle.protocol_tables.specs.declared.state.State.{State}
 use Rattle.protocol_tables.specs.declared.state.State.TheVariants.{I, S, E, O, M}

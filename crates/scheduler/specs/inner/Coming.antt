@@ -1,4 +1,4 @@
--- Choices that come one after the other.
+-- Choices that come one after the other: the next one, and those that come after it, be they listed or drawn from a seed.
 use Rattle.std.specs.Prelude.{◌≡◌, List, [], ◌∷◌, Option, Some, None}
 use Rattle.tso_model.specs.declared.choice.Choice.{Choice}
 

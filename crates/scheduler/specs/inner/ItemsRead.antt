@@ -1,4 +1,4 @@
--- What the reader answers for one item.
+-- What the reader answers for one item: the item with what stands after it, or its fault, and never both.
 use Rattle.std.specs.Prelude.{◌≡◌, Result, Ok, Err, MatchResult}
 use Rattle.scheduler.specs.declared.fault.ChoiceFault.{ChoiceFault}
 use Rattle.scheduler.specs.declared.item.Item.{Item}

@@ -1,4 +1,5 @@
--- Counting the plain stores of a list, by their core and their place in its program.
+-- Counting the plain stores of a list, by their core and their place in its program: as the walk over an order that finds
+-- the needed depth keeps them.
 use Rattle.std.specs.Prelude.{ℕ, ◌≡◌, ◌<◌, ◌≤◌, ◌==◌, ◌&&◌, nat_lt, List, take, filter, length, sum, slice_index_or, []}
 use Rattle.tso_model.specs.Limits.{most_instructions}
 use Rattle.tso_model.specs.ProgramOrder.{is_store}

@@ -1,4 +1,4 @@
--- How the reader goes about one item: `Grammar` and `Refusals` as functions of its words, with the room that is left.
+-- How the reader goes about one item: the grammar and the refusals as functions of its words, with the room that is left.
 use Rattle.std.specs.Prelude.{◌-◌, ◌+◌, ℕ, List, [], ◌∷◌, length, take, codes, slice_index, Option, Some, None, Result}
 use Rattle.std.specs.Prelude.{Ok, Err, ◌==◌, if◌then◌else◌}
 use Rattle.std.specs.Str.{bytes_eq}

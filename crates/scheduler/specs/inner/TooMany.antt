@@ -1,4 +1,5 @@
--- A fault that says that there are too many choices.
+-- A fault that says that there are too many choices, with its word: the one fault that also depends on how many choices
+-- came before.
 use Rattle.std.specs.Prelude.{ℕ, Option, Some, None}
 use Rattle.scheduler.specs.declared.fault.ChoiceFault.{ChoiceFault}
 use Rattle.scheduler.specs.declared.fault.ChoiceFault.TheVariants as fault

@@ -1,4 +1,5 @@
--- What the calls of a bus leave, said of its copies, and when a call is refused memory.
+-- What the calls of a bus leave, said of its copies, and when a call is refused memory. Beside an action that holds the bus
+-- only a hit may be made, and none at the line that is being written.
 use Rattle.std.specs.Prelude.{◌≡◌, ◌≢◌, ◌⊎◌, ℕ, Bool, false, IsTrue, Option, Some, None, option_map, List, []}
 use Rattle.std.specs.Prelude.{slice_get, slice_index_or}
 use Rattle.tso_model.specs.declared.instruction.Core.{Core}

@@ -6,6 +6,7 @@ use Rattle.protocol_tables.specs.Tables.{Table}
 use Rattle.cache_set.specs.inner.Copy.{copy_with}
 use Rattle.snoop_bus.specs.declared.access.Access.{Access}
 use Rattle.snoop_bus.specs.declared.access.Updated.{Updated}
+use Rattle.snoop_bus.specs.declared.hierarchy.Hierarchy.{Hierarchy}
 use Rattle.snoop_bus.specs.declared.holding.Held.{Held}
 use Rattle.tso_model.specs.Limits.{most_cores}
 use Rattle.snoop_bus.specs.Lines.{Words}
@@ -20,12 +21,12 @@ use Rattle.snoop_bus.specs.Asks.{hits}
 
 -- a core may ask for a line of memory, or hit it beside an action that holds the bus: the copies that count are
 -- coherent, and the holder's own copy is as its action has left it
-pub record IsReady (held : Option Held) (core line : ℕ) (caches : List Sets) (memory : List Words) : Type 0 where
-  pub coherent : AllCoherent (counted held caches) memory
-  pub awaited : IfSome held (IsHeld caches memory)
-  pub core_in : core < length caches
-  pub few_cores : length caches ≤ most_cores
-  pub line_in : line < length memory
+pub record IsReady (held : Option Held) (core line : ℕ) (h : Hierarchy) : Type 0 where
+  pub coherent : AllCoherent (counted held h.caches.items) h.memory.items
+  pub awaited : IfSome held (IsHeld h.caches.items h.memory.items)
+  pub core_in : core < length h.caches.items
+  pub few_cores : length h.caches.items ≤ most_cores
+  pub line_in : line < length h.memory.items
 
 -- a write access may be made whole: nobody holds the bus, or it hits
 abbrev pub MayWrite : Table → Option Held → ℕ → ℕ → List TagSets → Type 0
@@ -53,9 +54,9 @@ abbrev pub counted_words : Option Held → List Sets → List Words → ℕ → 
 counted_words held caches memory line = current_words (counted held caches) memory line
 
 -- nothing has changed, neither the caches nor memory: as where an access is out of memory
-pub record IsUnchanged (old new : List Sets) (before after : List Words) : Type 0 where
-  pub caches : new ≡ old
-  pub memory : after ≡ before
+pub record IsUnchanged (old new : Hierarchy) : Type 0 where
+  pub caches : new.caches.items ≡ old.caches.items
+  pub memory : new.memory.items ≡ old.memory.items
 
 module _ (t : Table) (held : Option Held) (core line : ℕ) where
   -- a load answered the word at this place of a line and was this access: what it leaves goes by the protocol's table

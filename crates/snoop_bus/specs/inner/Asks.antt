@@ -1,4 +1,5 @@
--- The transaction that an ask opens.
+-- The transaction that an ask opens on a split bus: what its line awaits, and the words that the bus keeps for it until the
+-- completion. (Primer, chapter 7.)
 use Rattle.std.specs.Prelude.{ℕ, Bool, List, Option, option_map}
 use Rattle.tso_model.specs.declared.instruction.Core.{Core}
 use Rattle.tso_model.specs.declared.instruction.Loc.{Loc}

@@ -1,4 +1,5 @@
--- What a bus always keeps: whole lines, as many as memory has.
+-- What a bus always keeps: the copies that count are coherent, and lines are whole, one for each line of memory. Each call
+-- rests on it and leaves it so. (Primer, chapter 2.)
 use Rattle.std.specs.Prelude.{◌≡◌, ◌*◌, ◌≤◌, ◌<◌, ℕ, List, length, replicate, Option, IfSome}
 use Rattle.std.specs.Int.{div_ceil}
 use Rattle.tso_model.specs.Limits.{most_locations, most_cores}

@@ -3,6 +3,7 @@ use Rattle.std.specs.Prelude.{◌≡◌, ◌<◌, ℕ, List, length, Option}
 use Rattle.protocol_tables.specs.Tables.{Table}
 use Rattle.snoop_bus.specs.declared.access.Access.{Access}
 use Rattle.snoop_bus.specs.declared.holding.Stage.{Stage}
+use Rattle.snoop_bus.specs.declared.hierarchy.Hierarchy.{Hierarchy}
 use Rattle.snoop_bus.specs.declared.holding.Transaction.{Transaction}
 use Rattle.snoop_bus.specs.Lines.{Words}
 use Rattle.snoop_bus.specs.CacheContents.{Accessed}
@@ -14,24 +15,23 @@ use Rattle.snoop_bus.specs.Asks.{awaited_in, completed, completed_memory}
 
 -- a core's action is at this stage of an access to a line of memory: the copies that count are coherent, the words that
 -- the bus keeps among them
-pub record IsAwaited (stage : Stage) (x : Option Transaction) (core line : ℕ) (caches : List Sets) (memory : List Words) : Type 0 where
-  pub coherent : AllCoherent (counted_in core line x caches) memory
-  pub core_in : core < length caches
-  pub some_set : 0 < length (cache_of caches core)
-  pub line_in : line < length memory
-  pub awaits : Awaits stage x (copy_at caches core line)
+pub record IsAwaited (stage : Stage) (x : Option Transaction) (core line : ℕ) (h : Hierarchy) : Type 0 where
+  pub coherent : AllCoherent (counted_in core line x h.caches.items) h.memory.items
+  pub core_in : core < length h.caches.items
+  pub some_set : 0 < length (cache_of h.caches.items core)
+  pub line_in : line < length h.memory.items
+  pub awaits : Awaits stage x (copy_at h.caches.items core line)
 
 -- the words that are due to the core: those that the bus keeps, or that are seen where it keeps none
-abbrev pub words_due : Option Transaction → ℕ → ℕ → List Sets → List Words → Words
-words_due x core line caches memory = current_words (counted_in core line x caches) memory line
+abbrev pub words_due : Option Transaction → ℕ → ℕ → Hierarchy → Words
+words_due x core line h = current_words (counted_in core line x h.caches.items) h.memory.items line
 
 -- the completion: what access it is, and the lines and states after it
 abbrev pub completion_at : Table → Option Transaction → ℕ → ℕ → List Sets → Accessed
 completion_at t x core line caches = completed t core line (awaited_in x) (tags_of caches)
 
-module _ (t : Table) (x : Option Transaction) (core line : ℕ) (old new : List Sets) (before after : List Words) where
-  -- an access was completed and was this one: what is left goes by the protocol's table
-  pub record Completes (access : Access) : Type 0 where
-    pub access_is : access ≡ (completion_at t x core line old).access
-    pub tags : tags_of new ≡ (completion_at t x core line old).caches
-    pub memory : after ≡ completed_memory t core line (awaited_in x) old before
+-- an access was completed and was this one: what is left goes by the protocol's table
+pub record Completes (t : Table) (x : Option Transaction) (core line : ℕ) (old new : Hierarchy) (access : Access) : Type 0 where
+  pub access_is : access ≡ (completion_at t x core line old.caches.items).access
+  pub tags : tags_of new.caches.items ≡ (completion_at t x core line old.caches.items).caches
+  pub memory : new.memory.items ≡ completed_memory t core line (awaited_in x) old.caches.items old.memory.items

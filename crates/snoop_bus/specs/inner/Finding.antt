@@ -1,4 +1,5 @@
--- What one walk over the caches finds of a line that a core asks for.
+-- What one walk over the caches finds of a line that a core asks for: of several copies that supply it the first one's
+-- words are taken, which is as good as any, since all copies are equal.
 use Rattle.std.specs.Prelude.{ℕ, true, false, replicate, slice_set, Some, None, if◌then◌else◌}
 use Rattle.std.specs.Option.{option_or}
 use Rattle.protocol_tables.specs.declared.state.Snoop.{Snoop}

@@ -1,4 +1,5 @@
--- What a bus keeps while an action holds it.
+-- What a bus keeps while an action holds it: from the ask on the words that it keeps count as the holder's copy, so that
+-- coherence holds between the two halves of an access too. (Primer, chapter 7.)
 use Rattle.std.specs.Prelude.{◌≡◌, ◌≢◌, ◌<◌, ◌/◌, ◌==◌, ◌⊎◌, if◌then◌else◌, ℕ, List, length, Option, Some, None}
 use Rattle.tso_model.specs.declared.instruction.Core.{Core}
 use Rattle.tso_model.specs.declared.instruction.Loc.{Loc}

@@ -1,4 +1,4 @@
--- The tags of a set once no line is dirty.
+-- The tags of a set once no line is dirty: M and O are S, and the order of last use is as it was.
 use Rattle.std.specs.Prelude.{map}
 use Rattle.protocol_tables.specs.declared.state.State.{State}
 use Rattle.protocol_tables.specs.declared.state.State.TheVariants.{I, S, E, O, M}

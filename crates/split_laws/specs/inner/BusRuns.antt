@@ -1,4 +1,4 @@
--- Where runs on either bus stop, and what a stall changes.
+-- Where runs on either bus stop, and what a stall changes: nothing, not even who holds the bus.
 use Rattle.std.specs.Prelude.{ℕ, ◌+◌, ◌<◌, ◌≡◌, true, false, List, [], length, take}
 use Rattle.tso_model.specs.Litmus.{Litmus}
 use Rattle.tso_model.specs.FlatMachine.{start}

@@ -1,4 +1,4 @@
--- What is pending at a core.
+-- What is pending at a core: plain stores of its own, and nothing else.
 use Rattle.std.specs.Prelude.{ℕ, ◌≡◌, Some, slice_get}
 use Rattle.tso_model.specs.FlatMachine.{State, core_of}
 use Rattle.tso_model.specs.declared.execution.Entry.{Entry}

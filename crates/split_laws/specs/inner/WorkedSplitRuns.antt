@@ -1,4 +1,4 @@
--- Choices and orders of the worked runs on the split bus.
+-- Choices and orders of the worked runs on the split bus, some of which break a premise on purpose.
 use Rattle.std.specs.Prelude.{List, [], ◌∷◌, ◌++◌}
 use Rattle.tso_model.specs.FlatMachine.{step, drain}
 use Rattle.tso_model.specs.Litmus.{Litmus}

@@ -1,4 +1,4 @@
--- The two ends of a text in brackets.
+-- The two ends of a text in brackets, which has them only where it would be read in another way without.
 use Rattle.std.specs.Prelude.{ℕ, Bool, true, false, List, [], codes}
 
 abbrev pub opening : Bool → List ℕ

@@ -1,4 +1,4 @@
--- A machine that is shown.
+-- A machine that is shown: it has a word for each location that its test names.
 use Rattle.std.specs.Prelude.{ℕ, ◌≡◌, length, List, Option, Some, None}
 use Rattle.tso_model.specs.Litmus.{Litmus}
 use Rattle.machine_core.specs.Configuration.{Configuration}

@@ -1,4 +1,4 @@
--- The members of a step's value, in two parts.
+-- The members of a step's value, in two parts, as the code puts them together.
 use Rattle.std.specs.Prelude.{ℕ, map, option_map, codes}
 use Rattle.serde_json.specs.Data.{Data, boolean, string, Members, no_members, member, put}
 use Rattle.tso_model.specs.Litmus.{Litmus}

@@ -1,4 +1,4 @@
--- What a choice left, as it is looked at after the choice.
+-- What a choice left, as it is looked at after the choice: what is new there, beside how many entries there were before.
 use Rattle.std.specs.Prelude.{ℕ, ◌≡◌, List, ◌++◌, length, drop}
 use Rattle.std.specs.Option.{option_map}
 use Rattle.tso_model.specs.FlatMachine.{core_of, chosen}

@@ -1,11 +1,9 @@
--- What each choice of a run did. It is told from the machine before the choice, the machine after it, and what the choice had to
--- do with the caches. (This project's profile, after the tables of Primer, chapters 6 and 7.)
+-- How many stores were pending before a choice, told from after it: so no copy of a buffer has to be kept.
 use Rattle.std.specs.Prelude.{ℕ, ◌+◌, ◌-◌}
 use Rattle.tso_model.specs.declared.choice.Choice.{Choice}
 use Rattle.tso_model.specs.declared.choice.Choice.TheVariants.{Step, Drain}
 use Rattle.tso_model.specs.declared.choice.Outcome.{Outcome}
 use Rattle.tso_model.specs.declared.choice.Outcome.TheVariants.{Committed, Buffered, Asked, Stalled}
-use Rattle.trace_report.specs.declared.step.Moved.{Moved}
 use Rattle.tso_model.specs.declared.choice.Outcome.TheVariants as out
 
 -- of a choice with this outcome that left so many stores pending, how many waited before it

@@ -1,4 +1,4 @@
--- A machine whose choices are told.
+-- A machine whose choices are told, with the size of its lines: a line's number says something only with it.
 use Rattle.std.specs.Prelude.{ℕ, ◌≡◌, ◌<◌}
 use Rattle.tso_model.specs.Litmus.{Litmus}
 use Rattle.machine_core.specs.Running.{Running}

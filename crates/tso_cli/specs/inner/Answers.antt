@@ -1,4 +1,4 @@
--- What one answer says: its bytes and its status.
+-- What one answer says: its bytes and its status, apart from what else the code keeps of it for a hint.
 use Rattle.std.specs.Prelude.{ℕ, ◌≡◌, Bool, List, string_bytes}
 use Rattle.tso_model.specs.Litmus.{Litmus}
 use Rattle.tso_model.specs.declared.choice.Choice.{Choice}

@@ -1,4 +1,4 @@
--- What a breach needs to be printed.
+-- What a breach needs to be printed: its locations are among the test's, so that each has a name.
 use Rattle.tso_model.specs.Litmus.{Litmus}
 use Rattle.order_builder.specs.PrintedOrder.{HasLocation, IsLocationFor}
 use Rattle.axiom_checker.specs.declared.breach.Breach.{Breach}

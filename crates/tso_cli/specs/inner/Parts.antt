@@ -1,4 +1,4 @@
--- How long a line is at which an input is separated.
+-- How long a line is at which an input is separated, with its line feed: the second part begins right after it.
 use Rattle.std.specs.Prelude.{ℕ, suc, ◌==◌, if◌then◌else◌, List, [], ◌∷◌}
 
 -- how many bytes the first line has, its line feed included

@@ -1,4 +1,4 @@
--- A run as the machine makes it, with the answers of its caches.
+-- A run as the machine makes it, with the answers of its caches, beside the run of the definitions: they are the same run.
 use Rattle.std.specs.Prelude.{◌≡◌, true, List}
 use Rattle.tso_model.specs.Litmus.{Litmus}
 use Rattle.tso_model.specs.Runs.{Run}

@@ -1,5 +1,6 @@
--- What drives a machine along choices, and what is known of it after them.
-use Rattle.std.specs.Prelude.{ℕ, ◌+◌, ◌≡◌, true, false, List, ◌++◌, length}
+-- What drives a machine along choices, and what is known of it after them: state, commits and statistics are those of the
+-- run under these choices.
+use Rattle.std.specs.Prelude.{ℕ, ◌≡◌, true, false, List, ◌++◌, length}
 use Rattle.tso_model.specs.Litmus.{Litmus}
 use Rattle.tso_model.specs.FlatMachine.{registers_in}
 use Rattle.tso_model.specs.Together.{put_together}

@@ -1,4 +1,4 @@
--- The last step of a trace of a test.
+-- The last step of a trace of a test: a refusal is that of the whole trace, and so is the status.
 use Rattle.std.specs.Prelude.{ℕ, true, List, length}
 use Rattle.tso_model.specs.Litmus.{Litmus}
 use Rattle.tso_model.specs.declared.choice.Choice.{Choice}

@@ -1,4 +1,4 @@
--- What is said of each protocol with the same table.
+-- What is said of each protocol with the same table: a machine knows its table, and an answer names its protocol.
 use Rattle.std.specs.Prelude.{◌≡◌}
 use Rattle.protocol_tables.specs.Tables.{Table, table_of}
 use Rattle.protocol_tables.specs.declared.kind.ProtocolKind.{ProtocolKind}

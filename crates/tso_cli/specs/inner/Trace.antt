@@ -1,4 +1,4 @@
--- What is taken of a simulation for a trace.
+-- What is taken of a simulation for a trace: how the run left its test, or the first choice that is too many for JSON.
 use Rattle.std.specs.Prelude.{ℕ, true, List, length}
 use Rattle.tso_model.specs.Litmus.{Litmus}
 use Rattle.tso_model.specs.declared.choice.Choice.{Choice}

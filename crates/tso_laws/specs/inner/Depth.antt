@@ -1,4 +1,4 @@
--- The depth that an order is asked for.
+-- The depth that an order is asked for by each of its entries: the greatest of these is what it needs.
 use Rattle.std.specs.Prelude.{ℕ, if◌then◌else◌, List, length}
 use Rattle.tso_model.specs.ProgramOrder.{is_load, is_store}
 use Rattle.tso_model.specs.declared.execution.Entry.{Entry}

@@ -1,4 +1,4 @@
--- Where a run stops.
+-- Where a run stops: at the first moment at which the test has ended, so choices after that one have no part in it.
 use Rattle.std.specs.Prelude.{ℕ, ◌+◌, ◌<◌, ◌≡◌, true, false, List, [], length, take}
 use Rattle.tso_model.specs.Litmus.{Litmus}
 use Rattle.tso_model.specs.FlatMachine.{State, start, effect_of, after_choice}

@@ -1,4 +1,4 @@
--- Choices along worked orders, and small tests with theirs.
+-- Choices along worked orders, and small tests with theirs, some of which break a premise on purpose.
 use Rattle.std.specs.Prelude.{List, [], ◌∷◌, ◌++◌, None, codes}
 use Rattle.tso_model.specs.FlatMachine.{step, drain}
 use Rattle.tso_model.specs.Litmus.{Litmus}

@@ -1,4 +1,5 @@
--- What a contract sees of an order whose looks are counted.
+-- What a contract sees of an order whose looks are counted: the order, and the count, by which a bound on a check's time is
+-- said.
 use Rattle.std.specs.Prelude.{ℕ, List}
 use Rattle.tso_model.specs.declared.execution.Entry.{Entry}
 

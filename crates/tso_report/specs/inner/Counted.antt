@@ -1,4 +1,5 @@
--- How a tally keeps its counts.
+-- How a tally keeps its counts: ascending lists of values with a count each, and the runs that didn't end beside them, so
+-- that all runs are counted somewhere.
 use Rattle.std.specs.Prelude.{ℕ, ◌≡◌, ◌+◌, ◌<◌, ◌^◌, Bool, List, map, sum, Vec, if◌then◌else◌}
 use Rattle.std.specs.Map.{values_of}
 use Rattle.std.specs.declared.alloc.Global.{Global}

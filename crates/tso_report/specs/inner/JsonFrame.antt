@@ -1,4 +1,4 @@
--- The members of a report that the caches have no part in.
+-- The members of a report that the caches have no part in: two machines on the atomic bus have these alike.
 use Rattle.serde_json.specs.Data.{string}
 use Rattle.tso_model.specs.Litmus.{Litmus}
 use Rattle.tso_report.specs.Shown.{Shown}

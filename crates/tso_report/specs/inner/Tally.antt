@@ -1,4 +1,4 @@
--- What a tally of the code holds, and one more run in it.
+-- What a tally of the code holds, and one more run in it: only its values and its verdict are looked at.
 use Rattle.std.specs.Prelude.{ℕ, ◌≡◌, ◌<◌, Bool, Option, List, ◌++◌, filter}
 use Rattle.tso_model.specs.Litmus.{Litmus}
 use Rattle.tso_model.specs.Condition.{Condition}

@@ -1,4 +1,4 @@
--- What a choice on a split bus comes to.
+-- What a choice on a split bus comes to, written out by constructors and numerals alone.
 use Rattle.std.specs.Prelude.{List}
 use Rattle.tso_model.specs.FlatMachine.{CoreState}
 use Rattle.tso_model.specs.SplitMachine.{Holder, BusEffect}

@@ -1,21 +1,25 @@
 use Rattle.std.proofs.Common.{◌≡◌, ◌<◌, ap, sym, length, drop, subst, All}
 use Rattle.std.proofs.lemmas.List.Elements.{All-drop}
 use Rattle.snoop_bus.specs.Bus.{words_of}
+use Rattle.tso_model.specs.Access.{drain_access}
 use Rattle.tso_model.specs.declared.choice.Stall.TheVariants as stall
 use Rattle.machine_core.specs.Cores.{core_state}
-use Rattle.machine_core.specs.inner.Cores.{drain_by}
+use Rattle.machine_core.specs.inner.Cores.{pending_in, drain_by}
+use Rattle.machine_core.specs.inner.Performed.{MayMake}
 use Rattle.machine_core.proofs.CoreLemmas.{drain_of-nothing}
-use Rattle.machine_core.proofs.ActedLemmas.{acts-stalls, acts-drains}
-use Rattle.machine_core.specs.inner.Performed.{MayAct}
-use Rattle.machine_core.proofs.Acting.{writes-oldest}
+use Rattle.machine_core.proofs.ActedLemmas.{whole-none, acts-stalls, acts-drains}
+use Rattle.machine_core.proofs.Acting.{writes-nothing, writes-oldest}
 use Rattle.machine_core.proofs.Finishing.{All-got}
 use Rattle.machine_core.proofs.processor.drain.Goals as goal
 
 pub returns-in-None-clause-acts : goal.returns-in-None-clause-acts
 returns-in-None-clause-acts g c =
     let p = c.args.processor.now in
-    acts-stalls c.args.core.0 p c.args.bus.now c.args.commits.now (drain_by c.args.core.0 p (words_of c.args.bus.now)) stall.Empty
-    (sym (drain_of-nothing c.args.core.0 (core_state c.args.core.0 p) p.stores.items (sym c.in-None.ensures)))
+    let core = c.args.turn.core.0 in
+    let access = drain_access (pending_in core p) in
+    let whole = whole-none c.args.turn c.args.bus.now access (writes-nothing core p.stores.items (sym c.in-None.ensures)) c.requires.free in
+    acts-stalls c.args.turn.way access core p c.args.bus.now c.args.commits.now (drain_by core p (words_of c.args.bus.now)) stall.Empty whole
+    (sym (drain_of-nothing core (core_state core p) p.stores.items (sym c.in-None.ensures)))
 
 pub returns-in_ok-access-in-Some-clause-stores : goal.returns-in_ok-access-in-Some-clause-stores
 returns-in_ok-access-in-Some-clause-stores g c =
@@ -25,14 +29,14 @@ returns-in_ok-access-in-Some-clause-stores g c =
 
 pub returns-in_ok-access-in-Some-clause-acts : goal.returns-in_ok-access-in-Some-clause-acts
 returns-in_ok-access-in-Some-clause-acts g c =
-    acts-drains c.args.core.0 c.args.processor.now c.take_oldest.new.self c.args.bus.now c.write.new.bus c.args.commits.now c.write.new.commits c.in-Some.store _
-    c.in-Some.ensures (ap (λ s. s.items) c.take_oldest.ensures.rest) c.in_ok-access-in-Some.ensures.stored c.in_ok-access-in-Some.ensures.caches
+    acts-drains c.args.turn c.args.processor.now c.take_oldest.new.self c.args.bus.now c.write.new.bus c.args.commits.now c.write.new.commits c.in-Some.store _
+    c.in-Some.ensures (ap (λ s. s.items) c.take_oldest.ensures.rest) c.in_ok-access-in-Some.ensures.stored c.in_ok-access-in-Some.ensures.made
 
 pub write-requires : goal.write-requires
 write-requires g c = record {
   access = record {
     core = c.requires.core;
-    free = subst (MayAct c.args.bus.now c.args.core.0) (sym (writes-oldest c.args.core.0 c.args.processor.now.stores.items c.in-Some.store c.in-Some.ensures)) c.requires.free;
+    free = subst (MayMake c.args.turn c.args.bus.now) (sym (writes-oldest c.args.turn.core.0 c.args.processor.now.stores.items c.in-Some.store c.in-Some.ensures)) c.requires.free;
     known = All-got (λ s. s.loc.0 < length (words_of c.args.bus.now)) c.args.processor.now.stores.items 0 c.in-Some.store c.requires.stores (sym c.in-Some.ensures);
   };
 }

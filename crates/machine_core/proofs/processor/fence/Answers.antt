@@ -1,8 +1,10 @@
-use Rattle.std.proofs.Common.{sym}
+use Rattle.std.proofs.Common.{refl, sym}
+use Rattle.tso_model.specs.Access.{NoAccess}
 use Rattle.tso_model.specs.declared.choice.Stall.TheVariants as stall
 use Rattle.snoop_bus.specs.Bus.{words_of}
 use Rattle.machine_core.specs.Cores.{core_state}
 use Rattle.machine_core.specs.inner.Cores.{fence_by}
+use Rattle.machine_core.specs.declared.turn.Way.TheVariants.{Whole}
 use Rattle.machine_core.proofs.CoreLemmas.{holds_some, fenced-waits}
 use Rattle.machine_core.proofs.ActedLemmas.{acts-stalls}
 use Rattle.machine_core.proofs.processor.fence.Goals as goal
@@ -10,5 +12,5 @@ use Rattle.machine_core.proofs.processor.fence.Goals as goal
 pub returns-then-not-is_empty-clause-acts : goal.returns-then-not-is_empty-clause-acts
 returns-then-not-is_empty-clause-acts c = λ bus.
     let p = c.args.processor.now in
-    acts-stalls c.args.core.0 p bus c.args.commits.now (fence_by c.args.core.0 p (words_of bus)) stall.Fence
+    acts-stalls Whole NoAccess c.args.core.0 p bus c.args.commits.now (fence_by c.args.core.0 p (words_of bus)) stall.Fence refl
     (sym (fenced-waits c.args.core.0 (core_state c.args.core.0 p) p.stores.items (holds_some c.is_empty.result p.stores.items c.is_empty.ensures.1 c.if-not-is_empty.true)))

@@ -5,7 +5,7 @@ use Rattle.tso_model.specs.declared.execution.Kind.TheVariants.{R}
 use Rattle.scheduler.proofs.depth.needed.Goals.{in-R, in-W, in-F}
 use Rattle.scheduler.proofs.depth.needed.Goals as goal
 
--- what an index out of range would read
+-- what a place out of range would read
 abbrev none : Entry
 none = record { core = record { 0 = 0 }; place = 0; kind = R; loc = record { 0 = 0 }; value = 0 }
 

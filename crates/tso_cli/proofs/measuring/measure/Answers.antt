@@ -1,6 +1,4 @@
-use Rattle.std.proofs.Common.{ℕ}
-use Rattle.tso_cli.specs.Runs.{run_under, counts_under}
-use Rattle.tso_cli.specs.Simulation.{IsEndingOf}
+use Rattle.tso_cli.specs.Runs.{run_under}
 use Rattle.tso_cli.proofs.TraceLengths.{is-too-long, is-short}
 use Rattle.tso_cli.proofs.measuring.measure.Goals as goal
 

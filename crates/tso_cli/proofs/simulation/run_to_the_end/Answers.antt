@@ -1,4 +1,4 @@
-use Rattle.std.proofs.Common.{arith, ◌≡◌, ap, ◌∙◌}
+use Rattle.std.proofs.Common.{arith, ap, ◌∙◌}
 use Rattle.tso_cli.specs.Runs.{AnswersFitBy}
 use Rattle.tso_cli.proofs.SimulationLemmas.{answers-fit}
 use Rattle.tso_cli.proofs.Endings.{Laws, IsLeftOf, ending-is, ending-fits, ending-counts}

@@ -1,4 +1,4 @@
-use Rattle.std.proofs.Common.{◌≢◌, true}
+use Rattle.std.proofs.Common.{◌≢◌}
 use Rattle.scheduler.specs.declared.fault.ChoiceFault.TheVariants as faults
 use Rattle.tso_cli.specs.declared.answer.Status.TheVariants.{Refused}
 use Rattle.tso_cli.specs.Lines.{choices_refusal}

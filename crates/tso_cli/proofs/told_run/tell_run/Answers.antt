@@ -1,4 +1,4 @@
-use Rattle.std.proofs.Common.{arith, ◌≡◌, ◌-◌, ◌∙◌, ap, refl, sym, subst, length, string_bytes}
+use Rattle.std.proofs.Common.{◌-◌, ◌∙◌, ap, refl, sym, subst, length, string_bytes}
 use Rattle.trace_report.specs.Told.{IsTraced}
 use Rattle.trace_report.proofs.Traced.{traced-first}
 use Rattle.tso_cli.specs.Runs.{AnswersFitBy}

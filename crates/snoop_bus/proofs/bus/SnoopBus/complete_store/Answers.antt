@@ -1,5 +1,4 @@
 use Rattle.std.proofs.Common.{rules, ◌≡◌, ◌/◌, Some, length}
-use Rattle.std.proofs.lemmas.List.{with_items_is}
 use Rattle.snoop_bus.specs.declared.holding.Stage.TheVariants.{Write}
 use Rattle.snoop_bus.specs.Held.{counted_in}
 use Rattle.snoop_bus.specs.inner.Held.{held_by}
@@ -11,26 +10,21 @@ use Rattle.snoop_bus.proofs.bus.SnoopBus.complete_store.Goals as goal
 
 pub returns-clause-words : goal.returns-clause-words
 returns-clause-words g c =
-    let held = holds c.self.inside.caches.items c.self.inside.memory.items c.self.inside.shape c.self.inside.locations c.args.core c.args.loc Write c.self.inside.held (rw (← c.self.view_is) at c.requires.holds) c.self.invariant.awaited c.self.invariant.placed in
+    let held = holds c.self.inside.hierarchy.caches.items c.self.inside.hierarchy.memory.items c.self.inside.shape c.self.inside.locations c.args.core c.args.loc Write c.self.inside.held (rw (← c.self.view_is) at c.requires.holds) c.self.invariant.awaited c.self.invariant.placed in
     let some : c.self.inside.held ≡ Some c.unwrap-held.result = search rules in
     let same : c.unwrap-held.result ≡ held_by c.args.core c.args.loc Write (c.args.loc.0 / c.self.inside.shape.words) held.0 = cc (some, held.1.held_is) in
-    let cs = with_items_is c.self.inside.caches c.complete_store.new.caches (search rules) in
-    let ms = with_items_is c.self.inside.memory c.complete_store.new.memory (search rules) in
-    let sets = rw (c.deref_mut.ensures.value, c.deref_mut-2.ensures.value, c.target_of-target.ensures.value, same) at c.in_ok-access.ensures.words in
-    rw (← c.self.view_is, cs, ms, held.1.held_is)
-    (words-set c.self.inside.shape.words c.self.inside.locations (length c.self.inside.memory.items) (current_words (counted_in c.args.core.0 (c.args.loc.0 / c.self.inside.shape.words) held.0 c.self.inside.caches.items) c.self.inside.memory.items) (current_words c.complete_store.new.caches c.complete_store.new.memory) c.args.loc.0 c.args.value
+    let sets = rw (c.target_of-target.ensures.value, same) at c.in_ok-access.ensures.words in
+    rw (← c.self.view_is, held.1.held_is)
+    (words-set c.self.inside.shape.words c.self.inside.locations (length c.self.inside.hierarchy.memory.items) (current_words (counted_in c.args.core.0 (c.args.loc.0 / c.self.inside.shape.words) held.0 c.self.inside.hierarchy.caches.items) c.self.inside.hierarchy.memory.items) (current_words c.complete_store.new.self.caches.items c.complete_store.new.self.memory.items) c.args.loc.0 c.args.value
     c.self.invariant.some_word c.self.invariant.enough_lines held.1.loc_in sets.place_in sets.lines)
 
 pub invariant_of-self-2 : goal.invariant_of-self-2
 invariant_of-self-2 g c =
-    let held = holds c.self.inside.caches.items c.self.inside.memory.items c.self.inside.shape c.self.inside.locations c.args.core c.args.loc Write c.self.inside.held (rw (← c.self.view_is) at c.requires.holds) c.self.invariant.awaited c.self.invariant.placed in
+    let held = holds c.self.inside.hierarchy.caches.items c.self.inside.hierarchy.memory.items c.self.inside.shape c.self.inside.locations c.args.core c.args.loc Write c.self.inside.held (rw (← c.self.view_is) at c.requires.holds) c.self.invariant.awaited c.self.invariant.placed in
     let some : c.self.inside.held ≡ Some c.unwrap-held.result = search rules in
     let same : c.unwrap-held.result ≡ held_by c.args.core c.args.loc Write (c.args.loc.0 / c.self.inside.shape.words) held.0 = cc (some, held.1.held_is) in
-    let cs = with_items_is c.self.inside.caches c.complete_store.new.caches (search rules) in
-    let ms = with_items_is c.self.inside.memory c.complete_store.new.memory (search rules) in
-    let sets = rw (c.deref_mut.ensures.value, c.deref_mut-2.ensures.value, c.target_of-target.ensures.value, same) at c.in_ok-access.ensures.words in
-    rw (cs, ms)
-    (bus-set c.self.inside.shape c.self.inside.locations c.self.inside.caches.items c.complete_store.new.caches c.self.inside.memory.items c.complete_store.new.memory (Some (held_by c.args.core c.args.loc Write (c.args.loc.0 / c.self.inside.shape.words) held.0)) c.args.loc.0 c.args.value (rw held.1.held_is at c.self.invariant) (search rules) held.1.loc_in sets (rw c.deref_mut.ensures.value at c.complete_store.ensures.ways))
+    let sets = rw (c.target_of-target.ensures.value, same) at c.in_ok-access.ensures.words in
+    (bus-set c.self.inside.shape c.self.inside.locations c.self.inside.hierarchy c.complete_store.new.self (Some (held_by c.args.core c.args.loc Write (c.args.loc.0 / c.self.inside.shape.words) held.0)) c.args.loc.0 c.args.value (rw held.1.held_is at c.self.invariant) (search rules) held.1.loc_in sets c.complete_store.ensures.ways)
 
 pub returns-clause-coherent : goal.returns-clause-coherent
 returns-clause-coherent g c = (invariant_of-self-2 g c).coherent

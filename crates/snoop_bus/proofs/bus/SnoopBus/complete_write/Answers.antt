@@ -1,5 +1,4 @@
-use Rattle.std.proofs.Common.{rules, ◌≡◌, ◌/◌, ◌%◌, ◌<◌, Option, Some, None, length, refl, ap, ◌∙◌}
-use Rattle.std.proofs.lemmas.List.{with_items_is}
+use Rattle.std.proofs.Common.{◌≡◌, ◌/◌, ◌%◌, ◌<◌, Option, Some, None, length, refl, ap, ◌∙◌}
 use Rattle.snoop_bus.specs.declared.holding.Stage.TheVariants.{Locked}
 use Rattle.snoop_bus.specs.declared.holding.Transaction.{Transaction}
 use Rattle.snoop_bus.specs.Lines.{words_in}
@@ -15,48 +14,45 @@ use Rattle.snoop_bus.proofs.bus.SnoopBus.complete_write.Goals as goal
 
 pub returns-clause-words : goal.returns-clause-words
 returns-clause-words g c =
-    let held = holds c.self.inside.caches.items c.self.inside.memory.items c.self.inside.shape c.self.inside.locations c.args.core c.args.loc Locked c.self.inside.held (rw (← c.self.view_is) at c.requires.holds) c.self.invariant.awaited c.self.invariant.placed in
-    let real = locked_real held.0 (copy_at c.self.inside.caches.items c.args.core.0 (c.args.loc.0 / c.self.inside.shape.words)) held.1.awaits in
+    let held = holds c.self.inside.hierarchy.caches.items c.self.inside.hierarchy.memory.items c.self.inside.shape c.self.inside.locations c.args.core c.args.loc Locked c.self.inside.held (rw (← c.self.view_is) at c.requires.holds) c.self.invariant.awaited c.self.invariant.placed in
+    let real = locked_real held.0 (copy_at c.self.inside.hierarchy.caches.items c.args.core.0 (c.args.loc.0 / c.self.inside.shape.words)) held.1.awaits in
     let is : c.self.inside.held ≡ Some (held_by c.args.core c.args.loc Locked (c.args.loc.0 / c.self.inside.shape.words) None) = held.1.held_is ∙ ap (λ (x : Option Transaction). Some (held_by c.args.core c.args.loc Locked (c.args.loc.0 / c.self.inside.shape.words) x)) real.0 in
     let was = rw is at c.self.invariant in
-    let cs = with_items_is c.self.inside.caches c.write.new.caches (search rules) in
-    let copies = rw (c.deref_mut.ensures.value, c.target_of-target.ensures.value) at c.write.ensures.copies in
-    let room : c.args.loc.0 % c.self.inside.shape.words < length (current_words c.self.inside.caches.items c.self.inside.memory.items (c.args.loc.0 / c.self.inside.shape.words)) =
-    rw (was.lines (c.args.loc.0 / c.self.inside.shape.words) held.1.within, length-line c.self.inside.shape.words (words_in c.self.inside.shape.words (current_words c.self.inside.caches.items c.self.inside.memory.items) c.self.inside.locations) (c.args.loc.0 / c.self.inside.shape.words)) (rw c.target_of-target.ensures.value at c.target_of-target.ensures.within) in
-    let sets = locked_written c.self.inside.caches.items c.write.new.caches c.self.inside.memory.items c.args.core.0 (c.args.loc.0 / c.self.inside.shape.words) (c.args.loc.0 % c.self.inside.shape.words) c.args.value was.coherent held.1.within room real.1 copies in
-    rw (← c.self.view_is, cs, is)
-    (words-set c.self.inside.shape.words c.self.inside.locations (length c.self.inside.memory.items) (current_words c.self.inside.caches.items c.self.inside.memory.items) (current_words c.write.new.caches c.self.inside.memory.items) c.args.loc.0 c.args.value
+    let copies = rw (c.target_of-target.ensures.value) at c.write.ensures.copies in
+    let room : c.args.loc.0 % c.self.inside.shape.words < length (current_words c.self.inside.hierarchy.caches.items c.self.inside.hierarchy.memory.items (c.args.loc.0 / c.self.inside.shape.words)) =
+    rw (was.lines (c.args.loc.0 / c.self.inside.shape.words) held.1.within, length-line c.self.inside.shape.words (words_in c.self.inside.shape.words (current_words c.self.inside.hierarchy.caches.items c.self.inside.hierarchy.memory.items) c.self.inside.locations) (c.args.loc.0 / c.self.inside.shape.words)) (rw c.target_of-target.ensures.value at c.target_of-target.ensures.within) in
+    let sets = locked_written c.self.inside.hierarchy.caches.items c.write.new.self.caches.items c.self.inside.hierarchy.memory.items c.args.core.0 (c.args.loc.0 / c.self.inside.shape.words) (c.args.loc.0 % c.self.inside.shape.words) c.args.value was.coherent held.1.within room real.1 copies in
+    rw (← c.self.view_is, is, c.write.ensures.memory)
+    (words-set c.self.inside.shape.words c.self.inside.locations (length c.self.inside.hierarchy.memory.items) (current_words c.self.inside.hierarchy.caches.items c.self.inside.hierarchy.memory.items) (current_words c.write.new.self.caches.items c.self.inside.hierarchy.memory.items) c.args.loc.0 c.args.value
     c.self.invariant.some_word c.self.invariant.enough_lines held.1.loc_in sets.place_in sets.lines)
 
 pub invariant_of-self : goal.invariant_of-self
 invariant_of-self g c =
-    let held = holds c.self.inside.caches.items c.self.inside.memory.items c.self.inside.shape c.self.inside.locations c.args.core c.args.loc Locked c.self.inside.held (rw (← c.self.view_is) at c.requires.holds) c.self.invariant.awaited c.self.invariant.placed in
-    let real = locked_real held.0 (copy_at c.self.inside.caches.items c.args.core.0 (c.args.loc.0 / c.self.inside.shape.words)) held.1.awaits in
+    let held = holds c.self.inside.hierarchy.caches.items c.self.inside.hierarchy.memory.items c.self.inside.shape c.self.inside.locations c.args.core c.args.loc Locked c.self.inside.held (rw (← c.self.view_is) at c.requires.holds) c.self.invariant.awaited c.self.invariant.placed in
+    let real = locked_real held.0 (copy_at c.self.inside.hierarchy.caches.items c.args.core.0 (c.args.loc.0 / c.self.inside.shape.words)) held.1.awaits in
     let is : c.self.inside.held ≡ Some (held_by c.args.core c.args.loc Locked (c.args.loc.0 / c.self.inside.shape.words) None) = held.1.held_is ∙ ap (λ (x : Option Transaction). Some (held_by c.args.core c.args.loc Locked (c.args.loc.0 / c.self.inside.shape.words) x)) real.0 in
     let was = rw is at c.self.invariant in
-    let cs = with_items_is c.self.inside.caches c.write.new.caches (search rules) in
-    let copies = rw (c.deref_mut.ensures.value, c.target_of-target.ensures.value) at c.write.ensures.copies in
-    let room : c.args.loc.0 % c.self.inside.shape.words < length (current_words c.self.inside.caches.items c.self.inside.memory.items (c.args.loc.0 / c.self.inside.shape.words)) =
-    rw (was.lines (c.args.loc.0 / c.self.inside.shape.words) held.1.within, length-line c.self.inside.shape.words (words_in c.self.inside.shape.words (current_words c.self.inside.caches.items c.self.inside.memory.items) c.self.inside.locations) (c.args.loc.0 / c.self.inside.shape.words)) (rw c.target_of-target.ensures.value at c.target_of-target.ensures.within) in
-    let sets = locked_written c.self.inside.caches.items c.write.new.caches c.self.inside.memory.items c.args.core.0 (c.args.loc.0 / c.self.inside.shape.words) (c.args.loc.0 % c.self.inside.shape.words) c.args.value was.coherent held.1.within room real.1 copies in
-    rw cs (bus-set c.self.inside.shape c.self.inside.locations c.self.inside.caches.items c.write.new.caches c.self.inside.memory.items c.self.inside.memory.items (Some (held_by c.args.core c.args.loc Locked (c.args.loc.0 / c.self.inside.shape.words) None)) c.args.loc.0 c.args.value was refl held.1.loc_in sets (rw c.deref_mut.ensures.value at c.write.ensures.ways))
+    let copies = rw (c.target_of-target.ensures.value) at c.write.ensures.copies in
+    let room : c.args.loc.0 % c.self.inside.shape.words < length (current_words c.self.inside.hierarchy.caches.items c.self.inside.hierarchy.memory.items (c.args.loc.0 / c.self.inside.shape.words)) =
+    rw (was.lines (c.args.loc.0 / c.self.inside.shape.words) held.1.within, length-line c.self.inside.shape.words (words_in c.self.inside.shape.words (current_words c.self.inside.hierarchy.caches.items c.self.inside.hierarchy.memory.items) c.self.inside.locations) (c.args.loc.0 / c.self.inside.shape.words)) (rw c.target_of-target.ensures.value at c.target_of-target.ensures.within) in
+    let sets = locked_written c.self.inside.hierarchy.caches.items c.write.new.self.caches.items c.self.inside.hierarchy.memory.items c.args.core.0 (c.args.loc.0 / c.self.inside.shape.words) (c.args.loc.0 % c.self.inside.shape.words) c.args.value was.coherent held.1.within room real.1 copies in
+    bus-set c.self.inside.shape c.self.inside.locations c.self.inside.hierarchy c.write.new.self (Some (held_by c.args.core c.args.loc Locked (c.args.loc.0 / c.self.inside.shape.words) None)) c.args.loc.0 c.args.value was (ap length c.write.ensures.memory) held.1.loc_in (rw c.write.ensures.memory sets) c.write.ensures.ways
 
 pub returns-clause-coherent : goal.returns-clause-coherent
 returns-clause-coherent g c =
-    let held = holds c.self.inside.caches.items c.self.inside.memory.items c.self.inside.shape c.self.inside.locations c.args.core c.args.loc Locked c.self.inside.held (rw (← c.self.view_is) at c.requires.holds) c.self.invariant.awaited c.self.invariant.placed in
-    let real = locked_real held.0 (copy_at c.self.inside.caches.items c.args.core.0 (c.args.loc.0 / c.self.inside.shape.words)) held.1.awaits in
+    let held = holds c.self.inside.hierarchy.caches.items c.self.inside.hierarchy.memory.items c.self.inside.shape c.self.inside.locations c.args.core c.args.loc Locked c.self.inside.held (rw (← c.self.view_is) at c.requires.holds) c.self.invariant.awaited c.self.invariant.placed in
+    let real = locked_real held.0 (copy_at c.self.inside.hierarchy.caches.items c.args.core.0 (c.args.loc.0 / c.self.inside.shape.words)) held.1.awaits in
     let is : c.self.inside.held ≡ Some (held_by c.args.core c.args.loc Locked (c.args.loc.0 / c.self.inside.shape.words) None) = held.1.held_is ∙ ap (λ (x : Option Transaction). Some (held_by c.args.core c.args.loc Locked (c.args.loc.0 / c.self.inside.shape.words) x)) real.0 in
     let was = rw is at c.self.invariant in
-    let cs = with_items_is c.self.inside.caches c.write.new.caches (search rules) in
-    let copies = rw (c.deref_mut.ensures.value, c.target_of-target.ensures.value) at c.write.ensures.copies in
-    let room : c.args.loc.0 % c.self.inside.shape.words < length (current_words c.self.inside.caches.items c.self.inside.memory.items (c.args.loc.0 / c.self.inside.shape.words)) =
-    rw (was.lines (c.args.loc.0 / c.self.inside.shape.words) held.1.within, length-line c.self.inside.shape.words (words_in c.self.inside.shape.words (current_words c.self.inside.caches.items c.self.inside.memory.items) c.self.inside.locations) (c.args.loc.0 / c.self.inside.shape.words)) (rw c.target_of-target.ensures.value at c.target_of-target.ensures.within) in
-    let sets = locked_written c.self.inside.caches.items c.write.new.caches c.self.inside.memory.items c.args.core.0 (c.args.loc.0 / c.self.inside.shape.words) (c.args.loc.0 % c.self.inside.shape.words) c.args.value was.coherent held.1.within room real.1 copies in
-    rw cs sets.coherent
+    let copies = rw (c.target_of-target.ensures.value) at c.write.ensures.copies in
+    let room : c.args.loc.0 % c.self.inside.shape.words < length (current_words c.self.inside.hierarchy.caches.items c.self.inside.hierarchy.memory.items (c.args.loc.0 / c.self.inside.shape.words)) =
+    rw (was.lines (c.args.loc.0 / c.self.inside.shape.words) held.1.within, length-line c.self.inside.shape.words (words_in c.self.inside.shape.words (current_words c.self.inside.hierarchy.caches.items c.self.inside.hierarchy.memory.items) c.self.inside.locations) (c.args.loc.0 / c.self.inside.shape.words)) (rw c.target_of-target.ensures.value at c.target_of-target.ensures.within) in
+    let sets = locked_written c.self.inside.hierarchy.caches.items c.write.new.self.caches.items c.self.inside.hierarchy.memory.items c.args.core.0 (c.args.loc.0 / c.self.inside.shape.words) (c.args.loc.0 % c.self.inside.shape.words) c.args.value was.coherent held.1.within room real.1 copies in
+    rw c.write.ensures.memory sets.coherent
 
 pub returns-clause-nothing_awaited : goal.returns-clause-nothing_awaited
 returns-clause-nothing_awaited g c =
-    let held = holds c.self.inside.caches.items c.self.inside.memory.items c.self.inside.shape c.self.inside.locations c.args.core c.args.loc Locked c.self.inside.held (rw (← c.self.view_is) at c.requires.holds) c.self.invariant.awaited c.self.invariant.placed in
-    let real = locked_real held.0 (copy_at c.self.inside.caches.items c.args.core.0 (c.args.loc.0 / c.self.inside.shape.words)) held.1.awaits in
+    let held = holds c.self.inside.hierarchy.caches.items c.self.inside.hierarchy.memory.items c.self.inside.shape c.self.inside.locations c.args.core c.args.loc Locked c.self.inside.held (rw (← c.self.view_is) at c.requires.holds) c.self.invariant.awaited c.self.invariant.placed in
+    let real = locked_real held.0 (copy_at c.self.inside.hierarchy.caches.items c.args.core.0 (c.args.loc.0 / c.self.inside.shape.words)) held.1.awaits in
     let is : c.self.inside.held ≡ Some (held_by c.args.core c.args.loc Locked (c.args.loc.0 / c.self.inside.shape.words) None) = held.1.held_is ∙ ap (λ (x : Option Transaction). Some (held_by c.args.core c.args.loc Locked (c.args.loc.0 / c.self.inside.shape.words) x)) real.0 in
     rw (← c.self.view_is, is) refl

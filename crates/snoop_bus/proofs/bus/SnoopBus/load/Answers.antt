@@ -1,5 +1,4 @@
 use Rattle.std.proofs.Common.{rules, false, ◌<◌, ◌/◌}
-use Rattle.std.proofs.lemmas.List.{with_items_is}
 use Rattle.snoop_bus.specs.Held.{counted}
 use Rattle.snoop_bus.proofs.CallLemmas.{bus_ready, free_or_hit, loc_in, load_done, load_refused}
 use Rattle.snoop_bus.proofs.UpgradeAsk.{free_load}
@@ -8,38 +7,32 @@ use Rattle.snoop_bus.proofs.bus.SnoopBus.load.Goals as goal
 
 pub load-requires-clause-ready : goal.load-requires-clause-ready
 load-requires-clause-ready g c =
-    rw (c.deref_mut.ensures.value, c.deref_mut-2.ensures.value, c.target_of-target.ensures.value)
-    (bus_ready c.self.inside.shape c.self.inside.locations c.self.inside.caches.items c.self.inside.memory.items c.self.inside.held
+    rw (c.target_of-target.ensures.value)
+    (bus_ready c.self.inside.shape c.self.inside.locations c.self.inside.hierarchy c.self.inside.held
     c.args.core.0 c.args.loc.0 c.self.invariant (rw (← c.self.view_is) at c.requires.core) (rw (← c.self.view_is) at c.requires.loc))
 
 pub returns-clause-done : goal.returns-clause-done
 returns-clause-done g c =
-    let cs = with_items_is c.self.inside.caches c.load.new.caches (search rules) in
-    let ms = with_items_is c.self.inside.memory c.load.new.memory (search rules) in
-    let within : c.args.loc.0 < c.self.inside.locations = loc_in c.self.inside.shape.words c.self.inside.locations (counted c.self.inside.held c.self.inside.caches.items) c.self.inside.memory.items c.args.loc.0 (rw (← c.self.view_is) at c.requires.loc) in
-    rw (← c.self.view_is, cs, ms)
-    (load_done (g.P.Protocol.table c.self.inside.protocol) c.self.inside.shape c.self.inside.locations c.self.inside.caches.items c.load.new.caches c.self.inside.memory.items c.load.new.memory c.self.inside.held c.args.core.0 c.args.loc.0 c.load.result c.self.invariant.some_word c.self.invariant.enough_lines within
-    (rw (c.deref_mut.ensures.value, c.deref_mut-2.ensures.value, c.target_of-target.ensures.value) at c.load.ensures.ok)
-    (rw (c.deref_mut.ensures.value, c.deref_mut-2.ensures.value) at c.load.ensures.words))
+    let within : c.args.loc.0 < c.self.inside.locations = loc_in c.self.inside.shape.words c.self.inside.locations (counted c.self.inside.held c.self.inside.hierarchy.caches.items) c.self.inside.hierarchy.memory.items c.args.loc.0 (rw (← c.self.view_is) at c.requires.loc) in
+    rw (← c.self.view_is)
+    (load_done (g.P.Protocol.table c.self.inside.protocol) c.self.inside.shape c.self.inside.locations c.self.inside.hierarchy c.load.new.self c.self.inside.held c.args.core.0 c.args.loc.0 c.load.result c.self.invariant.some_word c.self.invariant.enough_lines within
+    (rw (c.target_of-target.ensures.value) at c.load.ensures.ok)
+    c.load.ensures.words)
 
 pub returns-clause-refused : goal.returns-clause-refused
 returns-clause-refused g c =
-    let cs = with_items_is c.self.inside.caches c.load.new.caches (search rules) in
-    let ms = with_items_is c.self.inside.memory c.load.new.memory (search rules) in
-    rw (← c.self.view_is, cs, ms)
-    (load_refused (g.P.Protocol.table c.self.inside.protocol) c.self.inside.shape c.self.inside.locations c.self.inside.caches.items c.load.new.caches c.self.inside.memory.items c.load.new.memory c.self.inside.held c.args.core.0 c.args.loc.0 c.load.result
-    (rw (c.deref_mut.ensures.value, c.target_of-target.ensures.value) at c.load.ensures.succeeds)
-    (rw (c.deref_mut.ensures.value, c.deref_mut-2.ensures.value) at c.load.ensures.refused))
+    rw (← c.self.view_is)
+    (load_refused (g.P.Protocol.table c.self.inside.protocol) c.self.inside.shape c.self.inside.locations c.self.inside.hierarchy c.load.new.self c.self.inside.held c.args.core.0 c.args.loc.0 c.load.result
+    (rw (c.target_of-target.ensures.value) at c.load.ensures.succeeds)
+    c.load.ensures.refused)
 
 pub invariant_of-self : goal.invariant_of-self
 invariant_of-self g c =
-    let cs = with_items_is c.self.inside.caches c.load.new.caches (search rules) in
-    let ms = with_items_is c.self.inside.memory c.load.new.memory (search rules) in
-    rw (cs, ms) (bus-kept c.self.inside.shape c.self.inside.locations c.self.inside.caches.items c.load.new.caches c.self.inside.memory.items c.load.new.memory c.self.inside.held c.self.inside.held c.self.invariant (search rules)
-    (rw (c.deref_mut.ensures.value, c.deref_mut-2.ensures.value) at c.load.ensures.words) (rw c.deref_mut.ensures.value at c.load.ensures.ways) c.load.ensures.awaited c.self.invariant.placed)
+    (bus-kept c.self.inside.shape c.self.inside.locations c.self.inside.hierarchy c.load.new.self c.self.inside.held c.self.inside.held c.self.invariant (search rules)
+    c.load.ensures.words c.load.ensures.ways c.load.ensures.awaited c.self.invariant.placed)
 
 pub load-requires-clause-free : goal.load-requires-clause-free
 load-requires-clause-free g c =
-    rw (c.deref_mut.ensures.value, c.target_of-target.ensures.value)
-    (free_load (g.P.Protocol.table c.self.inside.protocol) c.self.inside.held c.self.inside.caches.items c.args.core.0 (c.args.loc.0 / c.self.inside.shape.words)
-    (free_or_hit (g.P.Protocol.table c.self.inside.protocol) c.self.inside.shape c.self.inside.locations c.self.inside.caches.items c.self.inside.memory.items c.self.inside.held c.args.core.0 c.args.loc.0 false (rw (← c.self.view_is) at c.requires.free)))
+    rw (c.target_of-target.ensures.value)
+    (free_load (g.P.Protocol.table c.self.inside.protocol) c.self.inside.held c.self.inside.hierarchy.caches.items c.args.core.0 (c.args.loc.0 / c.self.inside.shape.words)
+    (free_or_hit (g.P.Protocol.table c.self.inside.protocol) c.self.inside.shape c.self.inside.locations c.self.inside.hierarchy.caches.items c.self.inside.hierarchy.memory.items c.self.inside.held c.args.core.0 c.args.loc.0 false (rw (← c.self.view_is) at c.requires.free)))

@@ -1,5 +1,4 @@
 use Rattle.std.proofs.Common.{rules, true, ◌<◌}
-use Rattle.std.proofs.lemmas.List.{with_items_is}
 use Rattle.snoop_bus.specs.Held.{counted}
 use Rattle.snoop_bus.proofs.CallLemmas.{bus_ready, free_or_hit, loc_in, write_word, write_done, write_refused}
 use Rattle.snoop_bus.proofs.NewLemmas.{bus-written}
@@ -7,47 +6,40 @@ use Rattle.snoop_bus.proofs.bus.SnoopBus.update.Goals as goal
 
 pub update-requires-clause-ready : goal.update-requires-clause-ready
 update-requires-clause-ready g c =
-    rw (c.deref_mut.ensures.value, c.deref_mut-2.ensures.value, c.target_of-target.ensures.value)
-    (bus_ready c.self.inside.shape c.self.inside.locations c.self.inside.caches.items c.self.inside.memory.items c.self.inside.held
+    rw (c.target_of-target.ensures.value)
+    (bus_ready c.self.inside.shape c.self.inside.locations c.self.inside.hierarchy c.self.inside.held
     c.args.core.0 c.args.loc.0 c.self.invariant (rw (← c.self.view_is) at c.requires.core) (rw (← c.self.view_is) at c.requires.loc))
 
 pub returns-clause-before : goal.returns-clause-before
 returns-clause-before g c =
-    let within : c.args.loc.0 < c.self.inside.locations = loc_in c.self.inside.shape.words c.self.inside.locations (counted c.self.inside.held c.self.inside.caches.items) c.self.inside.memory.items c.args.loc.0 (rw (← c.self.view_is) at c.requires.loc) in
+    let within : c.args.loc.0 < c.self.inside.locations = loc_in c.self.inside.shape.words c.self.inside.locations (counted c.self.inside.held c.self.inside.hierarchy.caches.items) c.self.inside.hierarchy.memory.items c.args.loc.0 (rw (← c.self.view_is) at c.requires.loc) in
     rw (← c.self.view_is)
-    (write_word (g.P.Protocol.table c.self.inside.protocol) c.self.inside.shape c.self.inside.locations c.self.inside.caches.items c.update.new.caches c.self.inside.memory.items c.update.new.memory c.self.inside.held c.args.core.0 c.args.loc.0
-    c.update.result within (rw (c.deref_mut.ensures.value, c.deref_mut-2.ensures.value, c.target_of-target.ensures.value) at c.update.ensures.ok))
+    (write_word (g.P.Protocol.table c.self.inside.protocol) c.self.inside.shape c.self.inside.locations c.self.inside.hierarchy c.update.new.self c.self.inside.held c.args.core.0 c.args.loc.0
+    c.update.result within (rw (c.target_of-target.ensures.value) at c.update.ensures.ok))
 
 pub returns-clause-done : goal.returns-clause-done
 returns-clause-done g c =
-    let cs = with_items_is c.self.inside.caches c.update.new.caches (search rules) in
-    let ms = with_items_is c.self.inside.memory c.update.new.memory (search rules) in
-    let within : c.args.loc.0 < c.self.inside.locations = loc_in c.self.inside.shape.words c.self.inside.locations (counted c.self.inside.held c.self.inside.caches.items) c.self.inside.memory.items c.args.loc.0 (rw (← c.self.view_is) at c.requires.loc) in
-    rw (← c.self.view_is, cs, ms)
-    (write_done (g.P.Protocol.table c.self.inside.protocol) c.self.inside.shape c.self.inside.locations c.self.inside.caches.items c.update.new.caches c.self.inside.memory.items c.update.new.memory c.self.inside.held c.args.core.0 c.args.loc.0
-    c.update.result c.self.invariant.some_word c.self.invariant.enough_lines within (rw (c.deref_mut.ensures.value, c.deref_mut-2.ensures.value, c.target_of-target.ensures.value) at c.update.ensures.ok))
+    let within : c.args.loc.0 < c.self.inside.locations = loc_in c.self.inside.shape.words c.self.inside.locations (counted c.self.inside.held c.self.inside.hierarchy.caches.items) c.self.inside.hierarchy.memory.items c.args.loc.0 (rw (← c.self.view_is) at c.requires.loc) in
+    rw (← c.self.view_is)
+    (write_done (g.P.Protocol.table c.self.inside.protocol) c.self.inside.shape c.self.inside.locations c.self.inside.hierarchy c.update.new.self c.self.inside.held c.args.core.0 c.args.loc.0
+    c.update.result c.self.invariant.some_word c.self.invariant.enough_lines within (rw (c.target_of-target.ensures.value) at c.update.ensures.ok))
 
 pub returns-clause-refused : goal.returns-clause-refused
 returns-clause-refused g c =
-    let cs = with_items_is c.self.inside.caches c.update.new.caches (search rules) in
-    let ms = with_items_is c.self.inside.memory c.update.new.memory (search rules) in
-    rw (← c.self.view_is, cs, ms)
-    (write_refused (g.P.Protocol.table c.self.inside.protocol) c.self.inside.shape c.self.inside.locations c.self.inside.caches.items c.update.new.caches c.self.inside.memory.items c.update.new.memory c.self.inside.held c.args.core.0 c.args.loc.0 c.update.result
-    (rw (c.deref_mut.ensures.value, c.target_of-target.ensures.value) at c.update.ensures.succeeds)
-    (rw (c.deref_mut.ensures.value, c.deref_mut-2.ensures.value) at c.update.ensures.refused))
+    rw (← c.self.view_is)
+    (write_refused (g.P.Protocol.table c.self.inside.protocol) c.self.inside.shape c.self.inside.locations c.self.inside.hierarchy c.update.new.self c.self.inside.held c.args.core.0 c.args.loc.0 c.update.result
+    (rw (c.target_of-target.ensures.value) at c.update.ensures.succeeds)
+    c.update.ensures.refused)
 
 pub invariant_of-self : goal.invariant_of-self
 invariant_of-self g c =
-    let cs = with_items_is c.self.inside.caches c.update.new.caches (search rules) in
-    let ms = with_items_is c.self.inside.memory c.update.new.memory (search rules) in
-    let within : c.args.loc.0 < c.self.inside.locations = loc_in c.self.inside.shape.words c.self.inside.locations (counted c.self.inside.held c.self.inside.caches.items) c.self.inside.memory.items c.args.loc.0 (rw (← c.self.view_is) at c.requires.loc) in
-    rw (cs, ms)
-    (bus-written (g.P.Protocol.table c.self.inside.protocol) c.self.inside.held c.update.result c.self.inside.shape c.self.inside.locations c.self.inside.caches.items c.update.new.caches c.self.inside.memory.items c.update.new.memory c.args.core.0 c.args.loc.0 c.self.invariant (search rules) within
-    c.update.ensures.coherent c.update.ensures.awaited (rw c.deref_mut.ensures.value at c.update.ensures.ways)
-    (rw (c.deref_mut.ensures.value, c.deref_mut-2.ensures.value, c.target_of-target.ensures.value) at c.update.ensures.ok)
-    (rw (c.deref_mut.ensures.value, c.deref_mut-2.ensures.value) at c.update.ensures.refused))
+    let within : c.args.loc.0 < c.self.inside.locations = loc_in c.self.inside.shape.words c.self.inside.locations (counted c.self.inside.held c.self.inside.hierarchy.caches.items) c.self.inside.hierarchy.memory.items c.args.loc.0 (rw (← c.self.view_is) at c.requires.loc) in
+    (bus-written (g.P.Protocol.table c.self.inside.protocol) c.self.inside.held c.update.result c.self.inside.shape c.self.inside.locations c.self.inside.hierarchy c.update.new.self c.args.core.0 c.args.loc.0 c.self.invariant (search rules) within
+    c.update.ensures.coherent c.update.ensures.awaited c.update.ensures.ways
+    (rw (c.target_of-target.ensures.value) at c.update.ensures.ok)
+    c.update.ensures.refused)
 
 pub update-requires-clause-free : goal.update-requires-clause-free
 update-requires-clause-free g c =
-    rw (c.deref_mut.ensures.value, c.target_of-target.ensures.value)
-    (free_or_hit (g.P.Protocol.table c.self.inside.protocol) c.self.inside.shape c.self.inside.locations c.self.inside.caches.items c.self.inside.memory.items c.self.inside.held c.args.core.0 c.args.loc.0 true (rw (← c.self.view_is) at c.requires.free))
+    rw (c.target_of-target.ensures.value)
+    (free_or_hit (g.P.Protocol.table c.self.inside.protocol) c.self.inside.shape c.self.inside.locations c.self.inside.hierarchy.caches.items c.self.inside.hierarchy.memory.items c.self.inside.held c.args.core.0 c.args.loc.0 true (rw (← c.self.view_is) at c.requires.free))

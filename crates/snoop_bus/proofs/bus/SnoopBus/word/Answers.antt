@@ -7,13 +7,13 @@ use Rattle.snoop_bus.proofs.bus.SnoopBus.word.Goals as goal
 
 pub seen-requires-clause-line : goal.seen-requires-clause-line
 seen-requires-clause-line g c =
-    let within : c.args.loc.0 < c.self.inside.locations = loc_in c.self.inside.shape.words c.self.inside.locations (counted c.self.inside.held c.self.inside.caches.items) c.self.inside.memory.items c.args.loc.0 (rw (← c.self.view_is) at c.requires) in
-    rw (c.deref-2.ensures.value, c.line_of-line.ensures.value)
-    (line_below c.self.inside.shape.words c.self.inside.locations (length c.self.inside.memory.items) c.args.loc.0 c.self.invariant.some_word c.self.invariant.enough_lines within)
+    let within : c.args.loc.0 < c.self.inside.locations = loc_in c.self.inside.shape.words c.self.inside.locations (counted c.self.inside.held c.self.inside.hierarchy.caches.items) c.self.inside.hierarchy.memory.items c.args.loc.0 (rw (← c.self.view_is) at c.requires) in
+    rw (c.line_of-line.ensures.value)
+    (line_below c.self.inside.shape.words c.self.inside.locations (length c.self.inside.hierarchy.memory.items) c.args.loc.0 c.self.invariant.some_word c.self.invariant.enough_lines within)
 
 pub returns : goal.returns
 returns g c =
     let words = c.self.inside.shape.words in
-    let within : c.args.loc.0 < c.self.inside.locations = loc_in words c.self.inside.locations (counted c.self.inside.held c.self.inside.caches.items) c.self.inside.memory.items c.args.loc.0 (rw (← c.self.view_is) at c.requires) in
-    rw (← c.self.view_is, c.from.ensures, c.place_of-place.ensures.value, c.seen.ensures, c.deref.ensures.value, c.deref-2.ensures.value, c.line_of-line.ensures.value)
-    (words-get words (current_words (counted c.self.inside.held c.self.inside.caches.items) c.self.inside.memory.items) c.self.inside.locations c.args.loc.0 within)
+    let within : c.args.loc.0 < c.self.inside.locations = loc_in words c.self.inside.locations (counted c.self.inside.held c.self.inside.hierarchy.caches.items) c.self.inside.hierarchy.memory.items c.args.loc.0 (rw (← c.self.view_is) at c.requires) in
+    rw (← c.self.view_is, c.from.ensures, c.place_of-place.ensures.value, c.seen.ensures, c.line_of-line.ensures.value)
+    (words-get words (current_words (counted c.self.inside.held c.self.inside.hierarchy.caches.items) c.self.inside.hierarchy.memory.items) c.self.inside.locations c.args.loc.0 within)

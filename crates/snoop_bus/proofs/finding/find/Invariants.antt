@@ -1,6 +1,0 @@
-use Rattle.snoop_bus.specs.Requests.{asked}
-use Rattle.snoop_bus.proofs.FindLemmas.{FoundBelow}
-use Rattle.snoop_bus.proofs.finding.find.Given as goal
-
-abbrev pub invariant-loop-core : goal.invariant-loop-core
-invariant-loop-core g l = FoundBelow l.core (asked (g.P.Protocol.table l.protocol) l.request) l.line l.caches l.found

@@ -1,0 +1,41 @@
+use Rattle.std.proofs.Common.{[], ◌∙◌}
+use Rattle.std.proofs.lemmas.List.{get_or_default}
+use Rattle.snoop_bus.specs.Lines.{line_in}
+use Rattle.snoop_bus.proofs.AskLemmas.{write_ask-transaction, write_ask-words}
+use Rattle.snoop_bus.proofs.hierarchy.Hierarchy.ask_write_miss.Goals as goal
+
+pub returns-clause-transaction : goal.returns-clause-transaction
+returns-clause-transaction g c =
+    let t = g.P.Protocol.table c.args.protocol.now in
+    let p = c.args.protocol.now in
+    let line = (rw c.from.ensures at c.index.ensures) ∙ get_or_default c.args.self.now.memory.items c.args.line c.index.result.now [] c.requires.ready.line_in in
+    write_ask-transaction t (g.met.P.Protocol.gives_up p) (g.met.P.Protocol.supplies_to_writers p) (g.met.P.Protocol.writes_back_dirty p)
+    c.args.self.now.caches.items c.snoop_others.new.self.caches.items c.args.self.now.memory.items c.args.core c.args.line c.unwrap_or-words.result
+    (record {
+      coherent = c.requires.ready.coherent;
+      core_in = c.requires.ready.core_in;
+      some_set = c.requires.some_set;
+      within = c.requires.ready.line_in;
+      absent = c.requires.absent;
+      words = rw (c.unwrap_or-words.ensures, line) (c.find-found.ensures.words (line_in c.args.self.now.memory.items c.args.line));
+      left = c.snoop_others.ensures.copies;
+      ways = c.snoop_others.ensures.ways;
+    })
+
+pub returns-clause-words : goal.returns-clause-words
+returns-clause-words g c =
+    let t = g.P.Protocol.table c.args.protocol.now in
+    let p = c.args.protocol.now in
+    let line = (rw c.from.ensures at c.index.ensures) ∙ get_or_default c.args.self.now.memory.items c.args.line c.index.result.now [] c.requires.ready.line_in in
+    write_ask-words t (g.met.P.Protocol.gives_up p) (g.met.P.Protocol.supplies_to_writers p) (g.met.P.Protocol.writes_back_dirty p)
+    c.args.self.now.caches.items c.snoop_others.new.self.caches.items c.args.self.now.memory.items c.args.core c.args.line c.unwrap_or-words.result
+    (record {
+      coherent = c.requires.ready.coherent;
+      core_in = c.requires.ready.core_in;
+      some_set = c.requires.some_set;
+      within = c.requires.ready.line_in;
+      absent = c.requires.absent;
+      words = rw (c.unwrap_or-words.ensures, line) (c.find-found.ensures.words (line_in c.args.self.now.memory.items c.args.line));
+      left = c.snoop_others.ensures.copies;
+      ways = c.snoop_others.ensures.ways;
+    })

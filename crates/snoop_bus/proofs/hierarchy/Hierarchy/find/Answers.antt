@@ -1,0 +1,40 @@
+use Rattle.std.proofs.Common.{arith, ◌≡◌, ◌<◌, ℕ, [], length, ap, subst, sym, ◌∙◌}
+use Rattle.std.proofs.lemmas.List.{get_or_default}
+use Rattle.snoop_bus.specs.Requests.{asked}
+use Rattle.snoop_bus.specs.Copies.{Sets, copy_in, copy_at}
+use Rattle.snoop_bus.proofs.FindLemmas.{FoundBelow, nothing-found, passed-by, noted, words-found, shared-found, flushed-found, states-found}
+use Rattle.snoop_bus.proofs.hierarchy.Hierarchy.find.Goals as goal
+use Rattle.snoop_bus.proofs.hierarchy.Hierarchy.find.Goals.{in-Some, in_default}
+
+pub loop-core-preserved : goal.loop-core-preserved
+loop-core-preserved g c =
+    let on = asked (g.P.Protocol.table c.args.protocol.now) c.args.request in
+    let within : c.loop-core.core < length c.args.self.now.caches.items = omega arith in
+    let at = c.index.ensures ∙ get_or_default c.args.self.now.caches.items c.loop-core.core c.index.result.now [] within in
+    let here : c.copied.result ≡ copy_at c.args.self.now.caches.items c.loop-core.core c.args.line = c.copied.ensures ∙ c.look.ensures.found ∙ ap (λ (sets : Sets). copy_in sets c.args.line) at in
+    elim c.match-copied.branch [
+      | in-Some w ↦
+          rw (w.found-is ∙ w.with-found.ensures, w.answer-snoop.ensures)
+          (noted on c.args.line c.loop-core.core c.args.self.now.caches.items c.loop-core.found w.in-Some.copy within c.requires.few (sym here ∙ w.in-Some.is) c.loop-core.invariant)
+      | in_default w ↦
+          rw w.found-is (passed-by on c.args.line c.loop-core.core c.args.self.now.caches.items c.loop-core.found within (sym here ∙ w.in_default.is) c.loop-core.invariant)
+    ]
+
+pub loop-core-init : goal.loop-core-init
+loop-core-init g c = rw c.nothing-found.ensures (nothing-found (asked (g.P.Protocol.table c.args.protocol.now) c.args.request) c.args.line c.args.self.now.caches.items)
+
+pub returns-clause-words : goal.returns-clause-words
+returns-clause-words g c = words-found (asked (g.P.Protocol.table c.args.protocol.now) c.args.request) c.args.line c.args.self.now.caches.items c.loop-core.found
+    (subst (λ (n : ℕ). FoundBelow n (asked (g.P.Protocol.table c.args.protocol.now) c.args.request) c.args.line c.args.self.now.caches.items c.loop-core.found) (omega arith) c.loop-core.invariant)
+
+pub returns-clause-shared : goal.returns-clause-shared
+returns-clause-shared g c = shared-found (asked (g.P.Protocol.table c.args.protocol.now) c.args.request) c.args.line c.args.self.now.caches.items c.loop-core.found
+    (subst (λ (n : ℕ). FoundBelow n (asked (g.P.Protocol.table c.args.protocol.now) c.args.request) c.args.line c.args.self.now.caches.items c.loop-core.found) (omega arith) c.loop-core.invariant)
+
+pub returns-clause-flushed : goal.returns-clause-flushed
+returns-clause-flushed g c = flushed-found (asked (g.P.Protocol.table c.args.protocol.now) c.args.request) c.args.line c.args.self.now.caches.items c.loop-core.found
+    (subst (λ (n : ℕ). FoundBelow n (asked (g.P.Protocol.table c.args.protocol.now) c.args.request) c.args.line c.args.self.now.caches.items c.loop-core.found) (omega arith) c.loop-core.invariant)
+
+pub returns-clause-states : goal.returns-clause-states
+returns-clause-states g c = states-found (asked (g.P.Protocol.table c.args.protocol.now) c.args.request) c.args.line c.args.self.now.caches.items c.loop-core.found
+    (subst (λ (n : ℕ). FoundBelow n (asked (g.P.Protocol.table c.args.protocol.now) c.args.request) c.args.line c.args.self.now.caches.items c.loop-core.found) (omega arith) c.loop-core.invariant)

@@ -1,0 +1,94 @@
+use Rattle.std.proofs.Common.{◌≡◌, ◌∙◌, ◌<◌, length, ap, sym, subst, option_map}
+use Rattle.std.specs.Prelude.{Ok}
+use Rattle.std.specs.Option.{unwrap_or}
+use Rattle.tso_model.specs.FlatMachine.{chosen, core_of}
+use Rattle.snoop_bus.specs.Asks.{awaited_by}
+use Rattle.snoop_bus.specs.Geometry.{IsLineSize}
+use Rattle.machine_core.specs.inner.Kept.{access_in}
+use Rattle.machine_core.specs.Running.{machine_after}
+use Rattle.trace_report.specs.Known.{IsKnown}
+use Rattle.trace_report.specs.Stalls.{stalled_step}
+use Rattle.trace_report.specs.Steps.{states_of, request_at, sent_on, wrote_back_by, step_of}
+use Rattle.trace_report.proofs.Looking.{place-of}
+use Rattle.trace_report.proofs.Stalls.{stall-shown}
+use Rattle.trace_report.proofs.Whole.{Leaves, left-looked, WasLookedAt, told-whole, told-next, looked-next, step-known}
+use Rattle.trace_report.proofs.telling.tell_or_stall.Goals as goal
+use Rattle.trace_report.proofs.telling.tell_or_stall.Goals.{In-Stalled}
+
+-- ---- a stall
+
+-- it changes nothing
+unchanged : (g : _) (c : In-Stalled g) → c.choose_telling.new.self ≡ c.args.machine.now
+unchanged g c = c.in_ok-outcome.ensures.stall c.in-Stalled.stall c.in_ok-outcome.cache_use (ap (λ o. Ok (o, c.in_ok-outcome.cache_use)) c.in-Stalled.is)
+
+same : (g : _) (c : In-Stalled g) → machine_after c.args.machine.now c.args.choice ≡ c.args.machine.now
+same g c = sym c.in_ok-outcome.ensures.after ∙ unchanged g c
+
+bare : (g : _) (c : In-Stalled g) → stalled_step c.args.choice c.in-Stalled.stall ≡ step_of c.args.machine.now c.args.choice
+bare g c = stall-shown c.args.machine.now c.args.choice c.in-Stalled.stall (same g c) (sym c.in_ok-outcome.ensures.outcome ∙ c.in-Stalled.is)
+
+pub returns-in-Stalled-clause-step : goal.returns-in-Stalled-clause-step
+returns-in-Stalled-clause-step g c = bare g c
+
+pub returns-in-Stalled-clause-known : goal.returns-in-Stalled-clause-known
+returns-in-Stalled-clause-known g c =
+    subst (IsKnown c.args.test.now c.args.config.shape.words) (sym (bare g c))
+    (step-known c.args.test.now c.args.config c.args.machine.now c.args.choice c.know_test.ensures c.requires.told.machine (subst IsLineSize c.words.ensures.value c.words.ensures.within))
+
+pub returns-in-Stalled-clause-same : goal.returns-in-Stalled-clause-same
+returns-in-Stalled-clause-same g c = λ _. unchanged g c
+
+pub returns-in-Stalled-clause-told : goal.returns-in-Stalled-clause-told
+returns-in-Stalled-clause-told g c =
+    told-next c.args.test.now c.args.config c.args.machine.now c.choose_telling.new.self c.args.choice c.args.states.now.items c.know_test.ensures c.requires.told.machine
+    c.in_ok-outcome.ensures.after (c.requires.told.states_are ∙ sym (ap states_of (same g c)))
+
+-- ---- any other choice
+
+pub left_behind-requires : goal.left_behind-requires
+left_behind-requires g c =
+    looked-next c.args.test.now c.args.config c.args.machine.now c.choose_telling.new.self c.args.choice c.know_test.ensures c.requires.told.machine
+    c.in_ok-outcome.ensures.after (subst IsLineSize c.words.ensures.value c.words.ensures.within)
+
+-- what was looked at again
+leaves : (g : _) (c : goal.After-access_in g) → Leaves c.args.machine.now c.args.choice c.in_ok-left.left
+leaves g c =
+    let m = c.args.machine.now in
+    let there : chosen c.args.choice < length m.state.flat.cores = subst (λ n. chosen c.args.choice < n) (sym c.requires.told.machine.cores) c.requires.core in
+    left-looked m c.choose_telling.new.self c.args.choice c.in_ok-outcome.outcome c.args.states.now.items (length c.committed-committed.result.now) c.in_ok-left.left
+    there c.in_ok-outcome.ensures.after c.in_ok-outcome.ensures.outcome c.requires.told.states_are (ap length c.committed-committed.ensures) c.in_ok-left.ensures.left
+
+pub returns-clause-told : goal.returns-clause-told
+returns-clause-told g c =
+    told-next c.args.test.now c.args.config c.args.machine.now c.choose_telling.new.self c.args.choice c.left_behind.new.states.items c.know_test.ensures c.requires.told.machine
+    c.in_ok-outcome.ensures.after (c.in_ok-left.ensures.states ∙ ap states_of c.in_ok-outcome.ensures.after)
+
+pub returns-clause-step : goal.returns-clause-step
+returns-clause-step g c =
+    let m = c.args.machine.now in
+    let next = c.choose_telling.new.self in
+    let choice = c.args.choice in
+    let how = c.in_ok-outcome.cache_use in
+    let core = c.core_of-core.ensures in
+    let left = c.in_ok-left.left in
+    let looked : WasLookedAt c.args.test.now c.args.config m next choice how c.in_ok-outcome.outcome c.unwrap_or-place.result c.request_at-request.result c.sent_on-sent.result left = record {
+      machine = c.requires.told.machine;
+      next_is = c.in_ok-outcome.ensures.after;
+      outcome_is = c.in_ok-outcome.ensures.outcome;
+      how_is = c.in_ok-outcome.ensures.how;
+      place_is = c.unwrap_or-place.ensures ∙ (ap (λ o. unwrap_or o 0) c.place.ensures ∙ (place-of m c.core_of-core.result.0 ∙ ap (λ i. (core_of m.state.flat i).place) core));
+      request_is = c.request_at-request.ensures ∙ (ap (λ n. request_at n (access_in c.access.result)) c.words.ensures.value
+          ∙ ap (λ a. request_at c.args.config.shape.words a) c.access.ensures);
+      sent_is = c.sent_on-sent.ensures ∙ (ap (λ b. sent_on b c.in_ok-outcome.outcome c.request_at-request.result how (option_map awaited_by c.awaited.result)) c.bus.ensures
+          ∙ ap (λ a. sent_on c.args.config.bus c.in_ok-outcome.outcome c.request_at-request.result how a) c.awaited.ensures);
+      left_is = leaves g c;
+    } in
+    let wrote_back : c.wrote_back_by-wrote_back.result ≡ wrote_back_by how (chosen choice) left.changes.items =
+    c.wrote_back_by-wrote_back.ensures ∙ (ap (λ i. wrote_back_by how i c.deref.result.now) core ∙ ap (λ cs. wrote_back_by how (chosen choice) cs) c.deref.ensures.value) in
+    told-whole c.args.test.now c.args.config m next choice how c.in_ok-outcome.outcome c.unwrap_or-place.result c.request_at-request.result c.sent_on-sent.result left
+    c.moved_in.result c.is_forwarded.result c.access_in.result c.wrote_back_by-wrote_back.result looked c.moved_in.ensures c.is_forwarded.ensures c.access_in.ensures wrote_back
+
+pub returns-clause-known : goal.returns-clause-known
+returns-clause-known g c =
+    subst (IsKnown c.args.test.now c.args.config.shape.words) (sym (returns-clause-step g c))
+    (step-known c.args.test.now c.args.config c.args.machine.now c.args.choice c.know_test.ensures c.requires.told.machine (subst IsLineSize c.words.ensures.value c.words.ensures.within))
