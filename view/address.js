@@ -7,7 +7,7 @@ const LONGEST_ADDRESS = 8000;
 /** By these words an address of a test begins. Any other is that of a picture: a line of `run --json`. */
 const TEST_ADDRESS = /^test=/;
 
-/** What stands behind `#` in the address of what is written now. */
+/** What stands after `#` in the address of what is written now. */
 function currentAddress() {
   const command = currentCommand();
   const pairs = [['test', byId('test').value], ['choices', byId('choices').value], ['order', byId('given').value], ['command', command]];
@@ -41,7 +41,7 @@ function openPicture(fragment) {
   } catch (fault) {
     if (!(fault instanceof URIError)) throw fault;
     showText('');
-    byId('message').textContent = 'What stands behind # in the address isn\'t a percent-encoded text.';
+    byId('message').textContent = 'What stands after # in the address isn\'t a percent-encoded text.';
   }
 }
 

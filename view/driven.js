@@ -73,7 +73,7 @@ function runAtEnd(history) {
 function showEnd(history) {
   const line = runAtEnd(history), run = line && readLine(line);
   Object.assign(shown, { run, line: line ?? '' });
-  byId('verdict').textContent = run ? verdictSentence(run, history.proposition) : conditionSentence(history);
+  putText(byId('verdict'), run ? verdictSentence(run, history.proposition) : conditionSentence(history));
   showPasses(history);
   byId('at-end').hidden = run === null;
   byId('comparison').hidden = run === null;
@@ -84,13 +84,10 @@ function showEnd(history) {
   compareNow();
 }
 
-/** Lists what loads passed so far, where the list isn't that already. */
+/** Lists what loads passed so far. */
 function showPasses(history) {
-  const passed = history.order.slice(0, history.momentAfter(drive.count).rows).filter(entry => entry.passed.length > 0);
-  const hasEnded = history.hasEnded(drive.count), key = `${hasEnded} ${passed.flatMap(passSentences).join(' ')}`;
-  if (byId('passes').dataset.key === key) return;
-  byId('passes').dataset.key = key;
-  byId('passes').replaceChildren(...(hasEnded ? passItems({ order: passed }) : passItems({ order: passed }, 'None so far.')));
+  const order = history.order.slice(0, history.momentAfter(drive.count).rows);
+  putItems(byId('passes'), history.hasEnded(drive.count) ? passesOf(order) : passesOf(order, 'None so far.'));
 }
 
 const conditionSentence = ({ proposition }) => (proposition === null ? 'Condition: the test has none.' :

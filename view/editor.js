@@ -6,14 +6,14 @@ const DIVIDING_LINE = '====';
 
 const readsOrder = command => command === 'check' || command === 'witness';
 
-/** The texts that a command reads: the test, and behind it the choices or the order. */
+/** The texts that a command reads: the test, and after it the choices or the order. */
 function inputOf(command) {
   const test = byId('test').value, ended = test.endsWith('\n') || test === '' ? test : test + '\n';
   if (command !== 'run' && !readsOrder(command)) return ended;
   return `${ended}${DIVIDING_LINE}\n${byId(readsOrder(command) ? 'given' : 'choices').value}`;
 }
 
-/** The parts of a whole input: what is before the first dividing line, and what is behind it, or null. */
+/** The parts of a whole input: what is before the first dividing line, and what is after it, or null. */
 function partsOf(text) {
   const lines = text.split('\n'), at = lines.findIndex(line => line.replace(/\r$/, '') === DIVIDING_LINE);
   if (at < 0) return { test: text, rest: null };

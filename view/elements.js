@@ -2,8 +2,16 @@
 
 // Elements. Whatever an input holds becomes text, never markup.
 
+/** Sets attributes. One that is set anew has the browser lay out and paint anew, so it is let be where it is the same. */
 function setAll(element, attributes) {
-  for (const [name, value] of Object.entries(attributes)) element.setAttribute(name, value);
+  for (const [name, value] of Object.entries(attributes)) {
+    if (element.getAttribute(name) !== String(value)) element.setAttribute(name, value);
+  }
+}
+
+/** Puts a text into an element, where it isn't that already. */
+function putText(element, text) {
+  if (element.textContent !== text) element.textContent = text;
 }
 
 function make(namespace, tag, attributes, children) {
@@ -16,3 +24,25 @@ function make(namespace, tag, attributes, children) {
 const html = (tag, attributes, ...children) => make('http://www.w3.org/1999/xhtml', tag, attributes, children);
 const svg = (tag, attributes, ...children) => make('http://www.w3.org/2000/svg', tag, attributes, children);
 const byId = id => document.getElementById(id);
+
+/** Puts texts into a list, an item for each. The items before the first that differs stay. */
+function putItems(list, texts) {
+  let same = 0;
+  while (same < texts.length && list.children[same]?.textContent === texts[same]) same++;
+  while (list.children.length > same) list.lastElementChild.remove();
+  list.append(...texts.slice(same).map(text => html('li', {}, text)));
+}
+
+/** An element that is drawn anew only where what it shows isn't what it showed. */
+class Part {
+  constructor(element, draw) {
+    Object.assign(this, { element, draw, key: null });
+  }
+
+  show(...shownNow) {
+    const key = JSON.stringify(shownNow);
+    if (key === this.key) return;
+    this.key = key;
+    this.element.replaceChildren(...this.draw(...shownNow));
+  }
+}

@@ -6,20 +6,6 @@ const MOST_SLOTS = 8; // of a store buffer that are drawn while they are free
 const MOST_LINES = 8; // of a program that are in sight at a time
 const LINE = 20; // pixels: the height of a program's line, as the style has it
 
-/** An element that is drawn anew only where what it shows isn't what it showed. */
-class Part {
-  constructor(element, draw) {
-    Object.assign(this, { element, draw, key: null });
-  }
-
-  show(...shownNow) {
-    const key = JSON.stringify(shownNow);
-    if (key === this.key) return;
-    this.key = key;
-    this.element.replaceChildren(...this.draw(...shownNow));
-  }
-}
-
 const marked = (name, isChanged) => (isChanged ? { class: `${name} changed` } : { class: name });
 const hidden = text => html('span', { class: 'unshown' }, text);
 
@@ -30,7 +16,7 @@ function registerItems(now, before) {
   return REGISTERS.map(name => html('li', marked(now[name] === 0 && before[name] === 0 ? 'word plain' : 'word', now[name] !== before[name]), `${name}=${now[name]}`));
 }
 
-/** The stores that wait, the oldest first; behind the last one that came in or left, and the room that is left. */
+/** The stores that wait, the oldest first; after the last one that came in or left, and the room that is left. */
 function bufferItems(now, before, depth) {
   const isNew = at => now.length > before.length && at === now.length - 1;
   const stores = now.map((store, at) => html('li', marked('slot', isNew(at)), store));
@@ -108,8 +94,8 @@ class CorePanel {
   showButtons(core, bus, hasEnded) {
     const texts = buttonTexts(this.program, core, bus, this.core);
     for (const way of ['step', 'drain']) {
-      this[way].lastChild.textContent = texts[way];
-      this[way].setAttribute('aria-label', `P${this.core}: ${way} ${texts[way]}`);
+      putText(this[way].lastChild, texts[way]);
+      setAll(this[way], { 'aria-label': `P${this.core}: ${way} ${texts[way]}` });
       this[way].disabled = hasEnded;
       this[way].classList.toggle('idle', way === 'step' ? core.place === this.program.length : core.buffer.length === 0);
     }

@@ -64,8 +64,7 @@ function showRun(run, line) {
   byId('name').textContent = `Test ${run.test}`;
   byId('machine').textContent = machineSentence(run);
   byId('verdict').textContent = verdictSentence(run);
-  delete byId('passes').dataset.key;
-  byId('passes').replaceChildren(...passItems(run));
+  putItems(byId('passes'), passesOf(run.order));
   byId('left').replaceChildren(...finalTables(run));
   byId('order-part').open = true;
   showOrder();

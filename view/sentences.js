@@ -21,6 +21,12 @@ function passSentences(load) {
   return sentences;
 }
 
+/** What the loads of an order passed, in sentences; where they passed nothing, one that says so. */
+function passesOf(order, none = 'None: each load comes after all earlier stores of its program.') {
+  const sentences = order.filter(entry => entry.passed.length > 0).flatMap(passSentences);
+  return sentences.length > 0 ? sentences : [none];
+}
+
 function readSentences(read) {
   const { source } = read, passes = passSentences(read);
   if (source?.index > read.index) return passes;

@@ -44,7 +44,7 @@ function readSettings(command) {
 
 const labelText = name => document.querySelector(`label[for=set-${name}]`).textContent;
 
-/** Shows the settings of a command, and the text that it reads behind the test. */
+/** Shows the settings of a command, and the text that it reads after the test. */
 function showSettings(command) {
   for (const name of SET_NAMES) settingOf(name).closest('.setting').hidden = !SETTINGS[command].includes(name);
   byId('settings').hidden = SETTINGS[command].length === 0;

@@ -27,9 +27,3 @@ function orderTable(run) {
     html('td', { class: 'wraps' }, entry.text),
     html('td', { class: 'prose' }, sentenceOf(run, entry)))));
 }
-
-function passItems({ order }, none = 'None: each load comes after all earlier stores of its program.') {
-  const sentences = order.filter(isRead).flatMap(passSentences);
-  if (sentences.length === 0) sentences.push(none);
-  return sentences.map(sentence => html('li', {}, sentence));
-}
