@@ -6,8 +6,8 @@
 Each beginning of a generated test, of a list of choices and of a report is read, with the answer that it must get. In a
 small test, its choices and an order each byte is replaced by each of the 256 in turn: the answer must be of a form that
 the program has, with a name of a refusal and a place that the text has. And the greatest inputs, with their answers,
-under a small stack and within a bound of processor time. All of it also on the split bus and without store buffers. The
-last line is 'N passed, M failed'.
+under a small stack and within a bound of processor time. All of it also on the split bus, without store buffers, traced
+and searched, where a byte is replaced by one of each kind that a text tells apart. The last line is 'N passed, M failed'.
 """
 import re
 import resource
@@ -29,6 +29,10 @@ JUDGES = ["check", "witness"]
 SMALL_TEST = b"X86 t\n{x=1;}\nP0;\nMOV [x],2;\nexists x=2\n"
 SMALL_CHOICES = b"0s 0d\n"
 SMALL_ORDER = b"Order\nP0:0 W x=2\nEndorder 1\n"
+
+# What a byte is replaced by: any of the 256; and one of each kind that some part of a text tells apart.
+ALL_BYTES = range(256)
+KINDS_OF_BYTES = b"\0\t\n\r \"#$%&'()*+,-./019:;<=>?@AEMPXZ[\\]^_adsxz{|}~\x7f\x80\xff"
 
 # The stack that the greatest inputs have, in units of 1024 bytes, and the processor time, in seconds.
 STACK = 256
@@ -213,10 +217,10 @@ def told(statuses, what):
     return "%d %s, answered: %s" % (sum(statuses.values()), what, counts)
 
 
-def damaged(text, first):
-    """The text with each byte from this place on replaced by each of the 256, as pairs of a name and the text."""
+def damaged(text, first, others):
+    """The text with each byte from this place on replaced by each of these others, as pairs of a name and the text."""
     for at in range(first, len(text)):
-        for byte in range(256):
+        for byte in others:
             yield "byte %d in place %d" % (byte, at), text[:at] + bytes([byte]) + text[at + 1:]
 
 
@@ -224,10 +228,11 @@ def judge_damage(program, tally):
     """Damages bytes. Answers how many."""
     whole = SMALL_TEST + DIVIDER + SMALL_CHOICES
     ordered = SMALL_TEST + DIVIDER + SMALL_ORDER
-    jobs = [(line, whole, 0) for line in RUNS + SEARCHES] + [("check", ordered, len(SMALL_TEST + DIVIDER))]
+    jobs = [(line, whole, 0, ALL_BYTES if line == "run" else KINDS_OF_BYTES) for line in RUNS + SEARCHES]
+    jobs.append(("check", ordered, len(SMALL_TEST + DIVIDER), ALL_BYTES))
     bytes_damaged = 0
-    for line, text, first in jobs:
-        tests = list(damaged(text, first))
+    for line, text, first, others in jobs:
+        tests = list(damaged(text, first, others))
         answers = judging.in_threads(lambda test: judging.run(program, line.split(), test[1]), tests, WORKERS)
         statuses = {}
         for done in answers:
