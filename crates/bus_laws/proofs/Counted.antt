@@ -6,7 +6,7 @@ use Rattle.tso_model.specs.Actions.{action_of}
 use Rattle.tso_model.specs.Thread.{entry, value_in, updated}
 use Rattle.tso_model.specs.ProgramOrder.{writes_to}
 use Rattle.tso_model.specs.FlatMachine.{CoreState, State, Effect, stored, effect_by, step_of, core_of, chosen, effect_of, is_none_pending}
-use Rattle.tso_model.specs.Access.{Access, NoAccess, Reads, Writes, Locks, store_access, load_access, locked_access, access_by, step_access, drain_access, next_of, access_of}
+use Rattle.tso_model.specs.MemoryAccess.{MemoryAccess, NoAccess, Reads, Writes, Locks, store_access, load_access, locked_access, access_by, step_access, drain_access, next_of, access_of}
 use Rattle.tso_model.specs.declared.register.Reg.{Reg}
 use Rattle.tso_model.specs.declared.instruction.Loc.{Loc}
 use Rattle.tso_model.specs.declared.instruction.Instr.{Instr}
@@ -18,7 +18,7 @@ use Rattle.tso_model.specs.declared.choice.Choice.{Choice}
 use Rattle.tso_model.specs.declared.choice.Choice.TheVariants.{Step, Drain}
 use Rattle.split_laws.specs.inner.Pending.{IsStoreOf, PendingIsOwn}
 use Rattle.snoop_bus.specs.Rows.{table_of_rows}
-use Rattle.machine_core.specs.declared.cache_use.CacheUse.TheVariants.{Unused, Forwarded}
+use Rattle.machine_core.specs.declared.accesses.CacheUse.TheVariants.{Unused, Forwarded}
 use Rattle.machine_core.specs.Caches.{Caches, Used, not_through, load_by, write_by, load_after, use_of, hits_by}
 use Rattle.basic_laws.proofs.WithPending.{drain_with, fenced_with, locked_with}
 use Rattle.bus_laws.specs.Uses.{IsUseFor, IsHitUse, use_at}
@@ -83,7 +83,7 @@ choice-use t depth state c (Drain core) own =
     (λ p ps e. own core.0 0 p (ap (λ q. slice_get q 0) e))
 
 -- the caches' answer, and whether such a use is a hit
-pub use-told : (c : Caches) (core : ℕ) (what : Access) (u : Used) → IsUseFor c core what u → IsHitUse u.how ↔ (hits_by c core what ≡ true)
+pub use-told : (c : Caches) (core : ℕ) (what : MemoryAccess) (u : Used) → IsUseFor c core what u → IsHitUse u.how ↔ (hits_by c core what ≡ true)
 use-told c core NoAccess u h = ((λ k. absurd (none h k)), (λ k. absurd (let z : ⊥ = cc in z)))
   where
     none : (u ≡ not_through Unused c) ⊎ (u ≡ not_through Forwarded c) → IsHitUse u.how → ⊥

@@ -3,7 +3,7 @@ use Rattle.std.specs.Prelude.{ℕ, ◌≡◌, ◌≢◌, true, List}
 use Rattle.protocol_tables.specs.Laws.{is_dirty}
 use Rattle.snoop_bus.specs.Coherent.{state_of}
 use Rattle.snoop_bus.specs.Copies.{Sets, copy_at}
-use Rattle.snoop_bus.specs.Bus.{Bus, IsCoherent, counted_copies}
+use Rattle.snoop_bus.specs.Bus.{BusModel, IsCoherent, counted_copies}
 
 -- this core's copy of the line, among these, is dirty
 abbrev pub IsOwner : List Sets → ℕ → ℕ → Type 0
@@ -12,4 +12,4 @@ IsOwner caches line core = is_dirty (state_of (copy_at caches core line)) ≡ tr
 -- of the copies that count, the words that a bus keeps among them, no two of one line are dirty
 abbrev pub OneOwnerAtMost : Type 0
 OneOwnerAtMost =
-    (b : Bus) (line i j : ℕ) → IsCoherent b → IsOwner (counted_copies b) line i → IsOwner (counted_copies b) line j → i ≢ j → ⊥
+    (b : BusModel) (line i j : ℕ) → IsCoherent b → IsOwner (counted_copies b) line i → IsOwner (counted_copies b) line j → i ≢ j → ⊥

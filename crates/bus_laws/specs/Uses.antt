@@ -2,20 +2,20 @@
 use Rattle.std.specs.Prelude.{ℕ, ◌≡◌, ◌↔◌, ◌⊎◌, true, List}
 use Rattle.tso_model.specs.Litmus.{Litmus}
 use Rattle.tso_model.specs.FlatMachine.{State, chosen, core_of, effect_of}
-use Rattle.tso_model.specs.Access.{Access, NoAccess, Reads, Writes, Locks, access_of}
+use Rattle.tso_model.specs.MemoryAccess.{MemoryAccess, NoAccess, Reads, Writes, Locks, access_of}
 use Rattle.tso_model.specs.EitherBus.{BusState}
-use Rattle.tso_model.specs.declared.bus.Bus as kind
+use Rattle.tso_model.specs.declared.choice.Bus as kind
 use Rattle.tso_model.specs.declared.execution.Entry.{Entry}
 use Rattle.tso_model.specs.declared.choice.Choice.{Choice}
 use Rattle.split_laws.specs.BusChoices.{IsPossibleOn}
 use Rattle.snoop_bus.specs.declared.access.AccessKind.TheVariants.{Hit}
-use Rattle.machine_core.specs.declared.cache_use.CacheUse.{CacheUse}
-use Rattle.machine_core.specs.declared.cache_use.CacheUse.TheVariants.{Unused, Forwarded, Through}
+use Rattle.machine_core.specs.declared.accesses.CacheUse.{CacheUse}
+use Rattle.machine_core.specs.declared.accesses.CacheUse.TheVariants.{Unused, Forwarded, Through}
 use Rattle.machine_core.specs.Caches.{Caches, Used, not_through, load_by, write_by, use_of, hits_by}
 
 -- a core's use of the caches is this access: no use, or a load that its own pending stores answer, where there is none; else one
 -- load or one write access at the location
-abbrev pub IsUseFor : Caches → ℕ → Access → Used → Type 0
+abbrev pub IsUseFor : Caches → ℕ → MemoryAccess → Used → Type 0
 IsUseFor c core NoAccess u = (u ≡ not_through Unused c) ⊎ (u ≡ not_through Forwarded c)
 IsUseFor c core (Reads loc) u = u ≡ load_by c core loc.0
 IsUseFor c core (Writes loc) u = u ≡ write_by c core loc.0

@@ -4,7 +4,7 @@ use Rattle.std.specs.List.{IsDistinct, AllByRecursion}
 use Rattle.std.proofs.lemmas.Map.Keys.{IsDistinct-head, IsDistinct-tail, IsDistinct-cons}
 use Rattle.tso_model.specs.Litmus.{Litmus}
 use Rattle.explorer.specs.State.{state_of}
-use Rattle.explorer.specs.inner.Kept.{AreLinked}
+use Rattle.explorer.specs.inner.Settled.{AreLinked}
 use Rattle.explorer.specs.FinalStates.{IsReachable, HasMoreStates}
 use Rattle.explorer.specs.declared.snapshot.Snapshot.{Snapshot}
 use Rattle.explorer.specs.declared.link.Link.{Link}

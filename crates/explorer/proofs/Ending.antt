@@ -12,7 +12,7 @@ use Rattle.tso_model.specs.declared.choice.Choice.{Choice}
 use Rattle.tso_model.specs.declared.choice.Choice.TheVariants.{Step, Drain}
 use Rattle.outcome_laws.specs.Outcomes.{LeadToEnd}
 use Rattle.explorer.specs.State.{core_of_processor, state_of}
-use Rattle.explorer.specs.Kept.{LeadsBy}
+use Rattle.explorer.specs.Settled.{LeadsBy}
 use Rattle.explorer.specs.declared.snapshot.Processor.{Processor}
 use Rattle.explorer.specs.declared.snapshot.Snapshot.{Snapshot}
 use Rattle.explorer.proofs.Choosing.{beyond}

@@ -8,7 +8,7 @@ use Rattle.tso_model.specs.Runs.{run, has_ended}
 use Rattle.tso_laws.specs.inner.Laws.{RunsStopWhereTheyEnd}
 use Rattle.eager_laws.specs.Closed.{ClosedStatesMissNone}
 use Rattle.explorer.specs.State.{state_of}
-use Rattle.explorer.specs.inner.Kept.{HaveCores, IsSearched}
+use Rattle.explorer.specs.inner.Settled.{HaveCores, IsSearched}
 use Rattle.explorer.specs.FinalStates.{AreReached, Have, HaveEveryEnd, AreDistinct}
 use Rattle.explorer.specs.inner.Collected.{IsMadeOf, AreFinalsOf}
 use Rattle.explorer.specs.declared.snapshot.Snapshot.{Snapshot}

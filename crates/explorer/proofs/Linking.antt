@@ -11,8 +11,8 @@ use Rattle.tso_model.specs.Runs.{CoresExist, stall_count}
 use Rattle.tso_model.specs.declared.choice.Choice.{Choice}
 use Rattle.tso_laws.specs.Choices.{state_after}
 use Rattle.explorer.specs.State.{state_of}
-use Rattle.explorer.specs.Kept.{LeadsBy, IsSettled}
-use Rattle.explorer.specs.inner.Kept.{IsLinked, AreLinked, IsPath, GoBack}
+use Rattle.explorer.specs.Settled.{LeadsBy, IsSettled}
+use Rattle.explorer.specs.inner.Settled.{IsLinked, AreLinked, IsPath, GoBack}
 use Rattle.explorer.specs.FinalStates.{IsReachable}
 use Rattle.explorer.specs.declared.snapshot.Snapshot.{Snapshot}
 use Rattle.explorer.specs.declared.link.Link.{Link}

@@ -13,8 +13,8 @@ use Rattle.tso_model.specs.Runs.{stall_count}
 use Rattle.eager_laws.specs.Eager.{IsEager}
 use Rattle.eager_laws.specs.Closed.{LeadsEagerly, IsIn, IsCovered, IsExpanded, AreClosed}
 use Rattle.explorer.specs.State.{state_of}
-use Rattle.explorer.specs.Kept.{LeadsBy, IsSettled}
-use Rattle.explorer.specs.inner.Kept.{Grows, HaveCores, IsReached, IsVisited, AreVisited, AreLinked}
+use Rattle.explorer.specs.Settled.{LeadsBy, IsSettled}
+use Rattle.explorer.specs.inner.Settled.{Grows, HaveCores, IsReached, IsVisited, AreVisited, AreLinked}
 use Rattle.explorer.specs.declared.snapshot.Snapshot.{Snapshot}
 use Rattle.explorer.specs.declared.link.Link.{Link}
 use Rattle.explorer.proofs.Linking.{get-left, get-back, leads-append, linked-first}

@@ -1,5 +1,5 @@
 pub mod State
-pub mod Kept
+pub mod Settled
 pub mod FinalStates
 pub mod inner
 pub use Rattle.tso_model.specs.FlatMachine

@@ -1,3 +1,3 @@
 -- Words of contracts inside the project.
 pub mod Collected
-pub mod Kept
+pub mod Settled

@@ -5,7 +5,7 @@ ghost use Rattle.tso_model.specs.FlatMachine.{chosen, program_of, core_of};
 ghost use Rattle.tso_model.specs.declared.choice.Choice.{Choice};
 ghost use Rattle.eager_laws.specs.Eager.{meets, Avoids, OthersAvoid, IsEager, IsEagerBy};
 ghost use Rattle.explorer.specs.State.{state_of, core_of_processor};
-ghost use Rattle.explorer.specs.Kept.{IsSettled};
+ghost use Rattle.explorer.specs.Settled.{IsSettled};
 
 use crate::acting::act;
 use crate::snapshot::{Processor, Snapshot};

@@ -4,7 +4,7 @@ ghost use Rattle.std.specs.Prelude.{◌≡◌, ◌<◌, IfOk, IfErr, length, sli
 ghost use Rattle.tso_model.specs.FlatMachine.{registers_in};
 ghost use Rattle.tso_model.specs.Runs.{is_done, has_ended};
 ghost use Rattle.explorer.specs.State.{state_of, core_of_processor};
-ghost use Rattle.explorer.specs.inner.Kept.{HaveCores, GoBack, IsPath};
+ghost use Rattle.explorer.specs.inner.Settled.{HaveCores, GoBack, IsPath};
 ghost use Rattle.explorer.specs.FinalStates.{AreReached, HaveEveryEnd, AreDistinct, HasMoreStates};
 ghost use Rattle.explorer.specs.FinalStates.{AreWhatTsoAllows, AreWhatSequentialConsistencyAllows};
 ghost use Rattle.tso_model.specs.Limits.{most_depth};

@@ -1,7 +1,7 @@
 //! How the search reached a state: from which one, and by which choices. Back along the links are the choices that lead to
 //! each final state.
 ghost use Rattle.std.specs.Prelude.{◌<◌, length, IfOk};
-ghost use Rattle.explorer.specs.inner.Kept.{GoBack, IsPath};
+ghost use Rattle.explorer.specs.inner.Settled.{GoBack, IsPath};
 
 use std::alloc::Global;
 use tso_model::{Choice, NoMemory};

@@ -2,7 +2,7 @@
 ghost use Rattle.std.specs.Prelude.{◌≡◌, ◌<◌, IfOk, OnOk, true, false, length};
 ghost use Rattle.tso_model.specs.FlatMachine.{after_choice, chosen};
 ghost use Rattle.explorer.specs.State.{state_of};
-ghost use Rattle.explorer.specs.inner.Kept.{IsReached};
+ghost use Rattle.explorer.specs.inner.Settled.{IsReached};
 
 use crate::acting::{act, has_stalled, is_idle};
 use crate::eager::settle;

@@ -4,9 +4,9 @@ ghost use Rattle.std.specs.Prelude.{◌≡◌, ℕ, ◌<◌, IfOk, IfErr, OnOk, 
 ghost use Rattle.tso_model.specs.FlatMachine.{chosen, start};
 ghost use Rattle.eager_laws.specs.Closed.{IsIn, IsCovered, IsExpanded};
 ghost use Rattle.tso_model.specs.Litmus.{Litmus};
-ghost use Rattle.explorer.specs.Kept.{LeadsBy};
+ghost use Rattle.explorer.specs.Settled.{LeadsBy};
 ghost use Rattle.explorer.specs.State.{state_of};
-ghost use Rattle.explorer.specs.inner.Kept.{Grows, HaveCores, IsVisited, AreVisited, AreLinked, IsSearched};
+ghost use Rattle.explorer.specs.inner.Settled.{Grows, HaveCores, IsVisited, AreVisited, AreLinked, IsSearched};
 ghost use Rattle.explorer.specs.FinalStates.{HasMoreStates};
 ghost use Rattle.explorer.specs.declared.snapshot.Snapshot.{Snapshot};
 ghost use Rattle.explorer.specs.declared.fault.ExploreFault.{ExploreFault};

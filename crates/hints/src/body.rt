@@ -21,9 +21,9 @@ pub fn body_of(text: &[u8]) -> &[u8] {
 /// any bytes may stand: then what stands after these brackets.
 pub fn ending_of<'a>(body: &'a [u8], tokens: &Tokens<'a>) -> &'a [u8] {
     match tokens.stop {
-        Stop::BadToken(left) => after_square(last_bytes(body, left)),
+        Stop::BadToken(remaining) => after_square(last_bytes(body, remaining)),
         Stop::End | Stop::Unclosed(_) => match last_quantifier(&tokens.items) {
-            Some(left) => last_bytes(body, left),
+            Some(remaining) => last_bytes(body, remaining),
             None => &[],
         },
     }
@@ -34,7 +34,7 @@ fn last_quantifier(tokens: &[Token<'_>]) -> Option<usize> {
     let mut last = None;
     for token in tokens {
         if is_name(token, b"exists") || is_name(token, b"forall") {
-            last = Some(token.left);
+            last = Some(token.remaining);
         }
     }
     last

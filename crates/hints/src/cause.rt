@@ -13,7 +13,7 @@ use tso_model::{NoMemory, Test};
 
 /// What a command reads after the dividing line.
 #[derive(Clone, Copy)]
-pub enum Asked {
+pub enum SecondPart {
     /// Choices.
     Choices,
     /// An order.
@@ -34,7 +34,7 @@ pub enum Cause {
     },
     /// The test, which is so many first bytes of the input, is at fault.
     Test {
-        asked: Asked,
+        asked: SecondPart,
         length: usize,
         fault: Fault,
     },

@@ -1,13 +1,17 @@
 //! A dividing line that isn't there: what follows the test is then refused as a part of it, and the refusal alone would
 //! mislead.
 
-use crate::cause::Asked;
+use crate::cause::SecondPart;
 use crate::quotes::{is_choice, word};
 use crate::words::{Words, naming};
 
 /// What is said where an input without a dividing line goes on after its test as it would after such
 /// a line.
-pub fn missing_divider<'a>(asked: Asked, is_divided: bool, rest: &'a [u8]) -> Option<Words<'a>> {
+pub fn missing_divider<'a>(
+    asked: SecondPart,
+    is_divided: bool,
+    rest: &'a [u8],
+) -> Option<Words<'a>> {
     if is_divided {
         return None;
     }
@@ -33,6 +37,7 @@ pub fn missing_divider<'a>(asked: Asked, is_divided: bool, rest: &'a [u8]) -> Op
     None
 }
 
-fn begins_order(asked: Asked, word: &[u8]) -> bool {
-    matches!(asked, Asked::Order) && (word == b"Order".as_slice() || word == b"Test".as_slice())
+fn begins_order(asked: SecondPart, word: &[u8]) -> bool {
+    matches!(asked, SecondPart::Order)
+        && (word == b"Order".as_slice() || word == b"Test".as_slice())
 }

@@ -1,16 +1,15 @@
 //! What is said of a fault in a test: each name of a refusal has its words, chosen by what stands at the place of the
-//! fault.
+//! fault; and of a fault in a condition, also in the forms that other programs write and this one doesn't read.
 
-use crate::cause::Asked;
+use crate::cause::SecondPart;
 use crate::cells::bad_instruction;
-use crate::conditions::{bad_condition, foreign_form};
 use crate::divider::missing_divider;
 use crate::numbers::bad_number;
 use crate::openings::{bad_init, bad_token, no_header, unclosed};
 use crate::place::Place;
 use crate::quotes::up_to;
 use crate::rows::{bad_header_row, too_large, wrong_cells};
-use crate::words::{Piece, Words, around, naming};
+use crate::words::{Piece, Words, around, listed, naming};
 use litmus_reader::Why;
 use std::alloc::Global;
 use tso_model::NoMemory;
@@ -20,7 +19,7 @@ use tso_model::NoMemory;
 /// Errors: out of memory only.
 pub fn test_words<'a>(
     alloc: Global,
-    asked: Asked,
+    asked: SecondPart,
     is_divided: bool,
     place: Place<'a>,
     why: Why,
@@ -58,7 +57,7 @@ fn no_such_core<'a>(place: Place<'a>) -> Words<'a> {
     )
 }
 
-fn trailing<'a>(asked: Asked, is_divided: bool, place: Place<'a>) -> Words<'a> {
+fn trailing<'a>(asked: SecondPart, is_divided: bool, place: Place<'a>) -> Words<'a> {
     if let Some(words) = missing_divider(asked, is_divided, place.rest) {
         words
     } else if let Some(words) = foreign_form(place) {
@@ -69,4 +68,48 @@ fn trailing<'a>(asked: Asked, is_divided: bool, place: Place<'a>) -> Words<'a> {
             " stands after the end of the test, where nothing may",
         )
     }
+}
+
+const FORM: &str =
+    ": a condition is exists, ~exists or forall, and then atoms as 0:EAX=1, x=1 or true, joined by /\\ and \\/";
+
+/// What is said of a sign or a word that other programs write in a condition.
+pub const CONNECTIVES: &str =
+    ": in a condition write /\\ for and, \\/ for or, ~ for not, and = alone";
+
+/// Of what doesn't fit in a condition.
+pub fn bad_condition<'a>(place: Place<'a>) -> Words<'a> {
+    if let Some(words) = foreign_form(place) {
+        words
+    } else if place.is_register() {
+        naming(place.token(), " is none of EAX, EBX, ECX, EDX, ESI, EDI")
+    } else if place.rest.is_empty() {
+        around("the test ends within its condition", Piece::Text(FORM), "")
+    } else {
+        listed(
+            Piece::Named(place.token()),
+            Piece::Text(" doesn't fit"),
+            Piece::Text(FORM),
+            Piece::Text(""),
+        )
+    }
+}
+
+/// What is said of a number or a connective of another form, within a condition or after it.
+pub fn foreign_form<'a>(place: Place<'a>) -> Option<Words<'a>> {
+    if place.is_hexadecimal() {
+        Some(naming(place.with_last_byte(), ": numbers are decimal"))
+    } else if is_connective(place) {
+        Some(naming(place.token(), CONNECTIVES))
+    } else {
+        None
+    }
+}
+
+fn is_connective(place: Place<'_>) -> bool {
+    let token = place.token();
+    token == b"|".as_slice()
+        || (token == b"=".as_slice() && place.last_word() == b"=".as_slice())
+        || token.eq_ignore_ascii_case(b"and")
+        || token.eq_ignore_ascii_case(b"or")
 }

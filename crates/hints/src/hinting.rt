@@ -42,7 +42,7 @@ fn words_of<'a>(
             fault,
         } => {
             let is_divided = length < input.len();
-            let place = Place::new(first_bytes(input, length), fault.left);
+            let place = Place::new(first_bytes(input, length), fault.remaining);
             let words = test_words(alloc, asked, is_divided, place, fault.why)?;
             Ok((Where::Line(line_of_fault(place, fault.why)), words))
         }

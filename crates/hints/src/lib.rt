@@ -9,7 +9,6 @@ mod body;
 mod cause;
 mod cells;
 mod choices;
-mod conditions;
 mod divider;
 mod faults;
 mod hinting;
@@ -27,7 +26,7 @@ mod unended;
 mod unused;
 mod words;
 
-pub use cause::{Asked, Cause};
+pub use cause::{Cause, SecondPart};
 pub use hinting::hint_of;
 pub use lines::line_hint;
 pub use printing::{MAX_HINT, limits_are_as_defined};

@@ -1,9 +1,9 @@
 //! What is said of a fault before the rows of a test: in its header line, before its initial state or in that, and of what
 //! doesn't end.
 
-use crate::cause::Asked;
-use crate::conditions::CONNECTIVES;
+use crate::cause::SecondPart;
 use crate::divider::missing_divider;
+use crate::faults::CONNECTIVES;
 use crate::numbers::GREATEST;
 use crate::place::Place;
 use crate::quotes::{begins_with_letter, is_bare, word};
@@ -37,7 +37,7 @@ pub fn no_header<'a>(place: Place<'a>) -> Words<'a> {
 }
 
 /// Of what doesn't end.
-pub fn unclosed<'a>(asked: Asked, is_divided: bool, place: Place<'a>) -> Words<'a> {
+pub fn unclosed<'a>(asked: SecondPart, is_divided: bool, place: Place<'a>) -> Words<'a> {
     let rest = place.rest;
     if rest.is_empty() {
         plain(
@@ -56,7 +56,7 @@ pub fn unclosed<'a>(asked: Asked, is_divided: bool, place: Place<'a>) -> Words<'
     }
 }
 
-fn unclosed_row<'a>(asked: Asked, is_divided: bool, place: Place<'a>) -> Words<'a> {
+fn unclosed_row<'a>(asked: SecondPart, is_divided: bool, place: Place<'a>) -> Words<'a> {
     let token = place.token();
     if let Some(words) = nearly_keyword(token) {
         return words;

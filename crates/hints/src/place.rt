@@ -13,8 +13,8 @@ pub struct Place<'a> {
 
 impl<'a> Place<'a> {
     /// The place from which so many bytes of a text stand.
-    pub fn new(text: &'a [u8], left: usize) -> Place<'a> {
-        let (before, rest) = text.split_at(text.len().saturating_sub(left));
+    pub fn new(text: &'a [u8], remaining: usize) -> Place<'a> {
+        let (before, rest) = text.split_at(text.len().saturating_sub(remaining));
         Place { text, before, rest }
     }
 

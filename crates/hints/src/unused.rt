@@ -114,7 +114,7 @@ fn named_in(text: &[u8], tokens: &[Token<'_>], name: &[u8]) -> Option<NamedAt> {
     for token in tokens {
         if is_name(token, name) {
             return Some(NamedAt {
-                first: text.len().saturating_sub(token.left),
+                first: text.len().saturating_sub(token.remaining),
                 length: name.len(),
             });
         }

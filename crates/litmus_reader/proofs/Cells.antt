@@ -80,6 +80,6 @@ abbrev pub room_of : Option (Bor (List Token)) → ℕ
 room_of None = 0
 room_of (Some after_it) = length after_it.now + 1
 
-pub less_room : (left : Option (Bor (List Token))) (n : ℕ) → IfSome left (λ after_it. length after_it.now < n) → room_of left ≤ n
+pub less_room : (remaining : Option (Bor (List Token))) (n : ℕ) → IfSome remaining (λ after_it. length after_it.now < n) → room_of remaining ≤ n
 less_room None n shorter = omega arith
 less_room (Some after_it) n shorter = omega (arith, shorter)

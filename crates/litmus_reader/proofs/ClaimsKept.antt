@@ -15,13 +15,13 @@ use Rattle.litmus_tokens.specs.inner.Front.{symbol_at}
 use Rattle.litmus_reader.specs.declared.fault.Fault.{Fault}
 use Rattle.litmus_reader.specs.inner.Faults.{◌>>=◌, or_unfit}
 use Rattle.litmus_reader.specs.inner.Locations.{located}
-use Rattle.litmus_reader.specs.inner.Items.{setting_at, word_at, core_of}
+use Rattle.litmus_reader.specs.inner.Settings.{setting_at, word_at, core_of}
 use Rattle.litmus_reader.specs.inner.Conditions.{claim_in, Claimed, claimed, one_more, truth_at, truth_atom, setting_atom, atom_at, Proposition, joined_to, chain, chain_of, both, either, conjunction, disjunction, negation_at, opens_unit, negated, bracketed, unit_by, unit_at, proposition_at, Conditioned, with_claim, quantified, not_exists, condition_at, in_condition}
 use Rattle.litmus_reader.specs.inner.Keywords.{word_after}
 use Rattle.litmus_reader.proofs.Keeps.{Any, ok_any, some_any, bind_keeps, there_keeps, cond_keeps, core_keeps}
 use Rattle.litmus_reader.proofs.Named.{NamedSetting, setting_named}
 use Rattle.litmus_reader.proofs.Known.{AreNames, Grown, same_names, grown_further, LocatesIn, located_keeps}
-use Rattle.litmus_reader.specs.Places.{left_of}
+use Rattle.litmus_reader.specs.Places.{remaining_of}
 use Rattle.litmus_reader.specs.Written.{Setting, of_register, of_location}
 
 exist_further : (cores m n : ℕ) (c : Claim) → m ≤ n → NamesExist cores m c → NamesExist cores n c
@@ -43,14 +43,14 @@ record IsAtom (cores : ℕ) (old : List (List ℕ)) (claim : Claim) (new : List 
 abbrev IsAtomIn : ℕ → List (List ℕ) → Claim × List (List ℕ) → Type 0
 IsAtomIn cores old r = IsAtom cores old r.0 r.1
 
-claim_keeps : (cores left : ℕ) (names : List (List ℕ)) (s : Setting) → AreNames names → NamedSetting s → IfOk (claim_in cores left names s) (IsAtomIn cores names)
+claim_keeps : (cores remaining : ℕ) (names : List (List ℕ)) (s : Setting) → AreNames names → NamedSetting s → IfOk (claim_in cores remaining names s) (IsAtomIn cores names)
 unfolding claim_in
-claim_keeps cores left names (of_register digits reg v) h is =
-    bind_keeps (λ core. core < cores) (IsAtomIn cores names) (core_of cores left digits) _ (core_keeps cores left digits)
-    (λ core lt. bind_keeps (λ x. Any x) (IsAtomIn cores names) (word_at left v) _ (ok_any _) (λ value _. record { grown = same_names names h; exist = lt; one = refl; plain = refl }))
-claim_keeps cores left names (of_location x v) h is =
-    bind_keeps (λ x. Any x) (IsAtomIn cores names) (word_at left v) _ (ok_any _)
-    (λ value _. bind_keeps (LocatesIn names) (IsAtomIn cores names) (located left names x) _ (located_keeps left names x h is) (λ loc l. record { grown = l.grown; exist = l.below; one = refl; plain = refl }))
+claim_keeps cores remaining names (of_register digits reg v) h is =
+    bind_keeps (λ core. core < cores) (IsAtomIn cores names) (core_of cores remaining digits) _ (core_keeps cores remaining digits)
+    (λ core lt. bind_keeps (λ x. Any x) (IsAtomIn cores names) (word_at remaining v) _ (ok_any _) (λ value _. record { grown = same_names names h; exist = lt; one = refl; plain = refl }))
+claim_keeps cores remaining names (of_location x v) h is =
+    bind_keeps (λ x. Any x) (IsAtomIn cores names) (word_at remaining v) _ (ok_any _)
+    (λ value _. bind_keeps (LocatesIn names) (IsAtomIn cores names) (located remaining names x) _ (located_keeps remaining names x h is) (λ loc l. record { grown = l.grown; exist = l.below; one = refl; plain = refl }))
 
 -- ---- propositions
 
@@ -73,22 +73,22 @@ IfKeptClaim cores d before old r = IfOk r (KeptClaim cores d before old)
 abbrev IsNext : ℕ → ℕ → Type 0
 IsNext atoms n = (n ≡ atoms + 1) × (n ≤ 256)
 
-one_more_keeps : (left atoms : ℕ) → IfOk (one_more left atoms) (IsNext atoms)
-one_more_keeps left atoms = cond_keeps (λ (r : Result ℕ Fault). IfOk r (IsNext atoms)) (ltb atoms 256) _ _ (λ lt. let room : atoms < 256 = ltb-true _ _ lt in (refl, omega arith)) (λ _. tt)
+one_more_keeps : (remaining atoms : ℕ) → IfOk (one_more remaining atoms) (IsNext atoms)
+one_more_keeps remaining atoms = cond_keeps (λ (r : Result ℕ Fault). IfOk r (IsNext atoms)) (ltb atoms 256) _ _ (λ lt. let room : atoms < 256 = ltb-true _ _ lt in (refl, omega arith)) (λ _. tt)
 
 setting_keeps : (stop : Stop) (cores d : ℕ) → Keeping cores d (setting_atom stop cores)
 unfolding setting_atom
 setting_keeps stop cores d atoms names ps h =
     bind_keeps (λ x. NamedSetting x.0) (KeptClaim cores d atoms names) (setting_at (in_condition stop) ps) _ (setting_named (in_condition stop) ps)
-    (λ s is. bind_keeps (IsAtomIn cores names) (KeptClaim cores d atoms names) (claim_in cores (left_of ps) names s.0) _ (claim_keeps cores (left_of ps) names s.0 h is)
-    (λ claim a. bind_keeps (IsNext atoms) (KeptClaim cores d atoms names) (one_more (left_of ps) atoms) _ (one_more_keeps (left_of ps) atoms)
+    (λ s is. bind_keeps (IsAtomIn cores names) (KeptClaim cores d atoms names) (claim_in cores (remaining_of ps) names s.0) _ (claim_keeps cores (remaining_of ps) names s.0 h is)
+    (λ claim a. bind_keeps (IsNext atoms) (KeptClaim cores d atoms names) (one_more (remaining_of ps) atoms) _ (one_more_keeps (remaining_of ps) atoms)
     (λ n next. record { grown = a.grown; exist = a.exist; counted = omega (arith, a.one, next.0); room = next.1; negations = omega (arith, a.plain) })))
 
 pub atom_keeps : (stop : Stop) (cores d : ℕ) → Keeping cores d (atom_at stop cores)
 unfolding atom_at
 atom_keeps stop cores d atoms names ps h =
-    there_keeps (λ x. Any x) (IfKeptClaim cores d atoms names) (truth_at ps) (truth_atom (left_of ps) atoms names) _ (some_any _)
-    (λ t _. bind_keeps (IsNext atoms) (KeptClaim cores d atoms names) (one_more (left_of ps) atoms) _ (one_more_keeps (left_of ps) atoms)
+    there_keeps (λ x. Any x) (IfKeptClaim cores d atoms names) (truth_at ps) (truth_atom (remaining_of ps) atoms names) _ (some_any _)
+    (λ t _. bind_keeps (IsNext atoms) (KeptClaim cores d atoms names) (one_more (remaining_of ps) atoms) _ (one_more_keeps (remaining_of ps) atoms)
     (λ n next. record { grown = same_names names h; exist = tt; counted = omega (arith, next.0); room = next.1; negations = omega arith }))
     (setting_keeps stop cores d atoms names ps h)
 

@@ -6,7 +6,7 @@ use Rattle.litmus_tokens.specs.Pieces.{Piece}
 use Rattle.litmus_reader.specs.declared.fault.Why.TheVariants.{TooLarge}
 use Rattle.litmus_reader.specs.inner.Faults.{◌>>=◌, or_unfit}
 use Rattle.litmus_reader.specs.inner.Columns.{columns, core_at, separator_at, in_columns}
-use Rattle.litmus_reader.specs.Places.{fault, left_of}
+use Rattle.litmus_reader.specs.Places.{fault, remaining_of}
 
 pub columns_next : (stop : Stop) (core : ℕ) (ps : List Piece) → core < most_cores → columns stop (most_cores - core) core ps ≡
     (or_unfit (in_columns stop) ps (core_at core ps) >>= λ rest.
@@ -16,6 +16,6 @@ unfolding columns
 columns_next stop core ps lt = let e : most_cores - core ≡ suc (most_cores - (core + 1)) = omega arith in rw e
 
 pub columns_last : (stop : Stop) (core : ℕ) (ps : List Piece) → most_cores ≤ core → columns stop (most_cores - core) core ps ≡
-    (or_unfit (in_columns stop) ps (core_at core ps) >>= λ rest. Err (fault TooLarge (left_of ps)))
+    (or_unfit (in_columns stop) ps (core_at core ps) >>= λ rest. Err (fault TooLarge (remaining_of ps)))
 unfolding columns
 columns_last stop core ps le = let e : most_cores - core ≡ zero = omega arith in rw e

@@ -23,7 +23,7 @@ Refused text = (f : Fault) → reading_of text ≡ Err f → IsFault text f
 some_is : (x y : TextFault) → Some x ≡ Some y → x ≡ y
 some_is x y e = cc
 
-same_refusal : (text : List ℕ) (r : TextFault) (f : Fault) → r.line ≡ line_of text f.left → r.why ≡ f.why → refusal text f ≡ r
+same_refusal : (text : List ℕ) (r : TextFault) (f : Fault) → r.line ≡ line_of text f.remaining → r.why ≡ f.why → refusal text f ≡ r
 same_refusal text r f line why =
     let first : refusal text f ≡ record { line = r.line; why = f.why } = ap (λ (n : ℕ). (let x : TextFault = record { line = n; why = f.why } in x)) (sym line) in
     first ∙ ap (λ (w : Why). (let x : TextFault = record { line = r.line; why = w } in x)) (sym why)

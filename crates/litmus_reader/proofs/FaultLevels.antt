@@ -22,7 +22,7 @@ use Rattle.litmus_reader.proofs.GrammarPhrases.{joining_either, numbered_both, f
 use Rattle.litmus_reader.proofs.GrammarTest.{terms_append}
 use Rattle.litmus_reader.proofs.RefusedKinds.{symbol_slot}
 use Rattle.litmus_reader.proofs.RefusedOpens.{no_unit_there}
-use Rattle.litmus_reader.specs.Places.{fault, left_of}
+use Rattle.litmus_reader.specs.Places.{fault, remaining_of}
 use Rattle.litmus_reader.specs.Written.{Phrase, atom, either}
 
 -- ---- tests
@@ -171,7 +171,7 @@ cases IsUnit IsFault cores atoms names _ _ (level.later front between _ p _ are 
 -- ---- atoms
 
 atom_as_read : (stop : Stop) (cores atoms : ℕ) (names : List (List ℕ)) (ps : List Piece) (ts back : List Term) (p : Phrase) (why : Why) → IsAtom ts p → terms ps ≡ ts ++ back
-    → refused.IsAtomFault cores atoms names p why → level.IsAtomFault stop cores atoms names ps (fault why (left_of ps))
+    → refused.IsAtomFault cores atoms names p why → level.IsAtomFault stop cores atoms names ps (fault why (remaining_of ps))
 atom_as_read stop cores atoms names ps _ back _ _ (says_setting ts _ is) e (refused.no_such_core s lacks) = level.no_such_core ts back s is e lacks
 atom_as_read stop cores atoms names ps _ back _ _ (says_setting ts _ is) e (refused.bad_number s has big) = level.bad_number ts back s is e has big
 atom_as_read stop cores atoms names ps ts back _ _ is e (refused.one_too_many p fits past) = level.one_too_many ts back p is e fits past

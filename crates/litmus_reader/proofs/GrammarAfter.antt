@@ -17,13 +17,13 @@ use Rattle.litmus_reader.specs.declared.fault.Fault.{Fault}
 use Rattle.litmus_reader.specs.declared.fault.Part.{Part}
 use Rattle.litmus_reader.specs.declared.cell.CoreInstr.{CoreInstr}
 use Rattle.litmus_reader.specs.inner.Faults.{◌>>=◌, or_unfit}
-use Rattle.litmus_reader.specs.inner.Items.{if_location, location_at, if_register, register_at, value_at, register_setting, square_setting, plain_setting, setting_at}
+use Rattle.litmus_reader.specs.inner.Settings.{if_location, location_at, if_register, register_at, value_at, register_setting, square_setting, plain_setting, setting_at}
 use Rattle.litmus_reader.specs.inner.Initial.{before_initial, Initial, initial, judged, item_in, step_in, items_within, items_at, initial_at, ends_item}
 use Rattle.litmus_reader.specs.inner.Columns.{if_core, core_at, separator_at, columns, columns_at, in_columns}
 use Rattle.litmus_reader.specs.inner.Rows.{Rows, row_at, row_in, rows_within, rows_at}
 use Rattle.litmus_reader.proofs.Keeps.{Any, ok_any, some_any, ok_is, bind_keeps, there_keeps, cond_keeps, or_unfit_keeps}
 use Rattle.litmus_reader.proofs.Readings.{AreLast}
-use Rattle.litmus_reader.specs.Places.{left_of, in_initial}
+use Rattle.litmus_reader.specs.Places.{remaining_of, in_initial}
 use Rattle.litmus_reader.specs.Written.{Setting, of_location}
 use Rattle.litmus_reader.specs.GrammarTable.{ends_rows}
 
@@ -141,7 +141,7 @@ unfolding item_in
 item_leaves part i ps =
     bind_keeps (λ found. Leaves ps found) (λ found. Leaves ps found) (setting_at part ps) _ (setting_leaves part ps)
     (λ s a. cond_keeps (LeavesItems ps) (ends_item s.1) _ _
-    (λ _. bind_keeps (λ x. Any x) (λ found. Leaves ps found) (judged (left_of ps) i s.0) _ (ok_any _) (λ after _. a))
+    (λ _. bind_keeps (λ x. Any x) (λ found. Leaves ps found) (judged (remaining_of ps) i s.0) _ (ok_any _) (λ after _. a))
     (λ _. tt))
 
 pub step_leaves : (part : Part) (i : Initial) (ps : List Piece) → LeavesItems ps (step_in part i ps)
@@ -161,7 +161,7 @@ unfolding initial_at items_at
 initial_leaves stop names ps rest i e =
     ok_is (λ found. Leaves ps found) (initial_at stop names ps) (i, rest)
     (bind_keeps (AreLast ps) (λ found. Leaves ps found) (or_unfit (before_initial stop) ps (symbol_at OpenCurly ps)) _ (or_unfit_keeps (AreLast ps) (before_initial stop) ps (symbol_at OpenCurly ps) (symbol_leaves OpenCurly ps))
-    (λ inner a. items_after ps inner (items_at (in_initial (left_of ps) stop) names inner) a (items_leave (length inner) (in_initial (left_of ps) stop) (initial names [] []) inner)))
+    (λ inner a. items_after ps inner (items_at (in_initial (remaining_of ps) stop) names inner) a (items_leave (length inner) (in_initial (remaining_of ps) stop) (initial names [] []) inner)))
     e
 
 -- ---- the header row
@@ -223,7 +223,7 @@ rows_leave zero stop cores instrs names ps = all_last ps
 rows_leave (suc n) stop cores instrs names ps =
     cond_keeps (LeavesRows ps) (ends_rows ps) _ _ (λ _. all_last ps)
     (λ _. bind_keeps (λ found. Leaves ps found) (λ r. AreLast ps r.rest) (row_at stop ps) _ (row_leaves stop ps)
-    (λ row a. bind_keeps (λ x. Any x) (λ r. AreLast ps r.rest) (row_in cores (left_of ps) instrs names row.0) _ (ok_any _)
+    (λ row a. bind_keeps (λ x. Any x) (λ r. AreLast ps r.rest) (row_in cores (remaining_of ps) instrs names row.0) _ (ok_any _)
     (λ read _. rows_after ps row.1 (rows_within n stop cores read.0 read.1 row.1) a (rows_leave n stop cores read.0 read.1 row.1))))
 
 pub all_rows_leave : (stop : Stop) (cores : ℕ) (names : List (List ℕ)) (ps : List Piece) (r : Rows) → rows_at stop cores names ps ≡ Ok r → AreLast ps r.rest

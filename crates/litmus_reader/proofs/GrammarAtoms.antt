@@ -19,7 +19,7 @@ use Rattle.litmus_reader.specs.declared.fault.Why.TheVariants.{TooLarge, NoSuchC
 use Rattle.litmus_reader.specs.inner.Faults.{there}
 use Rattle.litmus_reader.specs.inner.Keywords.{if_word, word_after}
 use Rattle.litmus_reader.specs.inner.Locations.{located}
-use Rattle.litmus_reader.specs.inner.Items.{setting_at, or_bad_number, word_at, core_of}
+use Rattle.litmus_reader.specs.inner.Settings.{setting_at, or_bad_number, word_at, core_of}
 use Rattle.litmus_reader.specs.inner.Conditions.{claim_in, Claimed, claimed, one_more, truth_at, truth_atom, setting_atom, atom_at, negation_at, in_condition}
 use Rattle.litmus_reader.specs.Grammar.{terms}
 use Rattle.litmus_reader.specs.GrammarItems.{IsSetting, sets_register, sets_location, sets_in_squares}
@@ -31,7 +31,7 @@ use Rattle.litmus_reader.proofs.GrammarItems.{setting_found, setting_taken}
 use Rattle.litmus_reader.proofs.GrammarPhrases.{Finds, Taken, Takes, Anything}
 use Rattle.litmus_reader.proofs.GrammarNames.{with_name_by, place_below, place_none, known_with, number_with}
 use Rattle.litmus_reader.proofs.Readings.{Begins, given_by, ReadsPhrase}
-use Rattle.litmus_reader.specs.Places.{fault, left_of}
+use Rattle.litmus_reader.specs.Places.{fault, remaining_of}
 use Rattle.litmus_reader.specs.Written.{Setting, of_register, of_location, truth, atom}
 
 -- ---- atoms
@@ -52,45 +52,45 @@ fits_atom cores (of_register core reg v) f =
     (ltb-true _ _ parts.0, ltb-true _ _ parts.1)
 fits_atom cores (of_location x v) f = ltb-true _ _ (and_parts (ltb v (2 ^ 32)) true f).0
 
-one_more_ok : (left atoms n : ℕ) → one_more left atoms ≡ Ok n → (n ≡ atoms + 1) × (atoms < 256)
-one_more_ok left atoms n e =
-    elim (chosen (ltb atoms 256) (Ok (atoms + 1)) (Err (fault TooLarge left)) (Ok n) e) [
+one_more_ok : (remaining atoms n : ℕ) → one_more remaining atoms ≡ Ok n → (n ≡ atoms + 1) × (atoms < 256)
+one_more_ok remaining atoms n e =
+    elim (chosen (ltb atoms 256) (Ok (atoms + 1)) (Err (fault TooLarge remaining)) (Ok n) e) [
       | inl hit ↦ (sym (ok_is (atoms + 1) n hit.1), ltb-true _ _ hit.0)
       | inr miss ↦ absurd cc
     ]
 
-one_more_is : (left atoms : ℕ) → atoms + 1 ≤ 256 → one_more left atoms ≡ Ok (atoms + 1)
-one_more_is left atoms few = let lt : ltb atoms 256 ≡ true = lt-ltb _ _ (omega arith) in rw lt refl
+one_more_is : (remaining atoms : ℕ) → atoms + 1 ≤ 256 → one_more remaining atoms ≡ Ok (atoms + 1)
+one_more_is remaining atoms few = let lt : ltb atoms 256 ≡ true = lt-ltb _ _ (omega arith) in rw lt refl
 
-pub word_ok : (left v n : ℕ) → word_at left v ≡ Ok n → (v ≡ n) × (v < 2 ^ 32)
-word_ok left v n e = by_room (ltb v (2 ^ 32)) refl e
+pub word_ok : (remaining v n : ℕ) → word_at remaining v ≡ Ok n → (v ≡ n) × (v < 2 ^ 32)
+word_ok remaining v n e = by_room (ltb v (2 ^ 32)) refl e
   where
-    by_room : (b : Bool) → ltb v (2 ^ 32) ≡ b → or_bad_number left (cond b (Some v) None) ≡ Ok n → (v ≡ n) × (v < 2 ^ 32)
+    by_room : (b : Bool) → ltb v (2 ^ 32) ≡ b → or_bad_number remaining (cond b (Some v) None) ≡ Ok n → (v ≡ n) × (v < 2 ^ 32)
     by_room true is h = (ok_is v n h, ltb-true _ _ is)
     by_room false is h = absurd cc
 
-pub word_is : (left v : ℕ) → v < 2 ^ 32 → word_at left v ≡ Ok v
-word_is left v small = rw (lt-ltb v (2 ^ 32) small) refl
+pub word_is : (remaining v : ℕ) → v < 2 ^ 32 → word_at remaining v ≡ Ok v
+word_is remaining v small = rw (lt-ltb v (2 ^ 32) small) refl
 
-core_ok : (cores left : ℕ) (digits : List ℕ) (n : ℕ) → core_of cores left digits ≡ Ok n → (decimal_value digits ≡ n) × (decimal_value digits < cores)
-core_ok cores left digits n e =
-    elim (chosen (ltb (decimal_value digits) cores) (Ok (decimal_value digits)) (Err (fault NoSuchCore left)) (Ok n) e) [
+core_ok : (cores remaining : ℕ) (digits : List ℕ) (n : ℕ) → core_of cores remaining digits ≡ Ok n → (decimal_value digits ≡ n) × (decimal_value digits < cores)
+core_ok cores remaining digits n e =
+    elim (chosen (ltb (decimal_value digits) cores) (Ok (decimal_value digits)) (Err (fault NoSuchCore remaining)) (Ok n) e) [
       | inl hit ↦ (ok_is (decimal_value digits) n hit.1, ltb-true _ _ hit.0)
       | inr miss ↦ absurd cc
     ]
 
-core_is : (cores left : ℕ) (digits : List ℕ) → decimal_value digits < cores → core_of cores left digits ≡ Ok (decimal_value digits)
-core_is cores left digits below = rw (lt-ltb (decimal_value digits) cores below) refl
+core_is : (cores remaining : ℕ) (digits : List ℕ) → decimal_value digits < cores → core_of cores remaining digits ≡ Ok (decimal_value digits)
+core_is cores remaining digits below = rw (lt-ltb (decimal_value digits) cores below) refl
 
 -- a setting is judged as it fits
-claim_found : (cores left : ℕ) (names : List (List ℕ)) (s : Setting) → SettingFits cores s → length (numbered names (names_in (s ∷ []))) ≤ 16
-    → claim_in cores left names s ≡ Ok (claim_by (numbered names (names_in (s ∷ []))) (atom s), numbered names (names_in (s ∷ [])))
+claim_found : (cores remaining : ℕ) (names : List (List ℕ)) (s : Setting) → SettingFits cores s → length (numbered names (names_in (s ∷ []))) ≤ 16
+    → claim_in cores remaining names s ≡ Ok (claim_by (numbered names (names_in (s ∷ []))) (atom s), numbered names (names_in (s ∷ [])))
 unfolding claim_in numbered located
-claim_found cores left names (of_register digits reg v) fits room = rw (core_is cores left digits fits.0, word_is left v fits.1) refl
-claim_found cores left names (of_location x v) fits room =
+claim_found cores remaining names (of_register digits reg v) fits room = rw (core_is cores remaining digits fits.0, word_is remaining v fits.1) refl
+claim_found cores remaining names (of_location x v) fits room =
     let below = place_below (bytes_eq x) (with_name names x) (known_with names x) in
     let few : number_of names x < 16 = omega (arith, below, number_with names x) in
-    rw (word_is left v fits, lt-ltb (number_of names x) 16 few, number_with names x) refl
+    rw (word_is remaining v fits, lt-ltb (number_of names x) 16 few, number_with names x) refl
 
 pub record ClaimTaken (cores : ℕ) (names : List (List ℕ)) (s : Setting) (c : Claim × List (List ℕ)) : Type 0 where
   pub fits : SettingFits cores s
@@ -98,11 +98,11 @@ pub record ClaimTaken (cores : ℕ) (names : List (List ℕ)) (s : Setting) (c :
   pub claim_is : c.0 ≡ claim_by (numbered names (names_in (s ∷ []))) (atom s)
   pub room : length names ≤ 16 → length (numbered names (names_in (s ∷ []))) ≤ 16
 
-pub located_ok : (left : ℕ) (names : List (List ℕ)) (x : List ℕ) (r : Loc × List (List ℕ)) → located left names x ≡ Ok r
+pub located_ok : (remaining : ℕ) (names : List (List ℕ)) (x : List ℕ) (r : Loc × List (List ℕ)) → located remaining names x ≡ Ok r
     → (r.0 ≡ location (number_of names x)) × (r.1 ≡ with_name names x) × (number_of names x < 16)
 unfolding located
-located_ok left names x r e =
-    elim (chosen (ltb (number_of names x) 16) (Ok (location (number_of names x), with_name names x)) (Err (fault TooLarge left)) (Ok r) e) [
+located_ok remaining names x r e =
+    elim (chosen (ltb (number_of names x) 16) (Ok (location (number_of names x), with_name names x)) (Err (fault TooLarge remaining)) (Ok r) e) [
       | inl hit ↦
           let same = ok_pair (location (number_of names x)) r.0 (with_name names x) r.1 hit.1 in
           (sym same.0, sym same.1, ltb-true _ _ hit.0)
@@ -113,13 +113,13 @@ pub room_with : (names : List (List ℕ)) (x : List ℕ) → number_of names x <
 room_with names x few le =
     with_name_by (λ l. length l ≤ 16) names x (λ _. le) (λ none. let at_end = place_none (bytes_eq x) names none in omega (arith, at_end, few, length-append names (x ∷ [])))
 
-pub claim_taken : (cores left : ℕ) (names : List (List ℕ)) (s : Setting) (c : Claim × List (List ℕ)) → claim_in cores left names s ≡ Ok c → ClaimTaken cores names s c
+pub claim_taken : (cores remaining : ℕ) (names : List (List ℕ)) (s : Setting) (c : Claim × List (List ℕ)) → claim_in cores remaining names s ≡ Ok c → ClaimTaken cores names s c
 unfolding claim_in numbered
-claim_taken cores left names (of_register digits reg v) c e =
-    let a = bind_ok (core_of cores left digits) _ c e in
-    let b = bind_ok (word_at left v) _ c a.2 in
-    let core = core_ok cores left digits a.0 a.1 in
-    let word = word_ok left v b.0 b.1 in
+claim_taken cores remaining names (of_register digits reg v) c e =
+    let a = bind_ok (core_of cores remaining digits) _ c e in
+    let b = bind_ok (word_at remaining v) _ c a.2 in
+    let core = core_ok cores remaining digits a.0 a.1 in
+    let word = word_ok remaining v b.0 b.1 in
     let same = ok_pair (RegClaim a.0 reg b.0) c.0 names c.1 b.2 in
     record {
       fits = (core.1, word.1);
@@ -127,11 +127,11 @@ claim_taken cores left names (of_register digits reg v) c e =
       claim_is = sym same.0 ∙ ap (λ (n : ℕ). RegClaim n reg b.0) (sym core.0) ∙ ap (λ (n : ℕ). RegClaim (decimal_value digits) reg n) (sym word.0);
       room = λ le. le;
     }
-claim_taken cores left names (of_location x v) c e =
-    let a = bind_ok (word_at left v) _ c e in
-    let b = bind_ok (located left names x) _ c a.2 in
-    let word = word_ok left v a.0 a.1 in
-    let loc = located_ok left names x b.0 b.1 in
+claim_taken cores remaining names (of_location x v) c e =
+    let a = bind_ok (word_at remaining v) _ c e in
+    let b = bind_ok (located remaining names x) _ c a.2 in
+    let word = word_ok remaining v a.0 a.1 in
+    let loc = located_ok remaining names x b.0 b.1 in
     let same = ok_pair (LocClaim b.0.0.0 a.0) c.0 b.0.1 c.1 b.2 in
     record {
       fits = word.1;
@@ -184,18 +184,18 @@ unfolding atom_at setting_atom
 setting_atom_found stop cores ts s is atoms names allowed back ps e =
     let plain = setting_plain ts back s is ps e in
     let f = setting_found (in_condition stop) ts back s is ps e in
-    let claim = claim_found cores (left_of ps) names s (fits_atom cores s allowed.fits) allowed.room in
-    let done : atom_at stop cores atoms names ps ≡ Ok (given_by atoms names (atom s) f.rest) = rw (plain.no_truth, f.is, claim, one_more_is (left_of ps) atoms allowed.few) refl in
+    let claim = claim_found cores (remaining_of ps) names s (fits_atom cores s allowed.fits) allowed.room in
+    let done : atom_at stop cores atoms names ps ≡ Ok (given_by atoms names (atom s) f.rest) = rw (plain.no_truth, f.is, claim, one_more_is (remaining_of ps) atoms allowed.few) refl in
     record { rest = f.rest; is = done; after_it = f.after_it }
 
 pub atom_found : (stop : Stop) (cores : ℕ) → Finds cores (atom_at stop cores) IsAtom Anything
 unfolding atom_at truth_at word_after name_at numbered
 atom_found stop cores _ _ says_true atoms names allowed back ok ps e =
     opened (ReadsPhrase (atom_at stop cores) atoms names (truth true) back) ps (name (codes "true")) back e (λ p rest is after_it.
-    record { rest = rest; is = rw (is, one_more_is p.left atoms allowed.few) refl; after_it = after_it })
+    record { rest = rest; is = rw (is, one_more_is p.remaining atoms allowed.few) refl; after_it = after_it })
 atom_found stop cores _ _ says_false atoms names allowed back ok ps e =
     opened (ReadsPhrase (atom_at stop cores) atoms names (truth false) back) ps (name (codes "false")) back e (λ p rest is after_it.
-    record { rest = rest; is = rw (is, one_more_is p.left atoms allowed.few) refl; after_it = after_it })
+    record { rest = rest; is = rw (is, one_more_is p.remaining atoms allowed.few) refl; after_it = after_it })
 atom_found stop cores _ _ (says_setting ts s is) atoms names allowed back ok ps e = setting_atom_found stop cores ts s is atoms names allowed back ps e
 
 -- ---- atoms taken
@@ -227,11 +227,11 @@ setting_atom_taken : (stop : Stop) (cores atoms : ℕ) (names : List (List ℕ))
 unfolding setting_atom
 setting_atom_taken stop cores atoms names ps c e =
     let a = bind_ok (setting_at (in_condition stop) ps) _ c e in
-    let b = bind_ok (claim_in cores (left_of ps) names a.0.0) _ c a.2 in
-    let n = bind_ok (one_more (left_of ps) atoms) _ c b.2 in
+    let b = bind_ok (claim_in cores (remaining_of ps) names a.0.0) _ c a.2 in
+    let n = bind_ok (one_more (remaining_of ps) atoms) _ c b.2 in
     let t = setting_taken (in_condition stop) ps a.0.1 a.0.0 a.1 in
-    let claim = claim_taken cores (left_of ps) names a.0.0 b.0 b.1 in
-    let count = one_more_ok (left_of ps) atoms n.0 n.1 in
+    let claim = claim_taken cores (remaining_of ps) names a.0.0 b.0 b.1 in
+    let count = one_more_ok (remaining_of ps) atoms n.0 n.1 in
     subst (Taken cores IsAtom atoms names ps) (ok_is (claimed b.0.0 n.0 b.0.1 a.0.1) c n.2) (record {
       ts = t.ts;
       phrase = atom a.0.0;
@@ -245,12 +245,12 @@ setting_atom_taken stop cores atoms names ps c e =
       room = claim.room;
     })
 
-truth_atom_taken : (left cores atoms : ℕ) (names : List (List ℕ)) (ps : List Piece) (t : Bool × List Piece) (c : Claimed) → truth_at ps ≡ Some t → truth_atom left atoms names t ≡ Ok c → Taken cores IsAtom atoms names ps c
+truth_atom_taken : (remaining cores atoms : ℕ) (names : List (List ℕ)) (ps : List Piece) (t : Bool × List Piece) (c : Claimed) → truth_at ps ≡ Some t → truth_atom remaining atoms names t ≡ Ok c → Taken cores IsAtom atoms names ps c
 unfolding numbered
-truth_atom_taken left cores atoms names ps t c at e =
-    let n = bind_ok (one_more left atoms) _ c e in
+truth_atom_taken remaining cores atoms names ps t c at e =
+    let n = bind_ok (one_more remaining atoms) _ c e in
     let b = truth_taken ps t at in
-    let count = one_more_ok left atoms n.0 n.1 in
+    let count = one_more_ok remaining atoms n.0 n.1 in
     subst (Taken cores IsAtom atoms names ps) (ok_is (claimed (TruthClaim t.0) n.0 names t.1) c n.2) (record {
       ts = b.ts;
       phrase = truth t.0;
@@ -267,7 +267,7 @@ truth_atom_taken left cores atoms names ps t c at e =
 pub atom_taken : (stop : Stop) (cores : ℕ) → Takes cores (atom_at stop cores) IsAtom
 unfolding atom_at
 atom_taken stop cores atoms names ps c e =
-    elim (there_is (truth_at ps) (truth_atom (left_of ps) atoms names) (setting_atom stop cores atoms names ps) (Ok c) e) [
-      | inl t ↦ truth_atom_taken (left_of ps) cores atoms names ps t.0 c t.1 t.2
+    elim (there_is (truth_at ps) (truth_atom (remaining_of ps) atoms names) (setting_atom stop cores atoms names ps) (Ok c) e) [
+      | inl t ↦ truth_atom_taken (remaining_of ps) cores atoms names ps t.0 c t.1 t.2
       | inr none ↦ setting_atom_taken stop cores atoms names ps c none.1
     ]

@@ -17,7 +17,7 @@ use Rattle.litmus_reader.specs.Grammar.{terms}
 use Rattle.litmus_reader.specs.GrammarColumns.{AreColumns, last, more, IsHeaderRow, core_name}
 use Rattle.litmus_reader.proofs.GrammarTokens.{chosen, there_is, there_some, some_is, ok_pair, bind_ok, or_unfit_ok, opened, name_takes, symbol_takes}
 use Rattle.litmus_reader.proofs.Readings.{Reads, Begins}
-use Rattle.litmus_reader.specs.Places.{fault, left_of}
+use Rattle.litmus_reader.specs.Places.{fault, remaining_of}
 
 abbrev Found : Stop → ℕ → ℕ → ℕ → List Term → List Piece → Type 0
 Found stop n core cores back ps = Reads (columns stop n core ps) cores back
@@ -102,7 +102,7 @@ columns_taken : (stop : Stop) (n core cores : ℕ) (ps rest : List Piece) → co
 unfolding columns
 columns_taken stop zero core cores ps rest e =
     let a = bind_ok (or_unfit (in_columns stop) ps (core_at core ps)) _ (cores, rest) e in
-    let never : (let r : Result (ℕ × List Piece) Fault = Err (fault TooLarge (left_of ps)) in r) ≡ Ok (cores, rest) = a.2 in
+    let never : (let r : Result (ℕ × List Piece) Fault = Err (fault TooLarge (remaining_of ps)) in r) ≡ Ok (cores, rest) = a.2 in
     absurd cc
 columns_taken stop (suc n) core cores ps rest e =
     let a = bind_ok (or_unfit (in_columns stop) ps (core_at core ps)) _ (cores, rest) e in

@@ -20,7 +20,7 @@ use Rattle.litmus_reader.proofs.GrammarPhrases.{Finds, Taken, Takes, Anything, p
 use Rattle.litmus_reader.proofs.GrammarLast.{unit_leaves}
 use Rattle.litmus_reader.proofs.GrammarAtoms.{word_taken, setting_plain, atom_found, atom_taken}
 use Rattle.litmus_reader.proofs.Readings.{given_by, ReadsPhrase, SpellsPhrase}
-use Rattle.litmus_reader.specs.Places.{fault, left_of}
+use Rattle.litmus_reader.specs.Places.{fault, remaining_of}
 use Rattle.litmus_reader.specs.Written.{Phrase, negation}
 use Rattle.litmus_reader.specs.Misfits.{begins_with}
 use Rattle.litmus_tokens.specs.declared.token.Symbol.{Symbol}
@@ -159,7 +159,7 @@ bracketed_taken cores n atoms names ps inside rest c at t close = record {
 last_taken : (stop : Stop) (cores : ℕ) → Takes cores (unit_at stop cores zero) (IsUnit zero)
 unfolding unit_at
 last_taken stop cores atoms names ps c e =
-    elim (chosen (opens_unit ps) (Err (fault TooLarge (left_of ps))) (atom_at stop cores atoms names ps) (Ok c) e) [
+    elim (chosen (opens_unit ps) (Err (fault TooLarge (remaining_of ps))) (atom_at stop cores atoms names ps) (Ok c) e) [
       | inl hit ↦ absurd cc
       | inr miss ↦ atom_taken stop cores atoms names ps c miss.1
     ]

@@ -24,15 +24,15 @@ use Rattle.litmus_reader.specs.GrammarConditions.{condition, says_exists, says_f
 use Rattle.litmus_reader.specs.GrammarEnding.{MayAsk, nothing, a_condition, IsEnding, at_once, after_locations, names_asked, condition_of, IsAskedWithin}
 use Rattle.litmus_reader.proofs.GrammarTokens.{there_is, ok_is, some_is, chosen, bind_ok, or_unfit_ok, opened, no_terms, symbol_is}
 use Rattle.litmus_reader.proofs.GrammarQuantified.{condition_again, condition_takes}
-use Rattle.litmus_reader.specs.Places.{left_of, from_place}
-use Rattle.litmus_reader.specs.Written.{Asked, Phrase}
+use Rattle.litmus_reader.specs.Places.{remaining_of, from_place}
+use Rattle.litmus_reader.specs.Written.{WrittenCondition, Phrase}
 use Rattle.tso_model.specs.declared.condition.Quantifier.{Quantifier}
 
-abbrev pub asked : Quantifier → Phrase → Option Asked
+abbrev pub asked : Quantifier → Phrase → Option WrittenCondition
 asked quantifier phrase = Some (record { quantifier = quantifier; phrase = phrase })
 
 -- the tokens up to the end of the text are nothing, or a condition
-pub record EndsText (stop : Stop) (ps : List Piece) (c : Option Asked) : Type 0 where
+pub record EndsText (stop : Stop) (ps : List Piece) (c : Option WrittenCondition) : Type 0 where
   pub ended : stop ≡ End
   pub is : MayAsk (terms ps) c
 
@@ -40,7 +40,7 @@ pub record EndsText (stop : Stop) (ps : List Piece) (c : Option Asked) : Type 0 
 abbrev pub Given : Type 0
 Given = Option Condition × List (List ℕ)
 
-abbrev pub given : List (List ℕ) → Option Asked → Given
+abbrev pub given : List (List ℕ) → Option WrittenCondition → Given
 given names c = (condition_of (numbered names (names_asked c)) c, numbered names (names_asked c))
 
 -- ---- found
@@ -49,7 +49,7 @@ end_found : (stop : Stop) → stop ≡ End → end_at stop [] ≡ Ok tt
 unfolding end_at
 end_found stop ended = rw ended refl
 
-ending_found : (stop : Stop) (cores : ℕ) (names : List (List ℕ)) (ps : List Piece) (c : Option Asked) (ts : List Term) → stop ≡ End → terms ps ≡ ts → MayAsk ts c → IsAskedWithin cores names c
+ending_found : (stop : Stop) (cores : ℕ) (names : List (List ℕ)) (ps : List Piece) (c : Option WrittenCondition) (ts : List Term) → stop ≡ End → terms ps ≡ ts → MayAsk ts c → IsAskedWithin cores names c
     → ending_at stop cores names ps ≡ Ok (given names c)
 unfolding ending_at condition_at word_after name_at symbol_at numbered end_at
 ending_found stop cores names ps _ _ ended e nothing within = rw (no_terms ps e, ended) refl
@@ -57,7 +57,7 @@ ending_found stop cores names ps _ _ ended e (a_condition ts quantifier phrase i
     let f = condition_again stop cores names ps ts [] quantifier phrase is within (e ∙ sym (append-nil ts)) refl refl in
     rw (f.is, no_terms f.rest f.after_it, end_found stop ended) refl
 
-no_locations : (ps : List Piece) (c : Option Asked) (ts : List Term) → terms ps ≡ ts → MayAsk ts c → word_after (codes "locations") ps ≡ None
+no_locations : (ps : List Piece) (c : Option WrittenCondition) (ts : List Term) → terms ps ≡ ts → MayAsk ts c → word_after (codes "locations") ps ≡ None
 unfolding word_after name_at
 no_locations ps _ _ e nothing = rw (no_terms ps e) refl
 no_locations ps _ _ e (a_condition _ _ _ (condition _ us _ phrase says_exists is)) =
@@ -69,17 +69,17 @@ no_locations ps _ _ e (a_condition _ _ _ (condition _ us _ phrase says_not_exist
 
 -- the law of the brackets, as this file uses it
 abbrev pub Closes : Type 0
-Closes = (left : ℕ) (bytes rest : List ℕ) → ClosesBrackets bytes rest → square_end left bytes ≡ Ok rest
+Closes = (remaining : ℕ) (bytes rest : List ℕ) → ClosesBrackets bytes rest → square_end remaining bytes ≡ Ok rest
 
 abbrev pub Closed : Type 0
-Closed = (left : ℕ) (bytes rest : List ℕ) → square_end left bytes ≡ Ok rest → ClosesBrackets bytes rest
+Closed = (remaining : ℕ) (bytes rest : List ℕ) → square_end remaining bytes ≡ Ok rest → ClosesBrackets bytes rest
 
 pub observed_found : (text : List ℕ) (stop : Stop) (word opener : Piece) (ps : List Piece) (bytes : List ℕ) → Closes → word.term ≡ name (codes "locations") → opener.term ≡ symbol OpenSquare
-    → ClosesBrackets (from_place text opener.left) bytes → ending_tokens text stop (word ∷ opener ∷ ps) ≡ Ok (pieces_of bytes)
+    → ClosesBrackets (from_place text opener.remaining) bytes → ending_tokens text stop (word ∷ opener ∷ ps) ≡ Ok (pieces_of bytes)
 unfolding ending_tokens word_after name_at brackets_end symbol_at is_symbol
-observed_found text stop word opener ps bytes closes is_word is_opener found = rw (is_word, is_opener, closes opener.left (from_place text opener.left) bytes found) refl
+observed_found text stop word opener ps bytes closes is_word is_opener found = rw (is_word, is_opener, closes opener.remaining (from_place text opener.remaining) bytes found) refl
 
-pub tail_again : (text : List ℕ) (stop : Stop) (cores : ℕ) (names : List (List ℕ)) (ps : List Piece) (c : Option Asked) → Closes → IsEnding text stop ps c → IsAskedWithin cores names c
+pub tail_again : (text : List ℕ) (stop : Stop) (cores : ℕ) (names : List (List ℕ)) (ps : List Piece) (c : Option WrittenCondition) → Closes → IsEnding text stop ps c → IsAskedWithin cores names c
     → tail_at text stop cores names ps ≡ Ok (given names c)
 unfolding tail_at ending_tokens
 tail_again text stop cores names _ _ closes (at_once ps c ended is) within =
@@ -93,12 +93,12 @@ end_taken : (stop : Stop) (ps : List Piece) (u : Unit {0}) → end_at stop ps �
 unfolding end_at
 end_taken stop (p ∷ ps) u e = absurd cc
 end_taken End [] u e = (refl, refl)
-end_taken (BadToken left) [] u e = absurd cc
-end_taken (Unclosed left) [] u e = absurd cc
+end_taken (BadToken remaining) [] u e = absurd cc
+end_taken (Unclosed remaining) [] u e = absurd cc
 
 -- what was read after these names is what the tokens up to the end spell
 pub record Ends (stop : Stop) (cores : ℕ) (names : List (List ℕ)) (ps : List Piece) (g : Given) : Type 0 where
-  pub c : Option Asked
+  pub c : Option WrittenCondition
   pub ends : EndsText stop ps c
   pub within : IsAskedWithin cores names c
   pub gives : g ≡ given names c
@@ -156,7 +156,7 @@ symbol_found s (p ∷ ps) rest e =
 
 -- what was read after these names is what the rest of the text spells
 pub record Tail (text : List ℕ) (stop : Stop) (cores : ℕ) (names : List (List ℕ)) (ps : List Piece) (g : Given) : Type 0 where
-  pub c : Option Asked
+  pub c : Option WrittenCondition
   pub ending : IsEnding text stop ps c
   pub within : IsAskedWithin cores names c
   pub gives : g ≡ given names c
@@ -170,11 +170,11 @@ tail_takes text stop cores names ps g closed le e =
       | inl at ↦
           let w = word_found (codes "locations") ps at.0 at.1 in
           let b = bind_ok (brackets_end text stop at.0) (λ bytes. Ok (pieces_of bytes)) a.0 at.2 in
-          let d = bind_ok (or_unfit (in_observed stop) at.0 (symbol_at OpenSquare at.0)) (λ rest. square_end (left_of at.0) (from_place text (left_of at.0))) b.0 b.1 in
+          let d = bind_ok (or_unfit (in_observed stop) at.0 (symbol_at OpenSquare at.0)) (λ rest. square_end (remaining_of at.0) (from_place text (remaining_of at.0))) b.0 b.1 in
           let o = symbol_found OpenSquare at.0 d.0 (or_unfit_ok (in_observed stop) at.0 (symbol_at OpenSquare at.0) d.0 d.1) in
           let tokens : pieces_of b.0 ≡ a.0 = ok_is (pieces_of b.0) a.0 b.2 in
           let ends = ending_taken (pieces_of b.0).1 cores names (pieces_of b.0).0 g le (subst (λ (rest : List Piece × Stop). ending_at rest.1 cores names rest.0 ≡ Ok g) (sym tokens) a.2) in
-          let place : ClosesBrackets (from_place text o.0.left) b.0 = closed o.0.left (from_place text o.0.left) b.0 (subst (λ (l : List Piece). square_end (left_of l) (from_place text (left_of l)) ≡ Ok b.0) o.1 d.2) in
+          let place : ClosesBrackets (from_place text o.0.remaining) b.0 = closed o.0.remaining (from_place text o.0.remaining) b.0 (subst (λ (l : List Piece). square_end (remaining_of l) (from_place text (remaining_of l)) ≡ Ok b.0) o.1 d.2) in
           record {
             c = ends.c;
             ending = subst (λ l. IsEnding text stop l ends.c) (sym (w.1 ∙ ap (λ (l : List Piece). w.0 ∷ l) o.1)) (after_locations w.0 o.0 d.0 b.0 ends.c w.2 o.2 place ends.ends.ended ends.ends.is);

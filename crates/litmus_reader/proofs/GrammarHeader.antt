@@ -14,10 +14,10 @@ record Judged (o : Option (List ℕ)) (name : List ℕ) : Type 0 where
   pub is : o ≡ Some name
   pub good : is_test_name name ≡ true
 
-judged_takes : (left : ℕ) (o : Option (List ℕ)) (name : List ℕ) → judged left o ≡ Ok name → Judged o name
+judged_takes : (remaining : ℕ) (o : Option (List ℕ)) (name : List ℕ) → judged remaining o ≡ Ok name → Judged o name
 unfolding judged
-judged_takes left None name e = absurd cc
-judged_takes left (Some x) name e =
+judged_takes remaining None name e = absurd cc
+judged_takes remaining (Some x) name e =
     elim (chosen (is_test_name x) (Ok x) _ (Ok name) e) [
       | inl hit ↦ let same : x ≡ name = ok_is x name hit.1 in record { is = ap (λ (l : List ℕ). Some l) same; good = rw same at hit.0 }
       | inr miss ↦ elim (chosen (nat_lt 64 (length x) && list_all is_printable x) _ _ (Ok name) miss.1) [
@@ -26,9 +26,9 @@ judged_takes left (Some x) name e =
       ]
     ]
 
-judged_again : (left : ℕ) (name : List ℕ) → is_test_name name ≡ true → judged left (Some name) ≡ Ok name
+judged_again : (remaining : ℕ) (name : List ℕ) → is_test_name name ≡ true → judged remaining (Some name) ≡ Ok name
 unfolding judged
-judged_again left name e = rw e refl
+judged_again remaining name e = rw e refl
 
 pub header_takes : (text name after_it : List ℕ) → header_at text ≡ Ok (name, after_it) → IsHeaderLine text name after_it
 unfolding header_at

@@ -40,9 +40,9 @@ quotation_again (b ∷ bs) after_it all =
     let parts = both (is_quoted b) (list_all is_quoted bs) all in
     rw (not-true (eqb b 34) parts.0) (quotation_again bs after_it parts.1)
 
-closed_ok : (left : ℕ) (o : Option (List ℕ)) (rest : List ℕ) → closed_quotation left o ≡ Ok rest → o ≡ Some rest
-closed_ok left (Some x) rest e = ap (λ (l : List ℕ). Some l) (ok_is x rest e)
-closed_ok left None rest e = absurd cc
+closed_ok : (remaining : ℕ) (o : Option (List ℕ)) (rest : List ℕ) → closed_quotation remaining o ≡ Ok rest → o ≡ Some rest
+closed_ok remaining (Some x) rest e = ap (λ (l : List ℕ). Some l) (ok_is x rest e)
+closed_ok remaining None rest e = absurd cc
 
 -- ---- key lines
 
@@ -60,9 +60,9 @@ equals_ends : continues_key 61 ≡ false
 unfolding continues_key
 equals_ends = refl
 
-value_taken : (left b : ℕ) (key back after_it : List ℕ) → is_ascii_alphabetic b ≡ true → list_all continues_key key ≡ true → key_value left back ≡ Ok after_it → IsInformation (b ∷ key ++ back) after_it
-value_taken left b key [] after_it letter all e = absurd cc
-value_taken left b key (c ∷ cs) after_it letter all e =
+value_taken : (remaining b : ℕ) (key back after_it : List ℕ) → is_ascii_alphabetic b ≡ true → list_all continues_key key ≡ true → key_value remaining back ≡ Ok after_it → IsInformation (b ∷ key ++ back) after_it
+value_taken remaining b key [] after_it letter all e = absurd cc
+value_taken remaining b key (c ∷ cs) after_it letter all e =
     elim (chosen (eqb c 61) (Ok (first_line cs).1) _ (Ok after_it) e) [
       | inl hit ↦
           let equals : c ≡ 61 = eqb-true _ _ hit.0 in

@@ -9,7 +9,7 @@ use Rattle.litmus_tokens.specs.Front.{is_symbol}
 use Rattle.litmus_tokens.specs.inner.Front.{symbol_at}
 use Rattle.litmus_reader.specs.declared.fault.Part.{Part}
 use Rattle.litmus_reader.specs.inner.Faults.{◌>>=◌}
-use Rattle.litmus_reader.specs.inner.Items.{setting_at}
+use Rattle.litmus_reader.specs.inner.Settings.{setting_at}
 use Rattle.litmus_reader.specs.inner.Initial.{Initial, initial, judged, item_in, step_in, items_within, items_at, before_initial, opened_at, initial_at, ends_item}
 use Rattle.litmus_reader.specs.Grammar.{terms}
 use Rattle.litmus_reader.specs.GrammarItems.{IsSetting, sets_register, sets_location, sets_in_squares}
@@ -19,7 +19,7 @@ use Rattle.litmus_reader.proofs.GrammarTokens.{chosen, there_is, bind_ok, or_unf
 use Rattle.litmus_reader.proofs.GrammarItems.{setting_found, setting_taken}
 use Rattle.litmus_reader.proofs.GrammarInitialJudged.{Holds, judged_found, judged_taken}
 use Rattle.litmus_reader.proofs.Readings.{Reads, Begins}
-use Rattle.litmus_reader.specs.Places.{unfit, left_of, in_initial}
+use Rattle.litmus_reader.specs.Places.{unfit, remaining_of, in_initial}
 use Rattle.litmus_reader.specs.Written.{Setting}
 
 -- ---- found
@@ -72,7 +72,7 @@ unfolding step_in item_in
 item_stepped part i ps done others s ts back t end is e h fits =
     let found = setting_found part ts (t ∷ back) s is ps e in
     let none = no_end ts (t ∷ back) s is ps e in
-    let j = judged_found (left_of ps) i done others s h fits in
+    let j = judged_found (remaining_of ps) i done others s h fits in
     let ends = ended t back end found.rest found.after_it in
     let long = setting_some ts s is in
     record {
@@ -141,7 +141,7 @@ unfolding initial_at symbol_at is_symbol
 initial_found stop ps _ back _ (in_braces ts settings are) fits e =
     let front : terms ps ≡ symbol OpenCurly ∷ ts ++ symbol CloseCurly ∷ back = e ∙ ap (λ (l : List Term). symbol OpenCurly ∷ l) (append_assoc ts (symbol CloseCurly ∷ []) back) in
     opened (λ ps. InitialFound stop ps settings back) ps (symbol OpenCurly) (ts ++ symbol CloseCurly ∷ back) front (λ p rest is after_it.
-    let part = in_initial p.left stop in
+    let part = in_initial p.remaining stop in
     let found = items_found ts settings are part (initial [] [] []) rest (items_at part [] rest) [] back after_it nothing fits (items_start part [] rest) in
     record { i = found.after; reads = record { rest = found.rest; is = rw is found.is; after_it = found.parts }; holds = found.holds })
 
@@ -191,11 +191,11 @@ item_taken part i ps done after e h fits =
     let found = bind_ok (setting_at part ps) _ after e in
     let s = found.0.0 in
     let taken = setting_taken part ps found.0.1 s found.1 in
-    elim (chosen (ends_item found.0.1) (judged (left_of ps) i s >>= λ after. Ok (after, found.0.1)) (Err (unfit part found.0.1)) (Ok after) found.2) [
+    elim (chosen (ends_item found.0.1) (judged (remaining_of ps) i s >>= λ after. Ok (after, found.0.1)) (Err (unfit part found.0.1)) (Ok after) found.2) [
       | inl end ↦
-          let noted = bind_ok (judged (left_of ps) i s) _ after end.1 in
+          let noted = bind_ok (judged (remaining_of ps) i s) _ after end.1 in
           let same = ok_pair noted.0 after.0 found.0.1 after.1 noted.2 in
-          let both = judged_taken (left_of ps) i noted.0 done s noted.1 h fits in
+          let both = judged_taken (remaining_of ps) i noted.0 done s noted.1 h fits in
           record {
             ts = taken.ts;
             s = s;
@@ -271,7 +271,7 @@ pub initial_taken : (stop : Stop) (ps rest : List Piece) (i : Initial) → initi
 unfolding initial_at items_at
 initial_taken stop ps rest i e =
     let front = bind_ok (opened_at stop ps) _ (i, rest) e in
-    let part = in_initial (left_of ps) stop in
+    let part = in_initial (remaining_of ps) stop in
     let all = items_taken (length front.0) part (initial [] [] []) i front.0 rest [] [] [] before_any nothing (record { once = refl; values = refl; few = omega arith }) front.2 in
     let curly = symbol_takes OpenCurly ps front.0 (or_unfit_ok (before_initial stop) ps (symbol_at OpenCurly ps) front.0 front.1) in
     record {

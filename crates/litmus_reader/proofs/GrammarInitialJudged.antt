@@ -9,7 +9,7 @@ use Rattle.tso_model.specs.declared.register.Reg.{Reg}
 use Rattle.tso_model.specs.declared.instruction.Loc.{Loc}
 use Rattle.litmus_reader.specs.declared.fault.Why.TheVariants.{TwiceInit}
 use Rattle.litmus_reader.specs.inner.Locations.{located}
-use Rattle.litmus_reader.specs.inner.Items.{or_bad_number, word_at}
+use Rattle.litmus_reader.specs.inner.Settings.{or_bad_number, word_at}
 use Rattle.litmus_reader.specs.inner.Initial.{Given, given, Initial, initial, gives, judged}
 use Rattle.litmus_reader.specs.GrammarInitial.{given_value, same_place, each_once, names_in, Fits}
 use Rattle.litmus_reader.proofs.Maps.{list_any_map}
@@ -101,21 +101,21 @@ once_more (d ∷ ds) s e new =
 
 -- ---- a word
 
-room_is : (left v w : ℕ) → word_at left v ≡ Ok w → (ltb v (2 ^ 32) ≡ true) × (v ≡ w)
-room_is left v w e = by_room (ltb v (2 ^ 32)) refl e
+room_is : (remaining v w : ℕ) → word_at remaining v ≡ Ok w → (ltb v (2 ^ 32) ≡ true) × (v ≡ w)
+room_is remaining v w e = by_room (ltb v (2 ^ 32)) refl e
   where
-    by_room : (b : Bool) → ltb v (2 ^ 32) ≡ b → or_bad_number left (cond b (Some v) None) ≡ Ok w → (ltb v (2 ^ 32) ≡ true) × (v ≡ w)
+    by_room : (b : Bool) → ltb v (2 ^ 32) ≡ b → or_bad_number remaining (cond b (Some v) None) ≡ Ok w → (ltb v (2 ^ 32) ≡ true) × (v ≡ w)
     by_room true is h = (is, ok_is v w h)
     by_room false is h = absurd cc
 
-has_room : (left v : ℕ) → ltb v (2 ^ 32) ≡ true → word_at left v ≡ Ok v
-has_room left v e = rw e refl
+has_room : (remaining v : ℕ) → ltb v (2 ^ 32) ≡ true → word_at remaining v ≡ Ok v
+has_room remaining v e = rw e refl
 
 -- ---- a location
 
-located_new : (left : ℕ) (names : List (List ℕ)) (x : List ℕ) → list_any (bytes_eq x) names ≡ false → length names < 16 → located left names x ≡ Ok (location (length names), names ++ x ∷ [])
+located_new : (remaining : ℕ) (names : List (List ℕ)) (x : List ℕ) → list_any (bytes_eq x) names ≡ false → length names < 16 → located remaining names x ≡ Ok (location (length names), names ++ x ∷ [])
 unfolding located
-located_new left names x new room =
+located_new remaining names x new room =
     let at_end : number_of names x ≡ length names = place_none (bytes_eq x) names new in
     let fits : ltb (length names) 16 ≡ true = below (length names) 16 room in
     rw (at_end, fits, new) refl
@@ -128,10 +128,10 @@ located_new left names x new room =
         by_test false e = let past = ltb-false _ _ e in absurd (omega arith)
 
 -- where a location's number is none of those that have a word
-located_is : (left : ℕ) (names : List (List ℕ)) (x : List ℕ) (loc : Loc × List (List ℕ)) → located left names x ≡ Ok loc → ltb loc.0.0 (length names) ≡ false
+located_is : (remaining : ℕ) (names : List (List ℕ)) (x : List ℕ) (loc : Loc × List (List ℕ)) → located remaining names x ≡ Ok loc → ltb loc.0.0 (length names) ≡ false
     → (list_any (bytes_eq x) names ≡ false) × (length names < 16) × (loc.1 ≡ names ++ x ∷ [])
 unfolding located
-located_is left names x loc e past =
+located_is remaining names x loc e past =
     elim (chosen (ltb (number_of names x) 16) (Ok (location (number_of names x), with_name names x)) _ (Ok loc) e) [
       | inl hit ↦
           let same : (location (number_of names x), with_name names x) ≡ loc = ok_is _ loc hit.1 in
@@ -158,17 +158,17 @@ pub values_more : (done : List Setting) (s : Setting) → list_all (λ s. ltb (g
 values_more done s all one = list_all-append (λ s. ltb (given_value s) (2 ^ 32)) done (s ∷ []) ∙ rw (all, one) refl
 
 -- the item is taken in
-pub record Judged (left : ℕ) (i : Initial) (done : List Setting) (s : Setting) : Type 0 where
+pub record Judged (remaining : ℕ) (i : Initial) (done : List Setting) (s : Setting) : Type 0 where
   pub after : Initial
-  pub is : judged left i s ≡ Ok after
+  pub is : judged remaining i s ≡ Ok after
   pub holds : Holds (done ++ s ∷ []) after
 
-hold_register : (done : List Setting) (i : Initial) (left : ℕ) (core : List ℕ) (reg : Reg) (v : ℕ) → Holds done i
-    → Holds (done ++ of_register core reg v ∷ []) (initial i.names i.words (i.registers ++ given left core reg v ∷ []))
-hold_register done i left core reg v h = record {
+hold_register : (done : List Setting) (i : Initial) (remaining : ℕ) (core : List ℕ) (reg : Reg) (v : ℕ) → Holds done i
+    → Holds (done ++ of_register core reg v ∷ []) (initial i.names i.words (i.registers ++ given remaining core reg v ∷ []))
+hold_register done i remaining core reg v h = record {
   names = h.names ∙ sym (append_nil_names (names_in done)) ∙ sym (names_in-append done (of_register core reg v ∷ []));
   words = h.words ∙ sym (append_nil_words (words_in done)) ∙ sym (words_in-append done (of_register core reg v ∷ []));
-  registers = map-append unplaced i.registers (given left core reg v ∷ []) ∙ ap (λ (l : List Setting). l ++ of_register core reg v ∷ []) h.registers ∙ sym (settings_of_registers-append done (of_register core reg v ∷ []));
+  registers = map-append unplaced i.registers (given remaining core reg v ∷ []) ∙ ap (λ (l : List Setting). l ++ of_register core reg v ∷ []) h.registers ∙ sym (settings_of_registers-append done (of_register core reg v ∷ []));
 }
   where
     append_nil_names : (l : List (List ℕ)) → l ++ [] ≡ l
@@ -191,20 +191,20 @@ hold_location done i x v names h e = record {
     append_nil [] = refl
     append_nil (x ∷ xs) = ap (λ (l : List Setting). x ∷ l) (append_nil xs)
 
-pub judged_found : (left : ℕ) (i : Initial) (done rest : List Setting) (s : Setting) → Holds done i → Fits (done ++ s ∷ rest) → Judged left i done s
+pub judged_found : (remaining : ℕ) (i : Initial) (done rest : List Setting) (s : Setting) → Holds done i → Fits (done ++ s ∷ rest) → Judged remaining i done s
 unfolding judged
-judged_found left i done rest (of_register core reg v) h fits =
-    let room = has_room left v (values_split done rest (of_register core reg v) fits.values) in
+judged_found remaining i done rest (of_register core reg v) h fits =
+    let room = has_room remaining v (values_split done rest (of_register core reg v) fits.values) in
     let once = sym (register_given core reg v done i.registers h.registers) ∙ once_apart done rest (of_register core reg v) fits.once in
-    record { after = initial i.names i.words (i.registers ++ given left core reg v ∷ []); is = rw (room, once) refl; holds = hold_register done i left core reg v h }
-judged_found left i done rest (of_location x v) h fits =
-    let room = has_room left v (values_split done rest (of_location x v) fits.values) in
+    record { after = initial i.names i.words (i.registers ++ given remaining core reg v ∷ []); is = rw (room, once) refl; holds = hold_register done i remaining core reg v h }
+judged_found remaining i done rest (of_location x v) h fits =
+    let room = has_room remaining v (values_split done rest (of_location x v) fits.values) in
     let apart : list_any (bytes_eq x) i.names ≡ false = ap (list_any (bytes_eq x)) h.names ∙ sym (location_given x v done) ∙ once_apart done rest (of_location x v) fits.once in
     let count : length (names_in (done ++ of_location x v ∷ rest)) ≡ length (names_in done) + suc (length (names_in rest)) = ap length (names_in-append done (of_location x v ∷ rest)) ∙ length-append (names_in done) (x ∷ names_in rest) in
     let same : length i.names ≡ length (names_in done) = ap length h.names in
     let some : length i.names < 16 = omega (arith, count, same, fits.few) in
     let words : length i.words ≡ length i.names = ap length h.words ∙ a_word_each done ∙ sym same in
-    let found = located_new left i.names x apart some in
+    let found = located_new remaining i.names x apart some in
     let new : ltb (length i.names) (length i.names) ≡ false = itself (length i.names) in
     record {
       after = initial (i.names ++ x ∷ []) (i.words ++ v ∷ []) i.registers;
@@ -219,19 +219,19 @@ judged_found left i done rest (of_location x v) h fits =
         by_test true e = let less = ltb-true _ _ e in absurd (omega arith)
         by_test false e = e
 
-pub judged_taken : (left : ℕ) (i after : Initial) (done : List Setting) (s : Setting) → judged left i s ≡ Ok after → Holds done i → Fits done
+pub judged_taken : (remaining : ℕ) (i after : Initial) (done : List Setting) (s : Setting) → judged remaining i s ≡ Ok after → Holds done i → Fits done
     → Holds (done ++ s ∷ []) after × Fits (done ++ s ∷ [])
 unfolding judged
-judged_taken left i after done (of_register core reg v) e h fits =
-    let value = bind_ok (word_at left v) _ after e in
-    let room = room_is left v value.0 value.1 in
-    elim (chosen (list_any (gives core reg) i.registers) (Err (fault TwiceInit left)) (Ok (initial i.names i.words (i.registers ++ given left core reg value.0 ∷ []))) (Ok after) value.2) [
+judged_taken remaining i after done (of_register core reg v) e h fits =
+    let value = bind_ok (word_at remaining v) _ after e in
+    let room = room_is remaining v value.0 value.1 in
+    elim (chosen (list_any (gives core reg) i.registers) (Err (fault TwiceInit remaining)) (Ok (initial i.names i.words (i.registers ++ given remaining core reg value.0 ∷ []))) (Ok after) value.2) [
       | inl twice ↦ absurd cc
       | inr once ↦
-          let same : initial i.names i.words (i.registers ++ given left core reg value.0 ∷ []) ≡ after = ok_is _ after once.1 in
-          let is : initial i.names i.words (i.registers ++ given left core reg v ∷ []) ≡ after = ap (λ (n : ℕ). initial i.names i.words (i.registers ++ given left core reg n ∷ [])) room.1 ∙ same in
+          let same : initial i.names i.words (i.registers ++ given remaining core reg value.0 ∷ []) ≡ after = ok_is _ after once.1 in
+          let is : initial i.names i.words (i.registers ++ given remaining core reg v ∷ []) ≡ after = ap (λ (n : ℕ). initial i.names i.words (i.registers ++ given remaining core reg n ∷ [])) room.1 ∙ same in
           let apart = register_given core reg v done i.registers h.registers ∙ once.0 in (
-            subst (Holds (done ++ of_register core reg v ∷ [])) is (hold_register done i left core reg v h),
+            subst (Holds (done ++ of_register core reg v ∷ [])) is (hold_register done i remaining core reg v h),
             record {
               once = once_more done (of_register core reg v) fits.once apart;
               values = values_more done (of_register core reg v) fits.values room.0;
@@ -239,17 +239,17 @@ judged_taken left i after done (of_register core reg v) e h fits =
             },
           )
     ]
-judged_taken left i after done (of_location x v) e h fits =
-    let value = bind_ok (word_at left v) _ after e in
-    let room = room_is left v value.0 value.1 in
-    let loc = bind_ok (located left i.names x) _ after value.2 in
+judged_taken remaining i after done (of_location x v) e h fits =
+    let value = bind_ok (word_at remaining v) _ after e in
+    let room = room_is remaining v value.0 value.1 in
+    let loc = bind_ok (located remaining i.names x) _ after value.2 in
     let words : length i.words ≡ length i.names = ap length h.words ∙ a_word_each done ∙ sym (ap length h.names) in
-    elim (chosen (ltb loc.0.0.0 (length i.words)) (Err (fault TwiceInit left)) (Ok (initial loc.0.1 (i.words ++ value.0 ∷ []) i.registers)) (Ok after) loc.2) [
+    elim (chosen (ltb loc.0.0.0 (length i.words)) (Err (fault TwiceInit remaining)) (Ok (initial loc.0.1 (i.words ++ value.0 ∷ []) i.registers)) (Ok after) loc.2) [
       | inl twice ↦ absurd cc
       | inr once ↦
           let same : initial loc.0.1 (i.words ++ value.0 ∷ []) i.registers ≡ after = ok_is _ after once.1 in
           let is : initial loc.0.1 (i.words ++ v ∷ []) i.registers ≡ after = ap (λ (n : ℕ). initial loc.0.1 (i.words ++ n ∷ []) i.registers) room.1 ∙ same in
-          let new = located_is left i.names x loc.0 loc.1 (rw (← words) once.0) in
+          let new = located_is remaining i.names x loc.0 loc.1 (rw (← words) once.0) in
           let apart : list_any (same_place (of_location x v)) done ≡ false = location_given x v done ∙ ap (list_any (bytes_eq x)) (sym h.names) ∙ new.0 in
           let known : length i.names ≡ length (names_in done) = ap length h.names in (
             subst (Holds (done ++ of_location x v ∷ [])) is (hold_location done i x v loc.0.1 h (new.2 ∙ ap (λ (l : List (List ℕ)). l ++ x ∷ []) h.names)),

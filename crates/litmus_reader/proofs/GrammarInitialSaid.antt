@@ -15,7 +15,7 @@ use Rattle.decimals.specs.Decimals.{decimal_value}
 use Rattle.litmus_reader.specs.declared.fault.Fault.{Fault}
 use Rattle.litmus_reader.specs.declared.fault.Why.TheVariants.{NoSuchCore}
 use Rattle.litmus_reader.specs.inner.Faults.{◌>>=◌}
-use Rattle.litmus_reader.specs.inner.Items.{core_of}
+use Rattle.litmus_reader.specs.inner.Settings.{core_of}
 use Rattle.litmus_reader.specs.inner.Initial.{Given, Initial, no_registers, with_register, registers_with, words_of}
 use Rattle.litmus_reader.specs.GrammarInitial.{same_place, each_once, names_in, Fits, has_core, value_in, names_register, first_words, first_registers_of, first_registers}
 use Rattle.litmus_reader.proofs.GrammarTokens.{bind_ok}
@@ -202,8 +202,8 @@ register_noted done cores c r v lt =
         get_or-set_other table (decimal_value c) k (with_value (get_or table (decimal_value c) []) r v) [] (λ is. let hit : eqb (decimal_value c) k ≡ true = ap (eqb (decimal_value c)) is ∙ same_number (decimal_value c) in cc)
         ∙ row_at done cores k below ∙ sym (other_row done k c r v e) ∙ sym (row_at (done ++ of_register c r v ∷ []) cores k below)
 
-core_there : (cores left : ℕ) (digits : List ℕ) → ltb (decimal_value digits) cores ≡ true → core_of cores left digits ≡ Ok (decimal_value digits)
-core_there cores left digits lt = rw lt refl
+core_there : (cores remaining : ℕ) (digits : List ℕ) → ltb (decimal_value digits) cores ≡ true → core_of cores remaining digits ≡ Ok (decimal_value digits)
+core_there cores remaining digits lt = rw lt refl
 
 registers_found : (cores : ℕ) (gs : List Given) (done : List Setting) → list_all (has_core cores) (map unplaced gs) ≡ true
     → registers_with cores (first_registers done cores) gs ≡ Ok (first_registers (done ++ map unplaced gs) cores)
@@ -212,7 +212,7 @@ registers_found cores [] done has = ap (λ (l : List Setting). Ok (first_registe
 registers_found cores (g ∷ gs) done has =
     let both = and_parts (ltb (decimal_value g.core) cores) (list_all (has_core cores) (map unplaced gs)) has in
     let noted = register_noted done cores g.core g.reg g.value (ltb-true _ _ both.0) in
-    ap (λ (r : Result ℕ Fault). r >>= λ core. registers_with cores (with_register (first_registers done cores) core g.reg g.value) gs) (core_there cores g.left g.core both.0)
+    ap (λ (r : Result ℕ Fault). r >>= λ core. registers_with cores (with_register (first_registers done cores) core g.reg g.value) gs) (core_there cores g.remaining g.core both.0)
     ∙ ap (λ (l : List (List ℕ)). registers_with cores l gs) noted
     ∙ registers_found cores gs (done ++ unplaced g ∷ []) both.1
     ∙ ap (λ (l : List Setting). Ok (first_registers l cores)) (append_assoc done (unplaced g ∷ []) (map unplaced gs))
@@ -221,12 +221,12 @@ registers_taken : (cores : ℕ) (registers table : List (List ℕ)) (gs : List G
 unfolding registers_with
 registers_taken cores registers table [] e = refl
 registers_taken cores registers table (g ∷ gs) e =
-    let core = bind_ok (core_of cores g.left g.core) _ table e in
+    let core = bind_ok (core_of cores g.remaining g.core) _ table e in
     let further = registers_taken cores (with_register registers core.0 g.reg g.value) table gs core.2 in
     let there : ltb (decimal_value g.core) cores ≡ true = by_test (ltb (decimal_value g.core) cores) core.0 core.1 in
     rw (there, further) refl
   where
-    by_test : (b : Bool) (n : ℕ) → (let r : Result ℕ Fault = cond b (Ok (decimal_value g.core)) (Err (fault NoSuchCore g.left)) in r) ≡ Ok n → b ≡ true
+    by_test : (b : Bool) (n : ℕ) → (let r : Result ℕ Fault = cond b (Ok (decimal_value g.core)) (Err (fault NoSuchCore g.remaining)) in r) ≡ Ok n → b ≡ true
     by_test true n h = refl
     by_test false n h = absurd cc
 

@@ -14,13 +14,13 @@ use Rattle.litmus_reader.specs.declared.fault.Fault.{Fault}
 use Rattle.tso_model.specs.Limits.{most_open}
 use Rattle.litmus_reader.specs.inner.Faults.{◌>>=◌, or_unfit}
 use Rattle.litmus_reader.specs.inner.Keywords.{if_word, word_after}
-use Rattle.litmus_reader.specs.inner.Items.{setting_at}
+use Rattle.litmus_reader.specs.inner.Settings.{setting_at}
 use Rattle.litmus_reader.specs.inner.Conditions as reading
 use Rattle.litmus_reader.specs.inner.Conditions.{claim_in, Claimed, one_more, truth_at, truth_atom, setting_atom, atom_at, Proposition, joined_to, chain, chain_of, conjunction, disjunction, negation_at, opens_unit, negated, bracketed, unit_by, unit_at, proposition_at, Conditioned, quantified, not_exists, condition_at, in_condition}
 use Rattle.litmus_reader.proofs.Keeps.{Any, ok_any, bind_keeps, there_keeps, cond_keeps, or_unfit_keeps}
 use Rattle.litmus_reader.proofs.GrammarAfter.{all_last, last_further, Leaves, symbol_leaves, name_leaves, setting_leaves}
 use Rattle.litmus_reader.proofs.Readings.{AreLast}
-use Rattle.litmus_reader.specs.Places.{left_of}
+use Rattle.litmus_reader.specs.Places.{remaining_of}
 
 abbrev pub LeavesLast : Proposition → Type 0
 LeavesLast unit = (atoms : ℕ) (names : List (List ℕ)) (ps : List Piece) → IfOk (unit atoms names ps) (λ c. AreLast ps c.rest)
@@ -48,11 +48,11 @@ claim_after ps qs (Err e) a b = tt
 atom_leaves : (stop : Stop) (cores : ℕ) → LeavesLast (atom_at stop cores)
 unfolding atom_at setting_atom
 atom_leaves stop cores atoms names ps =
-    there_keeps (λ found. Leaves ps found) (LeavesClaim ps) (truth_at ps) (truth_atom (left_of ps) atoms names) (setting_atom stop cores atoms names ps) (truth_leaves ps)
-    (λ t a. bind_keeps (λ x. Any x) (λ c. AreLast ps c.rest) (one_more (left_of ps) atoms) _ (ok_any _) (λ n _. a))
+    there_keeps (λ found. Leaves ps found) (LeavesClaim ps) (truth_at ps) (truth_atom (remaining_of ps) atoms names) (setting_atom stop cores atoms names ps) (truth_leaves ps)
+    (λ t a. bind_keeps (λ x. Any x) (λ c. AreLast ps c.rest) (one_more (remaining_of ps) atoms) _ (ok_any _) (λ n _. a))
     (bind_keeps (λ found. Leaves ps found) (λ c. AreLast ps c.rest) (setting_at (in_condition stop) ps) _ (setting_leaves (in_condition stop) ps)
-    (λ s a. bind_keeps (λ x. Any x) (λ c. AreLast ps c.rest) (claim_in cores (left_of ps) names s.0) _ (ok_any _)
-    (λ c _. bind_keeps (λ x. Any x) (λ c. AreLast ps c.rest) (one_more (left_of ps) atoms) _ (ok_any _) (λ n _. a))))
+    (λ s a. bind_keeps (λ x. Any x) (λ c. AreLast ps c.rest) (claim_in cores (remaining_of ps) names s.0) _ (ok_any _)
+    (λ c _. bind_keeps (λ x. Any x) (λ c. AreLast ps c.rest) (one_more (remaining_of ps) atoms) _ (ok_any _) (λ n _. a))))
 
 chain_leaves_in : (s : Symbol) (join : Claim → Claim → Claim) (unit : Proposition) → LeavesLast unit → (n : ℕ) (c : Claimed) → LeavesClaim c.rest (chain s join unit n c)
 unfolding chain

@@ -21,7 +21,7 @@ use Rattle.litmus_reader.specs.GrammarRows.{IsField, empty, full, AreFields, las
 use Rattle.litmus_reader.proofs.GrammarTokens.{chosen, ok_pair, symbol_is, spelled_so}
 use Rattle.litmus_reader.proofs.GrammarCells.{cell_again, cell_takes}
 use Rattle.litmus_reader.proofs.Readings.{Begins, ReadsRow, IsReadAs, AreReadAs}
-use Rattle.litmus_reader.specs.Places.{fault, at_stop, left_of}
+use Rattle.litmus_reader.specs.Places.{fault, at_stop, remaining_of}
 use Rattle.litmus_reader.specs.Written.{Shape}
 use Rattle.litmus_reader.specs.RefusedTable.{cells_of}
 
@@ -260,7 +260,7 @@ pub row_takes : (stop : Stop) (cores : ℕ) (ps front rest : List Piece) (cells 
 unfolding row_at
 row_takes stop cores ps front rest cells e are count =
     elim (chosen (ltb (position_or_len (is_symbol Semicolon) ps) (length ps)) (Ok (before_first (is_symbol Semicolon) ps, after_first (is_symbol Semicolon) ps))
-    (Err (at_stop (fault Unclosed (left_of ps)) stop)) (Ok (front, rest)) e) [
+    (Err (at_stop (fault Unclosed (remaining_of ps)) stop)) (Ok (front, rest)) e) [
       | inl hit ↦
           let same = ok_pair (before_first (is_symbol Semicolon) ps) front (after_first (is_symbol Semicolon) ps) rest hit.1 in
           let whole = row_cut Semicolon ps (ltb-true _ _ hit.0) in

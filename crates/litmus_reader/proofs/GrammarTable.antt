@@ -26,7 +26,7 @@ use Rattle.litmus_reader.proofs.GrammarTokens.{chosen, ok_is, bind_ok}
 use Rattle.litmus_reader.proofs.GrammarRows.{row_again, row_takes}
 use Rattle.litmus_reader.proofs.GrammarTableEntries.{names_of, instrs_of, Read, read_of, within_first, within_none, cells_found, CellsTaken, cells_taken}
 use Rattle.litmus_reader.proofs.Readings.{AreReadAs, rows_by, ReadsPlaced, SpellsRows, ends_table}
-use Rattle.litmus_reader.specs.Places.{fault, left_of}
+use Rattle.litmus_reader.specs.Places.{fault, remaining_of}
 use Rattle.litmus_reader.specs.Written.{Shape}
 use Rattle.litmus_reader.specs.RefusedTable.{cells_of}
 
@@ -110,9 +110,9 @@ pub row_shorter : (cores : ℕ) (ts : List Term) (cells : List (Option Shape)) (
 row_shorter cores ts cells ps rest is e =
     let whole = terms_length ps (ts ++ terms rest) e in
     let sum = length-append ts (terms rest) in
-    let left = length-map rest (λ p. p.term) in
+    let remaining = length-map rest (λ p. p.term) in
     let some = row_some cores ts cells is in
-    omega (arith, whole, sum, left, some)
+    omega (arith, whole, sum, remaining, some)
 
 -- ---- one row
 
@@ -122,10 +122,10 @@ as_many [] (c ∷ cs) are = absurd are
 as_many (ps ∷ rest) [] are = absurd are
 as_many (ps ∷ rest) (c ∷ cs) are = ap suc (as_many rest cs are.1)
 
-pub row_found : (cores left : ℕ) (names : List (List ℕ)) (done : List Placed) (front : List Piece) (cells : List (Option Shape)) → length cells ≡ cores → AreReadAs (cells_of front) cells
-    → EntriesWithin names (done ++ placed_from 0 cells) → row_in cores left (instrs_of names done) (names_of names done) front ≡ Ok (read_of names (done ++ placed_from 0 cells))
+pub row_found : (cores remaining : ℕ) (names : List (List ℕ)) (done : List Placed) (front : List Piece) (cells : List (Option Shape)) → length cells ≡ cores → AreReadAs (cells_of front) cells
+    → EntriesWithin names (done ++ placed_from 0 cells) → row_in cores remaining (instrs_of names done) (names_of names done) front ≡ Ok (read_of names (done ++ placed_from 0 cells))
 unfolding row_in
-row_found cores left names done front cells count are h =
+row_found cores remaining names done front cells count are h =
     let same : eqb (length (cells_of front)) cores ≡ true = eq-eqb (length (cells_of front)) cores (as_many (cells_of front) cells are ∙ count) in
     rw same (cells_found (cells_of front) cells are 0 names done h)
 
@@ -133,12 +133,12 @@ pub record RowTaken (cores : ℕ) (names : List (List ℕ)) (done : List Placed)
   pub count : length (cells_of front) ≡ cores
   pub cells : CellsTaken 0 names done (cells_of front) r
 
-pub row_taken : (cores left : ℕ) (names : List (List ℕ)) (done : List Placed) (front : List Piece) (r : Read) → EntriesWithin names done
-    → row_in cores left (instrs_of names done) (names_of names done) front ≡ Ok r → RowTaken cores names done front r
+pub row_taken : (cores remaining : ℕ) (names : List (List ℕ)) (done : List Placed) (front : List Piece) (r : Read) → EntriesWithin names done
+    → row_in cores remaining (instrs_of names done) (names_of names done) front ≡ Ok r → RowTaken cores names done front r
 unfolding row_in
-row_taken cores left names done front r h e =
-    let b = bind_ok (counted cores left (cells_of front)) (λ cells. cells_in 0 (instrs_of names done) (names_of names done) cells) r e in
-    elim (chosen (eqb (length (cells_of front)) cores) (Ok (cells_of front)) (Err (fault WrongCells left)) (Ok b.0) b.1) [
+row_taken cores remaining names done front r h e =
+    let b = bind_ok (counted cores remaining (cells_of front)) (λ cells. cells_in 0 (instrs_of names done) (names_of names done) cells) r e in
+    elim (chosen (eqb (length (cells_of front)) cores) (Ok (cells_of front)) (Err (fault WrongCells remaining)) (Ok b.0) b.1) [
       | inl hit ↦
           let further : cells_in 0 (instrs_of names done) (names_of names done) (cells_of front) ≡ Ok r =
           ap (λ (l : List (List Piece)). cells_in 0 (instrs_of names done) (names_of names done) l) (ok_is (cells_of front) b.0 hit.1) ∙ b.2 in
@@ -154,7 +154,7 @@ rows_end zero stop cores instrs names ps end = refl
 rows_end (suc n) stop cores instrs names ps end = rw end refl
 
 rows_step : (n : ℕ) (stop : Stop) (cores : ℕ) (instrs : List CoreInstr) (names : List (List ℕ)) (ps front rest : List Piece) (read : Read) → ends_rows ps ≡ false → row_at stop ps ≡ Ok (front, rest)
-    → row_in cores (left_of ps) instrs names front ≡ Ok read → rows_within (suc n) stop cores instrs names ps ≡ rows_within n stop cores read.0 read.1 rest
+    → row_in cores (remaining_of ps) instrs names front ≡ Ok read → rows_within (suc n) stop cores instrs names ps ≡ rows_within n stop cores read.0 read.1 rest
 unfolding rows_within
 rows_step n stop cores instrs names ps front rest read go at is = rw (go, at, is) refl
 
@@ -178,13 +178,13 @@ rows_found stop cores names _ _ (more ts us cells others is are) n ps enough don
     let one = placed_from 0 cells in
     let regroup : (done ++ one) ++ placed_in others ≡ done ++ (one ++ placed_in others) = append_assoc done one (placed_in others) in
     let whole : EntriesWithin names ((done ++ one) ++ placed_in others) = subst (λ (l : List Placed). EntriesWithin names l) (sym regroup) h in
-    let read = row_found cores (left_of ps) names done first.row cells (row_count cores ts cells is) first.cells_are (within_first names (done ++ one) (placed_in others) whole) in
+    let read = row_found cores (remaining_of ps) names done first.row cells (row_count cores ts cells is) first.cells_are (within_first names (done ++ one) (placed_in others) whole) in
     let go : ends_rows ps ≡ false = ends_is ps ∙ ap ends_table e' ∙ row_begins cores ts cells is (us ++ back) in
     let shorter = row_shorter cores ts cells ps first.rest is (e' ∙ ap (λ (l : List Term). ts ++ l) (sym first.after_it)) in
     subst (λ (l : List Placed). RowsFound n stop cores names done l back ps) regroup (by_count n enough go first.row first.rest first.is read shorter (λ k le. rows_found stop cores names us others are k first.rest le (done ++ one) whole back first.after_it end))
   where
     by_count : (n : ℕ) → length ps ≤ n → ends_rows ps ≡ false → (front rest : List Piece) → row_at stop ps ≡ Ok (front, rest)
-        → row_in cores (left_of ps) (instrs_of names done) (names_of names done) front ≡ Ok (read_of names (done ++ placed_from 0 cells)) → length rest < length ps
+        → row_in cores (remaining_of ps) (instrs_of names done) (names_of names done) front ≡ Ok (read_of names (done ++ placed_from 0 cells)) → length rest < length ps
         → ((k : ℕ) → length rest ≤ k → RowsFound k stop cores names (done ++ placed_from 0 cells) ((done ++ placed_from 0 cells) ++ placed_in others) back rest)
         → RowsFound n stop cores names done ((done ++ placed_from 0 cells) ++ placed_in others) back ps
     by_count zero le go front rest at read shorter further = absurd (omega arith)
@@ -235,12 +235,12 @@ rows_taken zero stop cores names done [] r enough h e = no_more cores names done
 rows_taken zero stop cores names done (p ∷ ps) r enough h e = absurd (omega arith)
 rows_taken (suc n) stop cores names done ps r enough h e =
     elim (chosen (ends_rows ps) (Ok (rows (instrs_of names done) (names_of names done) ps))
-    (row_at stop ps >>= λ row. row_in cores (left_of ps) (instrs_of names done) (names_of names done) row.0 >>= λ read. rows_within n stop cores read.0 read.1 row.1) (Ok r) e) [
+    (row_at stop ps >>= λ row. row_in cores (remaining_of ps) (instrs_of names done) (names_of names done) row.0 >>= λ read. rows_within n stop cores read.0 read.1 row.1) (Ok r) e) [
       | inl end ↦ no_more cores names done ps r h end.0 (ok_is (rows (instrs_of names done) (names_of names done) ps) r end.1)
       | inr go ↦
-          let a = bind_ok (row_at stop ps) (λ row. row_in cores (left_of ps) (instrs_of names done) (names_of names done) row.0 >>= λ read. rows_within n stop cores read.0 read.1 row.1) r go.1 in
-          let b = bind_ok (row_in cores (left_of ps) (instrs_of names done) (names_of names done) a.0.0) (λ read. rows_within n stop cores read.0 read.1 a.0.1) r a.2 in
-          let t = row_taken cores (left_of ps) names done a.0.0 b.0 h b.1 in
+          let a = bind_ok (row_at stop ps) (λ row. row_in cores (remaining_of ps) (instrs_of names done) (names_of names done) row.0 >>= λ read. rows_within n stop cores read.0 read.1 row.1) r go.1 in
+          let b = bind_ok (row_in cores (remaining_of ps) (instrs_of names done) (names_of names done) a.0.0) (λ read. rows_within n stop cores read.0 read.1 a.0.1) r a.2 in
+          let t = row_taken cores (remaining_of ps) names done a.0.0 b.0 h b.1 in
           let cells = t.cells.cells in
           let one = placed_from 0 cells in
           let count : length cells ≡ cores = sym (as_many (cells_of a.0.0) cells t.cells.are) ∙ t.count in

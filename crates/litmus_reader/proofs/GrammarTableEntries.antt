@@ -14,7 +14,7 @@ use Rattle.litmus_reader.specs.declared.fault.Fault.{Fault}
 use Rattle.litmus_reader.specs.declared.cell.CoreInstr.{CoreInstr}
 use Rattle.litmus_reader.specs.inner.Faults.{◌>>=◌}
 use Rattle.litmus_reader.specs.inner.Locations.{located}
-use Rattle.litmus_reader.specs.inner.Items.{word_at}
+use Rattle.litmus_reader.specs.inner.Settings.{word_at}
 use Rattle.litmus_reader.specs.inner.Forms.{spelled_in}
 use Rattle.litmus_reader.specs.inner.Cells.{instr_of, count_of, or_bad_instruction, cell_in, cells_in, of_core}
 use Rattle.litmus_reader.specs.GrammarNames.{numbered, number_of, with_name, location}
@@ -106,24 +106,24 @@ within_none names le = record { values = tt; few = λ core. omega arith; room = 
 
 -- ---- the instruction of a shape
 
-located_found : (left : ℕ) (names : List (List ℕ)) (x : List ℕ) → length (with_name names x) ≤ 16 → located left names x ≡ Ok (location (number_of (with_name names x) x), with_name names x)
+located_found : (remaining : ℕ) (names : List (List ℕ)) (x : List ℕ) → length (with_name names x) ≤ 16 → located remaining names x ≡ Ok (location (number_of (with_name names x) x), with_name names x)
 unfolding located
-located_found left names x room =
+located_found remaining names x room =
     let below = place_below (bytes_eq x) (with_name names x) (known_with names x) in
     let few : number_of names x < 16 = omega (arith, below, number_with names x) in
     rw (lt-ltb (number_of names x) 16 few, number_with names x) refl
 
-pub instr_found : (left : ℕ) (names : List (List ℕ)) (shape : Shape) → ValueFits shape → length (numbered names (location_in shape)) ≤ 16
-    → instr_of left names shape ≡ Ok (instr_with (numbered names (location_in shape)) shape, numbered names (location_in shape))
+pub instr_found : (remaining : ℕ) (names : List (List ℕ)) (shape : Shape) → ValueFits shape → length (numbered names (location_in shape)) ≤ 16
+    → instr_of remaining names shape ≡ Ok (instr_with (numbered names (location_in shape)) shape, numbered names (location_in shape))
 unfolding instr_of numbered
-instr_found left names (store_imm x v) fits room = rw (word_is left v fits, located_found left names x room) refl
-instr_found left names (store_reg x reg) fits room = rw (located_found left names x room) refl
-instr_found left names (load reg x) fits room = rw (located_found left names x room) refl
-instr_found left names (set_imm reg v) fits room = rw (word_is left v fits) refl
-instr_found left names (set_reg reg other) fits room = refl
-instr_found left names fence fits room = refl
-instr_found left names (xchg x reg) fits room = rw (located_found left names x room) refl
-instr_found left names (xadd x reg) fits room = rw (located_found left names x room) refl
+instr_found remaining names (store_imm x v) fits room = rw (word_is remaining v fits, located_found remaining names x room) refl
+instr_found remaining names (store_reg x reg) fits room = rw (located_found remaining names x room) refl
+instr_found remaining names (load reg x) fits room = rw (located_found remaining names x room) refl
+instr_found remaining names (set_imm reg v) fits room = rw (word_is remaining v fits) refl
+instr_found remaining names (set_reg reg other) fits room = refl
+instr_found remaining names fence fits room = refl
+instr_found remaining names (xchg x reg) fits room = rw (located_found remaining names x room) refl
+instr_found remaining names (xadd x reg) fits room = rw (located_found remaining names x room) refl
 
 -- what was read of a shape
 record InstrTaken (names : List (List ℕ)) (shape : Shape) (r : Instr × List (List ℕ)) : Type 0 where
@@ -137,10 +137,10 @@ record LocatedTaken (names : List (List ℕ)) (x : List ℕ) (make : Loc → Ins
   pub names_are : r.1 ≡ with_name names x
   pub room : length names ≤ 16 → length (with_name names x) ≤ 16
 
-located_taken : (left : ℕ) (names : List (List ℕ)) (x : List ℕ) (make : Loc → Instr) (r : Instr × List (List ℕ)) → (located left names x >>= λ loc. Ok (make loc.0, loc.1)) ≡ Ok r → LocatedTaken names x make r
-located_taken left names x make r e =
-    let b = bind_ok (located left names x) (λ loc. Ok (make loc.0, loc.1)) r e in
-    let loc = located_ok left names x b.0 b.1 in
+located_taken : (remaining : ℕ) (names : List (List ℕ)) (x : List ℕ) (make : Loc → Instr) (r : Instr × List (List ℕ)) → (located remaining names x >>= λ loc. Ok (make loc.0, loc.1)) ≡ Ok r → LocatedTaken names x make r
+located_taken remaining names x make r e =
+    let b = bind_ok (located remaining names x) (λ loc. Ok (make loc.0, loc.1)) r e in
+    let loc = located_ok remaining names x b.0 b.1 in
     let same = ok_pair (make b.0.0) r.0 b.0.1 r.1 b.2 in
     record {
       instr_is = sym same.0 ∙ ap make (loc.0 ∙ ap location (sym (number_with names x)));
@@ -148,36 +148,36 @@ located_taken left names x make r e =
       room = λ le. room_with names x loc.2 le;
     }
 
-instr_taken : (left : ℕ) (names : List (List ℕ)) (shape : Shape) (r : Instr × List (List ℕ)) → instr_of left names shape ≡ Ok r → InstrTaken names shape r
+instr_taken : (remaining : ℕ) (names : List (List ℕ)) (shape : Shape) (r : Instr × List (List ℕ)) → instr_of remaining names shape ≡ Ok r → InstrTaken names shape r
 unfolding instr_of numbered
-instr_taken left names (store_imm x v) r e =
-    let a = bind_ok (word_at left v) _ r e in
-    let word = word_ok left v a.0 a.1 in
-    let l = located_taken left names x (λ loc. StoreImm loc a.0) r a.2 in
+instr_taken remaining names (store_imm x v) r e =
+    let a = bind_ok (word_at remaining v) _ r e in
+    let word = word_ok remaining v a.0 a.1 in
+    let l = located_taken remaining names x (λ loc. StoreImm loc a.0) r a.2 in
     record { fits = word.1; instr_is = l.instr_is ∙ ap (λ (n : ℕ). StoreImm (location (number_of (with_name names x) x)) n) (sym word.0); names_are = l.names_are; room = l.room }
-instr_taken left names (store_reg x reg) r e =
-    let l = located_taken left names x (λ loc. StoreReg loc reg) r e in record { fits = tt; instr_is = l.instr_is; names_are = l.names_are; room = l.room }
-instr_taken left names (load reg x) r e =
-    let l = located_taken left names x (λ loc. Load reg loc) r e in record { fits = tt; instr_is = l.instr_is; names_are = l.names_are; room = l.room }
-instr_taken left names (set_imm reg v) r e =
-    let a = bind_ok (word_at left v) _ r e in
-    let word = word_ok left v a.0 a.1 in
+instr_taken remaining names (store_reg x reg) r e =
+    let l = located_taken remaining names x (λ loc. StoreReg loc reg) r e in record { fits = tt; instr_is = l.instr_is; names_are = l.names_are; room = l.room }
+instr_taken remaining names (load reg x) r e =
+    let l = located_taken remaining names x (λ loc. Load reg loc) r e in record { fits = tt; instr_is = l.instr_is; names_are = l.names_are; room = l.room }
+instr_taken remaining names (set_imm reg v) r e =
+    let a = bind_ok (word_at remaining v) _ r e in
+    let word = word_ok remaining v a.0 a.1 in
     let same = ok_pair (SetImm reg a.0) r.0 names r.1 a.2 in
     record { fits = word.1; instr_is = sym same.0 ∙ ap (λ (n : ℕ). SetImm reg n) (sym word.0); names_are = sym same.1; room = λ le. le }
-instr_taken left names (set_reg reg other) r e =
+instr_taken remaining names (set_reg reg other) r e =
     let same = ok_pair (SetReg reg other) r.0 names r.1 e in record { fits = tt; instr_is = sym same.0; names_are = sym same.1; room = λ le. le }
-instr_taken left names fence r e =
+instr_taken remaining names fence r e =
     let same = ok_pair Fence r.0 names r.1 e in record { fits = tt; instr_is = sym same.0; names_are = sym same.1; room = λ le. le }
-instr_taken left names (xchg x reg) r e =
-    let l = located_taken left names x (λ loc. Xchg loc reg) r e in record { fits = tt; instr_is = l.instr_is; names_are = l.names_are; room = l.room }
-instr_taken left names (xadd x reg) r e =
-    let l = located_taken left names x (λ loc. Xadd loc reg) r e in record { fits = tt; instr_is = l.instr_is; names_are = l.names_are; room = l.room }
+instr_taken remaining names (xchg x reg) r e =
+    let l = located_taken remaining names x (λ loc. Xchg loc reg) r e in record { fits = tt; instr_is = l.instr_is; names_are = l.names_are; room = l.room }
+instr_taken remaining names (xadd x reg) r e =
+    let l = located_taken remaining names x (λ loc. Xadd loc reg) r e in record { fits = tt; instr_is = l.instr_is; names_are = l.names_are; room = l.room }
 
 -- ---- cells
 
-or_bad_ok : (left : ℕ) (o : Option Shape) (shape : Shape) → or_bad_instruction left o ≡ Ok shape → o ≡ Some shape
-or_bad_ok left (Some other) shape e = ap (λ (s : Shape). Some s) (ok_is other shape e)
-or_bad_ok left None shape e = absurd cc
+or_bad_ok : (remaining : ℕ) (o : Option Shape) (shape : Shape) → or_bad_instruction remaining o ≡ Ok shape → o ≡ Some shape
+or_bad_ok remaining (Some other) shape e = ap (λ (s : Shape). Some s) (ok_is other shape e)
+or_bad_ok remaining None shape e = absurd cc
 
 pub cell_found : (core : ℕ) (names : List (List ℕ)) (done : List Placed) (p : Piece) (ps : List Piece) (shape : Shape) → spelled_in (p ∷ ps) ≡ Some shape → EntriesWithin names (done ++ placed core shape ∷ [])
     → cell_in core (instrs_of names done) (names_of names done) (p ∷ ps) ≡ Ok (read_of names (done ++ placed core shape ∷ []))
@@ -188,7 +188,7 @@ cell_found core names done p ps shape is h =
     let one : count_in core (placed core shape ∷ []) ≡ 1 = rw (eq-eqb core core refl) refl in
     let few : count_of core (instrs_of names done) < 32 = omega (arith, h.few core, count-append core done (placed core shape ∷ []), one, count-instrs core (names_of names done) done) in
     let read : cell_in core (instrs_of names done) (names_of names done) (p ∷ ps) ≡ Ok (pushed names done core shape) =
-    rw (is, instr_found p.left (names_of names done) shape value room, lt-ltb (count_of core (instrs_of names done)) 32 few) refl in
+    rw (is, instr_found p.remaining (names_of names done) shape value room, lt-ltb (count_of core (instrs_of names done)) 32 few) refl in
     read ∙ ap (λ (r : Read). Ok r) (read-push names done core shape)
 
 -- what was read of a cell that isn't empty
@@ -224,16 +224,16 @@ pub cell_taken : (core : ℕ) (names : List (List ℕ)) (done : List Placed) (p 
 unfolding cell_in
 cell_taken core names done p ps r h e =
     let before = names_of names done in
-    let s = bind_ok (or_bad_instruction p.left (spelled_in (p ∷ ps))) _ r e in
-    let i = bind_ok (instr_of p.left before s.0) _ r s.2 in
-    let t = instr_taken p.left before s.0 i.0 i.1 in
-    elim (chosen (ltb (count_of core (instrs_of names done)) 32) (Ok (instrs_of names done ++ of_core core i.0.0 ∷ [], i.0.1)) (Err (fault TooLarge p.left)) (Ok r) i.2) [
+    let s = bind_ok (or_bad_instruction p.remaining (spelled_in (p ∷ ps))) _ r e in
+    let i = bind_ok (instr_of p.remaining before s.0) _ r s.2 in
+    let t = instr_taken p.remaining before s.0 i.0 i.1 in
+    elim (chosen (ltb (count_of core (instrs_of names done)) 32) (Ok (instrs_of names done ++ of_core core i.0.0 ∷ [], i.0.1)) (Err (fault TooLarge p.remaining)) (Ok r) i.2) [
       | inl hit ↦
           let below = ltb-true (count_of core (instrs_of names done)) 32 hit.0 in
           let room : count_in core done < 32 = omega (arith, below, count-instrs core before done) in
           record {
             shape = s.0;
-            is = or_bad_ok p.left (spelled_in (p ∷ ps)) s.0 s.1;
+            is = or_bad_ok p.remaining (spelled_in (p ∷ ps)) s.0 s.1;
             within = within_push core names done s.0 h t.fits room (t.room h.room);
             given = sym (ok_is (instrs_of names done ++ of_core core i.0.0 ∷ [], i.0.1) r hit.1)
                 ∙ ap (λ (n : Instr). (let r : Read = (instrs_of names done ++ of_core core n ∷ [], i.0.1) in r)) t.instr_is

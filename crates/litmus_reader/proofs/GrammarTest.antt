@@ -32,7 +32,7 @@ use Rattle.litmus_reader.proofs.GrammarNames.{numbered_append, with_name_by}
 use Rattle.litmus_reader.proofs.GrammarShapes.{entries_known, instrs_stay}
 use Rattle.litmus_reader.proofs.GrammarEnding.{Closes, Closed, Given, given, tail_again, tail_takes}
 use Rattle.litmus_reader.proofs.Readings.{Reads, Begins, Says, rows_by, ReadsPlaced, SpellsRows, AreLast, ends_table}
-use Rattle.litmus_reader.specs.Written.{Shape, Setting, Asked, Written}
+use Rattle.litmus_reader.specs.Written.{Shape, Setting, WrittenCondition, Written}
 
 -- ---- lists
 
@@ -104,13 +104,13 @@ passed Is ps rest ts last is parts = record { front = last.taken; parts = last.p
 
 -- ---- the table ends where the ending begins
 
-ends_asked : (ts : List Term) (c : Option Asked) → MayAsk ts c → ends_table ts ≡ true
+ends_asked : (ts : List Term) (c : Option WrittenCondition) → MayAsk ts c → ends_table ts ≡ true
 ends_asked _ _ nothing = refl
 ends_asked _ _ (a_condition _ _ _ (condition _ us _ phrase says_exists is)) = refl
 ends_asked _ _ (a_condition _ _ _ (condition _ us _ phrase says_forall is)) = refl
 ends_asked _ _ (a_condition _ _ _ (condition _ us _ phrase says_not_exists is)) = refl
 
-ends_here : (text : List ℕ) (stop : Stop) (ps : List Piece) (c : Option Asked) → IsEnding text stop ps c → ends_table (terms ps) ≡ true
+ends_here : (text : List ℕ) (stop : Stop) (ps : List Piece) (c : Option WrittenCondition) → IsEnding text stop ps c → ends_table (terms ps) ≡ true
 ends_here text stop _ _ (at_once ps c ended is) = ends_asked (terms ps) c is
 ends_here text stop _ _ (after_locations word opener ps bytes c is_word is_opener found ended is) = rw is_word refl
 
@@ -200,7 +200,7 @@ text_again text t laws s =
 
 -- ---- taken
 
-abbrev pub written : List ℕ → List Setting → ℕ → List (List (Option Shape)) → Option Asked → Written
+abbrev pub written : List ℕ → List Setting → ℕ → List (List (Option Shape)) → Option WrittenCondition → Written
 written called settings cores table asked = record { name = called; settings = settings; cores = cores; table = table; asked = asked }
 
 -- what was read is written in these bytes, after a header line with this name

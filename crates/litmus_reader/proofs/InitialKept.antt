@@ -12,12 +12,12 @@ use Rattle.litmus_reader.specs.declared.fault.Fault.{Fault}
 use Rattle.litmus_reader.specs.declared.fault.Part.{Part}
 use Rattle.litmus_reader.specs.inner.Faults.{or_unfit}
 use Rattle.litmus_reader.specs.inner.Locations.{located}
-use Rattle.litmus_reader.specs.inner.Items.{setting_at, word_at, core_of}
+use Rattle.litmus_reader.specs.inner.Settings.{setting_at, word_at, core_of}
 use Rattle.litmus_reader.specs.inner.Initial.{before_initial, Given, Initial, initial, gives, judged, item_in, step_in, items_within, items_at, initial_at, with_register, registers_with, registers_of, words_of, ends_item}
 use Rattle.litmus_reader.proofs.Keeps.{Any, ok_any, some_any, bind_keeps, there_keeps, cond_keeps, core_keeps}
 use Rattle.litmus_reader.proofs.Named.{NamedSetting, setting_named}
 use Rattle.litmus_reader.proofs.Known.{AreNames, LocatesIn, located_keeps}
-use Rattle.litmus_reader.specs.Places.{left_of, in_initial}
+use Rattle.litmus_reader.specs.Places.{remaining_of, in_initial}
 use Rattle.litmus_reader.specs.Written.{Setting, of_register, of_location}
 
 -- the names of locations, of which each word so far has one
@@ -28,14 +28,14 @@ pub record KeptInitial (i : Initial) : Type 0 where
 abbrev IfKept : Result Initial Fault → Type 0
 IfKept r = IfOk r KeptInitial
 
-judged_keeps : (left : ℕ) (i : Initial) (s : Setting) → KeptInitial i → NamedSetting s → IfKept (judged left i s)
+judged_keeps : (remaining : ℕ) (i : Initial) (s : Setting) → KeptInitial i → NamedSetting s → IfKept (judged remaining i s)
 unfolding judged
-judged_keeps left i (of_register core reg v) h is =
-    bind_keeps (λ x. Any x) KeptInitial (word_at left v) _ (ok_any _)
+judged_keeps remaining i (of_register core reg v) h is =
+    bind_keeps (λ x. Any x) KeptInitial (word_at remaining v) _ (ok_any _)
     (λ value _. cond_keeps IfKept (list_any (gives core reg) i.registers) _ _ (λ _. tt) (λ _. record { names = h.names; few = h.few }))
-judged_keeps left i (of_location x v) h is =
-    bind_keeps (λ x. Any x) KeptInitial (word_at left v) _ (ok_any _)
-    (λ value _. bind_keeps (LocatesIn i.names) KeptInitial (located left i.names x) _ (located_keeps left i.names x h.names is)
+judged_keeps remaining i (of_location x v) h is =
+    bind_keeps (λ x. Any x) KeptInitial (word_at remaining v) _ (ok_any _)
+    (λ value _. bind_keeps (LocatesIn i.names) KeptInitial (located remaining i.names x) _ (located_keeps remaining i.names x h.names is)
     (λ loc l. cond_keeps IfKept (ltb loc.0.0 (length i.words)) _ _ (λ _. tt)
     (λ new. let past : length i.words ≤ loc.0.0 = ltb-false _ _ new in
     record { names = l.grown.names; few = omega (arith, length-append i.words (value ∷ []), past, l.below) })))
@@ -51,7 +51,7 @@ unfolding item_in
 item_keeps part i ps h =
     bind_keeps (λ x. NamedSetting x.0) KeptStep (setting_at part ps) _ (setting_named part ps)
     (λ s is. cond_keeps IfKeptStep (ends_item s.1) _ _
-    (λ _. bind_keeps KeptInitial KeptStep (judged (left_of ps) i s.0) _ (judged_keeps (left_of ps) i s.0 h is) (λ after k. k))
+    (λ _. bind_keeps KeptInitial KeptStep (judged (remaining_of ps) i s.0) _ (judged_keeps (remaining_of ps) i s.0 h is) (λ after k. k))
     (λ _. tt))
 
 step_keeps : (part : Part) (i : Initial) (ps : List Piece) → KeptInitial i → IfKeptStep (step_in part i ps)
@@ -72,7 +72,7 @@ pub initial_keeps : (stop : Stop) (ps : List Piece) → IfKeptStep (initial_at s
 unfolding initial_at items_at
 initial_keeps stop ps =
     bind_keeps (λ x. Any x) KeptStep (or_unfit (before_initial stop) ps (symbol_at OpenCurly ps)) _ (ok_any _)
-    (λ rest _. items_keep (length rest) (in_initial (left_of ps) stop) (initial [] [] []) rest nothing_given)
+    (λ rest _. items_keep (length rest) (in_initial (remaining_of ps) stop) (initial [] [] []) rest nothing_given)
 
 -- ---- words and registers
 
@@ -86,7 +86,7 @@ registers_keep : (cores : ℕ) (registers : List (List ℕ)) (given : List Given
 unfolding registers_with
 registers_keep cores registers [] h = h
 registers_keep cores registers (g ∷ gs) h =
-    bind_keeps (λ core. core < cores) (HasLength cores) (core_of cores g.left g.core) _ (core_keeps cores g.left g.core)
+    bind_keeps (λ core. core < cores) (HasLength cores) (core_of cores g.remaining g.core) _ (core_keeps cores g.remaining g.core)
     (λ core lt. registers_keep cores (with_register registers core g.reg g.value) gs (length-set registers core _ ∙ h))
 
 pub all_registers_keep : (cores : ℕ) (given : List Given) → IfOk (registers_of cores given) (HasLength cores)

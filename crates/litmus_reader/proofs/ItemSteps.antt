@@ -10,9 +10,9 @@ use Rattle.litmus_reader.specs.declared.fault.Part.{Part}
 use Rattle.litmus_reader.specs.declared.fault.ReadError.{ReadError}
 use Rattle.litmus_reader.specs.declared.fault.ReadError.TheVariants as errors
 use Rattle.litmus_reader.specs.inner.Faults.{◌>>=◌, Fails}
-use Rattle.litmus_reader.specs.inner.Items.{location_at, plain_setting, setting_at}
+use Rattle.litmus_reader.specs.inner.Settings.{location_at, plain_setting, setting_at}
 use Rattle.litmus_reader.specs.inner.Initial.{Initial, initial, item_in, step_in, items_within, items_at, opened_at, initial_at}
-use Rattle.litmus_reader.specs.Places.{unfit, left_of, in_initial}
+use Rattle.litmus_reader.specs.Places.{unfit, remaining_of, in_initial}
 
 abbrev pub ReadItems : Type 0
 ReadItems = Result (Initial × List Piece) Fault
@@ -74,12 +74,12 @@ item_fails (errors.Fault f) part i ps total at is b = by_count b.count b.enough 
     by_count (suc n) enough same = sym same ∙ step n part i ps at ∙ ap (λ (r : ReadItems). r >>= λ read. items_within n part read.0 read.1) is
 
 pub initial_done : (stop : Stop) (part : Part) (names : List (List ℕ)) (ps rest : List Piece) (x : Initial × List Piece)
-    → part ≡ in_initial (left_of ps) stop → Ok rest ≡ opened_at stop ps → items_at part names rest ≡ Ok x → initial_at stop names ps ≡ Ok x
+    → part ≡ in_initial (remaining_of ps) stop → Ok rest ≡ opened_at stop ps → items_at part names rest ≡ Ok x → initial_at stop names ps ≡ Ok x
 unfolding initial_at
 initial_done stop part names ps rest x same at is = rw (← at, ← same, is) refl
 
 pub initial_fails : (e : ReadError) (stop : Stop) (part : Part) (names : List (List ℕ)) (ps rest : List Piece)
-    → part ≡ in_initial (left_of ps) stop → Ok rest ≡ opened_at stop ps → Fails e (items_at part names rest) → Fails e (initial_at stop names ps)
+    → part ≡ in_initial (remaining_of ps) stop → Ok rest ≡ opened_at stop ps → Fails e (items_at part names rest) → Fails e (initial_at stop names ps)
 unfolding initial_at
 initial_fails errors.NoMemory stop part names ps rest same at is = tt
 initial_fails (errors.Fault f) stop part names ps rest same at is = rw (← at, ← same, is) refl

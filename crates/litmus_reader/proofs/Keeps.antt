@@ -6,7 +6,7 @@ use Rattle.litmus_tokens.specs.Pieces.{Piece}
 use Rattle.litmus_reader.specs.declared.fault.Fault.{Fault}
 use Rattle.litmus_reader.specs.declared.fault.Part.{Part}
 use Rattle.litmus_reader.specs.inner.Faults.{◌>>=◌, or_unfit, there}
-use Rattle.litmus_reader.specs.inner.Items.{core_of}
+use Rattle.litmus_reader.specs.inner.Settings.{core_of}
 
 pub bind_keeps : {A B : Type 0} (R : A → Type 0) (Q : B → Type 0) (r : Result A Fault) (f : A → Result B Fault)
     → IfOk r R → ((x : A) → R x → IfOk (f x) Q) → IfOk (r >>= f) Q
@@ -46,8 +46,8 @@ ok_is Q (Ok y) x h e = let same : y ≡ x = cc in subst_by same h
     subst_by e q = rw (← e) q
 ok_is Q (Err f) x h e = absurd cc
 
-pub core_keeps : (cores left : ℕ) (digits : List ℕ) → IfOk (core_of cores left digits) (λ core. core < cores)
-core_keeps cores left digits = cond_keeps (λ (r : Result ℕ Fault). IfOk r (λ core. core < cores)) (ltb (decimal_value digits) cores) _ _ (λ lt. ltb-true _ _ lt) (λ _. tt)
+pub core_keeps : (cores remaining : ℕ) (digits : List ℕ) → IfOk (core_of cores remaining digits) (λ core. core < cores)
+core_keeps cores remaining digits = cond_keeps (λ (r : Result ℕ Fault). IfOk r (λ core. core < cores)) (ltb (decimal_value digits) cores) _ _ (λ lt. ltb-true _ _ lt) (λ _. tt)
 
 pub some_is : {A : Type 0} (Q : A → Type 0) (o : Option A) (x : A) → IfSome o Q → o ≡ Some x → Q x
 some_is Q (Some y) x h e = let same : y ≡ x = cc in rw (← same) h

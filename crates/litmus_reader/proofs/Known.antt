@@ -93,7 +93,7 @@ with_known names x h is room false any =
       below = omega (arith, at_end, longer);
     }
 
-pub located_keeps : (left : ℕ) (names : List (List ℕ)) (x : List ℕ) → AreNames names → IsLocation x → IfOk (located left names x) (LocatesIn names)
+pub located_keeps : (remaining : ℕ) (names : List (List ℕ)) (x : List ℕ) → AreNames names → IsLocation x → IfOk (located remaining names x) (LocatesIn names)
 unfolding located
-located_keeps left names x h is =
+located_keeps remaining names x h is =
     cond_keeps (λ (r : Result (Loc × List (List ℕ)) Fault). IfOk r (LocatesIn names)) (ltb (number_of names x) 16) _ _ (λ room. with_known names x h is (ltb-true _ _ room) (list_any (bytes_eq x) names) refl) (λ _. tt)

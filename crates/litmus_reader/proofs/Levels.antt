@@ -15,7 +15,7 @@ use Rattle.litmus_reader.specs.GrammarItems.{IsSetting}
 use Rattle.litmus_reader.specs.GrammarInitial.{given_value, has_core}
 use Rattle.litmus_reader.specs.GrammarConditions.{IsAtom, AreJoined, IsConjunction, IsProposition, IsUnit, locations_in, atoms_of, PhraseFits, IsWithin, is_negation}
 use Rattle.litmus_reader.specs.Misfits.{Misfits, begins_with}
-use Rattle.litmus_reader.specs.Places.{fault, left_of, unfit, part_of}
+use Rattle.litmus_reader.specs.Places.{fault, remaining_of, unfit, part_of}
 use Rattle.litmus_reader.specs.Written.{Setting, Phrase, both, either}
 use Rattle.litmus_reader.specs.RefusedConditions.{begins_unit}
 
@@ -25,12 +25,12 @@ pub data IsAtomFault (stop : Stop) (cores atoms : ℕ) (names : List (List ℕ))
   unfit_token : (at : List Piece) → Misfits (λ ts. (p : Phrase) × IsAtom ts p) ps at
       → IsAtomFault stop cores atoms names ps (unfit (part_of BadCondition stop) at)
   -- as the last token is there, at the first
-  no_such_core : (ts back : List Term) (s : Setting) → IsSetting ts s → terms ps ≡ ts ++ back → IsFalse (has_core cores s) → IsAtomFault stop cores atoms names ps (fault NoSuchCore (left_of ps))
+  no_such_core : (ts back : List Term) (s : Setting) → IsSetting ts s → terms ps ≡ ts ++ back → IsFalse (has_core cores s) → IsAtomFault stop cores atoms names ps (fault NoSuchCore (remaining_of ps))
   bad_number : (ts back : List Term) (s : Setting) → IsSetting ts s → terms ps ≡ ts ++ back → IsTrue (has_core cores s) → 2 ^ 32 ≤ given_value s
-      → IsAtomFault stop cores atoms names ps (fault BadNumber (left_of ps))
+      → IsAtomFault stop cores atoms names ps (fault BadNumber (remaining_of ps))
   -- else one location or one atom too many
   one_too_many : (ts back : List Term) (p : Phrase) → IsAtom ts p → terms ps ≡ ts ++ back → PhraseFits cores p → ¬ (IsWithin cores atoms names p)
-      → IsAtomFault stop cores atoms names ps (fault TooLarge (left_of ps))
+      → IsAtomFault stop cores atoms names ps (fault TooLarge (remaining_of ps))
 
 -- ---- propositions
 
@@ -46,7 +46,7 @@ IsPropositionFault IsUnit IsUnitFault cores = IsJoinedFault Or either (IsConjunc
 
 -- where a unit has to stand in which no more negations and brackets may be open
 pub data IsLastUnitFault (stop : Stop) (cores atoms : ℕ) (names : List (List ℕ)) (ps : List Piece) : Fault → Type 0 where
-  one_open_too_many : IsTrue (begins_with begins_unit (terms ps)) → IsLastUnitFault stop cores atoms names ps (fault TooLarge (left_of ps))
+  one_open_too_many : IsTrue (begins_with begins_unit (terms ps)) → IsLastUnitFault stop cores atoms names ps (fault TooLarge (remaining_of ps))
   in_atom : (f : Fault) → IsFalse (begins_with begins_unit (terms ps)) → IsAtomFault stop cores atoms names ps f → IsLastUnitFault stop cores atoms names ps f
 
 -- where a unit has to stand whose own units are so, and are refused so

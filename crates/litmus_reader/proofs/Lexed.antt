@@ -19,7 +19,7 @@ pub record PieceRead (bytes : List ℕ) (p : Piece) (after : List ℕ) : Type 0 
   pub gap : gap_end None bytes ≡ Ok at
   pub end : AreEnd bytes at
   pub token : TokenRead at p.term after
-  pub left : p.left ≡ length at
+  pub remaining : p.remaining ≡ length at
   pub again : piece_at at ≡ Ok (p, after)
 
 pub piece_read : (bytes : List ℕ) (p : Piece) (after : List ℕ) → piece_at bytes ≡ Ok (p, after) → PieceRead bytes p after
@@ -29,15 +29,15 @@ piece_read bytes p after e = by_gap (gap_end None bytes) refl
     by_term : (at : List ℕ) → gap_end None bytes ≡ Ok at → (r : Result (Term × List ℕ) Stop) → term_at at ≡ r → PieceRead bytes p after
     by_term at gap (Err stop) is = let h : (let q : Result (Piece × List ℕ) Stop = Err stop in q) ≡ Ok (p, after) = rw (gap, is) at e in absurd cc
     by_term at gap (Ok (t, rest)) is =
-        let h : (let q : Result (Piece × List ℕ) Stop = Ok (record { left = length at; term = t }, rest) in q) ≡ Ok (p, after) = rw (gap, is) at e in
-        let same = ok_both (record { left = length at; term = t }) p rest after h in
+        let h : (let q : Result (Piece × List ℕ) Stop = Ok (record { remaining = length at; term = t }, rest) in q) ≡ Ok (p, after) = rw (gap, is) at e in
+        let same = ok_both (record { remaining = length at; term = t }) p rest after h in
         let g : GapRead bytes at = gap_read None bytes at gap in
         record {
           at = at;
           gap = gap;
           end = g.end;
           token = subst (λ (u : Term). TokenRead at u after) (ap (λ (q : Piece). q.term) same.0) (term_read at t after (subst (λ (l : List ℕ). term_at at ≡ Ok (t, l)) same.1 is));
-          left = sym (ap (λ (q : Piece). q.left) same.0);
+          remaining = sym (ap (λ (q : Piece). q.remaining) same.0);
           again = rw (g.again, is) h;
         }
 
@@ -64,7 +64,7 @@ piece_stops bytes stop e = by_gap (gap_end None bytes) refl
 
     by_term : (at : List ℕ) → gap_end None bytes ≡ Ok at → (r : Result (Term × List ℕ) Stop) → term_at at ≡ r → PieceStops bytes stop
     by_term at gap (Ok (t, rest)) is =
-        let h : (let q : Result (Piece × List ℕ) Stop = Ok (record { left = length at; term = t }, rest) in q) ≡ Err stop = rw (gap, is) at e in absurd cc
+        let h : (let q : Result (Piece × List ℕ) Stop = Ok (record { remaining = length at; term = t }, rest) in q) ≡ Err stop = rw (gap, is) at e in absurd cc
     by_term at gap (Err end) is =
         let h : (let q : Result (Piece × List ℕ) Stop = Err end in q) ≡ Err stop = rw (gap, is) at e in
         by_kind at gap (term_stops at stop (is ∙ ap (λ (x : Stop). Err x) (piece_stop end stop h)))
@@ -206,7 +206,7 @@ last_tokens text ps rest stop last h = tokens_after text last.taken rest stop (s
 pub record StandsAt (text : List ℕ) (p : Piece) (ps : List Piece) (stop : Stop) : Type 0 where
   pub at : List ℕ
   pub end : AreEnd text at
-  pub place : from_place text p.left ≡ at
+  pub place : from_place text p.remaining ≡ at
   pub tokens : (p ∷ ps, stop) ≡ pieces_of at
 
 pub stands_at : (text : List ℕ) (p : Piece) (ps : List Piece) (stop : Stop) → HasTokens text (p ∷ ps) stop → StandsAt text p ps stop
@@ -217,6 +217,6 @@ stands_at text p ps stop h =
     record {
       at = r.at;
       end = end;
-      place = ap (from_place text) r.left ∙ end_placed text r.at end;
+      place = ap (from_place text) r.remaining ∙ end_placed text r.at end;
       tokens = first_again r.at p ps stop f.after r.again f.tokens;
     }

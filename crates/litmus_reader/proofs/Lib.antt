@@ -11,7 +11,7 @@ pub mod RowSteps
 pub mod Squares
 pub mod Chains
 pub mod Units
-pub mod PartLists
+pub mod PartsAssembled
 pub mod Keeps
 pub mod Named
 pub mod Known

@@ -9,8 +9,8 @@ use Rattle.litmus_tokens.specs.inner.Front.{symbol_at, name_at, number_at}
 use Rattle.litmus_reader.specs.declared.fault.Fault.{Fault}
 use Rattle.litmus_reader.specs.declared.fault.Part.{Part}
 use Rattle.litmus_reader.specs.inner.Faults.{or_unfit, there}
-use Rattle.litmus_reader.specs.inner.Items.{if_location, location_at, register_at, value_at, register_setting, square_setting, plain_setting, setting_at}
-use Rattle.litmus_reader.specs.inner.Operands.{Place, in_memory, in_register, constant, as_constant, dollar_at, closed_memory, memory_at, as_register, operand_at, if_last, second_of, after_operand, two_operands}
+use Rattle.litmus_reader.specs.inner.Settings.{if_location, location_at, register_at, value_at, register_setting, square_setting, plain_setting, setting_at}
+use Rattle.litmus_reader.specs.inner.Arguments.{ArgumentTerm, in_memory, in_register, constant, as_constant, dollar_at, closed_memory, memory_at, as_register, argument_at, if_last, second_of, after_operand, two_arguments}
 use Rattle.litmus_reader.specs.inner.Forms.{mov_of, xchg_of, xadd_of, no_more, locked_by, locked_at, by_mnemonic, spelled_in}
 use Rattle.litmus_reader.proofs.Keeps.{Any, ok_any, some_any, bind_keeps, there_keeps, cond_keeps, or_unfit_keeps}
 use Rattle.litmus_reader.specs.Written.{Setting, of_register, of_location, Shape, store_imm, store_reg, load, set_imm, set_reg, fence, xchg, xadd}
@@ -26,12 +26,12 @@ location_at_named ps =
 
 -- ---- operands
 
-abbrev pub Named : Place → Type 0
+abbrev pub Named : ArgumentTerm → Type 0
 Named (in_memory x) = IsLocation x
 Named (in_register r) = Unit {0}
 Named (constant v) = Unit {0}
 
-abbrev pub NamedFirst : Option (Place × List Piece) → Type 0
+abbrev pub NamedFirst : Option (ArgumentTerm × List Piece) → Type 0
 NamedFirst o = IfSome o (λ x. Named x.0)
 
 memory_named : (ps : List Piece) → NamedFirst (memory_at ps)
@@ -39,27 +39,27 @@ memory_named ps =
     there_keeps (λ x. IsLocation x.0) NamedFirst (location_at ps) closed_memory None (location_at_named ps)
     (λ x h. there_keeps (λ r. Any r) NamedFirst (symbol_at CloseSquare x.1) (λ rest. Some (in_memory x.0, rest)) None (some_any _) (λ rest _. h) tt) tt
 
-pub operand_named : (ps : List Piece) → NamedFirst (operand_at ps)
-unfolding operand_at
+pub operand_named : (ps : List Piece) → NamedFirst (argument_at ps)
+unfolding argument_at
 operand_named ps =
     there_keeps (λ x. Any x) NamedFirst (number_at ps) as_constant _ (some_any _) (λ x _. tt)
     (there_keeps (λ x. Any x) NamedFirst (symbol_at Dollar ps) dollar_at _ (some_any _) (λ rest _. there_keeps (λ x. Any x) NamedFirst (number_at rest) as_constant None (some_any _) (λ x _. tt) tt)
     (there_keeps (λ x. Any x) NamedFirst (symbol_at OpenSquare ps) memory_at _ (some_any _) (λ rest _. memory_named rest)
     (there_keeps (λ x. Any x) NamedFirst (register_at ps) as_register None (some_any _) (λ x _. tt) tt)))
 
-abbrev pub NamedBoth : Option (Place × Place) → Type 0
+abbrev pub NamedBoth : Option (ArgumentTerm × ArgumentTerm) → Type 0
 NamedBoth o = IfSome o (λ x. Named x.0 × Named x.1)
 
-last_named : (first second : Place) (rest : List Piece) → Named first → Named second → NamedBoth (if_last first (second, rest))
+last_named : (first second : ArgumentTerm) (rest : List Piece) → Named first → Named second → NamedBoth (if_last first (second, rest))
 last_named first second [] h k = (h, k)
 last_named first second (p ∷ ps) h k = tt
 
-pub two_named : (ps : List Piece) → NamedBoth (two_operands ps)
-unfolding two_operands
+pub two_named : (ps : List Piece) → NamedBoth (two_arguments ps)
+unfolding two_arguments
 two_named ps =
-    there_keeps (λ x. Named x.0) NamedBoth (operand_at ps) after_operand None (operand_named ps)
+    there_keeps (λ x. Named x.0) NamedBoth (argument_at ps) after_operand None (operand_named ps)
     (λ x h. there_keeps (λ r. Any r) NamedBoth (symbol_at Comma x.1) (second_of x.0) None (some_any _)
-    (λ rest _. there_keeps (λ y. Named y.0) NamedBoth (operand_at rest) (if_last x.0) None (operand_named rest) (λ y k. last_named x.0 y.0 y.1 h k) tt) tt) tt
+    (λ rest _. there_keeps (λ y. Named y.0) NamedBoth (argument_at rest) (if_last x.0) None (operand_named rest) (λ y k. last_named x.0 y.0 y.1 h k) tt) tt) tt
 
 -- ---- instructions
 
@@ -76,7 +76,7 @@ NamedShape (xadd x r) = IsLocation x
 abbrev pub IfNamed : Option Shape → Type 0
 IfNamed o = IfSome o NamedShape
 
-mov_named : (a b : Place) → Named a → Named b → IfNamed (mov_of (a, b))
+mov_named : (a b : ArgumentTerm) → Named a → Named b → IfNamed (mov_of (a, b))
 mov_named (in_memory x) (constant v) h k = h
 mov_named (in_memory x) (in_register r) h k = h
 mov_named (in_memory x) (in_memory y) h k = tt
@@ -85,7 +85,7 @@ mov_named (in_register r) (constant v) h k = tt
 mov_named (in_register r) (in_register s) h k = tt
 mov_named (constant v) b h k = tt
 
-xchg_named : (a b : Place) → Named a → Named b → IfNamed (xchg_of (a, b))
+xchg_named : (a b : ArgumentTerm) → Named a → Named b → IfNamed (xchg_of (a, b))
 xchg_named (in_memory x) (constant v) h k = tt
 xchg_named (in_memory x) (in_register r) h k = h
 xchg_named (in_memory x) (in_memory y) h k = tt
@@ -94,7 +94,7 @@ xchg_named (in_register r) (constant v) h k = tt
 xchg_named (in_register r) (in_register s) h k = tt
 xchg_named (constant v) b h k = tt
 
-xadd_named : (a b : Place) → Named a → Named b → IfNamed (xadd_of (a, b))
+xadd_named : (a b : ArgumentTerm) → Named a → Named b → IfNamed (xadd_of (a, b))
 xadd_named (in_memory x) (constant v) h k = tt
 xadd_named (in_memory x) (in_register r) h k = h
 xadd_named (in_memory x) (in_memory y) h k = tt
@@ -105,14 +105,14 @@ no_more_named : (ps : List Piece) → IfNamed (no_more ps)
 no_more_named [] = tt
 no_more_named (p ∷ ps) = tt
 
-movs : (ps : List Piece) → IfNamed (there (two_operands ps) mov_of None)
-movs ps = there_keeps (λ x. Named x.0 × Named x.1) IfNamed (two_operands ps) mov_of None (two_named ps) (λ x h. mov_named x.0 x.1 h.0 h.1) tt
+movs : (ps : List Piece) → IfNamed (there (two_arguments ps) mov_of None)
+movs ps = there_keeps (λ x. Named x.0 × Named x.1) IfNamed (two_arguments ps) mov_of None (two_named ps) (λ x h. mov_named x.0 x.1 h.0 h.1) tt
 
-xchgs : (ps : List Piece) → IfNamed (there (two_operands ps) xchg_of None)
-xchgs ps = there_keeps (λ x. Named x.0 × Named x.1) IfNamed (two_operands ps) xchg_of None (two_named ps) (λ x h. xchg_named x.0 x.1 h.0 h.1) tt
+xchgs : (ps : List Piece) → IfNamed (there (two_arguments ps) xchg_of None)
+xchgs ps = there_keeps (λ x. Named x.0 × Named x.1) IfNamed (two_arguments ps) xchg_of None (two_named ps) (λ x h. xchg_named x.0 x.1 h.0 h.1) tt
 
-xadds : (ps : List Piece) → IfNamed (there (two_operands ps) xadd_of None)
-xadds ps = there_keeps (λ x. Named x.0 × Named x.1) IfNamed (two_operands ps) xadd_of None (two_named ps) (λ x h. xadd_named x.0 x.1 h.0 h.1) tt
+xadds : (ps : List Piece) → IfNamed (there (two_arguments ps) xadd_of None)
+xadds ps = there_keeps (λ x. Named x.0 × Named x.1) IfNamed (two_arguments ps) xadd_of None (two_named ps) (λ x h. xadd_named x.0 x.1 h.0 h.1) tt
 
 locked_named : (ps : List Piece) → IfNamed (locked_at ps)
 unfolding locked_at

@@ -12,7 +12,7 @@ use Rattle.litmus_reader.specs.Grammar.{terms}
 use Rattle.litmus_reader.specs.GrammarCells.{IsCell}
 use Rattle.litmus_reader.specs.GrammarTable.{ValueFits}
 use Rattle.litmus_reader.specs.RefusedTable.{AreSpelled, cells_of, row_of}
-use Rattle.litmus_reader.specs.Places.{fault, at_stop, left_of}
+use Rattle.litmus_reader.specs.Places.{fault, at_stop, remaining_of}
 use Rattle.litmus_reader.specs.Written.{Shape}
 use Rattle.litmus_reader.proofs.Placed.{Placed, placed, placed_from, EntriesWithin}
 
@@ -24,9 +24,9 @@ pub data IsEntryFault (names : List (List ℕ)) (before : List Placed) (core : �
 
 -- after these entries, in the row that these tokens begin
 pub data IsEntriesFault (stop : Stop) (cores : ℕ) (names : List (List ℕ)) (before : List Placed) (ps : List Piece) : Fault → Type 0 where
-  unclosed : IsFalse (list_any (is_symbol Semicolon) ps) → IsEntriesFault stop cores names before ps (at_stop (fault Unclosed (left_of ps)) stop)
-  wrong_cells : IsTrue (list_any (is_symbol Semicolon) ps) → length (cells_of (row_of ps)) ≢ cores → IsEntriesFault stop cores names before ps (fault WrongCells (left_of ps))
+  unclosed : IsFalse (list_any (is_symbol Semicolon) ps) → IsEntriesFault stop cores names before ps (at_stop (fault Unclosed (remaining_of ps)) stop)
+  wrong_cells : IsTrue (list_any (is_symbol Semicolon) ps) → length (cells_of (row_of ps)) ≢ cores → IsEntriesFault stop cores names before ps (fault WrongCells (remaining_of ps))
   in_cell : (done after : List (List Piece)) (first : Piece) (cell : List Piece) (spelled : List (Option Shape)) (why : Why) → IsTrue (list_any (is_symbol Semicolon) ps)
       → length (cells_of (row_of ps)) ≡ cores → cells_of (row_of ps) ≡ done ++ (first ∷ cell) ∷ after → AreSpelled done spelled
       → EntriesWithin names (before ++ placed_from 0 spelled) → IsEntryFault names (before ++ placed_from 0 spelled) (length done) (first ∷ cell) why
-      → IsEntriesFault stop cores names before ps (fault why first.left)
+      → IsEntriesFault stop cores names before ps (fault why first.remaining)

@@ -13,7 +13,7 @@ use Rattle.litmus_reader.specs.declared.fault.Fault.{Fault}
 use Rattle.litmus_reader.specs.inner.Faults.{there}
 use Rattle.litmus_reader.specs.inner.Keywords.{word_after}
 use Rattle.litmus_reader.specs.inner.Locations.{located}
-use Rattle.litmus_reader.specs.inner.Items.{setting_at}
+use Rattle.litmus_reader.specs.inner.Settings.{setting_at}
 use Rattle.litmus_reader.specs.inner.Conditions.{claim_in, one_more, truth_at, truth_atom, setting_atom, atom_at, in_condition}
 use Rattle.litmus_reader.specs.Grammar.{terms}
 use Rattle.litmus_reader.specs.GrammarNames.{numbered, number_of, with_name, location}
@@ -26,7 +26,7 @@ use Rattle.litmus_reader.proofs.GrammarItems.{setting_found, setting_taken}
 use Rattle.litmus_reader.proofs.GrammarAtoms.{SettingFits, atom_fits, fits_atom, word_is, setting_plain, claim_taken, truth_taken, atom_found}
 use Rattle.litmus_reader.proofs.RefusedMisfits.{err_is, bind_err, fails, Follows, setting_follows}
 use Rattle.litmus_reader.proofs.RefusedEnding.{word_missing, word_differs}
-use Rattle.litmus_reader.specs.Places.{fault, left_of, unfit}
+use Rattle.litmus_reader.specs.Places.{fault, remaining_of, unfit}
 use Rattle.litmus_reader.specs.Written.{Setting, of_register, of_location, Phrase, truth, atom}
 use Rattle.litmus_reader.proofs.Slots.{misfit, setting_slots}
 use Rattle.litmus_reader.proofs.RefusedKinds.{AtomMisses, atom_misses, atom_misfits}
@@ -56,7 +56,7 @@ by_setting : (stop : Stop) (cores atoms : ℕ) (names : List (List ℕ)) (ps : L
 unfolding atom_at
 by_setting stop cores atoms names ps e = rw e refl
 
-by_truth : (stop : Stop) (cores atoms : ℕ) (names : List (List ℕ)) (ps : List Piece) (t : Bool × List Piece) → truth_at ps ≡ Some t → atom_at stop cores atoms names ps ≡ truth_atom (left_of ps) atoms names t
+by_truth : (stop : Stop) (cores atoms : ℕ) (names : List (List ℕ)) (ps : List Piece) (t : Bool × List Piece) → truth_at ps ≡ Some t → atom_at stop cores atoms names ps ≡ truth_atom (remaining_of ps) atoms names t
 unfolding atom_at
 by_truth stop cores atoms names ps t e = rw e refl
 
@@ -64,74 +64,74 @@ setting_fails : (stop : Stop) (cores atoms : ℕ) (names : List (List ℕ)) (ps 
 unfolding setting_atom
 setting_fails stop cores atoms names ps f e = rw e refl
 
-claim_fails : (stop : Stop) (cores atoms : ℕ) (names : List (List ℕ)) (ps rest : List Piece) (s : Setting) (f : Fault) → setting_at (in_condition stop) ps ≡ Ok (s, rest) → claim_in cores (left_of ps) names s ≡ Err f
+claim_fails : (stop : Stop) (cores atoms : ℕ) (names : List (List ℕ)) (ps rest : List Piece) (s : Setting) (f : Fault) → setting_at (in_condition stop) ps ≡ Ok (s, rest) → claim_in cores (remaining_of ps) names s ≡ Err f
     → setting_atom stop cores atoms names ps ≡ Err f
 unfolding setting_atom
 claim_fails stop cores atoms names ps rest s f read e = rw (read, e) refl
 
 count_fails : (stop : Stop) (cores atoms : ℕ) (names : List (List ℕ)) (ps rest : List Piece) (s : Setting) (c : Claim × List (List ℕ)) (f : Fault) → setting_at (in_condition stop) ps ≡ Ok (s, rest)
-    → claim_in cores (left_of ps) names s ≡ Ok c → one_more (left_of ps) atoms ≡ Err f → setting_atom stop cores atoms names ps ≡ Err f
+    → claim_in cores (remaining_of ps) names s ≡ Ok c → one_more (remaining_of ps) atoms ≡ Err f → setting_atom stop cores atoms names ps ≡ Err f
 unfolding setting_atom
 count_fails stop cores atoms names ps rest s c f read claim e = rw (read, claim, e) refl
 
 -- ---- claims
 
-missing_core : (cores left : ℕ) (names : List (List ℕ)) (s : Setting) → has_core cores s ≡ false → claim_in cores left names s ≡ Err (fault NoSuchCore left)
+missing_core : (cores remaining : ℕ) (names : List (List ℕ)) (s : Setting) → has_core cores s ≡ false → claim_in cores remaining names s ≡ Err (fault NoSuchCore remaining)
 unfolding claim_in
-missing_core cores left names (of_register digits reg v) lacks = rw lacks refl
-missing_core cores left names (of_location x v) lacks = absurd cc
+missing_core cores remaining names (of_register digits reg v) lacks = rw lacks refl
+missing_core cores remaining names (of_location x v) lacks = absurd cc
 
-long_number : (cores left : ℕ) (names : List (List ℕ)) (s : Setting) → has_core cores s ≡ true → 2 ^ 32 ≤ given_value s → claim_in cores left names s ≡ Err (fault BadNumber left)
+long_number : (cores remaining : ℕ) (names : List (List ℕ)) (s : Setting) → has_core cores s ≡ true → 2 ^ 32 ≤ given_value s → claim_in cores remaining names s ≡ Err (fault BadNumber remaining)
 unfolding claim_in
-long_number cores left names (of_register digits reg v) has big = let past : ltb v (2 ^ 32) ≡ false = le-ltb _ _ big in rw (has, past) refl
-long_number cores left names (of_location x v) has big = let past : ltb v (2 ^ 32) ≡ false = le-ltb _ _ big in rw past refl
+long_number cores remaining names (of_register digits reg v) has big = let past : ltb v (2 ^ 32) ≡ false = le-ltb _ _ big in rw (has, past) refl
+long_number cores remaining names (of_location x v) has big = let past : ltb v (2 ^ 32) ≡ false = le-ltb _ _ big in rw past refl
 
-located_large : (left : ℕ) (names : List (List ℕ)) (x : List ℕ) (g : Fault) → located left names x ≡ Err g → g ≡ fault TooLarge left
+located_large : (remaining : ℕ) (names : List (List ℕ)) (x : List ℕ) (g : Fault) → located remaining names x ≡ Err g → g ≡ fault TooLarge remaining
 unfolding located
-located_large left names x g e =
-    elim (chosen (ltb (number_of names x) 16) (Ok (location (number_of names x), with_name names x)) (Err (fault TooLarge left)) (Err g) e) [
+located_large remaining names x g e =
+    elim (chosen (ltb (number_of names x) 16) (Ok (location (number_of names x), with_name names x)) (Err (fault TooLarge remaining)) (Err g) e) [
       | inl hit ↦ let never = hit.1 in absurd cc
-      | inr miss ↦ sym (err_is (fault TooLarge left) g miss.1)
+      | inr miss ↦ sym (err_is (fault TooLarge remaining) g miss.1)
     ]
 
-claim_large : (cores left : ℕ) (names : List (List ℕ)) (s : Setting) (g : Fault) → SettingFits cores s → claim_in cores left names s ≡ Err g → g ≡ fault TooLarge left
+claim_large : (cores remaining : ℕ) (names : List (List ℕ)) (s : Setting) (g : Fault) → SettingFits cores s → claim_in cores remaining names s ≡ Err g → g ≡ fault TooLarge remaining
 unfolding claim_in
-claim_large cores left names (of_register digits reg v) g fits e = let never = rw (lt-ltb (decimal_value digits) cores fits.0, word_is left v fits.1) at e in absurd cc
-claim_large cores left names (of_location x v) g fits e =
-    elim (bind_err (located left names x) _ g (rw (word_is left v fits) at e)) [
-      | inl bad ↦ located_large left names x g bad
+claim_large cores remaining names (of_register digits reg v) g fits e = let never = rw (lt-ltb (decimal_value digits) cores fits.0, word_is remaining v fits.1) at e in absurd cc
+claim_large cores remaining names (of_location x v) g fits e =
+    elim (bind_err (located remaining names x) _ g (rw (word_is remaining v fits) at e)) [
+      | inl bad ↦ located_large remaining names x g bad
       | inr good ↦ let never = good.2 in absurd cc
     ]
 
-count_cases : (left atoms : ℕ) → (atoms < 256) ⊎ (one_more left atoms ≡ Err (fault TooLarge left))
-count_cases left atoms = by_test (ltb atoms 256) refl
+count_cases : (remaining atoms : ℕ) → (atoms < 256) ⊎ (one_more remaining atoms ≡ Err (fault TooLarge remaining))
+count_cases remaining atoms = by_test (ltb atoms 256) refl
   where
-    by_test : (b : Bool) → ltb atoms 256 ≡ b → (atoms < 256) ⊎ (one_more left atoms ≡ Err (fault TooLarge left))
+    by_test : (b : Bool) → ltb atoms 256 ≡ b → (atoms < 256) ⊎ (one_more remaining atoms ≡ Err (fault TooLarge remaining))
     by_test true e = inl (ltb-true _ _ e)
     by_test false e = inr (rw e refl)
 
 -- ---- refuses
 
 truth_refuses : (stop : Stop) (cores atoms : ℕ) (names : List (List ℕ)) (ps : List Piece) (t : Bool × List Piece) → length names ≤ 16 → truth_at ps ≡ Some t → ¬ (IsWithin cores atoms names (truth t.0))
-    → atom_at stop cores atoms names ps ≡ Err (fault TooLarge (left_of ps))
+    → atom_at stop cores atoms names ps ≡ Err (fault TooLarge (remaining_of ps))
 unfolding numbered
 truth_refuses stop cores atoms names ps t few at past =
-    elim (count_cases (left_of ps) atoms) [
+    elim (count_cases (remaining_of ps) atoms) [
       | inl room ↦ absurd (past (record { fits = refl; few = omega arith; room = few }))
-      | inr full ↦ by_truth stop cores atoms names ps t at ∙ fails (one_more (left_of ps) atoms) _ (fault TooLarge (left_of ps)) full
+      | inr full ↦ by_truth stop cores atoms names ps t at ∙ fails (one_more (remaining_of ps) atoms) _ (fault TooLarge (remaining_of ps)) full
     ]
 
 setting_refuses : (stop : Stop) (cores atoms : ℕ) (names : List (List ℕ)) (ps rest : List Piece) (s : Setting) → length names ≤ 16 → setting_at (in_condition stop) ps ≡ Ok (s, rest) → SettingFits cores s
-    → ¬ (IsWithin cores atoms names (atom s)) → setting_atom stop cores atoms names ps ≡ Err (fault TooLarge (left_of ps))
-setting_refuses stop cores atoms names ps rest s few read fits past = by_claim (claim_in cores (left_of ps) names s) refl
+    → ¬ (IsWithin cores atoms names (atom s)) → setting_atom stop cores atoms names ps ≡ Err (fault TooLarge (remaining_of ps))
+setting_refuses stop cores atoms names ps rest s few read fits past = by_claim (claim_in cores (remaining_of ps) names s) refl
   where
-    by_claim : (r : Result (Claim × List (List ℕ)) Fault) → claim_in cores (left_of ps) names s ≡ r → setting_atom stop cores atoms names ps ≡ Err (fault TooLarge (left_of ps))
-    by_claim (Err g) e = claim_fails stop cores atoms names ps rest s g read e ∙ ap (λ (y : Fault). Err y) (claim_large cores (left_of ps) names s g fits e)
+    by_claim : (r : Result (Claim × List (List ℕ)) Fault) → claim_in cores (remaining_of ps) names s ≡ r → setting_atom stop cores atoms names ps ≡ Err (fault TooLarge (remaining_of ps))
+    by_claim (Err g) e = claim_fails stop cores atoms names ps rest s g read e ∙ ap (λ (y : Fault). Err y) (claim_large cores (remaining_of ps) names s g fits e)
     by_claim (Ok c) e =
-        let t = claim_taken cores (left_of ps) names s c e in
-        elim (count_cases (left_of ps) atoms) [
+        let t = claim_taken cores (remaining_of ps) names s c e in
+        elim (count_cases (remaining_of ps) atoms) [
           | inl room ↦ absurd (past (record { fits = atom_fits cores s fits; few = omega arith; room = t.room few }))
-          | inr full ↦ count_fails stop cores atoms names ps rest s c (fault TooLarge (left_of ps)) read e full
+          | inr full ↦ count_fails stop cores atoms names ps rest s c (fault TooLarge (remaining_of ps)) read e full
         ]
 
 truth_there : (word : List ℕ) (t : Bool) (back : List Term) (ps : List Piece) → IsAtom (name word ∷ []) (truth t) → terms ps ≡ name word ∷ back → (word ≡ codes "true") × (t ≡ true) ⊎ (word ≡ codes "false") × (t ≡ false) → (rest : List Piece) × (truth_at ps ≡ Some (t, rest))
@@ -142,7 +142,7 @@ truth_there word t back ps is e (inr so) =
     opened (λ ps. (rest : List Piece) × (truth_at ps ≡ Some (t, rest))) ps (name word) back e (λ p rest here after_it. (rest, rw (here, so.0, so.1) refl))
 
 many_refused : (stop : Stop) (cores atoms : ℕ) (names : List (List ℕ)) (ps : List Piece) (ts back : List Term) (p : Phrase) → length names ≤ 16 → IsAtom ts p → terms ps ≡ ts ++ back → PhraseFits cores p → ¬ (IsWithin cores atoms names p)
-    → atom_at stop cores atoms names ps ≡ Err (fault TooLarge (left_of ps))
+    → atom_at stop cores atoms names ps ≡ Err (fault TooLarge (remaining_of ps))
 many_refused stop cores atoms names ps _ back _ few says_true e fits past =
     let t = truth_there (codes "true") true back ps says_true e (inl (refl, refl)) in truth_refuses stop cores atoms names ps (true, t.0) few t.1 past
 many_refused stop cores atoms names ps _ back _ few says_false e fits past =
@@ -167,11 +167,11 @@ atom_refuses stop cores atoms names ps _ few (unfit_token at misfits) =
 atom_refuses stop cores atoms names ps _ few (no_such_core ts back s is e lacks) =
     let plain = setting_plain ts back s is ps e in
     let found = setting_found (in_condition stop) ts back s is ps e in
-    by_setting stop cores atoms names ps plain.no_truth ∙ claim_fails stop cores atoms names ps found.rest s (fault NoSuchCore (left_of ps)) found.is (missing_core cores (left_of ps) names s lacks)
+    by_setting stop cores atoms names ps plain.no_truth ∙ claim_fails stop cores atoms names ps found.rest s (fault NoSuchCore (remaining_of ps)) found.is (missing_core cores (remaining_of ps) names s lacks)
 atom_refuses stop cores atoms names ps _ few (bad_number ts back s is e has big) =
     let plain = setting_plain ts back s is ps e in
     let found = setting_found (in_condition stop) ts back s is ps e in
-    by_setting stop cores atoms names ps plain.no_truth ∙ claim_fails stop cores atoms names ps found.rest s (fault BadNumber (left_of ps)) found.is (long_number cores (left_of ps) names s has big)
+    by_setting stop cores atoms names ps plain.no_truth ∙ claim_fails stop cores atoms names ps found.rest s (fault BadNumber (remaining_of ps)) found.is (long_number cores (remaining_of ps) names s has big)
 atom_refuses stop cores atoms names ps _ few (one_too_many ts back p is e fits past) = many_refused stop cores atoms names ps ts back p few is e fits past
 
 -- ---- refused
@@ -191,15 +191,15 @@ atom_refused stop cores atoms names ps f few e = by_way (truth_at ps) refl
     past ts back p is parts within = let found = atom_found stop cores ts p is atoms names within back tt ps parts in let never = sym found.is ∙ e in cc
 
     by_value : (s : Setting) (rest : List Piece) → setting_at (in_condition stop) ps ≡ Ok (s, rest) → has_core cores s ≡ true → (b : Bool) → ltb (given_value s) (2 ^ 32) ≡ b → IsAtomFault stop cores atoms names ps f
-    by_value s rest read has false big = let t = setting_taken (in_condition stop) ps rest s read in here (fault BadNumber (left_of ps)) (bad_number t.ts (terms rest) s t.is t.parts has (ltb-false _ _ big))
+    by_value s rest read has false big = let t = setting_taken (in_condition stop) ps rest s read in here (fault BadNumber (remaining_of ps)) (bad_number t.ts (terms rest) s t.is t.parts has (ltb-false _ _ big))
     by_value s rest read has true small =
         let t = setting_taken (in_condition stop) ps rest s read in
         let is : IsAtom t.ts (atom s) = says_setting t.ts s t.is in
-        here (fault TooLarge (left_of ps)) (one_too_many t.ts (terms rest) (atom s) is t.parts (atom_fits cores s (setting_fits cores s has small)) (past t.ts (terms rest) (atom s) is t.parts))
+        here (fault TooLarge (remaining_of ps)) (one_too_many t.ts (terms rest) (atom s) is t.parts (atom_fits cores s (setting_fits cores s has small)) (past t.ts (terms rest) (atom s) is t.parts))
 
     by_core : (s : Setting) (rest : List Piece) → setting_at (in_condition stop) ps ≡ Ok (s, rest) → (b : Bool) → has_core cores s ≡ b → IsAtomFault stop cores atoms names ps f
     by_core s rest read true has = by_value s rest read has (ltb (given_value s) (2 ^ 32)) refl
-    by_core s rest read false lacks = let t = setting_taken (in_condition stop) ps rest s read in here (fault NoSuchCore (left_of ps)) (no_such_core t.ts (terms rest) s t.is t.parts lacks)
+    by_core s rest read false lacks = let t = setting_taken (in_condition stop) ps rest s read in here (fault NoSuchCore (remaining_of ps)) (no_such_core t.ts (terms rest) s t.is t.parts lacks)
 
     by_read : truth_at ps ≡ None → (r : Result (Setting × List Piece) Fault) → setting_at (in_condition stop) ps ≡ r → Follows (in_condition stop) [] (misfit (setting_slots ps []) ps) r → IsAtomFault stop cores atoms names ps f
     by_read no_truth (Err g) is m =
@@ -210,5 +210,5 @@ atom_refused stop cores atoms names ps f few e = by_way (truth_at ps) refl
     by_way : (o : Option (Bool × List Piece)) → truth_at ps ≡ o → IsAtomFault stop cores atoms names ps f
     by_way (Some t) at =
         let b = truth_taken ps t at in
-        here (fault TooLarge (left_of ps)) (one_too_many b.ts (terms t.1) (truth t.0) b.is b.parts refl (past b.ts (terms t.1) (truth t.0) b.is b.parts))
+        here (fault TooLarge (remaining_of ps)) (one_too_many b.ts (terms t.1) (truth t.0) b.is b.parts refl (past b.ts (terms t.1) (truth t.0) b.is b.parts))
     by_way None no_truth = by_read no_truth (setting_at (in_condition stop) ps) refl (setting_follows (in_condition stop) [] ps)

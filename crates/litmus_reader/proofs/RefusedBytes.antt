@@ -28,7 +28,7 @@ same_stop : (x y : Stop) → (let r : Result (List ℕ) Stop = Err x in r) ≡ E
 same_stop x y e = cc
 
 -- a comment that doesn't end is all that stops white space and comments
-gap_stops : (opener : Option ℕ) (bytes : List ℕ) (stop : Stop) → gap_end opener bytes ≡ Err stop → (left : ℕ) × (stop ≡ stops.Unclosed left)
+gap_stops : (opener : Option ℕ) (bytes : List ℕ) (stop : Stop) → gap_end opener bytes ≡ Err stop → (remaining : ℕ) × (stop ≡ stops.Unclosed remaining)
 unfolding gap_end
 gap_stops None [] stop e = absurd cc
 gap_stops None (b ∷ []) stop e =
@@ -55,7 +55,7 @@ gap_stops (Some opener) (b ∷ c ∷ bs) stop e =
 -- where a gap ends, or a comment in it doesn't
 data GapCases (bytes : List ℕ) : Type 0 where
   gap_ends : (at : List ℕ) → gap_end None bytes ≡ Ok at → GapCases bytes
-  gap_open : (left : ℕ) → IsUnclosed bytes left → GapCases bytes
+  gap_open : (remaining : ℕ) → IsUnclosed bytes remaining → GapCases bytes
 
 gap_cases : (bytes : List ℕ) → GapCases bytes
 gap_cases bytes = by_gap (gap_end None bytes) refl
@@ -66,19 +66,19 @@ gap_cases bytes = by_gap (gap_end None bytes) refl
 
 -- ---- the header line
 
-header_unclosed : (text : List ℕ) (left : ℕ) → IsUnclosed text left → header_at text ≡ Err (fault Unclosed left)
+header_unclosed : (text : List ℕ) (remaining : ℕ) → IsUnclosed text remaining → header_at text ≡ Err (fault Unclosed remaining)
 unfolding header_at
-header_unclosed text left e = rw e refl
+header_unclosed text remaining e = rw e refl
 
 header_judges : (text at : List ℕ) (f : Fault) → IsAfterGap text at → judged (length at) (name_in (first_line at).0) ≡ Err f → header_at text ≡ Err f
 unfolding header_at
 header_judges text at f gap e = rw (gap, e) refl
 
 -- the judgement of a line's name
-data NameCases (line : List ℕ) (left : ℕ) : Type 0 where
-  name_good : (name : List ℕ) → name_in line ≡ Some name → is_test_name name ≡ true → NameCases line left
-  name_long : (name : List ℕ) → name_in line ≡ Some name → is_long name ≡ true → judged left (name_in line) ≡ Err (fault TooLarge left) → NameCases line left
-  name_bad : ((name : List ℕ) → name_in line ≡ Some name → (is_test_name name || is_long name) ≡ false) → judged left (name_in line) ≡ Err (fault NoHeader left) → NameCases line left
+data NameCases (line : List ℕ) (remaining : ℕ) : Type 0 where
+  name_good : (name : List ℕ) → name_in line ≡ Some name → is_test_name name ≡ true → NameCases line remaining
+  name_long : (name : List ℕ) → name_in line ≡ Some name → is_long name ≡ true → judged remaining (name_in line) ≡ Err (fault TooLarge remaining) → NameCases line remaining
+  name_bad : ((name : List ℕ) → name_in line ≡ Some name → (is_test_name name || is_long name) ≡ false) → judged remaining (name_in line) ≡ Err (fault NoHeader remaining) → NameCases line remaining
 
 neither : (a b : Bool) → a ≡ false → b ≡ false → (a || b) ≡ false
 neither true b e h = absurd cc
@@ -92,11 +92,11 @@ not_second : (a b : Bool) → (a || b) ≡ false → b ≡ true → ⊥
 not_second true b e h = cc
 not_second false b e h = let never = sym e ∙ h in cc
 
-name_cases : (line : List ℕ) (left : ℕ) → NameCases line left
+name_cases : (line : List ℕ) (remaining : ℕ) → NameCases line remaining
 unfolding judged
-name_cases line left = by_name (name_in line) refl
+name_cases line remaining = by_name (name_in line) refl
   where
-    by_length : (name : List ℕ) → name_in line ≡ Some name → is_test_name name ≡ false → (b : Bool) → is_long name ≡ b → NameCases line left
+    by_length : (name : List ℕ) → name_in line ≡ Some name → is_test_name name ≡ false → (b : Bool) → is_long name ≡ b → NameCases line remaining
     by_length name is not_good true long = name_long name is long (rw (is, not_good, long) refl)
     by_length name is not_good false short = name_bad
         (λ other n.
@@ -104,11 +104,11 @@ name_cases line left = by_name (name_in line) refl
         subst (λ (x : List ℕ). (is_test_name x || is_long x) ≡ false) same (neither (is_test_name name) (is_long name) not_good short))
         (rw (is, not_good, short) refl)
 
-    by_good : (name : List ℕ) → name_in line ≡ Some name → (b : Bool) → is_test_name name ≡ b → NameCases line left
+    by_good : (name : List ℕ) → name_in line ≡ Some name → (b : Bool) → is_test_name name ≡ b → NameCases line remaining
     by_good name is true fine = name_good name is fine
     by_good name is false not_good = by_length name is not_good (is_long name) refl
 
-    by_name : (o : Option (List ℕ)) → name_in line ≡ o → NameCases line left
+    by_name : (o : Option (List ℕ)) → name_in line ≡ o → NameCases line remaining
     by_name None is = name_bad (λ name n. let never = sym is ∙ n in absurd cc) (rw is refl)
     by_name (Some name) is = by_good name is (is_test_name name) refl
 
@@ -125,7 +125,7 @@ unfolding header_at judged
 header_good text at name gap is fine = rw (gap, is, fine) refl
 
 pub header_refuses : (text : List ℕ) (f : Fault) → IsHeaderFault text f → header_at text ≡ Err f
-header_refuses text _ (refused.unclosed_comment left e) = header_unclosed text left e
+header_refuses text _ (refused.unclosed_comment remaining e) = header_unclosed text remaining e
 header_refuses text _ (refused.long_name at name gap is long) =
     elim (name_cases (first_line at).0 (length at)) [
       | name_good other n fine ↦ absurd (
@@ -144,7 +144,7 @@ header_refuses text _ (refused.no_name at gap bad) =
 pub header_refused : (text : List ℕ) (f : Fault) → header_at text ≡ Err f → IsHeaderFault text f
 header_refused text f e =
     elim (gap_cases text) [
-      | gap_open left is ↦ subst (IsHeaderFault text) (err_is (fault Unclosed left) f (sym (header_unclosed text left is) ∙ e)) (refused.unclosed_comment left is)
+      | gap_open remaining is ↦ subst (IsHeaderFault text) (err_is (fault Unclosed remaining) f (sym (header_unclosed text remaining is) ∙ e)) (refused.unclosed_comment remaining is)
       | gap_ends at gap ↦ elim (name_cases (first_line at).0 (length at)) [
         | name_good name n fine ↦ let never = sym (header_good text at name gap n fine) ∙ e in absurd cc
         | name_long name n long is ↦
@@ -178,12 +178,12 @@ unfolding quotation_end
 quotation_lacks [] all = refl
 quotation_lacks (b ∷ bs) all = let parts = both (is_quoted b) (list_all is_quoted bs) all in rw (not-true (eqb b 34) parts.0) (quotation_lacks bs parts.1)
 
-value_refused : (left : ℕ) (rest : List ℕ) (f : Fault) → key_value left rest ≡ Err f → f ≡ fault BadToken left
-value_refused left [] f e = sym (err_is (fault BadToken left) f e)
-value_refused left (b ∷ bs) f e =
-    elim (chosen (eqb b 61) (Ok (first_line bs).1) (Err (fault BadToken left)) (Err f) e) [
+value_refused : (remaining : ℕ) (rest : List ℕ) (f : Fault) → key_value remaining rest ≡ Err f → f ≡ fault BadToken remaining
+value_refused remaining [] f e = sym (err_is (fault BadToken remaining) f e)
+value_refused remaining (b ∷ bs) f e =
+    elim (chosen (eqb b 61) (Ok (first_line bs).1) (Err (fault BadToken remaining)) (Err f) e) [
       | inl hit ↦ let never = hit.1 in absurd cc
-      | inr miss ↦ sym (err_is (fault BadToken left) f miss.1)
+      | inr miss ↦ sym (err_is (fault BadToken remaining) f miss.1)
     ]
 
 other_refused : (b : ℕ) (bs : List ℕ) (f : Fault) → eqb b 34 ≡ false → information_end (b ∷ bs) ≡ Err f → f ≡ fault BadToken (length (b ∷ bs))
@@ -247,7 +247,7 @@ lines_stop _ _ (more bytes at after_it rest gap is passes) (suc n) enough =
 line_refuses : (bytes : List ℕ) (f : Fault) → IsLineFault bytes f → (n : ℕ) → length bytes < n → braces_within n bytes ≡ Err f
 unfolding braces_within begins_initial
 line_refuses bytes f bad zero enough = absurd (omega arith)
-line_refuses bytes _ (refused.unclosed_comment left e) (suc n) enough = rw e refl
+line_refuses bytes _ (refused.unclosed_comment remaining e) (suc n) enough = rw e refl
 line_refuses bytes _ (refused.text_ends gap) (suc n) enough = rw (gap, nothing_reads) refl
 line_refuses bytes _ (refused.unclosed_quotation inside gap all) (suc n) enough =
     rw (gap, quotation_reads inside, quotation_lacks inside all) refl
@@ -291,7 +291,7 @@ line_step n bytes f enough e later = by_gap (gap_cases bytes)
         here (fault BadToken (length (b ∷ bs))) (line_refuses bytes (fault BadToken (length (b ∷ bs))) bad (suc n) enough) bad
 
     by_gap : GapCases bytes → IsInformationFault bytes f
-    by_gap (gap_open left is) = here (fault Unclosed left) (line_refuses bytes (fault Unclosed left) (refused.unclosed_comment left is) (suc n) enough) (refused.unclosed_comment left is)
+    by_gap (gap_open remaining is) = here (fault Unclosed remaining) (line_refuses bytes (fault Unclosed remaining) (refused.unclosed_comment remaining is) (suc n) enough) (refused.unclosed_comment remaining is)
     by_gap (gap_ends at gap) =
         by_line at gap (line_cases at) (λ after_it is on. later after_it (omega (arith, gap_within None bytes at gap, information_shorter at after_it is, enough)) on)
 
@@ -308,7 +308,7 @@ information_refused bytes f e = information_refused_in (suc (length bytes)) byte
 square_refuses : (opener : ℕ) (bytes : List ℕ) (f : Fault) → IsBracketsFault opener bytes f → (n : ℕ) → length bytes < n → square_within n opener bytes ≡ Err f
 unfolding square_within
 square_refuses opener bytes f bad zero enough = absurd (omega arith)
-square_refuses opener _ _ (refused.unclosed_comment bytes left e) (suc n) enough = rw e refl
+square_refuses opener _ _ (refused.unclosed_comment bytes remaining e) (suc n) enough = rw e refl
 square_refuses opener _ _ (refused.text_ends bytes gap) (suc n) enough = rw gap refl
 square_refuses opener _ _ (refused.further bytes b bs f gap other bad) (suc n) enough =
     rw (gap, other) (square_refuses opener bs f bad n (omega (arith, gap_within None bytes (b ∷ bs) gap, enough)))
@@ -331,9 +331,9 @@ unfolding square_within
 square_refused zero opener bytes f enough e = absurd (omega arith)
 square_refused (suc n) opener bytes f enough e =
     elim (gap_cases bytes) [
-      | gap_open left is ↦
-          subst (IsBracketsFault opener bytes) (err_is (fault Unclosed left) f (sym (square_refuses opener bytes (fault Unclosed left) (refused.unclosed_comment bytes left is) (suc n) enough) ∙ e))
-          (refused.unclosed_comment bytes left is)
+      | gap_open remaining is ↦
+          subst (IsBracketsFault opener bytes) (err_is (fault Unclosed remaining) f (sym (square_refuses opener bytes (fault Unclosed remaining) (refused.unclosed_comment bytes remaining is) (suc n) enough) ∙ e))
+          (refused.unclosed_comment bytes remaining is)
       | gap_ends at gap ↦ by_first n opener bytes f at gap enough (rw gap at e) (λ bs less h. square_refused n opener bs f less h)
     ]
 

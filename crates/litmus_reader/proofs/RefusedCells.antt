@@ -35,27 +35,27 @@ use Rattle.litmus_reader.specs.Written.{Shape, store_imm, store_reg, load, set_i
 abbrev with_location : (Loc → Instr) → Loc × List (List ℕ) → Result (Instr × List (List ℕ)) Fault
 with_location make loc = Ok (make loc.0, loc.1)
 
-located_large : (left : ℕ) (names : List (List ℕ)) (x : List ℕ) (make : Loc → Instr) (g : Fault) → (located left names x >>= with_location make) ≡ Err g → g ≡ fault TooLarge left
+located_large : (remaining : ℕ) (names : List (List ℕ)) (x : List ℕ) (make : Loc → Instr) (g : Fault) → (located remaining names x >>= with_location make) ≡ Err g → g ≡ fault TooLarge remaining
 unfolding located
-located_large left names x make g e =
-    elim (bind_err (located left names x) (with_location make) g e) [
-      | inl bad ↦ elim (chosen (ltb (number_of names x) 16) (Ok (location (number_of names x), with_name names x)) (Err (fault TooLarge left)) (Err g) bad) [
+located_large remaining names x make g e =
+    elim (bind_err (located remaining names x) (with_location make) g e) [
+      | inl bad ↦ elim (chosen (ltb (number_of names x) 16) (Ok (location (number_of names x), with_name names x)) (Err (fault TooLarge remaining)) (Err g) bad) [
         | inl hit ↦ let never = hit.1 in absurd cc
-        | inr miss ↦ sym (err_is (fault TooLarge left) g miss.1)
+        | inr miss ↦ sym (err_is (fault TooLarge remaining) g miss.1)
       ]
       | inr good ↦ let never = good.2 in absurd cc
     ]
 
-instr_large : (left : ℕ) (names : List (List ℕ)) (shape : Shape) (g : Fault) → ValueFits shape → instr_of left names shape ≡ Err g → g ≡ fault TooLarge left
+instr_large : (remaining : ℕ) (names : List (List ℕ)) (shape : Shape) (g : Fault) → ValueFits shape → instr_of remaining names shape ≡ Err g → g ≡ fault TooLarge remaining
 unfolding instr_of
-instr_large left names (store_imm x v) g fits e = located_large left names x (λ loc. StoreImm loc v) g (rw (word_is left v fits) at e)
-instr_large left names (store_reg x reg) g fits e = located_large left names x (λ loc. StoreReg loc reg) g e
-instr_large left names (load reg x) g fits e = located_large left names x (λ loc. Load reg loc) g e
-instr_large left names (set_imm reg v) g fits e = let never = rw (word_is left v fits) at e in absurd cc
-instr_large left names (set_reg reg other) g fits e = absurd cc
-instr_large left names fence g fits e = absurd cc
-instr_large left names (xchg x reg) g fits e = located_large left names x (λ loc. Xchg loc reg) g e
-instr_large left names (xadd x reg) g fits e = located_large left names x (λ loc. Xadd loc reg) g e
+instr_large remaining names (store_imm x v) g fits e = located_large remaining names x (λ loc. StoreImm loc v) g (rw (word_is remaining v fits) at e)
+instr_large remaining names (store_reg x reg) g fits e = located_large remaining names x (λ loc. StoreReg loc reg) g e
+instr_large remaining names (load reg x) g fits e = located_large remaining names x (λ loc. Load reg loc) g e
+instr_large remaining names (set_imm reg v) g fits e = let never = rw (word_is remaining v fits) at e in absurd cc
+instr_large remaining names (set_reg reg other) g fits e = absurd cc
+instr_large remaining names fence g fits e = absurd cc
+instr_large remaining names (xchg x reg) g fits e = located_large remaining names x (λ loc. Xchg loc reg) g e
+instr_large remaining names (xadd x reg) g fits e = located_large remaining names x (λ loc. Xadd loc reg) g e
 
 too_long : (v : ℕ) → ¬ (v < 2 ^ 32) → ltb v (2 ^ 32) ≡ false
 too_long v big = by_test (ltb v (2 ^ 32)) refl
@@ -64,16 +64,16 @@ too_long v big = by_test (ltb v (2 ^ 32)) refl
     by_test true e = absurd (big (ltb-true _ _ e))
     by_test false e = e
 
-instr_number : (left : ℕ) (names : List (List ℕ)) (shape : Shape) → ¬ (ValueFits shape) → instr_of left names shape ≡ Err (fault BadNumber left)
+instr_number : (remaining : ℕ) (names : List (List ℕ)) (shape : Shape) → ¬ (ValueFits shape) → instr_of remaining names shape ≡ Err (fault BadNumber remaining)
 unfolding instr_of
-instr_number left names (store_imm x v) big = rw (too_long v big) refl
-instr_number left names (store_reg x reg) big = absurd (big tt)
-instr_number left names (load reg x) big = absurd (big tt)
-instr_number left names (set_imm reg v) big = rw (too_long v big) refl
-instr_number left names (set_reg reg other) big = absurd (big tt)
-instr_number left names fence big = absurd (big tt)
-instr_number left names (xchg x reg) big = absurd (big tt)
-instr_number left names (xadd x reg) big = absurd (big tt)
+instr_number remaining names (store_imm x v) big = rw (too_long v big) refl
+instr_number remaining names (store_reg x reg) big = absurd (big tt)
+instr_number remaining names (load reg x) big = absurd (big tt)
+instr_number remaining names (set_imm reg v) big = rw (too_long v big) refl
+instr_number remaining names (set_reg reg other) big = absurd (big tt)
+instr_number remaining names fence big = absurd (big tt)
+instr_number remaining names (xchg x reg) big = absurd (big tt)
+instr_number remaining names (xadd x reg) big = absurd (big tt)
 
 value_decided : (v : ℕ) → (v < 2 ^ 32) ⊎ ¬ (v < 2 ^ 32)
 value_decided v = by_test (ltb v (2 ^ 32)) refl
@@ -95,40 +95,40 @@ number_decided (xadd x reg) = inl tt
 -- ---- a cell
 
 cell_form : (core : ℕ) (names : List (List ℕ)) (done : List Placed) (p : Piece) (ps : List Piece) → spelled_in (p ∷ ps) ≡ None
-    → cell_in core (instrs_of names done) (names_of names done) (p ∷ ps) ≡ Err (fault BadInstruction p.left)
+    → cell_in core (instrs_of names done) (names_of names done) (p ∷ ps) ≡ Err (fault BadInstruction p.remaining)
 unfolding cell_in
 cell_form core names done p ps is = rw is refl
 
 cell_number : (core : ℕ) (names : List (List ℕ)) (done : List Placed) (p : Piece) (ps : List Piece) (shape : Shape) → spelled_in (p ∷ ps) ≡ Some shape → ¬ (ValueFits shape)
-    → cell_in core (instrs_of names done) (names_of names done) (p ∷ ps) ≡ Err (fault BadNumber p.left)
+    → cell_in core (instrs_of names done) (names_of names done) (p ∷ ps) ≡ Err (fault BadNumber p.remaining)
 unfolding cell_in
-cell_number core names done p ps shape is big = rw (is, instr_number p.left (names_of names done) shape big) refl
+cell_number core names done p ps shape is big = rw (is, instr_number p.remaining (names_of names done) shape big) refl
 
 cell_large : (core : ℕ) (names : List (List ℕ)) (done : List Placed) (p : Piece) (ps : List Piece) (shape : Shape) (g : Fault) → spelled_in (p ∷ ps) ≡ Some shape → ValueFits shape
-    → cell_in core (instrs_of names done) (names_of names done) (p ∷ ps) ≡ Err g → g ≡ fault TooLarge p.left
+    → cell_in core (instrs_of names done) (names_of names done) (p ∷ ps) ≡ Err g → g ≡ fault TooLarge p.remaining
 unfolding cell_in
 cell_large core names done p ps shape g is fits e =
     let instrs = instrs_of names done in
-    let judged : (instr_of p.left (names_of names done) shape >>= λ instr. cond (ltb (count_of core instrs) 32) (Ok (instrs ++ of_core core instr.0 ∷ [], instr.1)) (Err (fault TooLarge p.left))) ≡ Err g = rw is at e in
-    elim (bind_err (instr_of p.left (names_of names done) shape) (λ instr. cond (ltb (count_of core instrs) 32) (Ok (instrs ++ of_core core instr.0 ∷ [], instr.1)) (Err (fault TooLarge p.left))) g judged) [
-      | inl bad ↦ instr_large p.left (names_of names done) shape g fits bad
-      | inr good ↦ elim (chosen (ltb (count_of core instrs) 32) (Ok (instrs ++ of_core core good.0.0 ∷ [], good.0.1)) (Err (fault TooLarge p.left)) (Err g) good.2) [
+    let judged : (instr_of p.remaining (names_of names done) shape >>= λ instr. cond (ltb (count_of core instrs) 32) (Ok (instrs ++ of_core core instr.0 ∷ [], instr.1)) (Err (fault TooLarge p.remaining))) ≡ Err g = rw is at e in
+    elim (bind_err (instr_of p.remaining (names_of names done) shape) (λ instr. cond (ltb (count_of core instrs) 32) (Ok (instrs ++ of_core core instr.0 ∷ [], instr.1)) (Err (fault TooLarge p.remaining))) g judged) [
+      | inl bad ↦ instr_large p.remaining (names_of names done) shape g fits bad
+      | inr good ↦ elim (chosen (ltb (count_of core instrs) 32) (Ok (instrs ++ of_core core good.0.0 ∷ [], good.0.1)) (Err (fault TooLarge p.remaining)) (Err g) good.2) [
         | inl hit ↦ let never = hit.1 in absurd cc
-        | inr miss ↦ sym (err_is (fault TooLarge p.left) g miss.1)
+        | inr miss ↦ sym (err_is (fault TooLarge p.remaining) g miss.1)
       ]
     ]
 
 cell_refuses : (core : ℕ) (names : List (List ℕ)) (done : List Placed) (p : Piece) (ps : List Piece) (why : Why) → EntriesWithin names done → IsEntryFault names done core (p ∷ ps) why
-    → cell_in core (instrs_of names done) (names_of names done) (p ∷ ps) ≡ Err (fault why p.left)
+    → cell_in core (instrs_of names done) (names_of names done) (p ∷ ps) ≡ Err (fault why p.remaining)
 cell_refuses core names done p ps _ h (bad_instruction never) = by_shape (spelled_in (p ∷ ps)) refl
   where
-    by_shape : (o : Option Shape) → spelled_in (p ∷ ps) ≡ o → cell_in core (instrs_of names done) (names_of names done) (p ∷ ps) ≡ Err (fault BadInstruction p.left)
+    by_shape : (o : Option Shape) → spelled_in (p ∷ ps) ≡ o → cell_in core (instrs_of names done) (names_of names done) (p ∷ ps) ≡ Err (fault BadInstruction p.remaining)
     by_shape None is = cell_form core names done p ps is
     by_shape (Some shape) is = absurd (never shape (cell_takes (p ∷ ps) shape is))
 cell_refuses core names done p ps _ h (bad_number shape is big) = cell_number core names done p ps shape (cell_again (p ∷ ps) shape is) big
 cell_refuses core names done p ps _ h (one_too_many shape is fits past) = by_read (cell_in core (instrs_of names done) (names_of names done) (p ∷ ps)) refl
   where
-    by_read : (r : Result Read Fault) → cell_in core (instrs_of names done) (names_of names done) (p ∷ ps) ≡ r → cell_in core (instrs_of names done) (names_of names done) (p ∷ ps) ≡ Err (fault TooLarge p.left)
+    by_read : (r : Result Read Fault) → cell_in core (instrs_of names done) (names_of names done) (p ∷ ps) ≡ r → cell_in core (instrs_of names done) (names_of names done) (p ∷ ps) ≡ Err (fault TooLarge p.remaining)
     by_read (Err g) e = e ∙ ap (λ (f : Fault). Err f) (cell_large core names done p ps shape g (cell_again (p ∷ ps) shape is) fits e)
     by_read (Ok r) e =
         let t = cell_taken core names done p ps r h e in
@@ -136,18 +136,18 @@ cell_refuses core names done p ps _ h (one_too_many shape is fits past) = by_rea
         absurd (past (subst (λ (s : Shape). EntriesWithin names (done ++ placed core s ∷ [])) same t.within))
 
 cell_refused : (core : ℕ) (names : List (List ℕ)) (done : List Placed) (p : Piece) (ps : List Piece) (f : Fault) → cell_in core (instrs_of names done) (names_of names done) (p ∷ ps) ≡ Err f
-    → (why : Why) × IsEntryFault names done core (p ∷ ps) why × (f ≡ fault why p.left)
+    → (why : Why) × IsEntryFault names done core (p ∷ ps) why × (f ≡ fault why p.remaining)
 cell_refused core names done p ps f e = by_shape (spelled_in (p ∷ ps)) refl
   where
-    by_number : (shape : Shape) → spelled_in (p ∷ ps) ≡ Some shape → ValueFits shape ⊎ ¬ (ValueFits shape) → (why : Why) × IsEntryFault names done core (p ∷ ps) why × (f ≡ fault why p.left)
+    by_number : (shape : Shape) → spelled_in (p ∷ ps) ≡ Some shape → ValueFits shape ⊎ ¬ (ValueFits shape) → (why : Why) × IsEntryFault names done core (p ∷ ps) why × (f ≡ fault why p.remaining)
     by_number shape is (inr big) =
-        (BadNumber, bad_number shape (cell_takes (p ∷ ps) shape is) big, err_is f (fault BadNumber p.left) (sym e ∙ cell_number core names done p ps shape is big))
+        (BadNumber, bad_number shape (cell_takes (p ∷ ps) shape is) big, err_is f (fault BadNumber p.remaining) (sym e ∙ cell_number core names done p ps shape is big))
     by_number shape is (inl fits) =
         (TooLarge, one_too_many shape (cell_takes (p ∷ ps) shape is) fits (λ within. let never = sym e ∙ cell_found core names done p ps shape is within in cc), cell_large core names done p ps shape f is fits e)
 
-    by_shape : (o : Option Shape) → spelled_in (p ∷ ps) ≡ o → (why : Why) × IsEntryFault names done core (p ∷ ps) why × (f ≡ fault why p.left)
+    by_shape : (o : Option Shape) → spelled_in (p ∷ ps) ≡ o → (why : Why) × IsEntryFault names done core (p ∷ ps) why × (f ≡ fault why p.remaining)
     by_shape None is =
-        (BadInstruction, bad_instruction (λ shape cell. let never = sym is ∙ cell_again (p ∷ ps) shape cell in cc), err_is f (fault BadInstruction p.left) (sym e ∙ cell_form core names done p ps is))
+        (BadInstruction, bad_instruction (λ shape cell. let never = sym is ∙ cell_again (p ∷ ps) shape cell in cc), err_is f (fault BadInstruction p.remaining) (sym e ∙ cell_form core names done p ps is))
     by_shape (Some shape) is = by_number shape is (number_decided shape)
 
 -- ---- cells one after the other
@@ -191,13 +191,13 @@ cells_stop core names done cell after f e = rw e refl
 
 pub cells_refuse : (names : List (List ℕ)) (done : List Placed) (before after : List (List Piece)) (p : Piece) (ps : List Piece) (spelled : List (Option Shape)) (why : Why) → AreSpelled before spelled
     → EntriesWithin names (done ++ placed_from 0 spelled) → IsEntryFault names (done ++ placed_from 0 spelled) (length before) (p ∷ ps) why
-    → cells_in 0 (instrs_of names done) (names_of names done) (before ++ (p ∷ ps) ∷ after) ≡ Err (fault why p.left)
+    → cells_in 0 (instrs_of names done) (names_of names done) (before ++ (p ∷ ps) ∷ after) ≡ Err (fault why p.remaining)
 cells_refuse names done before after p ps spelled why are h bad =
     let count : 0 + length before ≡ length before = omega arith in
     let all = done ++ placed_from 0 spelled in
     cells_pass before spelled (spelled_read before spelled are) 0 names done ((p ∷ ps) ∷ after) h
     ∙ ap (λ (k : ℕ). cells_in k (instrs_of names all) (names_of names all) ((p ∷ ps) ∷ after)) count
-    ∙ cells_stop (length before) names all (p ∷ ps) after (fault why p.left) (cell_refuses (length before) names all p ps why h bad)
+    ∙ cells_stop (length before) names all (p ∷ ps) after (fault why p.remaining) (cell_refuses (length before) names all p ps why h bad)
 
 -- cells, and one at fault
 pub record CellsRefused (core : ℕ) (names : List (List ℕ)) (done : List Placed) (parts : List (List Piece)) (f : Fault) : Type 0 where
@@ -211,7 +211,7 @@ pub record CellsRefused (core : ℕ) (names : List (List ℕ)) (done : List Plac
   pub are : AreSpelled before spelled
   pub within : EntriesWithin names (done ++ placed_from core spelled)
   pub is : IsEntryFault names (done ++ placed_from core spelled) (core + length before) (first ∷ cell) why
-  pub place : f ≡ fault why first.left
+  pub place : f ≡ fault why first.remaining
 
 pub cells_refused : (parts : List (List Piece)) (core : ℕ) (names : List (List ℕ)) (done : List Placed) (f : Fault) → EntriesWithin names done
     → cells_in core (instrs_of names done) (names_of names done) parts ≡ Err f → CellsRefused core names done parts f

@@ -18,7 +18,7 @@ use Rattle.litmus_reader.specs.Misfits.{ends_column, is_word, begins_with}
 use Rattle.litmus_reader.specs.RefusedTable.{IsColumnsFault, no_name, one_too_many, no_end, further}
 use Rattle.litmus_reader.proofs.GrammarTokens.{symbol_is}
 use Rattle.litmus_reader.proofs.RefusedMisfits.{err_is}
-use Rattle.litmus_reader.specs.Places.{fault, left_of, unfit}
+use Rattle.litmus_reader.specs.Places.{fault, remaining_of, unfit}
 use Rattle.litmus_reader.specs.GrammarColumns.{core_name}
 use Rattle.litmus_reader.specs.Grammar.{terms}
 
@@ -100,7 +100,7 @@ one_further : (stop : Stop) (n core : ℕ) (ps rest back : List Piece) (more : B
 unfolding columns
 one_further stop n core ps rest back more e h = rw (e, h) refl
 
-too_many : (stop : Stop) (core : ℕ) (ps rest : List Piece) → or_unfit (in_columns stop) ps (core_at core ps) ≡ Ok rest → columns stop zero core ps ≡ Err (fault TooLarge (left_of ps))
+too_many : (stop : Stop) (core : ℕ) (ps rest : List Piece) → or_unfit (in_columns stop) ps (core_at core ps) ≡ Ok rest → columns stop zero core ps ≡ Err (fault TooLarge (remaining_of ps))
 unfolding columns
 too_many stop core ps rest e = rw e refl
 
@@ -136,8 +136,8 @@ extra_refused stop ps f e =
     elim (core_there (in_columns stop) most_cores ps) [
       | inl m ↦ subst (IsColumnsFault stop most_cores ps) (err_is (unfit (in_columns stop) ps) f (sym (misses_name stop most_cores ps m.read zero) ∙ e)) (no_name most_cores ps (omega arith) m.none)
       | inr c ↦
-          let same : fault TooLarge (left_of ps) ≡ f = err_is (fault TooLarge (left_of ps)) f (sym (too_many stop most_cores ps c.rest c.read) ∙ e) in
-          let place : fault TooLarge c.this.left ≡ f = ap (λ (l : List Piece). fault TooLarge (left_of l)) (sym c.parts) ∙ same in
+          let same : fault TooLarge (remaining_of ps) ≡ f = err_is (fault TooLarge (remaining_of ps)) f (sym (too_many stop most_cores ps c.rest c.read) ∙ e) in
+          let place : fault TooLarge c.this.remaining ≡ f = ap (λ (l : List Piece). fault TooLarge (remaining_of l)) (sym c.parts) ∙ same in
           subst (λ (l : List Piece). IsColumnsFault stop most_cores l f) (sym c.parts) (subst (IsColumnsFault stop most_cores (c.this ∷ c.rest)) place (one_too_many c.this c.rest c.is))
     ]
 

@@ -17,7 +17,7 @@ use Rattle.litmus_reader.specs.declared.fault.Fault.{Fault}
 use Rattle.litmus_reader.specs.declared.fault.Part.{Part}
 use Rattle.litmus_reader.specs.declared.fault.ReadError.TheVariants as errors
 use Rattle.litmus_reader.specs.inner.Faults.{◌>>=◌}
-use Rattle.litmus_reader.specs.inner.Items.{setting_at, word_at, core_of}
+use Rattle.litmus_reader.specs.inner.Settings.{setting_at, word_at, core_of}
 use Rattle.litmus_reader.specs.inner.Locations.{located}
 use Rattle.litmus_reader.specs.inner.Initial.{Given, given, Initial, initial, gives, judged, item_in, step_in, items_within, items_at, initial_at, no_registers, with_register, registers_with, registers_of, ends_item}
 use Rattle.litmus_reader.specs.Grammar.{terms}
@@ -39,7 +39,7 @@ use Rattle.litmus_reader.proofs.RefusedMisfits.{err_is}
 use Rattle.litmus_reader.proofs.RefusedPasses.{same_place}
 use Rattle.litmus_reader.proofs.RefusedInitial.{ItemsThen, at_once, after_empty, after_item, ended_found, curly_step, item_step, shorter_by}
 use Rattle.litmus_reader.proofs.Readings.{AreLast}
-use Rattle.litmus_reader.specs.Places.{fault, left_of, unfit, in_initial}
+use Rattle.litmus_reader.specs.Places.{fault, remaining_of, unfit, in_initial}
 use Rattle.litmus_reader.specs.Written.{Setting, of_register, of_location}
 
 -- ---- an item that is taken in
@@ -51,7 +51,7 @@ record ItemRead (part : Part) (i : Initial) (ps : List Piece) (x : Initial × Li
   pub is : IsSetting ts s
   pub parts : terms ps ≡ ts ++ terms x.1
   pub ends : ends_item x.1 ≡ true
-  pub judged_is : judged (left_of ps) i s ≡ Ok x.0
+  pub judged_is : judged (remaining_of ps) i s ≡ Ok x.0
 
 item_read : (part : Part) (i : Initial) (ps : List Piece) (x : Initial × List Piece) → item_in part i ps ≡ Ok x → ItemRead part i ps x
 unfolding item_in
@@ -59,9 +59,9 @@ item_read part i ps x e =
     let found = bind_ok (setting_at part ps) _ x e in
     let s = found.0.0 in
     let taken = setting_taken part ps found.0.1 s found.1 in
-    elim (chosen (ends_item found.0.1) (judged (left_of ps) i s >>= λ after. Ok (after, found.0.1)) (Err (unfit part found.0.1)) (Ok x) found.2) [
+    elim (chosen (ends_item found.0.1) (judged (remaining_of ps) i s >>= λ after. Ok (after, found.0.1)) (Err (unfit part found.0.1)) (Ok x) found.2) [
       | inl end ↦
-          let noted = bind_ok (judged (left_of ps) i s) _ x end.1 in
+          let noted = bind_ok (judged (remaining_of ps) i s) _ x end.1 in
           let same = ok_pair noted.0 x.0 found.0.1 x.1 noted.2 in
           record {
             s = s;
@@ -77,24 +77,24 @@ item_read part i ps x e =
 
 -- ---- registers only come later
 
-register_noted : (left : ℕ) (i after : Initial) (core : List ℕ) (reg : Reg) (v : ℕ) → judged left i (of_register core reg v) ≡ Ok after → after.registers ≡ i.registers ++ given left core reg v ∷ []
+register_noted : (remaining : ℕ) (i after : Initial) (core : List ℕ) (reg : Reg) (v : ℕ) → judged remaining i (of_register core reg v) ≡ Ok after → after.registers ≡ i.registers ++ given remaining core reg v ∷ []
 unfolding judged
-register_noted left i after core reg v e =
-    let value = bind_ok (word_at left v) _ after e in
-    let word = word_ok left v value.0 value.1 in
-    elim (chosen (list_any (gives core reg) i.registers) (Err (fault TwiceInit left)) (Ok (initial i.names i.words (i.registers ++ given left core reg value.0 ∷ []))) (Ok after) value.2) [
+register_noted remaining i after core reg v e =
+    let value = bind_ok (word_at remaining v) _ after e in
+    let word = word_ok remaining v value.0 value.1 in
+    elim (chosen (list_any (gives core reg) i.registers) (Err (fault TwiceInit remaining)) (Ok (initial i.names i.words (i.registers ++ given remaining core reg value.0 ∷ []))) (Ok after) value.2) [
       | inl twice ↦ let never = twice.1 in absurd cc
       | inr once ↦
-          let same : initial i.names i.words (i.registers ++ given left core reg value.0 ∷ []) ≡ after = ok_is _ after once.1 in
-          ap (λ (j : Initial). j.registers) (sym same) ∙ ap (λ (n : ℕ). i.registers ++ given left core reg n ∷ []) (sym word.0)
+          let same : initial i.names i.words (i.registers ++ given remaining core reg value.0 ∷ []) ≡ after = ok_is _ after once.1 in
+          ap (λ (j : Initial). j.registers) (sym same) ∙ ap (λ (n : ℕ). i.registers ++ given remaining core reg n ∷ []) (sym word.0)
     ]
 
-location_noted : (left : ℕ) (i after : Initial) (x : List ℕ) (v : ℕ) → judged left i (of_location x v) ≡ Ok after → after.registers ≡ i.registers
+location_noted : (remaining : ℕ) (i after : Initial) (x : List ℕ) (v : ℕ) → judged remaining i (of_location x v) ≡ Ok after → after.registers ≡ i.registers
 unfolding judged
-location_noted left i after x v e =
-    let value = bind_ok (word_at left v) _ after e in
-    let loc = bind_ok (located left i.names x) _ after value.2 in
-    elim (chosen (ltb loc.0.0.0 (length i.words)) (Err (fault TwiceInit left)) (Ok (initial loc.0.1 (i.words ++ value.0 ∷ []) i.registers)) (Ok after) loc.2) [
+location_noted remaining i after x v e =
+    let value = bind_ok (word_at remaining v) _ after e in
+    let loc = bind_ok (located remaining i.names x) _ after value.2 in
+    elim (chosen (ltb loc.0.0.0 (length i.words)) (Err (fault TwiceInit remaining)) (Ok (initial loc.0.1 (i.words ++ value.0 ∷ []) i.registers)) (Ok after) loc.2) [
       | inl twice ↦ let never = twice.1 in absurd cc
       | inr once ↦
           let same : initial loc.0.1 (i.words ++ value.0 ∷ []) i.registers ≡ after = ok_is _ after once.1 in
@@ -105,9 +105,9 @@ record Grown (i after : Initial) : Type 0 where
   pub extra : List Given
   pub parts : after.registers ≡ i.registers ++ extra
 
-judged_grows : (left : ℕ) (i after : Initial) (s : Setting) → judged left i s ≡ Ok after → Grown i after
-judged_grows left i after (of_register core reg v) e = record { extra = given left core reg v ∷ []; parts = register_noted left i after core reg v e }
-judged_grows left i after (of_location x v) e = record { extra = []; parts = location_noted left i after x v e ∙ sym (append-nil i.registers) }
+judged_grows : (remaining : ℕ) (i after : Initial) (s : Setting) → judged remaining i s ≡ Ok after → Grown i after
+judged_grows remaining i after (of_register core reg v) e = record { extra = given remaining core reg v ∷ []; parts = register_noted remaining i after core reg v e }
+judged_grows remaining i after (of_location x v) e = record { extra = []; parts = location_noted remaining i after x v e ∙ sym (append-nil i.registers) }
 
 grown_further : (i j k : Initial) → Grown i j → Grown j k → Grown i k
 grown_further i j k a b = record { extra = a.extra ++ b.extra; parts = b.parts ∙ ap (λ (l : List Given). l ++ b.extra) a.parts ∙ append_assoc i.registers a.extra b.extra }
@@ -123,7 +123,7 @@ items_grow (suc n) part i j ps rest e =
           let others = items_grow n part stepped.0.0 j stepped.0.1 rest stepped.2 in
           elim (there_is (symbol_at Semicolon ps) (λ (rest : List Piece). Ok (i, rest)) (item_in part i ps) (Ok stepped.0) stepped.1) [
             | inl end ↦ let same = ok_pair i stepped.0.0 end.0 stepped.0.1 end.2 in subst (λ (x : Initial). Grown x j) (sym same.0) others
-            | inr no_semicolon ↦ let r = item_read part i ps stepped.0 no_semicolon.1 in grown_further i stepped.0.0 j (judged_grows (left_of ps) i stepped.0.0 r.s r.judged_is) others
+            | inr no_semicolon ↦ let r = item_read part i ps stepped.0 no_semicolon.1 in grown_further i stepped.0.0 j (judged_grows (remaining_of ps) i stepped.0.0 r.s r.judged_is) others
           ]
     ]
 
@@ -132,19 +132,19 @@ after_grow part i j ps rest total b e = items_grow b.count part i j ps rest (b.s
 
 -- ---- cores
 
-core_missing : (cores left : ℕ) (digits : List ℕ) → ltb (decimal_value digits) cores ≡ false → core_of cores left digits ≡ Err (fault NoSuchCore left)
-core_missing cores left digits e = rw e refl
+core_missing : (cores remaining : ℕ) (digits : List ℕ) → ltb (decimal_value digits) cores ≡ false → core_of cores remaining digits ≡ Err (fault NoSuchCore remaining)
+core_missing cores remaining digits e = rw e refl
 
-core_there : (cores left : ℕ) (digits : List ℕ) → ltb (decimal_value digits) cores ≡ true → core_of cores left digits ≡ Ok (decimal_value digits)
-core_there cores left digits e = rw e refl
+core_there : (cores remaining : ℕ) (digits : List ℕ) → ltb (decimal_value digits) cores ≡ true → core_of cores remaining digits ≡ Ok (decimal_value digits)
+core_there cores remaining digits e = rw e refl
 
 registers_stop : (cores : ℕ) (registers : List (List ℕ)) (done others : List Given) (g : Given) → list_all (has_core cores) (map unplaced done) ≡ true → ltb (decimal_value g.core) cores ≡ false
-    → registers_with cores registers (done ++ g ∷ others) ≡ Err (fault NoSuchCore g.left)
+    → registers_with cores registers (done ++ g ∷ others) ≡ Err (fault NoSuchCore g.remaining)
 unfolding registers_with
-registers_stop cores registers [] others g all lacks = rw (core_missing cores g.left g.core lacks) refl
+registers_stop cores registers [] others g all lacks = rw (core_missing cores g.remaining g.core lacks) refl
 registers_stop cores registers (d ∷ done) others g all lacks =
     let both = and_parts (ltb (decimal_value d.core) cores) (list_all (has_core cores) (map unplaced done)) all in
-    ap (λ (r : Result ℕ Fault). r >>= λ core. registers_with cores (with_register registers core d.reg d.value) (done ++ g ∷ others)) (core_there cores d.left d.core both.0)
+    ap (λ (r : Result ℕ Fault). r >>= λ core. registers_with cores (with_register registers core d.reg d.value) (done ++ g ∷ others)) (core_there cores d.remaining d.core both.0)
     ∙ registers_stop cores (with_register registers (decimal_value d.core) d.reg d.value) done others g both.1 lacks
 
 registers_there : (cores : ℕ) (registers : List (List ℕ)) (gs : List Given) (f : Fault) → list_all (has_core cores) (map unplaced gs) ≡ true → registers_with cores registers gs ≡ Err f → ⊥
@@ -153,19 +153,19 @@ registers_there cores registers [] f all e = cc
 registers_there cores registers (g ∷ gs) f all e =
     let both = and_parts (ltb (decimal_value g.core) cores) (list_all (has_core cores) (map unplaced gs)) all in
     registers_there cores (with_register registers (decimal_value g.core) g.reg g.value) gs f both.1
-    (sym (ap (λ (r : Result ℕ Fault). r >>= λ core. registers_with cores (with_register registers core g.reg g.value) gs) (core_there cores g.left g.core both.0)) ∙ e)
+    (sym (ap (λ (r : Result ℕ Fault). r >>= λ core. registers_with cores (with_register registers core g.reg g.value) gs) (core_there cores g.remaining g.core both.0)) ∙ e)
 
 cores_held : (cores : ℕ) (done : List Setting) (i : Initial) → Holds done i → has_cores cores done ≡ true → list_all (has_core cores) (map unplaced i.registers) ≡ true
 cores_held cores done i h has = ap (list_all (has_core cores)) h.registers ∙ cores_alone cores done ∙ has
 
 -- the item whose core isn't there, once it is taken in
-absent_item : (cores left : ℕ) (i after j : Initial) (done : List Setting) (s : Setting) → Holds done i → has_cores cores done ≡ true → has_core cores s ≡ false → judged left i s ≡ Ok after → Grown after j
-    → registers_of cores j.registers ≡ Err (fault NoSuchCore left)
-absent_item cores left i after j done (of_location x v) h has lacks e grown = absurd cc
-absent_item cores left i after j done (of_register core reg v) h has lacks e grown =
-    let g = given left core reg v in
+absent_item : (cores remaining : ℕ) (i after j : Initial) (done : List Setting) (s : Setting) → Holds done i → has_cores cores done ≡ true → has_core cores s ≡ false → judged remaining i s ≡ Ok after → Grown after j
+    → registers_of cores j.registers ≡ Err (fault NoSuchCore remaining)
+absent_item cores remaining i after j done (of_location x v) h has lacks e grown = absurd cc
+absent_item cores remaining i after j done (of_register core reg v) h has lacks e grown =
+    let g = given remaining core reg v in
     let whole : j.registers ≡ i.registers ++ g ∷ grown.extra =
-    grown.parts ∙ ap (λ (l : List Given). l ++ grown.extra) (register_noted left i after core reg v e) ∙ append_assoc i.registers (g ∷ []) grown.extra in
+    grown.parts ∙ ap (λ (l : List Given). l ++ grown.extra) (register_noted remaining i after core reg v e) ∙ append_assoc i.registers (g ∷ []) grown.extra in
     ap (registers_of cores) whole ∙ registers_stop cores (replicate cores no_registers) i.registers grown.extra g (cores_held cores done i h has) lacks
 
 -- ---- refused
@@ -179,7 +179,7 @@ record Lacks (cores : ℕ) (f : Fault) (before : List Setting) (ps : List Piece)
   pub is : IsSetting ts s
   pub parts : terms ps ≡ ts ++ back
   pub lacks : has_core cores s ≡ false
-  pub place : f ≡ fault NoSuchCore (left_of ps)
+  pub place : f ≡ fault NoSuchCore (remaining_of ps)
 
 abbrev Further : ℕ → Fault → Part → ReadItems → List Piece → Type 0
 Further cores f part total ps =
@@ -194,7 +194,7 @@ after_one : (cores : ℕ) (f : Fault) (part : Part) (i : Initial) (ps : List Pie
 after_one cores f part i ps x total j rest done h fits has r there on shorter last e refused further = by_close (symbol_at CloseCurly x.1) refl
   where
     taken : Holds (done ++ r.s ∷ []) x.0 × Fits (done ++ r.s ∷ [])
-    taken = judged_taken (left_of ps) i x.0 done r.s r.judged_is h fits
+    taken = judged_taken (remaining_of ps) i x.0 done r.s r.judged_is h fits
 
     more : has_cores cores (done ++ r.s ∷ []) ≡ true
     more = has_more cores done r.s has there
@@ -234,7 +234,7 @@ items_step cores f part i ps total j rest done h fits has b e refused further = 
             after_one cores f part i ps x total j rest done h fits has r there on shorter last e refused further
         by_test false missing shorter on =
             let grown = after_grow part x.0 j x.1 rest total on e in
-            let same : f ≡ fault NoSuchCore (left_of ps) = err_is f (fault NoSuchCore (left_of ps)) (sym refused ∙ absent_item cores (left_of ps) i x.0 j done r.s h has missing r.judged_is grown) in
+            let same : f ≡ fault NoSuchCore (remaining_of ps) = err_is f (fault NoSuchCore (remaining_of ps)) (sym refused ∙ absent_item cores (remaining_of ps) i x.0 j done r.s h has missing r.judged_is grown) in
             at_once (Lacks cores f) done ps fits (record { s = r.s; ts = r.ts; back = terms x.1; has = has; is = r.is; parts = r.parts; lacks = missing; place = same })
 
     by_item : symbol_at CloseCurly ps ≡ None → symbol_at Semicolon ps ≡ None → (r : ReadItems) → item_in part i ps ≡ r → ItemsThen (Lacks cores f) done ps
@@ -262,14 +262,14 @@ items_lack zero cores f part i ps total j rest done enough h fits has b e refuse
 items_lack (suc k) cores f part i ps total j rest done enough h fits has b e refused =
     items_step cores f part i ps total j rest done h fits has b e refused (λ l qs d less hold fit there on. items_lack k cores f part l qs total j rest d (omega arith) hold fit there on e refused)
 
-opened_reads : (stop : Stop) (opener : Piece) (ps : List Piece) → opener.term ≡ symbol OpenCurly → initial_at stop [] (opener ∷ ps) ≡ items_at (in_initial opener.left stop) [] ps
+opened_reads : (stop : Stop) (opener : Piece) (ps : List Piece) → opener.term ≡ symbol OpenCurly → initial_at stop [] (opener ∷ ps) ≡ items_at (in_initial opener.remaining stop) [] ps
 unfolding initial_at symbol_at is_symbol
 opened_reads stop opener ps is = rw is refl
 
 pub cores_refused : (stop : Stop) (cores : ℕ) (opener : Piece) (ps rest : List Piece) (i : Initial) (f : Fault) → opener.term ≡ symbol OpenCurly → initial_at stop [] (opener ∷ ps) ≡ Ok (i, rest)
     → registers_of cores i.registers ≡ Err f → IsCoreFault cores (opener ∷ ps) f
 cores_refused stop cores opener ps rest i f is_open e refused =
-    let part = in_initial opener.left stop in
+    let part = in_initial opener.remaining stop in
     let r = items_lack (length ps) cores f part (initial [] [] []) ps (items_at part [] ps) i rest [] (omega arith) nothing (record { once = refl; values = refl; few = omega arith }) refl (items_start part [] ps)
     (sym (opened_reads stop opener ps is_open) ∙ e) refused in
     subst (λ (l : List Piece). IsCoreFault cores (opener ∷ l) f) (sym r.parts)
@@ -283,13 +283,13 @@ setting_same part ts back s t ps rest is e read =
     (ok_pair s t found.rest rest (sym found.is ∙ read)).0
 
 absent_here : (cores : ℕ) (part : Part) (i j : Initial) (ps rest : List Piece) (total : ReadItems) (done : List Setting) (ts back : List Term) (s : Setting) → Holds done i → has_cores cores done ≡ true
-    → IsSetting ts s → terms ps ≡ ts ++ back → has_core cores s ≡ false → ItemsAfter part i ps total → total ≡ Ok (j, rest) → registers_of cores j.registers ≡ Err (fault NoSuchCore (left_of ps))
+    → IsSetting ts s → terms ps ≡ ts ++ back → has_core cores s ≡ false → ItemsAfter part i ps total → total ≡ Ok (j, rest) → registers_of cores j.registers ≡ Err (fault NoSuchCore (remaining_of ps))
 absent_here cores part i j ps rest total done ts back s h has is e lacks b ok = by_item (item_in part i ps) refl
   where
     plain : NoEnd ps
     plain = no_end ts back s is ps e
 
-    by_item : (r : ReadItems) → item_in part i ps ≡ r → registers_of cores j.registers ≡ Err (fault NoSuchCore (left_of ps))
+    by_item : (r : ReadItems) → item_in part i ps ≡ r → registers_of cores j.registers ≡ Err (fault NoSuchCore (remaining_of ps))
     by_item (Err g) read = let never = sym (item_fails (errors.Fault g) part i ps total (sym plain.curly) (item_step part i ps (Err g) plain.semicolon read) b) ∙ ok in absurd cc
     by_item (Ok x) read =
         let r = item_read part i ps x read in
@@ -297,20 +297,20 @@ absent_here cores part i j ps rest total done ts back s h has is e lacks b ok = 
         let some = setting_some r.ts r.s r.is in
         let shorter : length x.1 < length ps = omega (arith, some, ap length r.parts, length-append r.ts (terms x.1), length-terms ps, length-terms x.1) in
         let on = items_go_on part i x.0 ps x.1 total (sym plain.curly) (item_step part i ps (Ok x) plain.semicolon read) shorter b in
-        absent_item cores (left_of ps) i x.0 j done r.s h has (ap (has_core cores) (sym same) ∙ lacks) r.judged_is (after_grow part x.0 j x.1 rest total on ok)
+        absent_item cores (remaining_of ps) i x.0 j done r.s h has (ap (has_core cores) (sym same) ∙ lacks) r.judged_is (after_grow part x.0 j x.1 rest total on ok)
 
 -- the initial state that these tokens begin is opened
-opened_first : (stop : Stop) (opener : Piece) (ps rest : List Piece) (i : Initial) → initial_at stop [] (opener ∷ ps) ≡ Ok (i, rest) → items_at (in_initial opener.left stop) [] ps ≡ Ok (i, rest)
+opened_first : (stop : Stop) (opener : Piece) (ps rest : List Piece) (i : Initial) → initial_at stop [] (opener ∷ ps) ≡ Ok (i, rest) → items_at (in_initial opener.remaining stop) [] ps ≡ Ok (i, rest)
 unfolding initial_at symbol_at
 opened_first stop opener ps rest i e = by_curly (is_symbol OpenCurly opener) refl
   where
-    by_curly : (b : Bool) → is_symbol OpenCurly opener ≡ b → items_at (in_initial opener.left stop) [] ps ≡ Ok (i, rest)
+    by_curly : (b : Bool) → is_symbol OpenCurly opener ≡ b → items_at (in_initial opener.remaining stop) [] ps ≡ Ok (i, rest)
     by_curly true is = rw is at e
     by_curly false is = let never = rw is at e in absurd cc
 
 pub cores_refuse : (stop : Stop) (cores : ℕ) (ps rest : List Piece) (i : Initial) (f : Fault) → initial_at stop [] ps ≡ Ok (i, rest) → IsCoreFault cores ps f → registers_of cores i.registers ≡ Err f
 cores_refuse stop cores _ rest i _ e (no_such_core opener front ps settings ts back s are fits has is parts lacks) =
-    let part = in_initial opener.left stop in
+    let part = in_initial opener.remaining stop in
     let all = front ++ ps in
     let found = ended_found (terms front) settings are part (initial [] [] []) all (items_at part [] all) [] (terms ps) (terms_append front ps) nothing fits (items_start part [] all) in
     let same : found.rest ≡ ps = same_place all front ps found.rest refl found.last found.after_it in

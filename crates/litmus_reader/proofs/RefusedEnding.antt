@@ -23,7 +23,7 @@ use Rattle.litmus_reader.proofs.GrammarBrackets.{brackets_take, brackets_again}
 use Rattle.litmus_reader.proofs.GrammarEnding.{word_found, observed_found}
 use Rattle.litmus_reader.proofs.RefusedMisfits.{err_is}
 use Rattle.litmus_reader.proofs.RefusedBytes.{brackets_refuse, brackets_refused}
-use Rattle.litmus_reader.specs.Places.{left_of, unfit, from_place}
+use Rattle.litmus_reader.specs.Places.{remaining_of, unfit, from_place}
 use Rattle.litmus_reader.specs.Grammar.{terms}
 
 -- ---- one symbol
@@ -80,7 +80,7 @@ brackets_miss : (text : List ℕ) (stop : Stop) (ps : List Piece) → or_unfit (
 unfolding brackets_end
 brackets_miss text stop ps e = rw e refl
 
-brackets_read : (text : List ℕ) (stop : Stop) (ps rest : List Piece) → or_unfit (in_observed stop) ps (symbol_at OpenSquare ps) ≡ Ok rest → brackets_end text stop ps ≡ square_end (left_of ps) (from_place text (left_of ps))
+brackets_read : (text : List ℕ) (stop : Stop) (ps rest : List Piece) → or_unfit (in_observed stop) ps (symbol_at OpenSquare ps) ≡ Ok rest → brackets_end text stop ps ≡ square_end (remaining_of ps) (from_place text (remaining_of ps))
 unfolding brackets_end
 brackets_read text stop ps rest e = rw e refl
 
@@ -91,12 +91,12 @@ no_bracket_refuses text stop ps none =
       | stands p rest parts is read m ↦ let never = sym m ∙ none in absurd cc
     ]
 
-in_brackets_refuse : (text : List ℕ) (stop : Stop) (opener : Piece) (ps : List Piece) (f : Fault) → opener.term ≡ symbol OpenSquare → IsBracketsFault opener.left (from_place text opener.left) f
+in_brackets_refuse : (text : List ℕ) (stop : Stop) (opener : Piece) (ps : List Piece) (f : Fault) → opener.term ≡ symbol OpenSquare → IsBracketsFault opener.remaining (from_place text opener.remaining) f
     → brackets_end text stop (opener ∷ ps) ≡ Err f
 in_brackets_refuse text stop opener ps f is bad =
     elim (symbol_cases (in_observed stop) OpenSquare (opener ∷ ps)) [
       | misses m read ↦ let never = sym (square_there opener ps is) ∙ m in absurd cc
-      | stands p rest parts here read m ↦ brackets_read text stop (opener ∷ ps) rest read ∙ brackets_refuse opener.left (from_place text opener.left) f bad
+      | stands p rest parts here read m ↦ brackets_read text stop (opener ∷ ps) rest read ∙ brackets_refuse opener.remaining (from_place text opener.remaining) f bad
     ]
 
 observed_refused : (text : List ℕ) (stop : Stop) (cores : ℕ) (names : List (List ℕ)) (word : Piece) (ps : List Piece) (f : Fault) → word.term ≡ name (codes "locations") → brackets_end text stop ps ≡ Err f
@@ -105,9 +105,9 @@ observed_refused text stop cores names word ps f is_word e =
     elim (symbol_cases (in_observed stop) OpenSquare ps) [
       | misses m read ↦ subst (IsEndingFault text stop cores names (word ∷ ps)) (err_is (unfit (in_observed stop) ps) f (sym (brackets_miss text stop ps read) ∙ e)) (no_bracket word ps is_word m)
       | stands p rest parts is read m ↦
-          let found : square_end (left_of ps) (from_place text (left_of ps)) ≡ Err f = sym (brackets_read text stop ps rest read) ∙ e in
+          let found : square_end (remaining_of ps) (from_place text (remaining_of ps)) ≡ Err f = sym (brackets_read text stop ps rest read) ∙ e in
           subst (λ (l : List Piece). IsEndingFault text stop cores names (word ∷ l) f) (sym parts)
-          (in_brackets word p rest f is_word is (brackets_refused p.left (from_place text p.left) f (subst (λ (l : List Piece). square_end (left_of l) (from_place text (left_of l)) ≡ Err f) parts found)))
+          (in_brackets word p rest f is_word is (brackets_refused p.remaining (from_place text p.remaining) f (subst (λ (l : List Piece). square_end (remaining_of l) (from_place text (remaining_of l)) ≡ Err f) parts found)))
     ]
 
 -- ---- after the rows
@@ -146,10 +146,10 @@ ending_refused text stop cores names ps f e last = by_word (word_after (codes "l
         elim (symbol_cases (in_observed stop) OpenSquare rest) [
           | misses m missing ↦ let never = sym (brackets_miss text stop rest missing) ∙ is in absurd cc
           | stands p back parts is_opener there m ↦
-              let closes : square_end p.left (from_place text p.left) ≡ Ok bytes =
-              subst (λ (l : List Piece). square_end (left_of l) (from_place text (left_of l)) ≡ Ok bytes) parts (sym (brackets_read text stop rest back there) ∙ is) in
+              let closes : square_end p.remaining (from_place text p.remaining) ≡ Ok bytes =
+              subst (λ (l : List Piece). square_end (remaining_of l) (from_place text (remaining_of l)) ≡ Ok bytes) parts (sym (brackets_read text stop rest back there) ∙ is) in
               subst (λ (l : List Piece). IsEndingFault text stop cores names l f) (sym (w.1 ∙ ap (λ (l : List Piece). w.0 ∷ l) parts))
-              (after_brackets w.0 p back bytes f w.2 is_opener (brackets_take p.left (from_place text p.left) bytes closes) (last (pieces_of bytes).1 (pieces_of bytes).0 read))
+              (after_brackets w.0 p back bytes f w.2 is_opener (brackets_take p.remaining (from_place text p.remaining) bytes closes) (last (pieces_of bytes).1 (pieces_of bytes).0 read))
         ]
 
     by_word : (o : Option (List Piece)) → word_after (codes "locations") ps ≡ o → IsEndingFault text stop cores names ps f

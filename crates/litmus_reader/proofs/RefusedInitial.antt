@@ -17,7 +17,7 @@ use Rattle.litmus_reader.specs.declared.fault.Part.{Part}
 use Rattle.litmus_reader.specs.declared.fault.ReadError.TheVariants as errors
 use Rattle.litmus_reader.specs.inner.Faults.{◌>>=◌}
 use Rattle.litmus_reader.specs.inner.Locations.{located}
-use Rattle.litmus_reader.specs.inner.Items.{setting_at}
+use Rattle.litmus_reader.specs.inner.Settings.{setting_at}
 use Rattle.litmus_reader.specs.inner.Initial.{Initial, initial, gives, judged, item_in, step_in, items_at, initial_at, ends_item}
 use Rattle.litmus_reader.specs.Grammar.{terms}
 use Rattle.litmus_reader.specs.GrammarItems.{IsSetting}
@@ -38,7 +38,7 @@ use Rattle.litmus_reader.proofs.GrammarTest.{terms_append, taken_terms}
 use Rattle.litmus_reader.proofs.RefusedMisfits.{err_is, bind_err, fails, Follows, setting_follows}
 use Rattle.litmus_reader.proofs.RefusedPasses.{same_place as same_tokens}
 use Rattle.litmus_reader.proofs.Readings.{AreLast}
-use Rattle.litmus_reader.specs.Places.{fault, left_of, unfit, in_initial}
+use Rattle.litmus_reader.specs.Places.{fault, remaining_of, unfit, in_initial}
 use Rattle.litmus_reader.specs.GrammarNames.{number_of}
 use Rattle.litmus_reader.specs.Written.{Setting, of_register, of_location}
 use Rattle.litmus_reader.proofs.Slots.{misfit, setting_slots}
@@ -46,30 +46,30 @@ use Rattle.litmus_reader.proofs.RefusedKinds.{item_misses, item_misfits}
 
 -- ---- one setting
 
-too_long : (left v : ℕ) → 2 ^ 32 ≤ v → ltb v (2 ^ 32) ≡ false
-too_long left v big = le-ltb _ _ big
+too_long : (remaining v : ℕ) → 2 ^ 32 ≤ v → ltb v (2 ^ 32) ≡ false
+too_long remaining v big = le-ltb _ _ big
 
-judged_refuses : (left : ℕ) (i : Initial) (done : List Setting) (s : Setting) (why : Why) → IsSettingFault done s why → Holds done i → Fits done → judged left i s ≡ Err (fault why left)
+judged_refuses : (remaining : ℕ) (i : Initial) (done : List Setting) (s : Setting) (why : Why) → IsSettingFault done s why → Holds done i → Fits done → judged remaining i s ≡ Err (fault why remaining)
 unfolding judged located
-judged_refuses left i done _ _ (bad_number (of_register core reg v) big) h fits = rw (too_long left v big) refl
-judged_refuses left i done _ _ (bad_number (of_location x v) big) h fits = rw (too_long left v big) refl
-judged_refuses left i done _ _ (one_too_many x v small new many) h fits =
+judged_refuses remaining i done _ _ (bad_number (of_register core reg v) big) h fits = rw (too_long remaining v big) refl
+judged_refuses remaining i done _ _ (bad_number (of_location x v) big) h fits = rw (too_long remaining v big) refl
+judged_refuses remaining i done _ _ (one_too_many x v small new many) h fits =
     let fresh : list_any (bytes_eq x) i.names ≡ false = ap (list_any (bytes_eq x)) h.names ∙ sym (location_given x v done) ∙ new in
     let number : number_of i.names x ≡ length i.names = place_none (bytes_eq x) i.names fresh in
     let count : length i.names ≡ length (names_in done) = ap length h.names in
     let full : ltb (number_of i.names x) 16 ≡ false = le-ltb _ _ (omega (arith, number, count, many)) in
-    rw (word_is left v small, full) refl
-judged_refuses left i done _ _ (twice (of_register core reg v) small here) h fits =
+    rw (word_is remaining v small, full) refl
+judged_refuses remaining i done _ _ (twice (of_register core reg v) small here) h fits =
     let before : list_any (gives core reg) i.registers ≡ true = sym (register_given core reg v done i.registers h.registers) ∙ here in
-    rw (word_is left v small, before) refl
-judged_refuses left i done _ _ (twice (of_location x v) small here) h fits =
+    rw (word_is remaining v small, before) refl
+judged_refuses remaining i done _ _ (twice (of_location x v) small here) h fits =
     let known : list_any (bytes_eq x) i.names ≡ true = ap (list_any (bytes_eq x)) h.names ∙ sym (location_given x v done) ∙ here in
     let below = place_below (bytes_eq x) i.names known in
     let count : length i.names ≡ length (names_in done) = ap length h.names in
     let words : length i.words ≡ length (names_in done) = ap length h.words ∙ a_word_each done in
     let room : ltb (number_of i.names x) 16 ≡ true = lt-ltb _ _ (omega (arith, below, count, fits.few)) in
     let seen : ltb (number_of i.names x) (length i.words) ≡ true = lt-ltb _ _ (omega (arith, below, count, words)) in
-    rw (word_is left v small, room, seen) refl
+    rw (word_is remaining v small, room, seen) refl
 
 -- a setting after others that fit is at fault, or fits too
 setting_decided : (done : List Setting) (s : Setting) → Fits done → ((why : Why) × IsSettingFault done s why) ⊎ Fits (done ++ s ∷ [])
@@ -97,11 +97,11 @@ setting_decided done s fits = by_size (ltb (given_value s) (2 ^ 32)) refl
     by_size true small = by_place small (list_any (same_place s) done) refl
     by_size false big = inl (BadNumber, bad_number s (ltb-false _ _ big))
 
-judged_refused : (left : ℕ) (i : Initial) (done : List Setting) (s : Setting) (f : Fault) → judged left i s ≡ Err f → Holds done i → Fits done → (why : Why) × IsSettingFault done s why × (f ≡ fault why left)
-judged_refused left i done s f e h fits =
+judged_refused : (remaining : ℕ) (i : Initial) (done : List Setting) (s : Setting) (f : Fault) → judged remaining i s ≡ Err f → Holds done i → Fits done → (why : Why) × IsSettingFault done s why × (f ≡ fault why remaining)
+judged_refused remaining i done s f e h fits =
     elim (setting_decided done s fits) [
-      | inl bad ↦ (bad.0, bad.1, err_is f (fault bad.0 left) (sym e ∙ judged_refuses left i done s bad.0 bad.1 h fits))
-      | inr good ↦ let found = judged_found left i done [] s h good in let is = found.is in absurd cc
+      | inl bad ↦ (bad.0, bad.1, err_is f (fault bad.0 remaining) (sym e ∙ judged_refuses remaining i done s bad.0 bad.1 h fits))
+      | inr good ↦ let found = judged_found remaining i done [] s h good in let is = found.is in absurd cc
     ]
 
 -- ---- ends
@@ -156,7 +156,7 @@ item_refuses part i done ps _ (unfit_token at misfits) h fits = (no_ends ps foun
 item_refuses part i done ps _ (at_fault ts back t s why is e ends bad) h fits =
     let found = setting_found part ts (t ∷ back) s is ps e in
     let end : ends_item found.rest ≡ true = ends_with found.rest t back found.after_it ends in
-    (no_end ts (t ∷ back) s is ps e, rw (found.is, end, judged_refuses (left_of ps) i done s why bad h fits) refl)
+    (no_end ts (t ∷ back) s is ps e, rw (found.is, end, judged_refuses (remaining_of ps) i done s why bad h fits) refl)
 
 pub item_refused : (part : Part) (i : Initial) (done : List Setting) (ps : List Piece) (f : Fault) → ends_item ps ≡ false → item_in part i ps ≡ Err f → Holds done i → Fits done → IsItemFault part done ps f
 unfolding item_in
@@ -174,10 +174,10 @@ item_refused part i done ps f no_ending e h fits = by_setting (setting_at part p
             subst (IsItemFault part done ps) (err_is (unfit part x.1) f (sym read ∙ e)) (unfit_token x.1 (item_misfits ps x.1 no_ending (m ∙ end_missing x.1 end)))
         by_end true end =
             let taken = setting_taken part ps x.1 x.0 is in
-            let read : item_in part i ps ≡ (judged (left_of ps) i x.0 >>= λ after. Ok (after, x.1)) = rw (is, end) refl in
-            elim (bind_err (judged (left_of ps) i x.0) (λ after. Ok (after, x.1)) f (sym read ∙ e)) [
+            let read : item_in part i ps ≡ (judged (remaining_of ps) i x.0 >>= λ after. Ok (after, x.1)) = rw (is, end) refl in
+            elim (bind_err (judged (remaining_of ps) i x.0) (λ after. Ok (after, x.1)) f (sym read ∙ e)) [
               | inl bad ↦
-                  let why = judged_refused (left_of ps) i done x.0 f bad h fits in
+                  let why = judged_refused (remaining_of ps) i done x.0 f bad h fits in
                   let t = end_token x.1 end in
                   subst (IsItemFault part done ps) (sym why.2) (at_fault taken.ts t.1 t.0 x.0 why.0 taken.is (taken.parts ∙ ap (λ (l : List Term). taken.ts ++ l) t.2) t.3 why.1)
               | inr good ↦ let never = good.2 in absurd cc
@@ -230,7 +230,7 @@ step_refuses part i ps f none e = rw none.semicolon e
 pub initial_refuses : (stop : Stop) (ps : List Piece) (f : Fault) → IsInitialFault stop ps f → initial_at stop [] ps ≡ Err f
 unfolding initial_at symbol_at is_symbol
 initial_refuses stop _ _ (in_item opener front ps settings f is_open are fits bad) =
-    let part = in_initial opener.left stop in
+    let part = in_initial opener.remaining stop in
     let all = front ++ ps in
     let found = ended_found (terms front) settings are part (initial [] [] []) all (items_at part [] all) [] (terms ps) (terms_append front ps) nothing fits (items_start part [] all) in
     let same : found.rest ≡ ps = same_tokens all front ps found.rest refl found.last found.after_it in
@@ -369,7 +369,7 @@ items_refused (suc k) part i ps total done f enough h fits b e =
 pub initial_refused : (stop : Stop) (opener : Piece) (ps : List Piece) (f : Fault) → opener.term ≡ symbol OpenCurly → initial_at stop [] (opener ∷ ps) ≡ Err f → IsInitialFault stop (opener ∷ ps) f
 unfolding initial_at symbol_at is_symbol
 initial_refused stop opener ps f is_open e =
-    let part = in_initial opener.left stop in
+    let part = in_initial opener.remaining stop in
     let read : initial_at stop [] (opener ∷ ps) ≡ items_at part [] ps = rw is_open refl in
     let r = items_refused (length ps) part (initial [] [] []) ps (items_at part [] ps) [] f (omega arith) nothing (record { once = refl; values = refl; few = omega arith }) (items_start part [] ps) (sym read ∙ e) in
     subst (λ (l : List Piece). IsInitialFault stop (opener ∷ l) f) (sym r.parts) (in_item opener r.front r.rest r.settings f is_open r.are r.fits r.is)

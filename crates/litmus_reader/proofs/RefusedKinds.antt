@@ -48,7 +48,7 @@ register_slot (symbol s) e = absurd cc
 
 pub symbol_slot : (s : Symbol) (t : Term) → is_symbol_term s t ≡ true → t ≡ symbol s
 unfolding is_symbol
-symbol_slot s t e = symbol_is s (record { left = 0; term = t }) e
+symbol_slot s t e = symbol_is s (record { remaining = 0; term = t }) e
 
 first_slot : (s : Slot) (slots : List Slot) (ts : List Term) → Fill (s ∷ slots) ts → (t : Term) × (rest : List Term) × (ts ≡ t ∷ rest) × (s t ≡ true) × Fill slots rest
 first_slot s slots [] f = absurd f

@@ -40,7 +40,7 @@ use Rattle.litmus_reader.proofs.RefusedUnits.{within_taken, proposition_refuses,
 use Rattle.litmus_reader.proofs.RefusedOpens.{unit_refuses, unit_refused}
 use Rattle.litmus_reader.proofs.Readings.{AreLast, condition_by}
 use Rattle.litmus_reader.specs.Places.{fault, unfit, part_of}
-use Rattle.litmus_reader.specs.Written.{Phrase, Asked}
+use Rattle.litmus_reader.specs.Written.{Phrase, WrittenCondition}
 use Rattle.litmus_reader.specs.Misfits.{begins_with, is_word}
 
 -- ---- which way a condition is read
@@ -136,7 +136,7 @@ condition_refuses stop cores names _ _ few (no_exists p ps is other) = tilde_cut
 
 -- ---- the end
 
-trailing_at : (stop : Stop) (p : Piece) (ps : List Piece) → end_at stop (p ∷ ps) ≡ Err (fault Trailing p.left)
+trailing_at : (stop : Stop) (p : Piece) (ps : List Piece) → end_at stop (p ∷ ps) ≡ Err (fault Trailing p.remaining)
 unfolding end_at
 trailing_at stop p ps = refl
 
@@ -148,14 +148,14 @@ record Stopped (stop : Stop) (f : Fault) : Type 0 where
 stop_refused : (stop : Stop) (f : Fault) → end_at stop [] ≡ Err f → Stopped stop f
 unfolding end_at
 stop_refused stops.End f e = absurd cc
-stop_refused (stops.BadToken left) f e = record { is = err_is (fault BadToken left) f e; other = λ h. cc }
-stop_refused (stops.Unclosed left) f e = record { is = err_is (fault Unclosed left) f e; other = λ h. cc }
+stop_refused (stops.BadToken remaining) f e = record { is = err_is (fault BadToken remaining) f e; other = λ h. cc }
+stop_refused (stops.Unclosed remaining) f e = record { is = err_is (fault Unclosed remaining) f e; other = λ h. cc }
 
 end_stops : (stop : Stop) → ¬ (stop ≡ stops.End) → end_at stop [] ≡ Err (unfit (part_of Trailing stop) [])
 unfolding end_at
 end_stops stops.End other = absurd (other refl)
-end_stops (stops.BadToken left) other = refl
-end_stops (stops.Unclosed left) other = refl
+end_stops (stops.BadToken remaining) other = refl
+end_stops (stops.Unclosed remaining) other = refl
 
 ending_fails : (stop : Stop) (cores : ℕ) (names : List (List ℕ)) (ps : List Piece) (f : Fault) → condition_at stop cores names ps ≡ Err f → ending_at stop cores names ps ≡ Err f
 unfolding ending_at
@@ -199,17 +199,17 @@ asked_reads stop cores names front back ts q phrase is e within no_and no_or =
     let same : f.rest ≡ back = same_place all front back f.rest refl last f.after_it in
     subst (λ (l : List Piece). condition_at stop cores names all ≡ Ok (condition_by names q phrase l)) same f.is
 
-trailing_refuses : (stop : Stop) (cores : ℕ) (names : List (List ℕ)) (front : List Piece) (p : Piece) (ps : List Piece) (c : Option Asked) (ts : List Term) → MayAsk ts c → terms front ≡ ts → IsAskedWithin cores names c
-    → goes_on c p.term ≡ false → ending_at stop cores names (front ++ p ∷ ps) ≡ Err (fault Trailing p.left)
+trailing_refuses : (stop : Stop) (cores : ℕ) (names : List (List ℕ)) (front : List Piece) (p : Piece) (ps : List Piece) (c : Option WrittenCondition) (ts : List Term) → MayAsk ts c → terms front ≡ ts → IsAskedWithin cores names c
+    → goes_on c p.term ≡ false → ending_at stop cores names (front ++ p ∷ ps) ≡ Err (fault Trailing p.remaining)
 trailing_refuses stop cores names [] p ps _ _ nothing e within other =
-    ending_stops stop cores names (p ∷ ps) (conditioned None names (p ∷ ps)) (fault Trailing p.left) (not_begun stop cores names p ps other) (trailing_at stop p ps)
+    ending_stops stop cores names (p ∷ ps) (conditioned None names (p ∷ ps)) (fault Trailing p.remaining) (not_begun stop cores names p ps other) (trailing_at stop p ps)
 trailing_refuses stop cores names (r ∷ l) p ps _ _ nothing e within other = absurd cc
 trailing_refuses stop cores names front p ps _ _ (a_condition ts q phrase is) e within other =
     let o = or_parts (is_symbol_term And p.term) (is_symbol_term Or p.term) other in
-    ending_stops stop cores names (front ++ p ∷ ps) (condition_by names q phrase (p ∷ ps)) (fault Trailing p.left)
+    ending_stops stop cores names (front ++ p ∷ ps) (condition_by names q phrase (p ∷ ps)) (fault Trailing p.remaining)
     (asked_reads stop cores names front (p ∷ ps) ts q phrase is e within o.0 o.1) (trailing_at stop p ps)
 
-stopped_refuses : (stop : Stop) (cores : ℕ) (names : List (List ℕ)) (ps : List Piece) (c : Option Asked) (ts : List Term) (f : Fault) → MayAsk ts c → terms ps ≡ ts → IsAskedWithin cores names c → end_at stop [] ≡ Err f
+stopped_refuses : (stop : Stop) (cores : ℕ) (names : List (List ℕ)) (ps : List Piece) (c : Option WrittenCondition) (ts : List Term) (f : Fault) → MayAsk ts c → terms ps ≡ ts → IsAskedWithin cores names c → end_at stop [] ≡ Err f
     → ending_at stop cores names (ps ++ []) ≡ Err f
 stopped_refuses stop cores names [] _ _ f nothing e within bad = ending_stops stop cores names [] (conditioned None names []) f (nothing_asked stop cores names) bad
 stopped_refuses stop cores names (p ∷ ps) _ _ f nothing e within bad = absurd cc
@@ -230,7 +230,7 @@ after_nothing : (stop : Stop) (cores : ℕ) (names : List (List ℕ)) (ps : List
 after_nothing stop cores names [] f few no_word no_forall no_tilde e =
     let s = stop_refused stop f e in subst (IsLastFault stop cores names []) s.is (refused.trailing [] [] None nothing few refl (λ h. s.other h.1))
 after_nothing stop cores names (p ∷ ps) f few no_word no_forall no_tilde e =
-    subst (IsLastFault stop cores names (p ∷ ps)) (err_is (fault Trailing p.left) f (sym (trailing_at stop p ps) ∙ e))
+    subst (IsLastFault stop cores names (p ∷ ps)) (err_is (fault Trailing p.remaining) f (sym (trailing_at stop p ps) ∙ e))
     (refused.trailing [] (p ∷ ps) None nothing few (rw (no_word, no_forall, no_tilde) refl) (λ h. let never = h.0 in cc))
 
 after_asked : (stop : Stop) (cores : ℕ) (names : List (List ℕ)) (front back : List Piece) (q : Quantifier) (phrase : Phrase) (f : Fault) → IsCondition (terms front) q phrase → IsAskedWithin cores names (asked q phrase)
@@ -239,7 +239,7 @@ after_asked stop cores names front [] q phrase f is within no_and no_or e =
     let s = stop_refused stop f e in
     subst (IsLastFault stop cores names (front ++ [])) s.is (refused.trailing front [] (asked q phrase) (a_condition (terms front) q phrase is) within refl (λ h. s.other h.1))
 after_asked stop cores names front (p ∷ ps) q phrase f is within no_and no_or e =
-    subst (IsLastFault stop cores names (front ++ p ∷ ps)) (err_is (fault Trailing p.left) f (sym (trailing_at stop p ps) ∙ e))
+    subst (IsLastFault stop cores names (front ++ p ∷ ps)) (err_is (fault Trailing p.remaining) f (sym (trailing_at stop p ps) ∙ e))
     (refused.trailing front (p ∷ ps) (asked q phrase) (a_condition (terms front) q phrase is) within (rw (no_and, no_or) refl) (λ h. let never = h.0 in cc))
 
 pub last_refused : (stop : Stop) (cores : ℕ) (names : List (List ℕ)) (ps : List Piece) (f : Fault) → length names ≤ 16 → ending_at stop cores names ps ≡ Err f → IsLastFault stop cores names ps f

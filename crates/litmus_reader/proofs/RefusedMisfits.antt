@@ -14,7 +14,7 @@ use Rattle.litmus_tokens.specs.inner.Front.{symbol_at, name_then, name_at, numbe
 use Rattle.litmus_reader.specs.declared.fault.Fault.{Fault}
 use Rattle.litmus_reader.specs.declared.fault.Part.{Part}
 use Rattle.litmus_reader.specs.inner.Faults.{◌>>=◌, or_unfit, there}
-use Rattle.litmus_reader.specs.inner.Items.{if_location, location_at, if_register, register_at, value_at, register_setting, square_setting, plain_setting, setting_at}
+use Rattle.litmus_reader.specs.inner.Settings.{if_location, location_at, if_register, register_at, value_at, register_setting, square_setting, plain_setting, setting_at}
 use Rattle.litmus_reader.specs.Places.{unfit}
 use Rattle.litmus_reader.specs.Written.{Setting, of_register, of_location}
 use Rattle.litmus_reader.proofs.Slots.{Slot, is_number, is_location, is_register, misfit, value_slots, setting_slots_of, setting_slots}
@@ -131,12 +131,12 @@ unfolding setting_at misfit number_at symbol_at is_symbol plain_setting location
 setting_follows part after_it [] = ([], refl, refl)
 setting_follows part after_it (p ∷ ps) = by_term p.term
   where
-    by_term : (t : Term) → (let q : Piece = record { left = p.left; term = t } in Follows part after_it (misfit (setting_slots_of t after_it) (q ∷ ps)) (setting_at part (q ∷ ps)))
+    by_term : (t : Term) → (let q : Piece = record { remaining = p.remaining; term = t } in Follows part after_it (misfit (setting_slots_of t after_it) (q ∷ ps)) (setting_at part (q ∷ ps)))
     by_term (number core) = register_follows part after_it core ps
-    by_term (name x) = plain_follows part after_it (record { left = p.left; term = name x } ∷ ps)
+    by_term (name x) = plain_follows part after_it (record { remaining = p.remaining; term = name x } ∷ ps)
     by_term (symbol s) = by_square (is_symbol_term OpenSquare (symbol s)) refl
       where
         by_square : (b : Bool) → is_symbol_term OpenSquare (symbol s) ≡ b
-            → (let q : Piece = record { left = p.left; term = symbol s } in Follows part after_it (misfit (setting_slots_of (symbol s) after_it) (q ∷ ps)) (setting_at part (q ∷ ps)))
+            → (let q : Piece = record { remaining = p.remaining; term = symbol s } in Follows part after_it (misfit (setting_slots_of (symbol s) after_it) (q ∷ ps)) (setting_at part (q ∷ ps)))
         by_square true is = rw is (rw is (square_follows part after_it ps))
-        by_square false is = rw is (plain_follows part after_it (record { left = p.left; term = symbol s } ∷ ps))
+        by_square false is = rw is (plain_follows part after_it (record { remaining = p.remaining; term = symbol s } ∷ ps))

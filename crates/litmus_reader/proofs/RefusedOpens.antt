@@ -28,7 +28,7 @@ use Rattle.litmus_reader.proofs.RefusedPasses.{same_place}
 use Rattle.litmus_reader.proofs.RefusedAtoms.{atom_refuses, atom_refused}
 use Rattle.litmus_reader.proofs.RefusedUnits.{Refuses, Refused, within_taken, proposition_refuses, proposition_refused, proposition_ends, symbol_missing}
 use Rattle.litmus_reader.proofs.Readings.{given_by}
-use Rattle.litmus_reader.specs.Places.{fault, left_of, unfit}
+use Rattle.litmus_reader.specs.Places.{fault, remaining_of, unfit}
 use Rattle.litmus_reader.specs.Misfits.{begins_with}
 use Rattle.litmus_reader.specs.Written.{Phrase}
 
@@ -148,7 +148,7 @@ deep_refuses stop cores n IsInnerFault refuses atoms names _ _ few (refused.no_b
     ∙ bracket_missing stop unit atoms names (front ++ at) (given_by atoms names phrase found.rest) found.is missing
     ∙ ap (λ (l : List Piece). Err (unfit (in_condition stop) l)) same
 
-last_unit : (stop : Stop) (cores atoms : ℕ) (names : List (List ℕ)) (ps : List Piece) → begins_with begins_unit (terms ps) ≡ true → unit_at stop cores zero atoms names ps ≡ Err (fault TooLarge (left_of ps))
+last_unit : (stop : Stop) (cores atoms : ℕ) (names : List (List ℕ)) (ps : List Piece) → begins_with begins_unit (terms ps) ≡ true → unit_at stop cores zero atoms names ps ≡ Err (fault TooLarge (remaining_of ps))
 unfolding unit_at opens_unit
 last_unit stop cores atoms names ps b =
     elim (unit_cases ps) [
@@ -222,7 +222,7 @@ last_refused : (stop : Stop) (cores : ℕ) → Refused (unit_at stop cores zero)
 last_refused stop cores atoms names ps f few e = by_test (begins_with begins_unit (terms ps)) refl
   where
     by_test : (b : Bool) → begins_with begins_unit (terms ps) ≡ b → IsLastUnitFault stop cores atoms names ps f
-    by_test true begins = subst (IsLastUnitFault stop cores atoms names ps) (err_is (fault TooLarge (left_of ps)) f (sym (last_unit stop cores atoms names ps begins) ∙ e)) (refused.one_open_too_many begins)
+    by_test true begins = subst (IsLastUnitFault stop cores atoms names ps) (err_is (fault TooLarge (remaining_of ps)) f (sym (last_unit stop cores atoms names ps begins) ∙ e)) (refused.one_open_too_many begins)
     by_test false plain = refused.in_atom f plain (atom_refused stop cores atoms names ps f few (sym (last_atom stop cores atoms names ps plain) ∙ e))
 
 pub unit_refused : (stop : Stop) (cores n : ℕ) → Refused (unit_at stop cores n) (IsUnitFault stop cores n)

@@ -32,7 +32,7 @@ use Rattle.litmus_reader.proofs.RefusedMisfits.{err_is}
 use Rattle.litmus_reader.proofs.RefusedPasses.{same_place}
 use Rattle.litmus_reader.proofs.RefusedCells.{cells_refuse, cells_refused}
 use Rattle.litmus_reader.proofs.Readings.{AreLast, ends_table}
-use Rattle.litmus_reader.specs.Places.{fault, at_stop, left_of}
+use Rattle.litmus_reader.specs.Places.{fault, at_stop, remaining_of}
 use Rattle.litmus_reader.specs.Written.{Shape}
 
 -- ---- one row
@@ -41,37 +41,37 @@ row_there : (stop : Stop) (ps : List Piece) → list_any (is_symbol Semicolon) p
 unfolding row_at
 row_there stop ps some = rw (lt-ltb _ _ (place_below (is_symbol Semicolon) ps some)) refl
 
-row_missing : (stop : Stop) (ps : List Piece) → list_any (is_symbol Semicolon) ps ≡ false → row_at stop ps ≡ Err (at_stop (fault Unclosed (left_of ps)) stop)
+row_missing : (stop : Stop) (ps : List Piece) → list_any (is_symbol Semicolon) ps ≡ false → row_at stop ps ≡ Err (at_stop (fault Unclosed (remaining_of ps)) stop)
 unfolding row_at
 row_missing stop ps lacks =
     let place = place_none (is_symbol Semicolon) ps lacks in
     rw (le-ltb (position_or_len (is_symbol Semicolon) ps) (length ps) (omega (arith, place))) refl
 
-row_counts : (cores left : ℕ) (names : List (List ℕ)) (done : List Placed) (row : List Piece) → length (cells_of row) ≢ cores → row_in cores left (instrs_of names done) (names_of names done) row ≡ Err (fault WrongCells left)
+row_counts : (cores remaining : ℕ) (names : List (List ℕ)) (done : List Placed) (row : List Piece) → length (cells_of row) ≢ cores → row_in cores remaining (instrs_of names done) (names_of names done) row ≡ Err (fault WrongCells remaining)
 unfolding row_in
-row_counts cores left names done row differs = by_test (eqb (length (cells_of row)) cores) refl
+row_counts cores remaining names done row differs = by_test (eqb (length (cells_of row)) cores) refl
   where
-    by_test : (b : Bool) → eqb (length (cells_of row)) cores ≡ b → row_in cores left (instrs_of names done) (names_of names done) row ≡ Err (fault WrongCells left)
+    by_test : (b : Bool) → eqb (length (cells_of row)) cores ≡ b → row_in cores remaining (instrs_of names done) (names_of names done) row ≡ Err (fault WrongCells remaining)
     by_test true e = absurd (differs (eqb-true _ _ e))
     by_test false e = rw e refl
 
-row_reads : (cores left : ℕ) (names : List (List ℕ)) (done : List Placed) (row : List Piece) → length (cells_of row) ≡ cores
-    → row_in cores left (instrs_of names done) (names_of names done) row ≡ cells_in 0 (instrs_of names done) (names_of names done) (cells_of row)
+row_reads : (cores remaining : ℕ) (names : List (List ℕ)) (done : List Placed) (row : List Piece) → length (cells_of row) ≡ cores
+    → row_in cores remaining (instrs_of names done) (names_of names done) row ≡ cells_in 0 (instrs_of names done) (names_of names done) (cells_of row)
 unfolding row_in
-row_reads cores left names done row same = rw (eq-eqb (length (cells_of row)) cores same) refl
+row_reads cores remaining names done row same = rw (eq-eqb (length (cells_of row)) cores same) refl
 
 -- a row is open, or its cells are refused
 data RowRefuses (stop : Stop) (cores : ℕ) (names : List (List ℕ)) (done : List Placed) (ps : List Piece) (f : Fault) : Type 0 where
   at_end : row_at stop ps ≡ Err f → RowRefuses stop cores names done ps f
-  in_cells : (row rest : List Piece) → row_at stop ps ≡ Ok (row, rest) → row_in cores (left_of ps) (instrs_of names done) (names_of names done) row ≡ Err f → RowRefuses stop cores names done ps f
+  in_cells : (row rest : List Piece) → row_at stop ps ≡ Ok (row, rest) → row_in cores (remaining_of ps) (instrs_of names done) (names_of names done) row ≡ Err f → RowRefuses stop cores names done ps f
 
 row_refuses : (stop : Stop) (cores : ℕ) (names : List (List ℕ)) (done : List Placed) (ps : List Piece) (f : Fault) → IsEntriesFault stop cores names done ps f → RowRefuses stop cores names done ps f
 row_refuses stop cores names done ps _ (unclosed lacks) = at_end (row_missing stop ps lacks)
 row_refuses stop cores names done ps _ (wrong_cells some differs) =
-    in_cells (row_of ps) (after_first (is_symbol Semicolon) ps) (row_there stop ps some) (row_counts cores (left_of ps) names done (row_of ps) differs)
+    in_cells (row_of ps) (after_first (is_symbol Semicolon) ps) (row_there stop ps some) (row_counts cores (remaining_of ps) names done (row_of ps) differs)
 row_refuses stop cores names done ps _ (in_cell before after first cell spelled why some count cells are within bad) =
     in_cells (row_of ps) (after_first (is_symbol Semicolon) ps) (row_there stop ps some)
-    (row_reads cores (left_of ps) names done (row_of ps) count ∙ ap (cells_in 0 (instrs_of names done) (names_of names done)) cells
+    (row_reads cores (remaining_of ps) names done (row_of ps) count ∙ ap (cells_in 0 (instrs_of names done) (names_of names done)) cells
     ∙ cells_refuse names done before after first cell spelled why are within bad)
 
 number_decided : (m n : ℕ) → (m ≡ n) ⊎ (m ≢ n)
@@ -82,19 +82,19 @@ number_decided m n = by_test (eqb m n) refl
     by_test false e = inr (eqb-false m n e)
 
 row_refused : (stop : Stop) (cores : ℕ) (names : List (List ℕ)) (done : List Placed) (ps row rest : List Piece) (f : Fault) → EntriesWithin names done → list_any (is_symbol Semicolon) ps ≡ true
-    → row_at stop ps ≡ Ok (row, rest) → row_in cores (left_of ps) (instrs_of names done) (names_of names done) row ≡ Err f → IsEntriesFault stop cores names done ps f
+    → row_at stop ps ≡ Ok (row, rest) → row_in cores (remaining_of ps) (instrs_of names done) (names_of names done) row ≡ Err f → IsEntriesFault stop cores names done ps f
 row_refused stop cores names done ps row rest f h some at e = by_count (number_decided (length (cells_of (row_of ps))) cores)
   where
-    here : row_in cores (left_of ps) (instrs_of names done) (names_of names done) (row_of ps) ≡ Err f
+    here : row_in cores (remaining_of ps) (instrs_of names done) (names_of names done) (row_of ps) ≡ Err f
     here =
         let same : row_of ps ≡ row = ap (λ (r : List Piece × List Piece). r.0) (ok_is (row_of ps, after_first (is_symbol Semicolon) ps) (row, rest) (sym (row_there stop ps some) ∙ at)) in
-        ap (row_in cores (left_of ps) (instrs_of names done) (names_of names done)) same ∙ e
+        ap (row_in cores (remaining_of ps) (instrs_of names done) (names_of names done)) same ∙ e
 
     by_count : (length (cells_of (row_of ps)) ≡ cores) ⊎ (length (cells_of (row_of ps)) ≢ cores) → IsEntriesFault stop cores names done ps f
     by_count (inr differs) =
-        subst (IsEntriesFault stop cores names done ps) (err_is (fault WrongCells (left_of ps)) f (sym (row_counts cores (left_of ps) names done (row_of ps) differs) ∙ here)) (wrong_cells some differs)
+        subst (IsEntriesFault stop cores names done ps) (err_is (fault WrongCells (remaining_of ps)) f (sym (row_counts cores (remaining_of ps) names done (row_of ps) differs) ∙ here)) (wrong_cells some differs)
     by_count (inl count) =
-        let r = cells_refused (cells_of (row_of ps)) 0 names done f h (sym (row_reads cores (left_of ps) names done (row_of ps) count) ∙ here) in
+        let r = cells_refused (cells_of (row_of ps)) 0 names done f h (sym (row_reads cores (remaining_of ps) names done (row_of ps) count) ∙ here) in
         let number : 0 + length r.before ≡ length r.before = omega arith in
         let is = subst (λ (k : ℕ). IsEntryFault names (done ++ placed_from 0 r.spelled) k (r.first ∷ r.cell) r.why) number r.is in
         subst (IsEntriesFault stop cores names done ps) (sym r.place) (in_cell r.before r.after r.first r.cell r.spelled r.why some count r.cells r.are r.within is)
@@ -120,10 +120,10 @@ rows_reach stop cores names _ _ (more_rows ts us cells others is are) ps total d
     let one = placed_from 0 cells in
     let regroup : (done ++ one) ++ placed_in others ≡ done ++ (one ++ placed_in others) = append_assoc done one (placed_in others) in
     let whole : EntriesWithin names ((done ++ one) ++ placed_in others) = subst (λ (l : List Placed). EntriesWithin names l) (sym regroup) h in
-    let read = row_found cores (left_of ps) names done first.row cells (row_count cores ts cells is) first.cells_are (within_first names (done ++ one) (placed_in others) whole) in
+    let read = row_found cores (remaining_of ps) names done first.row cells (row_count cores ts cells is) first.cells_are (within_first names (done ++ one) (placed_in others) whole) in
     let go : ends_rows ps ≡ false = ends_is ps ∙ ap ends_table front ∙ row_begins cores ts cells is (us ++ back) in
     let shorter = row_shorter cores ts cells ps first.rest is (front ∙ ap (λ (l : List Term). ts ++ l) (sym first.after_it)) in
-    let on = rows_go_on stop cores (left_of ps) (instrs_of names done) (instrs_of names (done ++ one)) (names_of names done) (names_of names (done ++ one)) ps first.row first.rest total go refl first.is read shorter b in
+    let on = rows_go_on stop cores (remaining_of ps) (instrs_of names done) (instrs_of names (done ++ one)) (names_of names done) (names_of names (done ++ one)) ps first.row first.rest total go refl first.is read shorter b in
     let last = keeps_ok (λ found. Leaves ps found) (row_at stop ps) (first.row, first.rest) (row_leaves stop ps) first.is in
     let r = rows_reach stop cores names us others are first.rest total (done ++ one) back first.after_it whole on in
     record {
@@ -137,7 +137,7 @@ stopped : (stop : Stop) (cores : ℕ) (names : List (List ℕ)) (done : List Pla
     → RowsAfter stop cores (instrs_of names done) (names_of names done) ps total → total ≡ Err f
 stopped stop cores names done ps total f go (at_end e) b = row_open f stop cores (instrs_of names done) (names_of names done) ps total go e b
 stopped stop cores names done ps total f go (in_cells row rest at e) b =
-    row_fails (errors.Fault f) stop cores (left_of ps) (instrs_of names done) (names_of names done) ps row rest total go refl at e b
+    row_fails (errors.Fault f) stop cores (remaining_of ps) (instrs_of names done) (names_of names done) ps row rest total go refl at e b
 
 pub rows_refuse : (stop : Stop) (cores : ℕ) (names : List (List ℕ)) (ps : List Piece) (f : Fault) → IsRowsFault stop cores names ps f → rows_at stop cores names ps ≡ Err f
 unfolding numbered
@@ -184,19 +184,19 @@ rows_step : (stop : Stop) (cores : ℕ) (names : List (List ℕ)) (done : List P
 rows_step stop cores names done ps total f h b e further = by_end (ends_rows ps) refl
   where
     by_read : ends_rows ps ≡ false → list_any (is_symbol Semicolon) ps ≡ true → (row rest : List Piece) → row_at stop ps ≡ Ok (row, rest) → (r : Result Read Fault)
-        → row_in cores (left_of ps) (instrs_of names done) (names_of names done) row ≡ r → RowsRefused stop cores names done ps f
+        → row_in cores (remaining_of ps) (instrs_of names done) (names_of names done) row ≡ r → RowsRefused stop cores names done ps f
     by_read go some row rest at (Err g) is =
-        let same : g ≡ f = err_is g f (sym (row_fails (errors.Fault g) stop cores (left_of ps) (instrs_of names done) (names_of names done) ps row rest total go refl at is b) ∙ e) in
+        let same : g ≡ f = err_is g f (sym (row_fails (errors.Fault g) stop cores (remaining_of ps) (instrs_of names done) (names_of names done) ps row rest total go refl at is b) ∙ e) in
         row_at_once stop cores names done ps f h go (row_refused stop cores names done ps row rest f h some at (is ∙ ap (λ (y : Fault). Err y) same))
     by_read go some row rest at (Ok r) is =
-        let t = row_taken cores (left_of ps) names done row r h is in
+        let t = row_taken cores (remaining_of ps) names done row r h is in
         let cells = t.cells.cells in
         let one = placed_from 0 cells in
         let count : length cells ≡ cores = sym (as_many (cells_of row) cells t.cells.are) ∙ t.count in
         let front = row_takes stop cores ps row rest cells at t.cells.are count in
         let shorter = row_shorter cores front.ts cells ps rest front.is front.parts in
-        let read : row_in cores (left_of ps) (instrs_of names done) (names_of names done) row ≡ Ok (read_of names (done ++ one)) = is ∙ ap (λ (r : Read). Ok r) t.cells.given in
-        let on = rows_go_on stop cores (left_of ps) (instrs_of names done) (instrs_of names (done ++ one)) (names_of names done) (names_of names (done ++ one)) ps row rest total go refl at read shorter b in
+        let read : row_in cores (remaining_of ps) (instrs_of names done) (names_of names done) row ≡ Ok (read_of names (done ++ one)) = is ∙ ap (λ (r : Read). Ok r) t.cells.given in
+        let on = rows_go_on stop cores (remaining_of ps) (instrs_of names done) (instrs_of names (done ++ one)) (names_of names done) (names_of names (done ++ one)) ps row rest total go refl at read shorter b in
         let last = keeps_ok (λ found. Leaves ps found) (row_at stop ps) (row, rest) (row_leaves stop ps) at in
         let this : terms last.taken ≡ front.ts = taken_terms ps last.taken rest front.ts last.parts front.parts in
         let others = further (done ++ one) rest shorter t.cells.within on in
@@ -215,10 +215,10 @@ rows_step stop cores names done ps total f h b e further = by_end (ends_rows ps)
 
     by_semicolon : ends_rows ps ≡ false → (b : Bool) → list_any (is_symbol Semicolon) ps ≡ b → RowsRefused stop cores names done ps f
     by_semicolon go true some =
-        by_read go some (row_of ps) (after_first (is_symbol Semicolon) ps) (row_there stop ps some) (row_in cores (left_of ps) (instrs_of names done) (names_of names done) (row_of ps)) refl
+        by_read go some (row_of ps) (after_first (is_symbol Semicolon) ps) (row_there stop ps some) (row_in cores (remaining_of ps) (instrs_of names done) (names_of names done) (row_of ps)) refl
     by_semicolon go false lacks =
         let missing = row_missing stop ps lacks in
-        let g = at_stop (fault Unclosed (left_of ps)) stop in
+        let g = at_stop (fault Unclosed (remaining_of ps)) stop in
         let same : g ≡ f = err_is g f (sym (row_open g stop cores (instrs_of names done) (names_of names done) ps total go missing b) ∙ e) in
         row_at_once stop cores names done ps f h go (subst (IsEntriesFault stop cores names done ps) same (unclosed lacks))
 

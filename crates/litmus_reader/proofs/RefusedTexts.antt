@@ -82,8 +82,8 @@ record Opened (braces : List ℕ) : Type 0 where
 
 curly_opens : (rest : List ℕ) → Opened (123 ∷ rest)
 unfolding pieces_of pieces_within piece_at gap_end is_space term_at symbol_of symbols
-curly_opens [] = record { opener = record { left = 1; term = symbol OpenCurly }; rest = []; parts = refl; is = refl }
-curly_opens (c ∷ cs) = record { opener = record { left = length (123 ∷ c ∷ cs); term = symbol OpenCurly }; rest = (pieces_within (length (c ∷ cs)) (c ∷ cs)).0; parts = refl; is = refl }
+curly_opens [] = record { opener = record { remaining = 1; term = symbol OpenCurly }; rest = []; parts = refl; is = refl }
+curly_opens (c ∷ cs) = record { opener = record { remaining = length (123 ∷ c ∷ cs); term = symbol OpenCurly }; rest = (pieces_within (length (c ∷ cs)) (c ∷ cs)).0; parts = refl; is = refl }
 
 braces_open : (bytes braces : List ℕ) → AreInformationLines bytes braces → Opened braces
 braces_open _ _ (none bytes rest gap) = curly_opens rest

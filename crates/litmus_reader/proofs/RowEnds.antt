@@ -12,12 +12,12 @@ use Rattle.litmus_tokens.specs.Front.{is_symbol}
 use Rattle.litmus_reader.specs.declared.fault.Why.TheVariants.{Unclosed}
 use Rattle.litmus_reader.specs.inner.Rows.{row_at}
 use Rattle.litmus_reader.proofs.Maps.{chosen, prefix_len-map}
-use Rattle.litmus_reader.specs.Places.{fault, at_stop, left_of}
+use Rattle.litmus_reader.specs.Places.{fault, at_stop, remaining_of}
 
 at-pieces : (tokens : List Token) → position_or_len (is_symbol Semicolon) (pieces tokens) ≡ position_or_len (λ t. is_symbol Semicolon (piece_of t)) tokens
 at-pieces tokens = prefix_len-map (λ p. not (is_symbol Semicolon p)) piece_of tokens
 
-pub row_open : (stop : Stop) (tokens : List Token) → None ≡ position (λ t. is_symbol Semicolon (piece_of t)) tokens → row_at stop (pieces tokens) ≡ Err (at_stop (fault Unclosed (left_of (pieces tokens))) stop)
+pub row_open : (stop : Stop) (tokens : List Token) → None ≡ position (λ t. is_symbol Semicolon (piece_of t)) tokens → row_at stop (pieces tokens) ≡ Err (at_stop (fault Unclosed (remaining_of (pieces tokens))) stop)
 unfolding row_at
 row_open stop tokens at =
     elim (chosen (ltb (position_or_len (λ t. is_symbol Semicolon (piece_of t)) tokens) (length tokens)) (Some (position_or_len (λ t. is_symbol Semicolon (piece_of t)) tokens)) None None (sym at)) [

@@ -10,7 +10,7 @@ use Rattle.litmus_reader.specs.inner.Faults.{◌>>=◌, Fails}
 use Rattle.litmus_reader.specs.inner.Initial.{Given, registers_of}
 use Rattle.litmus_reader.specs.inner.Columns.{columns_at}
 use Rattle.litmus_reader.specs.inner.Rows.{Rows, rows, row_at, row_in, rows_within, rows_at, table, table_at}
-use Rattle.litmus_reader.specs.Places.{left_of}
+use Rattle.litmus_reader.specs.Places.{remaining_of}
 use Rattle.litmus_reader.specs.GrammarTable.{ends_rows}
 
 -- the total is what the rest gives, in some number of rows that is enough
@@ -40,14 +40,14 @@ rows_end stop cores instrs names ps total ends b = by_count b.count b.same
 -- one row more
 step : (n : ℕ) (stop : Stop) (cores : ℕ) (instrs : List CoreInstr) (names : List (List ℕ)) (ps row rest : List Piece)
     → ends_rows ps ≡ false → row_at stop ps ≡ Ok (row, rest)
-    → rows_within (suc n) stop cores instrs names ps ≡ (row_in cores (left_of ps) instrs names row >>= λ read. rows_within n stop cores read.0 read.1 rest)
+    → rows_within (suc n) stop cores instrs names ps ≡ (row_in cores (remaining_of ps) instrs names row >>= λ read. rows_within n stop cores read.0 read.1 rest)
 unfolding rows_within
 step n stop cores instrs names ps row rest more at = rw (more, at) refl
 
-pub rows_go_on : (stop : Stop) (cores left : ℕ) (instrs after : List CoreInstr) (names known : List (List ℕ)) (ps row rest : List Piece) (total : Result Rows Fault)
-    → ends_rows ps ≡ false → left ≡ left_of ps → row_at stop ps ≡ Ok (row, rest) → row_in cores left instrs names row ≡ Ok (after, known) → length rest < length ps
+pub rows_go_on : (stop : Stop) (cores remaining : ℕ) (instrs after : List CoreInstr) (names known : List (List ℕ)) (ps row rest : List Piece) (total : Result Rows Fault)
+    → ends_rows ps ≡ false → remaining ≡ remaining_of ps → row_at stop ps ≡ Ok (row, rest) → row_in cores remaining instrs names row ≡ Ok (after, known) → length rest < length ps
     → RowsAfter stop cores instrs names ps total → RowsAfter stop cores after known rest total
-rows_go_on stop cores left instrs after names known ps row rest total more place at read shorter b = by_count b.count b.enough b.same
+rows_go_on stop cores remaining instrs after names known ps row rest total more place at read shorter b = by_count b.count b.enough b.same
   where
     by_count : (n : ℕ) → length ps ≤ n → rows_within n stop cores instrs names ps ≡ total → RowsAfter stop cores after known rest total
     by_count zero enough same = absurd (omega arith)
@@ -57,11 +57,11 @@ rows_go_on stop cores left instrs after names known ps row rest total more place
       same = sym (step n stop cores instrs names ps row rest more at ∙ ap (λ (r : Result (List CoreInstr × List (List ℕ)) Fault). r >>= λ read. rows_within n stop cores read.0 read.1 rest) (ap (λ (l : ℕ). row_in cores l instrs names row) (sym place) ∙ read)) ∙ same;
     }
 
-pub row_fails : (e : ReadError) (stop : Stop) (cores left : ℕ) (instrs : List CoreInstr) (names : List (List ℕ)) (ps row rest : List Piece) (total : Result Rows Fault)
-    → ends_rows ps ≡ false → left ≡ left_of ps → row_at stop ps ≡ Ok (row, rest) → Fails e (row_in cores left instrs names row)
+pub row_fails : (e : ReadError) (stop : Stop) (cores remaining : ℕ) (instrs : List CoreInstr) (names : List (List ℕ)) (ps row rest : List Piece) (total : Result Rows Fault)
+    → ends_rows ps ≡ false → remaining ≡ remaining_of ps → row_at stop ps ≡ Ok (row, rest) → Fails e (row_in cores remaining instrs names row)
     → RowsAfter stop cores instrs names ps total → Fails e total
-row_fails errors.NoMemory stop cores left instrs names ps row rest total more place at read b = tt
-row_fails (errors.Fault f) stop cores left instrs names ps row rest total more place at read b = by_count b.count b.enough b.same
+row_fails errors.NoMemory stop cores remaining instrs names ps row rest total more place at read b = tt
+row_fails (errors.Fault f) stop cores remaining instrs names ps row rest total more place at read b = by_count b.count b.enough b.same
   where
     by_count : (n : ℕ) → length ps ≤ n → rows_within n stop cores instrs names ps ≡ total → total ≡ Err f
     by_count zero enough same = let none : ends_rows ps ≡ true = nothing_left ps enough in absurd cc

@@ -16,7 +16,7 @@ use Rattle.litmus_reader.specs.declared.fault.Fault.{Fault}
 use Rattle.litmus_reader.specs.declared.cell.CoreInstr.{CoreInstr}
 use Rattle.litmus_reader.specs.inner.Faults.{◌>>=◌, or_unfit}
 use Rattle.litmus_reader.specs.inner.Locations.{located}
-use Rattle.litmus_reader.specs.inner.Items.{word_at}
+use Rattle.litmus_reader.specs.inner.Settings.{word_at}
 use Rattle.litmus_reader.specs.inner.Forms.{spelled_in}
 use Rattle.litmus_reader.specs.inner.Columns.{core_at, separator_at, columns, in_columns}
 use Rattle.litmus_reader.specs.inner.Cells.{instr_of, count_of, or_bad_instruction, cell_in, cells_in, of_core}
@@ -26,7 +26,7 @@ use Rattle.litmus_reader.proofs.Named.{NamedShape, IfNamed, spelled_named}
 use Rattle.litmus_reader.specs.inner.Initial.{Given, registers_of}
 use Rattle.litmus_reader.proofs.InitialKept.{HasLength, all_registers_keep}
 use Rattle.litmus_reader.proofs.Known.{AreNames, Grown, same_names, LocatesIn, located_keeps, All-one}
-use Rattle.litmus_reader.specs.Places.{left_of}
+use Rattle.litmus_reader.specs.Places.{remaining_of}
 use Rattle.litmus_reader.specs.Written.{Shape, store_imm, store_reg, load, set_imm, set_reg, fence, xchg, xadd}
 use Rattle.litmus_reader.specs.GrammarTable.{ends_rows}
 use Rattle.litmus_reader.specs.RefusedTable.{cells_of}
@@ -60,24 +60,24 @@ record IsRead (old : List (List ℕ)) (instr : Instr) (new : List (List ℕ)) : 
 abbrev IsReadIn : List (List ℕ) → Instr × List (List ℕ) → Type 0
 IsReadIn old r = IsRead old r.0 r.1
 
-located_instr : (left : ℕ) (names : List (List ℕ)) (x : List ℕ) (make : Loc → Instr) → ((n : ℕ) (loc : Loc) → loc.0 < n → KnownLocation n (make loc))
-    → AreNames names → NamedShape (store_imm x 0) → IfOk (located left names x >>= λ loc. Ok (make loc.0, loc.1)) (IsReadIn names)
-located_instr left names x make knows h is =
-    bind_keeps (LocatesIn names) (IsReadIn names) (located left names x) _ (located_keeps left names x h is)
+located_instr : (remaining : ℕ) (names : List (List ℕ)) (x : List ℕ) (make : Loc → Instr) → ((n : ℕ) (loc : Loc) → loc.0 < n → KnownLocation n (make loc))
+    → AreNames names → NamedShape (store_imm x 0) → IfOk (located remaining names x >>= λ loc. Ok (make loc.0, loc.1)) (IsReadIn names)
+located_instr remaining names x make knows h is =
+    bind_keeps (LocatesIn names) (IsReadIn names) (located remaining names x) _ (located_keeps remaining names x h is)
     (λ loc l. record { grown = l.grown; known = knows (length loc.1) loc.0 l.below })
 
-instr_keeps : (left : ℕ) (names : List (List ℕ)) (shape : Shape) → AreNames names → NamedShape shape → IfOk (instr_of left names shape) (IsReadIn names)
+instr_keeps : (remaining : ℕ) (names : List (List ℕ)) (shape : Shape) → AreNames names → NamedShape shape → IfOk (instr_of remaining names shape) (IsReadIn names)
 unfolding instr_of
-instr_keeps left names (store_imm x v) h is =
-    bind_keeps (λ n. Any n) (IsReadIn names) (word_at left v) _ (ok_any _) (λ value _. located_instr left names x (λ loc. StoreImm loc value) (λ n loc lt. lt) h is)
-instr_keeps left names (store_reg x reg) h is = located_instr left names x (λ loc. StoreReg loc reg) (λ n loc lt. lt) h is
-instr_keeps left names (load reg x) h is = located_instr left names x (λ loc. Load reg loc) (λ n loc lt. lt) h is
-instr_keeps left names (set_imm reg v) h is =
-    bind_keeps (λ n. Any n) (IsReadIn names) (word_at left v) _ (ok_any _) (λ value _. record { grown = same_names names h; known = tt })
-instr_keeps left names (set_reg reg other) h is = record { grown = same_names names h; known = tt }
-instr_keeps left names fence h is = record { grown = same_names names h; known = tt }
-instr_keeps left names (xchg x reg) h is = located_instr left names x (λ loc. Xchg loc reg) (λ n loc lt. lt) h is
-instr_keeps left names (xadd x reg) h is = located_instr left names x (λ loc. Xadd loc reg) (λ n loc lt. lt) h is
+instr_keeps remaining names (store_imm x v) h is =
+    bind_keeps (λ n. Any n) (IsReadIn names) (word_at remaining v) _ (ok_any _) (λ value _. located_instr remaining names x (λ loc. StoreImm loc value) (λ n loc lt. lt) h is)
+instr_keeps remaining names (store_reg x reg) h is = located_instr remaining names x (λ loc. StoreReg loc reg) (λ n loc lt. lt) h is
+instr_keeps remaining names (load reg x) h is = located_instr remaining names x (λ loc. Load reg loc) (λ n loc lt. lt) h is
+instr_keeps remaining names (set_imm reg v) h is =
+    bind_keeps (λ n. Any n) (IsReadIn names) (word_at remaining v) _ (ok_any _) (λ value _. record { grown = same_names names h; known = tt })
+instr_keeps remaining names (set_reg reg other) h is = record { grown = same_names names h; known = tt }
+instr_keeps remaining names fence h is = record { grown = same_names names h; known = tt }
+instr_keeps remaining names (xchg x reg) h is = located_instr remaining names x (λ loc. Xchg loc reg) (λ n loc lt. lt) h is
+instr_keeps remaining names (xadd x reg) h is = located_instr remaining names x (λ loc. Xadd loc reg) (λ n loc lt. lt) h is
 
 pub known_further : (m n : ℕ) (i : Instr) → m ≤ n → KnownLocation m i → KnownLocation n i
 known_further m n (StoreImm loc value) le h = omega arith
@@ -115,8 +115,8 @@ cell_keeps : (least core : ℕ) (instrs : List CoreInstr) (names : List (List �
 unfolding cell_in
 cell_keeps least core instrs names [] h = h
 cell_keeps least core instrs names (p ∷ ps) h =
-    bind_keeps NamedShape (KeptIn least) (or_bad_instruction p.left (spelled_in (p ∷ ps))) _ (good (spelled_in (p ∷ ps)) (spelled_named (p ∷ ps)))
-    (λ shape named. bind_keeps (IsReadIn names) (KeptIn least) (instr_of p.left names shape) _ (instr_keeps p.left names shape h.names named)
+    bind_keeps NamedShape (KeptIn least) (or_bad_instruction p.remaining (spelled_in (p ∷ ps))) _ (good (spelled_in (p ∷ ps)) (spelled_named (p ∷ ps)))
+    (λ shape named. bind_keeps (IsReadIn names) (KeptIn least) (instr_of p.remaining names shape) _ (instr_keeps p.remaining names shape h.names named)
     (λ instr is. cond_keeps (λ (r : Result (List CoreInstr × List (List ℕ)) Fault). IfOk r (KeptIn least)) (ltb (count_of core instrs) 32) _ _
     (λ room. record {
       names = is.grown.names;
@@ -128,7 +128,7 @@ cell_keeps least core instrs names (p ∷ ps) h =
     })
     (λ _. tt)))
   where
-    good : (o : Option Shape) → IfNamed o → IfOk (or_bad_instruction p.left o) NamedShape
+    good : (o : Option Shape) → IfNamed o → IfOk (or_bad_instruction p.remaining o) NamedShape
     good (Some shape) h = h
     good None h = tt
 
@@ -138,10 +138,10 @@ cells_keep least [] core instrs names h = h
 cells_keep least (c ∷ cs) core instrs names h =
     bind_keeps (KeptIn least) (KeptIn least) (cell_in core instrs names c) _ (cell_keeps least core instrs names c h) (λ read k. cells_keep least cs (core + 1) read.0 read.1 k)
 
-row_keeps : (least cores left : ℕ) (instrs : List CoreInstr) (names : List (List ℕ)) (row : List Piece) → Kept least instrs names → IfOk (row_in cores left instrs names row) (KeptIn least)
+row_keeps : (least cores remaining : ℕ) (instrs : List CoreInstr) (names : List (List ℕ)) (row : List Piece) → Kept least instrs names → IfOk (row_in cores remaining instrs names row) (KeptIn least)
 unfolding row_in
-row_keeps least cores left instrs names row h =
-    bind_keeps (λ x. Any x) (KeptIn least) (counted cores left (cells_of row)) _ (ok_any _) (λ cells _. cells_keep least cells 0 instrs names h)
+row_keeps least cores remaining instrs names row h =
+    bind_keeps (λ x. Any x) (KeptIn least) (counted cores remaining (cells_of row)) _ (ok_any _) (λ cells _. cells_keep least cells 0 instrs names h)
 
 abbrev pub KeptRows : ℕ → Rows → Type 0
 KeptRows least r = Kept least r.instrs r.names
@@ -152,7 +152,7 @@ rows_keep least zero stop cores instrs names ps h = h
 rows_keep least (suc n) stop cores instrs names ps h =
     cond_keeps (λ (r : Result Rows Fault). IfOk r (KeptRows least)) (ends_rows ps) _ _ (λ _. h)
     (λ _. bind_keeps (λ x. Any x) (KeptRows least) (row_at stop ps) _ (ok_any _)
-    (λ row _. bind_keeps (KeptIn least) (KeptRows least) (row_in cores (left_of ps) instrs names row.0) _ (row_keeps least cores (left_of ps) instrs names row.0 h)
+    (λ row _. bind_keeps (KeptIn least) (KeptRows least) (row_in cores (remaining_of ps) instrs names row.0) _ (row_keeps least cores (remaining_of ps) instrs names row.0 h)
     (λ read k. rows_keep least n stop cores read.0 read.1 row.1 k)))
 
 none_yet : (names : List (List ℕ)) → AreNames names → Kept (length names) [] names

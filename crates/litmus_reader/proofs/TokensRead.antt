@@ -82,7 +82,7 @@ same_stop : (x y : Stop) → (let r : Result (List ℕ) Stop = Err x in r) ≡ E
 same_stop x y e = cc
 
 -- only a comment that doesn't end stops a gap
-pub gap_stops : (opener : Option ℕ) (bytes : List ℕ) (stop : Stop) → gap_end opener bytes ≡ Err stop → (left : ℕ) × (stop ≡ Unclosed left)
+pub gap_stops : (opener : Option ℕ) (bytes : List ℕ) (stop : Stop) → gap_end opener bytes ≡ Err stop → (remaining : ℕ) × (stop ≡ Unclosed remaining)
 unfolding gap_end
 gap_stops None [] stop e = absurd cc
 gap_stops None (b ∷ []) stop e = elim (chosen (is_space b) (Ok []) (Ok (b ∷ [])) (Err stop) e) [ inl hit ↦ absurd cc | inr miss ↦ absurd cc ]

@@ -67,10 +67,10 @@ test_text (c ∷ cs) h =
 abbrev IsNamed : List ℕ × List ℕ → Type 0
 IsNamed h = is_test_name h.0 ≡ true
 
-judged_named : (left : ℕ) (o : Option (List ℕ)) → IfOk (judged left o) (λ name. is_test_name name ≡ true)
+judged_named : (remaining : ℕ) (o : Option (List ℕ)) → IfOk (judged remaining o) (λ name. is_test_name name ≡ true)
 unfolding judged
-judged_named left None = tt
-judged_named left (Some name) =
+judged_named remaining None = tt
+judged_named remaining (Some name) =
     let P : Result (List ℕ) Fault → Type 0 = λ r. IfOk r (λ name. is_test_name name ≡ true) in
     cond_keeps P (is_test_name name) _ _ (λ e. e) (λ _. cond_keeps P (ltb 64 (length name) && list_all is_printable name) _ _ (λ _. tt) (λ _. tt))
 

@@ -11,27 +11,27 @@ use Rattle.litmus_reader.specs.declared.fault.Part.{Part}
 
 -- a refusal, at the place from which so many bytes of the text stand
 abbrev pub fault : Why → ℕ → Fault
-fault why left = record { why = why; left = left }
+fault why remaining = record { why = why; remaining = remaining }
 
 -- where the tokens run out: the lexical fault that ended them, or at the end of the text this one
 abbrev pub at_stop : Fault → Stop → Fault
 at_stop end stops.End = end
-at_stop end (stops.BadToken left) = fault BadToken left
-at_stop end (stops.Unclosed left) = fault Unclosed left
+at_stop end (stops.BadToken remaining) = fault BadToken remaining
+at_stop end (stops.Unclosed remaining) = fault Unclosed remaining
 
 -- the place of the first token, or of the end
-abbrev pub left_of : List Piece → ℕ
-left_of [] = 0
-left_of (p ∷ ps) = p.left
+abbrev pub remaining_of : List Piece → ℕ
+remaining_of [] = 0
+remaining_of (p ∷ ps) = p.remaining
 
 -- what a part of the text answers where the token at the front doesn't fit, or where there is none
 abbrev pub unfit : Part → List Piece → Fault
 unfit part [] = part.missing
-unfit part (p ∷ ps) = fault part.why p.left
+unfit part (p ∷ ps) = fault part.why p.remaining
 
--- in the initial state, whose `{` stands at `left`
+-- in the initial state, whose `{` stands at `remaining`
 abbrev pub in_initial : ℕ → Stop → Part
-in_initial left stop = record { why = BadInit; missing = at_stop (fault Unclosed left) stop }
+in_initial remaining stop = record { why = BadInit; missing = at_stop (fault Unclosed remaining) stop }
 
 -- in any other part, for which the end of the text is at fault as a token is
 abbrev pub part_of : Why → Stop → Part
@@ -39,4 +39,4 @@ part_of why stop = record { why = why; missing = at_stop (fault why 0) stop }
 
 -- the bytes from the place on from which so many stand
 abbrev pub from_place : List ℕ → ℕ → List ℕ
-from_place text left = drop (length text - left) text
+from_place text remaining = drop (length text - remaining) text

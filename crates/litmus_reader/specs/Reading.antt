@@ -6,4 +6,4 @@ use Rattle.litmus_reader.specs.declared.fault.TextFault.{TextFault}
 
 -- a refusal with the line of its place
 abbrev pub refusal : List ℕ → Fault → TextFault
-refusal text f = record { line = line_of text f.left; why = f.why }
+refusal text f = record { line = line_of text f.remaining; why = f.why }

@@ -13,7 +13,7 @@ use Rattle.litmus_reader.specs.Places.{fault}
 
 -- after white space and comments a comment begins at this place that doesn't end
 abbrev pub IsUnclosed : List ℕ → ℕ → Type 0
-IsUnclosed bytes left = gap_end None bytes ≡ Err (stops.Unclosed left)
+IsUnclosed bytes remaining = gap_end None bytes ≡ Err (stops.Unclosed remaining)
 
 -- ---- the header line
 
@@ -22,7 +22,7 @@ abbrev pub is_long : List ℕ → Bool
 is_long name = nat_lt longest_test_name (length name) && list_all is_printable name
 
 pub data IsHeaderFault (text : List ℕ) : Fault → Type 0 where
-  unclosed_comment : (left : ℕ) → IsUnclosed text left → IsHeaderFault text (fault Unclosed left)
+  unclosed_comment : (remaining : ℕ) → IsUnclosed text remaining → IsHeaderFault text (fault Unclosed remaining)
   -- at the first byte that isn't white space
   long_name : (at x : List ℕ) → IsAfterGap text at → name_in (first_line at).0 ≡ Some x
       → IsTrue (is_long x) → IsHeaderFault text (fault TooLarge (length at))
@@ -41,7 +41,7 @@ pub data PassesInformation : List ℕ → List ℕ → Type 0 where
 
 -- where the next information line, or the `{`, has to stand
 pub data IsLineFault (bytes : List ℕ) : Fault → Type 0 where
-  unclosed_comment : (left : ℕ) → IsUnclosed bytes left → IsLineFault bytes (fault Unclosed left)
+  unclosed_comment : (remaining : ℕ) → IsUnclosed bytes remaining → IsLineFault bytes (fault Unclosed remaining)
   text_ends : IsAfterGap bytes [] → IsLineFault bytes (fault Unclosed 0)
   unclosed_quotation : (bs : List ℕ) → IsAfterGap bytes (34 ∷ bs) → IsTrue (list_all is_quoted bs)
       → IsLineFault bytes (fault Unclosed (length (34 ∷ bs)))
@@ -54,8 +54,8 @@ pub data IsLineFault (bytes : List ℕ) : Fault → Type 0 where
 
 -- no `]` stands outside comments; the `[` is at the place `opener`
 pub data IsBracketsFault (opener : ℕ) : List ℕ → Fault → Type 0 where
-  unclosed_comment : (bytes : List ℕ) (left : ℕ) → IsUnclosed bytes left
-      → IsBracketsFault opener bytes (fault Unclosed left)
+  unclosed_comment : (bytes : List ℕ) (remaining : ℕ) → IsUnclosed bytes remaining
+      → IsBracketsFault opener bytes (fault Unclosed remaining)
   text_ends : (bs : List ℕ) → IsAfterGap bs [] → IsBracketsFault opener bs (fault Unclosed opener)
   further : (bytes : List ℕ) (b : ℕ) (bs : List ℕ) (f : Fault) → IsAfterGap bytes (b ∷ bs)
       → IsFalse (b == 93) → IsBracketsFault opener bs f → IsBracketsFault opener bytes f

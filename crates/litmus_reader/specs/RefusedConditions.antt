@@ -16,7 +16,7 @@ use Rattle.litmus_reader.specs.GrammarConditions.{IsAtom, IsProposition, IsUnit,
 use Rattle.litmus_reader.specs.GrammarConditions.{atoms_of, PhraseFits, IsWithin, IsQuantifier}
 use Rattle.litmus_reader.specs.GrammarConditions.{IsCondition, is_negation}
 use Rattle.litmus_reader.specs.Misfits.{Misfits, begins_with, is_word}
-use Rattle.litmus_reader.specs.Places.{fault, left_of, unfit, part_of}
+use Rattle.litmus_reader.specs.Places.{fault, remaining_of, unfit, part_of}
 use Rattle.litmus_reader.specs.Written.{Setting, Phrase, atom}
 use Rattle.litmus_reader.specs.declared.fault.Why.{Why}
 
@@ -48,10 +48,10 @@ pub data IsUnitFault (stop : Stop) (cores : ℕ) : ℕ → ℕ → Names → Lis
   -- as an atom's last token is there, at its first
   in_atom : (n atoms : ℕ) (xs : Names) (ps : List Piece) (ts us : List Term) (p : Phrase) (y : Why)
       → IsAtom ts p → terms ps ≡ ts ++ us → IsAtomFault cores atoms xs p y
-      → IsUnitFault stop cores n atoms xs ps (fault y (left_of ps))
+      → IsUnitFault stop cores n atoms xs ps (fault y (remaining_of ps))
   one_open_too_many : (atoms : ℕ) (names : Names) (ps : List Piece)
       → IsTrue (begins_with begins_unit (terms ps))
-      → IsUnitFault stop cores zero atoms names ps (fault TooLarge (left_of ps))
+      → IsUnitFault stop cores zero atoms names ps (fault TooLarge (remaining_of ps))
   -- in the unit after `~`, `not` or `(`
   inner : (n atoms : ℕ) (names : Names) (p : Piece) (ps : List Piece) (f : Fault)
       → IsTrue (begins_unit p.term) → IsUnitFault stop cores n atoms names ps f

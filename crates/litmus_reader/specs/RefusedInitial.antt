@@ -14,7 +14,7 @@ use Rattle.litmus_reader.specs.Grammar.{terms}
 use Rattle.litmus_reader.specs.GrammarItems.{IsSetting}
 use Rattle.litmus_reader.specs.GrammarInitial.{IsInitialItem, Fits, given_value, same_place, names_in, has_core, has_cores}
 use Rattle.litmus_reader.specs.Misfits.{Misfits, ends_setting}
-use Rattle.litmus_reader.specs.Places.{fault, left_of, unfit, in_initial}
+use Rattle.litmus_reader.specs.Places.{fault, remaining_of, unfit, in_initial}
 use Rattle.litmus_reader.specs.Written.{Setting, of_location}
 
 -- items, each with its `;` after it
@@ -47,17 +47,17 @@ pub data IsItemFault (part : Part) (before : List Setting) (ps : List Piece) : F
   -- the item's `;` or `}` is there, and the item is at fault, at its first token
   judged : (ts back : List Term) (t : Term) (s : Setting) (why : Why) → IsSetting ts s
       → terms ps ≡ ts ++ t ∷ back → IsTrue (ends_setting t) → IsSettingFault before s why
-      → IsItemFault part before ps (fault why (left_of ps))
+      → IsItemFault part before ps (fault why (remaining_of ps))
 
 -- in the initial state that these tokens begin
 pub data IsInitialFault (stop : Stop) : List Piece → Fault → Type 0 where
   in_item : (o : Piece) (front ps : List Piece) (done : List Setting) (f : Fault)
       → o.term ≡ symbol OpenCurly → AreEnded (terms front) done → Fits done
-      → IsItemFault (in_initial o.left stop) done ps f → IsInitialFault stop (o ∷ front ++ ps) f
+      → IsItemFault (in_initial o.remaining stop) done ps f → IsInitialFault stop (o ∷ front ++ ps) f
 
 -- in an initial state: the first item whose core isn't one of so many
 pub data IsCoreFault (cores : ℕ) : List Piece → Fault → Type 0 where
   no_such_core : (o : Piece) (front ps : List Piece) (done : List Setting) (ts back : List Term) (s : Setting)
       → AreEnded (terms front) done → Fits done → IsTrue (has_cores cores done) → IsSetting ts s
       → terms ps ≡ ts ++ back → IsFalse (has_core cores s)
-      → IsCoreFault cores (o ∷ front ++ ps) (fault NoSuchCore (left_of ps))
+      → IsCoreFault cores (o ∷ front ++ ps) (fault NoSuchCore (remaining_of ps))

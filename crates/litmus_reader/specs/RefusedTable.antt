@@ -16,7 +16,7 @@ use Rattle.litmus_reader.specs.GrammarCells.{IsCell}
 use Rattle.litmus_reader.specs.GrammarRows.{IsField}
 use Rattle.litmus_reader.specs.GrammarTable.{AreRows, AreWithin, ValueFits, ends_rows}
 use Rattle.litmus_reader.specs.Misfits.{is_word, begins_with, ends_column}
-use Rattle.litmus_reader.specs.Places.{fault, at_stop, left_of, unfit, part_of}
+use Rattle.litmus_reader.specs.Places.{fault, at_stop, remaining_of, unfit, part_of}
 use Rattle.litmus_reader.specs.GrammarColumns.{core_name}
 use Rattle.litmus_reader.specs.Written.{Shape}
 use Rattle.litmus_reader.specs.GrammarNames.{Names}
@@ -38,7 +38,7 @@ pub data IsColumnsFault (stop : Stop) : ℕ → List Piece → Fault → Type 0 
       → this.term ≡ name (core_name core) → bar.term ≡ symbol Bar
       → IsColumnsFault stop (core + 1) ps f → IsColumnsFault stop core (this ∷ bar ∷ ps) f
   one_too_many : (this : Piece) (ps : List Piece) → this.term ≡ name (core_name most_cores)
-      → IsColumnsFault stop most_cores (this ∷ ps) (fault TooLarge this.left)
+      → IsColumnsFault stop most_cores (this ∷ ps) (fault TooLarge this.remaining)
 
 -- ---- rows
 
@@ -72,16 +72,16 @@ row_of ps = before_first (is_symbol Semicolon) ps
 pub data IsRowFault (stop : Stop) (cores : ℕ) (names : Names)
     (table : List (List (Option Shape))) (ps : List Piece) : Fault → Type 0 where
   unclosed : IsFalse (list_any (is_symbol Semicolon) ps)
-      → IsRowFault stop cores names table ps (at_stop (fault Unclosed (left_of ps)) stop)
+      → IsRowFault stop cores names table ps (at_stop (fault Unclosed (remaining_of ps)) stop)
   -- else there are not as many cells as cores
   wrong_cells : IsTrue (list_any (is_symbol Semicolon) ps) → length (cells_of (row_of ps)) ≢ cores
-      → IsRowFault stop cores names table ps (fault WrongCells (left_of ps))
+      → IsRowFault stop cores names table ps (fault WrongCells (remaining_of ps))
   -- else the first cell at fault, at its first token
   in_cell : (done after : List (List Piece)) (first : Piece) (cell : List Piece) (cs : List (Option Shape)) (why : Why)
       → IsTrue (list_any (is_symbol Semicolon) ps) → length (cells_of (row_of ps)) ≡ cores
       → cells_of (row_of ps) ≡ done ++ (first ∷ cell) ∷ after → AreSpelled done cs
       → AreWithin names (add_cells table cs) → IsCellFault names table cs (first ∷ cell) why
-      → IsRowFault stop cores names table ps (fault why first.left)
+      → IsRowFault stop cores names table ps (fault why first.remaining)
 
 -- after rows within the limits: in the next
 pub data IsRowsFault (stop : Stop) (cores : ℕ) (names : Names) : List Piece → Fault → Type 0 where

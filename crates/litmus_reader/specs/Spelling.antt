@@ -19,7 +19,7 @@ pub record SpellsTest (text : List ℕ) (t : Litmus) : Type 0 where
 pub record IsRefused (text : List ℕ) (refusal : TextFault) : Type 0 where
   pub at_fault : Fault
   pub is : IsFault text at_fault
-  pub line : refusal.line ≡ line_of text at_fault.left
+  pub line : refusal.line ≡ line_of text at_fault.remaining
   pub why : refusal.why ≡ at_fault.why
 
 -- each text spells one test or gets one refusal, and never both

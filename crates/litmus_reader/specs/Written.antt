@@ -25,7 +25,7 @@ pub data Phrase : Type 0 where
   both either : Phrase → Phrase → Phrase
 
 -- a condition as it is written
-pub record Asked : Type 0 where
+pub record WrittenCondition : Type 0 where
   pub quantifier : Quantifier
   pub phrase : Phrase
 
@@ -35,4 +35,4 @@ pub record Written : Type 0 where
   pub settings : List Setting
   pub cores : ℕ
   pub table : List (List (Option Shape))
-  pub asked : Option Asked
+  pub asked : Option WrittenCondition

@@ -7,11 +7,11 @@ pub mod Forms
 pub mod Header
 pub mod Information
 pub mod Initial
-pub mod Items
+pub mod Settings
 pub mod Keywords
 pub mod Locations
 pub mod Observed
-pub mod Operands
+pub mod Arguments
 pub mod Reading
 pub mod Remaining
 pub mod Returned

@@ -13,8 +13,8 @@ ghost use Rattle.litmus_reader.specs.RefusedTable.{cells_of};
 
 use crate::fault::{Fault, ReadError, Why};
 use crate::form::{Form, form_of};
-use crate::item::word_at;
 use crate::location::located;
+use crate::setting::word_at;
 use indexmap::IndexSet;
 use litmus_tokens::{Symbol, Token, is_symbol};
 use tso_model::Instr;
@@ -29,41 +29,41 @@ pub struct CoreInstr {
 
 /// The instruction of a form, with its location's number.
 ///
-/// `BadNumber` for a value over a word, `TooLarge` for a location too many, both at `left`.
+/// `BadNumber` for a value over a word, `TooLarge` for a location too many, both at `remaining`.
 #[tactic(auto, unfolding(crate::specs::inner::Cells::instr_of))]
 fn instr_of<'a>(
     names: &mut IndexSet<&'a [u8]>,
-    left: usize,
+    remaining: usize,
     form: Form<'a>,
 ) -> Result<Instr, ReadError>
-    ensures { GivesNamed (λ i. i) result names.new.keys (spec.instr_of left (texts names.old.keys) (shape_of form.entry)) }
+    ensures { GivesNamed (λ i. i) result names.new.keys (spec.instr_of remaining (texts names.old.keys) (shape_of form.entry)) }
 {
     match form {
         Form::StoreImm(name, digits) => {
-            let value = word_at(left, digits)?;
-            let loc = located(names, left, name)?;
+            let value = word_at(remaining, digits)?;
+            let loc = located(names, remaining, name)?;
             Ok(Instr::StoreImm(loc, value))
         }
         Form::StoreReg(name, reg) => {
-            let loc = located(names, left, name)?;
+            let loc = located(names, remaining, name)?;
             Ok(Instr::StoreReg(loc, reg))
         }
         Form::Load(reg, name) => {
-            let loc = located(names, left, name)?;
+            let loc = located(names, remaining, name)?;
             Ok(Instr::Load(reg, loc))
         }
         Form::SetImm(reg, digits) => {
-            let value = word_at(left, digits)?;
+            let value = word_at(remaining, digits)?;
             Ok(Instr::SetImm(reg, value))
         }
         Form::SetReg(reg, other) => Ok(Instr::SetReg(reg, other)),
         Form::Fence => Ok(Instr::Fence),
         Form::Xchg(name, reg) => {
-            let loc = located(names, left, name)?;
+            let loc = located(names, remaining, name)?;
             Ok(Instr::Xchg(loc, reg))
         }
         Form::Xadd(name, reg) => {
-            let loc = located(names, left, name)?;
+            let loc = located(names, remaining, name)?;
             Ok(Instr::Xadd(loc, reg))
         }
     }
@@ -90,18 +90,18 @@ pub fn read_cell<'a>(
     let Some(first) = cell.first() else {
         return Ok(());
     };
-    let left = first.left;
+    let remaining = first.remaining;
     let Some(form) = form_of(cell) else {
         return Err(ReadError::Fault(Fault {
             why: Why::BadInstruction,
-            left,
+            remaining,
         }));
     };
-    let instr = instr_of(names, left, form)?;
+    let instr = instr_of(names, remaining, form)?;
     if count_of(core, instrs) >= MAX_INSTRUCTIONS {
         return Err(ReadError::Fault(Fault {
             why: Why::TooLarge,
-            left,
+            remaining,
         }));
     }
     instrs.push(CoreInstr { core, instr })?;
@@ -109,7 +109,7 @@ pub fn read_cell<'a>(
 }
 
 /// Where the first of this symbol stands, if it is there.
-pub fn place_of(symbol: Symbol, tokens: &[Token<'_>]) -> Option<usize>
+pub fn argument_of(symbol: Symbol, tokens: &[Token<'_>]) -> Option<usize>
     ensures { result ≡ position (λ t. front.is_symbol symbol (piece_of t)) tokens.now }
 {
     tokens.iter().position(|t| is_symbol(symbol, t))
@@ -120,7 +120,7 @@ fn first_cell<'a, 'b>(row: &'b [Token<'a>]) -> (&'b [Token<'a>], Option<&'b [Tok
     ensures cells { cells_of (pieces row.now) ≡ pieces result.0.now ∷ cells_after result.1 }
     ensures shorter { IfSome result.1 (λ after. length after.now < length row.now) }
 {
-    match place_of(Symbol::Bar, row) {
+    match argument_of(Symbol::Bar, row) {
         Some(bar) => (&row[..bar], Some(&row[bar + 1..])),
         None => (row, None),
     }
@@ -135,12 +135,12 @@ pub fn read_cells<'a>(
     ensures { GivesCells spec.row_cells instrs.old.items names.old.keys row.now result instrs.new.items names.new.keys }
 {
     let mut core = 0;
-    let mut left = Some(row);
-    'cells: while let Some(cells) = left {
+    let mut remaining = Some(row);
+    'cells: while let Some(cells) = remaining {
         let (cell, after) = first_cell(cells);
         read_cell(core, instrs, names, cell)?;
         core += 1;
-        left = after;
+        remaining = after;
     }
     Ok(())
 }

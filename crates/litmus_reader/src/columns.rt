@@ -8,7 +8,7 @@ ghost use Rattle.litmus_tokens.specs.inner.Pieces.{pieces};
 ghost use Rattle.litmus_tokens.specs.inner.Mapped.{mapped};
 ghost use Rattle.litmus_reader.specs.inner.Columns as spec;
 
-use crate::fault::{Fault, Part, Why, at_stop, left_of};
+use crate::fault::{Fault, Part, Why, at_stop, remaining_of};
 use litmus_tokens::{Stop, Symbol, Token, after_symbol, name_at};
 use tso_model::limits::MAX_CORES;
 
@@ -17,7 +17,7 @@ fn in_columns(stop: Stop) -> Part
 {
     let end = Fault {
         why: Why::BadHeaderRow,
-        left: 0,
+        remaining: 0,
     };
     Part {
         why: Why::BadHeaderRow,
@@ -69,7 +69,7 @@ fn columns_from<'a, 'b>(
     if core >= MAX_CORES {
         return Err(Fault {
             why: Why::TooLarge,
-            left: left_of(tokens),
+            remaining: remaining_of(tokens),
         });
     }
     let (more, rest) = part.expect(rest, after_separator(rest))?;

@@ -9,15 +9,15 @@ ghost use Rattle.litmus_tokens.specs.inner.Pieces.{pieces};
 ghost use Rattle.litmus_reader.specs.inner.Faults.{Gives};
 ghost use Rattle.litmus_tokens.specs.inner.Mapped.{mapped};
 ghost use Rattle.litmus_reader.specs.Locations.{texts};
-ghost use Rattle.litmus_reader.specs.inner.Items.{setting_of};
+ghost use Rattle.litmus_reader.specs.inner.Settings.{setting_of};
 ghost use Rattle.litmus_reader.specs.inner.Conditions as spec;
 ghost use Rattle.litmus_reader.specs.inner.Returned.{GivesNamed, GivesClaim, GivesCondition};
 
-use crate::fault::{Fault, Part, ReadError, Why, at_stop, left_of};
-use crate::item::{Item, core_of, item_at, word_at};
+use crate::fault::{Fault, Part, ReadError, Why, at_stop, remaining_of};
 use crate::keyword::after_word;
 use crate::limits::MAX_OPEN;
 use crate::location::located;
+use crate::setting::{SpelledSetting, core_of, setting_at, word_at};
 use indexmap::IndexSet;
 use litmus_tokens::{Stop, Symbol, Token, after_symbol};
 use std::alloc::Global;
@@ -29,7 +29,7 @@ fn in_condition(stop: Stop) -> Part
 {
     let end = Fault {
         why: Why::BadCondition,
-        left: 0,
+        remaining: 0,
     };
     Part {
         why: Why::BadCondition,
@@ -39,39 +39,39 @@ fn in_condition(stop: Stop) -> Part
 
 /// The proposition of an atom.
 ///
-/// `NoSuchCore`, then `BadNumber`, then `TooLarge` for a location too many, at `left`.
+/// `NoSuchCore`, then `BadNumber`, then `TooLarge` for a location too many, at `remaining`.
 #[tactic(auto, unfolding(crate::specs::inner::Conditions::claim_in))]
 fn prop_of<'a>(
     cores: usize,
-    left: usize,
+    remaining: usize,
     names: &mut IndexSet<&'a [u8]>,
-    item: Item<'a>,
+    item: SpelledSetting<'a>,
 ) -> Result<Prop, ReadError>
     requires { cores ≤ most_cores }
-    ensures { GivesNamed (λ p. claim_of p) result names.new.keys (spec.claim_in cores left (texts names.old.keys) (setting_of item.entry)) }
+    ensures { GivesNamed (λ p. claim_of p) result names.new.keys (spec.claim_in cores remaining (texts names.old.keys) (setting_of item.entry)) }
 {
     match item {
-        Item::Register(digits, reg, value) => {
-            let core = core_of(cores, left, digits)?;
-            let value = word_at(left, value)?;
+        SpelledSetting::Register(digits, reg, value) => {
+            let core = core_of(cores, remaining, digits)?;
+            let value = word_at(remaining, value)?;
             Ok(Prop::RegIs(core, reg, value))
         }
-        Item::Location(name, value) => {
-            let value = word_at(left, value)?;
-            let loc = located(names, left, name)?;
+        SpelledSetting::Location(name, value) => {
+            let value = word_at(remaining, value)?;
+            let loc = located(names, remaining, name)?;
             Ok(Prop::LocIs(loc, value))
         }
     }
 }
 
-/// Counts one atom more; `TooLarge` at `left` for one too many.
-fn count_atom(left: usize, atoms: &mut usize) -> Result<(), Fault>
-    ensures { mapped (λ _. atoms.new) result ≡ spec.one_more left atoms.old }
+/// Counts one atom more; `TooLarge` at `remaining` for one too many.
+fn count_atom(remaining: usize, atoms: &mut usize) -> Result<(), Fault>
+    ensures { mapped (λ _. atoms.new) result ≡ spec.one_more remaining atoms.old }
 {
     if *atoms >= MAX_ATOMS {
         return Err(Fault {
             why: Why::TooLarge,
-            left,
+            remaining,
         });
     }
     *atoms += 1;
@@ -104,10 +104,10 @@ fn setting_atom<'a, 'b>(
     ensures value { GivesClaim (spec.setting_atom stop cores) atoms.old names.old.keys tokens.now result atoms.new names.new.keys }
     ensures shorter { IfOk result (λ x. length x.1.now < length tokens.now) }
 {
-    let left = left_of(tokens);
-    let (item, rest) = item_at(in_condition(stop), tokens)?;
-    let prop = prop_of(cores, left, names, item)?;
-    count_atom(left, atoms)?;
+    let remaining = remaining_of(tokens);
+    let (item, rest) = setting_at(in_condition(stop), tokens)?;
+    let prop = prop_of(cores, remaining, names, item)?;
+    count_atom(remaining, atoms)?;
     Ok((prop, rest))
 }
 
@@ -128,7 +128,7 @@ fn atom_at<'a, 'b>(
     ensures shorter { IfOk result (λ x. length x.1.now < length tokens.now) }
 {
     if let Some((truth, rest)) = truth_at(tokens) {
-        count_atom(left_of(tokens), atoms)?;
+        count_atom(remaining_of(tokens), atoms)?;
         return Ok((Prop::Truth(truth), rest));
     }
     setting_atom(stop, cores, atoms, names, tokens)
@@ -204,7 +204,7 @@ fn unit_at<'a, 'b>(
         if opens_unit(tokens) {
             return Err(ReadError::Fault(Fault {
                 why: Why::TooLarge,
-                left: left_of(tokens),
+                remaining: remaining_of(tokens),
             }));
         }
         return atom_at(around.stop, around.cores, atoms, names, tokens);

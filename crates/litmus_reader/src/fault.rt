@@ -104,7 +104,7 @@ impl Error for TextFault {}
 #[derive(Clone, Copy)]
 pub struct Fault {
     pub why: Why,
-    pub left: usize,
+    pub remaining: usize,
 }
 
 /// How a part of the text refuses a token that doesn't fit, and what it answers where there is no
@@ -123,7 +123,7 @@ impl Part {
         match tokens.first() {
             Some(first) => Fault {
                 why: self.why,
-                left: first.left,
+                remaining: first.remaining,
             },
             None => self.missing,
         }
@@ -147,23 +147,23 @@ pub fn at_stop(end: Fault, stop: Stop) -> Fault
 {
     match stop {
         Stop::End => end,
-        Stop::BadToken(left) => Fault {
+        Stop::BadToken(remaining) => Fault {
             why: Why::BadToken,
-            left,
+            remaining,
         },
-        Stop::Unclosed(left) => Fault {
+        Stop::Unclosed(remaining) => Fault {
             why: Why::Unclosed,
-            left,
+            remaining,
         },
     }
 }
 
 /// The place of the first token, or of the end.
-pub fn left_of(tokens: &[Token<'_>]) -> usize
-    ensures { result ≡ places.left_of (pieces tokens.now) }
+pub fn remaining_of(tokens: &[Token<'_>]) -> usize
+    ensures { result ≡ places.remaining_of (pieces tokens.now) }
 {
     match tokens.first() {
-        Some(first) => first.left,
+        Some(first) => first.remaining,
         None => 0,
     }
 }

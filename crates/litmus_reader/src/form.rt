@@ -5,11 +5,11 @@ ghost use Rattle.std.specs.Prelude.{◌≡◌};
 ghost use Rattle.std.specs.Option.{option_map};
 ghost use Rattle.tso_model.specs.Registers.{same_letters};
 ghost use Rattle.litmus_tokens.specs.inner.Pieces.{pieces};
-ghost use Rattle.litmus_reader.specs.inner.Operands.{place_of};
+ghost use Rattle.litmus_reader.specs.inner.Arguments.{argument_of};
 ghost use Rattle.litmus_reader.specs.inner.Forms as spec;
 ghost use Rattle.litmus_reader.specs.inner.Forms.{shape_of};
 
-use crate::operand::{Operand, two_operands};
+use crate::argument::{Argument, two_arguments};
 use litmus_tokens::{Token, name_at};
 use tso_model::Reg;
 
@@ -32,34 +32,34 @@ fn is_word(name: &[u8], word: &[u8]) -> bool
     name.eq_ignore_ascii_case(word)
 }
 
-fn mov_of<'a>(first: Operand<'a>, second: Operand<'a>) -> Option<Form<'a>>
-    ensures { option_map shape_of result ≡ spec.mov_of (place_of first.entry, place_of second.entry) }
+fn mov_of<'a>(first: Argument<'a>, second: Argument<'a>) -> Option<Form<'a>>
+    ensures { option_map shape_of result ≡ spec.mov_of (argument_of first.entry, argument_of second.entry) }
 {
     match (first, second) {
-        (Operand::Location(name), Operand::Number(digits)) => Some(Form::StoreImm(name, digits)),
-        (Operand::Location(name), Operand::Register(reg)) => Some(Form::StoreReg(name, reg)),
-        (Operand::Register(reg), Operand::Location(name)) => Some(Form::Load(reg, name)),
-        (Operand::Register(reg), Operand::Number(digits)) => Some(Form::SetImm(reg, digits)),
-        (Operand::Register(reg), Operand::Register(other)) => Some(Form::SetReg(reg, other)),
+        (Argument::Location(name), Argument::Number(digits)) => Some(Form::StoreImm(name, digits)),
+        (Argument::Location(name), Argument::Register(reg)) => Some(Form::StoreReg(name, reg)),
+        (Argument::Register(reg), Argument::Location(name)) => Some(Form::Load(reg, name)),
+        (Argument::Register(reg), Argument::Number(digits)) => Some(Form::SetImm(reg, digits)),
+        (Argument::Register(reg), Argument::Register(other)) => Some(Form::SetReg(reg, other)),
         _ => None,
     }
 }
 
-fn xchg_of<'a>(first: Operand<'a>, second: Operand<'a>) -> Option<Form<'a>>
-    ensures { option_map shape_of result ≡ spec.xchg_of (place_of first.entry, place_of second.entry) }
+fn xchg_of<'a>(first: Argument<'a>, second: Argument<'a>) -> Option<Form<'a>>
+    ensures { option_map shape_of result ≡ spec.xchg_of (argument_of first.entry, argument_of second.entry) }
 {
     match (first, second) {
-        (Operand::Location(name), Operand::Register(reg)) => Some(Form::Xchg(name, reg)),
-        (Operand::Register(reg), Operand::Location(name)) => Some(Form::Xchg(name, reg)),
+        (Argument::Location(name), Argument::Register(reg)) => Some(Form::Xchg(name, reg)),
+        (Argument::Register(reg), Argument::Location(name)) => Some(Form::Xchg(name, reg)),
         _ => None,
     }
 }
 
-fn xadd_of<'a>(first: Operand<'a>, second: Operand<'a>) -> Option<Form<'a>>
-    ensures { option_map shape_of result ≡ spec.xadd_of (place_of first.entry, place_of second.entry) }
+fn xadd_of<'a>(first: Argument<'a>, second: Argument<'a>) -> Option<Form<'a>>
+    ensures { option_map shape_of result ≡ spec.xadd_of (argument_of first.entry, argument_of second.entry) }
 {
     match (first, second) {
-        (Operand::Location(name), Operand::Register(reg)) => Some(Form::Xadd(name, reg)),
+        (Argument::Location(name), Argument::Register(reg)) => Some(Form::Xadd(name, reg)),
         _ => None,
     }
 }
@@ -71,11 +71,11 @@ fn locked_form<'a>(tokens: &[Token<'a>]) -> Option<Form<'a>>
 {
     let (word, rest) = name_at(tokens)?;
     if is_word(word, b"XCHG") {
-        let (first, second) = two_operands(rest)?;
+        let (first, second) = two_arguments(rest)?;
         return xchg_of(first, second);
     }
     if is_word(word, b"XADD") {
-        let (first, second) = two_operands(rest)?;
+        let (first, second) = two_arguments(rest)?;
         return xadd_of(first, second);
     }
     None
@@ -88,7 +88,7 @@ pub fn form_of<'a>(cell: &[Token<'a>]) -> Option<Form<'a>>
 {
     let (word, rest) = name_at(cell)?;
     if is_word(word, b"MOV") {
-        let (first, second) = two_operands(rest)?;
+        let (first, second) = two_arguments(rest)?;
         return mov_of(first, second);
     }
     if is_word(word, b"MFENCE") {
@@ -99,7 +99,7 @@ pub fn form_of<'a>(cell: &[Token<'a>]) -> Option<Form<'a>>
         };
     }
     if is_word(word, b"XCHG") {
-        let (first, second) = two_operands(rest)?;
+        let (first, second) = two_arguments(rest)?;
         return xchg_of(first, second);
     }
     if is_word(word, b"LOCK") {

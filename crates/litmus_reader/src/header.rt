@@ -23,7 +23,7 @@ pub fn sized(text: &[u8]) -> Result<&[u8], Fault>
     if text.len() > MAX_TEXT {
         return Err(Fault {
             why: Why::TooLarge,
-            left: text.len(),
+            remaining: text.len(),
         });
     }
     Ok(text)
@@ -39,7 +39,7 @@ pub fn past_gap(bytes: &[u8]) -> Result<&[u8], Fault>
         Err(stop) => Err(at_stop(
             Fault {
                 why: Why::Unclosed,
-                left: 0,
+                remaining: 0,
             },
             stop,
         )),
@@ -143,13 +143,13 @@ fn is_long_name(name: &[u8]) -> bool
 }
 
 #[tactic(auto, unfolding(crate::specs::inner::Header::judged))]
-fn judged<'a>(left: usize, name: Option<&'a [u8]>) -> Result<&'a [u8], Fault>
-    ensures { mapped (λ x. x.now) result ≡ header.judged left (option_map (λ x. x.now) name.entry) }
+fn judged<'a>(remaining: usize, name: Option<&'a [u8]>) -> Result<&'a [u8], Fault>
+    ensures { mapped (λ x. x.now) result ≡ header.judged remaining (option_map (λ x. x.now) name.entry) }
 {
     let Some(name) = name else {
         return Err(Fault {
             why: Why::NoHeader,
-            left,
+            remaining,
         });
     };
     if is_test_name(name) {
@@ -157,12 +157,12 @@ fn judged<'a>(left: usize, name: Option<&'a [u8]>) -> Result<&'a [u8], Fault>
     } else if is_long_name(name) {
         Err(Fault {
             why: Why::TooLarge,
-            left,
+            remaining,
         })
     } else {
         Err(Fault {
             why: Why::NoHeader,
-            left,
+            remaining,
         })
     }
 }

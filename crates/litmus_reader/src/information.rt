@@ -54,7 +54,7 @@ fn after_key_line(bytes: &[u8]) -> Result<&[u8], Fault>
         }
         _ => Err(Fault {
             why: Why::BadToken,
-            left: bytes.len(),
+            remaining: bytes.len(),
         }),
     }
 }
@@ -68,11 +68,11 @@ fn after_information(bytes: &[u8]) -> Result<&[u8], Fault>
     ensures value { mapped (λ x. x.now) result ≡ spec.information_end bytes.now }
     ensures shorter { IfOk result (λ x. length x.now < length bytes.now) }
 {
-    let left = bytes.len();
+    let remaining = bytes.len();
     let Some((first, inside)) = bytes.split_first() else {
         return Err(Fault {
             why: Why::Unclosed,
-            left: 0,
+            remaining: 0,
         });
     };
     if *first == b'"' {
@@ -80,7 +80,7 @@ fn after_information(bytes: &[u8]) -> Result<&[u8], Fault>
             Some(rest) => Ok(rest),
             None => Err(Fault {
                 why: Why::Unclosed,
-                left,
+                remaining,
             }),
         };
     }
@@ -89,7 +89,7 @@ fn after_information(bytes: &[u8]) -> Result<&[u8], Fault>
     }
     Err(Fault {
         why: Why::BadToken,
-        left,
+        remaining,
     })
 }
 

@@ -8,15 +8,15 @@ ghost use Rattle.tso_model.specs.Limits.{most_cores};
 ghost use Rattle.litmus_reader.specs.inner.Faults.{Gives};
 ghost use Rattle.litmus_tokens.specs.inner.Mapped.{mapped};
 ghost use Rattle.litmus_reader.specs.Locations.{texts};
-ghost use Rattle.litmus_reader.specs.inner.Items.{setting_of};
+ghost use Rattle.litmus_reader.specs.inner.Settings.{setting_of};
 ghost use Rattle.litmus_reader.specs.inner.Initial as spec;
 ghost use Rattle.litmus_reader.specs.inner.Initial.{given_of, KnowsGiven};
 ghost use Rattle.litmus_reader.specs.inner.Returned.{GivesJudged, GivesItem, GivesInitial, so_far};
 ghost use Rattle.litmus_reader.specs.Places as places;
 
-use crate::fault::{Fault, Part, ReadError, Why, at_stop, left_of};
-use crate::item::{Item, core_of, item_at, word_at};
+use crate::fault::{Fault, Part, ReadError, Why, at_stop, remaining_of};
 use crate::location::located;
+use crate::setting::{SpelledSetting, core_of, setting_at, word_at};
 use indexmap::IndexSet;
 use litmus_tokens::{Stop, Symbol, Token, after_symbol, is_symbol};
 use std::alloc::Global;
@@ -26,7 +26,7 @@ use tso_model::{NoMemory, Reg};
 /// be one that the test hasn't.
 #[derive(Clone, Copy)]
 pub struct RegisterWord<'a> {
-    pub left: usize,
+    pub remaining: usize,
     pub core: &'a [u8],
     pub reg: Reg,
     pub value: u32,
@@ -51,22 +51,22 @@ fn before_initial(stop: Stop) -> Part
         missing: at_stop(
             Fault {
                 why: Why::Unclosed,
-                left: 0,
+                remaining: 0,
             },
             stop,
         ),
     }
 }
 
-fn in_initial(left: usize, stop: Stop) -> Part
-    ensures { result ≡ places.in_initial left stop }
+fn in_initial(remaining: usize, stop: Stop) -> Part
+    ensures { result ≡ places.in_initial remaining stop }
 {
     Part {
         why: Why::BadInit,
         missing: at_stop(
             Fault {
                 why: Why::Unclosed,
-                left,
+                remaining,
             },
             stop,
         ),
@@ -94,41 +94,41 @@ fn note_register<'a>(state: &mut Initial<'a>, word: RegisterWord<'a>) -> Result<
     Ok(())
 }
 
-/// Notes an item whose first token stands at `left`.
+/// Notes an item whose first token stands at `remaining`.
 ///
-/// `BadNumber`, then `TooLarge` for a location too many, then `TwiceInit`, all at `left`.
+/// `BadNumber`, then `TooLarge` for a location too many, then `TwiceInit`, all at `remaining`.
 #[tactic(auto, using(crate::proofs::Listed::judged_twice, crate::proofs::Listed::judged_new), unfolding(crate::specs::inner::Initial::judged))]
 fn note_item<'a>(
-    left: usize,
+    remaining: usize,
     state: &mut Initial<'a>,
     names: &mut IndexSet<&'a [u8]>,
-    item: Item<'a>,
+    item: SpelledSetting<'a>,
 ) -> Result<(), ReadError>
     requires { KnowsGiven state.old }
     ensures knows { OnOk result (KnowsGiven state.new) }
-    ensures value { GivesJudged left (setting_of item.entry) names.old.keys state.old result names.new.keys state.new }
+    ensures value { GivesJudged remaining (setting_of item.entry) names.old.keys state.old result names.new.keys state.new }
 {
     let twice = Fault {
         why: Why::TwiceInit,
-        left,
+        remaining,
     };
     match item {
-        Item::Register(core, reg, digits) => {
-            let value = word_at(left, digits)?;
+        SpelledSetting::Register(core, reg, digits) => {
+            let value = word_at(remaining, digits)?;
             if is_given(state, core, reg) {
                 return Err(ReadError::Fault(twice));
             }
             let word = RegisterWord {
-                left,
+                remaining,
                 core,
                 reg,
                 value,
             };
             note_register(state, word)?;
         }
-        Item::Location(name, digits) => {
-            let value = word_at(left, digits)?;
-            let loc = located(names, left, name)?;
+        SpelledSetting::Location(name, digits) => {
+            let value = word_at(remaining, digits)?;
+            let loc = located(names, remaining, name)?;
             if (loc.0 as usize) < state.words.len() {
                 return Err(ReadError::Fault(twice));
             }
@@ -163,11 +163,11 @@ fn read_item<'a, 'b>(
     ensures value { GivesItem result names.new.keys state.new (spec.item_in part (so_far names.old.keys state.old) (pieces tokens.now)) }
     ensures shorter { IfOk result (λ rest. length rest.now < length tokens.now) }
 {
-    let (item, rest) = item_at(part, tokens)?;
+    let (item, rest) = setting_at(part, tokens)?;
     if !ends_item(rest) {
         return Err(ReadError::Fault(part.unfit(rest)));
     }
-    note_item(left_of(tokens), state, names, item)?;
+    note_item(remaining_of(tokens), state, names, item)?;
     Ok(rest)
 }
 
@@ -211,7 +211,7 @@ pub fn read_initial<'a, 'b>(
 ) -> Result<(Initial<'a>, &'b [Token<'a>]), ReadError>
     ensures { GivesInitial result names.new.keys (spec.initial_at stop (texts names.old.keys) (pieces tokens.now)) }
 {
-    let part = in_initial(left_of(tokens), stop);
+    let part = in_initial(remaining_of(tokens), stop);
     let mut rest = after_opening(stop, tokens)?;
     let mut state = Initial {
         words: Vec::new(alloc),
@@ -245,7 +245,7 @@ pub fn registers_of(
 {
     let mut registers = no_registers(alloc, cores)?;
     for word in given {
-        let core = core_of(cores, word.left, word.core)?;
+        let core = core_of(cores, word.remaining, word.core)?;
         registers[core.0 as usize][word.reg.index()] = word.value;
     }
     Ok(registers)

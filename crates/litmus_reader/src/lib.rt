@@ -6,6 +6,8 @@
 //! it found and the tokens after it, or the first fault.
 #![tactic(auto)]
 
+mod argument;
+mod assembling;
 mod cell;
 mod columns;
 mod condition;
@@ -14,16 +16,14 @@ mod form;
 mod header;
 mod information;
 mod initial;
-mod item;
 mod keyword;
 pub mod laws;
 mod limits;
 mod location;
 mod observed;
-mod operand;
 mod reader;
 mod row;
-mod test_parts;
+mod setting;
 
 pub use fault::{Fault, ReadError, TextFault, Why};
 pub use header::header_at;

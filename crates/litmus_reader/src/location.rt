@@ -32,20 +32,20 @@ fn note<'a>(names: &mut IndexSet<&'a [u8]>, name: &'a [u8]) -> Result<(), NoMemo
 
 /// The location of a name, which is put after the other names where it is new.
 ///
-/// `TooLarge` at `left` for one location too many.
+/// `TooLarge` at `remaining` for one location too many.
 #[tactic(auto, unfolding(crate::specs::inner::Locations::located))]
 pub fn located<'a>(
     names: &mut IndexSet<&'a [u8]>,
-    left: usize,
+    remaining: usize,
     name: &'a [u8],
 ) -> Result<Loc, ReadError>
-    ensures { Gives (λ loc. (loc, texts names.new.keys)) result (spec.located left (texts names.old.keys) name.now) }
+    ensures { Gives (λ loc. (loc, texts names.new.keys)) result (spec.located remaining (texts names.old.keys) name.now) }
 {
     let number = number_of(names, name);
     if number >= MAX_LOCATIONS {
         return Err(ReadError::Fault(Fault {
             why: Why::TooLarge,
-            left,
+            remaining,
         }));
     }
     note(names, name)?;

@@ -6,12 +6,12 @@ ghost use Rattle.std.specs.Option.{option_map};
 ghost use Rattle.litmus_tokens.specs.inner.Pieces.{pieces};
 ghost use Rattle.litmus_tokens.specs.inner.Mapped.{mapped};
 ghost use Rattle.litmus_reader.specs.inner.Observed as spec;
-ghost use Rattle.litmus_reader.specs.inner.Remaining as remaining;
+ghost use Rattle.litmus_reader.specs.inner.Remaining as brackets;
 ghost use Rattle.litmus_reader.specs.inner.Remaining.{HasTokens, tokens_in};
 ghost use Rattle.litmus_reader.specs.Places as places;
 
-use crate::cell::place_of;
-use crate::fault::{Fault, Part, Why, at_stop, left_of};
+use crate::cell::argument_of;
+use crate::fault::{Fault, Part, Why, at_stop, remaining_of};
 use crate::header::past_gap;
 use crate::keyword::after_word;
 use litmus_tokens::{Stop, Symbol, Token, after_symbol};
@@ -30,7 +30,7 @@ fn in_observed(stop: Stop) -> Part
 {
     let end = Fault {
         why: Why::BadToken,
-        left: 0,
+        remaining: 0,
     };
     Part {
         why: Why::BadToken,
@@ -38,10 +38,10 @@ fn in_observed(stop: Stop) -> Part
     }
 }
 
-/// What stands after the next `]`, comments passed over; without it, `Unclosed` at `left`.
+/// What stands after the next `]`, comments passed over; without it, `Unclosed` at `remaining`.
 #[tactic(auto, using(crate::proofs::Squares::square_start, crate::proofs::Squares::square_further))]
-fn after_square(left: usize, bytes: &[u8]) -> Result<&[u8], Fault>
-    ensures { mapped (λ x. x.now) result ≡ spec.square_end left bytes.now }
+fn after_square(remaining: usize, bytes: &[u8]) -> Result<&[u8], Fault>
+    ensures { mapped (λ x. x.now) result ≡ spec.square_end remaining bytes.now }
 {
     let mut rest = bytes;
     loop {
@@ -49,7 +49,7 @@ fn after_square(left: usize, bytes: &[u8]) -> Result<&[u8], Fault>
         let Some((first, after)) = at.split_first() else {
             return Err(Fault {
                 why: Why::Unclosed,
-                left,
+                remaining,
             });
         };
         if *first == b']' {
@@ -59,34 +59,34 @@ fn after_square(left: usize, bytes: &[u8]) -> Result<&[u8], Fault>
     }
 }
 
-fn from_place(text: &[u8], left: usize) -> &[u8]
-    ensures { result.now ≡ places.from_place text.now left }
+fn from_place(text: &[u8], remaining: usize) -> &[u8]
+    ensures { result.now ≡ places.from_place text.now remaining }
 {
-    let (_, rest) = text.split_at(text.len().saturating_sub(left));
+    let (_, rest) = text.split_at(text.len().saturating_sub(remaining));
     rest
 }
 
 /// The tokens after the next `]`.
 #[tactic(auto, using(crate::proofs::Closings::closing_there, crate::proofs::Closings::closing_missing))]
 fn after_closing<'a, 'b>(tokens: &'b [Token<'a>]) -> Option<&'b [Token<'a>]>
-    ensures { option_map (λ x. pieces x.now) result ≡ remaining.after_closing (pieces tokens.now) }
+    ensures { option_map (λ x. pieces x.now) result ≡ brackets.after_closing (pieces tokens.now) }
 {
-    match place_of(Symbol::CloseSquare, tokens) {
+    match argument_of(Symbol::CloseSquare, tokens) {
         Some(end) => Some(&tokens[end + 1..]),
         None => None,
     }
 }
 
 /// What stands after the `]` of brackets in which the tokens stop.
-fn past_stop(text: &[u8], left: usize, stop: Stop) -> Result<&[u8], Fault>
-    ensures { mapped (λ x. x.now) result ≡ remaining.past_stop text.now left stop }
+fn past_stop(text: &[u8], remaining: usize, stop: Stop) -> Result<&[u8], Fault>
+    ensures { mapped (λ x. x.now) result ≡ brackets.past_stop text.now remaining stop }
 {
     match stop {
-        Stop::BadToken(place) => after_square(left, from_place(text, place)),
+        Stop::BadToken(place) => after_square(remaining, from_place(text, place)),
         _ => {
             let unclosed = Fault {
                 why: Why::Unclosed,
-                left,
+                remaining,
             };
             Err(at_stop(unclosed, stop))
         }
@@ -114,7 +114,7 @@ fn after_brackets<'a, 'b>(
     if let Some(rest) = after_closing(inside) {
         return Ok(Remaining::Tokens(rest));
     }
-    let bytes = past_stop(text, left_of(tokens), stop)?;
+    let bytes = past_stop(text, remaining_of(tokens), stop)?;
     Ok(Remaining::Bytes(bytes))
 }
 

@@ -21,6 +21,7 @@ ghost use Rattle.litmus_reader.specs.inner.Remaining.{HasTokens};
 ghost use Rattle.litmus_reader.specs.inner.Returned.{GivesEnding, IsUnlessMemory};
 ghost use Rattle.litmus_reader.specs.Spelling.{SpellsTest, IsRefused};
 
+use crate::assembling::parts_of;
 use crate::condition::condition_at;
 use crate::fault::{Fault, ReadError, TextFault, Why};
 use crate::header::{header_at, sized};
@@ -29,7 +30,6 @@ use crate::initial::read_initial;
 use crate::laws::{texts_are_read_as_they_are_spelled, texts_are_refused_as_they_are_read};
 use crate::observed::{Remaining, after_observed};
 use crate::row::read_table;
-use crate::test_parts::parts_of;
 use indexmap::IndexSet;
 use litmus_tokens::{Stop, Token, line_of, tokens_of};
 use std::alloc::Global;
@@ -43,18 +43,18 @@ fn end_at(stop: Stop, tokens: &[Token<'_>]) -> Result<(), Fault>
     if let Some(first) = tokens.first() {
         return Err(Fault {
             why: Why::Trailing,
-            left: first.left,
+            remaining: first.remaining,
         });
     }
     match stop {
         Stop::End => Ok(()),
-        Stop::BadToken(left) => Err(Fault {
+        Stop::BadToken(remaining) => Err(Fault {
             why: Why::BadToken,
-            left,
+            remaining,
         }),
-        Stop::Unclosed(left) => Err(Fault {
+        Stop::Unclosed(remaining) => Err(Fault {
             why: Why::Unclosed,
-            left,
+            remaining,
         }),
     }
 }
@@ -207,7 +207,7 @@ pub fn refusal_for(text: &[u8], fault: Fault) -> TextFault
 {
     let line = match fault.why {
         Why::NoMemory => 0,
-        _ => line_of(text, fault.left),
+        _ => line_of(text, fault.remaining),
     };
     TextFault {
         line,

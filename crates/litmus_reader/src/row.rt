@@ -10,13 +10,13 @@ ghost use Rattle.litmus_reader.specs.Locations.{texts};
 ghost use Rattle.litmus_reader.specs.inner.Initial.{given_of};
 ghost use Rattle.litmus_reader.specs.inner.Rows as spec;
 ghost use Rattle.litmus_reader.specs.inner.Returned.{GivesCells, GivesTable};
-ghost use Rattle.litmus_reader.specs.Places.{left_of};
+ghost use Rattle.litmus_reader.specs.Places.{remaining_of};
 ghost use Rattle.litmus_reader.specs.RefusedTable as refused;
 ghost use Rattle.litmus_reader.specs.GrammarTable as grammar;
 
-use crate::cell::{CoreInstr, place_of, read_cells};
+use crate::cell::{CoreInstr, argument_of, read_cells};
 use crate::columns::columns_at;
-use crate::fault::{Fault, ReadError, Why, at_stop, left_of};
+use crate::fault::{Fault, ReadError, Why, at_stop, remaining_of};
 use crate::initial::{RegisterWord, registers_of};
 use indexmap::IndexSet;
 use litmus_tokens::{Lexeme, Stop, Symbol, Token, is_symbol};
@@ -31,12 +31,12 @@ fn row_at<'a, 'b>(
     ensures value { mapped (λ x. (pieces x.0.now, pieces x.1.now)) result ≡ spec.row_at stop (pieces tokens.now) }
     ensures shorter { IfOk result (λ x. length x.1.now < length tokens.now) }
 {
-    match place_of(Symbol::Semicolon, tokens) {
+    match argument_of(Symbol::Semicolon, tokens) {
         Some(end) => Ok((&tokens[..end], &tokens[end + 1..])),
         None => Err(at_stop(
             Fault {
                 why: Why::Unclosed,
-                left: left_of(tokens),
+                remaining: remaining_of(tokens),
             },
             stop,
         )),
@@ -51,23 +51,23 @@ fn cell_count(row: &[Token<'_>]) -> usize
     row.iter().filter(|t| is_symbol(Symbol::Bar, t)).count() + 1
 }
 
-/// Reads a row whose first token stands at `left`.
+/// Reads a row whose first token stands at `remaining`.
 ///
-/// `WrongCells` at `left` where it hasn't a cell for each core, and then what its cells refuse.
+/// `WrongCells` at `remaining` where it hasn't a cell for each core, and then what its cells refuse.
 #[tactic(auto, unfolding(crate::specs::inner::Rows::row_in))]
 fn read_row<'a>(
     cores: usize,
-    left: usize,
+    remaining: usize,
     instrs: &mut Vec<CoreInstr>,
     names: &mut IndexSet<&'a [u8]>,
     row: &[Token<'a>],
 ) -> Result<(), ReadError>
-    ensures { GivesCells (spec.row_in cores left) instrs.old.items names.old.keys row.now result instrs.new.items names.new.keys }
+    ensures { GivesCells (spec.row_in cores remaining) instrs.old.items names.old.keys row.now result instrs.new.items names.new.keys }
 {
     if cell_count(row) != cores {
         return Err(ReadError::Fault(Fault {
             why: Why::WrongCells,
-            left,
+            remaining,
         }));
     }
     read_cells(instrs, names, row)
@@ -126,9 +126,9 @@ pub fn read_table<'a, 'b>(
     let registers = registers_of(alloc, cores, given)?;
     let mut instrs = Vec::new(alloc);
     'rows: while !ends_rows(rest) {
-        let left = left_of(rest);
+        let remaining = remaining_of(rest);
         let (row, after) = row_at(stop, rest)?;
-        read_row(cores, left, &mut instrs, names, row)?;
+        read_row(cores, remaining, &mut instrs, names, row)?;
         rest = after;
     }
     let table = Table {

@@ -3,4 +3,4 @@ use Rattle.std.specs.Prelude.{ℕ, ◌+◌, ◌-◌, List, length, take, count_b
 
 -- The line of the place from which so many bytes of the text stand: 1, and the number of LF bytes before it.
 abbrev pub line_of : List ℕ → ℕ → ℕ
-line_of text left = 1 + count_by (λ b. b == 10) (take (length text - left) text)
+line_of text remaining = 1 + count_by (λ b. b == 10) (take (length text - remaining) text)

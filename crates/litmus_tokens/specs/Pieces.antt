@@ -8,7 +8,7 @@ use Rattle.litmus_tokens.specs.Terms.{Term, term_at}
 
 -- a token, and how many bytes of the text stand from its first byte on
 pub record Piece : Type 0 where
-  pub left : ℕ
+  pub remaining : ℕ
   pub term : Term
 
 infixl 10 ◌>>=◌
@@ -21,7 +21,7 @@ unfoldable pub piece_at : List ℕ → Result (Piece × List ℕ) Stop
 piece_at bytes = do
   rest ← gap_end None bytes
   found ← term_at rest
-  Ok (record { left = length rest; term = found.0 }, found.1)
+  Ok (record { remaining = length rest; term = found.0 }, found.1)
 
 abbrev pub onto : Piece → List Piece × Stop → List Piece × Stop
 onto p more = (p ∷ more.0, more.1)

@@ -68,11 +68,11 @@ number_term run = Ok (number (without_zeros run.0), run.1)
 
 -- a name is no longer than a location's may be
 abbrev pub name_term : ℕ → List ℕ × List ℕ → Result (Term × List ℕ) Stop
-name_term left run = if nat_lt longest_name (length run.0) then Err (BadToken left) else Ok (name run.0, run.1)
+name_term remaining run = if nat_lt longest_name (length run.0) then Err (BadToken remaining) else Ok (name run.0, run.1)
 
 abbrev pub symbol_or_bad : ℕ → Option (Symbol × List ℕ) → Result (Term × List ℕ) Stop
-symbol_or_bad left (Some found) = Ok (symbol found.0, found.1)
-symbol_or_bad left None = Err (BadToken left)
+symbol_or_bad remaining (Some found) = Ok (symbol found.0, found.1)
+symbol_or_bad remaining None = Err (BadToken remaining)
 
 -- the token at the very front of some bytes, and what stands after it
 unfoldable pub term_at : List ℕ → Result (Term × List ℕ) Stop

@@ -149,8 +149,8 @@ fn token_at(bytes: &[u8]) -> Result<(Token<'_>, &[u8]), Stop>
 {
     let rest = after_gap(bytes)?;
     let (lexeme, after) = lexeme_at(rest)?;
-    let left = rest.len();
-    Ok((Token { left, lexeme }, after))
+    let remaining = rest.len();
+    Ok((Token { remaining, lexeme }, after))
 }
 
 /// The tokens of a text, or of its end from some place on, and why there are no more.

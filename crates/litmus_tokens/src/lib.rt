@@ -7,11 +7,9 @@
 mod front;
 mod gap;
 mod lexing;
-mod line;
 mod token;
 
 pub use front::{after_symbol, is_symbol, name_at, number_at};
 pub use gap::after_gap;
 pub use lexing::{limits_are_as_defined, tokens_of, word};
-pub use line::line_of;
-pub use token::{Lexeme, Stop, Symbol, Token, Tokens};
+pub use token::{Lexeme, Stop, Symbol, Token, Tokens, line_of};

@@ -1,5 +1,8 @@
-//! Tokens, and where a list of them stops. Each has its place, the bytes of the text from there on; by it a refusal finds
-//! its line.
+//! Tokens, and where a list of them stops. Each has its place, the bytes of the text from there on; by it a refusal
+//! finds its line, which is counted once.
+
+ghost use Rattle.std.specs.Prelude.{◌≡◌};
+ghost use Rattle.litmus_tokens.specs.Line as line;
 
 /// A symbol of the test texts.
 #[derive(Clone, Copy, PartialEq, Eq)]
@@ -50,7 +53,7 @@ pub enum Lexeme<'a> {
 /// A token, and how many bytes of the text stand from its first byte on.
 #[derive(Clone, Copy)]
 pub struct Token<'a> {
-    pub left: usize,
+    pub remaining: usize,
     pub lexeme: Lexeme<'a>,
 }
 
@@ -71,4 +74,13 @@ pub enum Stop {
 pub struct Tokens<'a> {
     pub items: Vec<Token<'a>>,
     pub stop: Stop,
+}
+
+/// The line of the place from which so many bytes of the text stand, from 1. The end of the text is
+/// a place too, and so no bytes are left there.
+pub fn line_of(text: &[u8], remaining: usize) -> usize
+    ensures { result ≡ line.line_of text.now remaining }
+{
+    let (before, _) = text.split_at(text.len().saturating_sub(remaining));
+    1 + before.iter().filter(|b| **b == b'\n').count()
 }

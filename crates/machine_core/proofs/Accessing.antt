@@ -3,7 +3,7 @@ use Rattle.std.proofs.Common.{◌≡◌, ◌≢◌, ℕ, zero, suc, List, [], �
 use Rattle.tso_model.specs.Litmus.{Litmus}
 use Rattle.tso_model.specs.Actions.{action_of}
 use Rattle.tso_model.specs.FlatMachine.{CoreState, State, Effect, stored, effect_by, step_of, effect_of, core_of, program_of}
-use Rattle.tso_model.specs.Access.{NoAccess, store_access, locked_access, access_by, step_access, drain_access, access_of}
+use Rattle.tso_model.specs.MemoryAccess.{NoAccess, store_access, locked_access, access_by, step_access, drain_access, access_of}
 use Rattle.tso_model.specs.declared.register.Reg.{Reg}
 use Rattle.tso_model.specs.declared.instruction.Loc.{Loc}
 use Rattle.tso_model.specs.declared.instruction.Instr.{Instr}

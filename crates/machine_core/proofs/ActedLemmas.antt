@@ -1,6 +1,6 @@
 -- What an action of one core does, from what the calls in it say.
 use Rattle.std.proofs.Common.{◌≡◌, ◌++◌, ℕ, List, [], ◌∷◌, map, drop, Some, slice_get, append-nil, refl, sym, ap, ◌∙◌, subst}
-use Rattle.tso_model.specs.Access.{Access, NoAccess, Writes, drain_access}
+use Rattle.tso_model.specs.MemoryAccess.{MemoryAccess, NoAccess, Writes, drain_access}
 use Rattle.tso_model.specs.declared.instruction.Core.{Core}
 use Rattle.tso_model.specs.FlatMachine.{CoreState, Effect, stalled, memory_after}
 use Rattle.tso_model.specs.declared.choice.Stall.{Stall}
@@ -9,33 +9,33 @@ use Rattle.tso_model.specs.declared.choice.Outcome.TheVariants.{Committed, Stall
 use Rattle.store_buffer.specs.declared.Pending.{Pending}
 use Rattle.store_buffer.specs.Stores.{Stores}
 use Rattle.order_builder.specs.inner.Noted.{Noted}
-use Rattle.snoop_bus.specs.Bus.{Bus, words_of}
+use Rattle.snoop_bus.specs.Bus.{BusModel, words_of}
 use Rattle.machine_core.specs.declared.processor.Processor.{Processor}
-use Rattle.machine_core.specs.declared.cache_use.CacheUse.TheVariants.{Unused, Through}
+use Rattle.machine_core.specs.declared.accesses.CacheUse.TheVariants.{Unused, Through}
 use Rattle.machine_core.specs.declared.turn.Way.{Way}
 use Rattle.machine_core.specs.declared.turn.Way.TheVariants.{Whole, Asked}
 use Rattle.machine_core.specs.declared.turn.Turn.{Turn}
 use Rattle.machine_core.specs.Cores.{store_of, core_state}
 use Rattle.machine_core.specs.inner.Cores.{pending_in, drain_by}
 use Rattle.machine_core.specs.Caches.{write_by}
-use Rattle.machine_core.specs.inner.Performed.{MayMakeBy, MayMake}
+use Rattle.machine_core.specs.inner.Effects.{MayMakeBy, MayMake}
 use Rattle.machine_core.specs.inner.Turns.{HasAsked}
-use Rattle.machine_core.specs.inner.Acted.{HasActed, Waits, IsMade, IsStored}
+use Rattle.machine_core.specs.inner.OneCore.{HasActed, Waits, IsMade, IsStored}
 use Rattle.machine_core.proofs.Acting.{writes-oldest}
 use Rattle.machine_core.proofs.CacheUses.{rests}
 use Rattle.basic_laws.proofs.WithPending.{drain_with}
 use Rattle.snoop_bus.specs.declared.access.Access as bus_access
 
 -- only a load and a store are ever completed
-whole-by : (way : Way) (b : Bus) (core : Core) (what : Access) → (HasAsked b core what → ⊥) → MayMakeBy way b core what → way ≡ Whole
+whole-by : (way : Way) (b : BusModel) (core : Core) (what : MemoryAccess) → (HasAsked b core what → ⊥) → MayMakeBy way b core what → way ≡ Whole
 whole-by Whole b core what never may = refl
 whole-by Asked b core what never may = absurd (never may)
 
-pub whole-none : (turn : Turn) (b : Bus) (what : Access) → what ≡ NoAccess → MayMake turn b what → turn.way ≡ Whole
+pub whole-none : (turn : Turn) (b : BusModel) (what : MemoryAccess) → what ≡ NoAccess → MayMake turn b what → turn.way ≡ Whole
 whole-none turn b what none may = whole-by turn.way b turn.core what (λ asked. subst (HasAsked b turn.core) none asked) may
 
 -- what waits in its core
-pub acts-waits : (way : Way) (what : Access) (core : ℕ) (p q : Processor) (b : Bus) (noted : Noted) (f : Effect) (answer : Outcome) → way ≡ Whole → Waits core q f answer
+pub acts-waits : (way : Way) (what : MemoryAccess) (core : ℕ) (p q : Processor) (b : BusModel) (noted : Noted) (f : Effect) (answer : Outcome) → way ≡ Whole → Waits core q f answer
     → HasActed way what core p q b b noted noted f (answer, Unused)
 acts-waits way what core p q b noted f answer whole waits =
     subst (λ w. HasActed w what core p q b b noted noted f (answer, Unused)) (sym whole) (record {
@@ -47,7 +47,7 @@ acts-waits way what core p q b noted f answer whole waits =
       holder = refl;
     })
 
-pub acts-stalls : (way : Way) (what : Access) (core : ℕ) (p : Processor) (b : Bus) (noted : Noted) (f : Effect) (why : Stall) → way ≡ Whole → stalled why (core_state core p) ≡ f
+pub acts-stalls : (way : Way) (what : MemoryAccess) (core : ℕ) (p : Processor) (b : BusModel) (noted : Noted) (f : Effect) (why : Stall) → way ≡ Whole → stalled why (core_state core p) ≡ f
     → HasActed way what core p p b b noted noted f (Stalled why, Unused)
 acts-stalls way what core p b noted f why whole e =
     acts-waits way what core p p b noted f (Stalled why) whole (record { outcome = ap (λ g. g.outcome) e; after = ap (λ g. g.after) e; commits = ap (λ g. g.commits) (sym e) })
@@ -67,7 +67,7 @@ drained core s (x ∷ xs) store h =
       commits = store_of core y ∷ [];
     }) (sym e)
 
-pub acts-drains : (turn : Turn) (p : Processor) (left : Stores) (b b' : Bus) (noted noted' : Noted) (store : Pending) (access : bus_access.Access) → Some store ≡ slice_get p.stores.items 0
+pub acts-drains : (turn : Turn) (p : Processor) (left : Stores) (b b' : BusModel) (noted noted' : Noted) (store : Pending) (access : bus_access.Access) → Some store ≡ slice_get p.stores.items 0
     → left.items ≡ drop 1 p.stores.items → IsStored turn.core.0 store b b' noted noted' → IsMade turn write_by store.loc b b' access
     → HasActed turn.way (drain_access (pending_in turn.core.0 p)) turn.core.0 p (record { place = p.place; registers = p.registers; stores = left }) b b' noted noted' (drain_by turn.core.0 p (words_of b)) (Committed, Through access)
 acts-drains turn p left b b' noted noted' store access h rest stored_is made =

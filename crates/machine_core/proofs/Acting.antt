@@ -2,7 +2,7 @@
 use Rattle.std.proofs.Common.{◌≡◌, ◌||◌, ℕ, Bool, true, false, if◌then◌else◌, List, [], ◌∷◌, map, filter, None, Some, slice_get, refl, sym, ap}
 use Rattle.std.specs.List.{list_any}
 use Rattle.tso_model.specs.ProgramOrder.{writes_to}
-use Rattle.tso_model.specs.Access.{NoAccess, Reads, Writes, load_access, locked_access, drain_access}
+use Rattle.tso_model.specs.MemoryAccess.{NoAccess, Reads, Writes, load_access, locked_access, drain_access}
 use Rattle.tso_model.specs.declared.instruction.Loc.{Loc}
 use Rattle.tso_model.specs.declared.execution.Entry.{Entry}
 use Rattle.store_buffer.specs.declared.Pending.{Pending}

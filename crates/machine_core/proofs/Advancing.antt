@@ -4,11 +4,11 @@ use Rattle.std.proofs.lemmas.Bool.Decides.{nat_tests}
 use Rattle.tso_model.specs.Litmus.{Litmus, IsTest}
 use Rattle.tso_model.specs.Actions.{action_of}
 use Rattle.tso_model.specs.FlatMachine.{CoreState, State, effect_by, step_of, effect_of, core_of, chosen, program_of}
-use Rattle.tso_model.specs.Access.{Access, NoAccess, Reads, Writes, Locks, access_by, step_access, access_of}
+use Rattle.tso_model.specs.MemoryAccess.{MemoryAccess, NoAccess, Reads, Writes, Locks, access_by, step_access, access_of}
 use Rattle.tso_model.specs.SplitMachine.{Holder, Free, HeldBy, HeldBetween, Attempt, BusEffect, acts, asks, begins, needs_bus, same_choice, completes, writes_last, as_read}
 use Rattle.tso_model.specs.EitherBus.{effect_on}
-use Rattle.tso_model.specs.declared.bus.Bus.{Bus}
-use Rattle.tso_model.specs.declared.bus.Bus.TheVariants.{Atomic, Split}
+use Rattle.tso_model.specs.declared.choice.Bus.{Bus}
+use Rattle.tso_model.specs.declared.choice.Bus.TheVariants.{Atomic, Split}
 use Rattle.tso_model.specs.declared.register.Reg.{Reg}
 use Rattle.tso_model.specs.declared.instruction.Loc.{Loc}
 use Rattle.tso_model.specs.declared.instruction.Instr.{Instr}
@@ -18,9 +18,9 @@ use Rattle.tso_model.specs.declared.execution.Entry.{Entry}
 use Rattle.tso_model.specs.declared.choice.Choice.{Choice}
 use Rattle.tso_model.specs.declared.choice.Choice.TheVariants.{Step, Drain}
 use Rattle.split_laws.specs.Holders.{HasRead, HolderFits}
-use Rattle.machine_core.specs.declared.cache_use.CacheUse.TheVariants.{Unused}
+use Rattle.machine_core.specs.declared.accesses.CacheUse.TheVariants.{Unused}
 use Rattle.machine_core.specs.Caches.{Caches, is_awaited, use_of, use_with, at_access, ask_by, not_through}
-use Rattle.machine_core.specs.inner.Kept.{IsIssued}
+use Rattle.machine_core.specs.inner.Keeping.{IsIssued}
 use Rattle.machine_core.proofs.CountBounds.{effect-advances}
 use Rattle.machine_core.proofs.CountsOnBus.{AdvancesOn, advances-acts, advances-frees, advances-reads, advances-writes, advances-rests}
 use Rattle.machine_core.proofs.Accessing.{commits-at-once}
@@ -46,7 +46,7 @@ step-last : (c : Caches) (before : List Entry) (depth : ℕ) (memory : List ℕ)
 step-last c before depth memory core None s at h = absurd (let z : ⊥ = cc in z)
 step-last c before depth memory core (Some instr) s at h = action-last c before depth memory core (action_of instr) s at h
 
-asks-nothing : (c : Caches) (core : ℕ) (what : Access) → (at_access (not_through Unused c) (λ loc write. ask_by c core loc.0 write) what).how ≡ Unused
+asks-nothing : (c : Caches) (core : ℕ) (what : MemoryAccess) → (at_access (not_through Unused c) (λ loc write. ask_by c core loc.0 write) what).how ≡ Unused
 asks-nothing c core NoAccess = refl
 asks-nothing c core (Reads loc) = refl
 asks-nothing c core (Writes loc) = refl
@@ -82,7 +82,7 @@ goes-begins t depth state holder a c test h issued =
     elim (needs_bus (access_of t depth state a.choice) a.hits) as (λ b. Goes t depth state holder a.choice c (if b then asks (core_of state (chosen a.choice)) a.choice holder else acts (effect_of t depth state a.choice) holder))
     [ true ↦ goes-asks t depth state holder a.choice c issued | false ↦ goes-acts t depth state holder a.choice c test h issued ]
 
-goes-completes : (t : Litmus) (depth : ℕ) (state : State) (choice : Choice) (c : Caches) (what : Access) → access_of t depth state choice ≡ what → access_of t depth state choice ≢ NoAccess
+goes-completes : (t : Litmus) (depth : ℕ) (state : State) (choice : Choice) (c : Caches) (what : MemoryAccess) → access_of t depth state choice ≡ what → access_of t depth state choice ≢ NoAccess
     → IsTest t → chosen choice < length t.programs → IsIssued (core_of state (chosen choice)) → Goes t depth state (HeldBy choice) choice c (completes t depth state choice what)
 goes-completes t depth state choice c NoAccess is some test h issued = absurd (some is)
 goes-completes t depth state choice c (Reads loc) is some test h issued =

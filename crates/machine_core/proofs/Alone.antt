@@ -7,11 +7,11 @@ use Rattle.snoop_bus.specs.Bus.{holder_of}
 use Rattle.snoop_bus.specs.Held.{holder}
 use Rattle.snoop_bus.specs.inner.Accesses.{StandsAlone}
 use Rattle.snoop_bus.specs.declared.holding.Stage.TheVariants.{Load, Locked}
-use Rattle.machine_core.specs.declared.machine_parts.MachineParts.{MachineParts}
-use Rattle.machine_core.specs.Kept.{IsHeldForAccess, held_as, state_in}
-use Rattle.machine_core.specs.inner.Made.{IsAloneIn}
+use Rattle.machine_core.specs.declared.hardware.Hardware.{Hardware}
+use Rattle.machine_core.specs.Keeping.{IsHeldForAccess, held_as, state_in}
+use Rattle.machine_core.specs.inner.OneChoice.{IsAloneIn}
 
-pub alone-in : {P : Type 0} (t : Litmus) (m : MachineParts P) → IsHeldForAccess t m → IfSome (holder_of m.bus) (StandsAlone m.bus) → IsAloneIn m
+pub alone-in : {P : Type 0} (t : Litmus) (m : Hardware P) → IsHeldForAccess t m → IfSome (holder_of m.bus) (StandsAlone m.bus) → IsAloneIn m
 alone-in t m held alone e between =
     let is : holder_of m.bus ≡ Some (holder e.core e.loc Locked) = held ∙ ap (held_as t m.config.depth (state_in m).flat) between in
     let a : StandsAlone m.bus (holder e.core e.loc Locked) = subst (λ h. IfSome h (StandsAlone m.bus)) is alone in

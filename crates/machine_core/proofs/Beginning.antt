@@ -1,26 +1,26 @@
--- The parts of a machine that goes back to the beginning of its test.
+-- The hardware of a machine that goes back to the beginning of its test.
 use Rattle.std.proofs.Common.{◌≡◌, ◌+◌, ℕ, zero, suc, List, [], ◌∷◌, Option, None, length, slice_index_or, map, replicate, All, refl, sym, ap, ◌∙◌, subst, arith}
 use Rattle.tso_model.specs.Litmus.{Litmus}
 use Rattle.tso_model.specs.FlatMachine.{started, start}
 use Rattle.tso_model.specs.EitherBus.{unheld}
-use Rattle.tso_model.specs.declared.bus.Bus as kind
+use Rattle.tso_model.specs.declared.choice.Bus as kind
 use Rattle.tso_model.specs.declared.instruction.Instr.{Instr}
 use Rattle.split_laws.specs.BusChoices.{IsPossibleOn}
 use Rattle.store_buffer.specs.inner.Stores.{stores}
 use Rattle.snoop_bus.specs.Rows.{table_of_rows}
-use Rattle.snoop_bus.specs.Bus.{Bus, cores_of}
+use Rattle.snoop_bus.specs.Bus.{BusModel, cores_of}
 use Rattle.snoop_bus.specs.Accesses.{new_bus}
-use Rattle.snoop_bus.specs.declared.holding.Holder as bus_holder
+use Rattle.snoop_bus.specs.declared.holding.BusAction as bus_action
 use Rattle.machine_core.proofs.Overwriting.{written}
-use Rattle.machine_core.specs.declared.holding.Next.{Next}
+use Rattle.machine_core.specs.declared.accesses.Next.{Next}
 use Rattle.machine_core.specs.declared.processor.Processor.{Processor}
 use Rattle.machine_core.specs.Cores.{core_states, core_state, state_of}
 use Rattle.machine_core.specs.inner.Cores.{at_start}
 use Rattle.machine_core.specs.declared.counts.Counts.{Counts}
 use Rattle.machine_core.specs.Statistics.{no_counts, no_statistics}
 use Rattle.machine_core.specs.Caches.{caches_of}
-use Rattle.machine_core.specs.declared.machine_parts.MachineParts.{MachineParts}
-use Rattle.machine_core.specs.Kept.{IsCore, state_in}
+use Rattle.machine_core.specs.declared.hardware.Hardware.{Hardware}
+use Rattle.machine_core.specs.Keeping.{IsCore, state_in}
 use Rattle.machine_core.proofs.CoreLemmas.{IsCore-new}
 use Rattle.machine_core.proofs.Splitting.{held-with}
 
@@ -48,11 +48,11 @@ pub all-none : (cs : List Counts) → map (λ _. no_counts) cs ≡ replicate (le
 all-none [] = refl
 all-none (c ∷ cs) = ap (λ ns. no_counts ∷ ns) (all-none cs)
 
-pub begun-state : (ps : List Processor) (words : List ℕ) (t : Litmus) (next : Next) (h : Option bus_holder.Holder) → core_states 0 ps ≡ started 0 t.programs t.registers → words ≡ t.words
+pub begun-state : (ps : List Processor) (words : List ℕ) (t : Litmus) (next : Next) (h : Option bus_action.BusAction) → core_states 0 ps ≡ started 0 t.programs t.registers → words ≡ t.words
     → h ≡ None → record { flat = state_of ps words; holder = held-with next h } ≡ unheld (start t)
 begun-state ps words t next h cores memory free = rw (cores, memory, free) refl
 
-pub begun-statistics : (old new : Bus) (init : List ℕ) (counts : List Counts) (t : Litmus) (n : ℕ) → new ≡ new_bus (table_of_rows old.rows) (cores_of old) old.shape init → cores_of old ≡ length t.programs
+pub begun-statistics : (old new : BusModel) (init : List ℕ) (counts : List Counts) (t : Litmus) (n : ℕ) → new ≡ new_bus (table_of_rows old.rows) (cores_of old) old.shape init → cores_of old ≡ length t.programs
     → init ≡ t.words → counts ≡ replicate n no_counts → n ≡ length t.programs
     → record { caches = caches_of new; counts = counts } ≡ no_statistics (table_of_rows old.rows) old.shape t
 begun-statistics old new init counts t n exact cores words none all =
@@ -61,7 +61,7 @@ begun-statistics old new init counts t n exact cores words none all =
     rw (bus, none, all) refl
 
 -- what a machine has come to at the beginning is possible
-pub possible-first : {P : Type 0} (t : Litmus) (m : MachineParts P) → ((bus : kind.Bus) (t : Litmus) (depth : ℕ) → IsPossibleOn bus t depth [] (unheld (start t)))
+pub possible-first : {P : Type 0} (t : Litmus) (m : Hardware P) → ((bus : kind.Bus) (t : Litmus) (depth : ℕ) → IsPossibleOn bus t depth [] (unheld (start t)))
     → state_in m ≡ unheld (start t) → m.commits.entries ≡ [] → IsPossibleOn m.config.bus t m.config.depth m.commits.entries (state_in m)
 possible-first t m first state commits =
     subst (λ es. IsPossibleOn m.config.bus t m.config.depth es (state_in m)) (sym commits)

@@ -11,15 +11,15 @@ use Rattle.tso_model.specs.declared.execution.Entry.{Entry}
 use Rattle.store_buffer.specs.declared.Pending.{Pending}
 use Rattle.store_buffer.specs.inner.Newest.{newest_for}
 use Rattle.snoop_bus.specs.declared.access.Access.{Access}
-use Rattle.snoop_bus.specs.Bus.{Bus, words_of, IsSameMachine}
+use Rattle.snoop_bus.specs.Bus.{BusModel, words_of, IsSameMachine}
 use Rattle.snoop_bus.specs.Accesses.{LoadsAt, WritesAt}
 use Rattle.machine_core.specs.declared.processor.Processor.{Processor}
-use Rattle.machine_core.specs.declared.cache_use.CacheUse.{CacheUse}
-use Rattle.machine_core.specs.declared.cache_use.CacheUse.TheVariants.{Unused, Forwarded, Through}
+use Rattle.machine_core.specs.declared.accesses.CacheUse.{CacheUse}
+use Rattle.machine_core.specs.declared.accesses.CacheUse.TheVariants.{Unused, Forwarded, Through}
 use Rattle.machine_core.specs.Cores.{store_of, core_state}
 use Rattle.machine_core.specs.inner.Cores.{pending_in, lock_by, drain_by}
 use Rattle.machine_core.specs.Caches.{Caches, caches_of, not_through, load_after, write_by, use_of}
-use Rattle.machine_core.specs.Performed.{HasUsed}
+use Rattle.machine_core.specs.Effects.{HasUsed}
 use Rattle.basic_laws.proofs.WithPending.{drain_with, fenced_with, locked_with}
 
 or_true : (b : Bool) → true ≡ (b || true)
@@ -43,28 +43,28 @@ answered core loc value items h = sym (found-stores core loc None items) ∙ ap 
 pub unanswered : (core loc : ℕ) (items : List Pending) → None ≡ newest_for loc items → list_any (writes_to loc) (map (store_of core) items) ≡ false
 unanswered core loc items h = sym (found-stores core loc None items) ∙ ap is_some (sym h)
 
-pub forwards : (b : Bus) (pending : List Entry) (core loc : ℕ) → list_any (writes_to loc) pending ≡ true → HasUsed (load_after (caches_of b) pending core loc) b Forwarded
+pub forwards : (b : BusModel) (pending : List Entry) (core loc : ℕ) → list_any (writes_to loc) pending ≡ true → HasUsed (load_after (caches_of b) pending core loc) b Forwarded
 forwards b pending core loc h = rw h (record { how_is = refl; caches = refl })
 
-pub loads : (old new : Bus) (pending : List Entry) (core loc word : ℕ) (access : Access) → list_any (writes_to loc) pending ≡ false
+pub loads : (old new : BusModel) (pending : List Entry) (core loc word : ℕ) (access : Access) → list_any (writes_to loc) pending ≡ false
     → LoadsAt old new core loc word access → IsSameMachine old new → HasUsed (load_after (caches_of old) pending core loc) new (Through access)
 loads old new pending core loc word access h done machine =
     rw h (record { how_is = ap Through done.access_is; caches = rw (machine.rows, machine.shape, done.contents, done.held.awaited_is) refl })
 
-pub writes : (old new : Bus) (core loc word : ℕ) (access : Access) → WritesAt old new core loc word access → IsSameMachine old new
+pub writes : (old new : BusModel) (core loc word : ℕ) (access : Access) → WritesAt old new core loc word access → IsSameMachine old new
     → HasUsed (write_by (caches_of old) core loc) new (Through access)
 writes old new core loc word access done machine =
     record { how_is = ap Through done.access_is; caches = rw (machine.rows, machine.shape, done.contents, done.held.awaited_is) refl }
 
 -- where nothing is committed the caches are not used
-pub rests : (b : Bus) (pending commits : List Entry) → commits ≡ [] → HasUsed (use_of (caches_of b) pending commits) b Unused
+pub rests : (b : BusModel) (pending commits : List Entry) → commits ≡ [] → HasUsed (use_of (caches_of b) pending commits) b Unused
 rests b pending commits h = rw h (record { how_is = refl; caches = refl })
 
 fenced-uses : (c : Caches) (pending : List Entry) (core : ℕ) (s : CoreState) (waiting : List Entry) → use_of c pending (fenced_with core s waiting).commits ≡ not_through Unused c
 fenced-uses c pending core s [] = refl
 fenced-uses c pending core s (p ∷ ps) = refl
 
-pub fences : (b : Bus) (pending : List Entry) (core : ℕ) (s : CoreState) (waiting : List Entry) → HasUsed (use_of (caches_of b) pending (fenced_with core s waiting).commits) b Unused
+pub fences : (b : BusModel) (pending : List Entry) (core : ℕ) (s : CoreState) (waiting : List Entry) → HasUsed (use_of (caches_of b) pending (fenced_with core s waiting).commits) b Unused
 fences b pending core s waiting =
     subst (λ u. HasUsed u b Unused) (sym (fenced-uses (caches_of b) pending core s waiting)) (record { how_is = refl; caches = refl })
 
@@ -73,7 +73,7 @@ locked-uses : (c : Caches) (pending : List Entry) (core : ℕ) (s : CoreState) (
 locked-uses c pending core s loc reg word value [] h = refl
 locked-uses c pending core s loc reg word value (p ∷ ps) h = absurd (let z : ⊥ = cc in z)
 
-pub locks : (core : ℕ) (p : Processor) (old new : Bus) (loc : Loc) (reg : Reg) (update : Update) (word : ℕ) (access : Access) → p.stores.items ≡ []
+pub locks : (core : ℕ) (p : Processor) (old new : BusModel) (loc : Loc) (reg : Reg) (update : Update) (word : ℕ) (access : Access) → p.stores.items ≡ []
     → WritesAt old new core loc.0 word access → IsSameMachine old new
     → HasUsed (use_of (caches_of old) (pending_in core p) (lock_by loc reg update core p (words_of old)).commits) new (Through access)
 locks core p old new loc reg update word access h done machine =
@@ -85,7 +85,7 @@ drained-uses : (c : Caches) (pending : List Entry) (core : ℕ) (s : CoreState) 
 drained-uses c pending core s [] store h = absurd (let z : ⊥ = cc in z)
 drained-uses c pending core s (p ∷ ps) store h = let e : store ≡ p = cc in ap (λ q. write_by c core q.loc.0) (sym e)
 
-pub drains : (core : ℕ) (p : Processor) (old new : Bus) (store : Pending) (how : CacheUse) → Some store ≡ slice_get p.stores.items 0
+pub drains : (core : ℕ) (p : Processor) (old new : BusModel) (store : Pending) (how : CacheUse) → Some store ≡ slice_get p.stores.items 0
     → HasUsed (write_by (caches_of old) core store.loc.0) new how → HasUsed (use_of (caches_of old) (pending_in core p) (drain_by core p (words_of old)).commits) new how
 drains core p old new store how h used =
     subst (λ u. HasUsed u new how) (sym (drained-uses (caches_of old) (pending_in core p) core (core_state core p) p.stores.items store h)) used

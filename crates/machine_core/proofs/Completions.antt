@@ -4,45 +4,45 @@ use Rattle.std.proofs.lemmas.List.{set-get_or}
 use Rattle.tso_model.specs.Litmus.{Litmus}
 use Rattle.tso_model.specs.Thread.{entry}
 use Rattle.tso_model.specs.FlatMachine.{chosen, memory_after}
-use Rattle.tso_model.specs.Access.{Locks, access_of}
+use Rattle.tso_model.specs.MemoryAccess.{Locks, access_of}
 use Rattle.tso_model.specs.SplitMachine.{HeldBy, HeldBetween, reads_first, completes}
 use Rattle.tso_model.specs.declared.instruction.Loc.{Loc}
 use Rattle.tso_model.specs.declared.execution.Entry.{Entry}
 use Rattle.tso_model.specs.declared.execution.Kind.TheVariants.{LR}
 use Rattle.tso_model.specs.declared.choice.Choice.{Choice}
 use Rattle.tso_model.specs.declared.choice.Outcome.TheVariants.{Committed}
-use Rattle.snoop_bus.specs.Bus.{Bus, words_of}
+use Rattle.snoop_bus.specs.Bus.{BusModel, words_of}
 use Rattle.machine_core.specs.declared.processor.Processor.{Processor}
-use Rattle.machine_core.specs.declared.cache_use.CacheUse.TheVariants.{Through}
-use Rattle.machine_core.specs.declared.machine_parts.MachineParts.{MachineParts}
+use Rattle.machine_core.specs.declared.accesses.CacheUse.TheVariants.{Through}
+use Rattle.machine_core.specs.declared.hardware.Hardware.{Hardware}
 use Rattle.machine_core.specs.Cores.{core_state}
 use Rattle.machine_core.specs.Caches.{caches_of, completing_by, completion_by, is_awaited}
-use Rattle.machine_core.specs.Kept.{state_in}
-use Rattle.machine_core.specs.Performed.{HasUsed, Performs}
+use Rattle.machine_core.specs.Keeping.{state_in}
+use Rattle.machine_core.specs.Effects.{HasUsed, HasEffect}
 use Rattle.machine_core.specs.Split.{completes_in, use_by}
 use Rattle.machine_core.proofs.Splitting.{use-frees}
-use Rattle.machine_core.proofs.Performing.{Performs-by, core_of-state_in}
+use Rattle.machine_core.proofs.ChoiceEffects.{Performs-by, core_of-state_in}
 use Rattle.snoop_bus.specs.declared.access.Access as bus_access
 
 -- of a locked instruction the load part is committed
-completes-first : {P : Type 0} (t : Litmus) (m : MachineParts P) (choice : Choice) (loc : Loc) (p : Processor) → access_of t m.config.depth (state_in m).flat choice ≡ Locks loc
+completes-first : {P : Type 0} (t : Litmus) (m : Hardware P) (choice : Choice) (loc : Loc) (p : Processor) → access_of t m.config.depth (state_in m).flat choice ≡ Locks loc
     → chosen choice < length m.processors.items → p ≡ slice_index_or m.processors.items (chosen choice) p
     → completes_in t m choice ≡ reads_first (core_state (chosen choice) p) (entry (chosen choice) p.place LR loc (slice_index (words_of m.bus) loc.0))
 completes-first t m choice loc p locks h at =
     ap (completes t m.config.depth (state_in m).flat choice) locks
     ∙ ap (λ s. reads_first s (entry (chosen choice) s.place LR loc (slice_index (words_of m.bus) loc.0))) (core_of-state_in m (chosen choice) p h at)
 
-pub performs-first : {P : Type 0} (t : Litmus) (m new : MachineParts P) (choice : Choice) (loc : Loc) (p : Processor) (e : Entry) → access_of t m.config.depth (state_in m).flat choice ≡ Locks loc
+pub performs-first : {P : Type 0} (t : Litmus) (m new : Hardware P) (choice : Choice) (loc : Loc) (p : Processor) (e : Entry) → access_of t m.config.depth (state_in m).flat choice ≡ Locks loc
     → chosen choice < length m.processors.items → p ≡ slice_index_or m.processors.items (chosen choice) p → e ≡ entry (chosen choice) p.place LR loc (slice_index (words_of m.bus) loc.0)
     → new.processors.items ≡ m.processors.items → words_of new.bus ≡ words_of m.bus → new.commits.entries ≡ m.commits.entries ++ e ∷ [] → (state_in new).holder ≡ HeldBetween e
-    → Performs m new choice (completes_in t m choice) Committed
+    → HasEffect m new choice (completes_in t m choice) Committed
 performs-first t m new choice loc p e locks h at is processors words commits holder =
     let same : new.processors.items ≡ slice_set m.processors.items (chosen choice) p =
     processors ∙ sym (set-get_or m.processors.items (chosen choice) p) ∙ ap (slice_set m.processors.items (chosen choice)) (sym at) in
     Performs-by m new choice Committed p (completes_in t m choice) (reads_first (core_state (chosen choice) p) e)
     (completes-first t m choice loc p locks h at ∙ ap (reads_first (core_state (chosen choice) p)) (sym is)) same refl (words ∙ ap (λ f. memory_after (f ∷ []) (words_of m.bus)) (sym is)) commits holder refl
 
-pub uses-first : {P : Type 0} (t : Litmus) (m : MachineParts P) (bus : Bus) (choice : Choice) (loc : Loc) (p : Processor) (access : bus_access.Access) → (state_in m).holder ≡ HeldBy choice
+pub uses-first : {P : Type 0} (t : Litmus) (m : Hardware P) (bus : BusModel) (choice : Choice) (loc : Loc) (p : Processor) (access : bus_access.Access) → (state_in m).holder ≡ HeldBy choice
     → access_of t m.config.depth (state_in m).flat choice ≡ Locks loc → chosen choice < length m.processors.items → p ≡ slice_index_or m.processors.items (chosen choice) p
     → HasUsed (completion_by (caches_of m.bus) (chosen choice) loc.0) bus (Through access) → HasUsed (use_by t m choice (completes_in t m choice)) bus (Through access)
 uses-first t m bus choice loc p access asked locks h at used =

@@ -18,7 +18,7 @@ use Rattle.machine_core.specs.declared.processor.Processor.{Processor}
 use Rattle.store_buffer.specs.inner.Stores.{stores}
 use Rattle.machine_core.specs.Cores.{store_of, core_state, core_states}
 use Rattle.machine_core.specs.inner.Cores.{lock_by}
-use Rattle.machine_core.specs.Kept.{IsCore}
+use Rattle.machine_core.specs.Keeping.{IsCore}
 use Rattle.basic_laws.proofs.WithPending.{drain_with, fenced_with, locked_with}
 
 -- what a load sees, in the buffer and among the pending stores

@@ -31,12 +31,12 @@ use Rattle.snoop_bus.specs.Rows.{table_of_rows}
 use Rattle.snoop_bus.specs.Tags.{tag_of}
 use Rattle.snoop_bus.specs.CacheContents.{TagSets, loaded_in, written_in, write_in, sends_in, flusher_from, tags_at}
 use Rattle.machine_core.specs.declared.counts.Counts.{Counts}
-use Rattle.machine_core.specs.declared.cache_use.CacheUse.{CacheUse}
-use Rattle.machine_core.specs.declared.cache_use.CacheUse.TheVariants.{Unused, Forwarded, Through}
+use Rattle.machine_core.specs.declared.accesses.CacheUse.{CacheUse}
+use Rattle.machine_core.specs.declared.accesses.CacheUse.TheVariants.{Unused, Forwarded, Through}
 use Rattle.machine_core.specs.Caches.{Caches, not_through, load_by, write_by, load_after, use_by_kind, use_of}
 use Rattle.machine_core.specs.Statistics.{no_counts, with_access, with_write_back, with_forward, with_flush, at_core, flush_counted, counted}
-use Rattle.machine_core.specs.Kept.{IsAtMost}
-use Rattle.machine_core.specs.inner.Kept.{IsIssued, IsAmong, IsFlusherAmong, done_by}
+use Rattle.machine_core.specs.Keeping.{IsAtMost}
+use Rattle.machine_core.specs.inner.Keeping.{IsIssued, IsAmong, IsFlusherAmong, done_by}
 use Rattle.basic_laws.proofs.WithPending.{drain_with, fenced_with, locked_with}
 
 -- one count more

@@ -8,28 +8,28 @@ use Rattle.tso_model.specs.Limits.{most_instructions}
 use Rattle.tso_model.specs.Litmus.{Litmus}
 use Rattle.tso_model.specs.ProgramOrder.{writes_to}
 use Rattle.tso_model.specs.FlatMachine.{CoreState, Effect, chosen, core_of, idle}
-use Rattle.tso_model.specs.Access.{Access, NoAccess, Reads, Writes, Locks}
+use Rattle.tso_model.specs.MemoryAccess.{MemoryAccess, NoAccess, Reads, Writes, Locks}
 use Rattle.tso_model.specs.SplitMachine.{Holder, Free, HeldBy, HeldBetween, BusEffect, acts}
 use Rattle.tso_model.specs.EitherBus.{BusState}
 use Rattle.tso_model.specs.declared.execution.Entry.{Entry}
 use Rattle.tso_model.specs.declared.execution.Kind.{Kind}
 use Rattle.tso_model.specs.declared.execution.Kind.TheVariants.{R, W, F, LR, LW}
 use Rattle.tso_model.specs.declared.choice.Choice.{Choice}
-use Rattle.protocol_tables.specs.declared.asking.Request.{Request}
-use Rattle.protocol_tables.specs.declared.asking.Request.TheVariants.{GetS, GetM}
-use Rattle.protocol_tables.specs.declared.asking.Transient.{Transient}
-use Rattle.protocol_tables.specs.declared.asking.Transient.TheVariants.{IsD, ImD, SmD}
+use Rattle.protocol_tables.specs.declared.requests.Request.{Request}
+use Rattle.protocol_tables.specs.declared.requests.Request.TheVariants.{GetS, GetM}
+use Rattle.protocol_tables.specs.declared.requests.Transient.{Transient}
+use Rattle.protocol_tables.specs.declared.requests.Transient.TheVariants.{IsD, ImD, SmD}
 use Rattle.protocol_tables.specs.Tables.{Table}
 use Rattle.snoop_bus.specs.Rows.{table_of_rows}
 use Rattle.snoop_bus.specs.CacheContents.{TagSets, flusher_from}
 use Rattle.snoop_bus.specs.Asks.{Awaited, asking, asked_for, awaiting, completed, completed_in, flusher_of}
 use Rattle.machine_core.specs.declared.counts.Counts.{Counts}
-use Rattle.machine_core.specs.declared.cache_use.CacheUse.{CacheUse}
-use Rattle.machine_core.specs.declared.cache_use.CacheUse.TheVariants.{Unused, Forwarded}
+use Rattle.machine_core.specs.declared.accesses.CacheUse.{CacheUse}
+use Rattle.machine_core.specs.declared.accesses.CacheUse.TheVariants.{Unused, Forwarded}
 use Rattle.machine_core.specs.Caches.{Caches, Used, not_through, load_by, use_by_kind, use_of, used_between}
 use Rattle.machine_core.specs.Statistics.{Statistics, counted}
-use Rattle.machine_core.specs.Kept.{IsAtMost}
-use Rattle.machine_core.specs.inner.Kept.{IsIssued, IsAmong, IsFlusherAmong, IsSenderAmong, IsTallied, done_by, done_in, half_done, most_counted}
+use Rattle.machine_core.specs.Keeping.{IsAtMost}
+use Rattle.machine_core.specs.inner.Keeping.{IsIssued, IsAmong, IsFlusherAmong, IsSenderAmong, IsTallied, done_by, done_in, half_done, most_counted}
 use Rattle.machine_core.proofs.CountBounds.{Advances, IsAtMost-more, counted-within, length-counted, flusher-among, use_of-among}
 
 -- who sent what is awaited
@@ -69,7 +69,7 @@ whole-senders : (c : Caches) (pending commits : List Entry) → IsSenderAmong (l
 whole-senders c pending [] h = (tt, h)
 whole-senders c pending (e ∷ es) h = (use_of-among c pending (e ∷ es), whole-keeps (length c.contents) c pending e e.kind h)
 
-pub senders : (before after : Bool) (c : Caches) (core : ℕ) (what : Access) (pending commits : List Entry) → IsSenderAmong (length c.contents) c.awaited
+pub senders : (before after : Bool) (c : Caches) (core : ℕ) (what : MemoryAccess) (pending commits : List Entry) → IsSenderAmong (length c.contents) c.awaited
     → SendersAmong (length c.contents) (used_between before after c core what pending commits)
 senders false true c core NoAccess pending commits h = (tt, h)
 senders false true c core (Reads loc) pending commits h = (tt, asked-among (table_of_rows c.rows) _ core _ c.contents)
@@ -155,7 +155,7 @@ advances-whole s holder f c pending go =
     by_commits (inl none) = inl (ap (λ es. (use_of c pending es).how) none)
     by_commits (inr more) = inr (omega arith)
 
-pub advances-acts : (s : CoreState) (holder : Holder) (b : Bool) (f : Effect) (c : Caches) (core : ℕ) (what : Access) (pending : List Entry) → Advances s f
+pub advances-acts : (s : CoreState) (holder : Holder) (b : Bool) (f : Effect) (c : Caches) (core : ℕ) (what : MemoryAccess) (pending : List Entry) → Advances s f
     → AdvancesOn s holder (acts f holder) (used_between b b c core what pending f.commits).how
 advances-acts s holder true f c core what pending go = advances-whole s holder f c pending go
 advances-acts s holder false f c core what pending go = advances-whole s holder f c pending go

@@ -1,22 +1,22 @@
--- A choice on the parts of a machine, by the kind of its bus.
+-- A choice on the hardware of a machine, by the kind of its bus.
 use Rattle.std.proofs.Common.{◌≡◌, inl, ℕ, Result, Ok, Err, IfOk, OnOk, OnErr, refl, sym, ap, ◌∙◌}
 use Rattle.tso_model.specs.Litmus.{Litmus}
 use Rattle.tso_model.specs.FlatMachine.{State}
 use Rattle.tso_model.specs.SplitMachine.{Holder, Free, HeldBy, HeldBetween, Attempt}
 use Rattle.tso_model.specs.EitherBus.{BusState, effect_on, HitFits}
-use Rattle.tso_model.specs.declared.bus.Bus.{Bus}
-use Rattle.tso_model.specs.declared.bus.Bus.TheVariants.{Atomic, Split}
+use Rattle.tso_model.specs.declared.choice.Bus.{Bus}
+use Rattle.tso_model.specs.declared.choice.Bus.TheVariants.{Atomic, Split}
 use Rattle.tso_model.specs.declared.out_of_memory.NoMemory.{NoMemory}
 use Rattle.tso_model.specs.declared.choice.Choice.{Choice}
 use Rattle.split_laws.specs.Holders.{HolderFits}
 use Rattle.snoop_bus.specs.Bus.{holder_of}
-use Rattle.machine_core.specs.declared.machine_parts.MachineParts.{MachineParts}
-use Rattle.machine_core.specs.Kept.{IsHeldForAccess, held_as, state_in}
-use Rattle.machine_core.specs.Performed.{Answer}
-use Rattle.machine_core.specs.inner.Performed.{MayMakeIn, attempt_in, effect_in}
+use Rattle.machine_core.specs.declared.hardware.Hardware.{Hardware}
+use Rattle.machine_core.specs.Keeping.{IsHeldForAccess, held_as, state_in}
+use Rattle.machine_core.specs.Effects.{Answer}
+use Rattle.machine_core.specs.inner.Effects.{MayMakeIn, attempt_in, effect_in}
 use Rattle.machine_core.specs.inner.Split.{split_effect_in}
-use Rattle.machine_core.specs.Made.{HasMade, IsUndone}
-use Rattle.machine_core.specs.inner.Made.{effect_made_in}
+use Rattle.machine_core.specs.OneChoice.{HasMade, IsUndone}
+use Rattle.machine_core.specs.inner.OneChoice.{effect_made_in}
 use Rattle.machine_core.specs.declared.turn.Way.TheVariants.{Whole}
 
 -- on the atomic bus nobody holds it
@@ -26,22 +26,22 @@ free-holder Atomic t depth state (HeldBy choice) h fits = absurd fits
 free-holder Atomic t depth state (HeldBetween e) h fits = absurd fits
 free-holder Split t depth state holder h fits = absurd (let z : ⊥ = cc in z)
 
-pub is-free : {P : Type 0} (t : Litmus) (m : MachineParts P) → m.config.bus ≡ Atomic → HolderFits m.config.bus t m.config.depth (state_in m).flat (state_in m).holder → (state_in m).holder ≡ Free
+pub is-free : {P : Type 0} (t : Litmus) (m : Hardware P) → m.config.bus ≡ Atomic → HolderFits m.config.bus t m.config.depth (state_in m).flat (state_in m).holder → (state_in m).holder ≡ Free
 is-free t m h fits = free-holder m.config.bus t m.config.depth (state_in m).flat (state_in m).holder h fits
 
-pub may-act-free : {P : Type 0} (t : Litmus) (m : MachineParts P) (choice : Choice) → IsHeldForAccess t m → (state_in m).holder ≡ Free → MayMakeIn Whole t m choice
+pub may-act-free : {P : Type 0} (t : Litmus) (m : Hardware P) (choice : Choice) → IsHeldForAccess t m → (state_in m).holder ≡ Free → MayMakeIn Whole t m choice
 may-act-free t m choice held free = inl (held ∙ ap (held_as t m.config.depth (state_in m).flat) free)
 
-pub effect-atomic : {P : Type 0} (t : Litmus) (m : MachineParts P) (choice : Choice) → m.config.bus ≡ Atomic → effect_in t m choice ≡ effect_made_in Whole t m choice
+pub effect-atomic : {P : Type 0} (t : Litmus) (m : Hardware P) (choice : Choice) → m.config.bus ≡ Atomic → effect_in t m choice ≡ effect_made_in Whole t m choice
 effect-atomic t m choice h = ap (λ b. effect_on b t m.config.depth (state_in m) (attempt_in t m choice)) h
 
-pub effect-split : {P : Type 0} (t : Litmus) (m : MachineParts P) (choice : Choice) → m.config.bus ≡ Split → effect_in t m choice ≡ split_effect_in t m choice
+pub effect-split : {P : Type 0} (t : Litmus) (m : Hardware P) (choice : Choice) → m.config.bus ≡ Split → effect_in t m choice ≡ split_effect_in t m choice
 effect-split t m choice h = ap (λ b. effect_on b t m.config.depth (state_in m) (attempt_in t m choice)) h
 
 pub fits-free : (t : Litmus) (depth : ℕ) (state : State) (a : Attempt) (holder : Holder) → holder ≡ Free → HitFits t depth state a holder
 fits-free t depth state a holder free = rw free tt
 
-pub held-free : {P : Type 0} (r : Result Answer NoMemory) (t : Litmus) (m new : MachineParts P) (choice : Choice) → IsHeldForAccess t m → (state_in m).holder ≡ Free
+pub held-free : {P : Type 0} (r : Result Answer NoMemory) (t : Litmus) (m new : Hardware P) (choice : Choice) → IsHeldForAccess t m → (state_in m).holder ≡ Free
     → OnOk r (holder_of new.bus ≡ holder_of m.bus) → IfOk r (HasMade t m new choice (effect_made_in Whole t m choice)) → OnErr r (IsUndone m new) → IsHeldForAccess t new
 held-free (Ok x) t m new choice held free same done err =
     same ∙ held ∙ ap (held_as t m.config.depth (state_in m).flat) free ∙ sym (ap (held_as t new.config.depth (state_in new).flat) (done.ok.holder ∙ free))

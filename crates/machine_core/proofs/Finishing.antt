@@ -1,21 +1,21 @@
 -- The holder's next choice on a split bus.
 use Rattle.std.proofs.Common.{◌≡◌, ◌≢◌, ℕ, zero, suc, List, [], ◌∷◌, map, Option, None, Some, All, slice_get, refl, ap, subst, arith}
-use Rattle.tso_model.specs.Access.{NoAccess, drain_access}
+use Rattle.tso_model.specs.MemoryAccess.{NoAccess, drain_access}
 use Rattle.tso_model.specs.declared.instruction.Core.{Core}
 use Rattle.store_buffer.specs.declared.Pending.{Pending}
 use Rattle.snoop_bus.specs.declared.access.Access as bus_access
-use Rattle.snoop_bus.specs.declared.holding.Held.{Held}
-use Rattle.snoop_bus.specs.Bus.{Bus, IsFree, IsSameMachine}
+use Rattle.snoop_bus.specs.declared.holding.HeldBus.{HeldBus}
+use Rattle.snoop_bus.specs.Bus.{BusModel, IsFree, IsSameMachine}
 use Rattle.snoop_bus.specs.Held.{holder_in, transaction_in}
 use Rattle.snoop_bus.specs.Held as bus
 use Rattle.snoop_bus.specs.Asks.{awaited_in}
 use Rattle.snoop_bus.specs.Accesses.{CompletesAt, awaited_of}
 use Rattle.snoop_bus.specs.declared.holding.Stage.TheVariants.{Write}
-use Rattle.machine_core.specs.declared.cache_use.CacheUse.TheVariants.{Unused, Through}
+use Rattle.machine_core.specs.declared.accesses.CacheUse.TheVariants.{Unused, Through}
 use Rattle.machine_core.specs.Cores.{store_of}
 use Rattle.machine_core.specs.Caches.{caches_of, at_access, not_through, completion_by}
-use Rattle.machine_core.specs.Kept.{held_for}
-use Rattle.machine_core.specs.Performed.{HasUsed}
+use Rattle.machine_core.specs.Keeping.{held_for}
+use Rattle.machine_core.specs.Effects.{HasUsed}
 
 pub All-got : {X : Type 0} (P : X → Type 0) (xs : List X) (i : ℕ) (x : X) → All P xs → slice_get xs i ≡ Some x → P x
 All-got P [] i x all h = absurd (let z : ⊥ = cc in z)
@@ -23,14 +23,14 @@ All-got P (y ∷ ys) zero x all h = subst P (let z : y ≡ x = cc in z) (all 0 y
 All-got P (y ∷ ys) (suc i) x all h = All-got P ys i x (λ k d l. all (suc k) d (omega arith)) h
 
 -- a bus that nobody holds awaits nothing
-nothing-held : (h : Option Held) → holder_in h ≡ None → awaited_in (transaction_in h) ≡ None
+nothing-held : (h : Option HeldBus) → holder_in h ≡ None → awaited_in (transaction_in h) ≡ None
 nothing-held None e = refl
 nothing-held (Some h) e = absurd (let z : ⊥ = cc in z)
 
-pub free-awaits : (b : Bus) → IsFree b → awaited_of b ≡ None
+pub free-awaits : (b : BusModel) → IsFree b → awaited_of b ≡ None
 free-awaits b free = nothing-held b.held free
 
-pub completes : (old new : Bus) (core loc : ℕ) (access : bus_access.Access) → CompletesAt old new core loc access → IsSameMachine old new → awaited_of new ≡ None
+pub completes : (old new : BusModel) (core loc : ℕ) (access : bus_access.Access) → CompletesAt old new core loc access → IsSameMachine old new → awaited_of new ≡ None
     → HasUsed (completion_by (caches_of old) core loc) new (Through access)
 completes old new core loc access done machine none =
     record { how_is = ap Through done.access_is; caches = rw (machine.rows, machine.shape, done.contents, none) refl }
@@ -45,7 +45,7 @@ pub held-oldest : (core : Core) (items : List Pending) (store : Pending) → Som
 held-oldest core [] store h = absurd (let z : ⊥ = cc in z)
 held-oldest core (p ∷ ps) store h = let e : p ≡ store = cc in ap (λ (s : Pending). Some (bus.holder core s.loc Write)) e
 
-pub completes-oldest : (old new : Bus) (core : ℕ) (items : List Pending) (store : Pending) (access : bus_access.Access) → Some store ≡ slice_get items 0
+pub completes-oldest : (old new : BusModel) (core : ℕ) (items : List Pending) (store : Pending) (access : bus_access.Access) → Some store ≡ slice_get items 0
     → HasUsed (completion_by (caches_of old) core store.loc.0) new (Through access)
     → HasUsed (at_access (not_through Unused (caches_of old)) (λ loc write. completion_by (caches_of old) core loc.0) (drain_access (map (store_of core) items))) new (Through access)
 completes-oldest old new core [] store access h used = absurd (let z : ⊥ = cc in z)

@@ -4,9 +4,9 @@ use Rattle.std.proofs.lemmas.List.{set-get_or}
 use Rattle.tso_model.specs.Litmus.{Litmus}
 use Rattle.tso_model.specs.Thread.{entry, value_in, updated}
 use Rattle.tso_model.specs.FlatMachine.{CoreState, State, Effect, advanced_with, effect_by, effect_of, core_of}
-use Rattle.tso_model.specs.Access.{Access, NoAccess, Locks, store_access, load_access, locked_access, access_by, access_of}
+use Rattle.tso_model.specs.MemoryAccess.{MemoryAccess, NoAccess, Locks, store_access, load_access, locked_access, access_by, access_of}
 use Rattle.tso_model.specs.SplitMachine.{Free, HeldBetween, BusEffect, acts, as_read, after_first}
-use Rattle.tso_model.specs.declared.bus.Bus.TheVariants.{Split}
+use Rattle.tso_model.specs.declared.choice.Bus.TheVariants.{Split}
 use Rattle.tso_model.specs.declared.register.Reg.{Reg}
 use Rattle.tso_model.specs.declared.instruction.Loc.{Loc}
 use Rattle.tso_model.specs.declared.action.Action.{Action}
@@ -16,27 +16,27 @@ use Rattle.tso_model.specs.declared.execution.Kind.TheVariants.{LW}
 use Rattle.tso_model.specs.declared.choice.Choice.TheVariants.{Step}
 use Rattle.tso_model.specs.declared.choice.Outcome.TheVariants.{Committed}
 use Rattle.split_laws.specs.Holders.{HasRead, HolderFits}
-use Rattle.snoop_bus.specs.Bus.{Bus, IsFree, IsSameMachine, words_of}
+use Rattle.snoop_bus.specs.Bus.{BusModel, IsFree, IsSameMachine, words_of}
 use Rattle.snoop_bus.specs.Accesses.{contents_of, awaited_of}
 use Rattle.machine_core.specs.declared.processor.Processor.{Processor}
-use Rattle.machine_core.specs.declared.cache_use.CacheUse.TheVariants.{Unused}
-use Rattle.machine_core.specs.declared.machine_parts.MachineParts.{MachineParts}
+use Rattle.machine_core.specs.declared.accesses.CacheUse.TheVariants.{Unused}
+use Rattle.machine_core.specs.declared.hardware.Hardware.{Hardware}
 use Rattle.machine_core.specs.Cores.{core_state}
 use Rattle.machine_core.specs.Caches.{caches_of, not_through, is_awaited, used_between}
-use Rattle.machine_core.specs.Kept.{state_in}
-use Rattle.machine_core.specs.Performed.{HasUsed}
+use Rattle.machine_core.specs.Keeping.{state_in}
+use Rattle.machine_core.specs.Effects.{HasUsed}
 use Rattle.machine_core.specs.Split.{use_by}
 use Rattle.machine_core.specs.inner.Split.{writes_last_in, IsLock, WritesAs}
 use Rattle.machine_core.proofs.Finishing.{free-awaits}
-use Rattle.machine_core.proofs.Performing.{core_of-state_in}
+use Rattle.machine_core.proofs.ChoiceEffects.{core_of-state_in}
 use Rattle.machine_core.proofs.StepCompletions.{IsNext, access-next, effect-next}
 use Rattle.basic_laws.proofs.WithPending.{locked_with}
 
-pub has-read : {P : Type 0} (t : Litmus) (m : MachineParts P) (e : Entry) → HolderFits Split t m.config.depth (state_in m).flat (state_in m).holder → (state_in m).holder ≡ HeldBetween e
+pub has-read : {P : Type 0} (t : Litmus) (m : Hardware P) (e : Entry) → HolderFits Split t m.config.depth (state_in m).flat (state_in m).holder → (state_in m).holder ≡ HeldBetween e
     → HasRead t m.config.depth (state_in m).flat e
 has-read t m e fits between = subst (HolderFits Split t m.config.depth (state_in m).flat) between fits
 
-pub locks-some : (what : Access) (loc : Loc) → what ≡ Locks loc → what ≢ NoAccess
+pub locks-some : (what : MemoryAccess) (loc : Loc) → what ≡ Locks loc → what ≢ NoAccess
 locks-some what loc locks = λ none. (let z : NoAccess ≡ Locks loc = sym none ∙ locks in let w : ⊥ = cc in w)
 
 -- only a locked instruction locks
@@ -84,7 +84,7 @@ read-same : (state : State) (e : Entry) → slice_index state.memory e.loc.0 ≡
 read-same state e word =
     ap (λ words. record { memory = words; cores = state.cores }) (ap (slice_set state.memory e.loc.0) (sym word) ∙ set-get_or state.memory e.loc.0 0)
 
-pub writes-last : {P : Type 0} (t : Litmus) (m : MachineParts P) (e : Entry) (p : Processor) (a : Action) (into : Reg) (due : ℕ) → IsNext t m e.core p a
+pub writes-last : {P : Type 0} (t : Litmus) (m : Hardware P) (e : Entry) (p : Processor) (a : Action) (into : Reg) (due : ℕ) → IsNext t m e.core p a
     → HasRead t m.config.depth (state_in m).flat e → WritesAs a p.registers e.value into due
     → writes_last_in t m e ≡ acts (last_part e.core.0 e.place (core_state e.core.0 p) e.loc into e.value due) Free
 writes-last t m e p a into due next read writes =
@@ -95,12 +95,12 @@ writes-last t m e p a into due next read writes =
     ∙ ap (λ n. acts (last_part e.core.0 n (core_state e.core.0 p) e.loc into e.value due) Free) place
 
 -- it is no access
-pub use-last : {P : Type 0} (t : Litmus) (m : MachineParts P) (e : Entry) (f : BusEffect) (p : Processor) (into : Reg) (due : ℕ) → (state_in m).holder ≡ HeldBetween e
+pub use-last : {P : Type 0} (t : Litmus) (m : Hardware P) (e : Entry) (f : BusEffect) (p : Processor) (into : Reg) (due : ℕ) → (state_in m).holder ≡ HeldBetween e
     → f ≡ acts (last_part e.core.0 e.place (core_state e.core.0 p) e.loc into e.value due) Free → use_by t m (Step e.core) f ≡ not_through Unused (caches_of m.bus)
 use-last t m e f p into due between is =
     let what = access_of t m.config.depth (state_in m).flat (Step e.core) in
     let pending = (core_of (state_in m).flat e.core.0).pending in
     ap (use_by t m (Step e.core)) is ∙ ap (λ h. used_between (is_awaited h) false (caches_of m.bus) e.core.0 what pending (entry e.core.0 e.place LW e.loc due ∷ [])) between
 
-pub rests-last : (old new : Bus) → contents_of new ≡ contents_of old → IsSameMachine old new → IsFree new → awaited_of old ≡ None → HasUsed (not_through Unused (caches_of old)) new Unused
+pub rests-last : (old new : BusModel) → contents_of new ≡ contents_of old → IsSameMachine old new → IsFree new → awaited_of old ≡ None → HasUsed (not_through Unused (caches_of old)) new Unused
 rests-last old new contents machine free none = record { how_is = refl; caches = rw (machine.rows, machine.shape, contents, free-awaits new free, none) refl }

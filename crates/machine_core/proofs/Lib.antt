@@ -17,7 +17,7 @@ pub mod LastWrites
 pub mod TallyLemmas
 pub mod CoreLemmas
 pub mod Beginning
-pub mod Performing
+pub mod ChoiceEffects
 pub mod Paired
 pub mod RunningLemmas
 pub mod Alone

@@ -2,17 +2,17 @@
 use Rattle.std.proofs.Common.{◌≡◌, ◌&&◌, ℕ, Bool, true, false, not, IsTrue, List, [], ◌++◌, Result, Ok, Err, IfOk, OnOk, OnErr, sym, ap, ◌∙◌, subst}
 use Rattle.tso_model.specs.Litmus.{Litmus}
 use Rattle.tso_model.specs.FlatMachine.{chosen, core_of}
-use Rattle.tso_model.specs.Access.{access_of}
+use Rattle.tso_model.specs.MemoryAccess.{access_of}
 use Rattle.tso_model.specs.SplitMachine.{Free, Attempt}
 use Rattle.tso_model.specs.EitherBus.{BusState, effect_on, after_on, HitFits}
 use Rattle.tso_model.specs.declared.out_of_memory.NoMemory.{NoMemory}
 use Rattle.split_laws.specs.BusChoices.{IsPossibleOn}
-use Rattle.machine_core.specs.declared.machine_parts.MachineParts.{MachineParts}
+use Rattle.machine_core.specs.declared.hardware.Hardware.{Hardware}
 use Rattle.snoop_bus.specs.Bus.{IsFree}
-use Rattle.machine_core.specs.Kept.{IsHeldForAccess, held_as, state_in}
-use Rattle.machine_core.specs.Performed.{Answer, Performs}
-use Rattle.machine_core.specs.inner.Performed.{attempt_in, effect_in}
-use Rattle.tso_model.specs.declared.bus.Bus.{Bus}
+use Rattle.machine_core.specs.Keeping.{IsHeldForAccess, held_as, state_in}
+use Rattle.machine_core.specs.Effects.{Answer, HasEffect}
+use Rattle.machine_core.specs.inner.Effects.{attempt_in, effect_in}
+use Rattle.tso_model.specs.declared.choice.Bus.{Bus}
 use Rattle.tso_model.specs.declared.execution.Entry.{Entry}
 use Rattle.tso_model.specs.declared.choice.Choice.{Choice}
 use Rattle.machine_core.specs.Caches.{attempt_of, is_awaited, used_between, use_of}
@@ -45,10 +45,10 @@ on-ok (Ok x) Q q = q
 on-ok (Err e) Q q = tt
 
 -- what a machine has come to is possible after a choice too
-pub possible-next : {P : Type 0} (r : Result Answer NoMemory) (t : Litmus) (m new : MachineParts P) (choice : Choice) → IsPossibleOn m.config.bus t m.config.depth m.commits.entries (state_in m)
+pub possible-next : {P : Type 0} (r : Result Answer NoMemory) (t : Litmus) (m new : Hardware P) (choice : Choice) → IsPossibleOn m.config.bus t m.config.depth m.commits.entries (state_in m)
     → ((a : Attempt) → IsPossibleOn m.config.bus t m.config.depth m.commits.entries (state_in m) → HitFits t m.config.depth (state_in m).flat a (state_in m).holder
     → IsPossibleOn m.config.bus t m.config.depth (m.commits.entries ++ (effect_on m.config.bus t m.config.depth (state_in m) a).effect.commits) (after_on m.config.bus t m.config.depth (state_in m) a))
-    → HitFits t m.config.depth (state_in m).flat (attempt_in t m choice) (state_in m).holder → IfOk r (λ o. Performs m new choice (effect_in t m choice) o.0)
+    → HitFits t m.config.depth (state_in m).flat (attempt_in t m choice) (state_in m).holder → IfOk r (λ o. HasEffect m new choice (effect_in t m choice) o.0)
     → OnErr r (state_in new ≡ state_in m) → OnErr r (new.commits.entries ≡ m.commits.entries) → new.config ≡ m.config → IsPossibleOn new.config.bus t new.config.depth new.commits.entries (state_in new)
 possible-next (Ok o) t m new choice possible next fits done state commits config =
     subst (λ c. IsPossibleOn c.bus t c.depth new.commits.entries (state_in new)) (sym config)
@@ -65,5 +65,5 @@ pub has-ended : (failed ended : Bool) → IsTrue (not failed && ended) → ended
 has-ended false ended h = h
 has-ended true ended h = absurd (let z : ⊥ = cc in z)
 
-pub free-bus : {P : Type 0} (t : Litmus) (m : MachineParts P) → IsHeldForAccess t m → (state_in m).holder ≡ Free → IsFree m.bus
+pub free-bus : {P : Type 0} (t : Litmus) (m : Hardware P) → IsHeldForAccess t m → (state_in m).holder ≡ Free → IsFree m.bus
 free-bus t m held free = held ∙ ap (held_as t m.config.depth (state_in m).flat) free

@@ -6,21 +6,21 @@ use Rattle.tso_model.specs.Limits.{most_instructions}
 use Rattle.tso_model.specs.Litmus.{Litmus}
 use Rattle.tso_model.specs.Actions.{action_of}
 use Rattle.tso_model.specs.FlatMachine.{program_of}
-use Rattle.tso_model.specs.Access.{NoAccess, access_by, access_of}
+use Rattle.tso_model.specs.MemoryAccess.{NoAccess, access_by, access_of}
 use Rattle.tso_model.specs.declared.instruction.Core.{Core}
 use Rattle.tso_model.specs.declared.instruction.Instr.{Instr}
 use Rattle.tso_model.specs.declared.action.Action.{Action}
 use Rattle.tso_model.specs.declared.choice.Choice.TheVariants.{Step}
 use Rattle.snoop_bus.specs.Bus.{words_of}
 use Rattle.machine_core.specs.declared.processor.Processor.{Processor}
-use Rattle.machine_core.specs.declared.machine_parts.MachineParts.{MachineParts}
+use Rattle.machine_core.specs.declared.hardware.Hardware.{Hardware}
 use Rattle.machine_core.specs.inner.Cores.{pending_in, action_by}
-use Rattle.machine_core.specs.Kept.{PartsFitTest, state_in}
-use Rattle.machine_core.specs.inner.Performed.{flat_effect_in}
-use Rattle.machine_core.proofs.Performing.{effect_in-step, access_of-step, access_of-done, IsCore-at, within-cores}
+use Rattle.machine_core.specs.Keeping.{HardwareFitsTest, state_in}
+use Rattle.machine_core.specs.inner.Effects.{flat_effect_in}
+use Rattle.machine_core.proofs.ChoiceEffects.{effect_in-step, access_of-step, access_of-done, IsCore-at, within-cores}
 
 -- a core whose step makes an access stands at an instruction
-pub next-some : {P : Type 0} (t : Litmus) (m : MachineParts P) (core : Core) (p : Processor) (o : Option Instr) → core.0 < length m.processors.items → p ≡ slice_index_or m.processors.items core.0 p
+pub next-some : {P : Type 0} (t : Litmus) (m : Hardware P) (core : Core) (p : Processor) (o : Option Instr) → core.0 < length m.processors.items → p ≡ slice_index_or m.processors.items core.0 p
     → slice_get (program_of t core.0) p.place ≡ o → access_of t m.config.depth (state_in m).flat (Step core) ≢ NoAccess → IsSome o
 next-some t m core p None h q g some = absurd (some (access_of-done t m core p h q g))
 next-some t m core p (Some instr) h q g some = refl
@@ -31,7 +31,7 @@ pub place-within : (program : List Instr) (found : Option Instr) (instr : Instr)
 place-within program found instr place finds some size = let inside = slice_get_within program place instr (sym finds ∙ some) in omega arith
 
 -- this is the core, and the next that it does is this action
-pub record IsNext {P : Type 0} (t : Litmus) (m : MachineParts P) (core : Core) (p : Processor) (a : Action) : Type 0 where
+pub record IsNext {P : Type 0} (t : Litmus) (m : Hardware P) (core : Core) (p : Processor) (a : Action) : Type 0 where
   pub within : core.0 < length m.processors.items
   pub core_is : p ≡ slice_index_or m.processors.items core.0 p
   pub depth_is : p.stores.depth ≡ m.config.depth
@@ -39,7 +39,7 @@ pub record IsNext {P : Type 0} (t : Litmus) (m : MachineParts P) (core : Core) (
   pub got : slice_get (program_of t core.0) p.place ≡ Some instr
   pub action_is : action_of instr ≡ a
 
-pub is-next : {P : Type 0} (t : Litmus) (m : MachineParts P) (core : Core) (p : Processor) (program : List Instr) (found : Option Instr) (instr : Instr) (action a : Action) → PartsFitTest t m → core.0 < length t.programs
+pub is-next : {P : Type 0} (t : Litmus) (m : Hardware P) (core : Core) (p : Processor) (program : List Instr) (found : Option Instr) (instr : Instr) (action a : Action) → HardwareFitsTest t m → core.0 < length t.programs
     → p ≡ slice_index_or m.processors.items core.0 p → program ≡ program_of t core.0 → found ≡ slice_get program p.place → found ≡ Some instr → action ≡ action_of instr → action ≡ a
     → IsNext t m core p a
 is-next t m core p program found instr action a fits h q programs finds some does is = record {
@@ -51,10 +51,10 @@ is-next t m core p program found instr action a fits h q programs finds some doe
   action_is = sym does ∙ is;
 }
 
-pub access-next : {P : Type 0} (t : Litmus) (m : MachineParts P) (core : Core) (p : Processor) (a : Action) → IsNext t m core p a → access_of t m.config.depth (state_in m).flat (Step core) ≡ access_by p.stores.depth a (pending_in core.0 p)
+pub access-next : {P : Type 0} (t : Litmus) (m : Hardware P) (core : Core) (p : Processor) (a : Action) → IsNext t m core p a → access_of t m.config.depth (state_in m).flat (Step core) ≡ access_by p.stores.depth a (pending_in core.0 p)
 access-next t m core p a next =
     access_of-step t m core p next.instr next.within next.core_is next.depth_is next.got ∙ ap (λ action. access_by p.stores.depth action (pending_in core.0 p)) next.action_is
 
-pub effect-next : {P : Type 0} (t : Litmus) (m : MachineParts P) (core : Core) (p : Processor) (a : Action) → IsNext t m core p a → flat_effect_in t m (Step core) ≡ action_by a core.0 p (words_of m.bus)
+pub effect-next : {P : Type 0} (t : Litmus) (m : Hardware P) (core : Core) (p : Processor) (a : Action) → IsNext t m core p a → flat_effect_in t m (Step core) ≡ action_by a core.0 p (words_of m.bus)
 effect-next t m core p a next =
     effect_in-step t m core p next.instr next.within next.core_is next.depth_is next.got ∙ ap (λ action. action_by action core.0 p (words_of m.bus)) next.action_is

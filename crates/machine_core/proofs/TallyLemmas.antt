@@ -1,40 +1,40 @@
--- The counts of a machine's parts from choice to choice.
+-- The counts of a machine's hardware from choice to choice.
 use Rattle.std.proofs.Common.{◌≡◌, ◌<◌, ◌+◌, ℕ, zero, suc, List, [], ◌∷◌, ◌++◌, None, length, replicate, take, All, sym, ap, ◌∙◌, subst, arith}
 use Rattle.std.proofs.Math.Seq.{take-append_seam}
 use Rattle.std.proofs.lemmas.List.{length-map, length-replicate}
 use Rattle.tso_model.specs.Litmus.{Litmus, IsTest}
 use Rattle.tso_model.specs.FlatMachine.{chosen, core_of, started, idle}
-use Rattle.tso_model.specs.Access.{access_of}
+use Rattle.tso_model.specs.MemoryAccess.{access_of}
 use Rattle.tso_model.specs.SplitMachine.{Free}
 use Rattle.tso_model.specs.EitherBus.{BusState}
 use Rattle.tso_model.specs.declared.instruction.Instr.{Instr}
 use Rattle.tso_model.specs.declared.choice.Choice.{Choice}
 use Rattle.tso_model.specs.declared.choice.Outcome.{Outcome}
 use Rattle.split_laws.specs.Holders.{HolderFits}
-use Rattle.snoop_bus.specs.Bus.{Bus}
+use Rattle.snoop_bus.specs.Bus.{BusModel}
 use Rattle.snoop_bus.specs.Accesses.{contents_of}
 use Rattle.machine_core.specs.declared.counts.Counts.{Counts}
-use Rattle.machine_core.specs.declared.cache_use.CacheUse.{CacheUse}
-use Rattle.machine_core.specs.declared.machine_parts.MachineParts.{MachineParts}
+use Rattle.machine_core.specs.declared.accesses.CacheUse.{CacheUse}
+use Rattle.machine_core.specs.declared.hardware.Hardware.{Hardware}
 use Rattle.machine_core.specs.Caches.{caches_of, is_awaited}
 use Rattle.machine_core.specs.Statistics.{Statistics, counted, no_counts}
-use Rattle.machine_core.specs.Kept.{PartsFitTest, IsAtMost, state_in}
-use Rattle.machine_core.specs.inner.Kept.{IsIssued, IsTallied, IsFlusherAmong, done_in, most_counted, statistics_in}
-use Rattle.machine_core.specs.Performed.{HasUsed, Performs}
-use Rattle.machine_core.specs.inner.Performed.{attempt_in, effect_in}
+use Rattle.machine_core.specs.Keeping.{HardwareFitsTest, IsAtMost, state_in}
+use Rattle.machine_core.specs.inner.Keeping.{IsIssued, IsTallied, IsFlusherAmong, done_in, most_counted, statistics_in}
+use Rattle.machine_core.specs.Effects.{HasUsed, HasEffect}
+use Rattle.machine_core.specs.inner.Effects.{attempt_in, effect_in}
 use Rattle.machine_core.specs.Split.{use_by}
 use Rattle.machine_core.proofs.Advancing.{advances-on}
 use Rattle.machine_core.proofs.CoreLemmas.{length-core_states}
 use Rattle.machine_core.proofs.CountBounds.{length-counted, nothing-counted}
 use Rattle.machine_core.proofs.CountsOnBus.{senders, few-counted, tallied-after}
 
-length-cores : {P : Type 0} (t : Litmus) (m : MachineParts P) → PartsFitTest t m → length (state_in m).flat.cores ≡ length t.programs
+length-cores : {P : Type 0} (t : Litmus) (m : Hardware P) → HardwareFitsTest t m → length (state_in m).flat.cores ≡ length t.programs
 length-cores t m fits = length-core_states 0 m.processors.items ∙ fits.cores
 
-length-contents : {P : Type 0} (t : Litmus) (m : MachineParts P) → PartsFitTest t m → length (contents_of m.bus) ≡ length t.programs
+length-contents : {P : Type 0} (t : Litmus) (m : Hardware P) → HardwareFitsTest t m → length (contents_of m.bus) ≡ length t.programs
 length-contents t m fits = length-map m.bus.caches _ ∙ fits.on_bus
 
-pub flusher-next : {P : Type 0} (t : Litmus) (m : MachineParts P) (choice : Choice) (bus : Bus) (how : CacheUse) (counts : List Counts) → PartsFitTest t m → IsTallied t (state_in m) (statistics_in m)
+pub flusher-next : {P : Type 0} (t : Litmus) (m : Hardware P) (choice : Choice) (bus : BusModel) (how : CacheUse) (counts : List Counts) → HardwareFitsTest t m → IsTallied t (state_in m) (statistics_in m)
     → HasUsed (use_by t m choice (effect_in t m choice)) bus how → counts ≡ m.counts.items → IsFlusherAmong (length counts) how
 flusher-next t m choice bus how counts fits tallied used same =
     let size : length (contents_of m.bus) ≡ length counts = length-contents t m fits ∙ sym tallied.cores ∙ ap length (sym same) in
@@ -44,13 +44,13 @@ flusher-next t m choice bus how counts fits tallied used same =
     (senders (is_awaited (state_in m).holder) (is_awaited f.holder) (caches_of m.bus) (chosen choice) (access_of t m.config.depth (state_in m).flat choice) (core_of (state_in m).flat (chosen choice)).pending f.effect.commits
     (rw (length-contents t m fits) tallied.sender)).0)
 
-pub few-next : {P : Type 0} (t : Litmus) (m : MachineParts P) (counts : List Counts) → PartsFitTest t m → IsTallied t (state_in m) (statistics_in m) → counts ≡ m.counts.items
+pub few-next : {P : Type 0} (t : Litmus) (m : Hardware P) (counts : List Counts) → HardwareFitsTest t m → IsTallied t (state_in m) (statistics_in m) → counts ≡ m.counts.items
     → All (IsAtMost most_counted) counts
 few-next t m counts fits tallied same = subst (All (IsAtMost most_counted)) (sym same) (few-counted t (state_in m) (statistics_in m) (length-cores t m fits) tallied)
 
-pub tallied-next : {P : Type 0} (t : Litmus) (m new : MachineParts P) (choice : Choice) (o : Outcome) (how : CacheUse) (core len : ℕ) (before after rest : List Counts)
-    → PartsFitTest t m → chosen choice < length t.programs → HolderFits m.config.bus t m.config.depth (state_in m).flat (state_in m).holder → IsTallied t (state_in m) (statistics_in m)
-    → Performs m new choice (effect_in t m choice) o → HasUsed (use_by t m choice (effect_in t m choice)) new.bus how → core ≡ chosen choice → before ≡ m.counts.items → after ≡ counted core how before → len ≡ length before
+pub tallied-next : {P : Type 0} (t : Litmus) (m new : Hardware P) (choice : Choice) (o : Outcome) (how : CacheUse) (core len : ℕ) (before after rest : List Counts)
+    → HardwareFitsTest t m → chosen choice < length t.programs → HolderFits m.config.bus t m.config.depth (state_in m).flat (state_in m).holder → IsTallied t (state_in m) (statistics_in m)
+    → HasEffect m new choice (effect_in t m choice) o → HasUsed (use_by t m choice (effect_in t m choice)) new.bus how → core ≡ chosen choice → before ≡ m.counts.items → after ≡ counted core how before → len ≡ length before
     → IsTallied t (state_in new) (record { caches = caches_of new.bus; counts = take len (after ++ rest) })
 tallied-next t m new choice o how core len before after rest fits h holder tallied done used is same counts size =
     let u = use_by t m choice (effect_in t m choice) in

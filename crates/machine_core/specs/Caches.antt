@@ -6,7 +6,7 @@ use Rattle.std.specs.List.{list_any}
 use Rattle.tso_model.specs.Litmus.{Litmus}
 use Rattle.tso_model.specs.ProgramOrder.{writes_to}
 use Rattle.tso_model.specs.FlatMachine.{State, chosen, core_of}
-use Rattle.tso_model.specs.Access.{Access, NoAccess, Reads, Writes, Locks, access_of}
+use Rattle.tso_model.specs.MemoryAccess.{MemoryAccess, NoAccess, Reads, Writes, Locks, access_of}
 use Rattle.tso_model.specs.SplitMachine.{Holder, Free, HeldBy, HeldBetween, Attempt, BusEffect}
 use Rattle.tso_model.specs.EitherBus.{BusState, effect_on, after_on}
 use Rattle.tso_model.specs.declared.instruction.Loc.{Loc}
@@ -17,12 +17,12 @@ use Rattle.tso_model.specs.declared.choice.Choice.{Choice}
 use Rattle.snoop_bus.specs.Geometry.{Geometry}
 use Rattle.snoop_bus.specs.Rows.{Rows, table_of_rows}
 use Rattle.snoop_bus.specs.CacheContents.{TagSets, Accessed, loaded, written}
-use Rattle.snoop_bus.specs.Asks.{Awaited, Asked, hits, request_for, asking, completed}
-use Rattle.snoop_bus.specs.Bus.{Bus}
+use Rattle.snoop_bus.specs.Asks.{Awaited, AskedAccess, hits, request_for, asking, completed}
+use Rattle.snoop_bus.specs.Bus.{BusModel}
 use Rattle.snoop_bus.specs.Accesses.{contents_of, awaited_of}
-use Rattle.machine_core.specs.declared.cache_use.CacheUse.{CacheUse}
-use Rattle.machine_core.specs.declared.cache_use.CacheUse.TheVariants.{Unused, Forwarded, Through}
-use Rattle.tso_model.specs.declared.bus.Bus as kind
+use Rattle.machine_core.specs.declared.accesses.CacheUse.{CacheUse}
+use Rattle.machine_core.specs.declared.accesses.CacheUse.TheVariants.{Unused, Forwarded, Through}
+use Rattle.tso_model.specs.declared.choice.Bus as kind
 
 -- the caches without their words: the protocol's table row by row, their shape, the lines and states in them, and what an
 -- action that holds the bus awaits
@@ -32,7 +32,7 @@ pub record Caches : Type 0 where
   pub contents : List TagSets
   pub awaited : Option Awaited
 
-abbrev pub caches_of : Bus → Caches
+abbrev pub caches_of : BusModel → Caches
 caches_of b = record { rows = b.rows; shape = b.shape; contents = contents_of b; awaited = awaited_of b }
 
 -- what a choice has to do with the caches, and the caches after it
@@ -60,7 +60,7 @@ abbrev pub would_hit : Caches → ℕ → ℕ → Bool → Bool
 would_hit c core loc write = hits (table_of_rows c.rows) core (loc / c.shape.words) write c.contents
 
 -- what is so of an access at a location, a read or a write access, and what where there is none
-abbrev pub at_access : {A : Type 0} → A → (Loc → Bool → A) → Access → A
+abbrev pub at_access : {A : Type 0} → A → (Loc → Bool → A) → MemoryAccess → A
 at_access none at NoAccess = none
 at_access none at (Reads loc) = at loc false
 at_access none at (Writes loc) = at loc true
@@ -68,7 +68,7 @@ at_access none at (Locks loc) = at loc true
 
 -- the first half of such an access on a split bus: the other caches see what is asked for, and that is awaited; it is no
 -- access yet
-abbrev pub asked_with : Caches → Asked → Caches
+abbrev pub asked_with : Caches → AskedAccess → Caches
 asked_with c a = record { rows = c.rows; shape = c.shape; contents = a.caches; awaited = a.awaited }
 
 abbrev pub ask_by : Caches → ℕ → ℕ → Bool → Used
@@ -76,14 +76,14 @@ ask_by c core loc write =
     not_through Unused (asked_with c (asking (table_of_rows c.rows) (request_for write) core (loc / c.shape.words) c.contents))
 
 -- of an action that may make no access
-abbrev pub asking_by : Caches → ℕ → Access → Used
+abbrev pub asking_by : Caches → ℕ → MemoryAccess → Used
 asking_by c core what = at_access (not_through Unused c) (λ loc write. ask_by c core loc.0 write) what
 
 -- the second half: what was awaited comes, and the access is made
 abbrev pub completion_by : Caches → ℕ → ℕ → Used
 completion_by c core loc = through c None (completed (table_of_rows c.rows) core (loc / c.shape.words) c.awaited c.contents)
 
-abbrev pub completing_by : Caches → ℕ → Access → Used
+abbrev pub completing_by : Caches → ℕ → MemoryAccess → Used
 completing_by c core what = at_access (not_through Unused c) (λ loc write. completion_by c core loc.0) what
 
 -- a load is answered by the core's own pending stores where one of them is to its location
@@ -104,7 +104,7 @@ use_of c pending [] = not_through Unused c
 use_of c pending (e ∷ es) = use_by_kind c pending e e.kind
 
 -- whether a core's access is a hit
-abbrev pub hits_by : Caches → ℕ → Access → Bool
+abbrev pub hits_by : Caches → ℕ → MemoryAccess → Bool
 hits_by c core access = at_access false (λ loc write. would_hit c core loc.0 write) access
 
 -- a choice in this state, with the caches' answer whether its access hits
@@ -120,7 +120,7 @@ is_awaited (HeldBetween e) = false
 -- what a core's choice with this access and these commits has to do with the caches, by whether an access was awaited
 -- before it and whether one is awaited after it: where the waiting begins the access is asked for, where it ends the access
 -- is completed, and all else that is committed is one whole access
-abbrev pub used_between : Bool → Bool → Caches → ℕ → Access → List Entry → List Entry → Used
+abbrev pub used_between : Bool → Bool → Caches → ℕ → MemoryAccess → List Entry → List Entry → Used
 used_between false true c core what pending commits = asking_by c core what
 used_between true false c core what pending commits = completing_by c core what
 used_between false false c core what pending commits = use_of c pending commits

@@ -2,7 +2,7 @@
 -- the atomic bus the shape of the caches has a part in the statistics alone. (This project's profile.)
 use Rattle.std.specs.Prelude.{ℕ, ◌≤◌}
 use Rattle.tso_model.specs.Limits.{most_depth}
-use Rattle.tso_model.specs.declared.bus.Bus.{Bus}
+use Rattle.tso_model.specs.declared.choice.Bus.{Bus}
 use Rattle.snoop_bus.specs.Geometry.{Geometry}
 use Rattle.snoop_bus.specs.Geometry as shape
 

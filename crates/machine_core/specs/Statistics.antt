@@ -6,7 +6,7 @@ use Rattle.tso_model.specs.Litmus.{Litmus}
 use Rattle.tso_model.specs.FlatMachine.{chosen, start}
 use Rattle.tso_model.specs.Runs.{has_ended}
 use Rattle.tso_model.specs.EitherBus.{BusState, unheld}
-use Rattle.tso_model.specs.declared.bus.Bus.{Bus}
+use Rattle.tso_model.specs.declared.choice.Bus.{Bus}
 use Rattle.tso_model.specs.declared.instruction.Core.{Core}
 use Rattle.tso_model.specs.declared.choice.Choice.{Choice}
 use Rattle.protocol_tables.specs.Tables.{Table}
@@ -15,8 +15,8 @@ use Rattle.snoop_bus.specs.declared.access.AccessKind.TheVariants.{Hit, Upgrade,
 use Rattle.snoop_bus.specs.Geometry.{Geometry}
 use Rattle.snoop_bus.specs.Accesses.{new_bus}
 use Rattle.machine_core.specs.declared.counts.Counts.{Counts}
-use Rattle.machine_core.specs.declared.cache_use.CacheUse.{CacheUse}
-use Rattle.machine_core.specs.declared.cache_use.CacheUse.TheVariants.{Unused, Forwarded, Through}
+use Rattle.machine_core.specs.declared.accesses.CacheUse.{CacheUse}
+use Rattle.machine_core.specs.declared.accesses.CacheUse.TheVariants.{Unused, Forwarded, Through}
 use Rattle.machine_core.specs.Caches.{Caches, Used, caches_of, use_on, state_after_on}
 
 abbrev pub counts : ℕ → ℕ → ℕ → ℕ → ℕ → ℕ → Counts

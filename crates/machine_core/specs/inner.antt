@@ -1,13 +1,13 @@
 -- Words of contracts inside the project.
-pub mod Acted
+pub mod OneCore
 pub mod Buffers
 pub mod Caches
 pub mod Cores
-pub mod Kept
-pub mod Looked
+pub mod Keeping
+pub mod Looking
 pub mod Machine
-pub mod Made
-pub mod Performed
+pub mod OneChoice
+pub mod Effects
 pub mod Running
 pub mod Split
 pub mod Turns

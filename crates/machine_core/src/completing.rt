@@ -7,26 +7,24 @@ ghost use Rattle.tso_model.specs.Thread.{entry};
 ghost use Rattle.tso_model.specs.FlatMachine.{chosen};
 ghost use Rattle.tso_model.specs.SplitMachine.{HeldBy, HeldBetween};
 ghost use Rattle.tso_model.specs.declared.execution.Kind.TheVariants.{LR};
-ghost use Rattle.tso_model.specs.declared.bus.Bus.TheVariants as Bus;
+ghost use Rattle.tso_model.specs.declared.choice.Bus.TheVariants as Bus;
 ghost use Rattle.snoop_bus.specs.Bus.{words_of, cores_of, holder_of};
 ghost use Rattle.snoop_bus.specs.Held.{holder};
 ghost use Rattle.snoop_bus.specs.declared.holding.Stage.TheVariants as Stage;
 ghost use Rattle.machine_core.specs.inner.Cores.{word_at};
 ghost use Rattle.machine_core.specs.Caches.{caches_of, completion_by};
-ghost use Rattle.machine_core.specs.Kept.{state_in};
-ghost use Rattle.machine_core.specs.Performed.{HasUsed};
-ghost use Rattle.machine_core.specs.inner.Acted.{Notes};
+ghost use Rattle.machine_core.specs.Keeping.{state_in};
+ghost use Rattle.machine_core.specs.Effects.{HasUsed};
+ghost use Rattle.machine_core.specs.inner.OneCore.{Notes};
 ghost use Rattle.machine_core.specs.Split.{completes_in};
 ghost use Rattle.machine_core.specs.inner.Split.{writes_last_in, IsLock, WritesAs};
-ghost use Rattle.machine_core.specs.Made.{AreConsistent, AreOfTest, HasMade, Makes, IsUndone, KeepsParts};
+ghost use Rattle.machine_core.specs.OneChoice.{AreConsistent, AreOfTest, HasMade, Makes, IsUndone, KeepsHardware};
 
-use crate::asking::access_of;
-use crate::cache_use::CacheUse;
-use crate::holding::Next;
-use crate::machine_parts::{MachineParts, act, core_of, instruction_at};
-use crate::memory_access::MemoryAccess;
-use crate::noting::entry;
+use crate::accesses::{CacheUse, MemoryAccess, Next};
+use crate::entries::entry;
+use crate::hardware::{Hardware, act, core_of, instruction_at};
 use crate::processor::{Processor, advance};
+use crate::split::access_of;
 use crate::turn::Way;
 use order_builder::Commits;
 use protocol_tables::Protocol;
@@ -37,29 +35,35 @@ use tso_model::{Action, Choice, Core, Entry, Kind, Loc, NoMemory, Outcome, Reg, 
 ///
 /// Errors: out of memory only; nothing is changed then.
 pub fn complete<P: Protocol>(
-    parts: &mut MachineParts<P>,
+    hardware: &mut Hardware<P>,
     test: &Test,
     choice: Choice,
 ) -> Result<(Outcome, CacheUse), NoMemory>
     requires core { chosen choice < length test.now.programs }
-    requires consistent { AreConsistent Bus.Split test.now parts.old }
-    requires asked { (state_in parts.old).holder ≡ HeldBy choice }
+    requires consistent { AreConsistent Bus.Split test.now hardware.old }
+    requires asked { (state_in hardware.old).holder ≡ HeldBy choice }
 
-    ensures makes { IfOk result (Makes completes_in test.now parts.old parts.new choice) }
-    ensures commits_at_once { (completes_in test.now parts.old choice).effect.outcome ≡ Outcome.Committed }
-    ensures err { OnErr result (IsUndone parts.old parts.new) }
-    ensures keeps { KeepsParts parts.old parts.new }
-    ensures of_test { AreOfTest test.now parts.new }
+    ensures makes { IfOk result (Makes completes_in test.now hardware.old hardware.new choice) }
+    ensures commits_at_once { (completes_in test.now hardware.old choice).effect.outcome ≡ Outcome.Committed }
+    ensures err { OnErr result (IsUndone hardware.old hardware.new) }
+    ensures keeps { KeepsHardware hardware.old hardware.new }
+    ensures of_test { AreOfTest test.now hardware.new }
 {
-    match access_of(parts, test, choice) {
+    match access_of(hardware, test, choice) {
         MemoryAccess::Lock(loc) => {
             let core = core_of(choice);
-            let place = parts.processors[core.0 as usize].place;
-            let (entry, access) = read_first(core, place, loc, &mut parts.bus, &mut parts.commits)?;
-            parts.next = Next::Write(entry);
+            let place = hardware.processors[core.0 as usize].place;
+            let (entry, access) = read_first(
+                core,
+                place,
+                loc,
+                &mut hardware.bus,
+                &mut hardware.commits,
+            )?;
+            hardware.next = Next::Write(entry);
             Ok((Outcome::Committed, CacheUse::Through(access)))
         }
-        _ => act(parts, test, choice, Way::Asked),
+        _ => act(hardware, test, choice, Way::Asked),
     }
 }
 
@@ -94,28 +98,28 @@ fn read_first<P: Protocol>(
 ///
 /// Errors: out of memory only; nothing is changed then.
 pub fn write_last<P: Protocol>(
-    parts: &mut MachineParts<P>,
+    hardware: &mut Hardware<P>,
     test: &Test,
     read: Entry,
 ) -> Result<(Outcome, CacheUse), NoMemory>
     requires core { chosen (Choice.Step read.core) < length test.now.programs }
-    requires consistent { AreConsistent Bus.Split test.now parts.old }
-    requires between { (state_in parts.old).holder ≡ HeldBetween read }
+    requires consistent { AreConsistent Bus.Split test.now hardware.old }
+    requires between { (state_in hardware.old).holder ≡ HeldBetween read }
 
-    ensures makes { IfOk result (HasMade test.now parts.old parts.new (Choice.Step read.core) (writes_last_in test.now parts.old read)) }
-    ensures commits_at_once { (writes_last_in test.now parts.old read).effect.outcome ≡ Outcome.Committed }
-    ensures err { OnErr result (IsUndone parts.old parts.new) }
-    ensures keeps { KeepsParts parts.old parts.new }
-    ensures of_test { AreOfTest test.now parts.new }
+    ensures makes { IfOk result (HasMade test.now hardware.old hardware.new (Choice.Step read.core) (writes_last_in test.now hardware.old read)) }
+    ensures commits_at_once { (writes_last_in test.now hardware.old read).effect.outcome ≡ Outcome.Committed }
+    ensures err { OnErr result (IsUndone hardware.old hardware.new) }
+    ensures keeps { KeepsHardware hardware.old hardware.new }
+    ensures of_test { AreOfTest test.now hardware.new }
 {
     let core = read.core;
-    let processor = &mut parts.processors[core.0 as usize];
+    let processor = &mut hardware.processors[core.0 as usize];
     let instr = instruction_at(test.program(core), processor.place).unwrap();
     let (reg, value) = written(processor, instr.action(), read.value);
-    parts
+    hardware
         .commits
         .note(entry(core, read.place, Kind::LW, read.loc, value))?;
-    parts.bus.complete_write(core, read.loc, value);
+    hardware.bus.complete_write(core, read.loc, value);
     advance(processor, reg, read.value);
     Ok((Outcome::Committed, CacheUse::Unused))
 }

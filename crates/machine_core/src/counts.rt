@@ -1,5 +1,16 @@
-//! The statistics of one core's cache. Each access is counted once, by the choice that makes it; a load that the store
-//! buffer answers (a forward) is no access of the cache. (Primer, chapters 6 and 7, for hits, misses and upgrades.)
+//! The statistics of one core's cache, and how the accesses of a run are counted. Each access is counted once, by the
+//! choice that makes it; a load that the store buffer answers (a forward) is no access of the cache. All counts are the
+//! acting core's, but for a flush: that is the core's whose copy was sent to memory when another one loaded the line.
+//! (Primer, chapters 6 and 7, for hits, misses and upgrades.)
+
+ghost use Rattle.std.specs.Prelude.{◌≡◌, ◌<◌, All, IfSome, length};
+ghost use Rattle.machine_core.specs.Statistics.{counted, at_core, with_access, with_write_back, with_forward, with_flush};
+ghost use Rattle.machine_core.specs.Keeping.{IsAtMost};
+ghost use Rattle.machine_core.specs.inner.Keeping.{IsFlusherAmong, most_counted};
+
+use crate::accesses::CacheUse;
+use snoop_bus::{Access, AccessKind};
+use tso_model::Core;
 
 /// What the accesses of one core's cache were, counted over a run. A load that the core's own pending
 /// stores answer is no access; a locked instruction is one write access.
@@ -29,4 +40,38 @@ impl Counts {
         write_backs: 0,
         flushes: 0,
     };
+}
+
+/// Counts what a choice of this core had to do with the caches.
+pub fn tally(counts: &mut [Counts], core: Core, cache_use: CacheUse)
+    requires core { core.0 < length counts.old }
+    requires flusher { IsFlusherAmong (length counts.old) cache_use }
+    requires few { All (IsAtMost most_counted) counts.old }
+    ensures { counts.new ≡ counted core.0 cache_use counts.old }
+{
+    match cache_use {
+        CacheUse::Unused => {}
+        CacheUse::Forwarded => counts[core.0 as usize].forwards += 1,
+        CacheUse::Through(access) => {
+            tally_access(&mut counts[core.0 as usize], access);
+            if let Some(flusher) = access.flushed {
+                counts[flusher.0 as usize].flushes += 1;
+            }
+        }
+    }
+}
+
+/// Counts an access of the core itself.
+fn tally_access(counts: &mut Counts, access: Access)
+    requires few { IsAtMost most_counted counts.old }
+    ensures value { counts.new ≡ with_write_back access.wrote_back (with_access access.kind counts.old) }
+{
+    match access.kind {
+        AccessKind::Hit => counts.hits += 1,
+        AccessKind::Miss => counts.misses += 1,
+        AccessKind::Upgrade => counts.upgrades += 1,
+    }
+    if access.wrote_back {
+        counts.write_backs += 1;
+    }
 }

@@ -2,9 +2,9 @@
 //! line is written back before memory is read.
 ghost use Rattle.std.specs.Prelude.{◌≡◌, IfOk, map};
 ghost use Rattle.snoop_bus.specs.Bus.{words_of, IsFree, IsSameMachine};
-ghost use Rattle.machine_core.specs.Kept.{PartsFitTest};
+ghost use Rattle.machine_core.specs.Keeping.{HardwareFitsTest};
 
-use crate::machine_parts::{MachineParts, memory_of, registers_of};
+use crate::hardware::{Hardware, memory_of, registers_of};
 use protocol_tables::Protocol;
 use std::alloc::Global;
 use tso_model::{NoMemory, Test};
@@ -23,21 +23,21 @@ pub struct FinalState {
 /// Errors: out of memory only.
 pub fn final_state<P: Protocol>(
     alloc: Global,
-    parts: &mut MachineParts<P>,
+    hardware: &mut Hardware<P>,
     test: &Test,
 ) -> Result<FinalState, NoMemory>
-    requires fits { PartsFitTest test.now parts.old }
-    requires free { IsFree parts.old.bus }
+    requires fits { HardwareFitsTest test.now hardware.old }
+    requires free { IsFree hardware.old.bus }
 
-    ensures registers { IfOk result (λ f. f.registers.items ≡ map (λ p. p.registers) parts.old.processors.items) }
-    ensures memory { IfOk result (λ f. f.memory.items ≡ words_of parts.old.bus) }
-    ensures fits { PartsFitTest test.now parts.new }
-    ensures machine { IsSameMachine parts.old.bus parts.new.bus }
-    ensures config { parts.new.config ≡ parts.old.config }
-    ensures counts { parts.new.counts.items ≡ parts.old.counts.items }
+    ensures registers { IfOk result (λ f. f.registers.items ≡ map (λ p. p.registers) hardware.old.processors.items) }
+    ensures memory { IfOk result (λ f. f.memory.items ≡ words_of hardware.old.bus) }
+    ensures fits { HardwareFitsTest test.now hardware.new }
+    ensures machine { IsSameMachine hardware.old.bus hardware.new.bus }
+    ensures config { hardware.new.config ≡ hardware.old.config }
+    ensures counts { hardware.new.counts.items ≡ hardware.old.counts.items }
 {
-    parts.bus.settle();
-    let registers = registers_of(alloc, &parts.processors)?;
-    let memory = memory_of(alloc, &parts.bus, test.locations())?;
+    hardware.bus.settle();
+    let registers = registers_of(alloc, &hardware.processors)?;
+    let memory = memory_of(alloc, &hardware.bus, test.locations())?;
     Ok(FinalState { registers, memory })
 }

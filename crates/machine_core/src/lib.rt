@@ -6,33 +6,28 @@
 //! were, which goes by both.
 #![tactic(auto)]
 
-mod asking;
-pub mod cache_use;
+pub mod accesses;
 mod completing;
 pub mod config;
 pub mod counts;
 pub mod ending;
-mod holding;
+mod entries;
+mod hardware;
 mod locked;
 pub mod looking;
 pub mod machine;
-mod machine_parts;
-pub mod memory_access;
-mod noting;
 mod pending_stores;
 mod processor;
 mod restarting;
-mod tallying;
-pub mod telling;
+mod split;
 mod turn;
 pub mod worked;
 
-pub use cache_use::CacheUse;
+pub use accesses::{CacheUse, MemoryAccess};
 pub use config::Config;
 pub use counts::Counts;
 pub use ending::FinalState;
 pub use looking::BusHolder;
 pub use machine::{Final, Machine};
-pub use memory_access::MemoryAccess;
 pub use snoop_bus::{CachedLine, Shape};
 pub use tso_model::{Bus, Choice, Outcome, Stall};

@@ -3,15 +3,15 @@
 //! Primer, chapter 4.)
 ghost use Rattle.std.specs.Prelude.{◌≡◌, ◌<◌, ◌≤◌, ◌++◌, IsOk, IfOk, OnOk, OnErr};
 ghost use Rattle.tso_model.specs.Limits.{most_instructions};
-ghost use Rattle.tso_model.specs.Access.{locked_access};
+ghost use Rattle.tso_model.specs.MemoryAccess.{locked_access};
 ghost use Rattle.snoop_bus.specs.Bus.{words_of};
 ghost use Rattle.machine_core.specs.inner.Cores.{pending_in, lock_by, both_parts};
-ghost use Rattle.machine_core.specs.inner.Performed.{MayAccess};
+ghost use Rattle.machine_core.specs.inner.Effects.{MayAccess};
 ghost use Rattle.machine_core.specs.inner.Turns.{whole};
-ghost use Rattle.machine_core.specs.inner.Acted.{Acts, SucceedsUnlessCommitting, AreUnchanged, HasSameSizes};
+ghost use Rattle.machine_core.specs.inner.OneCore.{Acts, SucceedsUnlessCommitting, AreUnchanged, HasSameSizes};
 
-use crate::cache_use::CacheUse;
-use crate::noting::entry;
+use crate::accesses::CacheUse;
+use crate::entries::entry;
 use crate::processor::{Processor, advance};
 use order_builder::Commits;
 use protocol_tables::Protocol;

@@ -1,16 +1,22 @@
-//! A machine between two choices, for one who only looks. No call changes anything or takes memory: a run that is looked at
-//! stays the same run.
-ghost use Rattle.std.specs.Prelude.{◌≡◌, option_copied, option_map, slice_get};
+//! A machine between two choices, for one who only looks: its state, what a choice is about to do, and what the caches
+//! have. No call changes anything or takes memory: a run that is looked at stays the same run.
+
+ghost use Rattle.std.specs.Prelude.{◌≡◌, option_copied, option_map, slice_get, ◌<◌, length};
 ghost use Rattle.tso_model.specs.Thread.{value_in};
 ghost use Rattle.machine_core.specs.Cores.{core_state};
-ghost use Rattle.machine_core.specs.inner.Looked.{core_at, pending_at, cached_line};
-ghost use Rattle.machine_core.specs.Looked.{bus_holder_of};
+ghost use Rattle.machine_core.specs.inner.Looking.{core_at, pending_at, cached_line};
+ghost use Rattle.machine_core.specs.Looking.{bus_holder_of};
+ghost use Rattle.tso_model.specs.FlatMachine.{chosen};
+ghost use Rattle.tso_model.specs.MemoryAccess.{access_of};
+ghost use Rattle.snoop_bus.specs.Asks.{tag_at, awaited_by};
+ghost use Rattle.machine_core.specs.inner.Keeping.{access_in};
 
-use crate::holding::Next;
+use crate::accesses::{MemoryAccess, Next};
 use crate::machine::Machine;
 use crate::processor::Processor;
-use protocol_tables::{Protocol, Transient};
-use snoop_bus::CachedLine;
+use crate::split::access_of;
+use protocol_tables::{Protocol, State, Transient};
+use snoop_bus::{CachedLine, Transaction};
 use tso_model::{Choice, Core, Entry, Loc, Reg};
 
 /// The action that holds a split bus.
@@ -30,7 +36,7 @@ impl<'a, P: Protocol> Machine<'a, P> {
     fn processor(&self, core: Core) -> Option<&Processor>
         ensures { option_map (core_state core.0) (option_copied result) ≡ core_at self.now core.0 }
     {
-        self.parts.processors.get(usize::from(core.0))
+        self.hardware.processors.get(usize::from(core.0))
     }
 
     /// Where a core stands in its program: the number of its next instruction, from 0. `None` where the test
@@ -73,7 +79,7 @@ impl<'a, P: Protocol> Machine<'a, P> {
         ensures { result ≡ slice_get self.now.state.flat.memory loc.0 }
     {
         if loc.0 < self.test.locations() {
-            Some(self.parts.bus.word(loc))
+            Some(self.hardware.bus.word(loc))
         } else {
             None
         }
@@ -83,7 +89,7 @@ impl<'a, P: Protocol> Machine<'a, P> {
     pub fn committed(&self) -> &[Entry]
         ensures { result.now ≡ self.now.commits }
     {
-        self.parts.commits.entries()
+        self.hardware.commits.entries()
     }
 
     /// The line of this rank in a set of a core's cache, where rank 0 is the most recently used. `None` where
@@ -91,22 +97,48 @@ impl<'a, P: Protocol> Machine<'a, P> {
     pub fn cached_line(&self, core: Core, set: u8, rank: usize) -> Option<CachedLine>
         ensures { result ≡ cached_line self.now core.0 set rank }
     {
-        self.parts.bus.ranked(core, set, rank)
+        self.hardware.bus.ranked(core, set, rank)
     }
 
     /// The action that holds the bus. `None` where nobody does, as on the atomic bus at all times.
     pub fn bus_holder(&self) -> Option<BusHolder>
         ensures { result ≡ bus_holder_of self.now }
     {
-        let choice = match self.parts.next {
+        let choice = match self.hardware.next {
             Next::Complete(choice) => choice,
             Next::Write(read) => Choice::Step(read.core),
         };
-        let holder = self.parts.bus.who_holds()?;
+        let holder = self.hardware.bus.who_holds()?;
         Some(BusHolder {
             choice,
             loc: holder.loc,
-            transient: self.parts.bus.transient(),
+            transient: self.hardware.bus.transient(),
         })
+    }
+}
+
+impl<'a, P: Protocol> Machine<'a, P> {
+    /// The access that a choice makes, beyond its core's own pending stores.
+    pub fn access(&self, choice: Choice) -> MemoryAccess
+        requires { chosen choice < length self.now.test.programs }
+        ensures { access_in result ≡ access_of self.now.test self.now.depth self.now.state.flat choice }
+    {
+        access_of(&self.hardware, self.test, choice)
+    }
+
+    /// The state of a core's copy of a line, by the line's number; `None` where it has none.
+    pub fn copy_state(&self, core: Core, line: u8) -> Option<State>
+        requires { core.0 < length self.now.test.programs }
+        ensures { result ≡ tag_at core.0 line self.now.statistics.caches.contents }
+    {
+        self.hardware.bus.copy_state(core, line)
+    }
+
+    /// What the action that holds a split bus awaits: the request that the other caches have seen, while its line
+    /// isn't yet filled. `None` where nothing is awaited, as on the atomic bus at all times.
+    pub fn awaited(&self) -> Option<Transaction>
+        ensures { option_map awaited_by result ≡ self.now.statistics.caches.awaited }
+    {
+        self.hardware.bus.awaited()
     }
 }

@@ -1,5 +1,5 @@
 //! The machine: a test, choices one at a time, and what is left. Its calls do little themselves; what a choice does is said
-//! of its parts. Once memory was refused to a choice the machine has failed for good, so that nobody takes a run with a gap
+//! of its hardware. Once memory was refused to a choice the machine has failed for good, so that nobody takes a run with a gap
 //! for a whole one.
 
 ghost use Rattle.std.specs.Prelude.{◌≡◌, ◌≢◌, ◌<◌, true, false, IsTrue, IsOk, IsErr, IfOk, OnOk, OnErr, length, map};
@@ -9,11 +9,11 @@ ghost use Rattle.machine_core.specs.Running.{new_machine, restarted, effect_by, 
 ghost use Rattle.machine_core.specs.inner.Running.{is_ended};
 ghost use Rattle.machine_core.specs.inner.Running.{IsAloneBetween, HasFailed};
 
-use crate::cache_use::CacheUse;
+use crate::accesses::CacheUse;
 use crate::config::Config;
 use crate::counts::Counts;
 use crate::ending::{FinalState, final_state};
-use crate::machine_parts::{MachineParts, are_done, begin, know_line_is_alone, perform};
+use crate::hardware::{Hardware, are_done, begin, know_line_is_alone, make_choice};
 use crate::restarting::restart;
 use order_builder::build;
 use protocol_tables::Protocol;
@@ -43,7 +43,7 @@ pub struct Final {
 #[derive(Drop)]
 pub struct Machine<'a, P: Protocol> {
     pub(crate) test: &'a Test,
-    pub(crate) parts: MachineParts<P>,
+    pub(crate) hardware: Hardware<P>,
     failed: bool,
 }
 
@@ -58,9 +58,9 @@ impl<'a, P: Protocol> Model for Machine<'a, P> {
 
     ghost use Rattle.machine_core.specs.inner.Machine.{running_of, IsMachine};
 
-    ghost view = { λ m. running_of m.test.now m.parts m.failed };
+    ghost view = { λ m. running_of m.test.now m.hardware m.failed };
 
-    ghost invariant = { λ m. IsMachine m.test.now m.parts };
+    ghost invariant = { λ m. IsMachine m.test.now m.hardware };
 }
 
 impl<'a, P: Protocol> Machine<'a, P> {
@@ -73,10 +73,10 @@ impl<'a, P: Protocol> Machine<'a, P> {
         ensures { IfOk result (λ m. m ≡ new_machine (P.table protocol) config test.now) }
     {
         attempts_lead_from_state_to_state();
-        let parts = begin(alloc, protocol, test, config)?;
+        let hardware = begin(alloc, protocol, test, config)?;
         Ok(Machine {
             test,
-            parts,
+            hardware,
             failed: false,
         })
     }
@@ -138,9 +138,9 @@ impl<'a, P: Protocol> Machine<'a, P> {
         if self.failed {
             return Err(NoMemory);
         }
-        let made = perform(&mut self.parts, self.test, choice);
+        let made = make_choice(&mut self.hardware, self.test, choice);
         self.failed = made.is_err();
-        know_line_is_alone(&self.parts, self.test);
+        know_line_is_alone(&self.hardware, self.test);
         made
     }
 
@@ -149,7 +149,7 @@ impl<'a, P: Protocol> Machine<'a, P> {
     pub fn is_ended(&self) -> bool
         ensures { result ≡ is_ended self.now }
     {
-        !self.failed && are_done(&self.parts, self.test)
+        !self.failed && are_done(&self.hardware, self.test)
     }
 
     /// Goes back to the beginning of the test: the machine is as `new` made it. It keeps its room, and no memory
@@ -158,7 +158,7 @@ impl<'a, P: Protocol> Machine<'a, P> {
         ensures { self.new ≡ restarted self.old }
     {
         attempts_lead_from_state_to_state();
-        restart(&mut self.parts, self.test);
+        restart(&mut self.hardware, self.test);
         self.failed = false;
     }
 
@@ -178,8 +178,8 @@ impl<'a, P: Protocol> Machine<'a, P> {
     {
         what_holds_so_far_on_either_bus();
         attempts_lead_from_state_to_state();
-        let state = final_state(alloc, &mut self.parts, self.test);
-        restart(&mut self.parts, self.test);
+        let state = final_state(alloc, &mut self.hardware, self.test);
+        restart(&mut self.hardware, self.test);
         self.failed = false;
         state
     }
@@ -200,13 +200,13 @@ impl<'a, P: Protocol> Machine<'a, P> {
         ensures locations { IfOk result (λ f. length f.state.memory.items ≡ length self.entry.test.locations) }
     {
         what_holds_so_far_on_either_bus();
-        let mut parts = self.parts;
-        let execution = build(alloc, &parts.commits)?;
-        let state = final_state(alloc, &mut parts, self.test)?;
+        let mut hardware = self.hardware;
+        let execution = build(alloc, &hardware.commits)?;
+        let state = final_state(alloc, &mut hardware, self.test)?;
         Ok(Final {
             execution,
             state,
-            counts: parts.counts,
+            counts: hardware.counts,
         })
     }
 }

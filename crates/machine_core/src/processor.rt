@@ -8,22 +8,22 @@ ghost use Rattle.tso_model.specs.Actions.{action_of};
 ghost use Rattle.tso_model.specs.Litmus.{KnownLocation};
 ghost use Rattle.tso_model.specs.ProgramOrder.{writes_to};
 ghost use Rattle.tso_model.specs.Thread.{value_in, with_value};
-ghost use Rattle.tso_model.specs.Access.{NoAccess, Reads, Writes, store_access, load_access, drain_access};
-ghost use Rattle.snoop_bus.specs.Bus.{Bus, words_of, cores_of, holder_of};
+ghost use Rattle.tso_model.specs.MemoryAccess.{NoAccess, Reads, Writes, store_access, load_access, drain_access};
+ghost use Rattle.snoop_bus.specs.Bus.{BusModel, words_of, cores_of, holder_of};
 ghost use Rattle.snoop_bus.specs.Accesses.{IsCurrentWord};
 ghost use Rattle.machine_core.specs.Cores.{AreKnown};
 ghost use Rattle.machine_core.specs.inner.Cores.{entries_in, pending_in, seen_by, at_next, own_access};
 ghost use Rattle.machine_core.specs.inner.Cores.{load_by, store_by, fence_by, step_by, drain_by};
-ghost use Rattle.machine_core.specs.Performed.{HasUsed};
-ghost use Rattle.machine_core.specs.inner.Performed.{MayAccess, MayMake};
+ghost use Rattle.machine_core.specs.Effects.{HasUsed};
+ghost use Rattle.machine_core.specs.inner.Effects.{MayAccess, MayMake};
 ghost use Rattle.machine_core.specs.inner.Turns.{by_way, whole};
 ghost use Rattle.machine_core.specs.Caches.{caches_of, load_after, write_by, completing_by};
 ghost use Rattle.machine_core.specs.Caches as caches;
-ghost use Rattle.machine_core.specs.inner.Acted.{Acts, Waits, IsMade, IsStored, SucceedsUnlessCommitting, AreUnchanged, HasSameSizes};
+ghost use Rattle.machine_core.specs.inner.OneCore.{Acts, Waits, IsMade, IsStored, SucceedsUnlessCommitting, AreUnchanged, HasSameSizes};
 
-use crate::cache_use::CacheUse;
+use crate::accesses::CacheUse;
+use crate::entries::{entry, store_entry};
 use crate::locked::{Locked, read_and_write};
-use crate::noting::{entry, store_entry};
 use crate::pending_stores::PendingStores;
 use crate::turn::{Turn, Way};
 use order_builder::Commits;
@@ -249,9 +249,9 @@ fn fence(
     commits: &mut Commits,
 ) -> Result<(Outcome, CacheUse), NoMemory>
     requires { processor.old.place < most_instructions }
-    ensures acts { (bus : Bus) → IfOk result (Acts (whole core) NoAccess fence_by processor.old processor.new bus bus commits.old commits.new) }
+    ensures acts { (bus : BusModel) → IfOk result (Acts (whole core) NoAccess fence_by processor.old processor.new bus bus commits.old commits.new) }
     ensures succeeds { SucceedsUnlessCommitting result (fence_by core.0 processor.old []) }
-    ensures err { (bus : Bus) → OnErr result (AreUnchanged processor.old processor.new bus bus commits.old commits.new) }
+    ensures err { (bus : BusModel) → OnErr result (AreUnchanged processor.old processor.new bus bus commits.old commits.new) }
     ensures stores { processor.new.stores ≡ processor.old.stores }
 {
     if !processor.stores.is_empty() {

@@ -6,30 +6,30 @@ ghost use Rattle.tso_model.specs.FlatMachine.{started};
 ghost use Rattle.snoop_bus.specs.Rows.{table_of_rows};
 ghost use Rattle.machine_core.specs.Cores.{core_states};
 ghost use Rattle.machine_core.specs.Statistics.{no_counts, no_statistics};
-ghost use Rattle.machine_core.specs.Kept.{IsCore, PartsFitTest};
-ghost use Rattle.machine_core.specs.inner.Kept.{statistics_in};
-ghost use Rattle.machine_core.specs.inner.Made.{AreAtStart};
+ghost use Rattle.machine_core.specs.Keeping.{IsCore, HardwareFitsTest};
+ghost use Rattle.machine_core.specs.inner.Keeping.{statistics_in};
+ghost use Rattle.machine_core.specs.inner.OneChoice.{AreAtStart};
 
 use crate::counts::Counts;
-use crate::machine_parts::MachineParts;
+use crate::hardware::Hardware;
 use crate::processor::Processor;
 use protocol_tables::Protocol;
 use tso_model::{Core, Test};
 
-/// The parts go back to the beginning of the test.
-pub fn restart<P: Protocol>(parts: &mut MachineParts<P>, test: &Test)
-    requires fits { PartsFitTest test.now parts.old }
+/// The hardware goes back to the beginning of the test.
+pub fn restart<P: Protocol>(hardware: &mut Hardware<P>, test: &Test)
+    requires fits { HardwareFitsTest test.now hardware.old }
     requires test { IsTest test.now }
-    requires counts { length parts.old.counts.items ≡ length test.now.programs }
+    requires counts { length hardware.old.counts.items ≡ length test.now.programs }
 
-    ensures begun { AreAtStart test.now parts.new }
-    ensures config { parts.new.config ≡ parts.old.config }
-    ensures statistics { statistics_in parts.new ≡ no_statistics (table_of_rows parts.old.bus.rows) parts.old.bus.shape test.now }
+    ensures begun { AreAtStart test.now hardware.new }
+    ensures config { hardware.new.config ≡ hardware.old.config }
+    ensures statistics { statistics_in hardware.new ≡ no_statistics (table_of_rows hardware.old.bus.rows) hardware.old.bus.shape test.now }
 {
-    restart_cores(&mut parts.processors, test);
-    parts.bus.restart(test.initial_words());
-    parts.commits.clear();
-    count_nothing(&mut parts.counts);
+    restart_cores(&mut hardware.processors, test);
+    hardware.bus.restart(test.initial_words());
+    hardware.commits.clear();
+    count_nothing(&mut hardware.counts);
 }
 
 /// Each core goes back before its first instruction, with its first registers and nothing pending.

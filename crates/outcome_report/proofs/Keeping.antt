@@ -16,7 +16,7 @@ use Rattle.explorer.specs.declared.final_states.FinalState.{FinalState}
 use Rattle.tso_report.specs.Tally.{looked_at, shown_value}
 use Rattle.tso_report.specs.declared.named.Named.{Named}
 use Rattle.outcome_report.specs.Outcomes.{Outcome, outcome_of, shown_values, ArePrinted}
-use Rattle.outcome_report.specs.inner.Kept.{IsOf, is_kept, kept_of, with_outcome, kept_after, AreShown}
+use Rattle.outcome_report.specs.inner.Shown.{IsOf, is_kept, kept_of, with_outcome, kept_after, AreShown}
 use Rattle.outcome_report.proofs.Inserting.{R, same-values, ascends, each-inserted, stands-still, stands-there}
 
 abbrev pub Kept : Type 0

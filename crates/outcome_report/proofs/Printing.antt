@@ -15,7 +15,7 @@ use Rattle.explorer.specs.FinalStates.{AreReached}
 use Rattle.explorer.specs.declared.final_states.FinalState.{FinalState}
 use Rattle.outcome_report.specs.Outcomes.{Outcome, outcome_of}
 use Rattle.outcome_report.specs.Printed.{outcomes_in, PrintsOutcomes}
-use Rattle.outcome_report.specs.inner.Kept.{IsOf, kept_after}
+use Rattle.outcome_report.specs.inner.Shown.{IsOf, kept_after}
 use Rattle.outcome_report.proofs.Keeping.{kept-printed}
 
 -- ---- a final state has registers for each core and a word for each location

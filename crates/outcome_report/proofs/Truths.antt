@@ -10,7 +10,7 @@ use Rattle.tso_model.specs.Condition.{Claim, NamesExist, truth_of, claim_of, con
 use Rattle.tso_model.specs.declared.condition.Cond.{Cond}
 use Rattle.explorer.specs.declared.final_states.FinalState.{FinalState}
 use Rattle.outcome_report.specs.Outcomes.{Outcome, outcome_of, shown_values, held_in, failed_in}
-use Rattle.outcome_report.specs.inner.Kept.{IsOf, kept_of, outcomes_at, AreShown, AllHave}
+use Rattle.outcome_report.specs.inner.Shown.{IsOf, kept_of, outcomes_at, AreShown, AllHave}
 
 abbrev pub Entries : Type 0
 Entries = List (Vec ℕ Global × Bor FinalState)

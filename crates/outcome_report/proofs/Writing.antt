@@ -15,7 +15,7 @@ use Rattle.tso_report.specs.Tally.{looked_at, shown_value}
 use Rattle.tso_report.specs.declared.named.Named.{Named}
 use Rattle.outcome_report.specs.Outcomes.{Outcome, outcome_of, shown_values, state_line, by_line, outcome_lines, outcomes_line, observation_line, outcomes_text}
 use Rattle.outcome_report.specs.OutcomesJson.{state_value, states_value}
-use Rattle.outcome_report.specs.inner.Kept.{IsOf, kept_of, AreShown}
+use Rattle.outcome_report.specs.inner.Shown.{IsOf, kept_of, AreShown}
 use Rattle.outcome_report.specs.inner.Written.{kept_lines, kept_values}
 use Rattle.outcome_report.proofs.Truths.{Entries, as-many}
 

@@ -1,3 +1,3 @@
 -- Words of contracts inside the project.
-pub mod Kept
+pub mod Shown
 pub mod Written

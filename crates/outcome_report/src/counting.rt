@@ -5,7 +5,7 @@ ghost use Rattle.std.specs.Prelude.{◌≡◌};
 ghost use Rattle.std.specs.Map.{values_of};
 ghost use Rattle.tso_model.specs.Condition.{claim_of};
 ghost use Rattle.outcome_report.specs.Outcomes.{held_in, failed_in};
-ghost use Rattle.outcome_report.specs.inner.Kept.{kept_of, AllHave};
+ghost use Rattle.outcome_report.specs.inner.Shown.{kept_of, AllHave};
 
 use crate::outcomes::Outcomes;
 use tso_model::{Cond, cond_holds};

@@ -8,7 +8,7 @@ ghost use Rattle.serde_json.specs.View.{view};
 ghost use Rattle.tso_report.specs.inner.Tally.{IsKnown};
 ghost use Rattle.outcome_report.specs.OutcomesJson.{key_of, value_members, state_value, states_value, observed_value};
 ghost use Rattle.outcome_report.specs.OutcomesJson.{observation_value, outcomes_value, unfinished_value, outcomes_json, unfinished_json};
-ghost use Rattle.outcome_report.specs.inner.Kept.{AreLookedAt, kept_of, AreShown};
+ghost use Rattle.outcome_report.specs.inner.Shown.{AreLookedAt, kept_of, AreShown};
 
 use crate::counting::counts_of;
 use crate::outcomes::Outcomes;

@@ -3,7 +3,7 @@
 
 ghost use Rattle.std.specs.Prelude.{◌≡◌, [], IfOk, OnOk, All};
 ghost use Rattle.outcome_report.specs.Outcomes.{outcome_of};
-ghost use Rattle.outcome_report.specs.inner.Kept.{AreLookedAt, IsOf, kept_of, with_outcome, kept_after};
+ghost use Rattle.outcome_report.specs.inner.Shown.{AreLookedAt, IsOf, kept_of, with_outcome, kept_after};
 
 use explorer::FinalState;
 use std::alloc::Global;

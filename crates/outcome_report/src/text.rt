@@ -5,7 +5,7 @@ ghost use Rattle.std.specs.Prelude.{◌≡◌, ◌++◌, IfOk, OnOk, string_byte
 ghost use Rattle.std.specs.Map.{values_of};
 ghost use Rattle.outcome_report.specs.Outcomes.{outcomes_line, state_line, by_line, observation_line};
 ghost use Rattle.outcome_report.specs.Outcomes.{outcomes_text, unfinished_line};
-ghost use Rattle.outcome_report.specs.inner.Kept.{AreLookedAt, kept_of, AreShown};
+ghost use Rattle.outcome_report.specs.inner.Shown.{AreLookedAt, kept_of, AreShown};
 ghost use Rattle.outcome_report.specs.inner.Written.{kept_lines};
 
 use crate::counting::counts_of;

@@ -3,13 +3,13 @@
 #![tactic(auto)]
 
 ghost use Rattle.std.specs.Prelude.{◌≡◌, ◌≢◌, ◌<◌, ◌⊎◌, ◌↔◌, true, false, take, length, string_bytes, IfOk};
-ghost use Rattle.page_exports.specs.Asked.{AnswersAsked, Answers, IsAnswerTo, IsAskable, number_of};
-ghost use Rattle.page_exports.specs.inner.Asked.{HasDepthFor};
+ghost use Rattle.page_exports.specs.Questions.{AnswersAsked, Answers, IsAnswerTo, IsAskable, number_of};
+ghost use Rattle.page_exports.specs.inner.Questions.{HasDepthFor};
 
-mod asked;
+mod question;
 
-pub use asked::Asked;
-use asked::{Question, question_of, status_number};
+pub use question::Numbers;
+use question::{Question, question_of, status_number};
 use std::alloc::Global;
 use tso_cli::{Answer, answer_to, hint, step_answer};
 use tso_model::NoMemory;
@@ -45,7 +45,7 @@ pub struct Told {
 #[unsafe(no_mangle)]
 pub extern "C" fn page_answer(
     alloc: Global,
-    asked: &Asked,
+    asked: &Numbers,
     input: &[u8],
     output: &mut [u8],
     hint_output: &mut [u8],

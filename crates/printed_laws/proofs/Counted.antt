@@ -4,7 +4,7 @@ use Rattle.std.specs.Prelude.{codes}
 use Rattle.std.specs.Fmt.{decimal}
 use Rattle.std.proofs.lemmas.List.{append_assoc, append_cancel_left}
 use Rattle.std.proofs.lemmas.List.Elements.{All-head, All-tail}
-use Rattle.machine_core.specs.Kept.{IsAtMost}
+use Rattle.machine_core.specs.Keeping.{IsAtMost}
 use Rattle.machine_core.specs.declared.counts.Counts.{Counts}
 use Rattle.tso_report.specs.Report.{line, choices_line, cache_line, cache_lines}
 use Rattle.printed_laws.proofs.Cutting.{next-cut}

@@ -14,15 +14,15 @@ use Rattle.serde_json.specs.Written.{outline, items_outline, members_outline}
 use Rattle.tso_model.specs.Litmus.{Litmus}
 use Rattle.tso_model.specs.Condition.{Condition}
 use Rattle.tso_model.specs.Registers.{IsWord, AreRegisters}
-use Rattle.tso_model.specs.declared.bus.Bus.{Bus}
-use Rattle.tso_model.specs.declared.bus.Bus.TheVariants.{Atomic, Split}
+use Rattle.tso_model.specs.declared.choice.Bus.{Bus}
+use Rattle.tso_model.specs.declared.choice.Bus.TheVariants.{Atomic, Split}
 use Rattle.tso_model.specs.declared.register.Reg.TheVariants.{Eax, Ebx, Ecx, Edx, Esi, Edi}
 use Rattle.tso_model.specs.declared.execution.Entry.{Entry}
 use Rattle.order_builder.specs.PrintedOrder.{printed_entry}
 use Rattle.protocol_tables.specs.declared.kind.ProtocolKind.{ProtocolKind}
 use Rattle.snoop_bus.specs.Geometry.{IsLineSize}
 use Rattle.machine_core.specs.Configuration.{Configuration, IsConfigurationWithinLimits}
-use Rattle.machine_core.specs.Kept.{IsAtMost}
+use Rattle.machine_core.specs.Keeping.{IsAtMost}
 use Rattle.machine_core.specs.declared.counts.Counts.{Counts}
 use Rattle.tso_report.specs.Shown.{Shown}
 use Rattle.tso_report.specs.Limits.{IsSmall}

@@ -23,7 +23,7 @@ use Rattle.tso_report.specs.Laws.{ReportsAreShort}
 use Rattle.tso_report.specs.Shown.{Shown}
 use Rattle.tso_cli.specs.Fitting.{FitsTest}
 use Rattle.printed_laws.proofs.Reports.{OrderIsSpelledOnce}
-use Rattle.machine_core.specs.Kept.{IsAtMost}
+use Rattle.machine_core.specs.Keeping.{IsAtMost}
 use Rattle.machine_core.specs.declared.counts.Counts.{Counts}
 use Rattle.std.specs.Prelude.{codes}
 use Rattle.std.proofs.lemmas.List.{length-append, length-map}

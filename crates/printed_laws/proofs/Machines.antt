@@ -7,8 +7,8 @@ use Rattle.std.proofs.lemmas.List.{append_cancel_right}
 use Rattle.json.specs.Json as json
 use Rattle.serde_json.specs.Data.{object}
 use Rattle.serde_json.specs.Written.{outline, compact_text}
-use Rattle.tso_model.specs.declared.bus.Bus.{Bus}
-use Rattle.tso_model.specs.declared.bus.Bus.TheVariants.{Atomic, Split}
+use Rattle.tso_model.specs.declared.choice.Bus.{Bus}
+use Rattle.tso_model.specs.declared.choice.Bus.TheVariants.{Atomic, Split}
 use Rattle.order_builder.specs.PrintedOrder.{printed_order}
 use Rattle.tso_model.specs.Litmus.{Litmus}
 use Rattle.protocol_tables.specs.Names.{protocol_name}

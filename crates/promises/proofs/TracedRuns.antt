@@ -2,7 +2,7 @@
 use Rattle.std.proofs.Common.{◌≡◌, ◌≤◌, ◌<◌, ℕ, Bool, true, false, refl, List, length, Result, Ok, Err, IfOk, Some, string_bytes}
 use Rattle.tso_model.specs.Litmus.{Litmus}
 use Rattle.tso_model.specs.Runs.{Run, run}
-use Rattle.tso_model.specs.declared.bus.Bus.TheVariants.{Atomic, Split}
+use Rattle.tso_model.specs.declared.choice.Bus.TheVariants.{Atomic, Split}
 use Rattle.tso_model.specs.declared.choice.Choice.{Choice}
 use Rattle.litmus_reader.specs.Spelling.{SpellsTest}
 use Rattle.scheduler.specs.Grammar.{SpellsChoices}
@@ -13,7 +13,7 @@ use Rattle.machine_core.specs.Configuration.{Configuration}
 use Rattle.command_line.specs.declared.settings.Settings.TheVariants as settings
 use Rattle.tso_cli.specs.Headline.{Headline}
 use Rattle.tso_cli.specs.Lines.{choices_refusal}
-use Rattle.tso_cli.specs.Parts.{parts_of}
+use Rattle.tso_cli.specs.Dividing.{parts_of}
 use Rattle.tso_cli.specs.SplitRun.{split_run}
 use Rattle.tso_cli.specs.TraceHeadline.{PrintsTrace, PrintsTracedObject, PrintsEachTrace}
 use Rattle.tso_cli.specs.declared.answer.Answer.{Answer}

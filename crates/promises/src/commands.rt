@@ -15,7 +15,7 @@ ghost use Rattle.tso_cli.specs.Answers.{IsAnswer};
 ghost use Rattle.tso_cli.specs.Headline.{Headline};
 ghost use Rattle.tso_cli.specs.Hints.{IsTold};
 ghost use Rattle.tso_cli.specs.Lines.{choices_refusal};
-ghost use Rattle.tso_cli.specs.Parts.{parts_of};
+ghost use Rattle.tso_cli.specs.Dividing.{parts_of};
 ghost use Rattle.tso_cli.specs.SplitRun.{split_run};
 ghost use Rattle.tso_cli.specs.TraceHeadline.{PrintsTrace, PrintsTracedObject};
 ghost use Rattle.tso_cli.specs.Streams.{Writes, WritesAnswer, WritesBeginning, ConsumesAtMost};

@@ -6,7 +6,6 @@
 pub mod accesses;
 pub mod buffers;
 pub mod commands;
-pub mod halves;
 pub mod judging;
 pub mod limits;
 pub mod machines;
@@ -15,6 +14,7 @@ pub mod readings;
 pub mod searches;
 pub mod sets;
 pub mod simulations;
+pub mod split_accesses;
 pub mod streams;
 pub mod tallies;
 pub mod threads;

@@ -4,7 +4,7 @@
 ghost use Rattle.std.specs.Prelude.{◌≡◌, ◌↔◌, ℕ, Bool, IfOk, List, Some};
 ghost use Rattle.tso_model.specs.Condition.{Condition, truth_of};
 ghost use Rattle.tso_model.specs.Litmus.{Litmus, IsTest};
-ghost use Rattle.tso_model.specs.declared.bus.Bus.TheVariants.{Atomic};
+ghost use Rattle.tso_model.specs.declared.choice.Bus.TheVariants.{Atomic};
 ghost use Rattle.explorer.specs.FinalStates.{AreDistinct, AreWhatTsoAllows, AreWhatSequentialConsistencyAllows, Have};
 ghost use Rattle.explorer.specs.declared.final_states.FinalState.{FinalState};
 ghost use Rattle.protocol_tables.specs.declared.kind.ProtocolKind.{ProtocolKind};
@@ -16,7 +16,7 @@ ghost use Rattle.command_line.specs.Search.{Search};
 ghost use Rattle.command_line.specs.declared.settings.Settings.{Settings};
 ghost use Rattle.tso_cli.specs.Answers.{IsAnswer};
 ghost use Rattle.tso_cli.specs.OneText.{ShowTheSameStates};
-ghost use Rattle.tso_cli.specs.Parts.{parts_of, IsJoinable};
+ghost use Rattle.tso_cli.specs.Dividing.{parts_of, IsJoinable};
 ghost use Rattle.tso_cli.specs.Revisited.{AreRevisited};
 ghost use Rattle.tso_cli.specs.declared.answer.Status.TheVariants.{Good};
 

@@ -2,5 +2,5 @@ pub mod Laws
 pub mod Tables
 pub mod Names
 pub mod PrintedTable
-pub mod Asking
+pub mod Transients
 pub mod inner

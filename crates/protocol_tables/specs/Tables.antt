@@ -27,17 +27,17 @@ abbrev pub filled_shared : Bool → State
 filled_shared shared = S
 
 -- S where another cache holds the line, else E
-abbrev pub filled_by_company : Bool → State
-filled_by_company true = S
-filled_by_company false = E
+abbrev pub filled_by_sharing : Bool → State
+filled_by_sharing true = S
+filled_by_sharing false = E
 
 -- GetS where a modified copy is sent to memory and becomes shared
-abbrev pub get_s_sending : State → Snoop
-get_s_sending M = snoop S true true
-get_s_sending O = snoop O true false
-get_s_sending E = snoop S true false
-get_s_sending S = snoop S false false
-get_s_sending I = snoop I false false
+abbrev pub get_s_flushing : State → Snoop
+get_s_flushing M = snoop S true true
+get_s_flushing O = snoop O true false
+get_s_flushing E = snoop S true false
+get_s_flushing S = snoop S false false
+get_s_flushing I = snoop I false false
 
 -- GetS where a modified copy becomes owned, and memory stays stale
 abbrev pub get_s_owning : State → Snoop
@@ -54,45 +54,45 @@ get_m E = snoop I true false
 get_m S = snoop I false false
 get_m I = snoop I false false
 
-abbrev pub write : State → Option State
-write M = Some M
-write O = None
-write E = Some M
-write S = None
-write I = None
+abbrev pub written_in_place : State → Option State
+written_in_place M = Some M
+written_in_place O = None
+written_in_place E = Some M
+written_in_place S = None
+written_in_place I = None
 
-abbrev pub write_back : State → Bool
-write_back M = true
-write_back O = true
-write_back E = false
-write_back S = false
-write_back I = false
+abbrev pub is_written_back : State → Bool
+is_written_back M = true
+is_written_back O = true
+is_written_back E = false
+is_written_back S = false
+is_written_back I = false
 
 abbrev pub msi : Table
 msi = record {
   filled = filled_shared;
-  on_get_s = get_s_sending;
+  on_get_s = get_s_flushing;
   on_get_m = get_m;
-  written = write;
-  evicts_dirty = write_back;
+  written = written_in_place;
+  evicts_dirty = is_written_back;
 }
 
 abbrev pub mesi : Table
 mesi = record {
-  filled = filled_by_company;
-  on_get_s = get_s_sending;
+  filled = filled_by_sharing;
+  on_get_s = get_s_flushing;
   on_get_m = get_m;
-  written = write;
-  evicts_dirty = write_back;
+  written = written_in_place;
+  evicts_dirty = is_written_back;
 }
 
 abbrev pub moesi : Table
 moesi = record {
-  filled = filled_by_company;
+  filled = filled_by_sharing;
   on_get_s = get_s_owning;
   on_get_m = get_m;
-  written = write;
-  evicts_dirty = write_back;
+  written = written_in_place;
+  evicts_dirty = is_written_back;
 }
 
 abbrev pub mosi : Table
@@ -100,8 +100,8 @@ mosi = record {
   filled = filled_shared;
   on_get_s = get_s_owning;
   on_get_m = get_m;
-  written = write;
-  evicts_dirty = write_back;
+  written = written_in_place;
+  evicts_dirty = is_written_back;
 }
 
 -- one of four, by the protocol

@@ -2,18 +2,18 @@
 //! so a further protocol is a further table for which they hold. (Primer, chapters 6 and 7.)
 #![tactic(auto)]
 
-pub mod asking;
-pub mod between;
 pub mod kind;
 pub mod printing;
 pub mod protocol;
+pub mod requests;
 pub mod state;
 pub mod tables;
+pub mod transients;
 
-pub use asking::{Request, Transient};
-pub use between::transient;
 pub use kind::ProtocolKind;
 pub use printing::table_text;
 pub use protocol::Protocol;
+pub use requests::{Request, Transient};
 pub use state::{Snoop, State};
 pub use tables::{Mesi, Moesi, Mosi, Msi};
+pub use transients::transient;

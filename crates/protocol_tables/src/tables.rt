@@ -8,7 +8,7 @@ ghost use Rattle.protocol_tables.specs.declared.kind.ProtocolKind.TheVariants.{M
 ghost use Rattle.protocol_tables.specs.declared.kind.ProtocolKind.{ProtocolKind};
 ghost use Rattle.protocol_tables.specs.Names.{protocol_name};
 ghost use Rattle.protocol_tables.specs.Tables.{table_of};
-ghost use Rattle.protocol_tables.specs.Tables.{snoop, filled_by_company, get_s_sending, get_s_owning, get_m, write, write_back};
+ghost use Rattle.protocol_tables.specs.Tables.{snoop, filled_by_sharing, get_s_flushing, get_s_owning, get_m, written_in_place, is_written_back};
 
 use crate::kind::ProtocolKind;
 use crate::protocol::Protocol;
@@ -72,11 +72,11 @@ impl<K: Kind> Protocol for K {
     }
 
     fn on_get_s(&self, state: State) -> Snoop {
-        shared(K::KIND, state)
+        get_s(K::KIND, state)
     }
 
     fn on_get_m(&self, state: State) -> Snoop {
-        given_up(state)
+        get_m(state)
     }
 
     fn written(&self, state: State) -> Option<State> {
@@ -84,7 +84,7 @@ impl<K: Kind> Protocol for K {
     }
 
     fn evicts_dirty(&self, state: State) -> bool {
-        is_dirty(state)
+        is_written_back(state)
     }
 
     fn name(&self) -> &str {
@@ -119,24 +119,24 @@ fn filled(kind: ProtocolKind, shared: bool) -> State
 }
 
 /// What GetS does to a copy: a modified one is sent to memory, or stays dirty where the protocol has owned copies.
-fn shared(kind: ProtocolKind, state: State) -> Snoop
+fn get_s(kind: ProtocolKind, state: State) -> Snoop
     ensures { result ≡ (table_of kind).on_get_s state }
 {
     match kind {
-        ProtocolKind::Msi | ProtocolKind::Mesi => shared_clean(state),
-        ProtocolKind::Moesi | ProtocolKind::Mosi => shared_dirty(state),
+        ProtocolKind::Msi | ProtocolKind::Mesi => get_s_flushing(state),
+        ProtocolKind::Moesi | ProtocolKind::Mosi => get_s_owning(state),
     }
 }
 
 fn filled_by_sharing(shared: bool) -> State
-    ensures { result ≡ filled_by_company shared }
+    ensures { result ≡ filled_by_sharing shared }
 {
     if shared { State::S } else { State::E }
 }
 
 /// What GetS does where a modified copy is sent to memory.
-fn shared_clean(state: State) -> Snoop
-    ensures { result ≡ get_s_sending state }
+fn get_s_flushing(state: State) -> Snoop
+    ensures { result ≡ get_s_flushing state }
 {
     match state {
         State::M => sent_to_memory(State::S),
@@ -148,7 +148,7 @@ fn shared_clean(state: State) -> Snoop
 }
 
 /// What GetS does where a modified copy stays dirty, as owned.
-fn shared_dirty(state: State) -> Snoop
+fn get_s_owning(state: State) -> Snoop
     ensures { result ≡ get_s_owning state }
 {
     match state {
@@ -158,7 +158,7 @@ fn shared_dirty(state: State) -> Snoop
     }
 }
 
-fn given_up(state: State) -> Snoop
+fn get_m(state: State) -> Snoop
     ensures { result ≡ get_m state }
 {
     match state {
@@ -198,7 +198,7 @@ fn sent_to_memory(next: State) -> Snoop
 }
 
 fn written_in_place(state: State) -> Option<State>
-    ensures { result ≡ write state }
+    ensures { result ≡ written_in_place state }
 {
     match state {
         State::M | State::E => Some(State::M),
@@ -206,8 +206,8 @@ fn written_in_place(state: State) -> Option<State>
     }
 }
 
-fn is_dirty(state: State) -> bool
-    ensures { result ≡ write_back state }
+fn is_written_back(state: State) -> bool
+    ensures { result ≡ is_written_back state }
 {
     matches!(state, State::M | State::O)
 }

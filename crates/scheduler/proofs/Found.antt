@@ -10,8 +10,8 @@ use Rattle.rand_pcg.specs.Pcg.{pcg32}
 use Rattle.tso_model.specs.declared.choice.Choice.{Choice}
 use Rattle.scheduler.specs.declared.fault.ChoiceFault.{ChoiceFault}
 use Rattle.scheduler.specs.declared.fault.ChoiceFault.TheVariants.{BadWord, TooMany}
-use Rattle.scheduler.specs.declared.item.Item.{Item}
-use Rattle.scheduler.specs.declared.item.Item.TheVariants.{Seeded}
+use Rattle.scheduler.specs.declared.item.ChoiceItem.{ChoiceItem}
+use Rattle.scheduler.specs.declared.item.ChoiceItem.TheVariants.{Seeded}
 use Rattle.decimals.specs.Decimals.{decimal_value}
 use Rattle.scheduler.specs.Words.{is_numeral}
 use Rattle.tso_model.specs.FlatMachine.{chosen}
@@ -32,12 +32,12 @@ pub length_seeded : (cores seed count : ℕ) → length (seeded_choices cores se
 length_seeded cores seed count = length-map (drawn_words count (generator seed)) (choice_of_word cores) ∙ length_words count (generator seed)
 
 -- what was read of an item is an item within the room, or its fault
-pub record Fits (cores room : ℕ) (words : List (List ℕ)) (item : Item) : Type 0 where
+pub record Fits (cores room : ℕ) (words : List (List ℕ)) (item : ChoiceItem) : Type 0 where
   pub is_item : IsItem cores (take (words_in item) words) (made_of cores item)
   pub room_left : length (made_of cores item) ≤ room
   pub words_there : words_in item ≤ length words
 
-abbrev pub IsRead : ℕ → ℕ → ℕ → ℕ → List (List ℕ) → Result Item ChoiceFault → Type 0
+abbrev pub IsRead : ℕ → ℕ → ℕ → ℕ → List (List ℕ) → Result ChoiceItem ChoiceFault → Type 0
 IsRead cores before room number words (Ok item) = Fits cores room words item
 IsRead cores before room number words (Err fault) = IsItemAtFault cores before number words fault
 

@@ -5,16 +5,16 @@ use Rattle.std.specs.Prelude.{codes}
 use Rattle.std.proofs.lemmas.Bool.{le-leb, lt-leb}
 use Rattle.std.proofs.lemmas.List.{take_at, get_or_at, length-append}
 use Rattle.scheduler.specs.declared.fault.ChoiceFault.TheVariants.{BadWord, NoSuchCore, TooMany}
-use Rattle.scheduler.specs.declared.item.Action.{Action}
+use Rattle.scheduler.specs.declared.item.ChoiceKind.{ChoiceKind}
 use Rattle.scheduler.specs.declared.fault.ChoiceFault.{ChoiceFault}
-use Rattle.scheduler.specs.declared.item.Item.{Item}
-use Rattle.scheduler.specs.declared.item.Item.TheVariants.{One, Seeded}
+use Rattle.scheduler.specs.declared.item.ChoiceItem.{ChoiceItem}
+use Rattle.scheduler.specs.declared.item.ChoiceItem.TheVariants.{One, Seeded}
 use Rattle.decimals.specs.Decimals.{decimal_value}
 use Rattle.decimals.specs.inner.Decimals.{number_up_to}
 use Rattle.scheduler.specs.Words.{is_numeral}
-use Rattle.scheduler.specs.inner.Reading.{action_of, choice_by, one_from, one_of, seed_of, seeded_from, seeded_of, item_of}
+use Rattle.scheduler.specs.inner.Reading.{kind_of, choice_by, one_from, one_of, seed_of, seeded_from, seeded_of, item_of}
 
-pub one_is : (cores room number : ℕ) (word digits : List ℕ) (letter : ℕ) → word ≡ digits ++ letter ∷ [] → one_of cores room number word ≡ one_from cores room number digits (action_of letter)
+pub one_is : (cores room number : ℕ) (word digits : List ℕ) (letter : ℕ) → word ≡ digits ++ letter ∷ [] → one_of cores room number word ≡ one_from cores room number digits (kind_of letter)
 unfolding one_of
 one_is cores room number word digits letter is =
     let front : take (length word - 1) word ≡ digits = rw is (take_at digits (letter ∷ []) _ (omega (arith, length-append digits (letter ∷ [])))) in
@@ -22,14 +22,14 @@ one_is cores room number word digits letter is =
     rw (front, back) refl
 
 pub one_none : (cores room number : ℕ) (word : List ℕ) → length word ≡ 0 → one_of cores room number word ≡ Err (BadWord number)
-unfolding one_of action_of
+unfolding one_of kind_of
 one_none cores room number [] none = refl
 one_none cores room number (b ∷ bs) none = absurd (omega arith)
 
-pub one_bad_letter : (cores room number : ℕ) (word digits : List ℕ) (letter : ℕ) → word ≡ digits ++ letter ∷ [] → None ≡ action_of letter → one_of cores room number word ≡ Err (BadWord number)
+pub one_bad_letter : (cores room number : ℕ) (word digits : List ℕ) (letter : ℕ) → word ≡ digits ++ letter ∷ [] → None ≡ kind_of letter → one_of cores room number word ≡ Err (BadWord number)
 one_bad_letter cores room number word digits letter is none = one_is cores room number word digits letter is ∙ rw (← none) refl
 
-pub one_bad_digits : (cores room number : ℕ) (word digits : List ℕ) (letter : ℕ) (action : Action) → word ≡ digits ++ letter ∷ [] → Some action ≡ action_of letter → is_numeral digits ≡ false
+pub one_bad_digits : (cores room number : ℕ) (word digits : List ℕ) (letter : ℕ) (action : ChoiceKind) → word ≡ digits ++ letter ∷ [] → Some action ≡ kind_of letter → is_numeral digits ≡ false
     → one_of cores room number word ≡ Err (BadWord number)
 one_bad_digits cores room number word digits letter action is has bad = one_is cores room number word digits letter is ∙ rw (← has, bad) refl
 
@@ -45,17 +45,17 @@ core_in cores core digits is other =
     let same : decimal_value digits ≡ core = omega arith in
     rw there (ap (λ (n : ℕ). Some n) same)
 
-pub one_no_core : (cores room number : ℕ) (word digits : List ℕ) (letter core : ℕ) (action : Action) → 0 < cores → word ≡ digits ++ letter ∷ [] → Some action ≡ action_of letter → is_numeral digits ≡ true
+pub one_no_core : (cores room number : ℕ) (word digits : List ℕ) (letter core : ℕ) (action : ChoiceKind) → 0 < cores → word ≡ digits ++ letter ∷ [] → Some action ≡ kind_of letter → is_numeral digits ≡ true
     → core ≡ min (decimal_value digits) cores → core ≡ cores → one_of cores room number word ≡ Err (NoSuchCore number)
 one_no_core cores room number word digits letter core action some is has good capped past =
     one_is cores room number word digits letter is ∙ rw (← has, good, core_out cores core digits some capped past) refl
 
-pub one_full : (cores room number : ℕ) (word digits : List ℕ) (letter core : ℕ) (action : Action) → word ≡ digits ++ letter ∷ [] → Some action ≡ action_of letter → is_numeral digits ≡ true
+pub one_full : (cores room number : ℕ) (word digits : List ℕ) (letter core : ℕ) (action : ChoiceKind) → word ≡ digits ++ letter ∷ [] → Some action ≡ kind_of letter → is_numeral digits ≡ true
     → core ≡ min (decimal_value digits) cores → core ≢ cores → room ≡ 0 → one_of cores room number word ≡ Err (TooMany number)
 one_full cores room number word digits letter core action is has good capped there none =
     one_is cores room number word digits letter is ∙ rw (← has, good, core_in cores core digits capped there, none) refl
 
-pub one_there : (cores room number : ℕ) (word digits : List ℕ) (letter core : ℕ) (action : Action) → word ≡ digits ++ letter ∷ [] → Some action ≡ action_of letter → is_numeral digits ≡ true
+pub one_there : (cores room number : ℕ) (word digits : List ℕ) (letter core : ℕ) (action : ChoiceKind) → word ≡ digits ++ letter ∷ [] → Some action ≡ kind_of letter → is_numeral digits ≡ true
     → core ≡ min (decimal_value digits) cores → core ≢ cores → eqb room 0 ≡ false → one_of cores room number word ≡ Ok (One (choice_by action core))
 one_there cores room number word digits letter core action is has good capped there some =
     one_is cores room number word digits letter is ∙ rw (← has, good, core_in cores core digits capped there, some) refl
@@ -95,12 +95,12 @@ after_two ws us vs seed count first second = rw (first, second) refl
 
 -- ---- either
 
-pub item_one : (cores room number : ℕ) (word : List ℕ) (rest : List (List ℕ)) (r : Result Item ChoiceFault) → bytes_eq word (codes "seed") ≡ false → one_of cores room number word ≡ r
+pub item_one : (cores room number : ℕ) (word : List ℕ) (rest : List (List ℕ)) (r : Result ChoiceItem ChoiceFault) → bytes_eq word (codes "seed") ≡ false → one_of cores room number word ≡ r
     → item_of cores room number word rest ≡ r
 unfolding item_of
 item_one cores room number word rest r other is = rw other is
 
-pub item_seeded : (cores room number : ℕ) (word : List ℕ) (rest : List (List ℕ)) (r : Result Item ChoiceFault) → bytes_eq word (codes "seed") ≡ true → seeded_of room number rest ≡ r
+pub item_seeded : (cores room number : ℕ) (word : List ℕ) (rest : List (List ℕ)) (r : Result ChoiceItem ChoiceFault) → bytes_eq word (codes "seed") ≡ true → seeded_of room number rest ≡ r
     → item_of cores room number word rest ≡ r
 unfolding item_of
 item_seeded cores room number word rest r same is = rw same is

@@ -4,8 +4,8 @@ use Rattle.std.proofs.Math.Seq.{take-add}
 use Rattle.std.proofs.lemmas.List.{append-nil, length-append, length-drop, length-take, take-append-drop, drop-drop}
 use Rattle.tso_model.specs.declared.choice.Choice.{Choice}
 use Rattle.scheduler.specs.declared.fault.ChoiceFault.{ChoiceFault}
-use Rattle.scheduler.specs.declared.item.Item.{Item}
-use Rattle.scheduler.specs.declared.item.Item.TheVariants.{One, Seeded}
+use Rattle.scheduler.specs.declared.item.ChoiceItem.{ChoiceItem}
+use Rattle.scheduler.specs.declared.item.ChoiceItem.TheVariants.{One, Seeded}
 use Rattle.scheduler.specs.Limits.{most_choices}
 use Rattle.scheduler.specs.Grammar.{IsItem, AreItems, none, more}
 use Rattle.scheduler.specs.Refusals.{IsItemAtFault, AreRefused}
@@ -25,7 +25,7 @@ pub record WentOn (cores : ℕ) (words : List (List ℕ)) (to : ℕ) (left : Lis
   pub few : length choices ≤ most_choices
   pub to_come : drop to words ≡ left
 
-pub went_on : (cores room number at : ℕ) (words rest left : List (List ℕ)) (word : List ℕ) (choices : List Choice) (item : Item) → 0 < cores → length choices ≤ most_choices
+pub went_on : (cores room number at : ℕ) (words rest left : List (List ℕ)) (word : List ℕ) (choices : List Choice) (item : ChoiceItem) → 0 < cores → length choices ≤ most_choices
     → room ≡ most_choices - length choices → drop at words ≡ word ∷ rest → item_of cores room number word rest ≡ Ok item → left ≡ drop (words_in item - 1) rest → AreItems cores (take at words) choices
     → WentOn cores words (at + words_in item) left (choices ++ made_of cores item)
 went_on cores room number at words rest left word choices item some few room_is here is after items =
@@ -38,7 +38,7 @@ went_on cores room number at words rest left word choices item some few room_is 
       to_come = sym (drop-drop (words_in item) at words) ∙ ap (λ (ws : List (List ℕ)). drop (words_in item) ws) here ∙ after_first item ∙ sym after;
     }
   where
-    after_first : (item : Item) → drop (words_in item) (word ∷ rest) ≡ drop (words_in item - 1) rest
+    after_first : (item : ChoiceItem) → drop (words_in item) (word ∷ rest) ≡ drop (words_in item - 1) rest
     after_first (One choice) = refl
     after_first (Seeded seed count) = refl
 

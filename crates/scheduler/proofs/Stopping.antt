@@ -8,8 +8,8 @@ use Rattle.std.proofs.lemmas.List.{length-append, length-drop, length-take, take
 use Rattle.tso_model.specs.declared.choice.Choice.{Choice}
 use Rattle.scheduler.specs.declared.fault.ChoiceFault.{ChoiceFault}
 use Rattle.scheduler.specs.declared.fault.ChoiceFault.TheVariants.{TooMany}
-use Rattle.scheduler.specs.declared.item.Item.{Item}
-use Rattle.scheduler.specs.declared.item.Item.TheVariants.{One, Seeded}
+use Rattle.scheduler.specs.declared.item.ChoiceItem.{ChoiceItem}
+use Rattle.scheduler.specs.declared.item.ChoiceItem.TheVariants.{One, Seeded}
 use Rattle.scheduler.specs.Limits.{most_choices}
 use Rattle.scheduler.specs.Grammar.{IsItem, AreItems, none, more, WordsSpell}
 use Rattle.scheduler.specs.Refusals.{IsItemAtFault, bad_form, cut_seed, bad_seed, bad_count, no_core, too_many}
@@ -31,12 +31,12 @@ pub record Passed (cores : ℕ) (words : List (List ℕ)) (place at room : ℕ) 
 pub at_first : (cores : ℕ) (words : List (List ℕ)) (place : ℕ) → Passed cores words place 0 place words
 at_first cores words place = record { made = []; items = none; room_is = omega arith; to_come = refl; at_most = omega arith }
 
-after_first : (word : List ℕ) (rest : List (List ℕ)) (item : Item) → drop (words_in item) (word ∷ rest) ≡ drop (words_in item - 1) rest
+after_first : (word : List ℕ) (rest : List (List ℕ)) (item : ChoiceItem) → drop (words_in item) (word ∷ rest) ≡ drop (words_in item - 1) rest
 after_first word rest (One choice) = refl
 after_first word rest (Seeded seed count) = refl
 
 -- past an item that has room
-pub passed_on : (cores place at room count : ℕ) (words rest left : List (List ℕ)) (word : List ℕ) (item : Item) → 0 < cores → place < most_choices
+pub passed_on : (cores place at room count : ℕ) (words rest left : List (List ℕ)) (word : List ℕ) (item : ChoiceItem) → 0 < cores → place < most_choices
     → Passed cores words place at room (word ∷ rest) → item_of cores room (at + 1) word rest ≡ Ok item → left ≡ drop (words_in item - 1) rest → length (made_of cores item) ≡ count
     → Passed cores words place (at + words_in item) (room - count) left
 passed_on cores place at room count words rest left word item some small p is after counts =
@@ -53,7 +53,7 @@ passed_on cores place at room count words rest left word item some small p is af
     }
 
 -- an item fits into its room
-pub fits_room : (cores place at room count : ℕ) (words rest : List (List ℕ)) (word : List ℕ) (item : Item) → 0 < cores → place < most_choices
+pub fits_room : (cores place at room count : ℕ) (words rest : List (List ℕ)) (word : List ℕ) (item : ChoiceItem) → 0 < cores → place < most_choices
     → Passed cores words place at room (word ∷ rest) → item_of cores room (at + 1) word rest ≡ Ok item → length (made_of cores item) ≡ count → count ≤ room
 fits_room cores place at room count words rest word item some small p is counts =
     let read : Fits cores room (word ∷ rest) item = subst (IsRead cores (most_choices - room) room (at + 1) (word ∷ rest)) is (item_read cores (most_choices - room) room (at + 1) word rest some (omega (arith, p.room_is, small))) in

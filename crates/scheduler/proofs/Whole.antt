@@ -8,8 +8,8 @@ use Rattle.std.proofs.lemmas.Slice.Eq.{bytes_eq-Decides}
 use Rattle.tso_model.specs.declared.choice.Choice.{Choice}
 use Rattle.scheduler.specs.declared.fault.ChoiceFault.{ChoiceFault}
 use Rattle.scheduler.specs.declared.fault.ChoiceFault.TheVariants.{BadWord, NoMemory}
-use Rattle.scheduler.specs.declared.item.Item.{Item}
-use Rattle.scheduler.specs.declared.item.Item.TheVariants.{One, Seeded}
+use Rattle.scheduler.specs.declared.item.ChoiceItem.{ChoiceItem}
+use Rattle.scheduler.specs.declared.item.ChoiceItem.TheVariants.{One, Seeded}
 use Rattle.decimals.specs.Decimals.{decimal_value}
 use Rattle.scheduler.specs.Words.{words_of}
 use Rattle.scheduler.specs.Limits.{most_choices}
@@ -26,7 +26,7 @@ with_front front (Ok choices) = Ok (front ++ choices)
 with_front front (Err fault) = Err fault
 
 -- what an item leaves to be read
-abbrev then_rest : ℕ → (ℕ → ℕ → Result (List Choice) ChoiceFault) → Result Item ChoiceFault → Result (List Choice) ChoiceFault
+abbrev then_rest : ℕ → (ℕ → ℕ → Result (List Choice) ChoiceFault) → Result ChoiceItem ChoiceFault → Result (List Choice) ChoiceFault
 then_rest cores rest (Ok item) = with_front (made_of cores item) (rest (words_in item - 1) (length (made_of cores item)))
 then_rest cores rest (Err fault) = Err fault
 
@@ -147,7 +147,7 @@ never_both cores words choices fault some spell get =
     let second = gets_whole cores words fault some get in
     absurd cc
 
-some_words : (item : Item) → 1 ≤ words_in item
+some_words : (item : ChoiceItem) → 1 ≤ words_in item
 some_words (One choice) = omega arith
 some_words (Seeded seed count) = omega arith
 
@@ -156,7 +156,7 @@ abbrev Decided : ℕ → List (List ℕ) → Type 0
 Decided cores words = ((choices : List Choice) × WordsSpell cores words choices) ⊎ ((fault : ChoiceFault) × AreRefused cores words fault)
 
 -- what an item that was read leaves to be decided
-item_next : (cores : ℕ) (front : List (List ℕ)) (word : List ℕ) (rest : List (List ℕ)) (choices : List Choice) (r : Result Item ChoiceFault) → AreItems cores front choices → length choices ≤ most_choices
+item_next : (cores : ℕ) (front : List (List ℕ)) (word : List ℕ) (rest : List (List ℕ)) (choices : List Choice) (r : Result ChoiceItem ChoiceFault) → AreItems cores front choices → length choices ≤ most_choices
     → IsRead cores (length choices) (most_choices - length choices) (length front + 1) (word ∷ rest) r
     → ((front back : List (List ℕ)) (choices : List Choice) → length back ≤ length rest → AreItems cores front choices → length choices ≤ most_choices → Decided cores (front ++ back))
     → Decided cores (front ++ word ∷ rest)

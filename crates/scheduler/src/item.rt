@@ -4,32 +4,31 @@
 ghost use Rattle.std.specs.Prelude.{◌≡◌, ◌<◌, ◌≤◌, ◌+◌, ◌-◌, ◌^◌, ◌++◌, ℕ, Ok, Err, length, drop, codes, IfOk, IfErr, OnOk};
 ghost use Rattle.std.specs.Str.{bytes_eq};
 ghost use Rattle.scheduler.specs.Words.{words_of};
-ghost use Rattle.scheduler.specs.inner.Reading.{made_of, words_in, action_of, choice_by, one_of, seed_of, seeded_of, item_of};
+ghost use Rattle.scheduler.specs.inner.Reading.{made_of, words_in, kind_of, choice_by, one_of, seed_of, seeded_of, item_of};
 ghost use Rattle.scheduler.specs.inner.ItemsRead.{IsItemRead};
-ghost use Rattle.scheduler.specs.declared.item.Item.TheVariants.{One};
+ghost use Rattle.scheduler.specs.declared.item.ChoiceItem.TheVariants.{One};
 
 use crate::fault::ChoiceFault;
-use crate::numbers::{capped_number, is_numeral};
 use crate::seeds::push_seeded;
-use crate::words::first_word;
+use crate::words::{capped_number, first_word, is_numeral};
 use decimals::number_up_to;
 use tso_model::{Choice, Core, NoMemory};
 
 /// What a core is to do.
 #[derive(Clone, Copy)]
-pub enum Action {
+pub enum ChoiceKind {
     Step,
     Drain,
 }
 
-impl Action {
-    #[tactic(auto, unfolding(crate::specs::inner::Reading::action_of))]
-    fn of(letter: u8) -> Option<Action>
-        ensures { result ≡ action_of letter }
+impl ChoiceKind {
+    #[tactic(auto, unfolding(crate::specs::inner::Reading::kind_of))]
+    fn of(letter: u8) -> Option<ChoiceKind>
+        ensures { result ≡ kind_of letter }
     {
         match letter {
-            b's' => Some(Action::Step),
-            b'd' => Some(Action::Drain),
+            b's' => Some(ChoiceKind::Step),
+            b'd' => Some(ChoiceKind::Drain),
             _ => None,
         }
     }
@@ -38,27 +37,27 @@ impl Action {
         ensures { result ≡ choice_by self core.0 }
     {
         match self {
-            Action::Step => Choice::Step(core),
-            Action::Drain => Choice::Drain(core),
+            ChoiceKind::Step => Choice::Step(core),
+            ChoiceKind::Drain => Choice::Drain(core),
         }
     }
 }
 
 /// An item: one word that is a choice, or the three words `seed N M` for the first M choices of the seed N.
 #[derive(Clone, Copy)]
-pub enum Item {
+pub enum ChoiceItem {
     One(Choice),
     Seeded(u64, usize),
 }
 
-impl Item {
+impl ChoiceItem {
     /// How many words it has.
     pub fn words(self) -> usize
         ensures { result ≡ words_in self }
     {
         match self {
-            Item::One(_) => 1,
-            Item::Seeded(..) => 3,
+            ChoiceItem::One(_) => 1,
+            ChoiceItem::Seeded(..) => 3,
         }
     }
 
@@ -67,8 +66,8 @@ impl Item {
         ensures { (cores : ℕ) → length (made_of cores self) ≡ result }
     {
         match self {
-            Item::One(_) => 1,
-            Item::Seeded(_, count) => count,
+            ChoiceItem::One(_) => 1,
+            ChoiceItem::Seeded(_, count) => count,
         }
     }
 
@@ -78,8 +77,8 @@ impl Item {
         ensures { OnOk result (choices.new.items ≡ choices.old.items ++ made_of cores self) }
     {
         match self {
-            Item::One(choice) => choices.push(choice)?,
-            Item::Seeded(seed, count) => push_seeded(choices, cores, seed, count)?,
+            ChoiceItem::One(choice) => choices.push(choice)?,
+            ChoiceItem::Seeded(seed, count) => push_seeded(choices, cores, seed, count)?,
         }
         Ok(())
     }
@@ -88,7 +87,7 @@ impl Item {
 /// An item that was read, and what stands after its words.
 #[derive(Clone, Copy)]
 pub struct ItemRead<'a> {
-    pub item: Item,
+    pub item: ChoiceItem,
     pub after: &'a [u8],
 }
 
@@ -103,7 +102,7 @@ pub fn read_one(cores: u8, room: usize, number: usize, word: &[u8]) -> Result<Ch
     let Some((letter, digits)) = word.split_last() else {
         return Err(ChoiceFault::BadWord(number));
     };
-    let Some(action) = Action::of(*letter) else {
+    let Some(action) = ChoiceKind::of(*letter) else {
         return Err(ChoiceFault::BadWord(number));
     };
     let Some(core) = capped_number(cores, digits) else {
@@ -160,7 +159,7 @@ pub fn read_seeded(room: usize, number: usize, text: &[u8]) -> Result<ItemRead<'
     let Some(count) = number_up_to(room as u64, count) else {
         return Err(ChoiceFault::TooMany(number));
     };
-    let item = Item::Seeded(seed, count as usize);
+    let item = ChoiceItem::Seeded(seed, count as usize);
     Ok(ItemRead { item, after })
 }
 
@@ -183,7 +182,7 @@ pub fn read_item<'a>(
     if is_seed(word) {
         read_seeded(room, number, text)
     } else {
-        let item = Item::One(read_one(cores, room, number, word)?);
+        let item = ChoiceItem::One(read_one(cores, room, number, word)?);
         Ok(ItemRead { item, after: text })
     }
 }

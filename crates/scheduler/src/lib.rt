@@ -9,7 +9,6 @@ mod depth;
 pub mod fault;
 mod item;
 pub mod laws;
-mod numbers;
 mod placing;
 mod printing;
 mod reaching;

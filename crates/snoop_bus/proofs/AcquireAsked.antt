@@ -3,8 +3,8 @@ use Rattle.std.proofs.lemmas.Bool.{cases_eq}
 use Rattle.std.proofs.Common.{◌≡◌, ◌≢◌, ◌⊎◌, inl, inr, ℕ, ◌<◌, ◌&&◌, true, false, nat_eq, Option, Some, None, option_map, List, length, refl, sym, ap, ◌∙◌, slice_set, if◌then◌else◌}
 use Rattle.protocol_tables.specs.Laws.{in_place}
 use Rattle.protocol_tables.specs.declared.state.State.TheVariants.{M}
-use Rattle.protocol_tables.specs.declared.asking.Transient.{Transient}
-use Rattle.protocol_tables.specs.declared.asking.Transient.TheVariants.{IsD, ImD, SmD}
+use Rattle.protocol_tables.specs.declared.requests.Transient.{Transient}
+use Rattle.protocol_tables.specs.declared.requests.Transient.TheVariants.{IsD, ImD, SmD}
 use Rattle.cache_set.specs.declared.Line.{Line}
 use Rattle.cache_set.specs.inner.Copy.{copy_with, with_state, with_word}
 use Rattle.snoop_bus.specs.Lines.{Words}
@@ -79,35 +79,35 @@ upgrade_acquired c0 c2 m core line x h within some line_in asked to ways = (
     here = rw (itself core, itself line) at (to core line) ∙ now
 
 -- a word is written to the copy that the core has then
-pub completed_written : (d0 c1 c2 : List Sets) (m0 m1 : List Words) (core line place value : ℕ) (old : Words) → line < length m0 → place < length (current_words d0 m0 line) → length m1 ≡ length m0 →
+pub completed_written : (d0 c1 c2 : List Sets) (m0 m1 : List Words) (core line offset value : ℕ) (old : Words) → line < length m0 → offset < length (current_words d0 m0 line) → length m1 ≡ length m0 →
     copy_at c1 core line ≡ Some (copy_with M old) → old ≡ current_words d0 m0 line → KeepsWords d0 c1 m0 m1 →
-    ChangesCopy core line (option_map (with_word place value) (copy_at c1 core line)) c1 c2 → SetsWord line place value d0 c2 m0 m1
-completed_written d0 c1 c2 m0 m1 core line place value old within place_in size here is keeps to = record {
-  coherent = owned-coherent c1 c2 m1 core line (slice_set old place value) own;
-  place_in = place_in;
-  lines = λ k b. owned-seen c1 c2 m1 core line (slice_set old place value) own k (rw size b) ∙ by_line k b (cases_eq k line);
+    ChangesCopy core line (option_map (with_word offset value) (copy_at c1 core line)) c1 c2 → SetsWord line offset value d0 c2 m0 m1
+completed_written d0 c1 c2 m0 m1 core line offset value old within offset_in size here is keeps to = record {
+  coherent = owned-coherent c1 c2 m1 core line (slice_set old offset value) own;
+  offset_in = offset_in;
+  lines = λ k b. owned-seen c1 c2 m1 core line (slice_set old offset value) own k (rw size b) ∙ by_line k b (cases_eq k line);
 }
   where
-    own : Owned c1 c2 m1 core line (slice_set old place value)
-    own = write_owned c1 c2 m1 core line place value old keeps.coherent (rw size within) here to
+    own : Owned c1 c2 m1 core line (slice_set old offset value)
+    own = write_owned c1 c2 m1 core line offset value old keeps.coherent (rw size within) here to
 
     by_line : (k : ℕ) → k < length m0 → (k ≡ line) ⊎ (k ≢ line) →
-        (if nat_eq k line then slice_set old place value else current_words c1 m1 k) ≡ (if nat_eq k line then slice_set (current_words d0 m0 line) place value else current_words d0 m0 k)
-    by_line k b (inl p) = let e : nat_eq k line ≡ true = rw p (itself line) in rw e (ap (λ (w : Words). slice_set w place value) is)
+        (if nat_eq k line then slice_set old offset value else current_words c1 m1 k) ≡ (if nat_eq k line then slice_set (current_words d0 m0 line) offset value else current_words d0 m0 k)
+    by_line k b (inl p) = let e : nat_eq k line ≡ true = rw p (itself line) in rw e (ap (λ (w : Words). slice_set w offset value) is)
     by_line k b (inr p) = let e : nat_eq k line ≡ false = differ k line p in rw e (keeps.words k b)
 
 -- a word is written to a copy in M
-pub locked_written : (c0 c2 : List Sets) (m : List Words) (core line place value : ℕ) → AllCoherent c0 m → line < length m → place < length (current_words c0 m line) → state_of (copy_at c0 core line) ≡ M →
-    ChangesCopy core line (option_map (with_word place value) (copy_at c0 core line)) c0 c2 → SetsWord line place value c0 c2 m m
-locked_written c0 c2 m core line place value h within place_in state to = by_copy (copy_at c0 core line) refl state
+pub locked_written : (c0 c2 : List Sets) (m : List Words) (core line offset value : ℕ) → AllCoherent c0 m → line < length m → offset < length (current_words c0 m line) → state_of (copy_at c0 core line) ≡ M →
+    ChangesCopy core line (option_map (with_word offset value) (copy_at c0 core line)) c0 c2 → SetsWord line offset value c0 c2 m m
+locked_written c0 c2 m core line offset value h within offset_in state to = by_copy (copy_at c0 core line) refl state
   where
-    by_copy : (o : Option Line) → copy_at c0 core line ≡ o → state_of o ≡ M → SetsWord line place value c0 c2 m m
+    by_copy : (o : Option Line) → copy_at c0 core line ≡ o → state_of o ≡ M → SetsWord line offset value c0 c2 m m
     by_copy None e s = cc
     by_copy (Some copy) e s =
         let is : copy.words ≡ current_words c0 m line = (h.each line within).same core copy e in
-        let own : Owned c0 c2 m core line (slice_set copy.words place value) = write_owned c0 c2 m core line place value copy.words h within (e ∙ rw (← s) refl) to in
+        let own : Owned c0 c2 m core line (slice_set copy.words offset value) = write_owned c0 c2 m core line offset value copy.words h within (e ∙ rw (← s) refl) to in
         record {
-          coherent = owned-coherent c0 c2 m core line (slice_set copy.words place value) own;
-          place_in = place_in;
-          lines = λ k b. owned-seen c0 c2 m core line (slice_set copy.words place value) own k b ∙ ap (λ (w : Words). if nat_eq k line then slice_set w place value else current_words c0 m k) is;
+          coherent = owned-coherent c0 c2 m core line (slice_set copy.words offset value) own;
+          offset_in = offset_in;
+          lines = λ k b. owned-seen c0 c2 m core line (slice_set copy.words offset value) own k b ∙ ap (λ (w : Words). if nat_eq k line then slice_set w offset value else current_words c0 m k) is;
         }

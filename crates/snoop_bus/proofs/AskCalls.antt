@@ -3,9 +3,9 @@ use Rattle.std.proofs.Common.{◌≡◌, ℕ, ◌*◌, ◌/◌, ◌<◌, ◌≤�
 use Rattle.tso_model.specs.declared.instruction.Core.{Core}
 use Rattle.tso_model.specs.declared.instruction.Loc.{Loc}
 use Rattle.protocol_tables.specs.Tables.{Table}
-use Rattle.protocol_tables.specs.declared.asking.Request.{Request}
-use Rattle.protocol_tables.specs.declared.asking.Transient.{Transient}
-use Rattle.snoop_bus.specs.declared.holding.Held.{Held}
+use Rattle.protocol_tables.specs.declared.requests.Request.{Request}
+use Rattle.protocol_tables.specs.declared.requests.Transient.{Transient}
+use Rattle.snoop_bus.specs.declared.holding.HeldBus.{HeldBus}
 use Rattle.snoop_bus.specs.Geometry.{Geometry}
 use Rattle.snoop_bus.specs.Lines.{Words}
 use Rattle.snoop_bus.specs.Rows.{rows_of, table_of_rows}
@@ -39,7 +39,7 @@ module _ (t : Table) (shape : Geometry) (locations : ℕ) (c0 c2 : List Sets) (m
   back = sym (table_of-rows t)
 
   -- the steps of an ask
-  pub record AskSteps (write : Bool) (h : Held) : Type 0 where
+  pub record AskSteps (write : Bool) (h : HeldBus) : Type 0 where
     pub some_word : 0 < shape.words
     pub enough : locations ≤ length m0 * shape.words
     pub exact : h ≡ held_by core loc (stage_for write) line (transaction_of t (request_for write) core.0 line (current_words c0 m0 line) (tags_of c0))
@@ -48,12 +48,12 @@ module _ (t : Table) (shape : Geometry) (locations : ℕ) (c0 c2 : List Sets) (m
     pub own : cache_of c2 core.0 ≡ cache_of c0 core.0
     pub words : KeepsWords c0 (counted (Some h) c2) m0 m2
 
-  pub ask_done : (write : Bool) (h : Held) → AskSteps write h → AsksFor (bus_with t shape locations c0 m0 None) (bus_with t shape locations c2 m2 (Some h)) core loc write
+  pub ask_done : (write : Bool) (h : HeldBus) → AskSteps write h → AsksFor (bus_with t shape locations c0 m0 None) (bus_with t shape locations c2 m2 (Some h)) core loc write
   ask_done write h s = record {
     own = s.own;
     words = words-same shape.words locations (length m0) (current_words c0 m0) (current_words (counted (Some h) c2) m2) s.some_word s.enough s.words.words;
     holder_is = rw s.exact refl;
-    awaited_is = ap (λ (x : Held). awaited_in x.transaction) s.exact ∙ awaited-for t (request_for write) core.0 line (current_words c0 m0 line) (tags_of c0)
+    awaited_is = ap (λ (x : HeldBus). awaited_in x.transaction) s.exact ∙ awaited-for t (request_for write) core.0 line (current_words c0 m0 line) (tags_of c0)
         ∙ ap (λ (u : Table). (asking u (request_for write) core.0 line (tags_of c0)).awaited) back;
     contents = s.tags ∙ ap (λ (u : Table). (asking u (request_for write) core.0 line (tags_of c0)).caches) back;
     memory = s.memory ∙ ap (λ (u : Table). asked_memory u (request_for write) line c0 m0) back;

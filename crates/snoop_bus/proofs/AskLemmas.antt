@@ -5,8 +5,8 @@ use Rattle.protocol_tables.specs.inner.Laws.{GivesUp, Shares, CleansByMemory, Su
 use Rattle.protocol_tables.specs.Tables.{Table}
 use Rattle.protocol_tables.specs.declared.state.State.{State}
 use Rattle.protocol_tables.specs.declared.state.State.TheVariants.{M}
-use Rattle.protocol_tables.specs.declared.asking.Request.TheVariants.{GetS, GetM}
-use Rattle.protocol_tables.specs.declared.asking.Transient.TheVariants.{IsD, ImD}
+use Rattle.protocol_tables.specs.declared.requests.Request.TheVariants.{GetS, GetM}
+use Rattle.protocol_tables.specs.declared.requests.Transient.TheVariants.{IsD, ImD}
 use Rattle.tso_model.specs.declared.instruction.Core.{Core}
 use Rattle.cache_set.specs.declared.Victim.{Victim}
 use Rattle.cache_set.specs.inner.Copy.{copy_with}

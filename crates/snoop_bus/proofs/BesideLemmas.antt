@@ -3,15 +3,15 @@ use Rattle.std.proofs.lemmas.Bool.{cases_eq}
 use Rattle.std.proofs.Common.{◌≡◌, ◌≢◌, ◌⊎◌, inl, inr, ℕ, ◌&&◌, nat_eq, Option, Some, None, IfSome, List, length, refl, sym, ap, ◌∙◌, if◌then◌else◌}
 use Rattle.protocol_tables.specs.Laws.{in_place}
 use Rattle.protocol_tables.specs.declared.state.State.TheVariants.{S, M}
-use Rattle.protocol_tables.specs.declared.asking.Transient.{Transient}
-use Rattle.protocol_tables.specs.declared.asking.Transient.TheVariants.{IsD, ImD, SmD}
+use Rattle.protocol_tables.specs.declared.requests.Transient.{Transient}
+use Rattle.protocol_tables.specs.declared.requests.Transient.TheVariants.{IsD, ImD, SmD}
 use Rattle.cache_set.specs.declared.Line.{Line}
 use Rattle.snoop_bus.specs.Lines.{Words}
 use Rattle.snoop_bus.specs.Coherent.{state_of}
 use Rattle.snoop_bus.specs.Copies.{Sets, copy_at}
 use Rattle.snoop_bus.specs.inner.Copies.{ways_of}
 use Rattle.snoop_bus.specs.inner.Requests.{ChangesCopy}
-use Rattle.snoop_bus.specs.declared.holding.Held.{Held}
+use Rattle.snoop_bus.specs.declared.holding.HeldBus.{HeldBus}
 use Rattle.snoop_bus.specs.declared.holding.Stage.{Stage}
 use Rattle.snoop_bus.specs.declared.holding.Stage.TheVariants.{Load, Write, Locked}
 use Rattle.snoop_bus.specs.declared.holding.Transaction.{Transaction}
@@ -26,11 +26,11 @@ abbrev pub over_in : ℕ → ℕ → Option Transaction → ℕ → ℕ → Opti
 over_in core line None i k o = o
 over_in core line (Some x) i k o = (if nat_eq i core && nat_eq k line then Some x.copy else o)
 
-abbrev pub over : Option Held → ℕ → ℕ → Option Line → Option Line
+abbrev pub over : Option HeldBus → ℕ → ℕ → Option Line → Option Line
 over None i k o = o
 over (Some h) i k o = over_in h.holder.core.0 h.line h.transaction i k o
 
-pub counted-at : (held : Option Held) (caches : List Sets) (memory : List Words) (i k : ℕ) → IfSome held (IsHeld caches memory) → copy_at (counted held caches) i k ≡ over held i k (copy_at caches i k)
+pub counted-at : (held : Option HeldBus) (caches : List Sets) (memory : List Words) (i k : ℕ) → IfSome held (IsHeld caches memory) → copy_at (counted held caches) i k ≡ over held i k (copy_at caches i k)
 counted-at None caches memory i k h = refl
 counted-at (Some h) caches memory i k held = by_transaction h.transaction
   where
@@ -38,7 +38,7 @@ counted-at (Some h) caches memory i k held = by_transaction h.transaction
     by_transaction None = refl
     by_transaction (Some x) = counting-at caches h.holder.core.0 h.line x.copy i k held.core_in held.some_set
 
-pub ways-counted : (held : Option Held) (caches : List Sets) → ways_of (counted held caches) ≡ ways_of caches
+pub ways-counted : (held : Option HeldBus) (caches : List Sets) → ways_of (counted held caches) ≡ ways_of caches
 ways-counted None caches = refl
 ways-counted (Some h) caches = by_transaction h.transaction
   where
@@ -61,7 +61,7 @@ placed_free Write x own a placed = by_transient x.transient refl a.1
     ]
 
 -- at a copy that is written in place the caches' own copy counts
-pub placed-over : (held : Option Held) (caches : List Sets) (memory : List Words) (core line : ℕ) → IfSome held (IsHeld caches memory) → in_place (state_of (copy_at caches core line)) ≡ Some M →
+pub placed-over : (held : Option HeldBus) (caches : List Sets) (memory : List Words) (core line : ℕ) → IfSome held (IsHeld caches memory) → in_place (state_of (copy_at caches core line)) ≡ Some M →
     (o : Option Line) → over held core line o ≡ o
 placed-over None caches memory core line h placed o = refl
 placed-over (Some h) caches memory core line held placed o = by_transaction h.transaction held.awaits
@@ -77,12 +77,12 @@ placed-over (Some h) caches memory core line held placed o = by_transaction h.tr
     ]
 
 -- the same copies count where each core has the same
-pub counted-same : (held : Option Held) (c0 c2 : List Sets) (memory : List Words) → IfSome held (IsHeld c0 memory) → IfSome held (IsHeld c2 memory) → ((i k : ℕ) → copy_at c2 i k ≡ copy_at c0 i k) →
+pub counted-same : (held : Option HeldBus) (c0 c2 : List Sets) (memory : List Words) → IfSome held (IsHeld c0 memory) → IfSome held (IsHeld c2 memory) → ((i k : ℕ) → copy_at c2 i k ≡ copy_at c0 i k) →
     (i k : ℕ) → copy_at (counted held c2) i k ≡ copy_at (counted held c0) i k
 counted-same held c0 c2 memory h0 h2 same i k = counted-at held c2 memory i k h2 ∙ ap (over held i k) (same i k) ∙ sym (counted-at held c0 memory i k h0)
 
 -- a change of a copy that is written in place is one of those that count
-pub counted-changes : (held : Option Held) (c0 c2 : List Sets) (memory : List Words) (core line : ℕ) (o : Option Line) → IfSome held (IsHeld c0 memory) → IfSome held (IsHeld c2 memory) →
+pub counted-changes : (held : Option HeldBus) (c0 c2 : List Sets) (memory : List Words) (core line : ℕ) (o : Option Line) → IfSome held (IsHeld c0 memory) → IfSome held (IsHeld c2 memory) →
     in_place (state_of (copy_at c0 core line)) ≡ Some M → ChangesCopy core line o c0 c2 → ChangesCopy core line o (counted held c0) (counted held c2)
 counted-changes held c0 c2 memory core line o h0 h2 placed to i k =
     rw (counted-at held c2 memory i k h2, counted-at held c0 memory i k h0, to i k) (by_core (cases_eq i core) (cases_eq k line))
@@ -92,12 +92,12 @@ counted-changes held c0 c2 memory core line o h0 h2 placed to i k =
     by_core (inl p) (inr q) = rw (p, itself core, differ k line q) refl
     by_core (inr p) q = rw (differ i core p) refl
 
-pub placed-counts : (held : Option Held) (caches : List Sets) (memory : List Words) (core line : ℕ) → IfSome held (IsHeld caches memory) → in_place (state_of (copy_at caches core line)) ≡ Some M →
+pub placed-counts : (held : Option HeldBus) (caches : List Sets) (memory : List Words) (core line : ℕ) → IfSome held (IsHeld caches memory) → in_place (state_of (copy_at caches core line)) ≡ Some M →
     copy_at (counted held caches) core line ≡ copy_at caches core line
 placed-counts held caches memory core line h placed = counted-at held caches memory core line h ∙ placed-over held caches memory core line h placed (copy_at caches core line)
 
 -- any own copy has the word that counts
-pub own_word : (held : Option Held) (caches : List Sets) (memory : List Words) (core line : ℕ) (copy : Line) → IfSome held (IsHeld caches memory) → copy_at caches core line ≡ Some copy →
+pub own_word : (held : Option HeldBus) (caches : List Sets) (memory : List Words) (core line : ℕ) (copy : Line) → IfSome held (IsHeld caches memory) → copy_at caches core line ≡ Some copy →
     (other : Line) × (copy_at (counted held caches) core line ≡ Some other) × (copy.words ≡ other.words)
 own_word None caches memory core line copy h found = (copy, found, refl)
 own_word (Some h) caches memory core line copy held found = by_transaction h.transaction refl held.awaits
@@ -128,7 +128,7 @@ own_word (Some h) caches memory core line copy held found = by_transaction h.tra
         ]
 
 -- the action finds what it left where its own copy is as it was
-pub held-same : (held : Option Held) (c0 c2 : List Sets) (m0 m2 : List Words) → IfSome held (IsHeld c0 m0) → ways_of c2 ≡ ways_of c0 → length m2 ≡ length m0 → ((i k : ℕ) → copy_at c2 i k ≡ copy_at c0 i k) → IfSome held (IsHeld c2 m2)
+pub held-same : (held : Option HeldBus) (c0 c2 : List Sets) (m0 m2 : List Words) → IfSome held (IsHeld c0 m0) → ways_of c2 ≡ ways_of c0 → length m2 ≡ length m0 → ((i k : ℕ) → copy_at c2 i k ≡ copy_at c0 i k) → IfSome held (IsHeld c2 m2)
 held-same None c0 c2 m0 m2 h ways size same = tt
 held-same (Some h) c0 c2 m0 m2 held ways size same = record {
   core_in = rw (same_cores c0 c2 ways) held.core_in;
@@ -138,7 +138,7 @@ held-same (Some h) c0 c2 m0 m2 held ways size same = record {
 }
 
 -- and where a copy that is written in place went to M
-pub held-placed : (held : Option Held) (c0 c2 : List Sets) (memory : List Words) (core line : ℕ) (o : Option Line) → IfSome held (IsHeld c0 memory) → ways_of c2 ≡ ways_of c0 →
+pub held-placed : (held : Option HeldBus) (c0 c2 : List Sets) (memory : List Words) (core line : ℕ) (o : Option Line) → IfSome held (IsHeld c0 memory) → ways_of c2 ≡ ways_of c0 →
     in_place (state_of (copy_at c0 core line)) ≡ Some M → state_of o ≡ M → ChangesCopy core line o c0 c2 → IfSome held (IsHeld c2 memory)
 held-placed None c0 c2 memory core line o h ways placed now to = tt
 held-placed (Some h) c0 c2 memory core line o held ways placed now to = record {

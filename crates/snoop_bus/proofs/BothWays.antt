@@ -6,7 +6,7 @@ use Rattle.protocol_tables.specs.Laws.{WritesInPlace}
 use Rattle.protocol_tables.specs.Tables.{Table}
 use Rattle.protocol_tables.specs.declared.state.State.{State}
 use Rattle.protocol_tables.specs.declared.state.State.TheVariants.{I, S, E, O, M}
-use Rattle.protocol_tables.specs.declared.asking.Request.TheVariants.{GetS, GetM}
+use Rattle.protocol_tables.specs.declared.requests.Request.TheVariants.{GetS, GetM}
 use Rattle.cache_set.specs.declared.Line.{Line}
 use Rattle.cache_set.specs.declared.Victim.{Victim}
 use Rattle.cache_set.specs.Contents.{Contents, as_victim, victim_of}
@@ -18,11 +18,11 @@ use Rattle.snoop_bus.specs.Rows.{Rows, table_of_rows}
 use Rattle.snoop_bus.specs.CacheContents.{TagSets, Accessed}
 use Rattle.snoop_bus.specs.Copies.{Sets, set_at, cache_of, copy_at, tags_of}
 use Rattle.snoop_bus.specs.Held.{counted}
-use Rattle.snoop_bus.specs.Bus.{Bus, IsFree, IsCoherent, AllCoherent, words_of}
+use Rattle.snoop_bus.specs.Bus.{BusModel, IsFree, IsCoherent, AllCoherent, words_of}
 use Rattle.snoop_bus.specs.MemoryAfter.{written_back, flushed, sent_words, victim_at, loaded_memory, loaded_memory_in, written_memory, written_memory_in}
 use Rattle.snoop_bus.specs.Asks.{tag_at, hits, Awaited, awaiting, asking, asked_for, asked_memory, completed, completed_memory}
 use Rattle.snoop_bus.specs.Accesses.{contents_of, memory_of, line_of, load_of, write_of, would_hit, awaited_of, ask_of, completion_of, memory_after_completion, LoadsAt, WritesAt}
-use Rattle.snoop_bus.specs.Halves.{InHalves, LoadsInHalves, WritesInHalves, LeaveTheSame, LoadsAgree}
+use Rattle.snoop_bus.specs.WholeAccesses.{InHalves, LoadsInHalves, WritesInHalves, LeaveTheSame, LoadsAgree}
 use Rattle.snoop_bus.proofs.Numbers.{itself, inside}
 use Rattle.snoop_bus.proofs.AccessLemmas.{tag_here}
 use Rattle.snoop_bus.proofs.HolderLemmas.{free-held, not_here}
@@ -116,12 +116,12 @@ write-memory t core line caches asked memory valid own = by_copy (copy_at caches
 -- ---- buses
 
 -- what a completion is and leaves, said of the bus before the ask
-pub completed-is : (old between new : Bus) (core : Core) (loc : Loc) (write : Bool) (access : Access) → (h : InHalves old between new core loc write access)
+pub completed-is : (old between new : BusModel) (core : Core) (loc : Loc) (write : Bool) (access : Access) → (h : InHalves old between new core loc write access)
     → completion_of between core.0 loc.0 ≡ completed (table_of_rows old.rows) core.0 (line_of old loc.0) (ask_of old core.0 loc.0 write).awaited (ask_of old core.0 loc.0 write).caches
 completed-is old between new core loc write access h =
     rw (h.machine.rows, h.machine.shape, h.asks.awaited_is, h.asks.contents) refl
 
-pub load-agrees : (old whole between new : Bus) (core : Core) (loc : Loc) (word other : ℕ) (a b : Access) → would_hit old core.0 loc.0 false ≡ false
+pub load-agrees : (old whole between new : BusModel) (core : Core) (loc : Loc) (word other : ℕ) (a b : Access) → would_hit old core.0 loc.0 false ≡ false
     → LoadsAt old whole core.0 loc.0 word a → LoadsInHalves old between new core loc other b → LoadsAgree whole new word other a b
 load-agrees old whole between new core loc word other a b misses one two =
     let t = table_of_rows old.rows in
@@ -153,7 +153,7 @@ valid-tag caches memory core line coherent e = by_copy (copy_at caches core line
       | inr l ↦ let none = coherent.within line core l in let z : ⊥ = cc in z
     ]
 
-pub write-agrees : (old whole between new : Bus) (core : Core) (loc : Loc) (word : ℕ) (a b : Access) → WritesInPlace (table_of_rows old.rows).written → IsFree old → IsCoherent old
+pub write-agrees : (old whole between new : BusModel) (core : Core) (loc : Loc) (word : ℕ) (a b : Access) → WritesInPlace (table_of_rows old.rows).written → IsFree old → IsCoherent old
     → WritesAt old whole core.0 loc.0 word a → WritesInHalves old between new core loc word b → LeaveTheSame whole new a b
 write-agrees old whole between new core loc word a b law free coherent one two =
     let t = table_of_rows old.rows in

@@ -11,9 +11,9 @@ use Rattle.snoop_bus.specs.Lines.{Words, line_in, words_in}
 use Rattle.snoop_bus.specs.Rows.{rows_of, table_of_rows}
 use Rattle.snoop_bus.specs.CacheContents.{Accessed, loaded, written}
 use Rattle.snoop_bus.specs.Copies.{Sets, copy_at, tags_of}
-use Rattle.snoop_bus.specs.declared.holding.Held.{Held}
+use Rattle.snoop_bus.specs.declared.holding.HeldBus.{HeldBus}
 use Rattle.snoop_bus.specs.Held.{counted}
-use Rattle.snoop_bus.specs.Bus.{Bus, bus_with, current_words, program_words}
+use Rattle.snoop_bus.specs.Bus.{BusModel, bus_with, current_words, program_words}
 use Rattle.snoop_bus.specs.inner.Bus.{IsBus}
 use Rattle.snoop_bus.specs.Accesses.{load_of, write_of, IsCurrentWord, LoadsAt, WritesAt, KeepsHolder}
 use Rattle.snoop_bus.specs.inner.Accesses.{MayGoOn, IsOutOfMemory}
@@ -30,7 +30,7 @@ pub loc_in : (words n : ℕ) (caches : List Sets) (memory : List Words) (loc : �
 loc_in words n caches memory loc b = rw (length-words words (current_words caches memory) n) at b
 
 -- a core's access to a location of the bus
-pub bus_ready : (shape : Geometry) (locations : ℕ) (h : Hierarchy) (held : Option Held) (core loc : ℕ) →
+pub bus_ready : (shape : Geometry) (locations : ℕ) (h : Hierarchy) (held : Option HeldBus) (core loc : ℕ) →
     IsBus shape locations h.caches.items h.memory.items held → core < length h.caches.items →
     loc < length (program_words shape locations (counted held h.caches.items) h.memory.items) → IsReady held core (loc / shape.words) h
 bus_ready shape locations h held core loc b core_in word_in = record {
@@ -44,17 +44,17 @@ bus_ready shape locations h held core loc b core_in word_in = record {
 }
 
 -- what may go on: nobody holds the bus, or the access is a hit
-pub free_or_hit : (t : Table) (shape : Geometry) (locations : ℕ) (caches : List Sets) (memory : List Words) (held : Option Held) (core loc : ℕ) (write : Bool) →
+pub free_or_hit : (t : Table) (shape : Geometry) (locations : ℕ) (caches : List Sets) (memory : List Words) (held : Option HeldBus) (core loc : ℕ) (write : Bool) →
     MayGoOn (bus_with t shape locations caches memory held) core loc write →
     (held ≡ None) ⊎ IsTrue (hits t core (loc / shape.words) write (tags_of caches))
 free_or_hit t shape locations caches memory held core loc write (inl e) = inl (free-held held e)
 free_or_hit t shape locations caches memory held core loc write (inr e) = inr (rw (table_of-rows t) at e)
 
-module _ (t : Table) (shape : Geometry) (locations : ℕ) (old new : Hierarchy) (held : Option Held) (core loc : ℕ) where
-  abbrev before : Bus
+module _ (t : Table) (shape : Geometry) (locations : ℕ) (old new : Hierarchy) (held : Option HeldBus) (core loc : ℕ) where
+  abbrev before : BusModel
   before = bus_with t shape locations old.caches.items old.memory.items held
 
-  abbrev after : Bus
+  abbrev after : BusModel
   after = bus_with t shape locations new.caches.items new.memory.items held
 
   same_holder : KeepsHolder before after
@@ -86,7 +86,7 @@ module _ (t : Table) (shape : Geometry) (locations : ℕ) (old new : Hierarchy) 
       IfOk r (Updates t held core (loc / shape.words) (loc % shape.words) old.caches.items new.caches.items old.memory.items new.memory.items) → IfOk r (λ r. WritesAt before after core loc r.after r.access)
   write_done (Err e) some enough within h = tt
   write_done (Ok x) some enough within h = record {
-    words = words-set shape.words locations (length old.memory.items) (current_words (counted held old.caches.items) old.memory.items) (current_words (counted held new.caches.items) new.memory.items) loc x.after some enough within h.place_in h.lines;
+    words = words-set shape.words locations (length old.memory.items) (current_words (counted held old.caches.items) old.memory.items) (current_words (counted held new.caches.items) new.memory.items) loc x.after some enough within h.offset_in h.lines;
     access_is = h.access_is ∙ ap (λ (u : Table). (written u core (loc / shape.words) (tags_of old.caches.items)).access) back;
     contents = h.tags ∙ ap (λ (u : Table). (written u core (loc / shape.words) (tags_of old.caches.items)).caches) back;
     memory = h.memory ∙ ap (λ (u : Table). written_memory u core (loc / shape.words) old.caches.items old.memory.items) back;

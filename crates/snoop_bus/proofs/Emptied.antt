@@ -13,10 +13,10 @@ use Rattle.snoop_bus.specs.Rows.{rows_of}
 use Rattle.snoop_bus.specs.Lines.{Words, words_in, lines_of_words}
 use Rattle.snoop_bus.specs.Copies.{Sets}
 use Rattle.snoop_bus.specs.inner.Copies.{emptied, ways_of, AtHome}
-use Rattle.snoop_bus.specs.Bus.{Bus, words_of, current_words, empty_caches}
+use Rattle.snoop_bus.specs.Bus.{BusModel, words_of, current_words, empty_caches}
 use Rattle.snoop_bus.specs.inner.Bus.{IsBus}
 use Rattle.snoop_bus.specs.Accesses.{new_bus}
-use Rattle.snoop_bus.specs.declared.holding.Held.{Held}
+use Rattle.snoop_bus.specs.declared.holding.HeldBus.{HeldBus}
 use Rattle.snoop_bus.proofs.NewLemmas.{map-replicate, new-bus, new-words}
 
 pub home-emptied : (sets : Sets) → 0 < length sets → (0 < length (map emptied sets)) × AtHome (map emptied sets)
@@ -35,7 +35,7 @@ all-emptied shape caches shaped =
     emptied-caches caches ∙ ap (map (map (λ ways. contents [] ways))) shaped ∙ map-replicate (map (λ ways. contents [] ways)) (length caches) (replicate shape.sets shape.ways)
     ∙ ap (replicate (length caches)) (map-replicate (λ ways. contents [] ways) shape.sets shape.ways)
 
-pub count-words : (b : Bus) → length (words_of b) ≡ b.locations
+pub count-words : (b : BusModel) → length (words_of b) ≡ b.locations
 count-words b = length-map-range_with_len _ 0 b.locations
 
 -- these caches and this memory are those of a new bus
@@ -44,7 +44,7 @@ pub record IsNew (t : Table) (shape : Geometry) (locations cores : ℕ) (caches 
   pub words : words_in shape.words (current_words caches memory) locations ≡ init
   pub exact : record { rows = rows_of t; shape = shape; locations = locations; caches = caches; memory = memory; held = None } ≡ new_bus t cores shape init
 
-pub begins-anew : (t : Table) (shape : Geometry) (locations : ℕ) (c0 c2 : List Sets) (m0 m2 : List Words) (h : Option Held) (init : List ℕ) → IsBus shape locations c0 m0 h → shape.words ≤ most_words
+pub begins-anew : (t : Table) (shape : Geometry) (locations : ℕ) (c0 c2 : List Sets) (m0 m2 : List Words) (h : Option HeldBus) (init : List ℕ) → IsBus shape locations c0 m0 h → shape.words ≤ most_words
     → length init ≡ locations → c2 ≡ map (map emptied) c0 → m2 ≡ lines_of_words shape.words init (length m0) → IsNew t shape locations (length c0) c2 m2 init
 begins-anew t shape locations c0 c2 m0 m2 h init b size same caches memory =
     let lines : length m0 ≡ div_ceil (length init) shape.words = b.as_many_lines ∙ ap (λ n. div_ceil n shape.words) (sym same) in

@@ -21,7 +21,7 @@ use Rattle.snoop_bus.specs.inner.Copies.{ways_of}
 use Rattle.snoop_bus.specs.Bus.{current_words, AllCoherent}
 use Rattle.snoop_bus.specs.inner.Requests.{ChangesCopy, LeftByOthers}
 use Rattle.snoop_bus.specs.inner.Accessing.{KeepsWords, Loads, Acquires}
-use Rattle.snoop_bus.specs.declared.holding.Held.{Held}
+use Rattle.snoop_bus.specs.declared.holding.HeldBus.{HeldBus}
 use Rattle.snoop_bus.specs.Held.{counted}
 use Rattle.snoop_bus.specs.inner.Held.{IsHeld}
 use Rattle.snoop_bus.proofs.BesideLemmas.{own_word, held-same, held-placed, counted-same, counted-changes, placed-counts, ways-counted}
@@ -35,13 +35,13 @@ use Rattle.snoop_bus.proofs.WriteLemmas.{here_now, written_m, hit_owned, upgrade
 abbrev quiet_access : AccessKind → Access
 quiet_access kind = record { kind = kind; wrote_back = false; flushed = None }
 
-pub load_hit : (t : Table) (held : Option Held) (c0 : List Sets) (m : List Words) (core line place : ℕ) (copy : Line) (new : Sets) → AllCoherent (counted held c0) m → IfSome held (IsHeld c0 m) → core < length c0 → line < length m →
+pub load_hit : (t : Table) (held : Option HeldBus) (c0 : List Sets) (m : List Words) (core line offset : ℕ) (copy : Line) (new : Sets) → AllCoherent (counted held c0) m → IfSome held (IsHeld c0 m) → core < length c0 → line < length m →
     copy_at c0 core line ≡ Some copy → new ≡ in_set line (to_front line) (cache_of c0 core) → ((k : ℕ) → copy_in new k ≡ copy_at c0 core k) →
     map (λ s. s.ways) new ≡ map (λ s. s.ways) (cache_of c0 core) →
-    Loads t held core line place c0 (slice_set c0 core new) m m (slice_index copy.words place) (quiet_access Hit) × KeepsWords (counted held c0) (counted held (slice_set c0 core new)) m m × IfSome held (IsHeld (slice_set c0 core new) m) × (ways_of (slice_set c0 core new) ≡ ways_of c0)
-load_hit t held c0 m core line place copy new h awaited core_in line_in found exact copies ways = (
+    Loads t held core line offset c0 (slice_set c0 core new) m m (slice_index copy.words offset) (quiet_access Hit) × KeepsWords (counted held c0) (counted held (slice_set c0 core new)) m m × IfSome held (IsHeld (slice_set c0 core new) m) × (ways_of (slice_set c0 core new) ≡ ways_of c0)
+load_hit t held c0 m core line offset copy new h awaited core_in line_in found exact copies ways = (
   record {
-    word_is = let other = own_word held c0 m core line copy awaited found in ap (λ (w : Words). slice_index w place) (other.2 ∙ (h.each line line_in).same core other.0 other.1);
+    word_is = let other = own_word held c0 m core line copy awaited found in ap (λ (w : Words). slice_index w offset) (other.2 ∙ (h.each line line_in).same core other.0 other.1);
     access_is = sym (ap (λ (a : Accessed). a.access) (loaded-hit t c0 core line copy found));
     tags = tags-touched c0 core line copy new found exact ∙ sym (ap (λ (a : Accessed). a.caches) (loaded-hit t c0 core line copy found));
     memory = rw found refl;
@@ -72,7 +72,7 @@ same_words c0 c2 m core line h k b = owned-seen c0 c2 m core line (current_words
     by_line (inl p) = let e : nat_eq k line ≡ true = rw p (itself line) in rw e (rw p refl)
     by_line (inr p) = let e : nat_eq k line ≡ false = differ k line p in rw e refl
 
-pub write_hit : (t : Table) → WritesInPlace t.written → (held : Option Held) (c0 c2 : List Sets) (m : List Words) (core line : ℕ) (copy : Line) (next : State) → AllCoherent (counted held c0) m → IfSome held (IsHeld c0 m) → line < length m →
+pub write_hit : (t : Table) → WritesInPlace t.written → (held : Option HeldBus) (c0 c2 : List Sets) (m : List Words) (core line : ℕ) (copy : Line) (next : State) → AllCoherent (counted held c0) m → IfSome held (IsHeld c0 m) → line < length m →
     copy_at c0 core line ≡ Some copy → t.written copy.state ≡ Some next → ChangesCopy core line (option_map (with_state next) (copy_at c0 core line)) c0 c2 →
     tags_of c2 ≡ used_by core line next (tags_of c0) → ways_of c2 ≡ ways_of c0 →
     Acquires t held core line c0 c2 m m copy.words (quiet_access Hit) × KeepsWords (counted held c0) (counted held c2) m m × IfSome held (IsHeld c2 m)

@@ -12,8 +12,8 @@ use Rattle.snoop_bus.specs.Coherent.{Coherent, state_of}
 use Rattle.snoop_bus.specs.Copies.{Sets, copy_at, cache_of, tags_of}
 use Rattle.snoop_bus.specs.Bus.{AllCoherent, bus_with}
 use Rattle.snoop_bus.specs.inner.Accesses.{StandsAlone}
-use Rattle.snoop_bus.specs.declared.holding.Held.{Held}
-use Rattle.snoop_bus.specs.declared.holding.Holder.{Holder}
+use Rattle.snoop_bus.specs.declared.holding.HeldBus.{HeldBus}
+use Rattle.snoop_bus.specs.declared.holding.BusAction.{BusAction}
 use Rattle.snoop_bus.specs.declared.holding.Stage.{Stage}
 use Rattle.snoop_bus.specs.declared.holding.Stage.TheVariants.{Load, Write, Locked}
 use Rattle.snoop_bus.specs.declared.holding.Transaction.{Transaction}
@@ -36,7 +36,7 @@ placed_alone caches w m core line i h writes d = by_copy (copy_at caches core li
     by_copy (Some copy) e w = alone _ _ core (λ i. copy_at caches i line) copy h e w i d
 
 -- from the ask for a write access to its end no other core has the line
-pub held_alone : (caches : List Sets) (memory : List Words) (h : Held) (i : ℕ) → AllCoherent (counted (Some h) caches) memory → IsHeld caches memory h → h.holder.stage ≢ Load → i ≢ h.holder.core.0 → copy_at caches i h.line ≡ None
+pub held_alone : (caches : List Sets) (memory : List Words) (h : HeldBus) (i : ℕ) → AllCoherent (counted (Some h) caches) memory → IsHeld caches memory h → h.holder.stage ≢ Load → i ≢ h.holder.core.0 → copy_at caches i h.line ≡ None
 held_alone caches memory h i coherent held writes d = by_stage h.holder.stage refl h.transaction refl held.awaits
   where
     core : ℕ
@@ -67,7 +67,7 @@ abbrev core_of : ℕ → Core
 core_of n = record { 0 = n }
 
 -- so no access of another core to it would be a hit
-pub taken : (t : Table) (locations : ℕ) (shape : Geometry) (caches : List Sets) (memory : List Words) (held : Option Held) (core : Core) (loc : Loc) (write : Bool) → AllCoherent (counted held caches) memory →
+pub taken : (t : Table) (locations : ℕ) (shape : Geometry) (caches : List Sets) (memory : List Words) (held : Option HeldBus) (core : Core) (loc : Loc) (write : Bool) → AllCoherent (counted held caches) memory →
     IfSome held (IsHeld caches memory) → IfSome held (IsPlaced shape locations) →
     IfSome (holder_in held) (λ h. h.loc.0 / shape.words ≡ loc.0 / shape.words → h.stage ≢ Load → h.core ≢ core → hits t core.0 (loc.0 / shape.words) write (tags_of caches) ≡ false)
 taken t locations shape caches memory None core loc write coherent held placed = tt
@@ -87,12 +87,12 @@ not_here t caches core line misses = by_copy (copy_at caches core line) refl
         cc
 
 -- nobody holds the bus
-pub free-held : (held : Option Held) → holder_in held ≡ None → held ≡ None
+pub free-held : (held : Option HeldBus) → holder_in held ≡ None → held ≡ None
 free-held None e = refl
 free-held (Some h) e = cc
 
 -- what a core's action that holds the bus has
-pub record Holds (caches : List Sets) (memory : List Words) (shape : Geometry) (locations : ℕ) (core : Core) (loc : Loc) (stage : Stage) (held : Option Held) (x : Option Transaction) : Type 0 where
+pub record Holds (caches : List Sets) (memory : List Words) (shape : Geometry) (locations : ℕ) (core : Core) (loc : Loc) (stage : Stage) (held : Option HeldBus) (x : Option Transaction) : Type 0 where
   pub held_is : held ≡ Some (held_by core loc stage (loc.0 / shape.words) x)
   pub core_in : core.0 < length caches
   pub loc_in : loc.0 < locations
@@ -100,12 +100,12 @@ pub record Holds (caches : List Sets) (memory : List Words) (shape : Geometry) (
   pub some_set : 0 < length (cache_of caches core.0)
   pub awaits : Awaits stage x (copy_at caches core.0 (loc.0 / shape.words))
 
-pub holds : (caches : List Sets) (memory : List Words) (shape : Geometry) (locations : ℕ) (core : Core) (loc : Loc) (stage : Stage) (held : Option Held) → holder_in held ≡ Some (holder core loc stage) →
+pub holds : (caches : List Sets) (memory : List Words) (shape : Geometry) (locations : ℕ) (core : Core) (loc : Loc) (stage : Stage) (held : Option HeldBus) → holder_in held ≡ Some (holder core loc stage) →
     IfSome held (IsHeld caches memory) → IfSome held (IsPlaced shape locations) → (x : Option Transaction) × Holds caches memory shape locations core loc stage held x
 holds caches memory shape locations core loc stage None e held placed = cc
 holds caches memory shape locations core loc stage (Some h) e held placed =
     let is : h.holder ≡ holder core loc stage = cc in
-    let line : h.line ≡ loc.0 / shape.words = placed.line_is ∙ ap (λ (x : Holder). x.loc.0 / shape.words) is in (
+    let line : h.line ≡ loc.0 / shape.words = placed.line_is ∙ ap (λ (x : BusAction). x.loc.0 / shape.words) is in (
       h.transaction,
       record {
         held_is = rw (← is, ← line) refl;
@@ -123,7 +123,7 @@ locked_real None own a = (refl, a)
 locked_real (Some x) own a = absurd a
 
 -- the lines and states say so too
-pub stands_alone : (t : Table) (shape : Geometry) (locations : ℕ) (caches : List Sets) (memory : List Words) (held : Option Held) → AllCoherent (counted held caches) memory →
+pub stands_alone : (t : Table) (shape : Geometry) (locations : ℕ) (caches : List Sets) (memory : List Words) (held : Option HeldBus) → AllCoherent (counted held caches) memory →
     IfSome held (IsHeld caches memory) → IfSome held (IsPlaced shape locations) → IfSome (holder_in held) (StandsAlone (bus_with t shape locations caches memory held))
 stands_alone t shape locations caches memory None coherent held placed = tt
 stands_alone t shape locations caches memory (Some h) coherent held placed = record {

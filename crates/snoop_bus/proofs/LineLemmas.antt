@@ -1,4 +1,4 @@
--- Each line has its words of the list of words, and 0 at every other place: what keeps that.
+-- Each line has its words of the list of words, and 0 at every other offset: what keeps that.
 use Rattle.std.proofs.lemmas.Bool.{cases_eq, cases_lt}
 use Rattle.std.proofs.lemmas.Bool.Decides.{nat_tests}
 use Rattle.std.proofs.lemmas.List.{ext_get_or, get_or-set_same, get_or-set_other, length-set, set_at, drop_more}
@@ -8,7 +8,7 @@ use Rattle.std.proofs.Common.{[], ◌∷◌, ◌++◌, map, drop, append_assoc}
 use Rattle.std.proofs.lemmas.Nat.{div-add-mod', div-mul-add, mod-mul-add, mod_below}
 use Rattle.std.proofs.Common.{arith, ◌≡◌, ◌≢◌, ◌⊎◌, inl, inr, ℕ, ◌+◌, ◌*◌, ◌/◌, ◌%◌, ◌<◌, ◌≤◌, true, false, nat_eq, nat_lt, List, length, refl, sym, ap, ◌∙◌, slice_index, slice_index_or, slice_set, if◌then◌else◌}
 use Rattle.cache_set.specs.Limits.{most_words}
-use Rattle.snoop_bus.specs.Lines.{Words, words_in, place_of, line_of_words}
+use Rattle.snoop_bus.specs.Lines.{Words, words_in, offset_of, line_of_words}
 use Rattle.snoop_bus.proofs.Numbers.{differ, itself}
 use Rattle.snoop_bus.proofs.WordLemmas.{length-words, words-same, words-set}
 
@@ -18,22 +18,22 @@ pub lines-same : (words n size : ℕ) (l0 l2 : ℕ → Words) → 0 < words → 
 lines-same words n size l0 l2 some enough same was k b =
     same k b ∙ was k b ∙ ap (λ (ws : List ℕ). line_of_words words ws k) (sym (words-same words n size l0 l2 some enough same))
 
-pub place-at : (words : ℕ) (ws : List ℕ) (k p : ℕ) → p < most_words → slice_index (line_of_words words ws k) p ≡ place_of words ws k p
-place-at words ws k p b = get_or-map-range_with_len (place_of words ws k) 0 most_words p p 0 b (omega arith)
+pub place-at : (words : ℕ) (ws : List ℕ) (k p : ℕ) → p < most_words → slice_index (line_of_words words ws k) p ≡ offset_of words ws k p
+place-at words ws k p b = get_or-map-range_with_len (offset_of words ws k) 0 most_words p p 0 b (omega arith)
 
 pub length-line : (words : ℕ) (ws : List ℕ) (k : ℕ) → length (line_of_words words ws k) ≡ most_words
-length-line words ws k = length-map-range_with_len (place_of words ws k) 0 most_words
+length-line words ws k = length-map-range_with_len (offset_of words ws k) 0 most_words
 
 module _ (words : ℕ) (ws : List ℕ) (loc value : ℕ) (some : 0 < words) (within : loc < length ws) where
-  -- a location that is written is one place of one line
+  -- a location that is written is one offset of one line
   place-set : (k p : ℕ) →
-      ((k ≡ loc / words) × (p ≡ loc % words) × (place_of words (slice_set ws loc value) k p ≡ value))
-      ⊎ ((k ≡ loc / words → p ≢ loc % words) × (place_of words (slice_set ws loc value) k p ≡ place_of words ws k p))
+      ((k ≡ loc / words) × (p ≡ loc % words) × (offset_of words (slice_set ws loc value) k p ≡ value))
+      ⊎ ((k ≡ loc / words → p ≢ loc % words) × (offset_of words (slice_set ws loc value) k p ≡ offset_of words ws k p))
   place-set k p = by_size (cases_lt p words)
     where
       by_loc : p < words → (k * words + p ≡ loc) ⊎ (k * words + p ≢ loc) →
-          ((k ≡ loc / words) × (p ≡ loc % words) × (place_of words (slice_set ws loc value) k p ≡ value))
-          ⊎ ((k ≡ loc / words → p ≢ loc % words) × (place_of words (slice_set ws loc value) k p ≡ place_of words ws k p))
+          ((k ≡ loc / words) × (p ≡ loc % words) × (offset_of words (slice_set ws loc value) k p ≡ value))
+          ⊎ ((k ≡ loc / words → p ≢ loc % words) × (offset_of words (slice_set ws loc value) k p ≡ offset_of words ws k p))
       by_loc low (inl e) =
           let yes : nat_lt p words ≡ true = grind (arith, nat_tests) in
           inl (
@@ -46,8 +46,8 @@ module _ (words : ℕ) (ws : List ℕ) (loc value : ℕ) (some : 0 < words) (wit
           inr (λ a b. d (rw (a, b) (div-add-mod' loc words)), rw yes (get_or-set_other ws loc (k * words + p) value 0 d))
 
       by_size : (p < words) ⊎ (words ≤ p) →
-          ((k ≡ loc / words) × (p ≡ loc % words) × (place_of words (slice_set ws loc value) k p ≡ value))
-          ⊎ ((k ≡ loc / words → p ≢ loc % words) × (place_of words (slice_set ws loc value) k p ≡ place_of words ws k p))
+          ((k ≡ loc / words) × (p ≡ loc % words) × (offset_of words (slice_set ws loc value) k p ≡ value))
+          ⊎ ((k ≡ loc / words → p ≢ loc % words) × (offset_of words (slice_set ws loc value) k p ≡ offset_of words ws k p))
       by_size (inl low) = by_loc low (cases_eq (k * words + p) loc)
       by_size (inr high) =
           let no : nat_lt p words ≡ false = grind (arith, nat_tests) in
@@ -61,9 +61,9 @@ module _ (words : ℕ) (ws : List ℕ) (loc value : ℕ) (some : 0 < words) (wit
       place-at words (slice_set ws loc value) k p bp ∙ at p bp (place-set k p))
     where
       at : (p : ℕ) → p < most_words →
-          ((k ≡ loc / words) × (p ≡ loc % words) × (place_of words (slice_set ws loc value) k p ≡ value))
-          ⊎ ((k ≡ loc / words → p ≢ loc % words) × (place_of words (slice_set ws loc value) k p ≡ place_of words ws k p)) →
-          place_of words (slice_set ws loc value) k p ≡ slice_index_or (slice_set (line_of_words words ws k) (loc % words) value) p 0
+          ((k ≡ loc / words) × (p ≡ loc % words) × (offset_of words (slice_set ws loc value) k p ≡ value))
+          ⊎ ((k ≡ loc / words → p ≢ loc % words) × (offset_of words (slice_set ws loc value) k p ≡ offset_of words ws k p)) →
+          offset_of words (slice_set ws loc value) k p ≡ slice_index_or (slice_set (line_of_words words ws k) (loc % words) value) p 0
       at p b (inl q) = q.2 ∙ sym (rw q.1 (get_or-set_same (line_of_words words ws k) (loc % words) value 0 (rw (length-line words ws k, ← q.1) b)))
       at p b (inr q) = q.1 ∙ sym (get_or-set_other (line_of_words words ws k) (loc % words) p value 0 (q.0 e) ∙ place-at words ws k p b)
 
@@ -74,18 +74,18 @@ module _ (words : ℕ) (ws : List ℕ) (loc value : ℕ) (some : 0 < words) (wit
       place-at words (slice_set ws loc value) k p bp ∙ at p (place-set k p) ∙ sym (place-at words ws k p bp))
     where
       at : (p : ℕ) →
-          ((k ≡ loc / words) × (p ≡ loc % words) × (place_of words (slice_set ws loc value) k p ≡ value))
-          ⊎ ((k ≡ loc / words → p ≢ loc % words) × (place_of words (slice_set ws loc value) k p ≡ place_of words ws k p)) →
-          place_of words (slice_set ws loc value) k p ≡ place_of words ws k p
+          ((k ≡ loc / words) × (p ≡ loc % words) × (offset_of words (slice_set ws loc value) k p ≡ value))
+          ⊎ ((k ≡ loc / words → p ≢ loc % words) × (offset_of words (slice_set ws loc value) k p ≡ offset_of words ws k p)) →
+          offset_of words (slice_set ws loc value) k p ≡ offset_of words ws k p
       at p (inl q) = absurd (d q.0)
       at p (inr q) = q.1
 
--- where one place of one line was written
+-- where one offset of one line was written
 pub lines-set : (words n size : ℕ) (l0 l2 : ℕ → Words) (loc value : ℕ) → 0 < words → n ≤ size * words → loc < n → loc % words < length (l0 (loc / words)) →
     ((k : ℕ) → k < size → l2 k ≡ (if nat_eq k (loc / words) then slice_set (l0 (loc / words)) (loc % words) value else l0 k)) →
     ((k : ℕ) → k < size → l0 k ≡ line_of_words words (words_in words l0 n) k) → (k : ℕ) → k < size → l2 k ≡ line_of_words words (words_in words l2 n) k
-lines-set words n size l0 l2 loc value some enough within place set was k b =
-    by_line (cases_eq k (loc / words)) ∙ ap (λ (ws : List ℕ). line_of_words words ws k) (sym (words-set words n size l0 l2 loc value some enough within place set))
+lines-set words n size l0 l2 loc value some enough within offset set was k b =
+    by_line (cases_eq k (loc / words)) ∙ ap (λ (ws : List ℕ). line_of_words words ws k) (sym (words-set words n size l0 l2 loc value some enough within offset set))
   where
     there : loc < length (words_in words l0 n)
     there = rw (length-words words l0 n) within

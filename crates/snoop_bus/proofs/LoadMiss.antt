@@ -161,5 +161,5 @@ module _ (t : Table) (fills : FillsExclusiveOnlyAlone t.filled) (shares : Shares
     pub memory_after : m2 ≡ loaded_memory t core line c0 m0
     memory_after = memory_is h.basis ∙ rw (h.basis.absent, h.victim) refl
 
-  pub load_missed : (place : ℕ) → Steps → Loads t None core line place c0 c2 m0 m2 (slice_index w place) (missed_access wrote_back f) × KeepsWords c0 c2 m0 m2
-  load_missed place h = (record { word_is = ap (λ (u : Words). slice_index u place) (words_are h.basis); access_is = access_is h; tags = tags_after h; memory = memory_after h }, keeps h)
+  pub load_missed : (offset : ℕ) → Steps → Loads t None core line offset c0 c2 m0 m2 (slice_index w offset) (missed_access wrote_back f) × KeepsWords c0 c2 m0 m2
+  load_missed offset h = (record { word_is = ap (λ (u : Words). slice_index u offset) (words_are h.basis); access_is = access_is h; tags = tags_after h; memory = memory_after h }, keeps h)

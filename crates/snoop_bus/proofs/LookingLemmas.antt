@@ -18,8 +18,8 @@ use Rattle.cache_set.specs.Contents.{Contents, contents, copy_of}
 use Rattle.cache_set.specs.inner.Copy.{with_state}
 use Rattle.protocol_tables.specs.declared.state.State.{State}
 use Rattle.protocol_tables.specs.declared.state.State.TheVariants.{S, O}
-use Rattle.protocol_tables.specs.declared.asking.Transient.{Transient}
-use Rattle.protocol_tables.specs.declared.asking.Transient.TheVariants.{IsD, ImD, SmD}
+use Rattle.protocol_tables.specs.declared.requests.Transient.{Transient}
+use Rattle.protocol_tables.specs.declared.requests.Transient.TheVariants.{IsD, ImD, SmD}
 use Rattle.snoop_bus.specs.Geometry.{Geometry}
 use Rattle.snoop_bus.specs.Lines.{Words, line_in, line_of_words}
 use Rattle.snoop_bus.specs.Copies.{Sets, copy_at, cache_of, tags_in, tags_of}
@@ -28,7 +28,7 @@ use Rattle.snoop_bus.specs.Held.{counted, counting}
 use Rattle.snoop_bus.specs.inner.Held.{IsHeld, Awaits, AskedOf, kept_by, kept_words}
 use Rattle.snoop_bus.specs.Bus.{AllCoherent, current_words, words_among, program_words}
 use Rattle.snoop_bus.specs.inner.Bus.{IsBus}
-use Rattle.snoop_bus.specs.declared.holding.Held.{Held}
+use Rattle.snoop_bus.specs.declared.holding.HeldBus.{HeldBus}
 use Rattle.snoop_bus.specs.declared.holding.Stage.{Stage}
 use Rattle.snoop_bus.specs.declared.holding.Stage.TheVariants.{Load, Write, Locked}
 use Rattle.snoop_bus.specs.declared.holding.Transaction.{Transaction}
@@ -58,7 +58,7 @@ kept_copy : (caches : List Sets) (core line : ℕ) (copy : Line) → core < leng
 kept_copy caches core line copy core_in some = rw (itself core, itself line) at (counting-at caches core line copy core line core_in some)
 
 -- what is seen of a line: what the bus keeps of it, else what a cache has, else what memory has
-pub seen_words : (caches : List Sets) (memory : List Words) (held : Option Held) (line : ℕ) → AllCoherent (counted held caches) memory → IfSome held (IsHeld caches memory) → line < length memory →
+pub seen_words : (caches : List Sets) (memory : List Words) (held : Option HeldBus) (line : ℕ) → AllCoherent (counted held caches) memory → IfSome held (IsHeld caches memory) → line < length memory →
     unwrap_or (option_or (kept_words held line) (words_among caches line)) (line_in memory line) ≡ current_words (counted held caches) memory line
 seen_words caches memory None line h a within = refl
 seen_words caches memory (Some held) line h a within = by_transaction held.transaction refl
@@ -106,7 +106,7 @@ own_words Write x copy own awaits found = asked_words x.transient x.copy copy ow
 own_words Locked x copy own awaits found = absurd awaits
 
 -- it has the words that are seen of its line, also where its core waits for an upgrade
-pub copy_words : (caches : List Sets) (memory : List Words) (held : Option Held) (core line : ℕ) (copy : Line) → AllCoherent (counted held caches) memory → IfSome held (IsHeld caches memory) →
+pub copy_words : (caches : List Sets) (memory : List Words) (held : Option HeldBus) (core line : ℕ) (copy : Line) → AllCoherent (counted held caches) memory → IfSome held (IsHeld caches memory) →
     copy_at caches core line ≡ Some copy → (line < length memory) × (copy.words ≡ current_words (counted held caches) memory line)
 copy_words caches memory None core line copy h a found =
     let within = in_memory caches memory core line copy h found in
@@ -149,7 +149,7 @@ copy_words caches memory (Some held) core line copy h a found = by_transaction h
             rw q (a.line_in, words ∙ (counts.each held.line a.line_in).same held.holder.core.0 x.copy kept)
 
 -- so what is found in a set has the words that a program sees
-pub found_words : (shape : Geometry) (locations : ℕ) (caches : List Sets) (memory : List Words) (held : Option Held) (core set : ℕ) (r : Option (ℕ × Line)) (s : Contents) →
+pub found_words : (shape : Geometry) (locations : ℕ) (caches : List Sets) (memory : List Words) (held : Option HeldBus) (core set : ℕ) (r : Option (ℕ × Line)) (s : Contents) →
     IsBus shape locations caches memory held → AtHome (cache_of caches core) → set < length (cache_of caches core) → s ≡ slice_index_or (cache_of caches core) set (contents [] 1) →
     IfSome r (λ x. copy_of s x.0 ≡ Some x.1) → IfSome r (λ x. x.1.words ≡ line_of_words shape.words (program_words shape locations (counted held caches) memory) x.0)
 found_words shape locations caches memory held core set None s bus home within is found = tt

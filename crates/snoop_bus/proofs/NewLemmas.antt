@@ -12,7 +12,7 @@ use Rattle.protocol_tables.specs.Tables.{Table}
 use Rattle.cache_set.specs.Limits.{most_words}
 use Rattle.tso_model.specs.Limits.{most_cores}
 use Rattle.snoop_bus.specs.Geometry.{Geometry}
-use Rattle.snoop_bus.specs.Lines.{Words, line_in, word_at, words_in, place_of, line_of_words, lines_of_words}
+use Rattle.snoop_bus.specs.Lines.{Words, line_in, word_at, words_in, offset_of, line_of_words, lines_of_words}
 use Rattle.snoop_bus.specs.Coherent.{Coherent}
 use Rattle.snoop_bus.specs.Copies.{Sets, copy_in, copy_at, cache_of}
 use Rattle.snoop_bus.specs.inner.Copies.{ways_of}
@@ -21,7 +21,7 @@ use Rattle.snoop_bus.specs.inner.Bus.{HasWholeLines, IsBus}
 use Rattle.snoop_bus.proofs.CurrentWords.{seen_is, all_coherent}
 use Rattle.snoop_bus.specs.declared.access.Updated.{Updated}
 use Rattle.snoop_bus.specs.declared.hierarchy.Hierarchy.{Hierarchy}
-use Rattle.snoop_bus.specs.declared.holding.Held.{Held}
+use Rattle.snoop_bus.specs.declared.holding.HeldBus.{HeldBus}
 use Rattle.snoop_bus.specs.Held.{counted}
 use Rattle.snoop_bus.specs.inner.Held.{IsHeld, IsPlaced}
 use Rattle.snoop_bus.specs.inner.Accessing.{KeepsWords, SetsWord, Updates, IsUnchanged}
@@ -71,10 +71,10 @@ lines-of_words words lines init some few enough = sym (fill_by_all (word_at word
         let line : line_in (lines_of_words words init lines) (i / words) ≡ line_of_words words init (i / words) =
         get_or-map-range_with_len (line_of_words words init) 0 lines (i / words) (i / words) [] (line_below words (length init) lines i some enough b) (omega arith) in
         let low : i % words < words = mod_below i words some in
-        let place : slice_index (line_of_words words init (i / words)) (i % words) ≡ place_of words init (i / words) (i % words) =
-        get_or-map-range_with_len (place_of words init (i / words)) 0 most_words (i % words) (i % words) 0 (omega arith) (omega arith) in
+        let offset : slice_index (line_of_words words init (i / words)) (i % words) ≡ offset_of words init (i / words) (i % words) =
+        get_or-map-range_with_len (offset_of words init (i / words)) 0 most_words (i % words) (i % words) 0 (omega arith) (omega arith) in
         let yes : nat_lt (i % words) words ≡ true = grind (arith, nat_tests) in
-        sym (ap (λ (w : Words). slice_index w (i % words)) line ∙ place ∙ rw (yes, div-add-mod' i words) refl)
+        sym (ap (λ (w : Words). slice_index w (i % words)) line ∙ offset ∙ rw (yes, div-add-mod' i words) refl)
 
 pub new-words : (words lines cores : ℕ) (shape : Geometry) (init : List ℕ) → 0 < words → words ≤ most_words → length init ≤ lines * words →
     words_in words (current_words (empty_caches cores shape) (lines_of_words words init lines)) (length init) ≡ init
@@ -128,7 +128,7 @@ new-bus cores lines shape init some few words small locations enough close exact
 pub same_cores : (c0 c2 : List Sets) → ways_of c2 ≡ ways_of c0 → length c2 ≡ length c0
 same_cores c0 c2 same = sym (length-map c2 (map (λ (s : Contents). s.ways))) ∙ ap length same ∙ length-map c0 (map (λ (s : Contents). s.ways))
 
-pub bus-after : (shape : Geometry) (locations : ℕ) (old new : Hierarchy) (h0 h2 : Option Held) → IsBus shape locations old.caches.items old.memory.items h0 → length new.memory.items ≡ length old.memory.items → AllCoherent (counted h2 new.caches.items) new.memory.items → ways_of new.caches.items ≡ ways_of old.caches.items →
+pub bus-after : (shape : Geometry) (locations : ℕ) (old new : Hierarchy) (h0 h2 : Option HeldBus) → IsBus shape locations old.caches.items old.memory.items h0 → length new.memory.items ≡ length old.memory.items → AllCoherent (counted h2 new.caches.items) new.memory.items → ways_of new.caches.items ≡ ways_of old.caches.items →
     HasWholeLines shape locations (counted h2 new.caches.items) new.memory.items → IfSome h2 (IsHeld new.caches.items new.memory.items) → IfSome h2 (IsPlaced shape locations) → IsBus shape locations new.caches.items new.memory.items h2
 bus-after shape locations old new h0 h2 h size coherent ways lines awaited placed = record {
   coherent = coherent;
@@ -146,27 +146,27 @@ bus-after shape locations old new h0 h2 h size coherent ways lines awaited place
 }
 
 -- a bus whose words stay
-pub bus-kept : (shape : Geometry) (locations : ℕ) (old new : Hierarchy) (h0 h2 : Option Held) → IsBus shape locations old.caches.items old.memory.items h0 → length new.memory.items ≡ length old.memory.items → KeepsWords (counted h0 old.caches.items) (counted h2 new.caches.items) old.memory.items new.memory.items →
+pub bus-kept : (shape : Geometry) (locations : ℕ) (old new : Hierarchy) (h0 h2 : Option HeldBus) → IsBus shape locations old.caches.items old.memory.items h0 → length new.memory.items ≡ length old.memory.items → KeepsWords (counted h0 old.caches.items) (counted h2 new.caches.items) old.memory.items new.memory.items →
     ways_of new.caches.items ≡ ways_of old.caches.items → IfSome h2 (IsHeld new.caches.items new.memory.items) → IfSome h2 (IsPlaced shape locations) → IsBus shape locations new.caches.items new.memory.items h2
 bus-kept shape locations old new h0 h2 h size keeps ways awaited placed = bus-after shape locations old new h0 h2 h size keeps.coherent ways
     (λ k b. lines-same shape.words locations (length old.memory.items) (current_words (counted h0 old.caches.items) old.memory.items) (current_words (counted h2 new.caches.items) new.memory.items) h.some_word h.enough_lines keeps.words h.lines k (rw size at b)) awaited placed
 
 -- a bus once a word was written, where nobody holds it then
-pub bus-set : (shape : Geometry) (locations : ℕ) (old new : Hierarchy) (h0 : Option Held) (loc value : ℕ) → IsBus shape locations old.caches.items old.memory.items h0 → length new.memory.items ≡ length old.memory.items → loc < locations →
+pub bus-set : (shape : Geometry) (locations : ℕ) (old new : Hierarchy) (h0 : Option HeldBus) (loc value : ℕ) → IsBus shape locations old.caches.items old.memory.items h0 → length new.memory.items ≡ length old.memory.items → loc < locations →
     SetsWord (loc / shape.words) (loc % shape.words) value (counted h0 old.caches.items) new.caches.items old.memory.items new.memory.items → ways_of new.caches.items ≡ ways_of old.caches.items → IsBus shape locations new.caches.items new.memory.items None
 bus-set shape locations old new h0 loc value h size within sets ways = bus-after shape locations old new h0 None h size sets.coherent ways
-    (λ k b. lines-set shape.words locations (length old.memory.items) (current_words (counted h0 old.caches.items) old.memory.items) (current_words new.caches.items new.memory.items) loc value h.some_word h.enough_lines within sets.place_in sets.lines h.lines k (rw size at b)) tt tt
+    (λ k b. lines-set shape.words locations (length old.memory.items) (current_words (counted h0 old.caches.items) old.memory.items) (current_words new.caches.items new.memory.items) loc value h.some_word h.enough_lines within sets.offset_in sets.lines h.lines k (rw size at b)) tt tt
 
 -- a bus once a write access was made, or was refused
-pub bus-written : {E : Type 0} (t : Table) (held : Option Held) (r : Result Updated E) (shape : Geometry) (locations : ℕ) (old new : Hierarchy) (core loc : ℕ) →
+pub bus-written : {E : Type 0} (t : Table) (held : Option HeldBus) (r : Result Updated E) (shape : Geometry) (locations : ℕ) (old new : Hierarchy) (core loc : ℕ) →
     IsBus shape locations old.caches.items old.memory.items held → length new.memory.items ≡ length old.memory.items → loc < locations → AllCoherent (counted held new.caches.items) new.memory.items → IfSome held (IsHeld new.caches.items new.memory.items) → ways_of new.caches.items ≡ ways_of old.caches.items →
     IfOk r (Updates t held core (loc / shape.words) (loc % shape.words) old.caches.items new.caches.items old.memory.items new.memory.items) → OnErr r (IsUnchanged old new) → IsBus shape locations new.caches.items new.memory.items held
 bus-written t held (Ok x) shape locations old new core loc h size within coherent awaited ways writes unchanged = bus-after shape locations old new held held h size coherent ways
-    (λ k b. lines-set shape.words locations (length old.memory.items) (current_words (counted held old.caches.items) old.memory.items) (current_words (counted held new.caches.items) new.memory.items) loc x.after h.some_word h.enough_lines within writes.place_in writes.lines h.lines k (rw size at b)) awaited h.placed
+    (λ k b. lines-set shape.words locations (length old.memory.items) (current_words (counted held old.caches.items) old.memory.items) (current_words (counted held new.caches.items) new.memory.items) loc x.after h.some_word h.enough_lines within writes.offset_in writes.lines h.lines k (rw size at b)) awaited h.placed
 bus-written t held (Err e) shape locations old new core loc h size within coherent awaited ways writes unchanged = rw (unchanged.caches, unchanged.memory) h
 
 -- each core has as many sets as the shape says
-pub cache-sets : (shape : Geometry) (locations : ℕ) (caches : List Sets) (memory : List Words) (held : Option Held) (core : ℕ) → IsBus shape locations caches memory held → core < length caches → length (cache_of caches core) ≡ shape.sets
+pub cache-sets : (shape : Geometry) (locations : ℕ) (caches : List Sets) (memory : List Words) (held : Option HeldBus) (core : ℕ) → IsBus shape locations caches memory held → core < length caches → length (cache_of caches core) ≡ shape.sets
 cache-sets shape locations caches memory held core h within =
     sym (length-map (cache_of caches core) (λ (s : Contents). s.ways))
     ∙ ap length (sym (get_or-map (map (λ (s : Contents). s.ways)) caches core []))

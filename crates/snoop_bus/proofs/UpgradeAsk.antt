@@ -4,12 +4,12 @@ use Rattle.tso_model.specs.declared.instruction.Core.{Core}
 use Rattle.tso_model.specs.declared.instruction.Loc.{Loc}
 use Rattle.protocol_tables.specs.inner.Laws.{GivesUp}
 use Rattle.protocol_tables.specs.Tables.{Table}
-use Rattle.protocol_tables.specs.Asking.{transient_of}
+use Rattle.protocol_tables.specs.Transients.{transient_of}
 use Rattle.protocol_tables.specs.declared.state.State.{State}
 use Rattle.protocol_tables.specs.declared.state.State.TheVariants.{I, M}
-use Rattle.protocol_tables.specs.declared.asking.Request.TheVariants.{GetS, GetM}
-use Rattle.protocol_tables.specs.declared.asking.Transient.{Transient}
-use Rattle.protocol_tables.specs.declared.asking.Transient.TheVariants.{IsD, ImD}
+use Rattle.protocol_tables.specs.declared.requests.Request.TheVariants.{GetS, GetM}
+use Rattle.protocol_tables.specs.declared.requests.Transient.{Transient}
+use Rattle.protocol_tables.specs.declared.requests.Transient.TheVariants.{IsD, ImD}
 use Rattle.cache_set.specs.declared.Line.{Line}
 use Rattle.cache_set.specs.inner.Copy.{copy_with, with_state}
 use Rattle.snoop_bus.specs.Lines.{Words}
@@ -20,7 +20,7 @@ use Rattle.snoop_bus.specs.inner.Copies.{ways_of}
 use Rattle.snoop_bus.specs.Bus.{current_words, AllCoherent}
 use Rattle.snoop_bus.specs.inner.Requests.{LeftByOthers, ChangesCopy}
 use Rattle.snoop_bus.specs.inner.Accessing.{KeepsWords}
-use Rattle.snoop_bus.specs.declared.holding.Held.{Held}
+use Rattle.snoop_bus.specs.declared.holding.HeldBus.{HeldBus}
 use Rattle.snoop_bus.specs.declared.holding.Transaction.{Transaction}
 use Rattle.snoop_bus.specs.declared.holding.Stage.{Stage}
 use Rattle.snoop_bus.specs.declared.holding.Stage.TheVariants.{Load, Write}
@@ -141,14 +141,14 @@ hits-write t caches core line true copy placed found e is = is ∙ sym (hits-fou
 hits-write t caches core line false copy placed found e is = cc
 
 -- what is no hit has the bus to itself
-pub alone_found : (t : Table) (held : Option Held) (caches : List Sets) (core line : ℕ) (copy : Line) → (held ≡ None) ⊎ IsTrue (hits t core line true (tags_of caches)) → copy_at caches core line ≡ Some copy → t.written copy.state ≡ None → held ≡ None
+pub alone_found : (t : Table) (held : Option HeldBus) (caches : List Sets) (core line : ℕ) (copy : Line) → (held ≡ None) ⊎ IsTrue (hits t core line true (tags_of caches)) → copy_at caches core line ≡ Some copy → t.written copy.state ≡ None → held ≡ None
 alone_found t held caches core line copy (inl e) found writes = e
 alone_found t held caches core line copy (inr e) found writes =
     let misses : hits t core line true (tags_of caches) ≡ false = hits-found t caches core line true copy found ∙ ap (λ (o : Option State). is_some o) writes in
     let hit : hits t core line true (tags_of caches) ≡ true = e in
     cc
 
-pub alone_absent : (t : Table) (held : Option Held) (caches : List Sets) (core line : ℕ) → (held ≡ None) ⊎ IsTrue (hits t core line true (tags_of caches)) → copy_at caches core line ≡ None → held ≡ None
+pub alone_absent : (t : Table) (held : Option HeldBus) (caches : List Sets) (core line : ℕ) → (held ≡ None) ⊎ IsTrue (hits t core line true (tags_of caches)) → copy_at caches core line ≡ None → held ≡ None
 alone_absent t held caches core line (inl e) absent = e
 alone_absent t held caches core line (inr e) absent =
     let misses : false ≡ hits t core line true (tags_of caches) = hits-absent t caches core line true absent in
@@ -156,7 +156,7 @@ alone_absent t held caches core line (inr e) absent =
     cc
 
 -- a load that hits has its copy
-pub free_load : (t : Table) (held : Option Held) (caches : List Sets) (core line : ℕ) → (held ≡ None) ⊎ IsTrue (hits t core line false (tags_of caches)) → (held ≡ None) ⊎ IsSome (copy_at caches core line)
+pub free_load : (t : Table) (held : Option HeldBus) (caches : List Sets) (core line : ℕ) → (held ≡ None) ⊎ IsTrue (hits t core line false (tags_of caches)) → (held ≡ None) ⊎ IsSome (copy_at caches core line)
 free_load t held caches core line (inl e) = inl e
 free_load t held caches core line (inr e) = by_copy (copy_at caches core line) refl
   where

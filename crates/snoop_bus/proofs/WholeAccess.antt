@@ -5,7 +5,7 @@ use Rattle.protocol_tables.specs.Tables.{Table}
 use Rattle.protocol_tables.specs.declared.state.State.{State}
 use Rattle.protocol_tables.specs.declared.state.State.TheVariants.{I, S, E, O, M}
 use Rattle.protocol_tables.specs.declared.state.Snoop.{Snoop}
-use Rattle.protocol_tables.specs.declared.asking.Request.TheVariants.{GetS, GetM}
+use Rattle.protocol_tables.specs.declared.requests.Request.TheVariants.{GetS, GetM}
 use Rattle.tso_model.specs.declared.instruction.Core.{Core}
 use Rattle.snoop_bus.specs.Tags.{filled, snooped, leaving}
 use Rattle.snoop_bus.specs.declared.access.AccessKind.TheVariants.{Miss}

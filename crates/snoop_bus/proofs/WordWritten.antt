@@ -13,7 +13,7 @@ use Rattle.snoop_bus.specs.inner.Requests.{ChangesCopy}
 use Rattle.snoop_bus.specs.inner.Accessing.{KeepsWords, Acquires, Writes}
 use Rattle.protocol_tables.specs.Laws.{in_place}
 use Rattle.snoop_bus.specs.Coherent.{state_of}
-use Rattle.snoop_bus.specs.declared.holding.Held.{Held}
+use Rattle.snoop_bus.specs.declared.holding.HeldBus.{HeldBus}
 use Rattle.snoop_bus.specs.Held.{counted}
 use Rattle.snoop_bus.specs.inner.Held.{IsHeld}
 use Rattle.snoop_bus.proofs.BesideLemmas.{held-placed, counted-changes, placed-counts}
@@ -24,21 +24,21 @@ use Rattle.snoop_bus.proofs.WriteLemmas.{write_owned}
 pub present_own : (caches : List Sets) (core line : ℕ) (words : Words) → copy_at caches core line ≡ Some (copy_with M words) → IsSome (copy_at caches core line)
 present_own caches core line words own = rw own refl
 
-pub word_written : (t : Table) (held : Option Held) (c0 c1 c2 : List Sets) (m0 m1 : List Words) (core line place value : ℕ) (old : Words) (access : Access) → line < length m0 → place < length old → length m1 ≡ length m0 →
+pub word_written : (t : Table) (held : Option HeldBus) (c0 c1 c2 : List Sets) (m0 m1 : List Words) (core line offset value : ℕ) (old : Words) (access : Access) → line < length m0 → offset < length old → length m1 ≡ length m0 →
     Acquires t held core line c0 c1 m0 m1 old access → KeepsWords (counted held c0) (counted held c1) m0 m1 → IfSome held (IsHeld c1 m1) → ways_of c1 ≡ ways_of c0 →
-    ChangesCopy core line (option_map (with_word place value) (copy_at c1 core line)) c1 c2 →
+    ChangesCopy core line (option_map (with_word offset value) (copy_at c1 core line)) c1 c2 →
     tags_of c2 ≡ tags_of c1 → ways_of c2 ≡ ways_of c1 →
-    Writes t held core line place value c0 c2 m0 m1 (slice_index old place) access × AllCoherent (counted held c2) m1 × (ways_of c2 ≡ ways_of c0) × IfSome held (IsHeld c2 m1)
-word_written t held c0 c1 c2 m0 m1 core line place value old access within place_in size a keeps awaited room to tags ways = (
+    Writes t held core line offset value c0 c2 m0 m1 (slice_index old offset) access × AllCoherent (counted held c2) m1 × (ways_of c2 ≡ ways_of c0) × IfSome held (IsHeld c2 m1)
+word_written t held c0 c1 c2 m0 m1 core line offset value old access within offset_in size a keeps awaited room to tags ways = (
   record {
-    place_in = rw (← a.words_are) place_in;
-    word_is = ap (λ (w : Words). slice_index w place) a.words_are;
-    lines = λ k b. owned-seen (counted held c1) (counted held c2) m1 core line (slice_set old place value) own k (rw size b) ∙ by_line k b (cases_eq k line);
+    offset_in = rw (← a.words_are) offset_in;
+    word_is = ap (λ (w : Words). slice_index w offset) a.words_are;
+    lines = λ k b. owned-seen (counted held c1) (counted held c2) m1 core line (slice_set old offset value) own k (rw size b) ∙ by_line k b (cases_eq k line);
     access_is = a.access_is;
     tags = tags ∙ a.tags;
     memory = a.memory;
   },
-  owned-coherent (counted held c1) (counted held c2) m1 core line (slice_set old place value) own,
+  owned-coherent (counted held c1) (counted held c2) m1 core line (slice_set old offset value) own,
   ways ∙ room,
   still,
 )
@@ -47,15 +47,15 @@ word_written t held c0 c1 c2 m0 m1 core line place value old access within place
     placed = rw a.own refl
 
     still : IfSome held (IsHeld c2 m1)
-    still = held-placed held c1 c2 m1 core line (option_map (with_word place value) (copy_at c1 core line)) awaited ways placed (rw a.own refl) to
+    still = held-placed held c1 c2 m1 core line (option_map (with_word offset value) (copy_at c1 core line)) awaited ways placed (rw a.own refl) to
 
-    changes : ChangesCopy core line (option_map (with_word place value) (copy_at (counted held c1) core line)) (counted held c1) (counted held c2)
-    changes = rw (placed-counts held c1 m1 core line awaited placed) (counted-changes held c1 c2 m1 core line (option_map (with_word place value) (copy_at c1 core line)) awaited still placed to)
+    changes : ChangesCopy core line (option_map (with_word offset value) (copy_at (counted held c1) core line)) (counted held c1) (counted held c2)
+    changes = rw (placed-counts held c1 m1 core line awaited placed) (counted-changes held c1 c2 m1 core line (option_map (with_word offset value) (copy_at c1 core line)) awaited still placed to)
 
-    own : Owned (counted held c1) (counted held c2) m1 core line (slice_set old place value)
-    own = write_owned (counted held c1) (counted held c2) m1 core line place value old keeps.coherent (rw size within) (placed-counts held c1 m1 core line awaited placed ∙ a.own) changes
+    own : Owned (counted held c1) (counted held c2) m1 core line (slice_set old offset value)
+    own = write_owned (counted held c1) (counted held c2) m1 core line offset value old keeps.coherent (rw size within) (placed-counts held c1 m1 core line awaited placed ∙ a.own) changes
 
     by_line : (k : ℕ) → k < length m0 → (k ≡ line) ⊎ (k ≢ line) →
-        (if nat_eq k line then slice_set old place value else current_words (counted held c1) m1 k) ≡ (if nat_eq k line then slice_set (current_words (counted held c0) m0 line) place value else current_words (counted held c0) m0 k)
-    by_line k b (inl p) = let e : nat_eq k line ≡ true = rw p (itself line) in rw e (ap (λ (w : Words). slice_set w place value) a.words_are)
+        (if nat_eq k line then slice_set old offset value else current_words (counted held c1) m1 k) ≡ (if nat_eq k line then slice_set (current_words (counted held c0) m0 line) offset value else current_words (counted held c0) m0 k)
+    by_line k b (inl p) = let e : nat_eq k line ≡ true = rw p (itself line) in rw e (ap (λ (w : Words). slice_set w offset value) a.words_are)
     by_line k b (inr p) = let e : nat_eq k line ≡ false = differ k line p in rw e (keeps.words k b)

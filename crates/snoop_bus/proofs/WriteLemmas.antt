@@ -88,15 +88,15 @@ upgrade_owned on law c0 c1 c2 m core line copy h within here left to =
         by_core false p = p
 
 -- a word is written to a copy in M
-pub write_owned : (c0 c2 : List Sets) (m : List Words) (core line place value : ℕ) (old : Words) → AllCoherent c0 m → line < length m →
-    copy_at c0 core line ≡ Some (copy_with M old) → ChangesCopy core line (option_map (with_word place value) (copy_at c0 core line)) c0 c2 → Owned c0 c2 m core line (slice_set old place value)
-write_owned c0 c2 m core line place value old h within here to =
+pub write_owned : (c0 c2 : List Sets) (m : List Words) (core line offset value : ℕ) (old : Words) → AllCoherent c0 m → line < length m →
+    copy_at c0 core line ≡ Some (copy_with M old) → ChangesCopy core line (option_map (with_word offset value) (copy_at c0 core line)) c0 c2 → Owned c0 c2 m core line (slice_set old offset value)
+write_owned c0 c2 m core line offset value old h within here to =
     let was : Coherent (current_words c0 m line) (line_in m line) (λ i. copy_at c0 i line) = h.each line within in
     record {
       coherent = h;
       within = within;
-      here = here_now core line (option_map (with_word place value) (copy_at c0 core line)) c0 c2 to ∙ rw here refl;
-      alone = λ i d. other_core core line (option_map (with_word place value) (copy_at c0 core line)) c0 c2 to i line d
+      here = here_now core line (option_map (with_word offset value) (copy_at c0 core line)) c0 c2 to ∙ rw here refl;
+      alone = λ i d. other_core core line (option_map (with_word offset value) (copy_at c0 core line)) c0 c2 to i line d
           ∙ alone (current_words c0 m line) (line_in m line) core (λ i. copy_at c0 i line) (copy_with M old) was here refl i d;
-      elsewhere = λ i k d. other_line core line (option_map (with_word place value) (copy_at c0 core line)) c0 c2 to i k d;
+      elsewhere = λ i k d. other_line core line (option_map (with_word offset value) (copy_at c0 core line)) c0 c2 to i k d;
     }

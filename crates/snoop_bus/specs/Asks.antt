@@ -5,12 +5,12 @@ use Rattle.std.specs.Prelude.{◌≡◌, ◌≢◌, ℕ, Bool, true, false, List
 use Rattle.tso_model.specs.declared.instruction.Core.{Core}
 use Rattle.protocol_tables.specs.declared.state.State.{State}
 use Rattle.protocol_tables.specs.declared.state.State.TheVariants.{I, M}
-use Rattle.protocol_tables.specs.declared.asking.Request.{Request}
-use Rattle.protocol_tables.specs.declared.asking.Request.TheVariants.{GetS, GetM}
-use Rattle.protocol_tables.specs.declared.asking.Transient.{Transient}
-use Rattle.protocol_tables.specs.declared.asking.Transient.TheVariants.{IsD, ImD, SmD}
+use Rattle.protocol_tables.specs.declared.requests.Request.{Request}
+use Rattle.protocol_tables.specs.declared.requests.Request.TheVariants.{GetS, GetM}
+use Rattle.protocol_tables.specs.declared.requests.Transient.{Transient}
+use Rattle.protocol_tables.specs.declared.requests.Transient.TheVariants.{IsD, ImD, SmD}
 use Rattle.protocol_tables.specs.Tables.{Table}
-use Rattle.protocol_tables.specs.Asking.{transient_of}
+use Rattle.protocol_tables.specs.Transients.{transient_of}
 use Rattle.snoop_bus.specs.declared.access.AccessKind.TheVariants.{Hit, Upgrade, Miss}
 use Rattle.snoop_bus.specs.declared.holding.Transaction.{Transaction}
 use Rattle.snoop_bus.specs.Lines.{Words}
@@ -76,11 +76,11 @@ abbrev pub asked_caches : Table → Request → ℕ → ℕ → List TagSets →
 asked_caches t request core line caches = asked_caches_in t request core line (asked_for request core line caches) caches
 
 -- an ask: what it awaits, and all caches after it; a write access that hits awaits nothing
-pub record Asked : Type 0 where
+pub record AskedAccess : Type 0 where
   pub awaited : Option Awaited
   pub caches : List TagSets
 
-abbrev pub asking : Table → Request → ℕ → ℕ → List TagSets → Asked
+abbrev pub asking : Table → Request → ℕ → ℕ → List TagSets → AskedAccess
 asking t request core line caches = record {
   awaited = option_map (awaiting t request line caches) (asked_for request core line caches);
   caches = asked_caches t request core line caches;

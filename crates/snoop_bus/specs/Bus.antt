@@ -11,21 +11,21 @@ use Rattle.snoop_bus.specs.Lines.{Words, line_in, words_in}
 use Rattle.snoop_bus.specs.Copies.{Sets, copy_in, copy_at}
 use Rattle.snoop_bus.specs.Coherent.{Coherent}
 use Rattle.snoop_bus.specs.Held.{counted, holder_in}
-use Rattle.snoop_bus.specs.declared.holding.Holder.{Holder}
-use Rattle.snoop_bus.specs.declared.holding.Held.{Held}
+use Rattle.snoop_bus.specs.declared.holding.BusAction.{BusAction}
+use Rattle.snoop_bus.specs.declared.holding.HeldBus.{HeldBus}
 
 -- the rows of the protocol's table, the shape of the caches, how many locations there are, the sets of each core's
 -- cache with the copies in them, the lines in memory, and the action that holds the bus, if one does
-pub record Bus : Type 0 where
+pub record BusModel : Type 0 where
   pub rows : Rows
   pub shape : Geometry
   pub locations : ℕ
   pub caches : List Sets
   pub memory : List Words
-  pub held : Option Held
+  pub held : Option HeldBus
 
 -- the bus of a protocol with this table
-abbrev pub bus_with : Table → Geometry → ℕ → List Sets → List Words → Option Held → Bus
+abbrev pub bus_with : Table → Geometry → ℕ → List Sets → List Words → Option HeldBus → BusModel
 bus_with t shape locations caches memory held =
     record { rows = rows_of t; shape = shape; locations = locations; caches = caches; memory = memory; held = held }
 
@@ -43,18 +43,18 @@ abbrev pub program_words : Geometry → ℕ → List Sets → List Words → Lis
 program_words shape locations caches memory = words_in shape.words (current_words caches memory) locations
 
 -- the copies that count: those of the caches, and the words that the bus keeps as its holder's
-abbrev pub counted_copies : Bus → List Sets
+abbrev pub counted_copies : BusModel → List Sets
 counted_copies b = counted b.held b.caches
 
 -- the words that a program sees of a bus, one for each location
-abbrev pub words_of : Bus → List ℕ
+abbrev pub words_of : BusModel → List ℕ
 words_of b = program_words b.shape b.locations (counted_copies b) b.memory
 
 -- whose action holds the bus, if one does; and that nobody does
-abbrev pub holder_of : Bus → Option Holder
+abbrev pub holder_of : BusModel → Option BusAction
 holder_of b = holder_in b.held
 
-abbrev pub IsFree : Bus → Type 0
+abbrev pub IsFree : BusModel → Type 0
 IsFree b = holder_of b ≡ None
 
 -- every line is coherent, and no cache has a line past memory
@@ -63,11 +63,11 @@ pub record AllCoherent (caches : List Sets) (memory : List Words) : Type 0 where
   pub within : (line i : ℕ) → length memory ≤ line → copy_at caches i line ≡ None
 
 -- how many cores there are
-abbrev pub cores_of : Bus → ℕ
+abbrev pub cores_of : BusModel → ℕ
 cores_of b = length b.caches
 
 -- the copies that count are coherent with memory
-abbrev pub IsCoherent : Bus → Type 0
+abbrev pub IsCoherent : BusModel → Type 0
 IsCoherent b = AllCoherent (counted_copies b) b.memory
 
 -- empty caches of this shape for so many cores
@@ -75,7 +75,7 @@ abbrev pub empty_caches : ℕ → Geometry → List Sets
 empty_caches cores shape = replicate cores (replicate shape.sets (contents [] shape.ways))
 
 -- what no call changes: the protocol's table, the shape, and how many cores and locations there are
-pub record IsSameMachine (old new : Bus) : Type 0 where
+pub record IsSameMachine (old new : BusModel) : Type 0 where
   pub rows : new.rows ≡ old.rows
   pub shape : new.shape ≡ old.shape
   pub cores : cores_of new ≡ cores_of old

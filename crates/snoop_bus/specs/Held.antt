@@ -9,9 +9,9 @@ use Rattle.cache_set.specs.Contents.{Contents, contents}
 use Rattle.snoop_bus.specs.Copies.{Sets, in_set, cache_of}
 use Rattle.snoop_bus.specs.declared.holding.Stage.{Stage}
 use Rattle.snoop_bus.specs.declared.holding.Stage.TheVariants.{Load, Write}
-use Rattle.snoop_bus.specs.declared.holding.Holder.{Holder}
+use Rattle.snoop_bus.specs.declared.holding.BusAction.{BusAction}
 use Rattle.snoop_bus.specs.declared.holding.Transaction.{Transaction}
-use Rattle.snoop_bus.specs.declared.holding.Held.{Held}
+use Rattle.snoop_bus.specs.declared.holding.HeldBus.{HeldBus}
 
 -- a set in which this copy of a line is found, in place of any other copy of it
 abbrev pub with_copy : ℕ → Line → Contents → Contents
@@ -26,20 +26,20 @@ counted_in core line None caches = caches
 counted_in core line (Some x) caches = counting core line x.copy caches
 
 -- the copies that count: those of the caches, and the words that the bus keeps as the holder's
-abbrev pub counted : Option Held → List Sets → List Sets
+abbrev pub counted : Option HeldBus → List Sets → List Sets
 counted None caches = caches
 counted (Some h) caches = counted_in h.holder.core.0 h.line h.transaction caches
 
 -- whose action holds the bus, if one does
-abbrev pub holder_in : Option Held → Option Holder
+abbrev pub holder_in : Option HeldBus → Option BusAction
 holder_in held = option_map (λ h. h.holder) held
 
-abbrev pub transaction_in : Option Held → Option Transaction
+abbrev pub transaction_in : Option HeldBus → Option Transaction
 transaction_in None = None
 transaction_in (Some h) = h.transaction
 
 -- the action of a core at a location
-abbrev pub holder : Core → Loc → Stage → Holder
+abbrev pub holder : Core → Loc → Stage → BusAction
 holder core loc stage = record { core = core; loc = loc; stage = stage }
 
 abbrev pub stage_for : Bool → Stage

@@ -12,5 +12,5 @@ pub mod MemoryAfter
 pub mod Requests
 pub mod Asks
 pub mod Accesses
-pub mod Halves
+pub mod WholeAccesses
 pub mod inner

@@ -11,12 +11,12 @@ ghost use Rattle.snoop_bus.specs.Copies.{cache_of, copy_at, tags_of};
 ghost use Rattle.snoop_bus.specs.inner.Copies.{ways_of};
 ghost use Rattle.snoop_bus.specs.inner.Accessing.{IsReady, KeepsWords};
 ghost use Rattle.snoop_bus.specs.declared.holding.Stage.TheVariants.{Write};
-ghost use Rattle.protocol_tables.specs.declared.asking.Request.TheVariants.{GetS, GetM};
-ghost use Rattle.protocol_tables.specs.declared.asking.Transient.TheVariants.{IsD, ImD};
+ghost use Rattle.protocol_tables.specs.declared.requests.Request.TheVariants.{GetS, GetM};
+ghost use Rattle.protocol_tables.specs.declared.requests.Transient.TheVariants.{IsD, ImD};
 
 use crate::cache::know_sets;
 use crate::hierarchy::Hierarchy;
-use crate::holding::{Held, Stage, Transaction, held_at};
+use crate::holding::{HeldBus, Stage, Transaction, held_at};
 use crate::target::Wanted;
 use cache_set::Line;
 use protocol_tables::{Protocol, Request, State, Transient, transient};
@@ -34,7 +34,7 @@ impl Hierarchy {
     }
 
     /// A core asks for what it wants, where that isn't a load's hit. Answers what then holds the bus.
-    pub fn ask<P: Protocol>(&mut self, protocol: &P, wanted: Wanted) -> Held
+    pub fn ask<P: Protocol>(&mut self, protocol: &P, wanted: Wanted) -> HeldBus
         requires ready { IsReady None wanted.core.0 wanted.line self.old }
         requires misses { wanted.write ≡ false → copy_at self.old.caches.items wanted.core.0 wanted.line ≡ None }
 

@@ -18,7 +18,7 @@ ghost use Rattle.snoop_bus.specs.inner.Accesses.{MayGoOn, KeepsOut, IsOutOfMemor
 use crate::access::{Access, Updated};
 use crate::cache::Cache;
 use crate::hierarchy::Hierarchy;
-use crate::holding::{Held, Stage, held_at};
+use crate::holding::{HeldBus, Stage, held_at};
 use crate::lines::lines_of;
 use crate::shape::Shape;
 use crate::target::{Change, Wanted};
@@ -34,7 +34,7 @@ pub const MAX_CORES: u8 = 8;
 pub const MAX_LOCATIONS: usize = tso_model::limits::MAX_LOCATIONS;
 
 /// The caches of all cores on one bus, and memory after them. Where a line has so many words, location `l`
-/// lies in line `l / words` at place `l % words`.
+/// lies in line `l / words` at offset `l % words`.
 ///
 /// Each access is whole when its call returns: first the copy of the core itself, if it has one; then,
 /// on a miss, the words from the copy that supplies them or from memory, and a victim to memory if it is
@@ -49,14 +49,14 @@ pub struct SnoopBus<P: Protocol> {
     pub(crate) shape: Shape,
     locations: usize,
     pub(crate) hierarchy: Hierarchy,
-    pub(crate) held: Option<Held>,
+    pub(crate) held: Option<HeldBus>,
 }
 
 impl<P: Protocol> Model for SnoopBus<P> {
-    ghost use Rattle.snoop_bus.specs.Bus.{Bus, bus_with};
+    ghost use Rattle.snoop_bus.specs.Bus.{BusModel, bus_with};
     ghost use Rattle.snoop_bus.specs.inner.Bus.{IsBus};
 
-    ghost Value = { Bus };
+    ghost Value = { BusModel };
 
     ghost view = { λ b. bus_with (P.table b.protocol) b.shape b.locations b.hierarchy.caches.items b.hierarchy.memory.items b.held };
 

@@ -124,17 +124,17 @@ impl Cache {
         set.set_state(line, state);
     }
 
-    /// The word at this place of a line that is here is written.
-    pub fn write_word(&mut self, line: u8, place: u8, value: u32)
+    /// The word at this offset in a line that is here is written.
+    pub fn write_word(&mut self, line: u8, offset: u8, value: u32)
         requires present { IsSome (copy_in self.old line) }
-        requires place { place < most_words }
-        ensures exact { self.new ≡ in_set line (with_changed (with_word place value) line) self.old }
-        ensures copies { OnlyAt line (option_map (with_word place value)) self.old self.new }
+        requires offset { offset < most_words }
+        ensures exact { self.new ≡ in_set line (with_changed (with_word offset value) line) self.old }
+        ensures copies { OnlyAt line (option_map (with_word offset value)) self.old self.new }
         ensures ways { ways_in self.new ≡ ways_in self.old }
     {
         let at = usize::from(line) % self.sets.len();
         let set = &mut self.sets[at];
-        set.write_word(line, place, value);
+        set.write_word(line, offset, value);
     }
 
     /// A line that is here leaves.

@@ -104,7 +104,7 @@ impl Hierarchy {
         }
     }
 
-    /// Completes a load that missed, of the word at a place of a line. Answers the word, and what the access was.
+    /// Completes a load that missed, of the word at an offset in a line. Answers the word, and what the access was.
     ///
     /// Errors: out of memory only; nothing is changed then.
     pub fn complete_load<P: Protocol>(
@@ -114,9 +114,9 @@ impl Hierarchy {
         transaction: Option<Transaction>,
     ) -> Result<(u32, Access), NoMemory>
         requires awaited { IsAwaited Load transaction target.core target.line self.old }
-        requires place { target.place < most_words }
+        requires offset { target.offset < most_words }
 
-        ensures word { IfOk result (λ r. r.0 ≡ slice_index (words_due transaction target.core target.line self.old) target.place) }
+        ensures word { IfOk result (λ r. r.0 ≡ slice_index (words_due transaction target.core target.line self.old) target.offset) }
         ensures ok { IfOk result (λ r. Completes (P.table protocol.now) transaction target.core target.line self.old self.new r.1) }
         ensures words { OnOk result (KeepsWords (counted_in target.core target.line transaction self.old.caches.items) self.new.caches.items self.old.memory.items self.new.memory.items) }
         ensures ways { ways_of self.new.caches.items ≡ ways_of self.old.caches.items }
@@ -124,12 +124,12 @@ impl Hierarchy {
         ensures refused { OnErr result (IsUnchanged self.old self.new) }
     {
         let transaction = transaction.unwrap();
-        let Target { core, line, place } = target;
+        let Target { core, line, offset } = target;
         let access = self.fill_asked(protocol, core, line, transaction)?;
-        Ok((transaction.copy.words[usize::from(place)], access))
+        Ok((transaction.copy.words[usize::from(offset)], access))
     }
 
-    /// Completes a store at a place of a line. Answers what the access was.
+    /// Completes a store at an offset in a line. Answers what the access was.
     ///
     /// Errors: out of memory only, which only a miss takes; nothing is changed then.
     pub fn complete_store<P: Protocol>(
@@ -140,10 +140,10 @@ impl Hierarchy {
         value: u32,
     ) -> Result<Access, NoMemory>
         requires awaited { IsAwaited Write transaction target.core target.line self.old }
-        requires place { target.place < most_words }
+        requires offset { target.offset < most_words }
 
         ensures ok { IfOk result (Completes (P.table protocol.now) transaction target.core target.line self.old self.new) }
-        ensures words { OnOk result (SetsWord target.line target.place value (counted_in target.core target.line transaction self.old.caches.items) self.new.caches.items self.old.memory.items self.new.memory.items) }
+        ensures words { OnOk result (SetsWord target.line target.offset value (counted_in target.core target.line transaction self.old.caches.items) self.new.caches.items self.old.memory.items self.new.memory.items) }
         ensures ways { ways_of self.new.caches.items ≡ ways_of self.old.caches.items }
 
         ensures succeeds { (completion_at (P.table protocol.now) transaction target.core target.line self.old.caches.items).access.kind ≢ Miss → IsOk result }
@@ -155,7 +155,7 @@ impl Hierarchy {
         Ok(access)
     }
 
-    /// Completes the read of a locked instruction at a place of a line. Answers the word, and what the access was; the core's copy
+    /// Completes the read of a locked instruction at an offset in a line. Answers the word, and what the access was; the core's copy
     /// is then in M.
     ///
     /// Errors: out of memory only, which only a miss takes; nothing is changed then.
@@ -166,9 +166,9 @@ impl Hierarchy {
         transaction: Option<Transaction>,
     ) -> Result<(u32, Access), NoMemory>
         requires awaited { IsAwaited Write transaction target.core target.line self.old }
-        requires place { target.place < most_words }
+        requires offset { target.offset < most_words }
 
-        ensures word { IfOk result (λ r. r.0 ≡ slice_index (words_due transaction target.core target.line self.old) target.place) }
+        ensures word { IfOk result (λ r. r.0 ≡ slice_index (words_due transaction target.core target.line self.old) target.offset) }
         ensures ok { IfOk result (λ r. Completes (P.table protocol.now) transaction target.core target.line self.old self.new r.1) }
         ensures own { OnOk result (state_of (copy_at self.new.caches.items target.core target.line) ≡ M) }
         ensures words { OnOk result (KeepsWords (counted_in target.core target.line transaction self.old.caches.items) self.new.caches.items self.old.memory.items self.new.memory.items) }
@@ -177,8 +177,8 @@ impl Hierarchy {
         ensures succeeds { (completion_at (P.table protocol.now) transaction target.core target.line self.old.caches.items).access.kind ≢ Miss → IsOk result }
         ensures refused { OnErr result (IsUnchanged self.old self.new) }
     {
-        let Target { core, line, place } = target;
+        let Target { core, line, offset } = target;
         let (words, access) = self.acquire_asked(protocol, core, line, transaction)?;
-        Ok((words[usize::from(place)], access))
+        Ok((words[usize::from(offset)], access))
     }
 }

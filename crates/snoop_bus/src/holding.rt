@@ -24,7 +24,7 @@ pub enum Stage {
 
 /// Whose action holds the bus: a core's, at a location.
 #[derive(Clone, Copy)]
-pub struct Holder {
+pub struct BusAction {
     pub core: Core,
     pub loc: Loc,
     pub stage: Stage,
@@ -44,8 +44,8 @@ pub struct Transaction {
 /// The action that holds the bus, the line of its location, and its transaction; a write access that hits
 /// has none.
 #[derive(Clone, Copy)]
-pub struct Held {
-    pub holder: Holder,
+pub struct HeldBus {
+    pub holder: BusAction,
     pub line: u8,
     pub transaction: Option<Transaction>,
 }
@@ -57,11 +57,11 @@ pub fn held_at(
     stage: Stage,
     line: u8,
     transaction: Option<Transaction>,
-) -> Held
+) -> HeldBus
     ensures { result ≡ held_by core loc stage line transaction }
 {
-    Held {
-        holder: Holder { core, loc, stage },
+    HeldBus {
+        holder: BusAction { core, loc, stage },
         line,
         transaction,
     }
@@ -70,7 +70,7 @@ pub fn held_at(
 impl<P: Protocol> SnoopBus<P> {
     /// Whose action holds the bus, and how far it is. While that is a write access or a locked instruction no other
     /// core has its line, and between the two parts of a locked instruction its core has it in M.
-    pub fn who_holds(&self) -> Option<Holder>
+    pub fn who_holds(&self) -> Option<BusAction>
         ensures value { result ≡ holder_of self.now }
         ensures alone { IfSome (holder_of self.now) (StandsAlone self.now) }
     {

@@ -4,7 +4,7 @@ ghost use Rattle.std.specs.Prelude.{◌≡◌, ◌≤◌, IfOk, length};
 ghost use Rattle.tso_model.specs.Limits.{most_locations};
 ghost use Rattle.std.specs.Int.{div_ceil};
 ghost use Rattle.cache_set.specs.Limits.{most_words};
-ghost use Rattle.snoop_bus.specs.Lines.{place_of, line_of_words, lines_of_words};
+ghost use Rattle.snoop_bus.specs.Lines.{offset_of, line_of_words, lines_of_words};
 
 use crate::shape::Shape;
 use cache_set::MAX_WORDS;
@@ -55,14 +55,14 @@ fn line_at(words: &[u32], size: usize, line: usize) -> [u32; MAX_WORDS]
     ]
 }
 
-/// The word at this place of a line of these words; 0 past the line's words, and past the last word.
-fn word_at(words: &[u32], size: usize, line: usize, place: usize) -> u32
+/// The word at this offset in a line of these words; 0 past the line's words, and past the last word.
+fn word_at(words: &[u32], size: usize, line: usize, offset: usize) -> u32
     requires size { size ≤ most_words }
     requires line { line ≤ most_locations }
-    ensures { result ≡ place_of size words.now line place }
+    ensures { result ≡ offset_of size words.now line offset }
 {
-    if place < size {
-        words.get(line * size + place).copied().unwrap_or(0)
+    if offset < size {
+        words.get(line * size + offset).copied().unwrap_or(0)
     } else {
         0
     }

@@ -12,7 +12,7 @@ ghost use Rattle.snoop_bus.specs.inner.Accessing.{IsReady, Loads, KeepsWords, Is
 
 use crate::access::{Access, AccessKind};
 use crate::hierarchy::Hierarchy;
-use crate::holding::Held;
+use crate::holding::HeldBus;
 use crate::target::Target;
 use protocol_tables::{Protocol, Request};
 use tso_model::NoMemory;
@@ -24,14 +24,14 @@ impl Hierarchy {
     pub fn load<P: Protocol>(
         &mut self,
         protocol: &P,
-        held: Option<Held>,
+        held: Option<HeldBus>,
         target: Target,
     ) -> Result<(u32, Access), NoMemory>
         requires ready { IsReady held target.core target.line self.old }
-        requires place { target.place < most_words }
+        requires offset { target.offset < most_words }
         requires free { (held ≡ None) ⊎ IsSome (copy_at self.old.caches.items target.core target.line) }
 
-        ensures ok { IfOk result (λ r. Loads (P.table protocol.now) held target.core target.line target.place self.old.caches.items self.new.caches.items self.old.memory.items self.new.memory.items r.0 r.1) }
+        ensures ok { IfOk result (λ r. Loads (P.table protocol.now) held target.core target.line target.offset self.old.caches.items self.new.caches.items self.old.memory.items self.new.memory.items r.0 r.1) }
         ensures words { KeepsWords (counted held self.old.caches.items) (counted held self.new.caches.items) self.old.memory.items self.new.memory.items }
         ensures awaited { IfSome held (IsHeld self.new.caches.items self.new.memory.items) }
         ensures ways { ways_of self.new.caches.items ≡ ways_of self.old.caches.items }
@@ -39,12 +39,12 @@ impl Hierarchy {
         ensures succeeds { IsSome (copy_at self.old.caches.items target.core target.line) → IsOk result }
         ensures refused { OnErr result (IsUnchanged self.old self.new) }
     {
-        let Target { core, line, place } = target;
+        let Target { core, line, offset } = target;
         if let Some(copy) = self.caches[core].look(line).copied() {
             let cache = &mut self.caches[core];
             cache.touch(line);
             return Ok((
-                copy.words[usize::from(place)],
+                copy.words[usize::from(offset)],
                 Access::quiet(AccessKind::Hit),
             ));
         }
@@ -60,15 +60,15 @@ impl Hierarchy {
         target: Target,
     ) -> Result<(u32, Access), NoMemory>
         requires ready { IsReady None target.core target.line self.old }
-        requires place { target.place < most_words }
+        requires offset { target.offset < most_words }
         requires absent { copy_at self.old.caches.items target.core target.line ≡ None }
 
-        ensures ok { IfOk result (λ r. Loads (P.table protocol.now) None target.core target.line target.place self.old.caches.items self.new.caches.items self.old.memory.items self.new.memory.items r.0 r.1) }
+        ensures ok { IfOk result (λ r. Loads (P.table protocol.now) None target.core target.line target.offset self.old.caches.items self.new.caches.items self.old.memory.items self.new.memory.items r.0 r.1) }
         ensures words { KeepsWords self.old.caches.items self.new.caches.items self.old.memory.items self.new.memory.items }
 
         ensures refused { OnErr result (IsUnchanged self.old self.new) }
     {
-        let Target { core, line, place } = target;
+        let Target { core, line, offset } = target;
         let found = self.find(protocol, Request::GetS, line);
         let words = found.words.unwrap_or(self.memory[usize::from(line)]);
         let state = protocol.filled(found.shared);
@@ -82,6 +82,6 @@ impl Hierarchy {
             wrote_back,
             flushed: found.flushed,
         };
-        Ok((words[usize::from(place)], access))
+        Ok((words[usize::from(offset)], access))
     }
 }

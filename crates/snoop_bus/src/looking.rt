@@ -1,5 +1,5 @@
-//! What a bus holds, for one who only looks. No call changes anything: a look is no access, moves no line to the front, and
-//! isn't counted.
+//! What a bus holds, for one who only looks: words, states of lines, and what is awaited. No call changes anything: a
+//! look is no access, moves no line to the front, and isn't counted.
 
 ghost use Rattle.std.specs.Prelude.{◌≡◌, ◌<◌, IfSome, length, option_map, slice_get};
 ghost use Rattle.snoop_bus.specs.Lines.{line_of_words};
@@ -9,11 +9,13 @@ ghost use Rattle.snoop_bus.specs.Held.{counted};
 ghost use Rattle.snoop_bus.specs.inner.Held.{IsHeld, kept_words};
 ghost use Rattle.snoop_bus.specs.Accesses.{awaited_of, contents_of, line_of, IsCurrentWord};
 ghost use Rattle.snoop_bus.specs.inner.Accesses.{copies_of, ranked_line, memory_words_of, IsClean};
+ghost use Rattle.snoop_bus.specs.Asks.{tag_at, awaited_by};
+ghost use Rattle.snoop_bus.specs.Copies.{tags_of};
 
 use crate::bus::SnoopBus;
 use crate::cache::Cache;
 use crate::hierarchy::Hierarchy;
-use crate::holding::Held;
+use crate::holding::{HeldBus, Transaction};
 use cache_set::{CacheSet, Line, MAX_WORDS};
 use protocol_tables::{Protocol, State, Transient};
 use tso_model::{Core, Loc};
@@ -33,8 +35,8 @@ impl<P: Protocol> SnoopBus<P> {
         ensures { IsCurrentWord self.now loc.0 result }
     {
         let line = self.shape.line_of(loc);
-        let place = self.shape.place_of(loc);
-        self.hierarchy.seen(self.held, line)[usize::from(place)]
+        let offset = self.shape.offset_of(loc);
+        self.hierarchy.seen(self.held, line)[usize::from(offset)]
     }
 
     /// Memory's own word at a location, which may be stale where a cache has a dirty copy, or an action holds
@@ -45,8 +47,8 @@ impl<P: Protocol> SnoopBus<P> {
         ensures clean { IsFree self.now → IsClean (contents_of self.now) (line_of self.now loc.0) → IsCurrentWord self.now loc.0 result }
     {
         let line = self.shape.line_of(loc);
-        let place = self.shape.place_of(loc);
-        self.hierarchy.memory[usize::from(line)][usize::from(place)]
+        let offset = self.shape.offset_of(loc);
+        self.hierarchy.memory[usize::from(line)][usize::from(offset)]
     }
 
     /// A core's set with this number, in which its copies stand with their words: all those of their lines,
@@ -102,7 +104,7 @@ impl<P: Protocol> SnoopBus<P> {
 impl Hierarchy {
     /// The words of a line that a program sees: a copy's where there is one, and else memory's. What the bus keeps
     /// for its holder counts as a copy.
-    fn seen(&self, held: Option<Held>, line: u8) -> [u32; MAX_WORDS]
+    fn seen(&self, held: Option<HeldBus>, line: u8) -> [u32; MAX_WORDS]
         requires coherent { AllCoherent (counted held self.now.caches.items) self.now.memory.items }
         requires awaited { IfSome held (IsHeld self.now.caches.items self.now.memory.items) }
         requires line { line < length self.now.memory.items }
@@ -115,7 +117,7 @@ impl Hierarchy {
 }
 
 /// The words that the bus keeps for its holder, if they are this line's.
-fn kept_words(held: Option<Held>, line: u8) -> Option<[u32; MAX_WORDS]>
+fn kept_words(held: Option<HeldBus>, line: u8) -> Option<[u32; MAX_WORDS]>
     ensures { result ≡ kept_words held line }
 {
     let held = held?;
@@ -133,4 +135,32 @@ fn copied_words(caches: &[Cache], line: u8) -> Option<[u32; MAX_WORDS]>
         }
     }
     None
+}
+
+impl<P: Protocol> SnoopBus<P> {
+    /// The state of a core's copy of a line; `None` where it has none. This is no access.
+    pub fn copy_state(&self, core: Core, line: u8) -> Option<State>
+        requires { core.0 < cores_of self.now }
+        ensures { result ≡ tag_at core.0 line (contents_of self.now) }
+    {
+        state_of(&self.hierarchy.caches, usize::from(core.0), line)
+    }
+
+    /// The request that the other caches have seen and whose line isn't yet filled; `None` where nobody holds
+    /// the bus, and where nothing is awaited.
+    pub fn awaited(&self) -> Option<Transaction>
+        ensures { option_map awaited_by result ≡ awaited_of self.now }
+    {
+        self.held?.transaction
+    }
+}
+
+fn state_of(caches: &[Cache], core: usize, line: u8) -> Option<State>
+    requires { core < length caches.now }
+    ensures { result ≡ tag_at core line (tags_of caches.now) }
+{
+    match caches[core].look(line) {
+        None => None,
+        Some(copy) => Some(copy.state),
+    }
 }

@@ -3,12 +3,12 @@
 
 use tso_model::{Core, Loc, Update};
 
-/// A word of a line, for a core: the line's number, and the word's place in it.
+/// A word of a line, for a core: the line's number, and the word's offset in it.
 #[derive(Clone, Copy)]
 pub struct Target {
     pub core: usize,
     pub line: u8,
-    pub place: u8,
+    pub offset: u8,
 }
 
 /// What a write access makes of a word: what the update makes of it and of this value.

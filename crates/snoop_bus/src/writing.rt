@@ -16,7 +16,7 @@ ghost use Rattle.snoop_bus.specs.inner.Accessing.{IsReady, MayWrite, Acquires, U
 
 use crate::access::{Access, AccessKind, Updated};
 use crate::hierarchy::Hierarchy;
-use crate::holding::Held;
+use crate::holding::HeldBus;
 use crate::target::{Change, Target};
 use cache_set::MAX_WORDS;
 use protocol_tables::{Protocol, Request, State};
@@ -29,15 +29,15 @@ impl Hierarchy {
     pub fn update<P: Protocol>(
         &mut self,
         protocol: &P,
-        held: Option<Held>,
+        held: Option<HeldBus>,
         target: Target,
         change: Change,
     ) -> Result<Updated, NoMemory>
         requires ready { IsReady held target.core target.line self.old }
-        requires place { target.place < most_words }
+        requires offset { target.offset < most_words }
         requires free { MayWrite (P.table protocol.now) held target.core target.line (tags_of self.old.caches.items) }
 
-        ensures ok { IfOk result (Updates (P.table protocol.now) held target.core target.line target.place self.old.caches.items self.new.caches.items self.old.memory.items self.new.memory.items) }
+        ensures ok { IfOk result (Updates (P.table protocol.now) held target.core target.line target.offset self.old.caches.items self.new.caches.items self.old.memory.items self.new.memory.items) }
         ensures after { IfOk result (λ u. u.after ≡ updated change.update u.before change.value) }
         ensures coherent { AllCoherent (counted held self.new.caches.items) self.new.memory.items }
         ensures awaited { IfSome held (IsHeld self.new.caches.items self.new.memory.items) }
@@ -47,7 +47,7 @@ impl Hierarchy {
         ensures refused { OnErr result (IsUnchanged self.old self.new) }
     {
         let (words, access) = self.acquire(protocol, held, target.core, target.line)?;
-        let before = words[usize::from(target.place)];
+        let before = words[usize::from(target.offset)];
         let after = change.update.apply(before, change.value);
         self.write(target, after);
         Ok(Updated {
@@ -64,7 +64,7 @@ impl Hierarchy {
     fn acquire<P: Protocol>(
         &mut self,
         protocol: &P,
-        held: Option<Held>,
+        held: Option<HeldBus>,
         core: usize,
         line: u8,
     ) -> Result<([u32; MAX_WORDS], Access), NoMemory>
@@ -141,19 +141,19 @@ impl Hierarchy {
         Ok((words, access))
     }
 
-    /// Writes the word at a place of a line that the core has.
+    /// Writes the word at an offset in a line that the core has.
     pub fn write(&mut self, target: Target, value: u32)
         requires core { target.core < length self.old.caches.items }
         requires present { IsSome (copy_at self.old.caches.items target.core target.line) }
-        requires place { target.place < most_words }
+        requires offset { target.offset < most_words }
 
         ensures tags { tags_of self.new.caches.items ≡ tags_of self.old.caches.items }
-        ensures copies { ChangesCopy target.core target.line (option_map (with_word target.place value) (copy_at self.old.caches.items target.core target.line)) self.old.caches.items self.new.caches.items }
+        ensures copies { ChangesCopy target.core target.line (option_map (with_word target.offset value) (copy_at self.old.caches.items target.core target.line)) self.old.caches.items self.new.caches.items }
         ensures ways { ways_of self.new.caches.items ≡ ways_of self.old.caches.items }
         ensures memory { self.new.memory.items ≡ self.old.memory.items }
     {
-        let Target { core, line, place } = target;
+        let Target { core, line, offset } = target;
         let cache = &mut self.caches[core];
-        cache.write_word(line, place, value);
+        cache.write_word(line, offset, value);
     }
 }

@@ -6,7 +6,7 @@ use Rattle.tso_model.specs.Runs.{has_ended, resting, then_run, run_from, run}
 use Rattle.tso_model.specs.SplitMachine.{Free, Attempt}
 use Rattle.tso_model.specs.EitherBus.{BusRun, unheld, effect_on, resting_on, then_on, run_on_from, run_on, choices_in, HitsFit}
 use Rattle.tso_model.specs.Together.{put_together}
-use Rattle.tso_model.specs.declared.bus.Bus.TheVariants.{Atomic}
+use Rattle.tso_model.specs.declared.choice.Bus.TheVariants.{Atomic}
 use Rattle.tso_model.specs.declared.choice.Choice.{Choice}
 use Rattle.tso_laws.specs.Choices.{commits_of}
 use Rattle.tso_laws.specs.inner.Stopping.{StopsAtTheEnd}

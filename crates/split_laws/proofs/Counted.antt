@@ -7,7 +7,7 @@ use Rattle.tso_model.specs.Runs.{Run, has_ended, stall_count, then_run, run_from
 use Rattle.tso_model.specs.SplitMachine.{Holder, Free, HeldBy, HeldBetween, Attempt}
 use Rattle.tso_model.specs.EitherBus.{BusState, BusRun, effect_on, after_on, resting_on, then_on, run_on_from, choices_in, HitsFit}
 use Rattle.tso_model.specs.Together.{put_together}
-use Rattle.tso_model.specs.declared.bus.Bus.{Bus}
+use Rattle.tso_model.specs.declared.choice.Bus.{Bus}
 use Rattle.tso_model.specs.declared.choice.Choice.{Choice}
 use Rattle.tso_laws.specs.Choices.{state_after, commits_of}
 use Rattle.split_laws.specs.Holders.{HolderFits}

@@ -5,11 +5,11 @@ use Rattle.std.proofs.lemmas.List.{set-get_or}
 use Rattle.tso_model.specs.Litmus.{Litmus}
 use Rattle.tso_model.specs.FlatMachine.{State, Effect, idle, effect_of, chosen, core_of, program_of, applied, start}
 use Rattle.tso_model.specs.Runs.{stall_count}
-use Rattle.tso_model.specs.Access.{Access, NoAccess, Reads, Writes, Locks, access_of}
+use Rattle.tso_model.specs.MemoryAccess.{MemoryAccess, NoAccess, Reads, Writes, Locks, access_of}
 use Rattle.tso_model.specs.SplitMachine.{Holder, Free, HeldBy, HeldBetween, Attempt, BusEffect, same_choice, needs_bus, acts, asks, begins, load_part, reads_first, completes, as_read, after_first, writes_last, split_effect}
 use Rattle.tso_model.specs.EitherBus.{BusState, unheld, effect_on, after_on}
-use Rattle.tso_model.specs.declared.bus.Bus.{Bus}
-use Rattle.tso_model.specs.declared.bus.Bus.TheVariants.{Atomic, Split}
+use Rattle.tso_model.specs.declared.choice.Bus.{Bus}
+use Rattle.tso_model.specs.declared.choice.Bus.TheVariants.{Atomic, Split}
 use Rattle.tso_model.specs.declared.instruction.Loc.{Loc}
 use Rattle.tso_model.specs.declared.execution.Entry.{Entry}
 use Rattle.tso_model.specs.declared.choice.Choice.{Choice}
@@ -30,12 +30,12 @@ credit (HeldBy choice) = 1
 credit (HeldBetween e) = 2
 
 -- what holds the bus has its access to make
-abbrev pub Holding : Bus → Litmus → ℕ → State → Holder → Type 0
-Holding bus t d state Free = Unit {0}
-Holding Atomic t d state (HeldBy choice) = ⊥
-Holding Atomic t d state (HeldBetween e) = ⊥
-Holding Split t d state (HeldBy choice) = access_of t d state choice ≢ NoAccess
-Holding Split t d state (HeldBetween e) = access_of t d state (Step e.core) ≡ Locks e.loc
+abbrev pub HolderWaits : Bus → Litmus → ℕ → State → Holder → Type 0
+HolderWaits bus t d state Free = Unit {0}
+HolderWaits Atomic t d state (HeldBy choice) = ⊥
+HolderWaits Atomic t d state (HeldBetween e) = ⊥
+HolderWaits Split t d state (HeldBy choice) = access_of t d state choice ≢ NoAccess
+HolderWaits Split t d state (HeldBetween e) = access_of t d state (Step e.core) ≡ Locks e.loc
 
 -- no core stands past its program
 abbrev pub Within : Litmus → State → Type 0
@@ -44,7 +44,7 @@ Within t state = (k : ℕ) → (core_of state k).place ≤ length (program_of t 
 pub record Live (bus : Bus) (t : Litmus) (d : ℕ) (state : State) (holder : Holder) : Type 0 where
   pub size : length state.cores ≡ length t.programs
   pub within : Within t state
-  pub holding : Holding bus t d state holder
+  pub holding : HolderWaits bus t d state holder
 
 within-applied : (t : Litmus) (state : State) (c : ℕ) (f : Effect) → Within t state → f.after.place ≤ length (program_of t c) → Within t (applied state c f)
 within-applied t state c f w l k = elim (core-cases state c k f) [
@@ -69,7 +69,7 @@ Does bus t d state c holder g = Moves bus t d state c holder g ⊎ Rests state c
 
 -- an effect that takes more off than the holder changes
 paid-moves : (bus : Bus) (t : Litmus) (d : ℕ) (state : State) (c n : ℕ) (holder next : Holder) (f : Effect) → Live bus t d state holder → Paid (program_of t c) (core_of state c) (suc n) f
-    → credit holder ≤ n + credit next → Holding bus t d (applied state c f) next → Moves bus t d state c holder (acts f next)
+    → credit holder ≤ n + credit next → HolderWaits bus t d (applied state c f) next → Moves bus t d state c holder (acts f next)
 paid-moves bus t d state c n holder next f live w l holding = record {
   took = w.took;
   less = let m = paid-total t state c (suc n) f live.size (omega arith) w in omega arith;
@@ -80,10 +80,10 @@ paid-moves bus t d state c n holder next f live w l holding = record {
   };
 }
 
-rests-so : (state : State) (c : ℕ) (holder : Holder) (f : Effect) (what : Access) → Waits what (core_of state c) f → Rests state c holder (acts f holder)
+rests-so : (state : State) (c : ℕ) (holder : Holder) (f : Effect) (what : MemoryAccess) → Waits what (core_of state c) f → Rests state c holder (acts f holder)
 rests-so state c holder f what w = rw w.is (record { stalled = refl; same = quiet-same state c Asked; same_holder = refl; none = refl })
 
-held-on : (t : Litmus) (d : ℕ) (state : State) (a : Choice) (holder : Holder) → Holding Split t d state holder → IsOther holder a → Holding Split t d (applied state (chosen a) (effect_of t d state a)) holder
+held-on : (t : Litmus) (d : ℕ) (state : State) (a : Choice) (holder : Holder) → HolderWaits Split t d state holder → IsOther holder a → HolderWaits Split t d (applied state (chosen a) (effect_of t d state a)) holder
 held-on t d state a Free h o = tt
 held-on t d state a (HeldBy choice) h o = λ q. h (sym (access-kept t d state choice a h o) ∙ q)
 held-on t d state a (HeldBetween e) h o = access-kept t d state (Step e.core) a (λ q. let z : ⊥ = cc in z) o ∙ h
@@ -101,7 +101,7 @@ asks-does t d state a Free live n = inl (record {
 asks-does t d state a (HeldBy choice) live n = inr (record { stalled = refl; same = quiet-same state (chosen a) Asked; same_holder = refl; none = refl })
 asks-does t d state a (HeldBetween e) live n = inr (record { stalled = refl; same = quiet-same state (chosen a) Asked; same_holder = refl; none = refl })
 
-price-some : (what : Access) → 1 ≤ price what
+price-some : (what : MemoryAccess) → 1 ≤ price what
 price-some NoAccess = omega arith
 price-some (Reads loc) = omega arith
 price-some (Writes loc) = omega arith
@@ -112,7 +112,7 @@ paid-less : (t : Litmus) (state : State) (c m n : ℕ) (f : Effect) → n ≤ m 
 paid-less t state c m n f l w = record { took = w.took; less = let h = w.less in omega arith; within = w.within }
 
 -- a choice that acts as on the flat machine, and leaves the holder
-acts-does : (bus : Bus) (t : Litmus) (d : ℕ) (state : State) (a : Choice) (holder : Holder) → Live bus t d state holder → Holding bus t d (applied state (chosen a) (effect_of t d state a)) holder
+acts-does : (bus : Bus) (t : Litmus) (d : ℕ) (state : State) (a : Choice) (holder : Holder) → Live bus t d state holder → HolderWaits bus t d (applied state (chosen a) (effect_of t d state a)) holder
     → Does bus t d state (chosen a) holder (acts (effect_of t d state a) holder)
 acts-does bus t d state a holder live holding = elim (choice-pays t d state a) [
   | inl w ↦ inl (paid-moves bus t d state (chosen a) 0 holder holder (effect_of t d state a) live
@@ -145,7 +145,7 @@ completes-moves t d state a live = go (access_of t d state a) refl
     frees = paid-moves Split t d state (chosen a) 1 (HeldBy a) Free (effect_of t d state a) live
         (paid-less t state (chosen a) (price (access_of t d state a)) 2 (effect_of t d state a) (price-access (access_of t d state a) live.holding) (access-pays t d state a live.holding)) (omega arith) tt
 
-    go : (what : Access) → access_of t d state a ≡ what → Moves Split t d state (chosen a) (HeldBy a) (completes t d state a what)
+    go : (what : MemoryAccess) → access_of t d state a ≡ what → Moves Split t d state (chosen a) (HeldBy a) (completes t d state a what)
     go NoAccess q = frees
     go (Reads loc) q = frees
     go (Writes loc) q = frees

@@ -8,7 +8,7 @@ use Rattle.tso_model.specs.Runs.{run}
 use Rattle.tso_model.specs.SplitMachine.{Attempt}
 use Rattle.tso_model.specs.EitherBus.{unheld, run_on, HitsFit}
 use Rattle.tso_model.specs.Together.{put_together, together}
-use Rattle.tso_model.specs.declared.bus.Bus.{Bus}
+use Rattle.tso_model.specs.declared.choice.Bus.{Bus}
 use Rattle.tso_model.specs.declared.choice.Choice.{Choice}
 use Rattle.tso_laws.specs.EndedRuns.{End, IsExecution}
 use Rattle.split_laws.specs.BusRuns.{EndOn, waiting, IsFlatRun}

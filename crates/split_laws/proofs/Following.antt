@@ -8,12 +8,12 @@ use Rattle.tso_model.specs.Thread.{entry}
 use Rattle.tso_model.specs.Actions.{action_of}
 use Rattle.tso_model.specs.FlatMachine.{CoreState, State, Effect, stored, effect_by, step_of, effect_of, after_choice, chosen, core_of, applied, memory_after, is_none_pending}
 use Rattle.tso_model.specs.Runs.{stall_count}
-use Rattle.tso_model.specs.Access.{Access, NoAccess, Reads, Writes, Locks, next_of, access_of}
+use Rattle.tso_model.specs.MemoryAccess.{MemoryAccess, NoAccess, Reads, Writes, Locks, next_of, access_of}
 use Rattle.tso_model.specs.SplitMachine.{Holder, Free, HeldBy, HeldBetween, Attempt, BusEffect, same_choice, needs_bus, acts, asks, begins, load_part, reads_first, completes, as_read, after_first, writes_last, split_effect}
 use Rattle.tso_model.specs.EitherBus.{BusState, effect_on, after_on, HitFits, HitsFit}
 use Rattle.tso_model.specs.Together.{put_together}
-use Rattle.tso_model.specs.declared.bus.Bus.{Bus}
-use Rattle.tso_model.specs.declared.bus.Bus.TheVariants.{Atomic, Split}
+use Rattle.tso_model.specs.declared.choice.Bus.{Bus}
+use Rattle.tso_model.specs.declared.choice.Bus.TheVariants.{Atomic, Split}
 use Rattle.tso_model.specs.declared.instruction.Loc.{Loc}
 use Rattle.tso_model.specs.declared.instruction.Instr.{Instr}
 use Rattle.tso_model.specs.declared.action.Action.{Action}
@@ -49,19 +49,19 @@ same-self (Drain c) = test-true c.0 c.0 refl
 
 -- ---- what needs the bus
 
-pub needs-some : (what : Access) (hits : Bool) → needs_bus what hits ≡ true → what ≢ NoAccess
+pub needs-some : (what : MemoryAccess) (hits : Bool) → needs_bus what hits ≡ true → what ≢ NoAccess
 needs-some NoAccess hits h q = let z : ⊥ = cc in z
 needs-some (Reads loc) hits h q = let z : ⊥ = cc in z
 needs-some (Writes loc) hits h q = let z : ⊥ = cc in z
 needs-some (Locks loc) hits h q = let z : ⊥ = cc in z
 
-pub needs-no-lock : (what : Access) (hits : Bool) → needs_bus what hits ≡ false → (l : Loc) → what ≢ Locks l
+pub needs-no-lock : (what : MemoryAccess) (hits : Bool) → needs_bus what hits ≡ false → (l : Loc) → what ≢ Locks l
 needs-no-lock NoAccess hits h l q = let z : ⊥ = cc in z
 needs-no-lock (Reads loc) hits h l q = let z : ⊥ = cc in z
 needs-no-lock (Writes loc) hits h l q = let z : ⊥ = cc in z
 needs-no-lock (Locks loc) hits h l q = let z : ⊥ = cc in z
 
-write-hits : (what : Access) (hits : Bool) (l : Loc) → needs_bus what hits ≡ false → what ≡ Writes l → hits ≡ true
+write-hits : (what : MemoryAccess) (hits : Bool) (l : Loc) → needs_bus what hits ≡ false → what ≡ Writes l → hits ≡ true
 write-hits what true l h q = refl
 write-hits what false l h q = absurd (let z : needs_bus what false ≡ true = rw q refl in let y : ⊥ = cc in y)
 
@@ -103,7 +103,7 @@ own-outcome t depth state (Drain c) = by_pending (core_of state c.0).pending
 own-count : (t : Litmus) (depth : ℕ) (state : State) (a : Choice) → load_part_count (effect_of t depth state a).commits ≡ 0 → bus_count (effect_of t depth state a) ≡ 0
 own-count t depth state a parts = let n = own-outcome t depth state a in omega arith
 
-no-load-part : (core : ℕ) (what : Access) (xs : List Entry) → Each (IsPlain core what) xs → load_part_count xs ≡ 0
+no-load-part : (core : ℕ) (what : MemoryAccess) (xs : List Entry) → Each (IsPlain core what) xs → load_part_count xs ≡ 0
 no-load-part core what [] h = refl
 no-load-part core what (x ∷ []) h = rw h.0.no_load_part refl
 no-load-part core what (x ∷ (y ∷ ys)) h = refl
@@ -198,7 +198,7 @@ begins-goes : (t : Litmus) (depth : ℕ) (state : State) (a : Attempt) (holder :
     → HitFits t depth state a holder → Goes Split t depth state (chosen a.choice) holder (begins t depth state a holder)
 begins-goes t depth state a holder stores fits other fit = go (needs_bus what a.hits) refl
   where
-    what : Access
+    what : MemoryAccess
     what = access_of t depth state a.choice
 
     spares : (holder : Holder) → HolderFits Split t depth state holder → IsOther holder a.choice → HitFits t depth state a holder → needs_bus what a.hits ≡ false → Spares t depth state a.choice holder
@@ -238,14 +238,14 @@ reads-goes t depth state (Step c) loc stores q =
     }
 reads-goes t depth state (Drain c) loc stores q = absurd (drain-no-lock (core_of state c.0).pending loc q)
 
-completes-goes : (t : Litmus) (depth : ℕ) (state : State) (a : Choice) → AllStores state → (what : Access) → access_of t depth state a ≡ what
+completes-goes : (t : Litmus) (depth : ℕ) (state : State) (a : Choice) → AllStores state → (what : MemoryAccess) → access_of t depth state a ≡ what
     → Goes Split t depth state (chosen a) (HeldBy a) (completes t depth state a what)
 completes-goes t depth state a stores what q = go what q
   where
     frees : ((l : Loc) → access_of t depth state a ≢ Locks l) → Goes Split t depth state (chosen a) (HeldBy a) (acts (effect_of t depth state a) Free)
     frees n = acts-goes Split t depth state a (HeldBy a) Free stores n tt (alike-free (HeldBy a) Free (λ ys. refl) (λ e h. let z : ⊥ = cc in z)) (λ e h. absurd (let z : ⊥ = cc in z))
 
-    go : (what : Access) → access_of t depth state a ≡ what → Goes Split t depth state (chosen a) (HeldBy a) (completes t depth state a what)
+    go : (what : MemoryAccess) → access_of t depth state a ≡ what → Goes Split t depth state (chosen a) (HeldBy a) (completes t depth state a what)
     go NoAccess q = frees (λ l h. let z : ⊥ = cc in z)
     go (Reads loc) q = frees (λ l h. let z : ⊥ = cc in z)
     go (Writes loc) q = frees (λ l h. let z : ⊥ = cc in z)
@@ -340,7 +340,7 @@ choice-whole t depth state a stores = go (access_of t depth state a) refl
         subst IsWhole (sym p.commits) (record { together = λ ys. together-pair x y ys parts; on = pair-on x y parts; parts = refl })
     pair (Drain c) loc q = absurd (drain-no-lock (core_of state c.0).pending loc q)
 
-    go : (what : Access) → access_of t depth state a ≡ what → IsWhole (effect_of t depth state a).commits
+    go : (what : MemoryAccess) → access_of t depth state a ≡ what → IsWhole (effect_of t depth state a).commits
     go NoAccess q = plain (λ l h. let z : ⊥ = cc in z)
     go (Reads loc) q = plain (λ l h. let z : ⊥ = cc in z)
     go (Writes loc) q = plain (λ l h. let z : ⊥ = cc in z)

@@ -6,7 +6,7 @@ use Rattle.std.proofs.lemmas.Option.{slice_get_within}
 use Rattle.tso_model.specs.Litmus.{Litmus}
 use Rattle.tso_model.specs.FlatMachine.{CoreState, State, Effect, idle, stalled, step_of, effect_of, chosen, core_of, program_of, applied, started}
 use Rattle.tso_model.specs.Runs.{stall_count}
-use Rattle.tso_model.specs.Access.{Access, NoAccess, Reads, Writes, Locks, step_access, drain_access, next_of, access_of}
+use Rattle.tso_model.specs.MemoryAccess.{MemoryAccess, NoAccess, Reads, Writes, Locks, step_access, drain_access, next_of, access_of}
 use Rattle.tso_model.specs.declared.instruction.Instr.{Instr}
 use Rattle.tso_model.specs.declared.execution.Entry.{Entry}
 use Rattle.tso_model.specs.declared.choice.Choice.{Choice}
@@ -24,20 +24,20 @@ abbrev pub left : List Instr → CoreState → ℕ
 left p s = 3 * length (drop s.place p) + (length s.pending + length s.pending)
 
 -- how much an effect takes off at least, by the access
-abbrev pub price : Access → ℕ
+abbrev pub price : MemoryAccess → ℕ
 price NoAccess = 1
 price (Reads loc) = 2
 price (Writes loc) = 2
 price (Locks loc) = 3
 
-pub price-most : (what : Access) → price what ≤ 3
+pub price-most : (what : MemoryAccess) → price what ≤ 3
 price-most NoAccess = omega arith
 price-most (Reads loc) = omega arith
 price-most (Writes loc) = omega arith
 price-most (Locks loc) = omega arith
 
 -- an access leaves more to do than its ask
-pub price-access : (what : Access) → what ≢ NoAccess → 2 ≤ price what
+pub price-access : (what : MemoryAccess) → what ≢ NoAccess → 2 ≤ price what
 price-access NoAccess n = absurd (n refl)
 price-access (Reads loc) n = omega arith
 price-access (Writes loc) n = omega arith
@@ -50,12 +50,12 @@ pub record Paid (p : List Instr) (s : CoreState) (n : ℕ) (f : Effect) : Type 0
   pub within : s.place ≤ length p → f.after.place ≤ length p
 
 -- one that stalls
-pub record Waits (what : Access) (s : CoreState) (f : Effect) : Type 0 where
+pub record Waits (what : MemoryAccess) (s : CoreState) (f : Effect) : Type 0 where
   pub none : what ≡ NoAccess
   pub why : Stall
   pub is : f ≡ stalled why s
 
-abbrev pub Pays : List Instr → CoreState → Access → Effect → Type 0
+abbrev pub Pays : List Instr → CoreState → MemoryAccess → Effect → Type 0
 Pays p s what f = Paid p s (price what) f ⊎ Waits what s f
 
 paid : (p : List Instr) (s : CoreState) (n : ℕ) (x : Instr) (f : Effect) → slice_get p s.place ≡ Some x → stall_count f.outcome ≡ 0 → f.after.place ≡ s.place + 1
@@ -66,7 +66,7 @@ paid p s n x f e o m w = record {
   within = λ h. rw m (let l = slice_get_within p s.place x e in omega arith);
 }
 
-by-form : (c d : ℕ) (p : List Instr) (memory : List ℕ) (s : CoreState) (x : Instr) (what : Access) (f : Effect) → slice_get p s.place ≡ Some x → StepForm c memory (Some x) what s f → Pays p s what f
+by-form : (c d : ℕ) (p : List Instr) (memory : List ℕ) (s : CoreState) (x : Instr) (what : MemoryAccess) (f : Effect) → slice_get p s.place ≡ Some x → StepForm c memory (Some x) what s f → Pays p s what f
 by-form c d p memory s x what f e (stalls w) = inr (record { none = w.none; why = w.why; is = w.is })
 by-form c d p memory s x what f e (buffers w) = inl (rw (w.none, w.is) (paid p s 1 x (put s w.store) e refl refl (let m = length-append s.pending (w.store ∷ []) in omega arith)))
 by-form c d p memory s x what f e (makes w) = inl (paid p s (price what) x f e w.took w.place (let m = ap length w.pending in let q = price-most what in omega arith))
@@ -93,7 +93,7 @@ access-pays t d state a n = elim (choice-pays t d state a) [ inl w ↦ w | inr w
 pub step-takes : (c d : ℕ) (memory : List ℕ) (x : Instr) (s : CoreState) → s.pending ≡ [] → stall_count (step_of d memory c (Some x) s).outcome ≡ 0
 step-takes c d memory x s q = go _ _ (step-form d c memory (Some x) s)
   where
-    go : (what : Access) (f : Effect) → StepForm c memory (Some x) what s f → stall_count f.outcome ≡ 0
+    go : (what : MemoryAccess) (f : Effect) → StepForm c memory (Some x) what s f → stall_count f.outcome ≡ 0
     go what f (stalls w) = absurd (elim w.cause [ inl n ↦ (let z : ⊥ = cc in z) | inr n ↦ n q ])
     go what f (buffers w) = ap (λ z. stall_count z.outcome) w.is
     go what f (makes w) = w.took

@@ -3,7 +3,7 @@ use Rattle.std.proofs.Common.{◌≡◌, ◌≢◌, ℕ, List, [], ◌∷◌, �
 use Rattle.tso_model.specs.ProgramOrder.{same_kind}
 use Rattle.tso_model.specs.ProgramEntries.{is_at}
 use Rattle.tso_model.specs.ProgramOrder.{IsStorePart}
-use Rattle.tso_model.specs.Access.{Access}
+use Rattle.tso_model.specs.MemoryAccess.{MemoryAccess}
 use Rattle.tso_model.specs.SplitMachine.{Holder, Free, HeldBy, HeldBetween}
 use Rattle.tso_model.specs.Together.{put_before, put_together}
 use Rattle.tso_model.specs.declared.execution.Entry.{Entry}
@@ -28,16 +28,16 @@ not-at core place e h = rw h (go (e.core.0 == core) (e.place == place))
     go false true = refl
     go false false = refl
 
-together-plain : (core : ℕ) (what : Access) (xs ys : List Entry) → Each (IsPlain core what) xs → put_together (xs ++ ys) ≡ xs ++ put_together ys
+together-plain : (core : ℕ) (what : MemoryAccess) (xs ys : List Entry) → Each (IsPlain core what) xs → put_together (xs ++ ys) ≡ xs ++ put_together ys
 together-plain core what [] ys h = refl
 together-plain core what (x ∷ xs) ys h = rw h.0.no_load_part (ap (λ z. x ∷ z) (together-plain core what xs ys h.1))
 
-before-plain : (core : ℕ) (what : Access) (e : Entry) (xs ys : List Entry) → Each (IsPlain core what) xs → put_before e (xs ++ ys) ≡ xs ++ put_before e ys
+before-plain : (core : ℕ) (what : MemoryAccess) (e : Entry) (xs ys : List Entry) → Each (IsPlain core what) xs → put_before e (xs ++ ys) ≡ xs ++ put_before e ys
 before-plain core what e [] ys h = refl
 before-plain core what e (x ∷ xs) ys h = rw (not-at e.core.0 e.place x h.0.no_store_part) (ap (λ z. x ∷ z) (before-plain core what e xs ys h.1))
 
 -- entries that are no part of a locked instruction stay where they are
-pub moved-plain : (core : ℕ) (what : Access) (holder : Holder) (xs ys : List Entry) → Each (IsPlain core what) xs → moved holder (put_together (xs ++ ys)) ≡ xs ++ moved holder (put_together ys)
+pub moved-plain : (core : ℕ) (what : MemoryAccess) (holder : Holder) (xs ys : List Entry) → Each (IsPlain core what) xs → moved holder (put_together (xs ++ ys)) ≡ xs ++ moved holder (put_together ys)
 moved-plain core what Free xs ys h = together-plain core what xs ys h
 moved-plain core what (HeldBy choice) xs ys h = together-plain core what xs ys h
 moved-plain core what (HeldBetween e) xs ys h = ap (λ z. put_before e z) (together-plain core what xs ys h) ∙ before-plain core what e xs (put_together ys) h
@@ -74,11 +74,11 @@ kind-not e h q = let z : same_kind e.kind LR ≡ true = rw q refl in cc
 kind-not-store : (e : Entry) → same_kind e.kind LW ≡ false → e.kind ≢ LW
 kind-not-store e h q = let z : same_kind e.kind LW ≡ true = rw q refl in cc
 
-paired-plain : (core : ℕ) (what : Access) (xs ys : List Entry) (end : Holder) → Each (IsPlain core what) xs → ArePaired ys end → ArePaired (xs ++ ys) end
+paired-plain : (core : ℕ) (what : MemoryAccess) (xs ys : List Entry) (end : Holder) → Each (IsPlain core what) xs → ArePaired ys end → ArePaired (xs ++ ys) end
 paired-plain core what [] ys end h p = p
 paired-plain core what (x ∷ xs) ys end h p = (λ q. absurd (kind-not x h.0.no_load_part q), paired-plain core what xs ys end h.1 p)
 
-answered-plain : (core : ℕ) (what : Access) (e : Entry) (xs ys : List Entry) (end : Holder) → core ≢ e.core.0 → Each (IsPlain core what) xs → IsAnswered e ys end → IsAnswered e (xs ++ ys) end
+answered-plain : (core : ℕ) (what : MemoryAccess) (e : Entry) (xs ys : List Entry) (end : Holder) → core ≢ e.core.0 → Each (IsPlain core what) xs → IsAnswered e ys end → IsAnswered e (xs ++ ys) end
 answered-plain core what e [] ys end n h a = a
 answered-plain core what e (x ∷ xs) ys end n h a = inr (
   record { core = λ q. n (sym h.0.mine ∙ q); no_load_part = kind-not x h.0.no_load_part; no_store_part = kind-not-store x h.0.no_store_part },
@@ -86,7 +86,7 @@ answered-plain core what e (x ∷ xs) ys end n h a = inr (
 )
 
 -- entries that are no part of a locked instruction, and come of its core only where there are none
-pub plain-on : (core : ℕ) (what : Access) (holder : Holder) (xs : List Entry) → Each (IsPlain core what) xs → ((e : Entry) → holder ≡ HeldBetween e → core ≡ e.core.0 → xs ≡ [])
+pub plain-on : (core : ℕ) (what : MemoryAccess) (holder : Holder) (xs : List Entry) → Each (IsPlain core what) xs → ((e : Entry) → holder ≡ HeldBetween e → core ≡ e.core.0 → xs ≡ [])
     → GoesOn holder holder xs
 plain-on core what holder xs h none ys end b = record {
   answered = λ e q. elim (decide core e.core.0) [

@@ -8,7 +8,7 @@ use Rattle.tso_model.specs.Thread.{entry, value_in, value_of, updated}
 use Rattle.tso_model.specs.ProgramOrder.{same_kind, is_write, writes_to}
 use Rattle.tso_model.specs.FlatMachine.{CoreState, State, Effect, stalled, stored, effect_by, step_of, core_of, chosen, effect_of}
 use Rattle.tso_model.specs.Runs.{stall_count}
-use Rattle.tso_model.specs.Access.{Access, NoAccess, Writes, Locks, store_access, load_access, locked_access, access_by, step_access, drain_access, next_of, access_of}
+use Rattle.tso_model.specs.MemoryAccess.{MemoryAccess, NoAccess, Writes, Locks, store_access, load_access, locked_access, access_by, step_access, drain_access, next_of, access_of}
 use Rattle.tso_model.specs.declared.register.Reg.{Reg}
 use Rattle.tso_model.specs.declared.instruction.Loc.{Loc}
 use Rattle.tso_model.specs.declared.instruction.Instr.{Instr}
@@ -31,14 +31,14 @@ pub record IsStore (core : ℕ) (e : Entry) : Type 0 where
 
 -- what a choice that isn't a locked instruction's commits: an entry of its core that is no part of one, and that writes
 -- only where the access does
-pub record IsPlain (core : ℕ) (what : Access) (e : Entry) : Type 0 where
+pub record IsPlain (core : ℕ) (what : MemoryAccess) (e : Entry) : Type 0 where
   pub mine : e.core.0 ≡ core
   pub no_load_part : same_kind e.kind LR ≡ false
   pub no_store_part : same_kind e.kind LW ≡ false
   pub place : is_write e ≡ true → what ≡ Writes e.loc
 
 -- the step stalls, at the program's end or while stores are pending
-pub record Stalls (i : Option Instr) (what : Access) (s : CoreState) (f : Effect) : Type 0 where
+pub record Stalls (i : Option Instr) (what : MemoryAccess) (s : CoreState) (f : Effect) : Type 0 where
   pub none : what ≡ NoAccess
   pub why : Stall
   pub is : f ≡ stalled why s
@@ -48,14 +48,14 @@ abbrev pub put : CoreState → Entry → Effect
 put s e = record { outcome = Buffered; after = record { place = s.place + 1; registers = s.registers; pending = s.pending ++ e ∷ [] }; commits = [] }
 
 -- a plain store becomes pending
-pub record Buffers (core : ℕ) (what : Access) (s : CoreState) (f : Effect) : Type 0 where
+pub record Buffers (core : ℕ) (what : MemoryAccess) (s : CoreState) (f : Effect) : Type 0 where
   pub none : what ≡ NoAccess
   pub store : Entry
   pub is_store : IsStore core store
   pub is : f ≡ put s store
 
 -- the instruction is made, which is no locked one; nothing becomes pending
-pub record Makes (core : ℕ) (what : Access) (s : CoreState) (f : Effect) : Type 0 where
+pub record Makes (core : ℕ) (what : MemoryAccess) (s : CoreState) (f : Effect) : Type 0 where
   pub no_lock : (l : Loc) → what ≢ Locks l
   pub took : stall_count f.outcome ≡ 0
   pub place : f.after.place ≡ s.place + 1
@@ -71,7 +71,7 @@ pub record Pairs (core : ℕ) (memory : List ℕ) (loc : Loc) (s : CoreState) (f
   pub value : ℕ
   pub commits : f.commits ≡ entry core s.place LR loc (slice_index memory loc.0) ∷ (entry core s.place LW loc value ∷ [])
 
-pub data StepForm (core : ℕ) (memory : List ℕ) (i : Option Instr) (what : Access) (s : CoreState) (f : Effect) : Type 0 where
+pub data StepForm (core : ℕ) (memory : List ℕ) (i : Option Instr) (what : MemoryAccess) (s : CoreState) (f : Effect) : Type 0 where
   stalls : Stalls i what s f → StepForm core memory i what s f
   buffers : Buffers core what s f → StepForm core memory i what s f
   makes : Makes core what s f → StepForm core memory i what s f
@@ -159,7 +159,7 @@ pub choice-plain : (t : Litmus) (depth : ℕ) (state : State) (a : Choice) → E
     → Each (IsPlain (chosen a) (access_of t depth state a)) (effect_of t depth state a).commits
 choice-plain t depth state (Step c) h n = by_form (step-form depth c.0 state.memory (next_of t state c.0) (core_of state c.0))
   where
-    what : Access
+    what : MemoryAccess
     what = access_of t depth state (Step c)
 
     f : Effect

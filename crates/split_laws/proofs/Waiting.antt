@@ -5,7 +5,7 @@ use Rattle.tso_model.specs.Litmus.{Litmus}
 use Rattle.tso_model.specs.ProgramOrder.{is_write, writes_to}
 use Rattle.tso_model.specs.FlatMachine.{CoreState, State, Effect, program_of, step_of, drain_of, effect_of, chosen, core_of, applied, start}
 use Rattle.tso_model.specs.Actions.{action_of}
-use Rattle.tso_model.specs.Access.{Access, NoAccess, Writes, Locks, load_access, access_by, step_access, drain_access, next_of, access_of}
+use Rattle.tso_model.specs.MemoryAccess.{MemoryAccess, NoAccess, Writes, Locks, load_access, access_by, step_access, drain_access, next_of, access_of}
 use Rattle.tso_model.specs.SplitMachine.{same_choice, load_part}
 use Rattle.tso_model.specs.declared.instruction.Loc.{Loc}
 use Rattle.tso_model.specs.declared.instruction.Instr.{Instr}
@@ -24,7 +24,7 @@ use Rattle.split_laws.proofs.Steps.{IsStore, IsPlain, StepForm, stalls, buffers,
 abbrev pub AllStores : State → Type 0
 AllStores state = (k : ℕ) → Each (IsStore k) (core_of state k).pending
 
-step-stores : (core : ℕ) (memory : List ℕ) (i : Option Instr) (what : Access) (s : CoreState) (f : Effect) → StepForm core memory i what s f → Each (IsStore core) s.pending → Each (IsStore core) f.after.pending
+step-stores : (core : ℕ) (memory : List ℕ) (i : Option Instr) (what : MemoryAccess) (s : CoreState) (f : Effect) → StepForm core memory i what s f → Each (IsStore core) s.pending → Each (IsStore core) f.after.pending
 step-stores core memory i what s f (stalls w) h = subst (λ z. Each (IsStore core) z.after.pending) (sym w.is) h
 step-stores core memory i what s f (buffers w) h = subst (λ z. Each (IsStore core) z.after.pending) (sym w.is) (each-append (IsStore core) s.pending (w.store ∷ []) h (w.is_store, tt))
 step-stores core memory i what s f (makes w) h = subst (λ z. Each (IsStore core) z) (sym w.pending) h
@@ -71,7 +71,7 @@ step-drained depth (Some x) y ys n = by_action (action_of x) n
     by_action (Lock loc reg update) n = absurd (n refl)
 
 -- the access of a core's step
-abbrev step_in : Litmus → ℕ → ℕ → CoreState → Access
+abbrev step_in : Litmus → ℕ → ℕ → CoreState → MemoryAccess
 step_in t depth core s = step_access depth (slice_get (program_of t core) s.place) s.pending
 
 after-drain : (t : Litmus) (depth core : ℕ) (s : CoreState) (q : List Entry) → s.pending ≡ q → step_in t depth core s ≢ NoAccess → step_in t depth core (drain_with s q).after ≡ step_in t depth core s
@@ -85,7 +85,7 @@ drain-longer : (q : List Entry) (e : Entry) → drain_access q ≢ NoAccess → 
 drain-longer [] e n = absurd (n refl)
 drain-longer (p ∷ ps) e n = refl
 
-after-step : (core : ℕ) (memory : List ℕ) (i : Option Instr) (what : Access) (s : CoreState) (f : Effect) → StepForm core memory i what s f → drain_access s.pending ≢ NoAccess
+after-step : (core : ℕ) (memory : List ℕ) (i : Option Instr) (what : MemoryAccess) (s : CoreState) (f : Effect) → StepForm core memory i what s f → drain_access s.pending ≢ NoAccess
     → drain_access f.after.pending ≡ drain_access s.pending
 after-step core memory i what s f (stalls w) n = ap (λ z. drain_access z.after.pending) w.is
 after-step core memory i what s f (buffers w) n = ap (λ z. drain_access z.after.pending) w.is ∙ drain-longer s.pending w.store n

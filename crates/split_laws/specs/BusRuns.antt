@@ -8,7 +8,7 @@ use Rattle.tso_model.specs.Runs.{run, CoresExist}
 use Rattle.tso_model.specs.SplitMachine.{Holder, Free, HeldBy, HeldBetween, Attempt}
 use Rattle.tso_model.specs.EitherBus.{BusState, BusRun, unheld, run_on, effect_on, after_on, choices_in}
 use Rattle.tso_model.specs.Together.{put_together}
-use Rattle.tso_model.specs.declared.bus.Bus.{Bus}
+use Rattle.tso_model.specs.declared.choice.Bus.{Bus}
 use Rattle.tso_model.specs.declared.execution.Entry.{Entry}
 use Rattle.tso_model.specs.declared.execution.Kind.TheVariants.{LR}
 use Rattle.tso_model.specs.declared.choice.Choice.{Choice}

@@ -15,7 +15,7 @@ pub use Rattle.tso_model.specs.SequentialConsistency
 pub use Rattle.tso_model.specs.FlatMachine
 pub use Rattle.tso_model.specs.Runs
 pub use Rattle.tso_model.specs.Examples
-pub use Rattle.tso_model.specs.Access
+pub use Rattle.tso_model.specs.MemoryAccess
 pub use Rattle.tso_model.specs.SplitMachine
 pub use Rattle.tso_model.specs.EitherBus
 pub use Rattle.tso_model.specs.Together

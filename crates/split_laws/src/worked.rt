@@ -10,7 +10,7 @@ ghost use Rattle.tso_model.specs.FlatMachine.{start, drain, registers_in};
 ghost use Rattle.tso_model.specs.EitherBus.{unheld, effect_on, run_on, choices_in, HitsFit};
 ghost use Rattle.tso_model.specs.Together.{put_together, together};
 ghost use Rattle.tso_model.specs.Examples.{loc_x, zeros, sb, sb_order, n6};
-ghost use Rattle.tso_model.specs.declared.bus.Bus.TheVariants.{Split};
+ghost use Rattle.tso_model.specs.declared.choice.Bus.TheVariants.{Split};
 ghost use Rattle.tso_model.specs.declared.execution.Kind.TheVariants.{R, W};
 ghost use Rattle.tso_model.specs.declared.choice.Stall.TheVariants as stall;
 ghost use Rattle.tso_model.specs.declared.choice.Outcome.TheVariants.{Stalled};

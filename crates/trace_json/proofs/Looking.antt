@@ -4,7 +4,7 @@ use Rattle.std.specs.Option.{unwrap_or}
 use Rattle.tso_model.specs.FlatMachine.{CoreState, idle, core_of}
 use Rattle.snoop_bus.specs.declared.looking.CachedLine.{CachedLine}
 use Rattle.machine_core.specs.Running.{Running}
-use Rattle.machine_core.specs.inner.Looked.{core_at, cached_line}
+use Rattle.machine_core.specs.inner.Looking.{core_at, cached_line}
 use Rattle.tso_report.specs.Json.{registers_value}
 use Rattle.trace_json.specs.MachineJson.{copies_in}
 

@@ -20,7 +20,7 @@ use Rattle.protocol_tables.specs.declared.kind.ProtocolKind.{ProtocolKind}
 use Rattle.snoop_bus.specs.declared.looking.CachedLine.{CachedLine}
 use Rattle.machine_core.specs.Configuration.{Configuration}
 use Rattle.machine_core.specs.Running.{Running, new_machine, machine_after}
-use Rattle.machine_core.specs.Looked.{bus_holder_of}
+use Rattle.machine_core.specs.Looking.{bus_holder_of}
 use Rattle.machine_core.specs.declared.looking.BusHolder.{BusHolder}
 use Rattle.tso_report.specs.Json.{count, memory_members, memory_value, order_value}
 use Rattle.trace_report.specs.Shown.{Shown}

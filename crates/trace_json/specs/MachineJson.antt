@@ -6,14 +6,14 @@ use Rattle.serde_json.specs.Data.{Data, null, string, array, object, no_members,
 use Rattle.serde_json.specs.View.{items_of}
 use Rattle.tso_model.specs.Litmus.{Litmus}
 use Rattle.tso_model.specs.FlatMachine.{core_of, chosen}
-use Rattle.protocol_tables.specs.declared.asking.Transient.{Transient}
+use Rattle.protocol_tables.specs.declared.requests.Transient.{Transient}
 use Rattle.scheduler.specs.Printed.{printed_choice}
 use Rattle.snoop_bus.specs.Tags.{tag_set}
 use Rattle.snoop_bus.specs.CacheContents.{sets_of}
 use Rattle.snoop_bus.specs.declared.looking.CachedLine.{CachedLine}
 use Rattle.snoop_bus.specs.Accesses.{with_words}
 use Rattle.machine_core.specs.Running.{Running}
-use Rattle.machine_core.specs.Looked.{bus_holder_of}
+use Rattle.machine_core.specs.Looking.{bus_holder_of}
 use Rattle.machine_core.specs.declared.looking.BusHolder.{BusHolder}
 use Rattle.tso_report.specs.Json.{count, memory_value, registers_value}
 use Rattle.trace_report.specs.Lines.{names_in_line, line_name, store_text, state_name, transient_name}

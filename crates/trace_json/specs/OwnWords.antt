@@ -2,7 +2,7 @@
 -- or a write access to it is awaited; then it has the words that it had before. (Primer, chapters 6 and 7.)
 use Rattle.std.specs.Prelude.{ℕ, zero, suc, ◌+◌, ◌/◌, ◌||◌, Bool, true, false, if◌then◌else◌, List, [], ◌∷◌, length}
 use Rattle.protocol_tables.specs.Laws.{is_dirty}
-use Rattle.protocol_tables.specs.declared.asking.Transient.TheVariants.{IsD, ImD, SmD}
+use Rattle.protocol_tables.specs.declared.requests.Transient.TheVariants.{IsD, ImD, SmD}
 use Rattle.machine_core.specs.Running.{Running}
 use Rattle.trace_report.specs.Steps.{line_state}
 use Rattle.trace_report.specs.declared.step.LineState.{LineState}

@@ -4,7 +4,7 @@
 ghost use Rattle.std.specs.Prelude.{◌≡◌, ◌<◌, ◌≤◌, IfOk, length, map};
 ghost use Rattle.serde_json.specs.Data.{array};
 ghost use Rattle.serde_json.specs.View.{view, items_of};
-ghost use Rattle.machine_core.specs.Looked.{bus_holder_of};
+ghost use Rattle.machine_core.specs.Looking.{bus_holder_of};
 ghost use Rattle.trace_report.specs.Lines.{names_in_line};
 ghost use Rattle.trace_report.specs.inner.Told.{IsLookedAt};
 ghost use Rattle.trace_json.specs.MachineJson.{copy_json, copies_in, set_json, sets_json};

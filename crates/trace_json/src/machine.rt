@@ -2,7 +2,7 @@
 
 ghost use Rattle.std.specs.Prelude.{◌≡◌, ◌<◌, IfOk, length};
 ghost use Rattle.serde_json.specs.View.{view};
-ghost use Rattle.machine_core.specs.Looked.{bus_holder_of};
+ghost use Rattle.machine_core.specs.Looking.{bus_holder_of};
 ghost use Rattle.trace_report.specs.inner.Told.{IsLookedAt};
 ghost use Rattle.trace_json.specs.MachineJson.{words_in_line, kept_words, holder_json, bus_json, machine_json};
 ghost use Rattle.trace_json.specs.inner.Looked.{IsShown};

@@ -2,7 +2,7 @@
 //! these are followed from step to step. (Primer, chapters 6 and 7.)
 
 ghost use Rattle.std.specs.Prelude.{◌≡◌, ◌<◌, if◌then◌else◌, IfOk, length};
-ghost use Rattle.machine_core.specs.Looked.{bus_holder_of};
+ghost use Rattle.machine_core.specs.Looking.{bus_holder_of};
 ghost use Rattle.trace_report.specs.inner.Told.{IsLookedAt};
 ghost use Rattle.trace_json.specs.OwnWords.{is_newer, is_newer_in, own_words};
 

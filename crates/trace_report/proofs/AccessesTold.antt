@@ -12,8 +12,8 @@ use Rattle.snoop_bus.specs.declared.access.AccessKind.TheVariants.{Hit, Upgrade,
 use Rattle.machine_core.specs.Running.{Running, use_by, machine_after}
 use Rattle.machine_core.specs.Statistics.{Statistics, no_counts, with_access, with_forward, with_write_back, with_flush, at_core, flush_counted, counted, statistics_from}
 use Rattle.machine_core.specs.declared.counts.Counts.{Counts}
-use Rattle.machine_core.specs.declared.cache_use.CacheUse.{CacheUse}
-use Rattle.machine_core.specs.declared.cache_use.CacheUse.TheVariants.{Unused, Forwarded, Through}
+use Rattle.machine_core.specs.declared.accesses.CacheUse.{CacheUse}
+use Rattle.machine_core.specs.declared.accesses.CacheUse.TheVariants.{Unused, Forwarded, Through}
 use Rattle.machine_core.proofs.CountBounds.{length-counted}
 use Rattle.trace_report.specs.Shown.{Shown}
 use Rattle.trace_report.specs.Steps.{is_forwarded, access_in, step_of, steps_from}

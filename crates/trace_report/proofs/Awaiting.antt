@@ -5,18 +5,18 @@ use Rattle.std.proofs.lemmas.Bool.Decides.{eqb_tells}
 use Rattle.std.proofs.lemmas.List.{get_or_past}
 use Rattle.std.proofs.Math.ListN.{length-set}
 use Rattle.basic_laws.proofs.Basics.{decide, lt-or}
-use Rattle.tso_model.specs.Access.{Access, NoAccess, Reads, Writes, Locks}
+use Rattle.tso_model.specs.MemoryAccess.{MemoryAccess, NoAccess, Reads, Writes, Locks}
 use Rattle.tso_model.specs.SplitMachine.{Holder, Free, HeldBy, HeldBetween, needs_bus}
 use Rattle.tso_model.specs.FlatMachine.{chosen}
 use Rattle.tso_model.specs.declared.choice.Choice.{Choice}
 use Rattle.protocol_tables.specs.Tables.{Table}
-use Rattle.protocol_tables.specs.Asking.{transient_of}
+use Rattle.protocol_tables.specs.Transients.{transient_of}
 use Rattle.protocol_tables.specs.declared.state.State.{State}
 use Rattle.protocol_tables.specs.declared.state.State.TheVariants.{I, S, E, O, M}
-use Rattle.protocol_tables.specs.declared.asking.Request.{Request}
-use Rattle.protocol_tables.specs.declared.asking.Request.TheVariants.{GetS, GetM}
-use Rattle.protocol_tables.specs.declared.asking.Transient.{Transient}
-use Rattle.protocol_tables.specs.declared.asking.Transient.TheVariants.{IsD, ImD, SmD}
+use Rattle.protocol_tables.specs.declared.requests.Request.{Request}
+use Rattle.protocol_tables.specs.declared.requests.Request.TheVariants.{GetS, GetM}
+use Rattle.protocol_tables.specs.declared.requests.Transient.{Transient}
+use Rattle.protocol_tables.specs.declared.requests.Transient.TheVariants.{IsD, ImD, SmD}
 use Rattle.snoop_bus.specs.Geometry.{Geometry}
 use Rattle.snoop_bus.specs.Rows.{table_of_rows}
 use Rattle.snoop_bus.specs.Tags.{TagSet, tag_of, used}
@@ -24,7 +24,7 @@ use Rattle.snoop_bus.specs.CacheContents.{TagSets, tags_at, tag_in, at_line, set
 use Rattle.snoop_bus.specs.Requests.{asked}
 use Rattle.snoop_bus.specs.Asks.{Awaited, tag_at, hit_in, or_invalid, awaiting, asking, asked_caches_in, completed, completed_in}
 use Rattle.machine_core.specs.Caches.{Caches, Used, not_through, load_by, write_by, hits_by, is_awaited, asking_by, completing_by}
-use Rattle.machine_core.specs.declared.cache_use.CacheUse.TheVariants.{Unused}
+use Rattle.machine_core.specs.declared.accesses.CacheUse.TheVariants.{Unused}
 use Rattle.bus_laws.specs.Uses.{IsUseFor}
 use Rattle.trace_report.specs.TraceLaws.{KeepsNoCopyInI}
 use Rattle.trace_report.proofs.Victims.{no_set, absent-remove, AllNeat, found-valid, all-requested, all-used, all-filled, own-kept}
@@ -43,14 +43,14 @@ MayComplete None core line caches = Unit {0}
 MayComplete (Some x) core line caches = MayFill x core line caches
 
 -- for the line of this access
-abbrev pub MayMake : Caches → ℕ → Access → Type 0
+abbrev pub MayMake : Caches → ℕ → MemoryAccess → Type 0
 MayMake c core NoAccess = Unit {0}
 MayMake c core (Reads loc) = MayComplete c.awaited core (loc.0 / c.shape.words) c.contents
 MayMake c core (Writes loc) = MayComplete c.awaited core (loc.0 / c.shape.words) c.contents
 MayMake c core (Locks loc) = MayComplete c.awaited core (loc.0 / c.shape.words) c.contents
 
 -- for the access of the action that holds the bus
-abbrev pub HolderMayMake : (Choice → Access) → Holder → Caches → Type 0
+abbrev pub HolderMayMake : (Choice → MemoryAccess) → Holder → Caches → Type 0
 HolderMayMake access Free c = Unit {0}
 HolderMayMake access (HeldBy choice) c = MayMake c (chosen choice) (access choice)
 HolderMayMake access (HeldBetween e) c = Unit {0}
@@ -82,19 +82,19 @@ asked-neat : (lines : ℕ) (t : Table) (request : Request) (core line : ℕ) (o 
 asked-neat lines t request core line None caches h = h
 asked-neat lines t request core line (Some x) caches h = all-requested lines (asked t request) core line caches h
 
-asks-may : (lines : ℕ) (c : Caches) (core : ℕ) (what : Access) → KeepsNoCopyInI (table_of_rows c.rows) → AllNeat lines c.contents → MayMake (asking_by c core what).caches core what
+asks-may : (lines : ℕ) (c : Caches) (core : ℕ) (what : MemoryAccess) → KeepsNoCopyInI (table_of_rows c.rows) → AllNeat lines c.contents → MayMake (asking_by c core what).caches core what
 asks-may lines c core NoAccess keeps h = tt
 asks-may lines c core (Reads loc) keeps h = asking-may lines (table_of_rows c.rows) GetS core (loc.0 / c.shape.words) c.contents keeps h
 asks-may lines c core (Writes loc) keeps h = asking-may lines (table_of_rows c.rows) GetM core (loc.0 / c.shape.words) c.contents keeps h
 asks-may lines c core (Locks loc) keeps h = asking-may lines (table_of_rows c.rows) GetM core (loc.0 / c.shape.words) c.contents keeps h
 
-asks-neat : (lines : ℕ) (c : Caches) (core : ℕ) (what : Access) → AllNeat lines c.contents → NeatAfter lines (asking_by c core what)
+asks-neat : (lines : ℕ) (c : Caches) (core : ℕ) (what : MemoryAccess) → AllNeat lines c.contents → NeatAfter lines (asking_by c core what)
 asks-neat lines c core NoAccess h = h
 asks-neat lines c core (Reads loc) h = asked-neat lines (table_of_rows c.rows) GetS core (loc.0 / c.shape.words) _ c.contents h
 asks-neat lines c core (Writes loc) h = asked-neat lines (table_of_rows c.rows) GetM core (loc.0 / c.shape.words) _ c.contents h
 asks-neat lines c core (Locks loc) h = asked-neat lines (table_of_rows c.rows) GetM core (loc.0 / c.shape.words) _ c.contents h
 
-asks-quiet : (c : Caches) (core : ℕ) (what : Access) → wrote_in (asking_by c core what).how ≡ false
+asks-quiet : (c : Caches) (core : ℕ) (what : MemoryAccess) → wrote_in (asking_by c core what).how ≡ false
 asks-quiet c core NoAccess = refl
 asks-quiet c core (Reads loc) = refl
 asks-quiet c core (Writes loc) = refl
@@ -123,20 +123,20 @@ completed-gone lines t core line (Some x) caches l may h dirty = by_transient x.
     by_transient ImD absent dirty = filled-gone lines core line x.state t caches _ l h (absent (λ q. let z : ⊥ = cc in z)) refl dirty
     by_transient SmD absent dirty = absurd (let z : ⊥ = cc in z)
 
-completes-neat : (lines : ℕ) (c : Caches) (core : ℕ) (what : Access) → IsWithin lines c.shape.words what → MayMake c core what → AllNeat lines c.contents → NeatAfter lines (completing_by c core what)
+completes-neat : (lines : ℕ) (c : Caches) (core : ℕ) (what : MemoryAccess) → IsWithin lines c.shape.words what → MayMake c core what → AllNeat lines c.contents → NeatAfter lines (completing_by c core what)
 completes-neat lines c core NoAccess l may h = h
 completes-neat lines c core (Reads loc) l may h = completed-neat lines (table_of_rows c.rows) core (loc.0 / c.shape.words) c.awaited c.contents l may h
 completes-neat lines c core (Writes loc) l may h = completed-neat lines (table_of_rows c.rows) core (loc.0 / c.shape.words) c.awaited c.contents l may h
 completes-neat lines c core (Locks loc) l may h = completed-neat lines (table_of_rows c.rows) core (loc.0 / c.shape.words) c.awaited c.contents l may h
 
-completes-gone : (lines : ℕ) (c : Caches) (core : ℕ) (what : Access) → core < length c.contents → MayMake c core what → AllNeat lines c.contents → GoneBy lines c core (completing_by c core what)
+completes-gone : (lines : ℕ) (c : Caches) (core : ℕ) (what : MemoryAccess) → core < length c.contents → MayMake c core what → AllNeat lines c.contents → GoneBy lines c core (completing_by c core what)
 completes-gone lines c core NoAccess l may h = λ dirty. absurd (let z : ⊥ = cc in z)
 completes-gone lines c core (Reads loc) l may h = completed-gone lines (table_of_rows c.rows) core (loc.0 / c.shape.words) c.awaited c.contents l may h
 completes-gone lines c core (Writes loc) l may h = completed-gone lines (table_of_rows c.rows) core (loc.0 / c.shape.words) c.awaited c.contents l may h
 completes-gone lines c core (Locks loc) l may h = completed-gone lines (table_of_rows c.rows) core (loc.0 / c.shape.words) c.awaited c.contents l may h
 
 -- where a line is written back nothing is awaited afterwards
-completes-rest : (c : Caches) (core : ℕ) (what : Access) → wrote_in (completing_by c core what).how ≡ true → (completing_by c core what).caches.awaited ≡ None
+completes-rest : (c : Caches) (core : ℕ) (what : MemoryAccess) → wrote_in (completing_by c core what).how ≡ true → (completing_by c core what).caches.awaited ≡ None
 completes-rest c core NoAccess dirty = absurd (let z : ⊥ = cc in z)
 completes-rest c core (Reads loc) dirty = refl
 completes-rest c core (Writes loc) dirty = refl
@@ -238,7 +238,7 @@ write-still c core loc hit = by_tag (tag_at core line c.contents) refl hit
     by_tag (Some state) q hit = in_place state (t.written state) q refl hit
 
 -- an access that needs no bus
-use-still : (c : Caches) (core : ℕ) (what : Access) (u : Used) → IsUseFor c core what u → needs_bus what (hits_by c core what) ≡ false → IsStill c u
+use-still : (c : Caches) (core : ℕ) (what : MemoryAccess) (u : Used) → IsUseFor c core what u → needs_bus what (hits_by c core what) ≡ false → IsStill c u
 use-still c core NoAccess u (inl is) free = subst (IsStill c) (sym is) (none-still c)
 use-still c core NoAccess u (inr is) free = subst (IsStill c) (sym is) (record { shape = refl; awaited = refl; absent = λ k line none. none; clean = refl })
 use-still c core (Reads loc) u is free = subst (IsStill c) (sym is) (load-still c core loc.0 (not-hit (hits_by c core (Reads loc)) free))
@@ -254,7 +254,7 @@ still-complete c u k loc s may =
     kept None may = tt
     kept (Some x) may = record { valid = may.valid; absent = λ n. s.absent k (loc / c.shape.words) (may.absent n) }
 
-still-may : (c : Caches) (u : Used) (k : ℕ) (what : Access) → IsStill c u → MayMake c k what → MayMake u.caches k what
+still-may : (c : Caches) (u : Used) (k : ℕ) (what : MemoryAccess) → IsStill c u → MayMake c k what → MayMake u.caches k what
 still-may c u k NoAccess s may = tt
 still-may c u k (Reads loc) s may = still-complete c u k loc.0 s may
 still-may c u k (Writes loc) s may = still-complete c u k loc.0 s may
@@ -262,13 +262,13 @@ still-may c u k (Locks loc) s may = still-complete c u k loc.0 s may
 
 -- ---- a choice on either bus
 
-half-rows : (c : Caches) (core : ℕ) (what : Access) → ((asking_by c core what).caches.rows ≡ c.rows) × ((completing_by c core what).caches.rows ≡ c.rows)
+half-rows : (c : Caches) (core : ℕ) (what : MemoryAccess) → ((asking_by c core what).caches.rows ≡ c.rows) × ((completing_by c core what).caches.rows ≡ c.rows)
 half-rows c core NoAccess = (refl, refl)
 half-rows c core (Reads loc) = (refl, refl)
 half-rows c core (Writes loc) = (refl, refl)
 half-rows c core (Locks loc) = (refl, refl)
 
-module _ (c : Caches) (a : Choice) (before after : Choice → Access) (holder next : Holder) (u : Used) where
+module _ (c : Caches) (a : Choice) (before after : Choice → MemoryAccess) (holder next : Holder) (u : Used) where
   pub rows-after : UsesOn c a before after holder next u → u.caches.rows ≡ c.rows
   rows-after (made it why stays) = use-rows c (chosen a) (before a) u it
   rows-after (unused is stays) = ap (λ (x : Used). x.caches.rows) is

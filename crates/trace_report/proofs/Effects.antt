@@ -3,11 +3,11 @@ use Rattle.std.proofs.Common.{◌≡◌, ◌∙◌, ℕ, zero, suc, ◌+◌, Boo
 use Rattle.tso_model.specs.Litmus.{Litmus}
 use Rattle.tso_model.specs.Actions.{action_of}
 use Rattle.tso_model.specs.FlatMachine.{CoreState, State, Effect, is_none_pending, stalled, stored, effect_by, step_of, effect_of, core_of, chosen}
-use Rattle.tso_model.specs.Access.{Access, NoAccess, Reads, Writes, Locks, access_of, next_of}
+use Rattle.tso_model.specs.MemoryAccess.{MemoryAccess, NoAccess, Reads, Writes, Locks, access_of, next_of}
 use Rattle.tso_model.specs.SplitMachine.{Holder, Free, HeldBy, HeldBetween, Attempt, same_choice, needs_bus, acts, asks, begins, completes, as_read, after_first, writes_last, split_effect}
 use Rattle.tso_model.specs.EitherBus.{BusState, effect_on}
-use Rattle.tso_model.specs.declared.bus.Bus.{Bus}
-use Rattle.tso_model.specs.declared.bus.Bus.TheVariants.{Atomic, Split}
+use Rattle.tso_model.specs.declared.choice.Bus.{Bus}
+use Rattle.tso_model.specs.declared.choice.Bus.TheVariants.{Atomic, Split}
 use Rattle.tso_model.specs.declared.instruction.Instr.{Instr}
 use Rattle.tso_model.specs.declared.action.Action.{Action}
 use Rattle.tso_model.specs.declared.action.Action.TheVariants.{Store, Load, Move, Fence, Lock}
@@ -80,7 +80,7 @@ begins-form t depth state a holder = go (needs_bus (access_of t depth state a.ch
 completes-form : (t : Litmus) (depth : ℕ) (state : State) (a : Choice) → Form a (core_of state (chosen a)) (completes t depth state a (access_of t depth state a)).effect
 completes-form t depth state a = go a (access_of t depth state a) refl
   where
-    go : (b : Choice) (what : Access) → access_of t depth state b ≡ what → Form b (core_of state (chosen b)) (completes t depth state b what).effect
+    go : (b : Choice) (what : MemoryAccess) → access_of t depth state b ≡ what → Form b (core_of state (chosen b)) (completes t depth state b what).effect
     go b NoAccess q = flat-form t depth state b
     go b (Reads loc) q = flat-form t depth state b
     go b (Writes loc) q = flat-form t depth state b

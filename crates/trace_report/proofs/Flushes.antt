@@ -10,11 +10,11 @@ use Rattle.tso_model.specs.Litmus.{Litmus}
 use Rattle.tso_model.specs.Actions.{action_of}
 use Rattle.tso_model.specs.ProgramOrder.{writes_to}
 use Rattle.tso_model.specs.FlatMachine.{CoreState, State, Effect, is_none_pending, stalled, stored, effect_by, step_of, effect_of, core_of, chosen}
-use Rattle.tso_model.specs.Access.{Access, NoAccess, Reads, Writes, Locks, load_access, access_by, step_access, access_of, next_of}
+use Rattle.tso_model.specs.MemoryAccess.{MemoryAccess, NoAccess, Reads, Writes, Locks, load_access, access_by, step_access, access_of, next_of}
 use Rattle.tso_model.specs.SplitMachine.{Holder, Free, HeldBy, HeldBetween, BusEffect, same_choice, needs_bus, acts, asks, begins, completes, as_read, writes_last, split_effect}
 use Rattle.tso_model.specs.EitherBus.{BusState, effect_on}
-use Rattle.tso_model.specs.declared.bus.Bus.{Bus}
-use Rattle.tso_model.specs.declared.bus.Bus.TheVariants.{Atomic, Split}
+use Rattle.tso_model.specs.declared.choice.Bus.{Bus}
+use Rattle.tso_model.specs.declared.choice.Bus.TheVariants.{Atomic, Split}
 use Rattle.tso_model.specs.declared.instruction.Core.{Core}
 use Rattle.tso_model.specs.declared.instruction.Instr.{Instr}
 use Rattle.tso_model.specs.declared.instruction.Loc.{Loc}
@@ -30,22 +30,22 @@ use Rattle.tso_model.specs.declared.choice.Stall.{Stall}
 use Rattle.tso_model.specs.declared.choice.Stall.TheVariants as stall
 use Rattle.tso_model.specs.declared.choice.Outcome.TheVariants as out
 use Rattle.protocol_tables.specs.Tables.{Table}
-use Rattle.protocol_tables.specs.Asking.{transient_of}
+use Rattle.protocol_tables.specs.Transients.{transient_of}
 use Rattle.protocol_tables.specs.declared.state.State.TheVariants as tag
 use Rattle.protocol_tables.specs.declared.state.State as protocol
-use Rattle.protocol_tables.specs.declared.asking.Request.{Request}
-use Rattle.protocol_tables.specs.declared.asking.Request.TheVariants.{GetS, GetM}
-use Rattle.protocol_tables.specs.declared.asking.Transient.{Transient}
-use Rattle.protocol_tables.specs.declared.asking.Transient.TheVariants.{IsD, ImD, SmD}
+use Rattle.protocol_tables.specs.declared.requests.Request.{Request}
+use Rattle.protocol_tables.specs.declared.requests.Request.TheVariants.{GetS, GetM}
+use Rattle.protocol_tables.specs.declared.requests.Transient.{Transient}
+use Rattle.protocol_tables.specs.declared.requests.Transient.TheVariants.{IsD, ImD, SmD}
 use Rattle.snoop_bus.specs.Rows.{table_of_rows}
 use Rattle.snoop_bus.specs.CacheContents.{TagSets, loaded_in, written_in, write_in}
 use Rattle.snoop_bus.specs.Asks.{Awaited, tag_at, or_invalid, hit_in, asking, awaiting, completed, completed_in}
 use Rattle.split_laws.proofs.Steps.{IsStore}
 use Rattle.split_laws.proofs.Waiting.{AllStores}
 use Rattle.split_laws.proofs.Following.{same-is}
-use Rattle.split_laws.proofs.Effects.{Holding}
-use Rattle.machine_core.specs.declared.cache_use.CacheUse.{CacheUse}
-use Rattle.machine_core.specs.declared.cache_use.CacheUse.TheVariants.{Unused, Forwarded, Through}
+use Rattle.split_laws.proofs.Effects.{HolderWaits}
+use Rattle.machine_core.specs.declared.accesses.CacheUse.{CacheUse}
+use Rattle.machine_core.specs.declared.accesses.CacheUse.TheVariants.{Unused, Forwarded, Through}
 use Rattle.machine_core.specs.Caches.{Caches, Used, not_through, load_by, write_by, load_after, use_by_kind, use_of, asking_by, hits_by, would_hit, attempt_of, is_awaited, used_between, use_on}
 use Rattle.trace_report.specs.Steps.{nothing_sent, sent_whole, sent_at, sent_on}
 use Rattle.trace_report.specs.declared.step.LineRequest.{LineRequest}
@@ -216,10 +216,10 @@ pub data Turns (waits then_waits : Bool) (before after : Option Awaited) (told h
   asked : told ≡ flush_awaited after → how ≡ None → waits ≡ false → then_waits ≡ true → UpgradesQuietly after → Turns waits then_waits before after told how
   arrived : told ≡ None → how ≡ flush_awaited before → after ≡ None → Turns waits then_waits before after told how
 
-abbrev used_by : Caches → ℕ → Access → List Entry → Holder → BusEffect → Used
+abbrev used_by : Caches → ℕ → MemoryAccess → List Entry → Holder → BusEffect → Used
 used_by c core what pending holder f = used_between (is_awaited holder) (is_awaited f.holder) c core what pending f.effect.commits
 
-abbrev TurnsBy : Option LineRequest → Caches → ℕ → Access → List Entry → Holder → BusEffect → Type 0
+abbrev TurnsBy : Option LineRequest → Caches → ℕ → MemoryAccess → List Entry → Holder → BusEffect → Type 0
 TurnsBy r c core what pending holder f =
     Turns (is_awaited holder) (is_awaited f.holder) c.awaited (used_by c core what pending holder f).caches.awaited
     (sent_at f.effect.outcome r (used_by c core what pending holder f).caches.awaited).flushed (flush_in (used_by c core what pending holder f).how)
@@ -244,7 +244,7 @@ awaiting-quiet t GetM line caches tag.M = tt
 asking-quiet : (t : Table) (request : Request) (core line : ℕ) (caches : List TagSets) → UpgradesQuietly (asking t request core line caches).awaited
 asking-quiet t request core line caches = awaiting-quiet t request line caches (or_invalid (tag_at core line caches))
 
-asks-turn : (r : Option LineRequest) (c : Caches) (core : ℕ) (what : Access) (pending : List Entry) (s : CoreState) (choice : Choice) (holder : Holder) → UpgradesQuietly c.awaited
+asks-turn : (r : Option LineRequest) (c : Caches) (core : ℕ) (what : MemoryAccess) (pending : List Entry) (s : CoreState) (choice : Choice) (holder : Holder) → UpgradesQuietly c.awaited
     → TurnsBy r c core what pending holder (asks s choice holder)
 asks-turn r c core NoAccess pending s choice Free quiet = asked (asked-told r (asking_by c core NoAccess).caches.awaited) refl refl refl quiet
 asks-turn r c core (Reads loc) pending s choice Free quiet = asked (asked-told r (asking_by c core (Reads loc)).caches.awaited) refl refl refl (asking-quiet (table_of_rows c.rows) GetS core _ c.contents)
@@ -253,7 +253,7 @@ asks-turn r c core (Locks loc) pending s choice Free quiet = asked (asked-told r
 asks-turn r c core what pending s choice (HeldBy other) quiet = whole refl refl refl
 asks-turn r c core what pending s choice (HeldBetween e) quiet = whole refl refl refl
 
-acts-turn : (r : Option LineRequest) (c : Caches) (core : ℕ) (what : Access) (pending : List Entry) (holder : Holder) (f : Effect) → AsksNothing f.outcome → IsQuiet c pending f.commits
+acts-turn : (r : Option LineRequest) (c : Caches) (core : ℕ) (what : MemoryAccess) (pending : List Entry) (holder : Holder) (f : Effect) → AsksNothing f.outcome → IsQuiet c pending f.commits
     → TurnsBy r c core what pending holder (acts f holder)
 acts-turn r c core what pending holder f nothing quiet = by_waiting (is_awaited holder)
   where
@@ -280,7 +280,7 @@ completed-flush t core line (Some x) caches quiet = by_transient x.transient qui
     by_transient ImD q = refl
     by_transient SmD q = sym (q refl)
 
-completes-turn : (r : Option LineRequest) (c : Caches) (t : Litmus) (depth : ℕ) (state : State) (a other : Choice) (pending : List Entry) (what : Access) → what ≢ NoAccess → UpgradesQuietly c.awaited
+completes-turn : (r : Option LineRequest) (c : Caches) (t : Litmus) (depth : ℕ) (state : State) (a other : Choice) (pending : List Entry) (what : MemoryAccess) → what ≢ NoAccess → UpgradesQuietly c.awaited
     → TurnsBy r c (chosen a) what pending (HeldBy other) (completes t depth state a what)
 completes-turn r c t depth state a other pending NoAccess some quiet = absurd (some refl)
 completes-turn r c t depth state a other pending (Reads loc) some quiet =
@@ -290,7 +290,7 @@ completes-turn r c t depth state a other pending (Writes loc) some quiet =
 completes-turn r c t depth state a other pending (Locks loc) some quiet =
     arrived refl (completed-flush (table_of_rows c.rows) (chosen a) _ c.awaited c.contents quiet) refl
 
-writes-turn : (r : Option LineRequest) (c : Caches) (t : Litmus) (depth : ℕ) (state : State) (e other : Entry) (core : ℕ) (what : Access) (pending : List Entry)
+writes-turn : (r : Option LineRequest) (c : Caches) (t : Litmus) (depth : ℕ) (state : State) (e other : Entry) (core : ℕ) (what : MemoryAccess) (pending : List Entry)
     → TurnsBy r c core what pending (HeldBetween other) (writes_last t depth state e)
 writes-turn r c t depth state e other core what pending =
     let f = effect_of t depth (as_read state e) (Step e.core) in
@@ -298,7 +298,7 @@ writes-turn r c t depth state e other core what pending =
     ap (λ (u : Used). flush_in u.how) (last-unused c pending depth e.core.0 (as_read state e).memory (next_of t state e.core.0) (core_of state e.core.0)) in
     whole (ap (λ x. x.flushed) (flat-nothing t depth (as_read state e) (Step e.core) r _) ∙ sym quiet) (whole-awaits c pending (drop 1 f.commits)) refl
 
-split-turn : (r : Option LineRequest) (c : Caches) (t : Litmus) (depth : ℕ) (state : State) (a : Choice) (holder : Holder) → Holding Split t depth state holder → AllStores state → UpgradesQuietly c.awaited
+split-turn : (r : Option LineRequest) (c : Caches) (t : Litmus) (depth : ℕ) (state : State) (a : Choice) (holder : Holder) → HolderWaits Split t depth state holder → AllStores state → UpgradesQuietly c.awaited
     → TurnsBy r c (chosen a) (access_of t depth state a) (core_of state (chosen a)).pending holder (split_effect t depth state (attempt_of t depth state c a) holder)
 split-turn r c t depth state a Free holding stores quiet = begins-turn r c t depth state a Free stores quiet
 split-turn r c t depth state a (HeldBy choice) holding stores quiet = go (same_choice choice a) refl
@@ -322,7 +322,7 @@ whole-told r Unused = refl
 whole-told r Forwarded = refl
 whole-told r (Through a) = refl
 
-atomic-turn : (r : Option LineRequest) (c : Caches) (core : ℕ) (what : Access) (pending commits : List Entry) (b : Bool)
+atomic-turn : (r : Option LineRequest) (c : Caches) (core : ℕ) (what : MemoryAccess) (pending commits : List Entry) (b : Bool)
     → Turns b b c.awaited (used_between b b c core what pending commits).caches.awaited (sent_whole r (used_between b b c core what pending commits).how).flushed
     (flush_in (used_between b b c core what pending commits).how)
 atomic-turn r c core what pending commits true = whole (whole-told r (use_of c pending commits).how) (whole-awaits c pending commits) refl
@@ -330,7 +330,7 @@ atomic-turn r c core what pending commits false = whole (whole-told r (use_of c 
 
 -- a choice on either bus
 pub choice-turn : (bus : Bus) (r : Option LineRequest) (c : Caches) (t : Litmus) (depth : ℕ) (state : BusState) (a : Choice)
-    → Holding bus t depth state.flat state.holder → AllStores state.flat → UpgradesQuietly c.awaited
+    → HolderWaits bus t depth state.flat state.holder → AllStores state.flat → UpgradesQuietly c.awaited
     → Turns (is_awaited state.holder) (is_awaited (effect_on bus t depth state (attempt_of t depth state.flat c a)).holder) c.awaited (use_on bus t depth state a c).caches.awaited
     (sent_on bus (effect_on bus t depth state (attempt_of t depth state.flat c a)).effect.outcome r (use_on bus t depth state a c).how (use_on bus t depth state a c).caches.awaited).flushed
     (flush_in (use_on bus t depth state a c).how)

@@ -7,11 +7,11 @@ use Rattle.tso_model.specs.Litmus.{Litmus}
 use Rattle.tso_model.specs.FlatMachine.{State, idle, program_of, chosen, core_of, applied, effect_of}
 use Rattle.tso_model.specs.Runs.{has_ended, is_done}
 use Rattle.tso_model.specs.ProgramOrder.{writes_to}
-use Rattle.tso_model.specs.Access.{Access, NoAccess, Reads, Writes, Locks, step_access, drain_access, access_of}
+use Rattle.tso_model.specs.MemoryAccess.{MemoryAccess, NoAccess, Reads, Writes, Locks, step_access, drain_access, access_of}
 use Rattle.tso_model.specs.SplitMachine.{Holder, Free, HeldBy, HeldBetween, Attempt, same_choice, needs_bus, acts, asks, begins, completes, as_read, writes_last, split_effect}
 use Rattle.tso_model.specs.EitherBus.{BusState, BusRun, after_on}
-use Rattle.tso_model.specs.declared.bus.Bus.{Bus}
-use Rattle.tso_model.specs.declared.bus.Bus.TheVariants.{Atomic, Split}
+use Rattle.tso_model.specs.declared.choice.Bus.{Bus}
+use Rattle.tso_model.specs.declared.choice.Bus.TheVariants.{Atomic, Split}
 use Rattle.tso_model.specs.declared.instruction.Core.{Core}
 use Rattle.tso_model.specs.declared.choice.Choice.{Choice}
 use Rattle.tso_model.specs.declared.choice.Choice.TheVariants.{Step, Drain}
@@ -19,13 +19,13 @@ use Rattle.tso_model.specs.declared.choice.Outcome.TheVariants as out
 use Rattle.tso_model.specs.declared.choice.Stall.TheVariants as stall
 use Rattle.protocol_tables.specs.Tables.{Table}
 use Rattle.protocol_tables.specs.declared.state.State as protocol
-use Rattle.protocol_tables.specs.declared.asking.Transient.{Transient}
-use Rattle.protocol_tables.specs.declared.asking.Transient.TheVariants.{IsD, ImD, SmD}
+use Rattle.protocol_tables.specs.declared.requests.Transient.{Transient}
+use Rattle.protocol_tables.specs.declared.requests.Transient.TheVariants.{IsD, ImD, SmD}
 use Rattle.tso_model.specs.declared.execution.Kind.{Kind}
 use Rattle.tso_model.specs.declared.execution.Kind.TheVariants.{R, W, F, LR, LW}
 use Rattle.tso_model.specs.declared.execution.Entry.{Entry}
-use Rattle.protocol_tables.specs.declared.asking.Request.{Request}
-use Rattle.protocol_tables.specs.declared.asking.Request.TheVariants.{GetS, GetM}
+use Rattle.protocol_tables.specs.declared.requests.Request.{Request}
+use Rattle.protocol_tables.specs.declared.requests.Request.TheVariants.{GetS, GetM}
 use Rattle.snoop_bus.specs.declared.access.AccessKind.{AccessKind}
 use Rattle.snoop_bus.specs.declared.access.AccessKind.TheVariants.{Hit, Upgrade, Miss}
 use Rattle.snoop_bus.specs.Copies.{tags_in}
@@ -42,10 +42,10 @@ use Rattle.split_laws.proofs.Effects.{Live, LiveIn, live-after, live-start}
 use Rattle.machine_core.specs.Caches.{Caches, not_through, load_by, use_by_kind, use_of, is_awaited, used_between}
 use Rattle.machine_core.specs.Statistics.{Statistics, no_counts, with_access, with_forward, with_write_back, with_flush, at_core, flush_counted, counted}
 use Rattle.machine_core.specs.declared.counts.Counts.{Counts}
-use Rattle.machine_core.specs.declared.cache_use.CacheUse.{CacheUse}
-use Rattle.machine_core.specs.declared.cache_use.CacheUse.TheVariants.{Unused, Forwarded, Through}
+use Rattle.machine_core.specs.declared.accesses.CacheUse.{CacheUse}
+use Rattle.machine_core.specs.declared.accesses.CacheUse.TheVariants.{Unused, Forwarded, Through}
 use Rattle.machine_core.specs.Running.{Running, new_machine, attempt_on, effect_by, use_by, machine_after}
-use Rattle.machine_core.specs.inner.Kept.{IsAmong, IsFlusherAmong, IsSenderAmong}
+use Rattle.machine_core.specs.inner.Keeping.{IsAmong, IsFlusherAmong, IsSenderAmong}
 use Rattle.machine_core.proofs.CountBounds.{length-counted}
 use Rattle.machine_core.proofs.CountsOnBus.{senders}
 use Rattle.trace_report.specs.Steps.{step_of, steps_from, request_at}
@@ -138,7 +138,7 @@ whole-size c pending (e ∷ es) = by_kind e.kind
     by_kind LR = write-size (table_of_rows c.rows) e.core.0 _ c.contents _
     by_kind LW = refl
 
-used-size : (before after : Bool) (c : Caches) (core : ℕ) (what : Access) (pending commits : List Entry)
+used-size : (before after : Bool) (c : Caches) (core : ℕ) (what : MemoryAccess) (pending commits : List Entry)
     → length (used_between before after c core what pending commits).caches.contents ≡ length c.contents
 used-size false true c core NoAccess pending commits = refl
 used-size false true c core (Reads loc) pending commits = asked-size (table_of_rows c.rows) GetS core _ _ c.contents
@@ -165,7 +165,7 @@ begins-stores t depth state a holder stores = go (needs_bus (access_of t depth s
     go true = asks-stores holder
     go false = choice-stores t depth state a.choice stores
 
-completes-stores : (t : Litmus) (depth : ℕ) (state : State) (a : Choice) (what : Access) → AllStores state → AllStores (applied state (chosen a) (completes t depth state a what).effect)
+completes-stores : (t : Litmus) (depth : ℕ) (state : State) (a : Choice) (what : MemoryAccess) → AllStores state → AllStores (applied state (chosen a) (completes t depth state a what).effect)
 completes-stores t depth state a NoAccess stores = choice-stores t depth state a stores
 completes-stores t depth state a (Reads loc) stores = choice-stores t depth state a stores
 completes-stores t depth state a (Writes loc) stores = choice-stores t depth state a stores

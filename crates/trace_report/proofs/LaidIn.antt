@@ -7,7 +7,7 @@ use Rattle.basic_laws.proofs.Basics.{test-true, test-false, and-false}
 use Rattle.basic_laws.proofs.Lists.{Each, each-append}
 use Rattle.tso_model.specs.Litmus.{Litmus}
 use Rattle.tso_model.specs.declared.choice.Choice.{Choice}
-use Rattle.protocol_tables.specs.declared.asking.Transient.TheVariants.{IsD, ImD, SmD}
+use Rattle.protocol_tables.specs.declared.requests.Transient.TheVariants.{IsD, ImD, SmD}
 use Rattle.protocol_tables.specs.declared.state.State.TheVariants as tag
 use Rattle.trace_report.specs.declared.step.LineState.TheVariants as state
 use Rattle.trace_report.proofs.Whole.{words-kept}

@@ -11,7 +11,7 @@ use Rattle.tso_model.specs.declared.action.Operand.{Operand}
 use Rattle.tso_model.specs.declared.instruction.Instr.{Instr}
 use Rattle.tso_model.specs.declared.execution.Entry.{Entry}
 use Rattle.machine_core.specs.Running.{Running}
-use Rattle.machine_core.specs.inner.Looked.{core_at, pending_at}
+use Rattle.machine_core.specs.inner.Looking.{core_at, pending_at}
 use Rattle.trace_report.specs.Steps.{moved_by}
 use Rattle.trace_report.specs.declared.step.Moved.{Moved}
 

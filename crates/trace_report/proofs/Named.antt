@@ -2,16 +2,16 @@
 use Rattle.std.proofs.Common.{ℕ, zero, suc, ◌+◌, ◌<◌, ◌≤◌, Bool, true, false, ◌&&◌, ◌==◌, if◌then◌else◌, List, [], ◌∷◌, length, Option, Some, None, IfSome, All, arith}
 use Rattle.std.proofs.lemmas.List.Elements.{All-nil, All-cons, All-head, All-tail, All-append}
 use Rattle.tso_model.specs.Litmus.{Litmus}
-use Rattle.tso_model.specs.Access.{Access, NoAccess, Reads, Writes, Locks}
-use Rattle.tso_model.specs.declared.bus.Bus.{Bus}
-use Rattle.tso_model.specs.declared.bus.Bus.TheVariants.{Atomic, Split}
+use Rattle.tso_model.specs.MemoryAccess.{MemoryAccess, NoAccess, Reads, Writes, Locks}
+use Rattle.tso_model.specs.declared.choice.Bus.{Bus}
+use Rattle.tso_model.specs.declared.choice.Bus.TheVariants.{Atomic, Split}
 use Rattle.tso_model.specs.declared.choice.Outcome.{Outcome}
 use Rattle.tso_model.specs.declared.choice.Outcome.TheVariants.{Committed, Buffered, Moved, Asked, Stalled}
 use Rattle.tso_model.specs.declared.execution.Entry.{Entry}
 use Rattle.snoop_bus.specs.Asks.{Awaited}
 use Rattle.machine_core.specs.Running.{Running}
-use Rattle.machine_core.specs.declared.cache_use.CacheUse.{CacheUse}
-use Rattle.machine_core.specs.declared.cache_use.CacheUse.TheVariants.{Unused, Forwarded, Through}
+use Rattle.machine_core.specs.declared.accesses.CacheUse.{CacheUse}
+use Rattle.machine_core.specs.declared.accesses.CacheUse.TheVariants.{Unused, Forwarded, Through}
 use Rattle.trace_report.specs.Known.{IsAt, IsLine}
 use Rattle.trace_report.specs.Steps.{goes_on_bus, request_at, sent_on, line_states, core_states, lines_of, states_of, number_of, is_absent, change_of, changes_in, left_by, wrote_back_by, buffer_if_changed}
 use Rattle.trace_report.proofs.Places.{AccessKnown, line-at, line-within}
@@ -24,7 +24,7 @@ use Rattle.trace_report.specs.declared.states.PlacedState.{PlacedState}
 abbrev IsKnownRequest : Litmus → ℕ → Option LineRequest → Type 0
 IsKnownRequest t words r = IfSome r (λ q. IsLine t words q.line)
 
-pub request-known : (t : Litmus) (words : ℕ) (what : Access) → 0 < words → AccessKnown t what → IfSome (request_at words what) (λ q. IsLine t words q.line)
+pub request-known : (t : Litmus) (words : ℕ) (what : MemoryAccess) → 0 < words → AccessKnown t what → IfSome (request_at words what) (λ q. IsLine t words q.line)
 request-known t words NoAccess some k = tt
 request-known t words (Reads loc) some k = line-at t words loc.0 some k
 request-known t words (Writes loc) some k = line-at t words loc.0 some k

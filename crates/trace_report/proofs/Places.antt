@@ -8,13 +8,13 @@ use Rattle.tso_model.specs.Litmus.{Litmus, IsTest, IsProgram, KnownLocation}
 use Rattle.tso_model.specs.Actions.{action_of, location_of}
 use Rattle.tso_model.specs.Thread.{entry, fence, value_in, value_of, updated}
 use Rattle.tso_model.specs.FlatMachine.{load_value, CoreState, State, Effect, is_none_pending, stalled, stored, effect_by, step_of, effect_of, core_of, chosen, program_of, applied, start}
-use Rattle.tso_model.specs.Access.{Access, NoAccess, Reads, Writes, Locks, access_of, next_of, access_by, step_access, load_access, locked_access, store_access, drain_access}
+use Rattle.tso_model.specs.MemoryAccess.{MemoryAccess, NoAccess, Reads, Writes, Locks, access_of, next_of, access_by, step_access, load_access, locked_access, store_access, drain_access}
 use Rattle.std.specs.Prelude.{filter}
 use Rattle.tso_model.specs.ProgramOrder.{writes_to}
 use Rattle.tso_model.specs.SplitMachine.{Holder, Free, HeldBy, HeldBetween, Attempt, same_choice, needs_bus, acts, asks, begins, load_part, completes, as_read, writes_last, split_effect}
 use Rattle.tso_model.specs.EitherBus.{BusState, effect_on}
-use Rattle.tso_model.specs.declared.bus.Bus.{Bus}
-use Rattle.tso_model.specs.declared.bus.Bus.TheVariants.{Atomic, Split}
+use Rattle.tso_model.specs.declared.choice.Bus.{Bus}
+use Rattle.tso_model.specs.declared.choice.Bus.TheVariants.{Atomic, Split}
 use Rattle.tso_model.specs.declared.instruction.Instr.{Instr}
 use Rattle.tso_model.specs.declared.instruction.Loc.{Loc}
 use Rattle.tso_model.specs.declared.action.Action.{Action}
@@ -58,7 +58,7 @@ none t = All-nil (HasLocation t)
 abbrev pub ActionKnown : Litmus → Action → Type 0
 ActionKnown t a = IfSome (location_of a) (λ loc. loc.0 < length t.locations)
 
-abbrev pub AccessKnown : Litmus → Access → Type 0
+abbrev pub AccessKnown : Litmus → MemoryAccess → Type 0
 AccessKnown t NoAccess = Unit {0}
 AccessKnown t (Reads loc) = loc.0 < length t.locations
 AccessKnown t (Writes loc) = loc.0 < length t.locations
@@ -166,7 +166,7 @@ begins-places t depth state a holder test h = go (needs_bus (access_of t depth s
     go true = asks-places t a.choice (core_of state (chosen a.choice)) holder (h (chosen a.choice))
     go false = flat-places t depth state a.choice test h
 
-completes-places : (t : Litmus) (depth : ℕ) (state : State) (a : Choice) (what : Access) → IsTest t → AreStoresKnown t state → AccessKnown t what → Places t (completes t depth state a what).effect
+completes-places : (t : Litmus) (depth : ℕ) (state : State) (a : Choice) (what : MemoryAccess) → IsTest t → AreStoresKnown t state → AccessKnown t what → Places t (completes t depth state a what).effect
 completes-places t depth state a NoAccess test h k = flat-places t depth state a test h
 completes-places t depth state a (Reads loc) test h k = flat-places t depth state a test h
 completes-places t depth state a (Writes loc) test h k = flat-places t depth state a test h

@@ -9,8 +9,8 @@ use Rattle.tso_model.specs.Runs.{Run, has_ended, stall_count, then_run, run}
 use Rattle.tso_model.specs.SplitMachine.{Attempt}
 use Rattle.tso_model.specs.EitherBus.{BusState, BusRun, unheld, then_on, resting_on, run_on, run_on_from, choices_in}
 use Rattle.tso_model.specs.Together.{put_together}
-use Rattle.tso_model.specs.declared.bus.Bus.{Bus}
-use Rattle.tso_model.specs.declared.bus.Bus.TheVariants.{Atomic}
+use Rattle.tso_model.specs.declared.choice.Bus.{Bus}
+use Rattle.tso_model.specs.declared.choice.Bus.TheVariants.{Atomic}
 use Rattle.tso_model.specs.declared.choice.Choice.{Choice}
 use Rattle.protocol_tables.specs.Tables.{Table}
 use Rattle.split_laws.specs.BusLaws.{AtomicRunsAreFlatRuns}

@@ -2,20 +2,20 @@
 use Rattle.std.proofs.Common.{◌≡◌, ℕ, Bool, true, false, if◌then◌else◌, List, [], ◌∷◌, refl}
 use Rattle.std.specs.List.{list_any}
 use Rattle.tso_model.specs.ProgramOrder.{writes_to}
-use Rattle.tso_model.specs.Access.{Access, NoAccess, Reads, Writes, Locks}
+use Rattle.tso_model.specs.MemoryAccess.{MemoryAccess, NoAccess, Reads, Writes, Locks}
 use Rattle.tso_model.specs.declared.execution.Entry.{Entry}
 use Rattle.tso_model.specs.declared.execution.Kind.{Kind}
 use Rattle.tso_model.specs.declared.execution.Kind.TheVariants.{R, W, F, LR, LW}
 use Rattle.machine_core.specs.Caches.{Caches, load_by, not_through, asking_by, completing_by, use_by_kind, use_of, used_between}
-use Rattle.machine_core.specs.declared.cache_use.CacheUse.TheVariants.{Forwarded}
+use Rattle.machine_core.specs.declared.accesses.CacheUse.TheVariants.{Forwarded}
 
-asking-shape : (c : Caches) (core : ℕ) (what : Access) → (asking_by c core what).caches.shape ≡ c.shape
+asking-shape : (c : Caches) (core : ℕ) (what : MemoryAccess) → (asking_by c core what).caches.shape ≡ c.shape
 asking-shape c core NoAccess = refl
 asking-shape c core (Reads loc) = refl
 asking-shape c core (Writes loc) = refl
 asking-shape c core (Locks loc) = refl
 
-completing-shape : (c : Caches) (core : ℕ) (what : Access) → (completing_by c core what).caches.shape ≡ c.shape
+completing-shape : (c : Caches) (core : ℕ) (what : MemoryAccess) → (completing_by c core what).caches.shape ≡ c.shape
 completing-shape c core NoAccess = refl
 completing-shape c core (Reads loc) = refl
 completing-shape c core (Writes loc) = refl
@@ -36,7 +36,7 @@ whole-shape : (c : Caches) (pending commits : List Entry) → (use_of c pending 
 whole-shape c pending [] = refl
 whole-shape c pending (e ∷ es) = kind-shape c pending e e.kind
 
-pub used-shape : (before after : Bool) (c : Caches) (core : ℕ) (what : Access) (pending commits : List Entry)
+pub used-shape : (before after : Bool) (c : Caches) (core : ℕ) (what : MemoryAccess) (pending commits : List Entry)
     → (used_between before after c core what pending commits).caches.shape ≡ c.shape
 used-shape false true c core what pending commits = asking-shape c core what
 used-shape true false c core what pending commits = completing-shape c core what

@@ -3,11 +3,11 @@ use Rattle.std.proofs.Common.{◌≡◌, ◌⊎◌, inl, inr, ◌∙◌, ℕ, Bo
 use Rattle.tso_model.specs.Litmus.{Litmus}
 use Rattle.tso_model.specs.Actions.{action_of}
 use Rattle.tso_model.specs.FlatMachine.{CoreState, State, effect_by, step_of, effect_of, core_of, chosen}
-use Rattle.tso_model.specs.Access.{Access, NoAccess, Reads, Writes, Locks, access_by, step_access, access_of, next_of}
+use Rattle.tso_model.specs.MemoryAccess.{MemoryAccess, NoAccess, Reads, Writes, Locks, access_by, step_access, access_of, next_of}
 use Rattle.tso_model.specs.SplitMachine.{Holder, Free, HeldBy, HeldBetween, Attempt, same_choice, needs_bus, acts, asks, begins, completes, as_read, writes_last, split_effect}
 use Rattle.tso_model.specs.EitherBus.{BusState, effect_on}
-use Rattle.tso_model.specs.declared.bus.Bus.{Bus}
-use Rattle.tso_model.specs.declared.bus.Bus.TheVariants.{Atomic, Split}
+use Rattle.tso_model.specs.declared.choice.Bus.{Bus}
+use Rattle.tso_model.specs.declared.choice.Bus.TheVariants.{Atomic, Split}
 use Rattle.tso_model.specs.declared.instruction.Instr.{Instr}
 use Rattle.tso_model.specs.declared.action.Action.{Action}
 use Rattle.tso_model.specs.declared.action.Action.TheVariants.{Store, Load, Move, Fence, Lock}
@@ -22,8 +22,8 @@ use Rattle.split_laws.proofs.Following.{same-is}
 use Rattle.machine_core.specs.Caches.{Caches, is_awaited, used_between}
 use Rattle.machine_core.specs.Running.{Running, use_by, machine_after}
 use Rattle.machine_core.specs.Running as running
-use Rattle.machine_core.specs.declared.cache_use.CacheUse.{CacheUse}
-use Rattle.machine_core.specs.declared.cache_use.CacheUse.TheVariants.{Unused}
+use Rattle.machine_core.specs.declared.accesses.CacheUse.{CacheUse}
+use Rattle.machine_core.specs.declared.accesses.CacheUse.TheVariants.{Unused}
 use Rattle.trace_report.specs.Steps.{states_of, changes_in, is_forwarded, access_in, request_at, nothing_sent, sent_on, moved_at, moved_by, moved_from, wrote_back_by, buffer_if_changed}
 use Rattle.trace_report.specs.Steps as steps
 use Rattle.trace_report.specs.inner.Left.{stores_on}
@@ -89,7 +89,7 @@ begins-moves t depth state a holder = go (needs_bus (access_of t depth state a.c
 completes-moves : (t : Litmus) (depth : ℕ) (state : State) (a : Choice) → MovesBy t (core_of state (chosen a)).place a (completes t depth state a (access_of t depth state a)).effect.outcome
 completes-moves t depth state a = go (access_of t depth state a) refl
   where
-    go : (what : Access) → access_of t depth state a ≡ what → MovesBy t (core_of state (chosen a)).place a (completes t depth state a what).effect.outcome
+    go : (what : MemoryAccess) → access_of t depth state a ≡ what → MovesBy t (core_of state (chosen a)).place a (completes t depth state a what).effect.outcome
     go NoAccess q = flat-moves t depth state a
     go (Reads loc) q = flat-moves t depth state a
     go (Writes loc) q = flat-moves t depth state a
@@ -126,11 +126,11 @@ stall-moves t place choice o why registers q (inr is) = absurd (let z : ⊥ = cc
 
 -- ---- nor does it use the caches, or send anything
 
-used-alike : (b : Bool) (c : Caches) (core : ℕ) (what : Access) (pending : List Entry) → (used_between b b c core what pending []).how ≡ Unused
+used-alike : (b : Bool) (c : Caches) (core : ℕ) (what : MemoryAccess) (pending : List Entry) → (used_between b b c core what pending []).how ≡ Unused
 used-alike true c core what pending = refl
 used-alike false c core what pending = refl
 
-unused : (before after : Bool) (c : Caches) (core : ℕ) (what : Access) (pending commits : List Entry) → after ≡ before → commits ≡ []
+unused : (before after : Bool) (c : Caches) (core : ℕ) (what : MemoryAccess) (pending commits : List Entry) → after ≡ before → commits ≡ []
     → (used_between before after c core what pending commits).how ≡ Unused
 unused before after c core what pending commits same none =
     ap (λ b. (used_between before b c core what pending commits).how) same ∙ (ap (λ es. (used_between before before c core what pending es).how) none ∙ used-alike before c core what pending)

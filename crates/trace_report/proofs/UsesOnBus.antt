@@ -3,11 +3,11 @@ use Rattle.std.proofs.Common.{◌≡◌, ◌≢◌, ◌⊎◌, ℕ, Bool, true, 
 use Rattle.basic_laws.proofs.Lists.{each-at}
 use Rattle.tso_model.specs.Litmus.{Litmus}
 use Rattle.tso_model.specs.FlatMachine.{State, chosen, core_of, effect_of, applied}
-use Rattle.tso_model.specs.Access.{Access, NoAccess, Reads, Writes, Locks, access_of, next_of}
+use Rattle.tso_model.specs.MemoryAccess.{MemoryAccess, NoAccess, Reads, Writes, Locks, access_of, next_of}
 use Rattle.tso_model.specs.SplitMachine.{Holder, Free, HeldBy, HeldBetween, BusEffect, same_choice, needs_bus, acts, asks, begins, completes, as_read, writes_last, split_effect}
 use Rattle.tso_model.specs.EitherBus.{BusState}
-use Rattle.tso_model.specs.declared.bus.Bus.{Bus}
-use Rattle.tso_model.specs.declared.bus.Bus.TheVariants.{Atomic, Split}
+use Rattle.tso_model.specs.declared.choice.Bus.{Bus}
+use Rattle.tso_model.specs.declared.choice.Bus.TheVariants.{Atomic, Split}
 use Rattle.tso_model.specs.declared.choice.Choice.{Choice}
 use Rattle.tso_model.specs.declared.choice.Choice.TheVariants.{Step}
 use Rattle.tso_model.specs.declared.choice.Outcome.TheVariants.{Asked, Stalled}
@@ -18,8 +18,8 @@ use Rattle.split_laws.proofs.Cores.{quiet-same}
 use Rattle.split_laws.proofs.Steps.{IsStore}
 use Rattle.split_laws.proofs.Waiting.{AllStores, access-kept}
 use Rattle.split_laws.proofs.Following.{same-is, IsOther}
-use Rattle.split_laws.proofs.Effects.{Holding}
-use Rattle.machine_core.specs.declared.cache_use.CacheUse.TheVariants.{Unused}
+use Rattle.split_laws.proofs.Effects.{HolderWaits}
+use Rattle.machine_core.specs.declared.accesses.CacheUse.TheVariants.{Unused}
 use Rattle.machine_core.specs.Caches.{Caches, Used, not_through, asking_by, completing_by, hits_by, attempt_of, is_awaited, used_between, use_on, state_after_on}
 use Rattle.bus_laws.specs.Uses.{IsUseFor}
 use Rattle.bus_laws.proofs.Counted.{choice-use}
@@ -27,12 +27,12 @@ use Rattle.trace_report.proofs.Flushes.{last-unused}
 
 -- what holds the bus after a choice to make an access held it before, and its access is the same; by the accesses that choices
 -- would make before and after
-abbrev pub StaysHeld : (Choice → Access) → (Choice → Access) → Holder → Holder → Type 0
+abbrev pub StaysHeld : (Choice → MemoryAccess) → (Choice → MemoryAccess) → Holder → Holder → Type 0
 StaysHeld before after holder next = (other : Choice) → next ≡ HeldBy other → (holder ≡ HeldBy other) × (after other ≡ before other)
 
 -- a choice makes its access whole, where nobody holds the bus or none is needed; or makes none; or asks for it, and holds the bus;
 -- or completes what it has asked for
-pub data UsesOn (c : Caches) (a : Choice) (before after : Choice → Access) (holder next : Holder) (u : Used) : Type 0 where
+pub data UsesOn (c : Caches) (a : Choice) (before after : Choice → MemoryAccess) (holder next : Holder) (u : Used) : Type 0 where
   made : IsUseFor c (chosen a) (before a) u → ((holder ≡ Free) × (next ≡ Free)) ⊎ (needs_bus (before a) (hits_by c (chosen a) (before a)) ≡ false) → StaysHeld before after holder next
       → UsesOn c a before after holder next u
   unused : u ≡ not_through Unused c → StaysHeld before after holder next → UsesOn c a before after holder next u
@@ -64,7 +64,7 @@ acts-uses t d state c a (HeldBy other) stores why stays = made (choice-use t d s
 acts-uses t d state c a (HeldBetween e) stores why stays = made (choice-use t d state c a (own-stores state stores)) why stays
 
 -- another choice leaves the holder at its access
-other-stays : (t : Litmus) (d : ℕ) (state : State) (a : Choice) (holder : Holder) → Holding Split t d state holder → IsOther holder a
+other-stays : (t : Litmus) (d : ℕ) (state : State) (a : Choice) (holder : Holder) → HolderWaits Split t d state holder → IsOther holder a
     → StaysHeld (access_of t d state) (access_of t d (applied state (chosen a) (effect_of t d state a))) holder holder
 other-stays t d state a Free holding other k q = absurd (let z : ⊥ = cc in z)
 other-stays t d state a (HeldBetween e) holding other k q = absurd (let z : ⊥ = cc in z)
@@ -72,7 +72,7 @@ other-stays t d state a (HeldBy choice) holding other k q =
     let same : choice ≡ k = cc in
     (q, subst (λ b. access_of t d (applied state (chosen a) (effect_of t d state a)) b ≡ access_of t d state b) same (access-kept t d state choice a holding other))
 
-begins-uses : (t : Litmus) (d : ℕ) (state : State) (c : Caches) (a : Choice) (holder : Holder) → Holding Split t d state holder → IsOther holder a → AllStores state
+begins-uses : (t : Litmus) (d : ℕ) (state : State) (c : Caches) (a : Choice) (holder : Holder) → HolderWaits Split t d state holder → IsOther holder a → AllStores state
     → UsesBy t d state c a holder (begins t d state (attempt_of t d state c a) holder)
 begins-uses t d state c a holder holding other stores = go (needs_bus (access_of t d state a) (hits_by c (chosen a) (access_of t d state a))) refl
   where
@@ -81,7 +81,7 @@ begins-uses t d state c a holder holding other stores = go (needs_bus (access_of
     go true q = asks-uses t d state c a holder
     go false q = acts-uses t d state c a holder stores (inr q) (other-stays t d state a holder holding other)
 
-completes-uses : (t : Litmus) (d : ℕ) (state : State) (c : Caches) (a : Choice) (what : Access) → what ≢ NoAccess → UsesBy t d state c a (HeldBy a) (completes t d state a what)
+completes-uses : (t : Litmus) (d : ℕ) (state : State) (c : Caches) (a : Choice) (what : MemoryAccess) → what ≢ NoAccess → UsesBy t d state c a (HeldBy a) (completes t d state a what)
 completes-uses t d state c a NoAccess some = absurd (some refl)
 completes-uses t d state c a (Reads loc) some = ended refl refl refl
 completes-uses t d state c a (Writes loc) some = ended refl refl refl
@@ -91,7 +91,7 @@ writes-uses : (t : Litmus) (d : ℕ) (state : State) (c : Caches) (e : Entry) �
 writes-uses t d state c e =
     unused (last-unused c (core_of state e.core.0).pending d e.core.0 (as_read state e).memory (next_of t state e.core.0) (core_of state e.core.0)) (λ other q. absurd (let z : ⊥ = cc in z))
 
-split-uses : (t : Litmus) (d : ℕ) (state : State) (c : Caches) (a : Choice) (holder : Holder) → Holding Split t d state holder → AllStores state
+split-uses : (t : Litmus) (d : ℕ) (state : State) (c : Caches) (a : Choice) (holder : Holder) → HolderWaits Split t d state holder → AllStores state
     → UsesBy t d state c a holder (split_effect t d state (attempt_of t d state c a) holder)
 split-uses t d state c a Free holding stores = begins-uses t d state c a Free holding tt stores
 split-uses t d state c a (HeldBy choice) holding stores = go (same_choice choice a) refl
@@ -110,12 +110,12 @@ split-uses t d state c a (HeldBetween e) holding stores = go (same_choice (Step 
     go false q = begins-uses t d state c a (HeldBetween e) holding q stores
 
 -- a choice on either bus
-pub choice-uses : (bus : Bus) (t : Litmus) (d : ℕ) (state : BusState) (c : Caches) (a : Choice) → Holding bus t d state.flat state.holder → AllStores state.flat
+pub choice-uses : (bus : Bus) (t : Litmus) (d : ℕ) (state : BusState) (c : Caches) (a : Choice) → HolderWaits bus t d state.flat state.holder → AllStores state.flat
     → UsesOn c a (access_of t d state.flat) (access_of t d (state_after_on bus t d state c a).flat) state.holder (state_after_on bus t d state c a).holder (use_on bus t d state a c)
 choice-uses Split t d state c a holding stores = split-uses t d state.flat c a state.holder holding stores
 choice-uses Atomic t d state c a holding stores = by_holder state.holder holding
   where
-    by_holder : (holder : Holder) → Holding Atomic t d state.flat holder → UsesBy t d state.flat c a holder (acts (effect_of t d state.flat a) holder)
+    by_holder : (holder : Holder) → HolderWaits Atomic t d state.flat holder → UsesBy t d state.flat c a holder (acts (effect_of t d state.flat a) holder)
     by_holder Free h = acts-uses t d state.flat c a Free stores (inl (refl, refl)) (λ other q. absurd (let z : ⊥ = cc in z))
     by_holder (HeldBy other) h = absurd h
     by_holder (HeldBetween e) h = absurd h

@@ -1,6 +1,6 @@
 -- The line that an access sends away: it was in the core's cache before the access, and isn't after it.
 use Rattle.std.proofs.Common.{◌≡◌, ◌≢◌, ◌∙◌, ◌<◌, ◌/◌, ℕ, Bool, true, false, List, [], length, Option, Some, None, inl, inr, refl, sym, ap, subst, get_or-set_same}
-use Rattle.tso_model.specs.Access.{Access, NoAccess, Reads, Writes, Locks}
+use Rattle.tso_model.specs.MemoryAccess.{MemoryAccess, NoAccess, Reads, Writes, Locks}
 use Rattle.protocol_tables.specs.Tables.{Table}
 use Rattle.protocol_tables.specs.declared.state.State.{State}
 use Rattle.protocol_tables.specs.declared.state.State.TheVariants.{I, M}
@@ -9,8 +9,8 @@ use Rattle.snoop_bus.specs.Tags.{leaving, filled}
 use Rattle.snoop_bus.specs.CacheContents.{TagSets, tags_at, tag_in, at_line, sets_of, dirty_in, writes_back, filled_by, loaded_in, loaded, written_in, write_in, written}
 use Rattle.snoop_bus.specs.Asks.{tag_at}
 use Rattle.machine_core.specs.Caches.{Caches, Used}
-use Rattle.machine_core.specs.declared.cache_use.CacheUse.{CacheUse}
-use Rattle.machine_core.specs.declared.cache_use.CacheUse.TheVariants.{Unused, Forwarded, Through}
+use Rattle.machine_core.specs.declared.accesses.CacheUse.{CacheUse}
+use Rattle.machine_core.specs.declared.accesses.CacheUse.TheVariants.{Unused, Forwarded, Through}
 use Rattle.bus_laws.specs.Uses.{IsUseFor}
 use Rattle.trace_report.specs.TraceLaws.{KeepsNoCopyInI}
 use Rattle.trace_report.proofs.Victims.{AllNeat, found-valid, all-requested, all-used, all-filled, own-kept, sets-leave}
@@ -100,7 +100,7 @@ written-gone lines t core line caches l h = by_tag (tag_in (sets_of caches core)
 -- ---- a use of the caches
 
 -- the access is to one of so many lines, of so many words
-abbrev pub IsWithin : ℕ → ℕ → Access → Type 0
+abbrev pub IsWithin : ℕ → ℕ → MemoryAccess → Type 0
 IsWithin lines words NoAccess = Unit {0}
 IsWithin lines words (Reads loc) = loc.0 / words < lines
 IsWithin lines words (Writes loc) = loc.0 / words < lines
@@ -109,7 +109,7 @@ IsWithin lines words (Locks loc) = loc.0 / words < lines
 abbrev pub NeatAfter : ℕ → Used → Type 0
 NeatAfter lines u = AllNeat lines u.caches.contents
 
-pub use-neat : (lines : ℕ) (c : Caches) (core : ℕ) (what : Access) (u : Used) → IsUseFor c core what u → IsWithin lines c.shape.words what → KeepsNoCopyInI (table_of_rows c.rows) → AllNeat lines c.contents
+pub use-neat : (lines : ℕ) (c : Caches) (core : ℕ) (what : MemoryAccess) (u : Used) → IsUseFor c core what u → IsWithin lines c.shape.words what → KeepsNoCopyInI (table_of_rows c.rows) → AllNeat lines c.contents
     → NeatAfter lines u
 use-neat lines c core NoAccess u (inl is) within keeps h = subst (NeatAfter lines) (sym is) h
 use-neat lines c core NoAccess u (inr is) within keeps h = subst (NeatAfter lines) (sym is) h
@@ -120,14 +120,14 @@ use-neat lines c core (Locks loc) u is within keeps h = subst (NeatAfter lines) 
 abbrev pub GoneBy : ℕ → Caches → ℕ → Used → Type 0
 GoneBy lines c core u = wrote_in u.how ≡ true → HasGone lines core c.contents u.caches.contents
 
-pub use-gone : (lines : ℕ) (c : Caches) (core : ℕ) (what : Access) (u : Used) → IsUseFor c core what u → core < length c.contents → AllNeat lines c.contents → GoneBy lines c core u
+pub use-gone : (lines : ℕ) (c : Caches) (core : ℕ) (what : MemoryAccess) (u : Used) → IsUseFor c core what u → core < length c.contents → AllNeat lines c.contents → GoneBy lines c core u
 use-gone lines c core NoAccess u (inl is) l h = subst (GoneBy lines c core) (sym is) (λ dirty. absurd (let z : ⊥ = cc in z))
 use-gone lines c core NoAccess u (inr is) l h = subst (GoneBy lines c core) (sym is) (λ dirty. absurd (let z : ⊥ = cc in z))
 use-gone lines c core (Reads loc) u is l h = subst (GoneBy lines c core) (sym is) (loaded-gone lines (table_of_rows c.rows) core (loc.0 / c.shape.words) c.contents l h)
 use-gone lines c core (Writes loc) u is l h = subst (GoneBy lines c core) (sym is) (written-gone lines (table_of_rows c.rows) core (loc.0 / c.shape.words) c.contents l h)
 use-gone lines c core (Locks loc) u is l h = subst (GoneBy lines c core) (sym is) (written-gone lines (table_of_rows c.rows) core (loc.0 / c.shape.words) c.contents l h)
 
-pub use-rows : (c : Caches) (core : ℕ) (what : Access) (u : Used) → IsUseFor c core what u → u.caches.rows ≡ c.rows
+pub use-rows : (c : Caches) (core : ℕ) (what : MemoryAccess) (u : Used) → IsUseFor c core what u → u.caches.rows ≡ c.rows
 use-rows c core NoAccess u (inl is) = ap (λ (x : Used). x.caches.rows) is
 use-rows c core NoAccess u (inr is) = ap (λ (x : Used). x.caches.rows) is
 use-rows c core (Reads loc) u is = ap (λ (x : Used). x.caches.rows) is

@@ -7,11 +7,11 @@ use Rattle.std.proofs.Math.Nat.{div-mul-le_self, mul-le-mul_right}
 use Rattle.basic_laws.proofs.Basics.{lt-or}
 use Rattle.tso_model.specs.Litmus.{Litmus, IsTest}
 use Rattle.tso_model.specs.FlatMachine.{chosen}
-use Rattle.tso_model.specs.Access.{Access, NoAccess, Reads, Writes, Locks, access_of}
+use Rattle.tso_model.specs.MemoryAccess.{MemoryAccess, NoAccess, Reads, Writes, Locks, access_of}
 use Rattle.tso_model.specs.SplitMachine.{Holder, Free, HeldBy, HeldBetween}
 use Rattle.tso_model.specs.declared.choice.Choice.{Choice}
 use Rattle.protocol_tables.specs.Tables.{Table}
-use Rattle.protocol_tables.specs.declared.asking.Transient.{Transient}
+use Rattle.protocol_tables.specs.declared.requests.Transient.{Transient}
 use Rattle.protocol_tables.specs.declared.state.State as protocol
 use Rattle.protocol_tables.specs.declared.state.State.TheVariants as tag
 use Rattle.snoop_bus.specs.Rows.{table_of_rows, rows_of}
@@ -20,10 +20,10 @@ use Rattle.snoop_bus.specs.Asks.{tag_at}
 use Rattle.snoop_bus.specs.Tags.{TagSet}
 use Rattle.machine_core.specs.Configuration.{Configuration}
 use Rattle.machine_core.specs.Caches.{at_access}
-use Rattle.machine_core.specs.Looked.{bus_holder, bus_holder_as, bus_holder_of}
+use Rattle.machine_core.specs.Looking.{bus_holder, bus_holder_as, bus_holder_of}
 use Rattle.machine_core.specs.Statistics.{no_counts}
-use Rattle.machine_core.specs.declared.cache_use.CacheUse.{CacheUse}
-use Rattle.machine_core.specs.declared.cache_use.CacheUse.TheVariants.{Unused, Forwarded, Through}
+use Rattle.machine_core.specs.declared.accesses.CacheUse.{CacheUse}
+use Rattle.machine_core.specs.declared.accesses.CacheUse.TheVariants.{Unused, Forwarded, Through}
 use Rattle.machine_core.specs.Running.{Running, new_machine, use_by, machine_after}
 use Rattle.machine_core.proofs.CountBounds.{length-counted}
 use Rattle.trace_report.specs.Known.{AreStoresKnown}
@@ -52,7 +52,7 @@ line-below count words loc some within = elim (lt-or (div_ceil count words) (loc
       absurd (let z : ⊥ = omega arith in z)
 ]
 
-within-lines : (t : Litmus) (words : ℕ) (what : Access) → 0 < words → AccessKnown t what → IsWithin (div_ceil (length t.locations) words) words what
+within-lines : (t : Litmus) (words : ℕ) (what : MemoryAccess) → 0 < words → AccessKnown t what → IsWithin (div_ceil (length t.locations) words) words what
 within-lines t words NoAccess some h = tt
 within-lines t words (Reads loc) some h = line-below (length t.locations) words loc.0 some h
 within-lines t words (Writes loc) some h = line-below (length t.locations) words loc.0 some h
@@ -85,8 +85,8 @@ lines-kept m c = ap (λ n. div_ceil (length m.test.locations) n) (words-kept m c
 pub kept-after : (m : Running) (c : Choice) → IsKept m → IsKept (machine_after m c)
 kept-after m c k =
     let caches = m.statistics.caches in
-    let before : Choice → Access = access_of m.test m.depth m.state.flat in
-    let after : Choice → Access = access_of m.test m.depth (machine_after m c).state.flat in
+    let before : Choice → MemoryAccess = access_of m.test m.depth m.state.flat in
+    let after : Choice → MemoryAccess = access_of m.test m.depth (machine_after m c).state.flat in
     let next = (machine_after m c).state.holder in
     let uses = uses-of m c k in
     let within = within-lines m.test caches.shape.words (before c) k.words (access-known m.test m.depth m.state.flat c k.test k.known) in
@@ -150,7 +150,7 @@ none-awaited m holder words core line (inr none) = ap (λ w. awaited_at (bus_hol
     if-none true x q = q
     if-none false x q = refl
 
-    by_access : (choice : Choice) (what : Access) → awaited_at (at_access None (λ loc write. Some (bus_holder choice loc None)) what) words core line ≡ None
+    by_access : (choice : Choice) (what : MemoryAccess) → awaited_at (at_access None (λ loc write. Some (bus_holder choice loc None)) what) words core line ≡ None
     by_access choice NoAccess = refl
     by_access choice (Reads loc) = if-none _ _ refl
     by_access choice (Writes loc) = if-none _ _ refl
@@ -168,8 +168,8 @@ victim-told m c k there wrote =
     let next = machine_after m c in
     let caches = m.statistics.caches in
     let words = caches.shape.words in
-    let before : Choice → Access = access_of m.test m.depth m.state.flat in
-    let after : Choice → Access = access_of m.test m.depth next.state.flat in
+    let before : Choice → MemoryAccess = access_of m.test m.depth m.state.flat in
+    let after : Choice → MemoryAccess = access_of m.test m.depth next.state.flat in
     let uses = uses-of m c k in
     let within : core < length caches.contents = subst (λ n. core < n) k.sound.size there in
     let gone = gone-after caches c before after m.state.holder next.state.holder (use_by m c) (lines_of m) uses within k.may k.neat wrote in

@@ -3,7 +3,7 @@ use Rattle.std.proofs.Common.{◌≡◌, ◌∙◌, ℕ, Bool, true, List, [], �
 use Rattle.std.proofs.Math.ListN.{length-set}
 use Rattle.tso_model.specs.Litmus.{Litmus, IsTest}
 use Rattle.tso_model.specs.FlatMachine.{idle, core_of, chosen}
-use Rattle.tso_model.specs.Access.{access_of}
+use Rattle.tso_model.specs.MemoryAccess.{access_of}
 use Rattle.tso_model.specs.declared.instruction.Core.{Core}
 use Rattle.tso_model.specs.declared.choice.Choice.{Choice}
 use Rattle.tso_model.specs.declared.choice.Outcome.{Outcome}
@@ -14,7 +14,7 @@ use Rattle.basic_laws.proofs.Basics.{test-true}
 use Rattle.machine_core.specs.Configuration.{Configuration}
 use Rattle.machine_core.specs.Caches.{is_awaited}
 use Rattle.machine_core.specs.Running.{Running, configuration_of, attempt_on, effect_by, use_by, machine_after}
-use Rattle.machine_core.specs.declared.cache_use.CacheUse.{CacheUse}
+use Rattle.machine_core.specs.declared.accesses.CacheUse.{CacheUse}
 use Rattle.trace_report.specs.Shown.{Shown}
 use Rattle.trace_report.specs.inner.Steps.{waited_before}
 use Rattle.trace_report.specs.Steps.{states_of, number_of, changes_in, is_forwarded, access_in, request_at, sent_on, moved_from, wrote_back_by, buffer_if_changed, step_of}

@@ -4,7 +4,7 @@ use Rattle.std.proofs.lemmas.List.{length-replicate}
 use Rattle.tso_model.specs.FlatMachine.{chosen}
 use Rattle.tso_model.specs.Runs.{has_ended, CoresExist}
 use Rattle.tso_model.specs.declared.choice.Choice.{Choice}
-use Rattle.protocol_tables.specs.Tables.{filled_shared, filled_by_company, write}
+use Rattle.protocol_tables.specs.Tables.{filled_shared, filled_by_sharing, written_in_place}
 use Rattle.protocol_tables.specs.declared.kind.ProtocolKind.TheVariants.{Msi, Mesi, Moesi, Mosi}
 use Rattle.protocol_tables.specs.declared.state.State.{State}
 use Rattle.protocol_tables.specs.declared.state.State.TheVariants.{I, S, E, O, M}
@@ -13,8 +13,8 @@ use Rattle.snoop_bus.specs.declared.access.AccessKind.TheVariants.{Hit, Upgrade,
 use Rattle.machine_core.specs.Running.{Running, new_machine, use_by, machine_after}
 use Rattle.machine_core.specs.Statistics.{Statistics, no_counts, with_access, with_forward, with_write_back, at_core, counted}
 use Rattle.machine_core.specs.declared.counts.Counts.{Counts}
-use Rattle.machine_core.specs.declared.cache_use.CacheUse.{CacheUse}
-use Rattle.machine_core.specs.declared.cache_use.CacheUse.TheVariants.{Unused, Forwarded, Through}
+use Rattle.machine_core.specs.declared.accesses.CacheUse.{CacheUse}
+use Rattle.machine_core.specs.declared.accesses.CacheUse.TheVariants.{Unused, Forwarded, Through}
 use Rattle.machine_core.proofs.CountBounds.{length-counted}
 use Rattle.trace_report.specs.Steps.{step_of, steps_from}
 use Rattle.trace_report.specs.TraceLaws.{count_of, is_sender, tells_write_back, one_if, steps_that, ProtocolsKeepNoCopyInI, AccessesAreTold}
@@ -89,7 +89,7 @@ all-told table c t choices k cores =
 
 -- ---- the protocols
 
-write-valid : (s : State) → write s ≢ Some I
+write-valid : (s : State) → written_in_place s ≢ Some I
 write-valid I q = let z : ⊥ = cc in z
 write-valid S q = let z : ⊥ = cc in z
 write-valid E q = let z : ⊥ = cc in z
@@ -99,7 +99,7 @@ write-valid M q = let z : ⊥ = cc in z
 shared-valid : (shared : Bool) → filled_shared shared ≢ I
 shared-valid shared q = let z : ⊥ = cc in z
 
-company-valid : (shared : Bool) → filled_by_company shared ≢ I
+company-valid : (shared : Bool) → filled_by_sharing shared ≢ I
 company-valid true q = let z : ⊥ = cc in z
 company-valid false q = let z : ⊥ = cc in z
 

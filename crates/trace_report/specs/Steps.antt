@@ -7,11 +7,11 @@ use Rattle.tso_model.specs.Litmus.{Litmus}
 use Rattle.tso_model.specs.Actions.{action_of}
 use Rattle.tso_model.specs.Thread.{value_in}
 use Rattle.tso_model.specs.FlatMachine.{Effect, core_of, program_of, chosen}
-use Rattle.tso_model.specs.Access.{Access, access_of}
+use Rattle.tso_model.specs.MemoryAccess.{MemoryAccess, access_of}
 use Rattle.tso_model.specs.Runs.{has_ended}
 use Rattle.tso_model.specs.declared.action.Action.{Action}
-use Rattle.tso_model.specs.declared.bus.Bus.{Bus}
-use Rattle.tso_model.specs.declared.bus.Bus.TheVariants.{Atomic, Split}
+use Rattle.tso_model.specs.declared.choice.Bus.{Bus}
+use Rattle.tso_model.specs.declared.choice.Bus.TheVariants.{Atomic, Split}
 use Rattle.tso_model.specs.declared.instruction.Instr.{Instr}
 use Rattle.tso_model.specs.declared.choice.Choice.{Choice}
 use Rattle.tso_model.specs.declared.choice.Choice.TheVariants.{Step, Drain}
@@ -21,18 +21,18 @@ use Rattle.tso_model.specs.declared.execution.Entry.{Entry}
 use Rattle.protocol_tables.specs.Tables.{Table, table_of}
 use Rattle.protocol_tables.specs.declared.kind.ProtocolKind.{ProtocolKind}
 use Rattle.protocol_tables.specs.declared.state.State.{State}
-use Rattle.protocol_tables.specs.declared.asking.Transient.{Transient}
-use Rattle.protocol_tables.specs.declared.asking.Transient.TheVariants.{IsD, ImD, SmD}
+use Rattle.protocol_tables.specs.declared.requests.Transient.{Transient}
+use Rattle.protocol_tables.specs.declared.requests.Transient.TheVariants.{IsD, ImD, SmD}
 use Rattle.snoop_bus.specs.Asks.{Awaited, tag_at, or_invalid, request_for}
 use Rattle.snoop_bus.specs.declared.access.AccessKind.{AccessKind}
 use Rattle.snoop_bus.specs.declared.access.AccessKind.TheVariants.{Hit, Upgrade, Miss}
 use Rattle.machine_core.specs.Configuration.{Configuration}
 use Rattle.machine_core.specs.Caches.{at_access}
 use Rattle.machine_core.specs.Running.{Running, new_machine, effect_by, use_by, machine_after}
-use Rattle.machine_core.specs.Looked.{bus_holder_of}
+use Rattle.machine_core.specs.Looking.{bus_holder_of}
 use Rattle.machine_core.specs.declared.looking.BusHolder.{BusHolder}
-use Rattle.machine_core.specs.declared.cache_use.CacheUse.{CacheUse}
-use Rattle.machine_core.specs.declared.cache_use.CacheUse.TheVariants.{Unused, Forwarded, Through}
+use Rattle.machine_core.specs.declared.accesses.CacheUse.{CacheUse}
+use Rattle.machine_core.specs.declared.accesses.CacheUse.TheVariants.{Unused, Forwarded, Through}
 use Rattle.trace_report.specs.Shown.{Shown}
 use Rattle.trace_report.specs.declared.step.Moved.{Moved}
 use Rattle.trace_report.specs.declared.step.LineRequest.{LineRequest}
@@ -84,7 +84,7 @@ access_in (Through a) = Some a.kind
 -- ---- the bus
 
 -- an access asks for the line of its location: to read it, or to write it
-abbrev pub request_at : ℕ → Access → Option LineRequest
+abbrev pub request_at : ℕ → MemoryAccess → Option LineRequest
 request_at words what = at_access None (λ loc write. Some (record { request = request_for write; line = loc.0 / words })) what
 
 -- a hit is served by the core's own copy; an upgrade and a miss go on the bus

@@ -3,7 +3,7 @@
 
 ghost use Rattle.std.specs.Prelude.{◌≡◌, ◌<◌, ◌++◌, IfOk, OnOk, length};
 ghost use Rattle.std.specs.Int.{div_ceil};
-ghost use Rattle.machine_core.specs.Looked.{bus_holder_of};
+ghost use Rattle.machine_core.specs.Looking.{bus_holder_of};
 ghost use Rattle.trace_report.specs.Steps.{awaited_at, line_state, placed, line_states, lines_of, states_of, number_of};
 ghost use Rattle.trace_report.specs.Steps.{change_of, changes_in, left_by};
 ghost use Rattle.trace_report.specs.inner.Told.{IsLookedAt};

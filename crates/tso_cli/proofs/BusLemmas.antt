@@ -9,8 +9,8 @@ use Rattle.tso_model.specs.Runs.{Run, run}
 use Rattle.tso_model.specs.SplitMachine.{Free, Attempt}
 use Rattle.tso_model.specs.EitherBus.{BusState, BusRun, unheld, run_on, after_on, choices_in, HitsFit}
 use Rattle.tso_model.specs.Together.{put_together, together}
-use Rattle.tso_model.specs.declared.bus.Bus.{Bus}
-use Rattle.tso_model.specs.declared.bus.Bus.TheVariants.{Atomic, Split}
+use Rattle.tso_model.specs.declared.choice.Bus.{Bus}
+use Rattle.tso_model.specs.declared.choice.Bus.TheVariants.{Atomic, Split}
 use Rattle.tso_model.specs.declared.choice.Choice.{Choice}
 use Rattle.tso_model.specs.declared.execution.Entry.{Entry}
 use Rattle.tso_laws.specs.EndedRuns.{IsExecution, registers_in}

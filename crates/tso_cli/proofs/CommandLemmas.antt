@@ -2,7 +2,7 @@
 use Rattle.std.proofs.Common.{◌≡◌, ◌+◌, ℕ, ◌≤◌, ◌<◌, List, [], ◌∷◌, length, take, Option, Some, None, IfSome, arith, ap, refl, subst, length-take, zero, suc}
 use Rattle.litmus_reader.specs.Spelling.{SpellsTest, IsRefused as IsRefusedTest}
 use Rattle.tso_cli.specs.Limits.{longest_input}
-use Rattle.tso_cli.specs.Parts.{parts_of}
+use Rattle.tso_cli.specs.Dividing.{parts_of}
 use Rattle.tso_cli.specs.Answers.{IsInputAnswer, IsAnswerTo, IsAnswer, most_read, too_large, refused, answered}
 use Rattle.tso_cli.specs.Headline.{InputHeadline, PartsHeadline, Headline}
 use Rattle.command_line.specs.declared.settings.Settings.{Settings}

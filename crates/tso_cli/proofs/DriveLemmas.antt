@@ -4,7 +4,7 @@ use Rattle.tso_model.specs.Litmus.{Litmus}
 use Rattle.tso_model.specs.Runs.{has_ended, stall_count}
 use Rattle.tso_model.specs.SplitMachine.{Holder, Free, Attempt}
 use Rattle.tso_model.specs.EitherBus.{BusState, BusRun, effect_on, after_on, run_on, then_on, resting_on, HitFits, HitsFit}
-use Rattle.tso_model.specs.declared.bus.Bus.{Bus}
+use Rattle.tso_model.specs.declared.choice.Bus.{Bus}
 use Rattle.tso_model.specs.declared.choice.Choice.{Choice}
 use Rattle.tso_model.specs.declared.choice.Outcome.{Outcome}
 use Rattle.tso_model.specs.declared.choice.Outcome.TheVariants.{Committed, Buffered, Moved, Asked}

@@ -4,8 +4,8 @@ use Rattle.tso_model.specs.Litmus.{Litmus, IsTest}
 use Rattle.tso_model.specs.Axioms.{IsWhole}
 use Rattle.tso_model.specs.Standing.{StandsIn}
 use Rattle.tso_model.specs.SequentialConsistency.{KeepsAllOrder}
-use Rattle.tso_model.specs.declared.bus.Bus.{Bus}
-use Rattle.tso_model.specs.declared.bus.Bus.TheVariants.{Atomic}
+use Rattle.tso_model.specs.declared.choice.Bus.{Bus}
+use Rattle.tso_model.specs.declared.choice.Bus.TheVariants.{Atomic}
 use Rattle.tso_model.specs.declared.choice.Choice.{Choice}
 use Rattle.tso_model.specs.declared.execution.Entry.{Entry}
 use Rattle.tso_laws.specs.Entries.{FitsTest}
@@ -21,7 +21,7 @@ use Rattle.tso_report.specs.Report.{head, report}
 use Rattle.tso_report.specs.Shown.{Shown}
 use Rattle.tso_cli.specs.Answers.{run_text, IsRunAnswer, IsAnswerTo, IsInputAnswer, IsAnswer, too_large, refused, answered, ran}
 use Rattle.command_line.specs.Limits.{IsWithinLimits}
-use Rattle.tso_cli.specs.Parts.{parts_of}
+use Rattle.tso_cli.specs.Dividing.{parts_of}
 use Rattle.command_line.specs.Plan.{Plan}
 use Rattle.tso_cli.specs.RunHeadline.{PrintsExecution, PrintsEachRun, HeadlineOfRuns}
 use Rattle.tso_cli.specs.Trace.{ending_text, traced_in, IsTooLong, IsTraceAnswer, refused, too_long, traced}

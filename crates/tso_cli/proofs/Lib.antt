@@ -6,7 +6,7 @@ pub mod CountLemmas
 pub mod StateLemmas
 pub mod SweepLemmas
 pub mod AnswerLemmas
-pub mod PartLemmas
+pub mod DividingLemmas
 mod Lines
 pub mod OneAnswer
 pub mod TraceLemmas

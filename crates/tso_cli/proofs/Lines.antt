@@ -3,8 +3,8 @@ use Rattle.std.proofs.Common.{◌≡◌, ◌==◌, ◌≢◌, ◌≤◌, ◌<◌
 use Rattle.std.proofs.lemmas.Bool.Decides.{nat_tests}
 use Rattle.std.proofs.Math.Seq.{take-add}
 use Rattle.std.proofs.lemmas.List.{drop-drop, nil_from_length}
-use Rattle.tso_cli.specs.Parts.{after_divider, Parts, with_byte, parts_from, parts_of}
-use Rattle.tso_cli.specs.inner.Parts.{line_length}
+use Rattle.tso_cli.specs.Dividing.{after_divider, Parts, with_byte, parts_from, parts_of}
+use Rattle.tso_cli.specs.inner.Dividing.{line_length}
 
 pub line_within : (text : List ℕ) → line_length text ≤ length text
 unfolding line_length

@@ -19,7 +19,7 @@ use Rattle.tso_report.specs.inner.JsonFrame.{other_members}
 use Rattle.tso_report.specs.Tally.{RunCounts, tally_text}
 use Rattle.command_line.specs.Plan.{Plan}
 use Rattle.command_line.specs.declared.settings.Settings.TheVariants as settings
-use Rattle.tso_cli.specs.Parts.{parts_of, EndsInFeed}
+use Rattle.tso_cli.specs.Dividing.{parts_of, EndsInFeed}
 use Rattle.tso_cli.specs.Lines.{input_refusal, test_refusal, choices_refusal, unfinished_line}
 use Rattle.tso_cli.specs.RunTexts.{report_in, unfinished_in}
 use Rattle.tso_cli.specs.Runs.{run_under, counts_under}

@@ -6,7 +6,7 @@ use Rattle.scheduler.specs.Refusals.{IsDecided}
 use Rattle.scheduler.specs.declared.fault.ChoiceFault.TheVariants.{TooMany}
 use Rattle.protocol_tables.specs.declared.kind.ProtocolKind.{ProtocolKind}
 use Rattle.machine_core.specs.Configuration.{Configuration}
-use Rattle.tso_cli.specs.Parts.{parts_of}
+use Rattle.tso_cli.specs.Dividing.{parts_of}
 use Rattle.tso_cli.specs.Runs.{run_under, counts_under}
 use Rattle.tso_cli.specs.Lines.{test_refusal, choices_refusal}
 use Rattle.tso_cli.specs.CheckLines.{order_refusal, invalid_line}
@@ -19,7 +19,7 @@ use Rattle.tso_cli.specs.declared.answer.Status.{Status}
 use Rattle.tso_cli.specs.OneText.{GivesOneAnswer}
 use Rattle.tso_cli.specs.inner.ReadOneWay.{AreReadOneWay}
 use Rattle.tso_cli.proofs.CheckLemmas.{IsReal, IsOne}
-use Rattle.tso_cli.proofs.PartLemmas.{rest_within}
+use Rattle.tso_cli.proofs.DividingLemmas.{rest_within}
 use Rattle.tso_cli.proofs.TraceLengths.{one-word, never-both}
 
 abbrev pub Same : List ℕ → List ℕ → Status → Status → Type 0

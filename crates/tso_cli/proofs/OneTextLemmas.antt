@@ -7,8 +7,8 @@ use Rattle.tso_model.specs.Condition.{Condition}
 use Rattle.tso_model.specs.Axioms.{IsTsoExecution}
 use Rattle.tso_model.specs.FinalState.{final_words, final_registers}
 use Rattle.tso_model.specs.Runs.{Run, run}
-use Rattle.tso_model.specs.declared.bus.Bus.{Bus}
-use Rattle.tso_model.specs.declared.bus.Bus.TheVariants.{Atomic, Split}
+use Rattle.tso_model.specs.declared.choice.Bus.{Bus}
+use Rattle.tso_model.specs.declared.choice.Bus.TheVariants.{Atomic, Split}
 use Rattle.tso_model.specs.declared.choice.Choice.{Choice}
 use Rattle.tso_model.specs.declared.execution.Entry.{Entry}
 use Rattle.litmus_reader.specs.Spelling.{SpellsTest, IsRefused as IsRefusedTest, IsDecided as IsDecidedTest}
@@ -27,7 +27,7 @@ use Rattle.tso_report.specs.Report.{head}
 use Rattle.tso_report.specs.Tally.{observation, state_lines, sweep_line, ended_in, run_counts}
 use Rattle.command_line.specs.Plan.{Plan}
 use Rattle.tso_cli.specs.Limits.{longest_input}
-use Rattle.tso_cli.specs.Parts.{Parts, parts_of}
+use Rattle.tso_cli.specs.Dividing.{Parts, parts_of}
 use Rattle.tso_cli.specs.Lines.{test_refusal, choices_refusal}
 use Rattle.tso_cli.specs.CheckLines.{order_refusal, invalid_line}
 use Rattle.tso_cli.specs.Simulation.{verdict}

@@ -13,7 +13,7 @@ use Rattle.tso_model.specs.FlatMachine.{start}
 use Rattle.tso_model.specs.Runs.{Run, has_ended, stall_count}
 use Rattle.tso_model.specs.SplitMachine.{Attempt}
 use Rattle.tso_model.specs.EitherBus.{BusState, unheld, effect_on, after_on, run_on_from, resting_on, then_on}
-use Rattle.tso_model.specs.declared.bus.Bus.{Bus}
+use Rattle.tso_model.specs.declared.choice.Bus.{Bus}
 use Rattle.tso_model.specs.declared.instruction.Instr.{Instr}
 use Rattle.tso_model.specs.declared.instruction.Instr.TheVariants.{StoreImm, StoreReg, Load, SetImm, SetReg, Fence, Xchg, Xadd}
 use Rattle.tso_model.specs.declared.execution.Entry.{Entry}
@@ -28,7 +28,7 @@ use Rattle.machine_core.specs.Configuration.{Configuration, IsConfigurationWithi
 use Rattle.tso_report.specs.Report.{report}
 use Rattle.tso_report.specs.Shown.{Shown}
 use Rattle.tso_report.specs.Limits.{longest_report, IsSmall}
-use Rattle.tso_cli.specs.Parts.{Parts, parts_of, joined}
+use Rattle.tso_cli.specs.Dividing.{Parts, parts_of, joined}
 use Rattle.tso_cli.specs.CheckLines.{valid_line}
 use Rattle.tso_cli.specs.Runs.{run_by, run_under, AnswersFit, counts_under}
 use Rattle.tso_cli.specs.Simulation.{shown_of}

@@ -3,7 +3,7 @@ use Rattle.std.proofs.Common.{◌≡◌, ◌∙◌, ℕ, Bool, List, map, length
 use Rattle.std.proofs.lemmas.List.Elements.{All-weaker, All-contains}
 use Rattle.tso_model.specs.Litmus.{Litmus}
 use Rattle.tso_model.specs.Runs.{run}
-use Rattle.tso_model.specs.declared.bus.Bus.TheVariants.{Atomic}
+use Rattle.tso_model.specs.declared.choice.Bus.TheVariants.{Atomic}
 use Rattle.litmus_reader.specs.Spelling.{SpellsTest}
 use Rattle.scheduler.specs.Printed.{printed_choices}
 use Rattle.protocol_tables.specs.declared.kind.ProtocolKind.{ProtocolKind}
@@ -16,7 +16,7 @@ use Rattle.command_line.specs.Search.{Search}
 use Rattle.tso_cli.specs.Answers.{IsInputAnswer, too_large, refused, answered}
 use Rattle.tso_cli.specs.OneText.{ShowTheSameStates}
 use Rattle.tso_cli.specs.Outcomes.{AreAllOutcomes, IsOutcomesAnswer, found, too_many}
-use Rattle.tso_cli.specs.Parts.{parts_of, joined}
+use Rattle.tso_cli.specs.Dividing.{parts_of, joined}
 use Rattle.tso_cli.specs.Revisited.{IsRevisited, AreRevisited}
 use Rattle.tso_cli.specs.Runs.{counts_under}
 use Rattle.tso_cli.specs.Simulation.{shown_of}

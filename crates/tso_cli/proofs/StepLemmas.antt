@@ -7,7 +7,7 @@ use Rattle.protocol_tables.specs.declared.kind.ProtocolKind.{ProtocolKind}
 use Rattle.machine_core.specs.Configuration.{Configuration}
 use Rattle.tso_cli.specs.Answers.{run_status, answered}
 use Rattle.tso_cli.specs.Limits.{longest_input}
-use Rattle.tso_cli.specs.Parts.{parts_of}
+use Rattle.tso_cli.specs.Dividing.{parts_of}
 use Rattle.tso_cli.specs.Simulation.{IsEndingOf}
 use Rattle.tso_cli.specs.Step.{IsStepAnswer}
 use Rattle.tso_cli.specs.Step as answer

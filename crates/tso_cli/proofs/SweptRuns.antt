@@ -5,11 +5,11 @@ use Rattle.tso_model.specs.Litmus.{Litmus}
 use Rattle.tso_model.specs.ProgramOrder.{writes_to}
 use Rattle.tso_model.specs.FlatMachine.{State, chosen, core_of, registers_in}
 use Rattle.tso_model.specs.Runs.{Run, has_ended}
-use Rattle.tso_model.specs.Access.{Access, NoAccess, Reads, Writes, Locks, access_of}
+use Rattle.tso_model.specs.MemoryAccess.{MemoryAccess, NoAccess, Reads, Writes, Locks, access_of}
 use Rattle.tso_model.specs.EitherBus.{BusState, effect_on, after_on}
 use Rattle.tso_model.specs.Together.{together}
-use Rattle.tso_model.specs.declared.bus.Bus.{Bus}
-use Rattle.tso_model.specs.declared.bus.Bus.TheVariants.{Atomic, Split}
+use Rattle.tso_model.specs.declared.choice.Bus.{Bus}
+use Rattle.tso_model.specs.declared.choice.Bus.TheVariants.{Atomic, Split}
 use Rattle.tso_model.specs.declared.choice.Choice.{Choice}
 use Rattle.tso_model.specs.declared.execution.Entry.{Entry}
 use Rattle.tso_model.specs.declared.execution.Kind.{Kind}
@@ -19,7 +19,7 @@ use Rattle.protocol_tables.specs.Tables.{table_of as table_of_kind}
 use Rattle.protocol_tables.specs.declared.kind.ProtocolKind.{ProtocolKind}
 use Rattle.snoop_bus.specs.Rows.{Rows, rows_of, table_of_rows}
 use Rattle.snoop_bus.specs.Geometry.{Geometry}
-use Rattle.machine_core.specs.declared.cache_use.CacheUse.TheVariants.{Forwarded}
+use Rattle.machine_core.specs.declared.accesses.CacheUse.TheVariants.{Forwarded}
 use Rattle.machine_core.specs.Caches.{Caches, not_through, load_by, use_by_kind, use_of, attempt_of, is_awaited, used_between}
 use Rattle.machine_core.specs.Configuration.{Configuration}
 use Rattle.machine_core.specs.Statistics.{Statistics, statistics_from, statistics_after}
@@ -55,7 +55,7 @@ by-commits : (c : Caches) (pending es : List Entry) → SameTable c (use_of c pe
 by-commits c pending [] = record { rows = refl; shape = refl }
 by-commits c pending (e ∷ es) = by-kind c pending e e.kind
 
-by-use : (before after : Bool) (c : Caches) (core : ℕ) (what : Access) (pending es : List Entry) → SameTable c (used_between before after c core what pending es).caches
+by-use : (before after : Bool) (c : Caches) (core : ℕ) (what : MemoryAccess) (pending es : List Entry) → SameTable c (used_between before after c core what pending es).caches
 by-use false true c core NoAccess pending es = record { rows = refl; shape = refl }
 by-use false true c core (Reads loc) pending es = record { rows = refl; shape = refl }
 by-use false true c core (Writes loc) pending es = record { rows = refl; shape = refl }

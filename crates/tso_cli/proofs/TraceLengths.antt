@@ -6,8 +6,8 @@ use Rattle.tso_model.specs.FlatMachine.{start}
 use Rattle.tso_model.specs.EitherBus.{BusState, unheld, effect_on, after_on, resting_on, then_on, run_on_from}
 use Rattle.tso_model.specs.SplitMachine.{Attempt}
 use Rattle.tso_model.specs.Runs.{Run, has_ended}
-use Rattle.tso_model.specs.declared.bus.Bus.{Bus}
-use Rattle.tso_model.specs.declared.bus.Bus.TheVariants.{Atomic, Split}
+use Rattle.tso_model.specs.declared.choice.Bus.{Bus}
+use Rattle.tso_model.specs.declared.choice.Bus.TheVariants.{Atomic, Split}
 use Rattle.tso_model.specs.declared.choice.Choice.{Choice}
 use Rattle.tso_laws.proofs.Beginnings.{run-begins}
 use Rattle.scheduler.specs.WordOfChoice.{IsWordOfChoice}

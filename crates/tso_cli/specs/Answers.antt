@@ -22,7 +22,7 @@ use Rattle.protocol_tables.specs.declared.kind.ProtocolKind.{ProtocolKind}
 use Rattle.machine_core.specs.Configuration.{Configuration}
 use Rattle.machine_core.specs.declared.counts.Counts.{Counts}
 use Rattle.tso_cli.specs.Limits.{longest_input}
-use Rattle.tso_cli.specs.Parts.{parts_of}
+use Rattle.tso_cli.specs.Dividing.{parts_of}
 use Rattle.tso_cli.specs.Lines.{input_refusal, test_refusal, choices_refusal}
 use Rattle.tso_cli.specs.RunTexts.{report_in, unfinished_in}
 use Rattle.tso_cli.specs.Runs.{run_under, counts_under, AnswersFit}

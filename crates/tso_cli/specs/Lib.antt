@@ -1,5 +1,5 @@
 pub mod Streams
-pub mod Parts
+pub mod Dividing
 pub mod Limits
 pub mod Runs
 pub mod Simulation

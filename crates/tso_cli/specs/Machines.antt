@@ -2,7 +2,7 @@
 -- caches: one text, into which each puts its own `Machine` and `Cache` lines, or members, and nothing else. (This project's
 -- profile.)
 use Rattle.std.specs.Prelude.{ℕ, ◌≡◌, ◌≢◌, ◌⊎◌, Bool, true, false, List, ◌++◌, length}
-use Rattle.tso_model.specs.declared.bus.Bus.TheVariants.{Atomic}
+use Rattle.tso_model.specs.declared.choice.Bus.TheVariants.{Atomic}
 use Rattle.tso_model.specs.declared.choice.Choice.{Choice}
 use Rattle.protocol_tables.specs.declared.kind.ProtocolKind.{ProtocolKind}
 use Rattle.machine_core.specs.Configuration.{Configuration}
@@ -15,7 +15,7 @@ use Rattle.trace_report.specs.Shown.{Shown as Step}
 use Rattle.tso_report.specs.Json.{cache_value, machine_value, json_report}
 use Rattle.tso_report.specs.JsonFrame.{OtherMembers, json_with}
 use Rattle.trace_json.specs.TracedRun.{json_ended, json_unended}
-use Rattle.tso_cli.specs.Parts.{EndsInFeed}
+use Rattle.tso_cli.specs.Dividing.{EndsInFeed}
 use Rattle.tso_cli.specs.declared.answer.Status.{Status}
 use Rattle.tso_cli.specs.declared.answer.Status.TheVariants.{Good, Refused}
 

@@ -11,7 +11,7 @@ use Rattle.outcome_report.specs.Outcomes.{Outcome, shown_values}
 use Rattle.outcome_report.specs.Printed.{outcomes_in}
 use Rattle.command_line.specs.declared.settings.Settings.TheVariants as settings
 use Rattle.tso_cli.specs.Answers.{IsAnswer}
-use Rattle.tso_cli.specs.Parts.{joined}
+use Rattle.tso_cli.specs.Dividing.{joined}
 use Rattle.tso_cli.specs.RunTexts.{report_in}
 use Rattle.tso_cli.specs.declared.answer.Status.{Status}
 use Rattle.tso_cli.specs.declared.answer.Status.TheVariants.{Good}

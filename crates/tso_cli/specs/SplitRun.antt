@@ -5,7 +5,7 @@ use Rattle.tso_model.specs.Litmus.{Litmus}
 use Rattle.tso_model.specs.Runs.{Run}
 use Rattle.tso_model.specs.EitherBus.{run_on}
 use Rattle.tso_model.specs.Together.{together}
-use Rattle.tso_model.specs.declared.bus.Bus.TheVariants.{Split}
+use Rattle.tso_model.specs.declared.choice.Bus.TheVariants.{Split}
 use Rattle.tso_model.specs.declared.choice.Choice.{Choice}
 use Rattle.protocol_tables.specs.Tables.{table_of}
 use Rattle.protocol_tables.specs.declared.kind.ProtocolKind.{ProtocolKind}

@@ -10,7 +10,7 @@ use Rattle.trace_json.specs.TracedRun.{json_last_step}
 use Rattle.command_line.specs.declared.settings.Settings.TheVariants as settings
 use Rattle.tso_cli.specs.Answers.{IsInputAnswer, status_under}
 use Rattle.tso_cli.specs.Limits.{longest_input}
-use Rattle.tso_cli.specs.Parts.{parts_of}
+use Rattle.tso_cli.specs.Dividing.{parts_of}
 use Rattle.tso_cli.specs.Runs.{run_under, AnswersFit}
 use Rattle.tso_cli.specs.Trace.{FitsForm}
 use Rattle.tso_cli.specs.declared.answer.Status.{Status}

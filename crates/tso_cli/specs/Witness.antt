@@ -18,7 +18,7 @@ use Rattle.protocol_tables.specs.declared.kind.ProtocolKind.{ProtocolKind}
 use Rattle.machine_core.specs.Configuration.{Configuration}
 use Rattle.tso_report.specs.Shown.{Shown}
 use Rattle.tso_report.specs.Report.{line}
-use Rattle.tso_cli.specs.Parts.{Parts}
+use Rattle.tso_cli.specs.Dividing.{Parts}
 use Rattle.tso_cli.specs.Lines.{depth_line}
 use Rattle.tso_cli.specs.RunTexts.{report_in}
 use Rattle.tso_cli.specs.CheckLines.{order_refusal, invalid_line}

@@ -1,7 +1,7 @@
 -- Words of contracts inside the project.
 pub mod Answers
 pub mod CheckLines
-pub mod Parts
+pub mod Dividing
 pub mod ReadOneWay
 pub mod Runs
 pub mod Simulation

@@ -10,17 +10,17 @@ ghost use Rattle.command_line.specs.Limits.{HasDepth};
 ghost use Rattle.tso_cli.specs.Lines.{test_refusal, input_refusal};
 
 use crate::checking::check_answer;
+use crate::dividing::parts_of;
 use crate::hinting::may_mislead;
 use crate::laws::answers_meet_the_headline;
 use crate::outcomes::outcomes_answer;
-use crate::parts::parts_of;
 use crate::running::run_answer;
 use crate::streams::MAX_INPUT;
 use crate::sweeping::sweep_answer;
 use crate::tracing::trace_answer;
 use crate::witnessing::witness_answer;
 use command_line::Settings;
-use hints::{Asked, Cause};
+use hints::{Cause, SecondPart};
 use litmus_reader::{Fault, ReadError, Why, refusal_for, test_or_fault};
 use protocol_tables::{ProtocolKind, table_text};
 use std::alloc::Global;
@@ -53,7 +53,7 @@ pub struct Answer {
 /// Errors: out of memory only.
 pub(crate) fn refused_test(
     alloc: Global,
-    asked: Asked,
+    asked: SecondPart,
     text: &[u8],
     fault: Fault,
 ) -> Result<Answer, NoMemory>
@@ -79,11 +79,12 @@ pub(crate) fn refused_test(
 }
 
 /// What a command reads after the dividing line.
-fn asked(settings: &Settings) -> Asked {
+fn asked(settings: &Settings) -> SecondPart {
     match settings {
-        Settings::Run { .. } | Settings::Trace { .. } => Asked::Choices,
-        Settings::Check | Settings::Witness { .. } => Asked::Order,
-        Settings::Sweep { .. } | Settings::Outcomes { .. } | Settings::Tables(_) => Asked::Nothing,
+        Settings::Run { .. } | Settings::Trace { .. } => SecondPart::Choices,
+        Settings::Check | Settings::Witness { .. } => SecondPart::Order,
+        Settings::Sweep { .. } | Settings::Outcomes { .. } | Settings::Tables(_) =>
+            SecondPart::Nothing,
     }
 }
 

@@ -8,12 +8,12 @@ ghost use Rattle.tso_cli.specs.Step.{IsStepAnswer};
 ghost use Rattle.tso_cli.specs.inner.Step.{IsLastStep, status_after};
 
 use crate::answer::{Answer, Status, refused_input, refused_test};
+use crate::dividing::parts_of;
 use crate::measuring::{Measured, measure, too_long};
-use crate::parts::parts_of;
 use crate::running::{cause_of, refused_choices};
 use crate::simulation::Ending;
 use crate::streams::MAX_INPUT;
-use hints::Asked;
+use hints::SecondPart;
 use litmus_reader::{ReadError, test_or_fault};
 use machine_core::{Choice, Config};
 use protocol_tables::ProtocolKind;
@@ -40,7 +40,7 @@ pub fn step_answer(
     let parts = parts_of(input);
     match test_or_fault(alloc, parts.test) {
         Ok(test) => test_answer(alloc, &test, protocol, config, parts.rest),
-        Err(ReadError::Fault(fault)) => refused_test(alloc, Asked::Choices, parts.test, fault),
+        Err(ReadError::Fault(fault)) => refused_test(alloc, SecondPart::Choices, parts.test, fault),
         Err(ReadError::NoMemory) => Err(NoMemory),
     }
 }

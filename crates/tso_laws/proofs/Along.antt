@@ -16,15 +16,15 @@ use Rattle.tso_model.specs.FlatMachine.{core_of, CoreState, State, idle, program
 use Rattle.tso_model.specs.Runs.{CoresExist, is_done, all_done, has_ended, run_from, stall_count}
 use Rattle.tso_laws.specs.Along.{steps, drained, choices_for, places_after, last_steps, choices_from, beginnings, choices_along, LeadTo}
 use Rattle.basic_laws.proofs.Lists.{Member, drop-end}
-use Rattle.tso_laws.proofs.Sees.{Queued}
-use Rattle.tso_laws.proofs.Holds.{left, trace}
-use Rattle.tso_laws.proofs.World.{world-start}
+use Rattle.tso_laws.proofs.OneList.{Queued}
+use Rattle.tso_laws.proofs.CoreInvariant.{left, trace}
+use Rattle.tso_laws.proofs.MachineInvariant.{world-start}
 use Rattle.tso_laws.proofs.Work.{choice-changes, done-undone, length-starts}
 use Rattle.tso_laws.proofs.Rounds.{after-append, all-done, done-now, size-kept, starts-idle}
 use Rattle.tso_laws.proofs.Held.{member-split, each-of, Distinct, Apart, held-none}
-use Rattle.tso_laws.proofs.Goes.{first_of, Good, Stands, holds-of, AllTake, takes-append, commits-append, Goes, goes-append, entries-from}
-use Rattle.tso_laws.proofs.Quiet.{quiet-steps, drain-goes}
-use Rattle.tso_laws.proofs.Onward.{x-in-order, only-stores, held-fits, place-below, step-onward}
+use Rattle.tso_laws.proofs.OrderSteps.{first_of, Good, Stands, holds-of, AllTake, takes-append, commits-append, Goes, goes-append, entries-from}
+use Rattle.tso_laws.proofs.UpToEntry.{quiet-steps, drain-goes}
+use Rattle.tso_laws.proofs.NextEntry.{x-in-order, only-stores, held-fits, place-below, step-onward}
 
 not-twice : (front back : List Entry) (x : Entry) → Distinct (front ++ (x ∷ back)) → Member x front → ⊥
 not-twice [] back x d m = m

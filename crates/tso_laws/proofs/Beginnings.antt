@@ -12,7 +12,7 @@ use Rattle.tso_laws.specs.Depth.{needed}
 use Rattle.tso_laws.specs.EndedRuns.{IsExecution}
 use Rattle.tso_laws.specs.Choices.{state_after, commits_of}
 use Rattle.tso_model.specs.Runs.{is_done, has_ended, Run, then_run, resting, run, run_from}
-use Rattle.tso_laws.proofs.World.{World, world-run, world-start}
+use Rattle.tso_laws.proofs.MachineInvariant.{MachineInvariant, world-run, world-start}
 use Rattle.tso_laws.proofs.Final.{ended_is_tso, ended_has_registers, memory-list, keeps_all, world-needs}
 use Rattle.tso_laws.proofs.Work.{run-ended, is_none-is, done-length}
 use Rattle.tso_laws.proofs.Along.{done-at}
@@ -45,10 +45,10 @@ has-ended t state h = record {
 
 -- the world at the end of a run
 pub record AtEnd (t : Litmus) (d : ℕ) (r : Run) : Type 0 where
-  pub world : World d t r.commits r.state
+  pub world : MachineInvariant d t r.commits r.state
   pub ended : HasEnded t r.state
 
-pub run-world : (t : Litmus) (d : ℕ) (cs : List Choice) → HasLocations t → World d t (run t d cs).commits (run t d cs).state
+pub run-world : (t : Litmus) (d : ℕ) (cs : List Choice) → HasLocations t → MachineInvariant d t (run t d cs).commits (run t d cs).state
 run-world t d cs known =
     let b = run-begins t d (start t) cs in
     rw (b.commits, b.now) (world-run t d [] (start t) (take (run t d cs).used cs) known (world-start d t))

@@ -17,9 +17,9 @@ use Rattle.tso_model.specs.FlatMachine.{core_of, CoreState, State, idle, program
 use Rattle.tso_model.specs.declared.execution.Kind.TheVariants.{LR}
 use Rattle.basic_laws.proofs.Lists.{Each, each-append, each-at, each-right, Member, member-at, drop-end, append-nil}
 use Rattle.tso_laws.proofs.Entries.{ordered-left, few-left, Fine, Ordered, Few, DueIn, count}
-use Rattle.tso_laws.proofs.Sees.{Sees}
-use Rattle.tso_laws.proofs.Holds.{Holds, left, trace, IsMemory, Paired}
-use Rattle.tso_laws.proofs.World.{World}
+use Rattle.tso_laws.proofs.OneList.{OneList}
+use Rattle.tso_laws.proofs.CoreInvariant.{CoreInvariant, left, trace, IsMemory, Paired}
+use Rattle.tso_laws.proofs.MachineInvariant.{MachineInvariant}
 
 -- what is known of each core at the end
 pub record Ended (d : ℕ) (t : Litmus) (order : List Entry) (k : ℕ) : Type 0 where
@@ -30,11 +30,11 @@ pub record Ended (d : ℕ) (t : Litmus) (order : List Entry) (k : ℕ) : Type 0 
 nothing_left : (k : ℕ) (program : List Instr) (s : CoreState) (order : List Entry) → length program ≡ s.place → left k program s order ≡ []
 nothing_left k program s order h = rw (drop-end program s.place h) refl
 
-ended : (d : ℕ) (t : Litmus) (order : List Entry) (k : ℕ) (s : CoreState) → Holds d k (program_of t k) (slice_index_or t.registers k []) t.words order s
+ended : (d : ℕ) (t : Litmus) (order : List Entry) (k : ℕ) (s : CoreState) → CoreInvariant d k (program_of t k) (slice_index_or t.registers k []) t.words order s
     → length (program_of t k) ≡ s.place → s.pending ≡ [] → Ended d t order k
 ended d t order k s h p q =
     let same : order ++ s.pending ≡ order = ap (λ z. order ++ z) q ∙ append-nil order in
-    let v : Sees d k (s.place + s.place) t.words h.done order = subst (λ z. Sees d k (s.place + s.place) t.words h.done z) same h.sees in
+    let v : OneList d k (s.place + s.place) t.words h.done order = subst (λ z. OneList d k (s.place + s.place) t.words h.done z) same h.sees in
     let m : made_by k (program_of t k) (slice_index_or t.registers k []) order ≡ h.done =
     ap (λ z. made_by k (program_of t k) (slice_index_or t.registers k []) z) (sym (append-nil order))
     ∙ trace d k (program_of t k) (slice_index_or t.registers k []) t.words order s h [] ∙ ap (λ z. h.done ++ z) (nothing_left k (program_of t k) s (order ++ []) p) ∙ append-nil h.done in
@@ -44,7 +44,7 @@ ended d t order k s h p q =
       members = subst (λ z. Each (λ e. Member e order) z) (sym m) v.members;
     }
 
-ended-at : (d : ℕ) (t : Litmus) (order : List Entry) (state : State) → World d t order state → HasEnded t state → (k : ℕ) → k < length t.programs → Ended d t order k
+ended-at : (d : ℕ) (t : Litmus) (order : List Entry) (state : State) → MachineInvariant d t order state → HasEnded t state → (k : ℕ) → k < length t.programs → Ended d t order k
 ended-at d t order state w h k l =
     let g = slice_get-get_or state.cores k idle (rw w.size l) in
     let e = h.each k (slice_index_or state.cores k idle) g in
@@ -120,11 +120,11 @@ paired-at (y ∷ ys) h zero x e l =
 paired-at (y ∷ ys) h (suc i) x e l = paired-at ys h.1 i x e l
 
 -- what each core has seen, at each moment
-world-holds : (d : ℕ) (t : Litmus) (order : List Entry) (state : State) → World d t order state → (k : ℕ) → k < length t.programs
-    → Holds d k (program_of t k) (slice_index_or t.registers k []) t.words order (core_of state k)
+world-holds : (d : ℕ) (t : Litmus) (order : List Entry) (state : State) → MachineInvariant d t order state → (k : ℕ) → k < length t.programs
+    → CoreInvariant d k (program_of t k) (slice_index_or t.registers k []) t.words order (core_of state k)
 world-holds d t order state w k l = w.cores k (core_of state k) (slice_get-get_or state.cores k idle (rw w.size l))
 
-pub world-ordered : (d : ℕ) (t : Litmus) (order : List Entry) (state : State) → World d t order state → (k : ℕ) → k < length t.programs → Ordered d k order
+pub world-ordered : (d : ℕ) (t : Litmus) (order : List Entry) (state : State) → MachineInvariant d t order state → (k : ℕ) → k < length t.programs → Ordered d k order
 world-ordered d t order state w k l = ordered-left d k order (core_of state k).pending (world-holds d t order state w k l).sees.kept
 
 -- two entries of one program that stand the other way round
@@ -141,11 +141,11 @@ turned d n xs i j x y known f a b q l = elim (le-cases j i l) [
 pub kept-by-each : (d n : ℕ) (xs : List Entry) → Each (λ e. e.core.0 < n) xs → ((k : ℕ) → k < n → Ordered d k xs) → KeepsProgramOrder xs
 kept-by-each d n xs known f i j x y a b q g = lt-by (λ l. let u = (turned d n xs i j x y known f a b q l).0 in let z : ⊥ = cc in z)
 
-pub keeps_all : (t : Litmus) (order : List Entry) (state : State) → World 0 t order state → KeepsAllOrder order
+pub keeps_all : (t : Litmus) (order : List Entry) (state : State) → MachineInvariant 0 t order state → KeepsAllOrder order
 keeps_all t order state w i j x y a b q =
     lt-by (λ l. let u = (turned 0 (length t.programs) order i j x y w.known (world-ordered 0 t order state w) a b q l).1 in absurd (omega (arith, u)))
 
-pub ended_is_tso : (d : ℕ) (t : Litmus) (order : List Entry) (state : State) → World d t order state → HasEnded t state → IsTsoExecution t order
+pub ended_is_tso : (d : ℕ) (t : Litmus) (order : List Entry) (state : State) → MachineInvariant d t order state → HasEnded t state → IsTsoExecution t order
 ended_is_tso d t order state w h =
     let each = ended-at d t order state w h in
     let m : AllMade order 0 t.programs t.registers = all_made order 0 t.programs t.registers (λ j l. made_here j (each j l)) in
@@ -199,7 +199,7 @@ take_end [] (suc n) e = refl
 take_end (x ∷ p) zero e = absurd (omega arith)
 take_end (x ∷ p) (suc n) e = ap (λ z. x ∷ z) (take_end p n (omega arith))
 
-pub ended_has_registers : (d : ℕ) (t : Litmus) (order : List Entry) (state : State) → World d t order state → HasEnded t state → map (λ s. s.registers) state.cores ≡ final_registers t order
+pub ended_has_registers : (d : ℕ) (t : Litmus) (order : List Entry) (state : State) → MachineInvariant d t order state → HasEnded t state → map (λ s. s.registers) state.cores ≡ final_registers t order
 ended_has_registers d t order state w h = registers-list 0 t.programs state.cores t.registers order w.size (λ j l. subst (λ z. (core_of state j).registers ≡ registers_of z (program_of t j) (slice_index_or t.registers z []) order) (let z : j ≡ 0 + j = omega arith in z) (each j l))
   where
     each : (j : ℕ) → j < length t.programs → (core_of state j).registers ≡ registers_of j (program_of t j) (slice_index_or t.registers j []) order
@@ -218,6 +218,6 @@ needed_within n d (x ∷ xs) p k f =
     here true q g = g q
     here false q g = elim (is_store x) as (λ b. (if b then 1 else 0) ≤ d) [ true ↦ omega arith | false ↦ omega arith ]
 
-pub world-needs : (d : ℕ) (t : Litmus) (order : List Entry) (state : State) → 0 < d → World d t order state → needs order ≤ d
+pub world-needs : (d : ℕ) (t : Litmus) (order : List Entry) (state : State) → 0 < d → MachineInvariant d t order state → needs order ≤ d
 world-needs d t order state p w =
     needed_within (length t.programs) d order p w.known (λ c l. few-left d c order (core_of state c).pending (world-holds d t order state w c l).sees.few)

@@ -17,8 +17,8 @@ use Rattle.tso_laws.specs.Entries.{FitsTest}
 use Rattle.basic_laws.proofs.Lists.{Each, each-append, Member}
 use Rattle.tso_laws.proofs.Folds.{HasLocations}
 use Rattle.tso_laws.proofs.Held.{each-of}
-use Rattle.tso_laws.proofs.Goes.{first_of}
-use Rattle.tso_laws.proofs.Onward.{entries-below}
+use Rattle.tso_laws.proofs.OrderSteps.{first_of}
+use Rattle.tso_laws.proofs.NextEntry.{entries-below}
 use Rattle.tso_laws.proofs.Whole.{at-member, made-at, of-core, whole-own}
 
 abbrev Placed : ℕ → Entry → Type 0

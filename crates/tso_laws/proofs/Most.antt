@@ -20,7 +20,7 @@ use Rattle.tso_model.specs.declared.action.Action.TheVariants.{Store, Load, Move
 use Rattle.tso_model.specs.FlatMachine.{program_of}
 use Rattle.basic_laws.proofs.Lists.{Member}
 use Rattle.tso_laws.proofs.Held.{member-left, member-right, member-split, each-of, Distinct, Apart, is_held, held, held-passed}
-use Rattle.tso_laws.proofs.Goes.{first_of}
+use Rattle.tso_laws.proofs.OrderSteps.{first_of}
 use Rattle.tso_laws.proofs.Whole.{cut-at, length-middle, each-from, Own, whole-own}
 
 -- distinct entries that all stand in a list are no more than it has

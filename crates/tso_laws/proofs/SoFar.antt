@@ -18,12 +18,12 @@ use Rattle.tso_laws.specs.SoFar.{issued, is_waiting, CoreSoFar, IsIssued, SoFar}
 use Rattle.basic_laws.proofs.Lists.{Each, each-at, each-map, each-append, each-right, Member, member-at, append-nil}
 use Rattle.tso_laws.proofs.Folds.{HasLocations, due-is}
 use Rattle.tso_laws.proofs.Entries.{Fine, Ordered, DueIn}
-use Rattle.tso_laws.proofs.Sees.{Queued}
-use Rattle.tso_laws.proofs.Holds.{Holds}
+use Rattle.tso_laws.proofs.OneList.{Queued}
+use Rattle.tso_laws.proofs.CoreInvariant.{CoreInvariant}
 use Rattle.tso_laws.proofs.Rounds.{after-append}
-use Rattle.tso_laws.proofs.Goes.{commits-append}
+use Rattle.tso_laws.proofs.OrderSteps.{commits-append}
 use Rattle.tso_laws.proofs.Work.{no-program}
-use Rattle.tso_laws.proofs.World.{World, world-run, world-start}
+use Rattle.tso_laws.proofs.MachineInvariant.{MachineInvariant, world-run, world-start}
 use Rattle.tso_laws.proofs.Final.{kept-by-each, world-ordered, due-at, paired-at, memory-list}
 use Rattle.tso_laws.proofs.Whole.{at-member}
 use Rattle.tso_laws.proofs.Fits.{made-fits}
@@ -56,7 +56,7 @@ ordered-foreign d c [] (y ∷ ys) o f = (each-map (λ z. z.core.0 ≢ c) (λ z. 
 ordered-foreign d c (x ∷ xs) ys o f =
     (each-append (λ z. Fine d c x z) xs ys o.0 (each-map (λ z. z.core.0 ≢ c) (λ z. Fine d c x z) ys (λ z n k b. absurd (n k)) f), ordered-foreign d c xs ys o.1 f)
 
-pub core-so-far : (d : ℕ) (t : Litmus) (commits : List Entry) (k : ℕ) (s : CoreState) → Holds d k (program_of t k) (slice_index_or t.registers k []) t.words commits s → KeepsProgramOrder (commits ++ s.pending) → CoreSoFar t d commits k s
+pub core-so-far : (d : ℕ) (t : Litmus) (commits : List Entry) (k : ℕ) (s : CoreState) → CoreInvariant d k (program_of t k) (slice_index_or t.registers k []) t.words commits s → KeepsProgramOrder (commits ++ s.pending) → CoreSoFar t d commits k s
 core-so-far d t commits k s h order =
     let w = waits d k (program_of t k) (slice_index_or t.registers k []) t.words commits s h in
     let done : issued t k s.place commits ≡ h.done = ap (λ z. made_by k (take s.place (program_of t k)) (slice_index_or t.registers k []) z) (sym (append-nil commits)) ∙ h.made [] in
@@ -74,7 +74,7 @@ core-so-far d t commits k s h order =
     known [] q = tt
     known (y ∷ ys) q = (q.0.known, known ys q.1)
 
-pub so-far : (d : ℕ) (t : Litmus) (commits : List Entry) (state : State) → IsTest t → HasLocations t → World d t commits state → SoFar t d commits state
+pub so-far : (d : ℕ) (t : Litmus) (commits : List Entry) (state : State) → IsTest t → HasLocations t → MachineInvariant d t commits state → SoFar t d commits state
 so-far d t commits state test known w = record {
   each_issued = λ e m. of-core e m (each-at (λ e. e.core.0 < length t.programs) commits m.0 e w.known m.1);
   program_order = kept-by-each d (length t.programs) commits w.known (world-ordered d t commits state w);
@@ -90,7 +90,7 @@ so-far d t commits state test known w = record {
   cores = λ k l. core-so-far d t commits k (core_of state k) (holds k l) (order k l);
 }
   where
-    holds : (k : ℕ) → k < length t.programs → Holds d k (program_of t k) (slice_index_or t.registers k []) t.words commits (core_of state k)
+    holds : (k : ℕ) → k < length t.programs → CoreInvariant d k (program_of t k) (slice_index_or t.registers k []) t.words commits (core_of state k)
     holds k l = w.cores k (core_of state k) (slice_get-get_or state.cores k idle (rw w.size l))
 
     mine : (k : ℕ) → k < length t.programs → Each (λ e. e.core.0 ≡ k) (core_of state k).pending

@@ -20,11 +20,11 @@ use Rattle.basic_laws.proofs.Basics.{part-small}
 use Rattle.tso_laws.specs.SoFar.{is_committed, is_waiting}
 use Rattle.basic_laws.proofs.Lists.{Each, each-map, Member}
 use Rattle.tso_laws.proofs.Entries.{Fine, Ordered, count}
-use Rattle.tso_laws.proofs.Sees.{Queued}
-use Rattle.tso_laws.proofs.Holds.{Holds}
+use Rattle.tso_laws.proofs.OneList.{Queued}
+use Rattle.tso_laws.proofs.CoreInvariant.{CoreInvariant}
 use Rattle.tso_laws.proofs.Held.{member-left, member-right, member-split, each-of, Distinct, Apart}
-use Rattle.tso_laws.proofs.Goes.{entries-from}
-use Rattle.tso_laws.proofs.Quiet.{ordered-right, distinct-right}
+use Rattle.tso_laws.proofs.OrderSteps.{entries-from}
+use Rattle.tso_laws.proofs.UpToEntry.{ordered-right, distinct-right}
 use Rattle.tso_laws.proofs.Whole.{entries-distinct, pigeons, each-from}
 
 -- by rank, from the lowest
@@ -243,7 +243,7 @@ pub record Waits (c : ℕ) (commits done : List Entry) (s : CoreState) : Type 0 
   pub others : (e : Entry) → Member e done → is_waiting commits e ≡ false → Member e commits
   pub issued : (e : Entry) → Member e commits → e.core.0 ≡ c → Member e done
 
-pub waits : (d c : ℕ) (program : List Instr) (first words : List ℕ) (commits : List Entry) (s : CoreState) (h : Holds d c program first words commits s) → Waits c commits h.done s
+pub waits : (d c : ℕ) (program : List Instr) (first words : List ℕ) (commits : List Entry) (s : CoreState) (h : CoreInvariant d c program first words commits s) → Waits c commits h.done s
 waits d c program first words commits s h =
     let makes : made_by c (take s.place program) first (commits ++ []) ≡ h.done = h.made [] in
     let distinct : Distinct h.done = subst (λ z. Distinct z) makes (entries-distinct c 0 (take s.place program) first (read_values c 0 (take s.place program) (commits ++ []))) in

@@ -20,9 +20,9 @@ use Rattle.tso_model.specs.declared.execution.Kind.TheVariants.{R, W, LR, LW}
 use Rattle.tso_model.specs.FlatMachine.{program_of}
 use Rattle.basic_laws.proofs.Lists.{Each, each-map, Member, member-at}
 use Rattle.tso_laws.proofs.Entries.{Fine, Ordered}
-use Rattle.tso_laws.proofs.Holds.{Paired, Next}
+use Rattle.tso_laws.proofs.CoreInvariant.{Paired, Next}
 use Rattle.tso_laws.proofs.Held.{member-left, member-right, member-split, each-of, Distinct, Apart}
-use Rattle.tso_laws.proofs.Goes.{first_of, Good, entries-from}
+use Rattle.tso_laws.proofs.OrderSteps.{first_of, Good, entries-from}
 
 pub at-member : {A : Type 0} (xs : List A) (i : ℕ) (e : A) → slice_get xs i ≡ Some e → Member e xs
 at-member [] i e h = absurd (let z : ⊥ = cc in z)

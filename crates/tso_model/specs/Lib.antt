@@ -9,7 +9,7 @@ pub mod ProgramOrder
 pub mod FinalState
 pub mod FlatMachine
 pub mod Runs
-pub mod Access
+pub mod MemoryAccess
 pub mod SplitMachine
 pub mod EitherBus
 pub mod Together

@@ -5,7 +5,7 @@ use Rattle.std.specs.Prelude.{ℕ, ◌==◌, Bool, true, false, not, if◌then�
 use Rattle.tso_model.specs.Litmus.{Litmus}
 use Rattle.tso_model.specs.Thread.{entry}
 use Rattle.tso_model.specs.FlatMachine.{CoreState, State, Effect, stalled, core_of, chosen, effect_of}
-use Rattle.tso_model.specs.Access.{Access, NoAccess, Reads, Writes, Locks, access_of}
+use Rattle.tso_model.specs.MemoryAccess.{MemoryAccess, NoAccess, Reads, Writes, Locks, access_of}
 use Rattle.tso_model.specs.declared.instruction.Loc.{Loc}
 use Rattle.tso_model.specs.declared.execution.Entry.{Entry}
 use Rattle.tso_model.specs.declared.execution.Kind.TheVariants.{LR}
@@ -39,7 +39,7 @@ same_choice (Step a) (Drain b) = false
 same_choice (Drain a) (Step b) = false
 
 -- an access that needs the bus: a read or a write that doesn't hit, and a locked instruction's
-abbrev pub needs_bus : Access → Bool → Bool
+abbrev pub needs_bus : MemoryAccess → Bool → Bool
 needs_bus NoAccess hits = false
 needs_bus (Reads loc) hits = not hits
 needs_bus (Writes loc) hits = not hits
@@ -73,7 +73,7 @@ reads_first s e = acts (record { outcome = Committed; after = s; commits = e ∷
 
 -- an action that has asked, with this access, acts as on the flat machine and frees the bus; but of a locked instruction
 -- only the load part is committed
-abbrev pub completes : Litmus → ℕ → State → Choice → Access → BusEffect
+abbrev pub completes : Litmus → ℕ → State → Choice → MemoryAccess → BusEffect
 completes t depth state choice NoAccess = acts (effect_of t depth state choice) Free
 completes t depth state choice (Reads loc) = acts (effect_of t depth state choice) Free
 completes t depth state choice (Writes loc) = acts (effect_of t depth state choice) Free

@@ -1,5 +1,7 @@
-//! The choices of a schedule, and what may come of one. A run is decided by its choices alone, so that it can be made
-//! again; a choice that can't take effect is a stall, and changes nothing.
+//! The choices of a schedule, what may come of one, and the buses on which they are made. A run is decided by its
+//! choices alone, so that it can be made again; a choice that can't take effect is a stall, and changes nothing. On the
+//! atomic bus a request and its answer are one moment; on a split bus others act between the two, and may be made to
+//! wait. (Primer, chapter 7.)
 
 use crate::instruction::Core;
 
@@ -43,4 +45,13 @@ pub enum Outcome {
     Asked,
     /// Nothing changed.
     Stalled(Stall),
+}
+
+/// Which bus the caches share.
+#[derive(Clone, Copy)]
+pub enum Bus {
+    /// A request and its answer are one moment.
+    Atomic,
+    /// A request and its answer are two moments, and others may act in between. (Primer, chapter 7.)
+    Split,
 }

@@ -6,7 +6,6 @@
 #![tactic(auto)]
 
 pub mod action;
-pub mod bus;
 pub mod choice;
 pub mod condition;
 pub mod execution;
@@ -22,8 +21,7 @@ pub mod watched;
 mod words;
 
 pub use action::{Action, Operand, Update};
-pub use bus::Bus;
-pub use choice::{Choice, Outcome, Stall};
+pub use choice::{Bus, Choice, Outcome, Stall};
 pub use condition::{Cond, Prop, Quantifier, cond_holds};
 pub use execution::{Entry, Execution, Kind};
 pub use instruction::{Core, Instr, Loc};

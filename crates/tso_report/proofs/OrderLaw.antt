@@ -12,8 +12,8 @@ use Rattle.std.proofs.lemmas.List.{append_assoc}
 use Rattle.std.proofs.lemmas.List.Elements.{All-cons, All-nil}
 use Rattle.std.proofs.lemmas.List.Folds.{list_all-append}
 use Rattle.tso_model.specs.Litmus.{Litmus, IsTest}
-use Rattle.tso_model.specs.declared.bus.Bus.{Bus}
-use Rattle.tso_model.specs.declared.bus.Bus.TheVariants.{Atomic, Split}
+use Rattle.tso_model.specs.declared.choice.Bus.{Bus}
+use Rattle.tso_model.specs.declared.choice.Bus.TheVariants.{Atomic, Split}
 use Rattle.tso_model.specs.declared.execution.Entry.{Entry}
 use Rattle.tso_model.specs.Names.{is_printable, is_test_name}
 use Rattle.decimals.specs.Decimals.{decimal_from}

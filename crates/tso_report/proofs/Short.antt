@@ -12,8 +12,8 @@ use Rattle.tso_model.specs.Condition.{Condition}
 use Rattle.tso_model.specs.Names.{begins_name, continues_name, is_name, is_register_word, is_location_name, is_test_name}
 use Rattle.tso_model.specs.Registers.{IsWord, AreRegisters, index_of, name_of}
 use Rattle.tso_model.specs.Thread.{value_in}
-use Rattle.tso_model.specs.declared.bus.Bus.{Bus}
-use Rattle.tso_model.specs.declared.bus.Bus.TheVariants.{Atomic, Split}
+use Rattle.tso_model.specs.declared.choice.Bus.{Bus}
+use Rattle.tso_model.specs.declared.choice.Bus.TheVariants.{Atomic, Split}
 use Rattle.tso_model.specs.declared.register.Reg.{Reg}
 use Rattle.tso_model.specs.declared.register.Reg.TheVariants.{Eax, Ebx, Ecx, Edx, Esi, Edi}
 use Rattle.tso_model.specs.declared.condition.Quantifier.{Quantifier}
@@ -28,7 +28,7 @@ use Rattle.protocol_tables.specs.declared.kind.ProtocolKind.{ProtocolKind}
 use Rattle.protocol_tables.specs.declared.kind.ProtocolKind.TheVariants.{Msi, Mesi, Moesi, Mosi}
 use Rattle.snoop_bus.specs.Geometry.{Geometry, IsShapeWithinLimits as IsShape, IsLineSize}
 use Rattle.machine_core.specs.Configuration.{Configuration, IsConfigurationWithinLimits}
-use Rattle.machine_core.specs.Kept.{IsAtMost}
+use Rattle.machine_core.specs.Keeping.{IsAtMost}
 use Rattle.machine_core.specs.declared.counts.Counts.{Counts}
 use Rattle.tso_report.specs.Shown.{Shown}
 use Rattle.tso_report.specs.Limits.{longest_report, IsSmall}

@@ -4,7 +4,6 @@
 //! answer, and each stands in a helper of its own, which promises little.
 #![tactic(auto)]
 
-pub mod between;
 #[cfg(test)]
 mod bus;
 #[cfg(test)]
@@ -14,9 +13,10 @@ mod calls;
 #[cfg(test)]
 mod choices;
 #[cfg(test)]
-mod final_states;
+mod driving;
 #[cfg(test)]
-mod halves;
+mod final_states;
+pub mod locked;
 #[cfg(test)]
 mod machine;
 #[cfg(test)]
@@ -24,11 +24,11 @@ mod named;
 #[cfg(test)]
 mod orders;
 #[cfg(test)]
+mod split_accesses;
+#[cfg(test)]
 mod steps;
 #[cfg(test)]
 mod streams;
-#[cfg(test)]
-mod taken;
 #[cfg(test)]
 mod tally;
 #[cfg(test)]

@@ -5,7 +5,7 @@ use Rattle.tso_model.specs.Litmus.{Litmus}
 use Rattle.tso_model.specs.SplitMachine.{Attempt}
 use Rattle.tso_model.specs.EitherBus.{BusState, unheld, effect_on, after_on}
 use Rattle.tso_model.specs.FlatMachine.{start}
-use Rattle.tso_model.specs.declared.bus.Bus.{Bus}
+use Rattle.tso_model.specs.declared.choice.Bus.{Bus}
 use Rattle.tso_model.specs.declared.register.Reg.TheVariants.{Eax}
 use Rattle.tso_model.specs.declared.instruction.Instr.TheVariants.{StoreImm, Load}
 use Rattle.tso_model.specs.declared.execution.Entry.{Entry}

@@ -1,7 +1,7 @@
 //! The access that each choice makes, and which accesses need the bus: a forwarded load makes none, a hit needs none.
 
 ghost use Rattle.std.specs.Prelude.{◌≡◌, true, false, [], ◌∷◌};
-ghost use Rattle.tso_model.specs.Access.{NoAccess, Reads, Writes, Locks};
+ghost use Rattle.tso_model.specs.MemoryAccess.{NoAccess, Reads, Writes, Locks};
 ghost use Rattle.tso_model.specs.SplitMachine.{needs_bus};
 ghost use Rattle.tso_model.specs.declared.register.Reg.TheVariants.{Ebx};
 ghost use Rattle.tso_model.specs.declared.instruction.Instr.TheVariants as instr;

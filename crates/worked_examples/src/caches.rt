@@ -3,8 +3,8 @@
 
 ghost use Rattle.std.specs.Prelude.{◌≡◌, true, false, [], ◌∷◌, Some, None};
 ghost use Rattle.protocol_tables.specs.declared.state.State.TheVariants.{I, S, E, O, M};
-ghost use Rattle.protocol_tables.specs.declared.asking.Request.TheVariants.{GetS, GetM};
-ghost use Rattle.protocol_tables.specs.declared.asking.Transient.TheVariants.{IsD, ImD, SmD};
+ghost use Rattle.protocol_tables.specs.declared.requests.Request.TheVariants.{GetS, GetM};
+ghost use Rattle.protocol_tables.specs.declared.requests.Transient.TheVariants.{IsD, ImD, SmD};
 ghost use Rattle.protocol_tables.specs.Tables.{msi, mesi, moesi};
 ghost use Rattle.snoop_bus.specs.declared.access.AccessKind.TheVariants.{Hit, Upgrade, Miss};
 ghost use Rattle.protocol_tables.specs.Laws.{is_dirty, in_place};

@@ -3,11 +3,11 @@
 
 ghost use Rattle.std.specs.Prelude.{◌≡◌, true, false, Some, None};
 ghost use Rattle.protocol_tables.specs.declared.state.State.TheVariants.{I, S, E, O, M};
-ghost use Rattle.protocol_tables.specs.declared.asking.Request.TheVariants.{GetS, GetM};
-ghost use Rattle.protocol_tables.specs.declared.asking.Transient.TheVariants.{IsD, ImD, SmD};
+ghost use Rattle.protocol_tables.specs.declared.requests.Request.TheVariants.{GetS, GetM};
+ghost use Rattle.protocol_tables.specs.declared.requests.Transient.TheVariants.{IsD, ImD, SmD};
 ghost use Rattle.protocol_tables.specs.declared.kind.ProtocolKind.TheVariants.{Msi, Mesi, Moesi, Mosi};
 ghost use Rattle.protocol_tables.specs.Tables.{msi, mesi, moesi, mosi, table_of};
-ghost use Rattle.protocol_tables.specs.Asking.{transient_of};
+ghost use Rattle.protocol_tables.specs.Transients.{transient_of};
 ghost use Rattle.worked_examples.specs.TableRows.{row_of, row, silent, supplies, sends, dirty, clean};
 
 /// The table of MSI: by state what GetS and GetM do to a copy, what a write in place makes of it, and

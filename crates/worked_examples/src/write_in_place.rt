@@ -2,7 +2,7 @@
 
 ghost use Rattle.std.specs.Prelude.{◌≡◌, true, [], ◌∷◌};
 ghost use Rattle.tso_model.specs.EitherBus.{run_on};
-ghost use Rattle.tso_model.specs.declared.bus.Bus.TheVariants.{Split};
+ghost use Rattle.tso_model.specs.declared.choice.Bus.TheVariants.{Split};
 ghost use Rattle.protocol_tables.specs.Tables.{msi, mesi};
 ghost use Rattle.machine_core.specs.Statistics.{counts_of};
 ghost use Rattle.machine_core.specs.Answered.{answered};

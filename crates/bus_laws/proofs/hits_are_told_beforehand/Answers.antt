@@ -1,5 +1,5 @@
 use Rattle.std.proofs.Common.{◌≡◌, ◌/◌, true, false}
-use Rattle.protocol_tables.specs.declared.asking.Request.TheVariants.{GetM}
+use Rattle.protocol_tables.specs.declared.requests.Request.TheVariants.{GetM}
 use Rattle.snoop_bus.specs.Rows.{table_of_rows}
 use Rattle.snoop_bus.specs.CacheContents.{loaded, written}
 use Rattle.snoop_bus.specs.Accesses.{contents_of}

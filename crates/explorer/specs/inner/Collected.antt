@@ -5,7 +5,7 @@ use Rattle.tso_model.specs.Litmus.{Litmus}
 use Rattle.tso_model.specs.FlatMachine.{registers_in}
 use Rattle.tso_model.specs.Runs.{has_ended}
 use Rattle.explorer.specs.State.{state_of}
-use Rattle.explorer.specs.inner.Kept.{IsPath}
+use Rattle.explorer.specs.inner.Settled.{IsPath}
 use Rattle.explorer.specs.FinalStates.{Have, AreDistinct}
 use Rattle.explorer.specs.declared.snapshot.Snapshot.{Snapshot}
 use Rattle.explorer.specs.declared.link.Link.{Link}

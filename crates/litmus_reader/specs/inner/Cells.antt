@@ -14,7 +14,7 @@ use Rattle.litmus_reader.specs.declared.fault.Fault.{Fault}
 use Rattle.litmus_reader.specs.declared.cell.CoreInstr.{CoreInstr}
 use Rattle.litmus_reader.specs.inner.Faults.{◌>>=◌}
 use Rattle.litmus_reader.specs.inner.Locations.{located}
-use Rattle.litmus_reader.specs.inner.Items.{word_at}
+use Rattle.litmus_reader.specs.inner.Settings.{word_at}
 use Rattle.litmus_reader.specs.inner.Forms.{spelled_in}
 use Rattle.litmus_reader.specs.Places.{fault}
 use Rattle.litmus_reader.specs.Written.{Shape, store_imm, store_reg, load, set_imm, set_reg, fence, xchg, xadd}
@@ -27,26 +27,26 @@ cells_after (Some after) = cells_of (pieces after.now)
 
 -- the instruction of a shape, and the names with its location's
 unfoldable pub instr_of : ℕ → List (List ℕ) → Shape → Result (Instr × List (List ℕ)) Fault
-instr_of left names (store_imm x v) = do
-  value ← word_at left v
-  loc ← located left names x
+instr_of remaining names (store_imm x v) = do
+  value ← word_at remaining v
+  loc ← located remaining names x
   Ok (StoreImm loc.0 value, loc.1)
-instr_of left names (store_reg x reg) = do
-  loc ← located left names x
+instr_of remaining names (store_reg x reg) = do
+  loc ← located remaining names x
   Ok (StoreReg loc.0 reg, loc.1)
-instr_of left names (load reg x) = do
-  loc ← located left names x
+instr_of remaining names (load reg x) = do
+  loc ← located remaining names x
   Ok (Load reg loc.0, loc.1)
-instr_of left names (set_imm reg v) = do
-  value ← word_at left v
+instr_of remaining names (set_imm reg v) = do
+  value ← word_at remaining v
   Ok (SetImm reg value, names)
-instr_of left names (set_reg reg other) = Ok (SetReg reg other, names)
-instr_of left names fence = Ok (Fence, names)
-instr_of left names (xchg x reg) = do
-  loc ← located left names x
+instr_of remaining names (set_reg reg other) = Ok (SetReg reg other, names)
+instr_of remaining names fence = Ok (Fence, names)
+instr_of remaining names (xchg x reg) = do
+  loc ← located remaining names x
   Ok (Xchg loc.0 reg, loc.1)
-instr_of left names (xadd x reg) = do
-  loc ← located left names x
+instr_of remaining names (xadd x reg) = do
+  loc ← located remaining names x
   Ok (Xadd loc.0 reg, loc.1)
 
 abbrev pub of_core : ℕ → Instr → CoreInstr
@@ -57,17 +57,17 @@ abbrev pub count_of : ℕ → List CoreInstr → ℕ
 count_of core instrs = count_by (λ i. i.core == core) instrs
 
 abbrev pub or_bad_instruction : ℕ → Option Shape → Result Shape Fault
-or_bad_instruction left (Some shape) = Ok shape
-or_bad_instruction left None = Err (fault BadInstruction left)
+or_bad_instruction remaining (Some shape) = Ok shape
+or_bad_instruction remaining None = Err (fault BadInstruction remaining)
 
 -- What has been read of the rows: all instructions in their order, and the names of the locations so far. An empty
 -- cell adds nothing. Any other is judged for its form, its number, its location, and last for the room of its core.
 unfoldable pub cell_in : ℕ → List CoreInstr → List (List ℕ) → List Piece → Result (List CoreInstr × List (List ℕ)) Fault
 cell_in core instrs names [] = Ok (instrs, names)
 cell_in core instrs names (p ∷ ps) = do
-  shape ← or_bad_instruction p.left (spelled_in (p ∷ ps))
-  instr ← instr_of p.left names shape
-  if nat_lt (count_of core instrs) most_instructions then Ok (instrs ++ of_core core instr.0 ∷ [], instr.1) else Err (fault TooLarge p.left)
+  shape ← or_bad_instruction p.remaining (spelled_in (p ∷ ps))
+  instr ← instr_of p.remaining names shape
+  if nat_lt (count_of core instrs) most_instructions then Ok (instrs ++ of_core core instr.0 ∷ [], instr.1) else Err (fault TooLarge p.remaining)
 
 -- the cells of a row from this core on
 unfoldable pub cells_in : ℕ → List CoreInstr → List (List ℕ) → List (List Piece) → Result (List CoreInstr × List (List ℕ)) Fault

@@ -10,7 +10,7 @@ use Rattle.tso_model.specs.Limits.{most_cores}
 use Rattle.litmus_reader.specs.declared.fault.Why.TheVariants.{TooLarge, BadHeaderRow}
 use Rattle.litmus_reader.specs.declared.fault.Fault.{Fault}
 use Rattle.litmus_reader.specs.inner.Faults.{◌>>=◌, or_unfit, there}
-use Rattle.litmus_reader.specs.Places.{fault, left_of, part_of}
+use Rattle.litmus_reader.specs.Places.{fault, remaining_of, part_of}
 use Rattle.litmus_reader.specs.GrammarColumns.{core_name}
 use Rattle.litmus_reader.specs.declared.fault.Part.{Part}
 
@@ -33,7 +33,7 @@ separator_at ps = there (symbol_at Bar ps) (λ rest. Some (true, rest)) (there (
 unfoldable pub columns : Stop → ℕ → ℕ → List Piece → Result (ℕ × List Piece) Fault
 columns stop zero core ps = do
   rest ← or_unfit (in_columns stop) ps (core_at core ps)
-  Err (fault TooLarge (left_of ps))
+  Err (fault TooLarge (remaining_of ps))
 columns stop (suc n) core ps = do
   rest ← or_unfit (in_columns stop) ps (core_at core ps)
   separator ← or_unfit (in_columns stop) rest (separator_at rest)

@@ -16,8 +16,8 @@ use Rattle.litmus_reader.specs.declared.fault.Fault.{Fault}
 use Rattle.litmus_reader.specs.inner.Faults.{◌>>=◌, or_unfit, there}
 use Rattle.litmus_reader.specs.inner.Keywords.{word_after}
 use Rattle.litmus_reader.specs.inner.Locations.{located}
-use Rattle.litmus_reader.specs.inner.Items.{setting_at, word_at, core_of}
-use Rattle.litmus_reader.specs.Places.{fault, left_of, part_of}
+use Rattle.litmus_reader.specs.inner.Settings.{setting_at, word_at, core_of}
+use Rattle.litmus_reader.specs.Places.{fault, remaining_of, part_of}
 use Rattle.litmus_reader.specs.Written.{Setting, of_register, of_location}
 use Rattle.litmus_reader.specs.declared.fault.Part.{Part}
 
@@ -27,13 +27,13 @@ in_condition stop = part_of BadCondition stop
 
 -- the claim of a setting, and the names with its location's
 unfoldable pub claim_in : ℕ → ℕ → List (List ℕ) → Setting → Result (Claim × List (List ℕ)) Fault
-claim_in cores left names (of_register digits reg v) = do
-  core ← core_of cores left digits
-  value ← word_at left v
+claim_in cores remaining names (of_register digits reg v) = do
+  core ← core_of cores remaining digits
+  value ← word_at remaining v
   Ok (RegClaim core reg value, names)
-claim_in cores left names (of_location x v) = do
-  value ← word_at left v
-  loc ← located left names x
+claim_in cores remaining names (of_location x v) = do
+  value ← word_at remaining v
+  loc ← located remaining names x
   Ok (LocClaim loc.0.0 value, loc.1)
 
 -- what has been read of a proposition: the claim, how many atoms there are so far, the names of locations, and what
@@ -47,9 +47,9 @@ pub record Claimed : Type 0 where
 abbrev pub claimed : Claim → ℕ → List (List ℕ) → List Piece → Claimed
 claimed claim atoms names rest = record { claim = claim; atoms = atoms; names = names; rest = rest }
 
--- how many atoms there are with one more; one too many is refused at `left`
+-- how many atoms there are with one more; one too many is refused at `remaining`
 abbrev pub one_more : ℕ → ℕ → Result ℕ Fault
-one_more left atoms = if nat_lt atoms most_atoms then Ok (atoms + 1) else Err (fault TooLarge left)
+one_more remaining atoms = if nat_lt atoms most_atoms then Ok (atoms + 1) else Err (fault TooLarge remaining)
 
 -- `true` or `false`
 unfoldable pub truth_at : List Piece → Option (Bool × List Piece)
@@ -59,21 +59,21 @@ truth_at ps =
 
 -- an atom that is true or false, after so many others
 abbrev pub truth_atom : ℕ → ℕ → List (List ℕ) → Bool × List Piece → Result Claimed Fault
-truth_atom left atoms names t = do
-  n ← one_more left atoms
+truth_atom remaining atoms names t = do
+  n ← one_more remaining atoms
   Ok (claimed (TruthClaim t.0) n names t.1)
 
 -- an atom of a register or a location, after so many others
 unfoldable pub setting_atom : Stop → ℕ → ℕ → List (List ℕ) → List Piece → Result Claimed Fault
 setting_atom stop cores atoms names ps = do
   setting ← setting_at (in_condition stop) ps
-  claim ← claim_in cores (left_of ps) names setting.0
-  n ← one_more (left_of ps) atoms
+  claim ← claim_in cores (remaining_of ps) names setting.0
+  n ← one_more (remaining_of ps) atoms
   Ok (claimed claim.0 n claim.1 setting.1)
 
 -- an atom after so many others
 unfoldable pub atom_at : Stop → ℕ → ℕ → List (List ℕ) → List Piece → Result Claimed Fault
-atom_at stop cores atoms names ps = there (truth_at ps) (truth_atom (left_of ps) atoms names) (setting_atom stop cores atoms names ps)
+atom_at stop cores atoms names ps = there (truth_at ps) (truth_atom (remaining_of ps) atoms names) (setting_atom stop cores atoms names ps)
 
 -- a reading of a proposition, after so many atoms and with these names
 abbrev pub Proposition : Type 0
@@ -140,7 +140,7 @@ unit_by stop cores inner atoms names ps =
 
 -- a unit, in which n more negations and brackets may be open at once
 unfoldable pub unit_at : Stop → ℕ → ℕ → Proposition
-unit_at stop cores zero atoms names ps = if opens_unit ps then Err (fault TooLarge (left_of ps)) else atom_at stop cores atoms names ps
+unit_at stop cores zero atoms names ps = if opens_unit ps then Err (fault TooLarge (remaining_of ps)) else atom_at stop cores atoms names ps
 unit_at stop cores (suc n) atoms names ps = unit_by stop cores (unit_at stop cores n) atoms names ps
 
 -- units joined by `/\`, in which so many negations and brackets may be open at once

@@ -6,7 +6,7 @@ use Rattle.litmus_tokens.specs.Pieces.{Piece}
 use Rattle.litmus_tokens.specs.inner.Front.{name_at}
 use Rattle.litmus_reader.specs.declared.form.Form.{Form}
 use Rattle.litmus_reader.specs.inner.Faults.{there}
-use Rattle.litmus_reader.specs.inner.Operands.{Place, in_memory, in_register, constant, two_operands}
+use Rattle.litmus_reader.specs.inner.Arguments.{ArgumentTerm, in_memory, in_register, constant, two_arguments}
 use Rattle.litmus_reader.specs.Written.{Shape, store_imm, store_reg, load, set_imm, set_reg, fence, xchg, xadd}
 use Rattle.litmus_reader.specs.declared.form.Form.TheVariants as code
 
@@ -21,7 +21,7 @@ shape_of (code.Xchg name reg) = xchg name.now reg
 shape_of (code.Xadd name reg) = xadd name.now reg
 
 -- `MOV` of two operands
-abbrev pub mov_of : Place × Place → Option Shape
+abbrev pub mov_of : ArgumentTerm × ArgumentTerm → Option Shape
 mov_of (in_memory x, constant v) = Some (store_imm x v)
 mov_of (in_memory x, in_register r) = Some (store_reg x r)
 mov_of (in_memory x, in_memory y) = None
@@ -31,7 +31,7 @@ mov_of (in_register r, in_register s) = Some (set_reg r s)
 mov_of (constant v, other) = None
 
 -- `XCHG` of two operands, a location and a register in either order
-abbrev pub xchg_of : Place × Place → Option Shape
+abbrev pub xchg_of : ArgumentTerm × ArgumentTerm → Option Shape
 xchg_of (in_memory x, in_register r) = Some (xchg x r)
 xchg_of (in_memory x, in_memory y) = None
 xchg_of (in_memory x, constant v) = None
@@ -41,7 +41,7 @@ xchg_of (in_register r, constant v) = None
 xchg_of (constant v, other) = None
 
 -- `XADD` of two operands, a location and a register
-abbrev pub xadd_of : Place × Place → Option Shape
+abbrev pub xadd_of : ArgumentTerm × ArgumentTerm → Option Shape
 xadd_of (in_memory x, in_register r) = Some (xadd x r)
 xadd_of (in_memory x, in_memory y) = None
 xadd_of (in_memory x, constant v) = None
@@ -54,8 +54,8 @@ no_more (p ∷ ps) = None
 
 abbrev pub locked_by : List ℕ × List Piece → Option Shape
 locked_by word =
-    if same_letters word.0 (codes "XCHG") then there (two_operands word.1) xchg_of None
-    else if same_letters word.0 (codes "XADD") then there (two_operands word.1) xadd_of None
+    if same_letters word.0 (codes "XCHG") then there (two_arguments word.1) xchg_of None
+    else if same_letters word.0 (codes "XADD") then there (two_arguments word.1) xadd_of None
     else None
 
 -- what may stand after `LOCK`
@@ -64,9 +64,9 @@ locked_at ps = there (name_at ps) locked_by None
 
 abbrev pub by_mnemonic : List ℕ × List Piece → Option Shape
 by_mnemonic word =
-    if same_letters word.0 (codes "MOV") then there (two_operands word.1) mov_of None
+    if same_letters word.0 (codes "MOV") then there (two_arguments word.1) mov_of None
     else if same_letters word.0 (codes "MFENCE") then no_more word.1
-    else if same_letters word.0 (codes "XCHG") then there (two_operands word.1) xchg_of None
+    else if same_letters word.0 (codes "XCHG") then there (two_arguments word.1) xchg_of None
     else if same_letters word.0 (codes "LOCK") then locked_at word.1
     else None
 

@@ -23,11 +23,11 @@ from_gap (Err stop) = Err (at_stop (fault Unclosed 0) stop)
 
 -- the name of a header line at this place, judged: a name that is too long is too large if its bytes are good
 unfoldable pub judged : ℕ → Option (List ℕ) → Result (List ℕ) Fault
-judged left None = Err (fault NoHeader left)
-judged left (Some name) =
+judged remaining None = Err (fault NoHeader remaining)
+judged remaining (Some name) =
     if is_test_name name then Ok name
-    else if nat_lt longest_test_name (length name) && list_all is_printable name then Err (fault TooLarge left)
-    else Err (fault NoHeader left)
+    else if nat_lt longest_test_name (length name) && list_all is_printable name then Err (fault TooLarge remaining)
+    else Err (fault NoHeader remaining)
 
 -- the name of the test, and what stands after the header line
 unfoldable pub header_at : List ℕ → Result (List ℕ × List ℕ) Fault

@@ -19,13 +19,13 @@ quotation_end (b ∷ bs) = if b == 34 then Some bs else quotation_end bs
 
 -- a quotation without its end is unclosed at its opener
 abbrev pub closed_quotation : ℕ → Option (List ℕ) → Result (List ℕ) Fault
-closed_quotation left (Some rest) = Ok rest
-closed_quotation left None = Err (fault Unclosed left)
+closed_quotation remaining (Some rest) = Ok rest
+closed_quotation remaining None = Err (fault Unclosed remaining)
 
 -- what stands after a key's `=` and the rest of its line
 abbrev pub key_value : ℕ → List ℕ → Result (List ℕ) Fault
-key_value left [] = Err (fault BadToken left)
-key_value left (b ∷ bs) = if b == 61 then Ok (first_line bs).1 else Err (fault BadToken left)
+key_value remaining [] = Err (fault BadToken remaining)
+key_value remaining (b ∷ bs) = if b == 61 then Ok (first_line bs).1 else Err (fault BadToken remaining)
 
 -- what stands after the key line that begins here
 abbrev pub key_line_end : List ℕ → Result (List ℕ) Fault

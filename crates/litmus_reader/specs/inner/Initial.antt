@@ -18,8 +18,8 @@ use Rattle.litmus_reader.specs.declared.fault.Part.{Part}
 use Rattle.litmus_reader.specs.declared.initial.RegisterWord.{RegisterWord}
 use Rattle.litmus_reader.specs.inner.Faults.{◌>>=◌, or_unfit, there}
 use Rattle.litmus_reader.specs.inner.Locations.{located}
-use Rattle.litmus_reader.specs.inner.Items.{setting_at, word_at, core_of}
-use Rattle.litmus_reader.specs.Places.{fault, at_stop, left_of, unfit, in_initial}
+use Rattle.litmus_reader.specs.inner.Settings.{setting_at, word_at, core_of}
+use Rattle.litmus_reader.specs.Places.{fault, at_stop, remaining_of, unfit, in_initial}
 use Rattle.litmus_reader.specs.Written.{Setting, of_register, of_location}
 use Rattle.litmus_reader.specs.declared.initial.Initial as code
 
@@ -29,16 +29,16 @@ before_initial stop = record { why = BadToken; missing = at_stop (fault Unclosed
 
 -- a register's first word, and the place of the item that gives it; the core is its digits
 pub record Given : Type 0 where
-  pub left : ℕ
+  pub remaining : ℕ
   pub core : List ℕ
   pub reg : Reg
   pub value : ℕ
 
 abbrev pub given : ℕ → List ℕ → Reg → ℕ → Given
-given left core reg value = record { left = left; core = core; reg = reg; value = value }
+given remaining core reg value = record { remaining = remaining; core = core; reg = reg; value = value }
 
 abbrev pub given_of : RegisterWord → Given
-given_of r = given r.left r.core.now r.reg r.value
+given_of r = given r.remaining r.core.now r.reg r.value
 
 -- a register of a core: the core's digits, and the register's number
 abbrev pub Named : Type 0
@@ -67,17 +67,17 @@ initial names words registers = record { names = names; words = words; registers
 abbrev pub gives : List ℕ → Reg → Given → Bool
 gives core reg g = bytes_eq g.core core && (index_of g.reg == index_of reg)
 
--- An item at `left`, judged for its number, then its location, then whether an item before it gave the same a word.
+-- An item at `remaining`, judged for its number, then its location, then whether an item before it gave the same a word.
 -- Each location so far has been given one.
 unfoldable pub judged : ℕ → Initial → Setting → Result Initial Fault
-judged left i (of_register core reg v) =
-    word_at left v >>= λ value.
-    if list_any (gives core reg) i.registers then Err (fault TwiceInit left)
-    else Ok (initial i.names i.words (i.registers ++ given left core reg value ∷ []))
-judged left i (of_location x v) =
-    word_at left v >>= λ value.
-    located left i.names x >>= λ loc.
-    if nat_lt loc.0.0 (length i.words) then Err (fault TwiceInit left)
+judged remaining i (of_register core reg v) =
+    word_at remaining v >>= λ value.
+    if list_any (gives core reg) i.registers then Err (fault TwiceInit remaining)
+    else Ok (initial i.names i.words (i.registers ++ given remaining core reg value ∷ []))
+judged remaining i (of_location x v) =
+    word_at remaining v >>= λ value.
+    located remaining i.names x >>= λ loc.
+    if nat_lt loc.0.0 (length i.words) then Err (fault TwiceInit remaining)
     else Ok (initial loc.1 (i.words ++ value ∷ []) i.registers)
 
 -- whether an item ends here, by `;` or `}`
@@ -89,7 +89,7 @@ ends_item (p ∷ ps) = is_symbol Semicolon p || is_symbol CloseCurly p
 unfoldable pub item_in : Part → Initial → List Piece → Result (Initial × List Piece) Fault
 item_in part i ps =
     setting_at part ps >>= λ setting.
-    if ends_item setting.1 then (judged (left_of ps) i setting.0 >>= λ after. Ok (after, setting.1))
+    if ends_item setting.1 then (judged (remaining_of ps) i setting.0 >>= λ after. Ok (after, setting.1))
     else Err (unfit part setting.1)
 
 -- a `;`, or else an item
@@ -115,7 +115,7 @@ opened_at stop ps = or_unfit (before_initial stop) ps (symbol_at OpenCurly ps)
 unfoldable pub initial_at : Stop → List (List ℕ) → List Piece → Result (Initial × List Piece) Fault
 initial_at stop names ps = do
   rest ← opened_at stop ps
-  items_at (in_initial (left_of ps) stop) names rest
+  items_at (in_initial (remaining_of ps) stop) names rest
 
 -- the six registers of a core begin as 0
 abbrev pub no_registers : List ℕ
@@ -129,7 +129,7 @@ with_register registers core reg value = slice_set registers core (with_value (s
 unfoldable pub registers_with : ℕ → List (List ℕ) → List Given → Result (List (List ℕ)) Fault
 registers_with cores registers [] = Ok registers
 registers_with cores registers (g ∷ gs) = do
-  core ← core_of cores g.left g.core
+  core ← core_of cores g.remaining g.core
   registers_with cores (with_register registers core g.reg g.value) gs
 
 -- each core's first registers

@@ -7,8 +7,8 @@ use Rattle.litmus_reader.specs.declared.fault.Fault.{Fault}
 use Rattle.litmus_reader.specs.Places.{fault}
 use Rattle.litmus_reader.specs.GrammarNames.{number_of, with_name, location}
 
--- the location of a name, and the names with it; one location too many is refused at `left`
+-- the location of a name, and the names with it; one location too many is refused at `remaining`
 unfoldable pub located : ℕ → List (List ℕ) → List ℕ → Result (Loc × List (List ℕ)) Fault
-located left names x =
+located remaining names x =
     if nat_lt (number_of names x) most_locations then Ok (location (number_of names x), with_name names x)
-    else Err (fault TooLarge left)
+    else Err (fault TooLarge remaining)

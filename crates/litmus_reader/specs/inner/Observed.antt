@@ -10,26 +10,26 @@ use Rattle.litmus_reader.specs.declared.fault.Fault.{Fault}
 use Rattle.litmus_reader.specs.inner.Faults.{◌>>=◌, or_unfit, there}
 use Rattle.litmus_reader.specs.inner.Header.{from_gap}
 use Rattle.litmus_reader.specs.inner.Keywords.{word_after}
-use Rattle.litmus_reader.specs.Places.{fault, left_of, from_place, part_of}
+use Rattle.litmus_reader.specs.Places.{fault, remaining_of, from_place, part_of}
 use Rattle.litmus_reader.specs.declared.fault.Part.{Part}
 
 -- after the word, where a `[` has to be
 abbrev pub in_observed : Stop → Part
 in_observed stop = part_of BadToken stop
 
--- the first byte: the `]`, or one that is passed over; where there is none, the `[` at `left` is unclosed
+-- the first byte: the `]`, or one that is passed over; where there is none, the `[` at `remaining` is unclosed
 abbrev pub square_by : (List ℕ → Result (List ℕ) Fault) → ℕ → List ℕ → Result (List ℕ) Fault
-square_by further left [] = Err (fault Unclosed left)
-square_by further left (b ∷ bs) = if b == 93 then Ok bs else further bs
+square_by further remaining [] = Err (fault Unclosed remaining)
+square_by further remaining (b ∷ bs) = if b == 93 then Ok bs else further bs
 
 -- what stands after the next `]`, over fewer than n bytes; comments are passed over
 unfoldable pub square_within : ℕ → ℕ → List ℕ → Result (List ℕ) Fault
-square_within zero left bytes = Err (fault Unclosed left)
-square_within (suc n) left bytes = from_gap (gap_end None bytes) >>= λ at. square_by (square_within n left) left at
+square_within zero remaining bytes = Err (fault Unclosed remaining)
+square_within (suc n) remaining bytes = from_gap (gap_end None bytes) >>= λ at. square_by (square_within n remaining) remaining at
 
 -- what stands after the next `]`
 unfoldable pub square_end : ℕ → List ℕ → Result (List ℕ) Fault
-square_end left bytes = square_within (suc (length bytes)) left bytes
+square_end remaining bytes = square_within (suc (length bytes)) remaining bytes
 
 -- the tokens in the brackets that have to begin here
 abbrev pub opened_at : Stop → List Piece → Result (List Piece) Fault
@@ -39,7 +39,7 @@ opened_at stop ps = or_unfit (in_observed stop) ps (symbol_at OpenSquare ps)
 unfoldable pub brackets_end : List ℕ → Stop → List Piece → Result (List ℕ) Fault
 brackets_end text stop ps = do
   inside ← opened_at stop ps
-  square_end (left_of ps) (from_place text (left_of ps))
+  square_end (remaining_of ps) (from_place text (remaining_of ps))
 
 -- the tokens after the brackets, and why there are no more
 abbrev pub brackets_tokens : List ℕ → Stop → List Piece → Result (List Piece × Stop) Fault

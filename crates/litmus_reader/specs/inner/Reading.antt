@@ -23,10 +23,10 @@ use Rattle.litmus_tokens.specs.declared.token.Stop.TheVariants as stops
 
 -- the end of the text has to follow
 unfoldable pub end_at : Stop → List Piece → Result (Unit {0}) Fault
-end_at stop (p ∷ ps) = Err (fault Trailing p.left)
+end_at stop (p ∷ ps) = Err (fault Trailing p.remaining)
 end_at stops.End [] = Ok tt
-end_at (stops.BadToken left) [] = Err (fault BadToken left)
-end_at (stops.Unclosed left) [] = Err (fault Unclosed left)
+end_at (stops.BadToken remaining) [] = Err (fault BadToken remaining)
+end_at (stops.Unclosed remaining) [] = Err (fault Unclosed remaining)
 
 -- a core's program: its instructions, in the order of the rows
 abbrev pub program_of : List CoreInstr → ℕ → List Instr

@@ -31,8 +31,8 @@ unfoldable pub after_closing : List Piece → Option (List Piece)
 after_closing [] = None
 after_closing (p ∷ ps) = if is_symbol CloseSquare p then Some ps else after_closing ps
 
--- what stands after the `]` of brackets, opened at `left`, in which the tokens stop
+-- what stands after the `]` of brackets, opened at `remaining`, in which the tokens stop
 abbrev pub past_stop : List ℕ → ℕ → Stop → Result (List ℕ) Fault
-past_stop text left (stops.BadToken place) = square_end left (from_place text place)
-past_stop text left stops.End = Err (at_stop (fault Unclosed left) stops.End)
-past_stop text left (stops.Unclosed place) = Err (at_stop (fault Unclosed left) (stops.Unclosed place))
+past_stop text remaining (stops.BadToken place) = square_end remaining (from_place text place)
+past_stop text remaining stops.End = Err (at_stop (fault Unclosed remaining) stops.End)
+past_stop text remaining (stops.Unclosed place) = Err (at_stop (fault Unclosed remaining) (stops.Unclosed place))

@@ -56,10 +56,10 @@ GivesEnding result names read = GivesNamed (λ c. asked_of c) result names read
 abbrev pub so_far : List (Bor (List ℕ)) → state.Initial → Initial
 so_far names i = initial (texts names) i.words.items (map given_of i.registers.items)
 
--- An item at `left`, judged after what has been read, gives what has been read with it.
+-- An item at `remaining`, judged after what has been read, gives what has been read with it.
 abbrev pub GivesJudged : {X : Type 0} → ℕ → Setting → List (Bor (List ℕ)) → state.Initial → Result X ReadError
     → List (Bor (List ℕ)) → state.Initial → Type 0
-GivesJudged left s names old result names_new new = Gives (λ _. so_far names_new new) result (judged left (so_far names old) s)
+GivesJudged remaining s names old result names_new new = Gives (λ _. so_far names_new new) result (judged remaining (so_far names old) s)
 
 -- the initial state with one item more, and what stands after that item
 abbrev pub GivesItem : Result (Bor (List Token)) ReadError → List (Bor (List ℕ)) → state.Initial

@@ -12,7 +12,7 @@ use Rattle.litmus_reader.specs.inner.Faults.{◌>>=◌}
 use Rattle.litmus_reader.specs.inner.Initial.{Given, registers_of}
 use Rattle.litmus_reader.specs.inner.Columns.{columns_at}
 use Rattle.litmus_reader.specs.inner.Cells.{cells_in}
-use Rattle.litmus_reader.specs.Places.{fault, at_stop, left_of}
+use Rattle.litmus_reader.specs.Places.{fault, at_stop, remaining_of}
 use Rattle.litmus_reader.specs.RefusedTable.{cells_of}
 use Rattle.litmus_reader.specs.GrammarTable.{ends_rows}
 
@@ -21,16 +21,16 @@ unfoldable pub row_at : Stop → List Piece → Result (List Piece × List Piece
 row_at stop ps =
     if nat_lt (position_or_len (is_symbol Semicolon) ps) (length ps)
     then Ok (before_first (is_symbol Semicolon) ps, after_first (is_symbol Semicolon) ps)
-    else Err (at_stop (fault Unclosed (left_of ps)) stop)
+    else Err (at_stop (fault Unclosed (remaining_of ps)) stop)
 
 -- as many cells as cores, or the row is refused at its first token
 abbrev pub counted : ℕ → ℕ → List (List Piece) → Result (List (List Piece)) Fault
-counted cores left cells = if length cells == cores then Ok cells else Err (fault WrongCells left)
+counted cores remaining cells = if length cells == cores then Ok cells else Err (fault WrongCells remaining)
 
 -- a row's cells: first counted, then read from left to right
 unfoldable pub row_in : ℕ → ℕ → List CoreInstr → List (List ℕ) → List Piece → Result (List CoreInstr × List (List ℕ)) Fault
-row_in cores left instrs names row = do
-  cells ← counted cores left (cells_of row)
+row_in cores remaining instrs names row = do
+  cells ← counted cores remaining (cells_of row)
   cells_in 0 instrs names cells
 
 -- what all rows give: the instructions, the names of locations, and what stands after the rows
@@ -48,7 +48,7 @@ rows_within zero stop cores instrs names ps = Ok (rows instrs names ps)
 rows_within (suc n) stop cores instrs names ps =
     if ends_rows ps then Ok (rows instrs names ps)
     else (row_at stop ps >>= λ row.
-    row_in cores (left_of ps) instrs names row.0 >>= λ read.
+    row_in cores (remaining_of ps) instrs names row.0 >>= λ read.
     rows_within n stop cores read.0 read.1 row.1)
 
 -- all rows; a row takes a token or more

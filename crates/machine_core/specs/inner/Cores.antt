@@ -2,7 +2,7 @@
 -- depth of the core's own buffer, with memory as the words that the bus shows.
 use Rattle.std.specs.Prelude.{ℕ, ◌+◌, List, [], ◌∷◌, map, filter, slice_index}
 use Rattle.tso_model.specs.Actions.{action_of}
-use Rattle.tso_model.specs.Access.{Access, access_by}
+use Rattle.tso_model.specs.MemoryAccess.{MemoryAccess, access_by}
 use Rattle.tso_model.specs.ProgramOrder.{writes_to}
 use Rattle.tso_model.specs.Axioms.{last_value}
 use Rattle.tso_model.specs.Thread.{entry}
@@ -17,7 +17,7 @@ use Rattle.tso_model.specs.declared.execution.Entry.{Entry}
 use Rattle.tso_model.specs.declared.execution.Kind.TheVariants.{W, LR, LW}
 use Rattle.store_buffer.specs.Stores.{Stores}
 use Rattle.store_buffer.specs.inner.Stores.{stores}
-use Rattle.snoop_bus.specs.Bus.{Bus, words_of}
+use Rattle.snoop_bus.specs.Bus.{BusModel, words_of}
 use Rattle.machine_core.specs.declared.processor.Processor.{Processor}
 use Rattle.machine_core.specs.Cores.{core_state, store_of}
 
@@ -56,7 +56,7 @@ abbrev pub drain_by : ℕ → Processor → List ℕ → Effect
 drain_by core p memory = drain_of (core_state core p)
 
 -- the access that an action of the core makes
-abbrev pub own_access : Action → ℕ → Processor → Access
+abbrev pub own_access : Action → ℕ → Processor → MemoryAccess
 own_access action core p = access_by p.stores.depth action (pending_in core p)
 
 -- what a core with these pending stores sees at a location of this memory
@@ -64,7 +64,7 @@ abbrev pub seen_by : ℕ → Stores → List ℕ → Loc → ℕ
 seen_by core s memory loc = last_value (filter (writes_to loc.0) (entries_in core s)) (slice_index memory loc.0)
 
 -- the word at a location of the bus
-abbrev pub word_at : Bus → Loc → ℕ
+abbrev pub word_at : BusModel → Loc → ℕ
 word_at b loc = slice_index (words_of b) loc.0
 
 -- both parts of a locked instruction that read this word and wrote this value

@@ -1,8 +1,8 @@
--- A choice made on the parts of a machine with a split bus: the holder's next one, which completes, or any other, which
+-- A choice made on the hardware of a machine with a split bus: the holder's next one, which completes, or any other, which
 -- asks, waits or acts at once. (Primer, chapter 7; this project's profile.)
 use Rattle.std.specs.Prelude.{◌≡◌, ◌<◌, ℕ, false, List}
 use Rattle.tso_model.specs.Litmus.{Litmus}
-use Rattle.tso_model.specs.Access.{Access, NoAccess, Reads, Writes, Locks}
+use Rattle.tso_model.specs.MemoryAccess.{MemoryAccess, NoAccess, Reads, Writes, Locks}
 use Rattle.tso_model.specs.SplitMachine.{Holder, Free, HeldBy, HeldBetween, BusEffect, same_choice, begins, writes_last}
 use Rattle.tso_model.specs.SplitMachine.{split_effect}
 use Rattle.tso_model.specs.Thread.{value_in, updated}
@@ -12,26 +12,26 @@ use Rattle.tso_model.specs.declared.action.Action.TheVariants.{Lock}
 use Rattle.tso_model.specs.declared.execution.Entry.{Entry}
 use Rattle.tso_model.specs.declared.choice.Choice.{Choice}
 use Rattle.tso_model.specs.declared.choice.Choice.TheVariants.{Step}
-use Rattle.machine_core.specs.declared.machine_parts.MachineParts.{MachineParts}
-use Rattle.machine_core.specs.Kept.{state_in}
-use Rattle.machine_core.specs.inner.Performed.{attempt_in}
+use Rattle.machine_core.specs.declared.hardware.Hardware.{Hardware}
+use Rattle.machine_core.specs.Keeping.{state_in}
+use Rattle.machine_core.specs.inner.Effects.{attempt_in}
 
 -- what a choice does, and how it uses the caches then
-abbrev pub split_effect_in : {P : Type 0} → Litmus → MachineParts P → Choice → BusEffect
+abbrev pub split_effect_in : {P : Type 0} → Litmus → Hardware P → Choice → BusEffect
 split_effect_in t m choice = split_effect t m.config.depth (state_in m).flat (attempt_in t m choice) (state_in m).holder
 
 -- what a choice does that isn't the holder's next one
-abbrev pub begins_in : {P : Type 0} → Litmus → MachineParts P → Choice → BusEffect
+abbrev pub begins_in : {P : Type 0} → Litmus → Hardware P → Choice → BusEffect
 begins_in t m choice = begins t m.config.depth (state_in m).flat (attempt_in t m choice) (state_in m).holder
 
 -- the access is at one of so many locations
-abbrev pub IsAccessAmong : ℕ → Access → Type 0
+abbrev pub IsAccessAmong : ℕ → MemoryAccess → Type 0
 IsAccessAmong locations NoAccess = Unit {0}
 IsAccessAmong locations (Reads loc) = loc.0 < locations
 IsAccessAmong locations (Writes loc) = loc.0 < locations
 IsAccessAmong locations (Locks loc) = loc.0 < locations
 
-abbrev pub writes_last_in : {P : Type 0} → Litmus → MachineParts P → Entry → BusEffect
+abbrev pub writes_last_in : {P : Type 0} → Litmus → Hardware P → Entry → BusEffect
 writes_last_in t m e = writes_last t m.config.depth (state_in m).flat e
 
 -- the choice isn't the holder's next one

@@ -1,12 +1,12 @@
 -- How a core's access comes to the bus: whole, or as the second half of what the core has asked for.
 use Rattle.std.specs.Prelude.{◌≡◌}
-use Rattle.tso_model.specs.Access.{Access, NoAccess, Reads, Writes, Locks}
+use Rattle.tso_model.specs.MemoryAccess.{MemoryAccess, NoAccess, Reads, Writes, Locks}
 use Rattle.tso_model.specs.declared.instruction.Core.{Core}
-use Rattle.snoop_bus.specs.Bus.{Bus, holder_of}
+use Rattle.snoop_bus.specs.Bus.{BusModel, holder_of}
 use Rattle.machine_core.specs.declared.turn.Way.{Way}
 use Rattle.machine_core.specs.declared.turn.Way.TheVariants.{Whole, Asked}
 use Rattle.machine_core.specs.declared.turn.Turn.{Turn}
-use Rattle.machine_core.specs.Kept.{held_for}
+use Rattle.machine_core.specs.Keeping.{held_for}
 
 -- what is so of a whole access, and of one that was asked for
 abbrev pub by_way : {A : Type 0} → Way → A → A → A
@@ -18,7 +18,7 @@ abbrev pub whole : Core → Turn
 whole core = record { core = core; way = Whole }
 
 -- the bus is held for this access of the core, which is a load's or a store's
-abbrev pub HasAsked : Bus → Core → Access → Type 0
+abbrev pub HasAsked : BusModel → Core → MemoryAccess → Type 0
 HasAsked b core NoAccess = ⊥
 HasAsked b core (Reads loc) = holder_of b ≡ held_for core (Reads loc)
 HasAsked b core (Writes loc) = holder_of b ≡ held_for core (Writes loc)

@@ -9,7 +9,7 @@ use Rattle.protocol_tables.specs.declared.state.State.TheVariants.{M}
 use Rattle.cache_set.specs.Contents.{Contents, contents}
 use Rattle.snoop_bus.specs.declared.access.Access.{Access}
 use Rattle.snoop_bus.specs.declared.access.AccessKind.TheVariants.{Miss}
-use Rattle.snoop_bus.specs.declared.holding.Holder.{Holder}
+use Rattle.snoop_bus.specs.declared.holding.BusAction.{BusAction}
 use Rattle.snoop_bus.specs.declared.holding.Stage.TheVariants.{Load, Locked}
 use Rattle.snoop_bus.specs.declared.looking.CachedLine.{CachedLine}
 use Rattle.snoop_bus.specs.Lines.{line_in, words_in}
@@ -17,48 +17,48 @@ use Rattle.snoop_bus.specs.Tags.{tag_set}
 use Rattle.snoop_bus.specs.CacheContents.{TagSets, sets_of}
 use Rattle.snoop_bus.specs.inner.CacheContents.{settled}
 use Rattle.snoop_bus.specs.Copies.{cache_of}
-use Rattle.snoop_bus.specs.Bus.{Bus, words_of, IsFree}
+use Rattle.snoop_bus.specs.Bus.{BusModel, words_of, IsFree}
 use Rattle.protocol_tables.specs.Laws.{is_dirty}
 use Rattle.snoop_bus.specs.Asks.{tag_at, or_invalid}
 use Rattle.snoop_bus.specs.Accesses.{contents_of, line_of, would_hit, with_words}
 
 -- the copies of a core's set with this number, with their words
-abbrev pub copies_of : Bus → ℕ → ℕ → Contents
+abbrev pub copies_of : BusModel → ℕ → ℕ → Contents
 copies_of b core set = slice_index_or (cache_of b.caches core) set (contents [] 1)
 
 -- the line of this rank in a core's set, the most recently used first
 abbrev pub ranked_in : List TagSets → ℕ → ℕ → ℕ → Option (ℕ × State)
 ranked_in caches core set rank = slice_get (slice_index_or (sets_of caches core) set (tag_set [] 1)).tags rank
 
-abbrev pub ranked_line : Bus → ℕ → ℕ → ℕ → Option CachedLine
+abbrev pub ranked_line : BusModel → ℕ → ℕ → ℕ → Option CachedLine
 ranked_line b core set rank = option_map (with_words b.shape.words (words_of b)) (ranked_in (contents_of b) core set rank)
 
 -- no cache has the line in a dirty state
 abbrev pub IsClean : List TagSets → ℕ → Type 0
 IsClean caches line = (core : ℕ) → is_dirty (or_invalid (tag_at core line caches)) ≡ false
 
-abbrev pub memory_words_of : Bus → List ℕ
+abbrev pub memory_words_of : BusModel → List ℕ
 memory_words_of b = words_in b.shape.words (line_in b.memory) b.locations
 
 -- a core's access to the line for which another core's write access holds the bus doesn't hit
-abbrev pub KeepsOut : Bus → Core → Loc → Bool → Holder → Type 0
+abbrev pub KeepsOut : BusModel → Core → Loc → Bool → BusAction → Type 0
 KeepsOut b core loc hit h = line_of b h.loc.0 ≡ line_of b loc.0 → h.stage ≢ Load → h.core ≢ core → hit ≡ false
 
 -- an access that may be made whole: nobody holds the bus, or it hits
-abbrev pub MayGoOn : Bus → ℕ → ℕ → Bool → Type 0
+abbrev pub MayGoOn : BusModel → ℕ → ℕ → Bool → Type 0
 MayGoOn b core loc write = IsFree b ⊎ IsTrue (would_hit b core loc write)
 
 -- the contents once every dirty line was written to memory
-abbrev pub contents_settled : Bus → List TagSets
+abbrev pub contents_settled : BusModel → List TagSets
 contents_settled b = settled (contents_of b)
 
 -- while a core's write access holds the bus, or its locked instruction, no other core has its line; and where a locked
 -- instruction has read, its core has the line in M
-pub record StandsAlone (b : Bus) (h : Holder) : Type 0 where
+pub record StandsAlone (b : BusModel) (h : BusAction) : Type 0 where
   pub others : h.stage ≢ Load → (core : ℕ) → core ≢ h.core.0 → tag_at core (line_of b h.loc.0) (contents_of b) ≡ None
   pub own : h.stage ≡ Locked → tag_at h.core.0 (line_of b h.loc.0) (contents_of b) ≡ Some M
 
 -- an access was out of memory: it was a miss, since no other takes any, and nothing has changed
-pub record IsOutOfMemory (old new : Bus) (refused : Access) : Type 0 where
+pub record IsOutOfMemory (old new : BusModel) (refused : Access) : Type 0 where
   pub miss : refused.kind ≡ Miss
   pub same : new ≡ old

@@ -7,7 +7,7 @@ use Rattle.cache_set.specs.inner.Copy.{copy_with}
 use Rattle.snoop_bus.specs.declared.access.Access.{Access}
 use Rattle.snoop_bus.specs.declared.access.Updated.{Updated}
 use Rattle.snoop_bus.specs.declared.hierarchy.Hierarchy.{Hierarchy}
-use Rattle.snoop_bus.specs.declared.holding.Held.{Held}
+use Rattle.snoop_bus.specs.declared.holding.HeldBus.{HeldBus}
 use Rattle.tso_model.specs.Limits.{most_cores}
 use Rattle.snoop_bus.specs.Lines.{Words}
 use Rattle.snoop_bus.specs.CacheContents.{TagSets, loaded, written}
@@ -21,7 +21,7 @@ use Rattle.snoop_bus.specs.Asks.{hits}
 
 -- a core may ask for a line of memory, or hit it beside an action that holds the bus: the copies that count are
 -- coherent, and the holder's own copy is as its action has left it
-pub record IsReady (held : Option Held) (core line : ℕ) (h : Hierarchy) : Type 0 where
+pub record IsReady (held : Option HeldBus) (core line : ℕ) (h : Hierarchy) : Type 0 where
   pub coherent : AllCoherent (counted held h.caches.items) h.memory.items
   pub awaited : IfSome held (IsHeld h.caches.items h.memory.items)
   pub core_in : core < length h.caches.items
@@ -29,7 +29,7 @@ pub record IsReady (held : Option Held) (core line : ℕ) (h : Hierarchy) : Type
   pub line_in : line < length h.memory.items
 
 -- a write access may be made whole: nobody holds the bus, or it hits
-abbrev pub MayWrite : Table → Option Held → ℕ → ℕ → List TagSets → Type 0
+abbrev pub MayWrite : Table → Option HeldBus → ℕ → ℕ → List TagSets → Type 0
 MayWrite t held core line caches = (held ≡ None) ⊎ IsTrue (hits t core line true caches)
 
 -- the caches and memory are coherent, the words that are seen stay, and so does the room in each set
@@ -40,17 +40,17 @@ pub record KeepsWords (old_caches new_caches : List Sets) (old_memory new_memory
 
 -- so many lines, of which one changes, and of it the word at this place alone
 abbrev pub OnlyWordAt : ℕ → ℕ → ℕ → ℕ → (ℕ → Words) → (ℕ → Words) → Type 0
-OnlyWordAt line place value count old new =
-    (k : ℕ) → k < count → new k ≡ (if nat_eq k line then slice_set (old line) place value else old k)
+OnlyWordAt line offset value count old new =
+    (k : ℕ) → k < count → new k ≡ (if nat_eq k line then slice_set (old line) offset value else old k)
 
--- the caches and memory are coherent, and the word at this place of a line alone is seen to change
-pub record SetsWord (line place value : ℕ) (old_caches new_caches : List Sets) (old_memory new_memory : List Words) : Type 0 where
+-- the caches and memory are coherent, and the word at this offset in a line alone is seen to change
+pub record SetsWord (line offset value : ℕ) (old_caches new_caches : List Sets) (old_memory new_memory : List Words) : Type 0 where
   pub coherent : AllCoherent new_caches new_memory
-  pub place_in : place < length (current_words old_caches old_memory line)
-  pub lines : OnlyWordAt line place value (length old_memory) (current_words old_caches old_memory) (current_words new_caches new_memory)
+  pub offset_in : offset < length (current_words old_caches old_memory line)
+  pub lines : OnlyWordAt line offset value (length old_memory) (current_words old_caches old_memory) (current_words new_caches new_memory)
 
 -- the current words of a line, where those that the bus keeps count as the holder's
-abbrev pub counted_words : Option Held → List Sets → List Words → ℕ → Words
+abbrev pub counted_words : Option HeldBus → List Sets → List Words → ℕ → Words
 counted_words held caches memory line = current_words (counted held caches) memory line
 
 -- nothing has changed, neither the caches nor memory: as where an access is out of memory
@@ -58,10 +58,10 @@ pub record IsUnchanged (old new : Hierarchy) : Type 0 where
   pub caches : new.caches.items ≡ old.caches.items
   pub memory : new.memory.items ≡ old.memory.items
 
-module _ (t : Table) (held : Option Held) (core line : ℕ) where
-  -- a load answered the word at this place of a line and was this access: what it leaves goes by the protocol's table
-  pub record Loads (place : ℕ) (old new : List Sets) (before after : List Words) (word : ℕ) (access : Access) : Type 0 where
-    pub word_is : word ≡ slice_index (counted_words held old before line) place
+module _ (t : Table) (held : Option HeldBus) (core line : ℕ) where
+  -- a load answered the word at this offset in a line and was this access: what it leaves goes by the protocol's table
+  pub record Loads (offset : ℕ) (old new : List Sets) (before after : List Words) (word : ℕ) (access : Access) : Type 0 where
+    pub word_is : word ≡ slice_index (counted_words held old before line) offset
     pub access_is : access ≡ (loaded t core line (tags_of old)).access
     pub tags : tags_of new ≡ (loaded t core line (tags_of old)).caches
     pub memory : after ≡ loaded_memory t core line old before
@@ -75,16 +75,16 @@ module _ (t : Table) (held : Option Held) (core line : ℕ) where
     pub tags : tags_of new ≡ (written t core line (tags_of old)).caches
     pub memory : after ≡ written_memory t core line old before
 
-  -- a write access wrote this value at a place of a line, found that word there and was this access: that word alone
+  -- a write access wrote this value at an offset in a line, found that word there and was this access: that word alone
   -- is seen to change, and what is left goes by the protocol's table
-  pub record Writes (place value : ℕ) (old new : List Sets) (before after : List Words) (word : ℕ) (access : Access) : Type 0 where
-    pub place_in : place < length (counted_words held old before line)
-    pub word_is : word ≡ slice_index (counted_words held old before line) place
-    pub lines : OnlyWordAt line place value (length before) (counted_words held old before) (counted_words held new after)
+  pub record Writes (offset value : ℕ) (old new : List Sets) (before after : List Words) (word : ℕ) (access : Access) : Type 0 where
+    pub offset_in : offset < length (counted_words held old before line)
+    pub word_is : word ≡ slice_index (counted_words held old before line) offset
+    pub lines : OnlyWordAt line offset value (length before) (counted_words held old before) (counted_words held new after)
     pub access_is : access ≡ (written t core line (tags_of old)).access
     pub tags : tags_of new ≡ (written t core line (tags_of old)).caches
     pub memory : after ≡ written_memory t core line old before
 
   -- a write access made this of the word that it found
   abbrev pub Updates : ℕ → List Sets → List Sets → List Words → List Words → Updated → Type 0
-  Updates place old new before after u = Writes place u.after old new before after u.before u.access
+  Updates offset old new before after u = Writes offset u.after old new before after u.before u.access

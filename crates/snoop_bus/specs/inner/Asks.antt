@@ -3,12 +3,12 @@
 use Rattle.std.specs.Prelude.{ℕ, Bool, List, Option, option_map}
 use Rattle.tso_model.specs.declared.instruction.Core.{Core}
 use Rattle.tso_model.specs.declared.instruction.Loc.{Loc}
-use Rattle.protocol_tables.specs.declared.asking.Request.{Request}
-use Rattle.protocol_tables.specs.declared.asking.Transient.{Transient}
+use Rattle.protocol_tables.specs.declared.requests.Request.{Request}
+use Rattle.protocol_tables.specs.declared.requests.Transient.{Transient}
 use Rattle.protocol_tables.specs.Tables.{Table}
 use Rattle.cache_set.specs.inner.Copy.{copy_with}
 use Rattle.snoop_bus.specs.declared.holding.Transaction.{Transaction}
-use Rattle.snoop_bus.specs.declared.holding.Held.{Held}
+use Rattle.snoop_bus.specs.declared.holding.HeldBus.{HeldBus}
 use Rattle.snoop_bus.specs.Lines.{Words}
 use Rattle.snoop_bus.specs.CacheContents.{TagSets}
 use Rattle.snoop_bus.specs.Copies.{Sets, tags_of}
@@ -38,6 +38,6 @@ transaction_at t request core line caches memory =
     transaction_of t request core line (current_words caches memory line) (tags_of caches)
 
 -- what holds the bus after a core's ask for an access at a location of this line
-abbrev pub held_after_ask : Table → Core → Loc → ℕ → Bool → List Sets → List Words → Held
+abbrev pub held_after_ask : Table → Core → Loc → ℕ → Bool → List Sets → List Words → HeldBus
 held_after_ask t core loc line write caches memory =
     held_by core loc (stage_for write) line (transaction_at t (request_for write) core.0 line caches memory)

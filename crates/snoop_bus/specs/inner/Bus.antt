@@ -9,17 +9,17 @@ use Rattle.snoop_bus.specs.Copies.{Sets}
 use Rattle.snoop_bus.specs.inner.Copies.{ways_of}
 use Rattle.snoop_bus.specs.Held.{counted}
 use Rattle.snoop_bus.specs.inner.Held.{IsHeld, IsPlaced}
-use Rattle.snoop_bus.specs.declared.holding.Held.{Held}
-use Rattle.snoop_bus.specs.Bus.{AllCoherent, Bus, counted_copies, current_words, program_words}
+use Rattle.snoop_bus.specs.declared.holding.HeldBus.{HeldBus}
+use Rattle.snoop_bus.specs.Bus.{AllCoherent, BusModel, counted_copies, current_words, program_words}
 
--- each line has its words of the list of words that a program sees, and 0 at every other place
+-- each line has its words of the list of words that a program sees, and 0 at every other offset
 abbrev pub HasWholeLines : Geometry → ℕ → List Sets → List Words → Type 0
 HasWholeLines shape locations caches memory =
     (k : ℕ) → k < length memory → current_words caches memory k ≡ line_of_words shape.words (program_words shape locations caches memory) k
 
 -- what holds of every bus: the copies that count are coherent, the holder's own copy is as its action has left it, each
 -- cache of the bus's shape, cores and locations within their limits, and a line for each location
-pub record IsBus (shape : Geometry) (locations : ℕ) (caches : List Sets) (memory : List Words) (held : Option Held) : Type 0 where
+pub record IsBus (shape : Geometry) (locations : ℕ) (caches : List Sets) (memory : List Words) (held : Option HeldBus) : Type 0 where
   pub coherent : AllCoherent (counted held caches) memory
   pub lines : HasWholeLines shape locations (counted held caches) memory
   pub awaited : IfSome held (IsHeld caches memory)
@@ -33,6 +33,6 @@ pub record IsBus (shape : Geometry) (locations : ℕ) (caches : List Sets) (memo
   pub enough_lines : locations ≤ length memory * shape.words
   pub as_many_lines : length memory ≡ div_ceil locations shape.words
 
--- each line has its words, and 0 at every other place
-abbrev pub HasLines : Bus → Type 0
+-- each line has its words, and 0 at every other offset
+abbrev pub HasLines : BusModel → Type 0
 HasLines b = HasWholeLines b.shape b.locations (counted_copies b) b.memory

@@ -4,8 +4,8 @@ use Rattle.std.specs.Prelude.{◌≡◌, ◌≢◌, ◌<◌, ◌/◌, ◌==◌, 
 use Rattle.tso_model.specs.declared.instruction.Core.{Core}
 use Rattle.tso_model.specs.declared.instruction.Loc.{Loc}
 use Rattle.protocol_tables.specs.declared.state.State.TheVariants.{S, O, M}
-use Rattle.protocol_tables.specs.declared.asking.Transient.{Transient}
-use Rattle.protocol_tables.specs.declared.asking.Transient.TheVariants.{IsD, ImD, SmD}
+use Rattle.protocol_tables.specs.declared.requests.Transient.{Transient}
+use Rattle.protocol_tables.specs.declared.requests.Transient.TheVariants.{IsD, ImD, SmD}
 use Rattle.protocol_tables.specs.Laws.{in_place}
 use Rattle.cache_set.specs.declared.Line.{Line}
 use Rattle.cache_set.specs.inner.Copy.{with_state}
@@ -16,7 +16,7 @@ use Rattle.snoop_bus.specs.Copies.{Sets, copy_at, cache_of}
 use Rattle.snoop_bus.specs.declared.holding.Stage.{Stage}
 use Rattle.snoop_bus.specs.declared.holding.Stage.TheVariants.{Load, Write, Locked}
 use Rattle.snoop_bus.specs.declared.holding.Transaction.{Transaction}
-use Rattle.snoop_bus.specs.declared.holding.Held.{Held}
+use Rattle.snoop_bus.specs.declared.holding.HeldBus.{HeldBus}
 use Rattle.snoop_bus.specs.Held.{holder}
 
 -- the holder's own copy of a line that it asked for: none, or in an upgrade one in S or O with the same words
@@ -36,18 +36,18 @@ Awaits Locked None own = state_of own ≡ M
 Awaits Locked (Some x) own = ⊥
 
 -- what holds while an action holds the bus
-pub record IsHeld (caches : List Sets) (memory : List Words) (h : Held) : Type 0 where
+pub record IsHeld (caches : List Sets) (memory : List Words) (h : HeldBus) : Type 0 where
   pub core_in : h.holder.core.0 < length caches
   pub line_in : h.line < length memory
   pub some_set : 0 < length (cache_of caches h.holder.core.0)
   pub awaits : Awaits h.holder.stage h.transaction (copy_at caches h.holder.core.0 h.line)
 
 -- the action that holds the bus is at one of so many locations, and its line is that location's
-pub record IsPlaced (shape : Geometry) (locations : ℕ) (h : Held) : Type 0 where
+pub record IsPlaced (shape : Geometry) (locations : ℕ) (h : HeldBus) : Type 0 where
   pub loc_in : h.holder.loc.0 < locations
   pub line_is : h.line ≡ h.holder.loc.0 / shape.words
 
-abbrev pub held_by : Core → Loc → Stage → ℕ → Option Transaction → Held
+abbrev pub held_by : Core → Loc → Stage → ℕ → Option Transaction → HeldBus
 held_by core loc stage line transaction = record { holder = holder core loc stage; line = line; transaction = transaction }
 
 -- the words that the bus keeps for its holder, where they are this line's
@@ -55,6 +55,6 @@ abbrev pub kept_by : ℕ → ℕ → Option Transaction → Option Words
 kept_by here line None = None
 kept_by here line (Some x) = if here == line then Some x.copy.words else None
 
-abbrev pub kept_words : Option Held → ℕ → Option Words
+abbrev pub kept_words : Option HeldBus → ℕ → Option Words
 kept_words None line = None
 kept_words (Some h) line = kept_by h.line line h.transaction

@@ -4,11 +4,11 @@ use Rattle.tso_model.specs.Litmus.{Litmus, IsTest}
 use Rattle.tso_model.specs.SequentialConsistency.{KeepsAllOrder}
 use Rattle.tso_model.specs.FlatMachine.{State, start, after_choice}
 use Rattle.tso_model.specs.Runs.{run}
-use Rattle.tso_model.specs.Access.{NoAccess, access_of}
+use Rattle.tso_model.specs.MemoryAccess.{NoAccess, access_of}
 use Rattle.tso_model.specs.SplitMachine.{Free, Attempt, same_choice}
 use Rattle.tso_model.specs.EitherBus.{BusState, unheld, effect_on, after_on, run_on, HitFits, HitsFit}
 use Rattle.tso_model.specs.Together.{put_together}
-use Rattle.tso_model.specs.declared.bus.Bus.{Bus}
+use Rattle.tso_model.specs.declared.choice.Bus.{Bus}
 use Rattle.tso_model.specs.declared.execution.Entry.{Entry}
 use Rattle.tso_model.specs.declared.choice.Choice.{Choice}
 use Rattle.tso_model.specs.declared.choice.Stall.{Stall}

@@ -5,7 +5,7 @@ use Rattle.tso_model.specs.FlatMachine.{start}
 use Rattle.tso_model.specs.Runs.{has_ended, run}
 use Rattle.tso_model.specs.SplitMachine.{Attempt}
 use Rattle.tso_model.specs.EitherBus.{BusState, BusRun, unheld, effect_on, after_on}
-use Rattle.tso_model.specs.declared.bus.Bus.{Bus}
+use Rattle.tso_model.specs.declared.choice.Bus.{Bus}
 use Rattle.split_laws.specs.BusChoices.{state_on, commits_on}
 use Rattle.split_laws.specs.BusRuns.{left_by}
 

@@ -3,22 +3,22 @@ use Rattle.std.specs.Prelude.{ℕ, List, [], ◌∷◌, Option, Some, None}
 use Rattle.tso_model.specs.declared.instruction.Core.{Core}
 use Rattle.protocol_tables.specs.declared.state.State.{State}
 use Rattle.protocol_tables.specs.declared.state.State.TheVariants.{I, S, E, O, M}
-use Rattle.protocol_tables.specs.declared.asking.Transient.{Transient}
-use Rattle.protocol_tables.specs.declared.asking.Transient.TheVariants.{ImD}
+use Rattle.protocol_tables.specs.declared.requests.Transient.{Transient}
+use Rattle.protocol_tables.specs.declared.requests.Transient.TheVariants.{ImD}
 use Rattle.protocol_tables.specs.Tables.{Table, msi}
 use Rattle.cache_set.specs.declared.Line.{Line}
 use Rattle.cache_set.specs.declared.Victim.{Victim}
 use Rattle.cache_set.specs.Contents.{Contents}
 use Rattle.snoop_bus.specs.declared.holding.Stage.TheVariants.{Write}
-use Rattle.snoop_bus.specs.declared.holding.Held.{Held}
+use Rattle.snoop_bus.specs.declared.holding.HeldBus.{HeldBus}
 use Rattle.snoop_bus.specs.Geometry.{Geometry}
 use Rattle.snoop_bus.specs.Lines.{Words}
 use Rattle.snoop_bus.specs.Tags.{TagSet}
 use Rattle.snoop_bus.specs.CacheContents.{TagSets}
 use Rattle.snoop_bus.specs.Copies.{Sets}
-use Rattle.snoop_bus.specs.Bus.{Bus, bus_with}
+use Rattle.snoop_bus.specs.Bus.{BusModel, bus_with}
 use Rattle.snoop_bus.specs.Accesses.{new_bus}
-use Rattle.snoop_bus.specs.Asks.{Awaited, Asked}
+use Rattle.snoop_bus.specs.Asks.{Awaited, AskedAccess}
 use Rattle.worked_examples.specs.LinesInSets.{set_for}
 
 -- ---- by constructors alone
@@ -47,7 +47,7 @@ victim line content = record { line = line; content = content }
 abbrev pub awaits : Transient → State → Option Core → Awaited
 awaits transient state flushed = record { transient = transient; state = state; flushed = flushed }
 
-abbrev pub asked : Option Awaited → List TagSets → Asked
+abbrev pub asked : Option Awaited → List TagSets → AskedAccess
 asked awaited caches = record { awaited = awaited; caches = caches }
 
 -- ---- where a location lies
@@ -62,7 +62,7 @@ abbrev pub eight_words : List ℕ
 eight_words = 10 ∷ 11 ∷ 12 ∷ 13 ∷ 14 ∷ 15 ∷ 16 ∷ 17 ∷ []
 
 -- two cores, whose caches are empty
-abbrev pub eight_locations : Geometry → Bus
+abbrev pub eight_locations : Geometry → BusModel
 eight_locations g = new_bus msi 2 g eight_words
 
 -- an empty set for three lines, and one with this line alone
@@ -88,14 +88,14 @@ held_by_p1 = copies_for 1 ((2, copy M (words 54 55 0 0)) ∷ []) ∷ copies_for 
 abbrev pub eight_in_memory : List Words
 eight_in_memory = words 10 11 0 0 ∷ words 12 13 0 0 ∷ words 14 15 0 0 ∷ words 16 17 0 0 ∷ []
 
-abbrev pub stale : Table → Bus
+abbrev pub stale : Table → BusModel
 stale t = bus_with t two_words 8 (held_by_p0 ∷ held_by_p1 ∷ []) eight_in_memory None
 
 -- memory once P1's copy came there
 abbrev pub fresh_in_memory : List Words
 fresh_in_memory = words 10 11 0 0 ∷ words 12 13 0 0 ∷ words 54 55 0 0 ∷ words 16 17 0 0 ∷ []
 
-abbrev pub write_of_p0 : Held
+abbrev pub write_of_p0 : HeldBus
 write_of_p0 = record {
   holder = record { core = record { 0 = 0 }; loc = record { 0 = 4 }; stage = Write };
   line = 2;
@@ -103,7 +103,7 @@ write_of_p0 = record {
 }
 
 -- P0's write of location 4 holds the bus: P1's copy is gone, and the bus keeps its words for P0
-abbrev pub under_way : Bus
+abbrev pub under_way : BusModel
 under_way = bus_with msi two_words 8 (held_by_p0 ∷ (copies_for 1 [] ∷ copies_for 1 [] ∷ []) ∷ []) eight_in_memory (Some write_of_p0)
 
 -- lines 7, 4 and 2 with words of their own

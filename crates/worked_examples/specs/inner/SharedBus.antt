@@ -3,7 +3,7 @@ use Rattle.std.specs.Prelude.{ℕ, List, [], ◌∷◌, None, codes}
 use Rattle.tso_model.specs.Litmus.{Litmus}
 use Rattle.tso_model.specs.SplitMachine.{Attempt, BusEffect}
 use Rattle.tso_model.specs.EitherBus.{BusState, BusRun, effect_on, run_on}
-use Rattle.tso_model.specs.declared.bus.Bus.TheVariants.{Split}
+use Rattle.tso_model.specs.declared.choice.Bus.TheVariants.{Split}
 use Rattle.tso_model.specs.declared.register.Reg.TheVariants.{Eax}
 use Rattle.tso_model.specs.declared.instruction.Instr.{Instr}
 use Rattle.tso_model.specs.declared.instruction.Instr.TheVariants.{StoreImm, Load, Xchg}

@@ -1,7 +1,7 @@
 -- The examples of one choice of one core.
 use Rattle.std.specs.Prelude.{ℕ, List, [], ◌∷◌}
 use Rattle.tso_model.specs.Runs.{run}
-use Rattle.tso_model.specs.Access.{Access, access_of}
+use Rattle.tso_model.specs.MemoryAccess.{MemoryAccess, access_of}
 use Rattle.tso_model.specs.declared.register.Reg.TheVariants.{Ebx}
 use Rattle.tso_model.specs.declared.instruction.Instr.{Instr}
 use Rattle.tso_model.specs.declared.instruction.Instr.TheVariants.{StoreImm, Load}
@@ -10,7 +10,7 @@ use Rattle.worked_examples.specs.Written.{loc_x, loc_y, step, drain}
 use Rattle.worked_examples.specs.SmallPrograms.{alone}
 
 -- the access of such a choice
-abbrev pub access_after : List Instr → ℕ → List Choice → Choice → Access
+abbrev pub access_after : List Instr → ℕ → List Choice → Choice → MemoryAccess
 access_after program depth before choice = access_of (alone program) depth (run (alone program) depth before).state choice
 
 -- MOV [x],$7 ; MOV [x],$8 ; MOV EBX,[x], and MOV [x],$7 ; MOV [x],$8 ; MOV EBX,[y]

@@ -1,6 +1,6 @@
 use Rattle.std.proofs.Common.{◌≡◌, length}
 use Rattle.explorer.specs.State.{state_of}
-use Rattle.explorer.specs.Kept.{IsSettled}
+use Rattle.explorer.specs.Settled.{IsSettled}
 use Rattle.explorer.proofs.eager.settle.Given as goal
 
 abbrev pub invariant-loop-made : goal.invariant-loop-made

@@ -1,6 +1,6 @@
 use Rattle.std.proofs.Common.{map, sym, ◌∙◌, subst}
 use Rattle.eager_laws.specs.Closed.{IsIn}
-use Rattle.explorer.specs.Kept.{LeadsBy}
+use Rattle.explorer.specs.Settled.{LeadsBy}
 use Rattle.explorer.specs.State.{state_of}
 use Rattle.explorer.specs.contracts.snapshot.SnapshotPartialEq.TheImpl as snapshot_eq
 use Rattle.explorer.proofs.Linking.{linked-new}

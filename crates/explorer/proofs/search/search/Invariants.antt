@@ -2,7 +2,7 @@ use Rattle.std.proofs.Common.{◌≡◌, ◌<◌, ◌≤◌, ℕ, Some, slice_ge
 use Rattle.tso_model.specs.FlatMachine.{start}
 use Rattle.eager_laws.specs.Closed.{IsCovered, IsExpanded}
 use Rattle.explorer.specs.State.{state_of}
-use Rattle.explorer.specs.inner.Kept.{HaveCores, AreLinked}
+use Rattle.explorer.specs.inner.Settled.{HaveCores, AreLinked}
 use Rattle.explorer.specs.declared.snapshot.Snapshot.{Snapshot}
 use Rattle.explorer.proofs.search.search.Given as goal
 

@@ -8,9 +8,9 @@ use Rattle.litmus_reader.proofs.cell.read_cells.Given as goal
 
 abbrev pub invariant-cells : goal.invariant-cells
 invariant-cells l = record {
-  same : cells_in l.core l.instrs.items (texts l.names.keys) (cells_after l.left) ≡ cells_in 0 l.initial.instrs.items (texts l.initial.names.keys) (cells_of (pieces l.row));
-  bound : l.core + room_of l.left ≤ length l.row + 1;
+  same : cells_in l.core l.instrs.items (texts l.names.keys) (cells_after l.remaining) ≡ cells_in 0 l.initial.instrs.items (texts l.initial.names.keys) (cells_of (pieces l.row));
+  bound : l.core + room_of l.remaining ≤ length l.row + 1;
 }
 
 abbrev pub decreases-cells : goal.decreases-cells
-decreases-cells l = room_of l.left
+decreases-cells l = room_of l.remaining

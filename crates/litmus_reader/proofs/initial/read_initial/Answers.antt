@@ -27,12 +27,12 @@ returns-in_err-rest c =
 pub returns-in-Some : goal.returns-in-Some
 returns-in-Some c =
     initial_done c.args.stop c.in_initial-part.result (texts c.args.names.now.keys) (pieces c.args.tokens.now) (pieces c.in_ok-rest.rest.now) _
-    (c.in_initial-part.ensures ∙ ap (λ (l : ℕ). in_initial l c.args.stop) c.left_of.ensures) c.in_ok-rest.ensures
+    (c.in_initial-part.ensures ∙ ap (λ (l : ℕ). in_initial l c.args.stop) c.remaining_of.ensures) c.in_ok-rest.ensures
     (items_end c.in_initial-part.result (initial (texts c.items.names.keys) c.items.state.words.items (map given_of c.items.state.registers.items)) (pieces c.items.rest.now) (pieces c.in-Some.after.now) _ c.in-Some.ensures.value c.items.invariant.items)
 
 pub returns-in_err-rest-2 : goal.returns-in_err-rest-2
 returns-in_err-rest-2 c =
     let p = err_from_is_err_and c.from_residual-in_err-rest-2.result c.from_residual-in_err-rest-2.ensures.1 in
     rw (p.1, p.2) (initial_fails c.in_err-rest-2.field-0.0 c.args.stop c.in_initial-part.result (texts c.args.names.now.keys) (pieces c.args.tokens.now) (pieces c.in_ok-rest.rest.now)
-    (c.in_initial-part.ensures ∙ ap (λ (l : ℕ). in_initial l c.args.stop) c.left_of.ensures) c.in_ok-rest.ensures
+    (c.in_initial-part.ensures ∙ ap (λ (l : ℕ). in_initial l c.args.stop) c.remaining_of.ensures) c.in_ok-rest.ensures
     (item_fails c.in_err-rest-2.field-0.0 c.in_initial-part.result (initial (texts c.items.names.keys) c.items.state.words.items (map given_of c.items.state.registers.items)) (pieces c.items.rest.now) _ c.in_default.ensures.value c.in_err-rest-2.ensures.value c.items.invariant.items))

@@ -16,10 +16,10 @@ returns-in-Some c = brackets_closed c.args.text.now c.args.stop (pieces c.args.t
 pub returns-in_err-bytes : goal.returns-in_err-bytes
 returns-in_err-bytes c =
     let p = err_from_is_err_and c.from_residual-in_err-bytes.result c.from_residual-in_err-bytes.ensures.1 in
-    let stopped = c.in_err-bytes.ensures ∙ ap (λ (n : ℕ). past_stop c.args.text.now n c.args.stop) c.left_of.ensures in
+    let stopped = c.in_err-bytes.ensures ∙ ap (λ (n : ℕ). past_stop c.args.text.now n c.args.stop) c.remaining_of.ensures in
     rw (p.1, p.2) (brackets_fail c.args.text.now c.args.stop (pieces c.args.tokens.now) _ c.in_err-bytes.field-0.0 c.requires c.in_ok-inside.ensures c.in_default.ensures stopped)
 
 pub returns : goal.returns
 returns c =
-    let stopped = c.in_ok-bytes.ensures ∙ ap (λ (n : ℕ). past_stop c.args.text.now n c.args.stop) c.left_of.ensures in
+    let stopped = c.in_ok-bytes.ensures ∙ ap (λ (n : ℕ). past_stop c.args.text.now n c.args.stop) c.remaining_of.ensures in
     brackets_found c.args.text.now c.args.stop (pieces c.args.tokens.now) _ c.in_ok-bytes.bytes.now c.requires c.in_ok-inside.ensures c.in_default.ensures stopped

@@ -29,12 +29,12 @@ returns-in_err-row-clause-value c =
 pub returns-in_err-read_row-clause-value : goal.returns-in_err-read_row-clause-value
 returns-in_err-read_row-clause-value c =
     let p = err_from_is_err_and c.from_residual-in_err-read_row.result c.from_residual-in_err-read_row.ensures.1 in
-    rw (p.1, p.2) (table_fails c.in_err-read_row.field-0.0 c.args.stop c.in_ok-cores.cores (map given_of c.args.given.now) c.in_ok-registers.registers.items (texts c.args.names.now.keys) (pieces c.args.tokens.now) (pieces c.in_ok-cores.rest.now) c.in_ok-cores.ensures.value c.in_ok-registers.ensures (row_fails c.in_err-read_row.field-0.0 c.args.stop c.in_ok-cores.cores c.left_of-left.result c.rows.instrs.items (texts c.rows.names.keys) (pieces c.rows.rest.now) (pieces c.in_ok-row.row.now) (pieces c.in_ok-row.after.now) _ (sym c.ends_rows.ensures ∙ c.rows-test.true) c.left_of-left.ensures (sym c.in_ok-row.ensures.value) c.in_err-read_row.ensures c.rows.invariant))
+    rw (p.1, p.2) (table_fails c.in_err-read_row.field-0.0 c.args.stop c.in_ok-cores.cores (map given_of c.args.given.now) c.in_ok-registers.registers.items (texts c.args.names.now.keys) (pieces c.args.tokens.now) (pieces c.in_ok-cores.rest.now) c.in_ok-cores.ensures.value c.in_ok-registers.ensures (row_fails c.in_err-read_row.field-0.0 c.args.stop c.in_ok-cores.cores c.remaining_of-remaining.result c.rows.instrs.items (texts c.rows.names.keys) (pieces c.rows.rest.now) (pieces c.in_ok-row.row.now) (pieces c.in_ok-row.after.now) _ (sym c.ends_rows.ensures ∙ c.rows-test.true) c.remaining_of-remaining.ensures (sym c.in_ok-row.ensures.value) c.in_err-read_row.ensures c.rows.invariant))
 
 pub rows-preserved : goal.rows-preserved
 rows-preserved c =
     let shorter : length (pieces c.in_ok-row.after.now) < length (pieces c.rows.rest.now) = simp length-map (omega (arith, c.in_ok-row.ensures.shorter)) in
-    rows_go_on c.args.stop c.in_ok-cores.cores c.left_of-left.result c.rows.instrs.items c.read_row.new.instrs.items (texts c.rows.names.keys) (texts c.read_row.new.names.keys) (pieces c.rows.rest.now) (pieces c.in_ok-row.row.now) (pieces c.in_ok-row.after.now) _ (sym c.ends_rows.ensures ∙ c.rows-test.true) c.left_of-left.ensures (sym c.in_ok-row.ensures.value) c.in_ok-read_row.ensures shorter c.rows.invariant
+    rows_go_on c.args.stop c.in_ok-cores.cores c.remaining_of-remaining.result c.rows.instrs.items c.read_row.new.instrs.items (texts c.rows.names.keys) (texts c.read_row.new.names.keys) (pieces c.rows.rest.now) (pieces c.in_ok-row.row.now) (pieces c.in_ok-row.after.now) _ (sym c.ends_rows.ensures ∙ c.rows-test.true) c.remaining_of-remaining.ensures (sym c.in_ok-row.ensures.value) c.in_ok-read_row.ensures shorter c.rows.invariant
 
 pub returns-clause-value : goal.returns-clause-value
 returns-clause-value c = table_done c.args.stop c.in_ok-cores.cores (map given_of c.args.given.now) c.in_ok-registers.registers.items (texts c.args.names.now.keys) (pieces c.args.tokens.now) (pieces c.in_ok-cores.rest.now) _ c.in_ok-cores.ensures.value c.in_ok-registers.ensures (rows_end c.args.stop c.in_ok-cores.cores c.rows.instrs.items (texts c.rows.names.keys) (pieces c.rows.rest.now) _ (sym c.ends_rows.ensures ∙ c.rows-test.false) c.rows.invariant)

@@ -1,8 +1,8 @@
 use Rattle.std.proofs.Common.{◌++◌, [], ◌∷◌, refl, sym, ap, ◌∙◌}
 use Rattle.tso_model.specs.FlatMachine.{chosen}
-use Rattle.machine_core.specs.declared.holding.Next.TheVariants.{Write}
-use Rattle.machine_core.specs.inner.Kept.{access_in}
-use Rattle.machine_core.proofs.Performing.{within-cores}
+use Rattle.machine_core.specs.declared.accesses.Next.TheVariants.{Write}
+use Rattle.machine_core.specs.inner.Keeping.{access_in}
+use Rattle.machine_core.proofs.ChoiceEffects.{within-cores}
 use Rattle.machine_core.proofs.Completions.{performs-first, uses-first}
 use Rattle.machine_core.proofs.Splitting.{held-with}
 use Rattle.machine_core.proofs.completing.complete.Goals as goal
@@ -10,7 +10,7 @@ use Rattle.machine_core.proofs.completing.complete.Goals as goal
 pub returns-in_ok-entry-in-Lock-clause-makes : goal.returns-in_ok-entry-in-Lock-clause-makes
 returns-in_ok-entry-in-Lock-clause-makes g c =
     let t = c.args.test.now in
-    let m = c.args.parts.now in
+    let m = c.args.hardware.now in
     let e = c.in_ok-entry-in-Lock.entry in
     let p = c.index.result.now in
     let locks = sym c.access_of.ensures.value ∙ ap access_in c.in-Lock.is in

@@ -2,12 +2,12 @@ use Rattle.std.proofs.Common.{◌∙◌, refl, sym, ap, subst, slice_get}
 use Rattle.tso_model.specs.SplitMachine.{Free, acts}
 use Rattle.tso_model.specs.declared.choice.Choice.TheVariants.{Step}
 use Rattle.tso_model.specs.declared.choice.Outcome.TheVariants.{Committed}
-use Rattle.machine_core.specs.declared.cache_use.CacheUse.TheVariants.{Unused}
+use Rattle.machine_core.specs.declared.accesses.CacheUse.TheVariants.{Unused}
 use Rattle.machine_core.specs.Cores.{core_state}
 use Rattle.machine_core.specs.inner.Cores.{pending_in}
-use Rattle.machine_core.specs.Performed.{HasUsed}
+use Rattle.machine_core.specs.Effects.{HasUsed}
 use Rattle.machine_core.specs.inner.Split.{writes_last_in}
-use Rattle.machine_core.proofs.Performing.{Performs-by, within-cores}
+use Rattle.machine_core.proofs.ChoiceEffects.{Performs-by, within-cores}
 use Rattle.machine_core.proofs.StepCompletions.{next-some, place-within, IsNext, is-next, access-next}
 use Rattle.machine_core.proofs.LastWrites.{has-read, locks-some, is-lock, last_part, writes-last, use-last, rests-last}
 use Rattle.machine_core.proofs.Splitting.{held-with}
@@ -17,19 +17,19 @@ pub unwrap-instr-requires : goal.unwrap-instr-requires
 unwrap-instr-requires g c =
     let p = c.index_mut-processor.result.now in
     let e = c.args.read in
-    let read = has-read c.args.test.now c.args.parts.now e c.requires.consistent.holder c.requires.between in
-    next-some c.args.test.now c.args.parts.now e.core p c.instruction_at.result (within-cores c.args.test.now c.args.parts.now e.core.0 c.requires.consistent.fits c.requires.core) c.index_mut-processor.ensures.value
+    let read = has-read c.args.test.now c.args.hardware.now e c.requires.consistent.holder c.requires.between in
+    next-some c.args.test.now c.args.hardware.now e.core p c.instruction_at.result (within-cores c.args.test.now c.args.hardware.now e.core.0 c.requires.consistent.fits c.requires.core) c.index_mut-processor.ensures.value
     (ap (λ xs. slice_get xs p.place) (sym c.program.ensures.value) ∙ sym c.instruction_at.ensures) (locks-some _ e.loc read.access)
 
 pub written-reg-requires : goal.written-reg-requires
 written-reg-requires g c =
     let p = c.index_mut-processor.result.now in
     let e = c.args.read in
-    let read = has-read c.args.test.now c.args.parts.now e c.requires.consistent.holder c.requires.between in
-    let next : IsNext c.args.test.now c.args.parts.now e.core p c.action.result =
-    is-next c.args.test.now c.args.parts.now e.core p c.program.result.now c.instruction_at.result c.unwrap-instr.result c.action.result c.action.result c.requires.consistent.fits c.requires.core c.index_mut-processor.ensures.value
+    let read = has-read c.args.test.now c.args.hardware.now e c.requires.consistent.holder c.requires.between in
+    let next : IsNext c.args.test.now c.args.hardware.now e.core p c.action.result =
+    is-next c.args.test.now c.args.hardware.now e.core p c.program.result.now c.instruction_at.result c.unwrap-instr.result c.action.result c.action.result c.requires.consistent.fits c.requires.core c.index_mut-processor.ensures.value
     c.program.ensures.value c.instruction_at.ensures c.unwrap-instr.ensures c.action.ensures refl in
-    is-lock p.stores.depth c.action.result (pending_in e.core.0 p) e.loc (sym (access-next c.args.test.now c.args.parts.now e.core p c.action.result next) ∙ read.access)
+    is-lock p.stores.depth c.action.result (pending_in e.core.0 p) e.loc (sym (access-next c.args.test.now c.args.hardware.now e.core p c.action.result next) ∙ read.access)
 
 pub advance-requires : goal.advance-requires
 advance-requires g c =
@@ -40,23 +40,23 @@ returns-clause-makes g c = record {
   ok =
       let p = c.index_mut-processor.result.now in
       let e = c.args.read in
-      let read = has-read c.args.test.now c.args.parts.now e c.requires.consistent.holder c.requires.between in
-      let next : IsNext c.args.test.now c.args.parts.now e.core p c.action.result =
-      is-next c.args.test.now c.args.parts.now e.core p c.program.result.now c.instruction_at.result c.unwrap-instr.result c.action.result c.action.result c.requires.consistent.fits c.requires.core c.index_mut-processor.ensures.value
+      let read = has-read c.args.test.now c.args.hardware.now e c.requires.consistent.holder c.requires.between in
+      let next : IsNext c.args.test.now c.args.hardware.now e.core p c.action.result =
+      is-next c.args.test.now c.args.hardware.now e.core p c.program.result.now c.instruction_at.result c.unwrap-instr.result c.action.result c.action.result c.requires.consistent.fits c.requires.core c.index_mut-processor.ensures.value
       c.program.ensures.value c.instruction_at.ensures c.unwrap-instr.ensures c.action.ensures refl in
-      Performs-by c.args.parts.now _ (Step e.core) Committed c.advance.new.processor (writes_last_in c.args.test.now c.args.parts.now e)
+      Performs-by c.args.hardware.now _ (Step e.core) Committed c.advance.new.processor (writes_last_in c.args.test.now c.args.hardware.now e)
       (acts (last_part e.core.0 e.place (core_state e.core.0 p) e.loc c.written-reg.result.0 e.value c.written-reg.result.1) Free)
-      (writes-last c.args.test.now c.args.parts.now e p c.action.result c.written-reg.result.0 c.written-reg.result.1 next read c.written-reg.ensures) refl
-      (ap (core_state e.core.0) c.advance.ensures) c.complete_write.ensures.words (rw c.entry.ensures at c.in_ok-note.ensures.ok) (ap (held-with c.args.parts.now.next) c.complete_write.ensures.free) refl;
+      (writes-last c.args.test.now c.args.hardware.now e p c.action.result c.written-reg.result.0 c.written-reg.result.1 next read c.written-reg.ensures) refl
+      (ap (core_state e.core.0) c.advance.ensures) c.complete_write.ensures.words (rw c.entry.ensures at c.in_ok-note.ensures.ok) (ap (held-with c.args.hardware.now.next) c.complete_write.ensures.free) refl;
   caches =
       let p = c.index_mut-processor.result.now in
       let e = c.args.read in
-      let read = has-read c.args.test.now c.args.parts.now e c.requires.consistent.holder c.requires.between in
-      let next : IsNext c.args.test.now c.args.parts.now e.core p c.action.result =
-      is-next c.args.test.now c.args.parts.now e.core p c.program.result.now c.instruction_at.result c.unwrap-instr.result c.action.result c.action.result c.requires.consistent.fits c.requires.core c.index_mut-processor.ensures.value
+      let read = has-read c.args.test.now c.args.hardware.now e c.requires.consistent.holder c.requires.between in
+      let next : IsNext c.args.test.now c.args.hardware.now e.core p c.action.result =
+      is-next c.args.test.now c.args.hardware.now e.core p c.program.result.now c.instruction_at.result c.unwrap-instr.result c.action.result c.action.result c.requires.consistent.fits c.requires.core c.index_mut-processor.ensures.value
       c.program.ensures.value c.instruction_at.ensures c.unwrap-instr.ensures c.action.ensures refl in
-      let writes = writes-last c.args.test.now c.args.parts.now e p c.action.result c.written-reg.result.0 c.written-reg.result.1 next read c.written-reg.ensures in
-      let same = use-last c.args.test.now c.args.parts.now e (writes_last_in c.args.test.now c.args.parts.now e) p c.written-reg.result.0 c.written-reg.result.1 c.requires.between writes in
+      let writes = writes-last c.args.test.now c.args.hardware.now e p c.action.result c.written-reg.result.0 c.written-reg.result.1 next read c.written-reg.ensures in
+      let same = use-last c.args.test.now c.args.hardware.now e (writes_last_in c.args.test.now c.args.hardware.now e) p c.written-reg.result.0 c.written-reg.result.1 c.requires.between writes in
       subst (λ u. HasUsed u c.complete_write.new.self Unused) (sym same)
-      (rests-last c.args.parts.now.bus c.complete_write.new.self c.complete_write.ensures.contents c.complete_write.ensures.machine c.complete_write.ensures.free c.complete_write.ensures.nothing_awaited);
+      (rests-last c.args.hardware.now.bus c.complete_write.new.self c.complete_write.ensures.contents c.complete_write.ensures.machine c.complete_write.ensures.free c.complete_write.ensures.nothing_awaited);
 }

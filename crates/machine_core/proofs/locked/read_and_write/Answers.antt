@@ -1,5 +1,5 @@
 use Rattle.std.proofs.Common.{refl}
-use Rattle.tso_model.specs.Access.{locked_access}
+use Rattle.tso_model.specs.MemoryAccess.{locked_access}
 use Rattle.tso_model.specs.declared.choice.Stall.TheVariants as stall
 use Rattle.snoop_bus.specs.Bus.{words_of}
 use Rattle.machine_core.specs.inner.Cores.{pending_in, lock_by}

@@ -1,5 +1,5 @@
 use Rattle.std.proofs.Common.{refl, sym}
-use Rattle.tso_model.specs.Access.{NoAccess}
+use Rattle.tso_model.specs.MemoryAccess.{NoAccess}
 use Rattle.tso_model.specs.declared.choice.Stall.TheVariants as stall
 use Rattle.snoop_bus.specs.Bus.{words_of}
 use Rattle.machine_core.specs.Cores.{core_state}

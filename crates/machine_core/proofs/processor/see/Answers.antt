@@ -1,7 +1,7 @@
 use Rattle.std.proofs.Common.{◌∙◌, refl, sym, subst, slice_index}
 use Rattle.snoop_bus.specs.Bus.{words_of}
 use Rattle.machine_core.specs.inner.Cores.{entries_in}
-use Rattle.machine_core.specs.inner.Performed.{MayMake}
+use Rattle.machine_core.specs.inner.Effects.{MayMake}
 use Rattle.machine_core.proofs.CoreLemmas.{sees_buffered, sees_memory, index-got}
 use Rattle.machine_core.proofs.ActedLemmas.{whole-none}
 use Rattle.machine_core.proofs.Acting.{reads, forwarded}

@@ -1,5 +1,5 @@
 use Rattle.snoop_bus.specs.Bus.{words_of}
-use Rattle.tso_model.specs.Access.{store_access}
+use Rattle.tso_model.specs.MemoryAccess.{store_access}
 use Rattle.machine_core.specs.inner.Cores.{store_by}
 use Rattle.machine_core.proofs.Storing.{buffered}
 use Rattle.machine_core.proofs.ActedLemmas.{whole-none, acts-waits}

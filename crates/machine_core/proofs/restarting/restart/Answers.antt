@@ -3,7 +3,7 @@ use Rattle.std.proofs.lemmas.List.{with_items_is}
 use Rattle.snoop_bus.specs.Bus.{words_of, holder_of}
 use Rattle.snoop_bus.specs.Accesses.{awaited_of}
 use Rattle.machine_core.specs.Cores.{core_states}
-use Rattle.machine_core.specs.Kept.{IsCore}
+use Rattle.machine_core.specs.Keeping.{IsCore}
 use Rattle.machine_core.proofs.Beginning.{begun-state, begun-statistics}
 use Rattle.machine_core.proofs.TallyLemmas.{tallied-first}
 use Rattle.machine_core.proofs.Splitting.{held-freed}
@@ -11,7 +11,7 @@ use Rattle.machine_core.proofs.restarting.restart.Goals as goal
 
 pub returns-clause-begun : goal.returns-clause-begun
 returns-clause-begun g c =
-    let m = c.args.parts.now in
+    let m = c.args.hardware.now in
     let ps = with_items_is m.processors c.restart_cores.new.processors (search rules) in
     let cs = with_items_is m.counts c.count_nothing.new.counts (search rules) in
     let before = c.deref_mut.ensures.value in
@@ -33,7 +33,7 @@ returns-clause-begun g c =
 
 pub returns-clause-statistics : goal.returns-clause-statistics
 returns-clause-statistics g c =
-    let m = c.args.parts.now in
+    let m = c.args.hardware.now in
     let cs = with_items_is m.counts c.count_nothing.new.counts (search rules) in
     begun-statistics m.bus c.restart.new.self c.initial_words.result.now _ c.args.test.now (length c.deref_mut-2.result.now) c.restart.ensures.exact c.requires.fits.on_bus
     c.initial_words.ensures.value (cs ∙ c.count_nothing.ensures) (ap length c.deref_mut-2.ensures.value ∙ c.requires.counts)

@@ -1,5 +1,5 @@
 use Rattle.std.proofs.Common.{true, false, string_bytes, sym, subst}
-use Rattle.outcome_report.specs.inner.Kept.{kept_of, AreShown}
+use Rattle.outcome_report.specs.inner.Shown.{kept_of, AreShown}
 use Rattle.outcome_report.proofs.Keeping.{kept-shown}
 use Rattle.outcome_report.proofs.Printing.{reached-whole, kept-out}
 use Rattle.outcome_report.proofs.report.outcomes_report.Goals as goal

@@ -1,5 +1,5 @@
 use Rattle.std.proofs.Common.{◌≡◌, ◌++◌, string_bytes}
-use Rattle.outcome_report.specs.inner.Kept.{kept_of}
+use Rattle.outcome_report.specs.inner.Shown.{kept_of}
 use Rattle.outcome_report.specs.inner.Written.{kept_lines}
 use Rattle.outcome_report.proofs.text.write_states.Given as goal
 

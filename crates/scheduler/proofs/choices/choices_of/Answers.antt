@@ -3,7 +3,7 @@ use Rattle.std.proofs.lemmas.Result.{err_from_is_err_and}
 use Rattle.std.specs.Str.{bytes_eq}
 use Rattle.std.specs.Prelude.{codes, ◌≡◌, ◌-◌, true, false}
 use Rattle.scheduler.specs.Limits.{most_choices}
-use Rattle.scheduler.specs.declared.item.Item.TheVariants.{One}
+use Rattle.scheduler.specs.declared.item.ChoiceItem.TheVariants.{One}
 use Rattle.scheduler.specs.Words.{words_of}
 use Rattle.scheduler.specs.Grammar.{AreItems, none}
 use Rattle.scheduler.proofs.Items.{item_one, item_seeded}

@@ -2,7 +2,7 @@ use Rattle.std.proofs.Common.{zero, suc, [], arith, refl, inl, inr, rules}
 use Rattle.tso_model.specs.Litmus.{IsTest}
 use Rattle.tso_model.specs.FlatMachine.{start}
 use Rattle.tso_model.specs.EitherBus.{unheld, HitsFit, choices_in}
-use Rattle.tso_model.specs.declared.bus.Bus.TheVariants.{Split}
+use Rattle.tso_model.specs.declared.choice.Bus.TheVariants.{Split}
 use Rattle.tso_laws.specs.Rounds.{IsRound}
 use Rattle.split_laws.specs.WorkedSplitRuns.{added_and_loaded_elsewhere, load_between}
 use Rattle.split_laws.specs.inner.WorkedSplitRuns.{one_round}

@@ -4,7 +4,7 @@ use Rattle.std.specs.Option.{unwrap_or}
 use Rattle.tso_model.specs.FlatMachine.{chosen, core_of}
 use Rattle.snoop_bus.specs.Asks.{awaited_by}
 use Rattle.snoop_bus.specs.Geometry.{IsLineSize}
-use Rattle.machine_core.specs.inner.Kept.{access_in}
+use Rattle.machine_core.specs.inner.Keeping.{access_in}
 use Rattle.machine_core.specs.Running.{machine_after}
 use Rattle.trace_report.specs.Known.{IsKnown}
 use Rattle.trace_report.specs.Stalls.{stalled_step}

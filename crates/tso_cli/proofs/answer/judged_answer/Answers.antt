@@ -4,7 +4,7 @@ use Rattle.tso_cli.specs.declared.answer.Status.TheVariants.{Refused}
 use Rattle.tso_cli.specs.Limits.{longest_input}
 use Rattle.tso_cli.specs.Answers.{IsInputAnswer, IsAnswerTo, too_large, refused, answered}
 use Rattle.tso_cli.specs.Lines.{input_refusal, test_refusal}
-use Rattle.tso_cli.specs.Parts.{parts_of}
+use Rattle.tso_cli.specs.Dividing.{parts_of}
 use Rattle.tso_cli.proofs.AnswerLemmas.{answer-is, answer-means}
 use Rattle.tso_cli.proofs.answer.judged_answer.Goals as goal
 

@@ -1,5 +1,5 @@
 use Rattle.tso_cli.proofs.CheckLemmas.{printed-is-valid}
-use Rattle.tso_cli.specs.Parts.{parts_of}
+use Rattle.tso_cli.specs.Dividing.{parts_of}
 use Rattle.tso_cli.proofs.HeadlineLemmas.{Runs}
 use Rattle.tso_cli.proofs.SimulationLemmas.{RunLaws}
 use Rattle.tso_cli.proofs.Rechecked.{rechecked}

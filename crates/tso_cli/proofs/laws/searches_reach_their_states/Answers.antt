@@ -1,4 +1,4 @@
-use Rattle.tso_cli.specs.Parts.{parts_of}
+use Rattle.tso_cli.specs.Dividing.{parts_of}
 use Rattle.tso_cli.proofs.OutcomesLemmas.{Searches}
 use Rattle.tso_cli.proofs.Revisited.{revisited}
 use Rattle.tso_cli.proofs.SimulationLemmas.{choices-counted}

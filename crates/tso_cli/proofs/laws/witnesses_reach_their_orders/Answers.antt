@@ -1,4 +1,4 @@
-use Rattle.tso_cli.specs.Parts.{parts_of}
+use Rattle.tso_cli.specs.Dividing.{parts_of}
 use Rattle.tso_cli.proofs.SimulationLemmas.{choices-counted}
 use Rattle.tso_cli.proofs.WitnessLemmas.{Reaching}
 use Rattle.tso_cli.proofs.Replayed.{replayed}

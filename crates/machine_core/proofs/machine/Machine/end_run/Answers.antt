@@ -4,8 +4,8 @@ use Rattle.tso_model.specs.EitherBus.{unheld}
 use Rattle.snoop_bus.specs.Rows.{table_of_rows}
 use Rattle.machine_core.specs.Running.{restarted}
 use Rattle.machine_core.specs.inner.Running.{is_ended}
-use Rattle.machine_core.specs.Kept.{state_in}
-use Rattle.machine_core.specs.inner.Kept.{statistics_in}
+use Rattle.machine_core.specs.Keeping.{state_in}
+use Rattle.machine_core.specs.inner.Keeping.{statistics_in}
 use Rattle.machine_core.specs.Statistics.{no_statistics}
 use Rattle.machine_core.proofs.Beginning.{possible-first}
 use Rattle.machine_core.proofs.CoreLemmas.{registers-core_states}
@@ -15,10 +15,10 @@ use Rattle.machine_core.proofs.machine.Machine.end_run.Goals as goal
 pub final_state-state-requires-clause-free : goal.final_state-state-requires-clause-free
 final_state-state-requires-clause-free g c =
     let t = c.self.inside.test.now in
-    let parts = c.self.inside.parts in
+    let hardware = c.self.inside.hardware in
     let ended = has-ended c.self.inside.failed _ (subst (λ m. IsTrue (is_ended m)) (sym c.self.view_is) c.requires) in
-    free-bus t parts c.self.invariant.held
-    (c.what_holds_so_far_on_either_bus.ensures.free parts.config.bus t parts.config.depth parts.commits.entries (state_in parts) c.self.invariant.possible ended)
+    free-bus t hardware c.self.invariant.held
+    (c.what_holds_so_far_on_either_bus.ensures.free hardware.config.bus t hardware.config.depth hardware.commits.entries (state_in hardware) c.self.invariant.possible ended)
 
 pub restart-requires-clause-test : goal.restart-requires-clause-test
 restart-requires-clause-test g c = c.self.invariant.tallied.test
@@ -32,23 +32,23 @@ invariant_of-self g c =
     record {
       fits = r.begun.fits;
       held = r.begun.held;
-      possible = possible-first c.self.inside.test.now c.restart.new.parts c.attempts_lead_from_state_to_state.ensures.first r.begun.state r.begun.commits;
+      possible = possible-first c.self.inside.test.now c.restart.new.hardware c.attempts_lead_from_state_to_state.ensures.first r.begun.state r.begun.commits;
       tallied = r.begun.tallied;
     }
 
 pub returns-clause-registers : goal.returns-clause-registers
 returns-clause-registers g c =
     subst (λ rs. IfOk c.final_state-state.result (λ f. f.registers.items ≡ rs))
-    (registers-core_states 0 c.self.inside.parts.processors.items ∙ ap (λ m. map (λ s. s.registers) m.state.flat.cores) c.self.view_is) c.final_state-state.ensures.registers
+    (registers-core_states 0 c.self.inside.hardware.processors.items ∙ ap (λ m. map (λ s. s.registers) m.state.flat.cores) c.self.view_is) c.final_state-state.ensures.registers
 
 pub returns-clause-restarted : goal.returns-clause-restarted
 returns-clause-restarted g c =
     let r = c.restart.ensures in
     let left = c.final_state-state.ensures in
     let t = c.self.inside.test.now in
-    let old = c.self.inside.parts in
-    let mid = c.final_state-state.new.parts in
-    let new = c.restart.new.parts in
+    let old = c.self.inside.hardware in
+    let mid = c.final_state-state.new.hardware in
+    let new = c.restart.new.hardware in
     let config = r.config ∙ left.config in
     let statistics = r.statistics ∙ ap (λ rows. no_statistics (table_of_rows rows) mid.bus.shape t) left.machine.rows ∙ ap (λ shape. no_statistics (table_of_rows old.bus.rows) shape t) left.machine.shape in
     Running-same _ t old.config.bus new.config.bus old.config.depth new.config.depth (unheld (start t)) (state_in new) [] new.commits.entries _ (statistics_in new) false false

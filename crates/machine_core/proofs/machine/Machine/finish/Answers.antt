@@ -1,7 +1,7 @@
 use Rattle.std.proofs.Common.{ap, ◌∙◌, map, sym, subst, IsTrue}
 use Rattle.split_laws.specs.Between.{ArePaired}
 use Rattle.machine_core.specs.inner.Running.{is_ended}
-use Rattle.machine_core.specs.Kept.{state_in}
+use Rattle.machine_core.specs.Keeping.{state_in}
 use Rattle.machine_core.proofs.RunningLemmas.{has-ended, free-bus}
 use Rattle.machine_core.proofs.Paired.{paired}
 use Rattle.machine_core.proofs.CoreLemmas.{registers-core_states}
@@ -10,22 +10,22 @@ use Rattle.machine_core.proofs.machine.Machine.finish.Goals as goal
 pub returns-clause-registers : goal.returns-clause-registers
 returns-clause-registers g c =
     c.in_ok-state.ensures.registers
-    ∙ registers-core_states 0 c.self.inside.parts.processors.items
+    ∙ registers-core_states 0 c.self.inside.hardware.processors.items
     ∙ ap (λ m. map (λ s. s.registers) m.state.flat.cores) c.self.view_is
 
 pub final_state-requires-clause-free : goal.final_state-requires-clause-free
 final_state-requires-clause-free g c =
     let t = c.self.inside.test.now in
-    let parts = c.self.inside.parts in
+    let hardware = c.self.inside.hardware in
     let ended = has-ended c.self.inside.failed _ (subst (λ m. IsTrue (is_ended m)) (sym c.self.view_is) c.requires) in
-    free-bus t parts c.self.invariant.held
-    (c.what_holds_so_far_on_either_bus.ensures.free parts.config.bus t parts.config.depth parts.commits.entries (state_in parts) c.self.invariant.possible ended)
+    free-bus t hardware c.self.invariant.held
+    (c.what_holds_so_far_on_either_bus.ensures.free hardware.config.bus t hardware.config.depth hardware.commits.entries (state_in hardware) c.self.invariant.possible ended)
 
 pub build-requires : goal.build-requires
 build-requires g c =
     let t = c.self.inside.test.now in
-    let parts = c.self.inside.parts in
+    let hardware = c.self.inside.hardware in
     let ended = has-ended c.self.inside.failed _ (subst (λ m. IsTrue (is_ended m)) (sym c.self.view_is) c.requires) in
-    let free = c.what_holds_so_far_on_either_bus.ensures.free parts.config.bus t parts.config.depth parts.commits.entries (state_in parts) c.self.invariant.possible ended in
-    let so_far = c.what_holds_so_far_on_either_bus.ensures.so_far parts.config.bus t parts.config.depth parts.commits.entries (state_in parts) c.self.invariant.possible in
-    paired parts.commits.entries (subst (ArePaired parts.commits.entries) free so_far.pairs)
+    let free = c.what_holds_so_far_on_either_bus.ensures.free hardware.config.bus t hardware.config.depth hardware.commits.entries (state_in hardware) c.self.invariant.possible ended in
+    let so_far = c.what_holds_so_far_on_either_bus.ensures.so_far hardware.config.bus t hardware.config.depth hardware.commits.entries (state_in hardware) c.self.invariant.possible in
+    paired hardware.commits.entries (subst (ArePaired hardware.commits.entries) free so_far.pairs)

@@ -2,8 +2,8 @@ use Rattle.std.proofs.Common.{[], false, refl, ap, ◌∙◌}
 use Rattle.tso_model.specs.FlatMachine.{start}
 use Rattle.tso_model.specs.EitherBus.{unheld}
 use Rattle.machine_core.specs.Running.{restarted}
-use Rattle.machine_core.specs.Kept.{state_in}
-use Rattle.machine_core.specs.inner.Kept.{statistics_in}
+use Rattle.machine_core.specs.Keeping.{state_in}
+use Rattle.machine_core.specs.inner.Keeping.{statistics_in}
 use Rattle.machine_core.proofs.Beginning.{possible-first}
 use Rattle.machine_core.proofs.RunningLemmas.{Running-same}
 use Rattle.machine_core.proofs.machine.Machine.restart.Goals as goal
@@ -20,7 +20,7 @@ invariant_of-self g c =
     record {
       fits = r.begun.fits;
       held = r.begun.held;
-      possible = possible-first c.self.inside.test.now c.restart.new.parts c.attempts_lead_from_state_to_state.ensures.first r.begun.state r.begun.commits;
+      possible = possible-first c.self.inside.test.now c.restart.new.hardware c.attempts_lead_from_state_to_state.ensures.first r.begun.state r.begun.commits;
       tallied = r.begun.tallied;
     }
 
@@ -28,8 +28,8 @@ pub returns : goal.returns
 returns g c =
     let r = c.restart.ensures in
     let t = c.self.inside.test.now in
-    let old = c.self.inside.parts in
-    let new = c.restart.new.parts in
+    let old = c.self.inside.hardware in
+    let new = c.restart.new.hardware in
     Running-same _ t old.config.bus new.config.bus old.config.depth new.config.depth (unheld (start t)) (state_in new) [] new.commits.entries _ (statistics_in new) false false
     refl (ap (λ config. config.bus) r.config) (ap (λ config. config.depth) r.config) r.begun.state r.begun.commits r.statistics refl
     ∙ ap restarted c.self.view_is

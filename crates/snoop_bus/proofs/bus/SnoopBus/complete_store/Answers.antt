@@ -16,7 +16,7 @@ returns-clause-words g c =
     let sets = rw (c.target_of-target.ensures.value, same) at c.in_ok-access.ensures.words in
     rw (← c.self.view_is, held.1.held_is)
     (words-set c.self.inside.shape.words c.self.inside.locations (length c.self.inside.hierarchy.memory.items) (current_words (counted_in c.args.core.0 (c.args.loc.0 / c.self.inside.shape.words) held.0 c.self.inside.hierarchy.caches.items) c.self.inside.hierarchy.memory.items) (current_words c.complete_store.new.self.caches.items c.complete_store.new.self.memory.items) c.args.loc.0 c.args.value
-    c.self.invariant.some_word c.self.invariant.enough_lines held.1.loc_in sets.place_in sets.lines)
+    c.self.invariant.some_word c.self.invariant.enough_lines held.1.loc_in sets.offset_in sets.lines)
 
 pub invariant_of-self-2 : goal.invariant_of-self-2
 invariant_of-self-2 g c =

@@ -24,7 +24,7 @@ returns-clause-words g c =
     let sets = locked_written c.self.inside.hierarchy.caches.items c.write.new.self.caches.items c.self.inside.hierarchy.memory.items c.args.core.0 (c.args.loc.0 / c.self.inside.shape.words) (c.args.loc.0 % c.self.inside.shape.words) c.args.value was.coherent held.1.within room real.1 copies in
     rw (← c.self.view_is, is, c.write.ensures.memory)
     (words-set c.self.inside.shape.words c.self.inside.locations (length c.self.inside.hierarchy.memory.items) (current_words c.self.inside.hierarchy.caches.items c.self.inside.hierarchy.memory.items) (current_words c.write.new.self.caches.items c.self.inside.hierarchy.memory.items) c.args.loc.0 c.args.value
-    c.self.invariant.some_word c.self.invariant.enough_lines held.1.loc_in sets.place_in sets.lines)
+    c.self.invariant.some_word c.self.invariant.enough_lines held.1.loc_in sets.offset_in sets.lines)
 
 pub invariant_of-self : goal.invariant_of-self
 invariant_of-self g c =

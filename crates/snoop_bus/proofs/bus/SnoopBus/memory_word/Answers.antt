@@ -25,7 +25,7 @@ returns-clause-value g c =
     let below : c.args.loc.0 / words < length lines = line_below words c.self.inside.locations (length lines) c.args.loc.0 c.self.invariant.some_word c.self.invariant.enough_lines within in
     let line : c.index.result.now ≡ line_in lines (c.args.loc.0 / words) =
     (rw (c.from.ensures, c.line_of-line.ensures.value) at c.index.ensures) ∙ get_or_default lines (c.args.loc.0 / words) c.index.result.now [] below in
-    rw (← c.self.view_is, c.from-2.ensures, c.place_of-place.ensures.value)
+    rw (← c.self.view_is, c.from-2.ensures, c.offset_of-offset.ensures.value)
     (words-get words (line_in lines) c.self.inside.locations c.args.loc.0 within ∙ ap (λ (w : Words). Some (slice_index w (c.args.loc.0 % words))) (sym line))
 
 pub returns-clause-clean : goal.returns-clause-clean
@@ -39,5 +39,5 @@ returns-clause-clean g c = λ free clean.
     let line : c.index.result.now ≡ line_in lines (c.args.loc.0 / words) =
     (rw (c.from.ensures, c.line_of-line.ensures.value) at c.index.ensures) ∙ get_or_default lines (c.args.loc.0 / words) c.index.result.now [] below in
     let seen = clean_words caches lines (c.args.loc.0 / words) (rw held at c.self.invariant.coherent) below (rw (← c.self.view_is) at clean) in
-    rw (← c.self.view_is, held, c.from-2.ensures, c.place_of-place.ensures.value)
+    rw (← c.self.view_is, held, c.from-2.ensures, c.offset_of-offset.ensures.value)
     (words-get words (current_words caches lines) c.self.inside.locations c.args.loc.0 within ∙ ap (λ (w : Words). Some (slice_index w (c.args.loc.0 % words))) (sym (line ∙ seen)))

@@ -15,5 +15,5 @@ pub returns : goal.returns
 returns g c =
     let words = c.self.inside.shape.words in
     let within : c.args.loc.0 < c.self.inside.locations = loc_in words c.self.inside.locations (counted c.self.inside.held c.self.inside.hierarchy.caches.items) c.self.inside.hierarchy.memory.items c.args.loc.0 (rw (← c.self.view_is) at c.requires) in
-    rw (← c.self.view_is, c.from.ensures, c.place_of-place.ensures.value, c.seen.ensures, c.line_of-line.ensures.value)
+    rw (← c.self.view_is, c.from.ensures, c.offset_of-offset.ensures.value, c.seen.ensures, c.line_of-line.ensures.value)
     (words-get words (current_words (counted c.self.inside.held c.self.inside.hierarchy.caches.items) c.self.inside.hierarchy.memory.items) c.self.inside.locations c.args.loc.0 within)

@@ -1,7 +1,7 @@
 use Rattle.std.proofs.Common.{◌≡◌, Some, None, [], sym, ap, ◌∙◌, refl}
 use Rattle.std.proofs.lemmas.List.{get_or_default}
-use Rattle.protocol_tables.specs.Asking.{transient_of}
-use Rattle.protocol_tables.specs.declared.asking.Request.TheVariants.{GetM}
+use Rattle.protocol_tables.specs.Transients.{transient_of}
+use Rattle.protocol_tables.specs.declared.requests.Request.TheVariants.{GetM}
 use Rattle.snoop_bus.specs.Copies.{Sets, copy_in, copy_at, tags_of}
 use Rattle.snoop_bus.specs.Bus.{current_words}
 use Rattle.snoop_bus.proofs.UpgradeAsk.{asked_by-absent, asked_by-found, miss-awaits, upgrade_ask-transaction, upgrade_ask-tags, upgrade_ask-words}

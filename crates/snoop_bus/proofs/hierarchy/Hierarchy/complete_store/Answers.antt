@@ -8,5 +8,5 @@ pub returns-clause-words : goal.returns-clause-words
 returns-clause-words g c =
     let d0 = counted_in c.args.target.core c.args.target.line c.args.transaction c.args.self.now.caches.items in
     rw c.write.ensures.memory
-    (completed_written d0 c.acquire_asked.new.self.caches.items c.write.new.self.caches.items c.args.self.now.memory.items c.acquire_asked.new.self.memory.items c.args.target.core c.args.target.line c.args.target.place c.args.value (current_words d0 c.args.self.now.memory.items c.args.target.line)
+    (completed_written d0 c.acquire_asked.new.self.caches.items c.write.new.self.caches.items c.args.self.now.memory.items c.acquire_asked.new.self.memory.items c.args.target.core c.args.target.line c.args.target.offset c.args.value (current_words d0 c.args.self.now.memory.items c.args.target.line)
     c.requires.awaited.line_in (search rules) (search rules) c.in_ok-access.ensures.own refl c.in_ok-access.ensures.words c.write.ensures.copies)

@@ -10,7 +10,7 @@ returns-in-Some-clause-ok g c =
     let here = c.index_mut-cache.ensures.value ∙ get_or_default c.args.self.now.caches.items c.args.target.core c.index_mut-cache.result.now [] c.requires.ready.core_in in
     let found : copy_at c.args.self.now.caches.items c.args.target.core c.args.target.line ≡ Some c.in-Some.copy = sym (ap (λ (sets : Sets). copy_in sets c.args.target.line) looked) ∙ cc (c.look.ensures.found, c.in-Some.ensures) in
     rw (c.from.ensures, c.quiet.ensures)
-    (load_hit (g.P.Protocol.table c.args.protocol.now) c.args.held c.args.self.now.caches.items c.args.self.now.memory.items c.args.target.core c.args.target.line c.args.target.place c.in-Some.copy c.touch.new.self c.requires.ready.coherent c.requires.ready.awaited c.requires.ready.core_in c.requires.ready.line_in found
+    (load_hit (g.P.Protocol.table c.args.protocol.now) c.args.held c.args.self.now.caches.items c.args.self.now.memory.items c.args.target.core c.args.target.line c.args.target.offset c.in-Some.copy c.touch.new.self c.requires.ready.coherent c.requires.ready.awaited c.requires.ready.core_in c.requires.ready.line_in found
     (rw here at c.touch.ensures.exact) (rw here at c.touch.ensures.copies) (rw here at c.touch.ensures.ways)).0
 
 pub returns-in-Some-clause-words : goal.returns-in-Some-clause-words
@@ -18,7 +18,7 @@ returns-in-Some-clause-words g c =
     let looked = c.index.ensures ∙ get_or_default c.args.self.now.caches.items c.args.target.core c.index.result.now [] c.requires.ready.core_in in
     let here = c.index_mut-cache.ensures.value ∙ get_or_default c.args.self.now.caches.items c.args.target.core c.index_mut-cache.result.now [] c.requires.ready.core_in in
     let found : copy_at c.args.self.now.caches.items c.args.target.core c.args.target.line ≡ Some c.in-Some.copy = sym (ap (λ (sets : Sets). copy_in sets c.args.target.line) looked) ∙ cc (c.look.ensures.found, c.in-Some.ensures) in
-    (load_hit (g.P.Protocol.table c.args.protocol.now) c.args.held c.args.self.now.caches.items c.args.self.now.memory.items c.args.target.core c.args.target.line c.args.target.place c.in-Some.copy c.touch.new.self c.requires.ready.coherent c.requires.ready.awaited c.requires.ready.core_in c.requires.ready.line_in found
+    (load_hit (g.P.Protocol.table c.args.protocol.now) c.args.held c.args.self.now.caches.items c.args.self.now.memory.items c.args.target.core c.args.target.line c.args.target.offset c.in-Some.copy c.touch.new.self c.requires.ready.coherent c.requires.ready.awaited c.requires.ready.core_in c.requires.ready.line_in found
     (rw here at c.touch.ensures.exact) (rw here at c.touch.ensures.copies) (rw here at c.touch.ensures.ways)).1
 
 pub returns-in-Some-clause-awaited : goal.returns-in-Some-clause-awaited
@@ -26,7 +26,7 @@ returns-in-Some-clause-awaited g c =
     let looked = c.index.ensures ∙ get_or_default c.args.self.now.caches.items c.args.target.core c.index.result.now [] c.requires.ready.core_in in
     let here = c.index_mut-cache.ensures.value ∙ get_or_default c.args.self.now.caches.items c.args.target.core c.index_mut-cache.result.now [] c.requires.ready.core_in in
     let found : copy_at c.args.self.now.caches.items c.args.target.core c.args.target.line ≡ Some c.in-Some.copy = sym (ap (λ (sets : Sets). copy_in sets c.args.target.line) looked) ∙ cc (c.look.ensures.found, c.in-Some.ensures) in
-    (load_hit (g.P.Protocol.table c.args.protocol.now) c.args.held c.args.self.now.caches.items c.args.self.now.memory.items c.args.target.core c.args.target.line c.args.target.place c.in-Some.copy c.touch.new.self c.requires.ready.coherent c.requires.ready.awaited c.requires.ready.core_in c.requires.ready.line_in found
+    (load_hit (g.P.Protocol.table c.args.protocol.now) c.args.held c.args.self.now.caches.items c.args.self.now.memory.items c.args.target.core c.args.target.line c.args.target.offset c.in-Some.copy c.touch.new.self c.requires.ready.coherent c.requires.ready.awaited c.requires.ready.core_in c.requires.ready.line_in found
     (rw here at c.touch.ensures.exact) (rw here at c.touch.ensures.copies) (rw here at c.touch.ensures.ways)).2
 
 pub returns-in-Some-clause-ways : goal.returns-in-Some-clause-ways
@@ -34,5 +34,5 @@ returns-in-Some-clause-ways g c =
     let looked = c.index.ensures ∙ get_or_default c.args.self.now.caches.items c.args.target.core c.index.result.now [] c.requires.ready.core_in in
     let here = c.index_mut-cache.ensures.value ∙ get_or_default c.args.self.now.caches.items c.args.target.core c.index_mut-cache.result.now [] c.requires.ready.core_in in
     let found : copy_at c.args.self.now.caches.items c.args.target.core c.args.target.line ≡ Some c.in-Some.copy = sym (ap (λ (sets : Sets). copy_in sets c.args.target.line) looked) ∙ cc (c.look.ensures.found, c.in-Some.ensures) in
-    (load_hit (g.P.Protocol.table c.args.protocol.now) c.args.held c.args.self.now.caches.items c.args.self.now.memory.items c.args.target.core c.args.target.line c.args.target.place c.in-Some.copy c.touch.new.self c.requires.ready.coherent c.requires.ready.awaited c.requires.ready.core_in c.requires.ready.line_in found
+    (load_hit (g.P.Protocol.table c.args.protocol.now) c.args.held c.args.self.now.caches.items c.args.self.now.memory.items c.args.target.core c.args.target.line c.args.target.offset c.in-Some.copy c.touch.new.self c.requires.ready.coherent c.requires.ready.awaited c.requires.ready.core_in c.requires.ready.line_in found
     (rw here at c.touch.ensures.exact) (rw here at c.touch.ensures.copies) (rw here at c.touch.ensures.ways)).3

@@ -13,7 +13,7 @@ returns-clause-ok g c =
     rw (c.from-2.ensures, c.flush.ensures.caches)
     (load_missed t (g.met.P.Protocol.fills_exclusive_only_alone p) (g.met.P.Protocol.shares p) (g.met.P.Protocol.cleans_by_memory p) (g.met.P.Protocol.supplies_to_readers p) (g.met.P.Protocol.writes_back_dirty p)
     c.args.self.now.caches.items c.snoop_others.new.self.caches.items c.args.self.now.memory.items c.flush.new.self.memory.items c.args.target.core c.args.target.line c.unwrap_or-words.result c.filled-state.result c.in_ok-victim.victim c.fill.new.self
-    c.find-found.result.flushed c.write_back-wrote_back.result c.args.target.place
+    c.find-found.result.flushed c.write_back-wrote_back.result c.args.target.offset
     (record {
       basis = record {
         coherent = c.requires.ready.coherent;
@@ -45,7 +45,7 @@ returns-clause-words g c =
     rw c.flush.ensures.caches
     (load_missed t (g.met.P.Protocol.fills_exclusive_only_alone p) (g.met.P.Protocol.shares p) (g.met.P.Protocol.cleans_by_memory p) (g.met.P.Protocol.supplies_to_readers p) (g.met.P.Protocol.writes_back_dirty p)
     c.args.self.now.caches.items c.snoop_others.new.self.caches.items c.args.self.now.memory.items c.flush.new.self.memory.items c.args.target.core c.args.target.line c.unwrap_or-words.result c.filled-state.result c.in_ok-victim.victim c.fill.new.self
-    c.find-found.result.flushed c.write_back-wrote_back.result c.args.target.place
+    c.find-found.result.flushed c.write_back-wrote_back.result c.args.target.offset
     (record {
       basis = record {
         coherent = c.requires.ready.coherent;

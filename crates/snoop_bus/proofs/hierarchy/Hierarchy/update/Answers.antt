@@ -6,17 +6,17 @@ pub write-requires-clause-present : goal.write-requires-clause-present
 write-requires-clause-present g c = present_own c.acquire.new.self.caches.items c.args.target.core c.args.target.line c.in_ok-words.words c.in_ok-words.ensures.ok.own
 
 pub returns-clause-ok : goal.returns-clause-ok
-returns-clause-ok g c = rw (c.from.ensures, c.write.ensures.memory) (word_written (g.P.Protocol.table c.args.protocol.now) c.args.held c.args.self.now.caches.items c.acquire.new.self.caches.items c.write.new.self.caches.items c.args.self.now.memory.items c.acquire.new.self.memory.items c.args.target.core c.args.target.line c.args.target.place c.apply-after.result c.in_ok-words.words c.in_ok-words.access
+returns-clause-ok g c = rw (c.from.ensures, c.write.ensures.memory) (word_written (g.P.Protocol.table c.args.protocol.now) c.args.held c.args.self.now.caches.items c.acquire.new.self.caches.items c.write.new.self.caches.items c.args.self.now.memory.items c.acquire.new.self.memory.items c.args.target.core c.args.target.line c.args.target.offset c.apply-after.result c.in_ok-words.words c.in_ok-words.access
     c.requires.ready.line_in (search rules) (search rules) c.in_ok-words.ensures.ok c.in_ok-words.ensures.words c.in_ok-words.ensures.awaited c.acquire.ensures.ways c.write.ensures.copies c.write.ensures.tags c.write.ensures.ways).0
 
 pub returns-clause-coherent : goal.returns-clause-coherent
-returns-clause-coherent g c = rw c.write.ensures.memory (word_written (g.P.Protocol.table c.args.protocol.now) c.args.held c.args.self.now.caches.items c.acquire.new.self.caches.items c.write.new.self.caches.items c.args.self.now.memory.items c.acquire.new.self.memory.items c.args.target.core c.args.target.line c.args.target.place c.apply-after.result c.in_ok-words.words c.in_ok-words.access
+returns-clause-coherent g c = rw c.write.ensures.memory (word_written (g.P.Protocol.table c.args.protocol.now) c.args.held c.args.self.now.caches.items c.acquire.new.self.caches.items c.write.new.self.caches.items c.args.self.now.memory.items c.acquire.new.self.memory.items c.args.target.core c.args.target.line c.args.target.offset c.apply-after.result c.in_ok-words.words c.in_ok-words.access
     c.requires.ready.line_in (search rules) (search rules) c.in_ok-words.ensures.ok c.in_ok-words.ensures.words c.in_ok-words.ensures.awaited c.acquire.ensures.ways c.write.ensures.copies c.write.ensures.tags c.write.ensures.ways).1
 
 pub returns-clause-ways : goal.returns-clause-ways
-returns-clause-ways g c = (word_written (g.P.Protocol.table c.args.protocol.now) c.args.held c.args.self.now.caches.items c.acquire.new.self.caches.items c.write.new.self.caches.items c.args.self.now.memory.items c.acquire.new.self.memory.items c.args.target.core c.args.target.line c.args.target.place c.apply-after.result c.in_ok-words.words c.in_ok-words.access
+returns-clause-ways g c = (word_written (g.P.Protocol.table c.args.protocol.now) c.args.held c.args.self.now.caches.items c.acquire.new.self.caches.items c.write.new.self.caches.items c.args.self.now.memory.items c.acquire.new.self.memory.items c.args.target.core c.args.target.line c.args.target.offset c.apply-after.result c.in_ok-words.words c.in_ok-words.access
     c.requires.ready.line_in (search rules) (search rules) c.in_ok-words.ensures.ok c.in_ok-words.ensures.words c.in_ok-words.ensures.awaited c.acquire.ensures.ways c.write.ensures.copies c.write.ensures.tags c.write.ensures.ways).2
 
 pub returns-clause-awaited : goal.returns-clause-awaited
-returns-clause-awaited g c = rw c.write.ensures.memory (word_written (g.P.Protocol.table c.args.protocol.now) c.args.held c.args.self.now.caches.items c.acquire.new.self.caches.items c.write.new.self.caches.items c.args.self.now.memory.items c.acquire.new.self.memory.items c.args.target.core c.args.target.line c.args.target.place c.apply-after.result c.in_ok-words.words c.in_ok-words.access
+returns-clause-awaited g c = rw c.write.ensures.memory (word_written (g.P.Protocol.table c.args.protocol.now) c.args.held c.args.self.now.caches.items c.acquire.new.self.caches.items c.write.new.self.caches.items c.args.self.now.memory.items c.acquire.new.self.memory.items c.args.target.core c.args.target.line c.args.target.offset c.apply-after.result c.in_ok-words.words c.in_ok-words.access
     c.requires.ready.line_in (search rules) (search rules) c.in_ok-words.ensures.ok c.in_ok-words.ensures.words c.in_ok-words.ensures.awaited c.acquire.ensures.ways c.write.ensures.copies c.write.ensures.tags c.write.ensures.ways).3

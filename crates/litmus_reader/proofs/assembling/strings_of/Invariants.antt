@@ -1,0 +1,6 @@
+use Rattle.std.proofs.Common.{◌≡◌, map, take, string_bytes}
+use Rattle.litmus_reader.specs.Locations.{texts}
+use Rattle.litmus_reader.proofs.assembling.strings_of.Given as goal
+
+abbrev pub invariant-loop-name : goal.invariant-loop-name
+invariant-loop-name l = map string_bytes l.strings.items ≡ texts (take l.name-index l.names)

@@ -1,6 +1,0 @@
-use Rattle.std.proofs.Common.{◌≡◌, map, take, string_bytes}
-use Rattle.litmus_reader.specs.Locations.{texts}
-use Rattle.litmus_reader.proofs.test_parts.strings_of.Given as goal
-
-abbrev pub invariant-loop-name : goal.invariant-loop-name
-invariant-loop-name l = map string_bytes l.strings.items ≡ texts (take l.name-index l.names)

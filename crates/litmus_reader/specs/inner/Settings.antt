@@ -1,0 +1,84 @@
+-- `c:REG=v`, `x=v` and `[x]=v`, as they stand in the initial state and in conditions.
+use Rattle.std.specs.Prelude.{ℕ, List, Option, Some, None, Result, Ok, Err, nat_lt, if◌then◌else◌}
+use Rattle.tso_model.specs.Names.{is_location_name}
+use Rattle.tso_model.specs.Registers.{register_named}
+use Rattle.tso_model.specs.declared.register.Reg.{Reg}
+use Rattle.litmus_tokens.specs.declared.token.Symbol.TheVariants.{Equals, Colon, OpenSquare, CloseSquare}
+use Rattle.decimals.specs.Decimals.{decimal_value}
+use Rattle.litmus_tokens.specs.Terms.{word_of}
+use Rattle.litmus_tokens.specs.Pieces.{Piece}
+use Rattle.litmus_tokens.specs.inner.Front.{symbol_at, name_at, number_at}
+use Rattle.litmus_reader.specs.declared.fault.Why.TheVariants.{BadNumber, NoSuchCore}
+use Rattle.litmus_reader.specs.declared.fault.Fault.{Fault}
+use Rattle.litmus_reader.specs.declared.fault.Part.{Part}
+use Rattle.litmus_reader.specs.declared.setting.SpelledSetting.{SpelledSetting}
+use Rattle.litmus_reader.specs.inner.Faults.{◌>>=◌, or_unfit, there}
+use Rattle.litmus_reader.specs.Places.{fault}
+use Rattle.litmus_reader.specs.Written.{Setting, of_register, of_location}
+use Rattle.litmus_reader.specs.declared.setting.SpelledSetting.TheVariants as code
+
+abbrev pub setting_of : SpelledSetting → Setting
+setting_of (code.Register core reg value) = of_register core.now reg (decimal_value value.now)
+setting_of (code.Location name value) = of_location name.now (decimal_value value.now)
+
+abbrev pub if_location : List ℕ × List Piece → Option (List ℕ × List Piece)
+if_location found = if is_location_name found.0 then Some found else None
+
+-- a name that a location may have, at the front
+unfoldable pub location_at : List Piece → Option (List ℕ × List Piece)
+location_at ps = there (name_at ps) if_location None
+
+abbrev pub if_register : List ℕ × List Piece → Option (Reg × List Piece)
+if_register found = there (register_named found.0) (λ reg. Some (reg, found.1)) None
+
+-- a register's name at the front
+unfoldable pub register_at : List Piece → Option (Reg × List Piece)
+register_at ps = there (name_at ps) if_register None
+
+-- `=v`
+unfoldable pub value_at : Part → List Piece → Result (ℕ × List Piece) Fault
+value_at part ps = do
+  rest ← or_unfit part ps (symbol_at Equals ps)
+  digits ← or_unfit part rest (number_at rest)
+  Ok (decimal_value digits.0, digits.1)
+
+-- `:REG=v`, after its core
+unfoldable pub register_setting : Part → List ℕ → List Piece → Result (Setting × List Piece) Fault
+register_setting part core ps = do
+  rest ← or_unfit part ps (symbol_at Colon ps)
+  reg ← or_unfit part rest (register_at rest)
+  value ← value_at part reg.1
+  Ok (of_register core reg.0 value.0, value.1)
+
+-- `x]=v`, after its `[`
+unfoldable pub square_setting : Part → List Piece → Result (Setting × List Piece) Fault
+square_setting part ps = do
+  x ← or_unfit part ps (location_at ps)
+  rest ← or_unfit part x.1 (symbol_at CloseSquare x.1)
+  value ← value_at part rest
+  Ok (of_location x.0 value.0, value.1)
+
+-- `x=v`
+unfoldable pub plain_setting : Part → List Piece → Result (Setting × List Piece) Fault
+plain_setting part ps = do
+  x ← or_unfit part ps (location_at ps)
+  value ← value_at part x.1
+  Ok (of_location x.0 value.0, value.1)
+
+-- one of the three, by its first token
+unfoldable pub setting_at : Part → List Piece → Result (Setting × List Piece) Fault
+setting_at part ps =
+    there (number_at ps) (λ core. register_setting part core.0 core.1)
+    (there (symbol_at OpenSquare ps) (square_setting part) (plain_setting part ps))
+
+abbrev pub or_bad_number : ℕ → Option ℕ → Result ℕ Fault
+or_bad_number remaining (Some n) = Ok n
+or_bad_number remaining None = Err (fault BadNumber remaining)
+
+-- a number for which a word has room
+abbrev pub word_at : ℕ → ℕ → Result ℕ Fault
+word_at remaining n = or_bad_number remaining (word_of n)
+
+-- a core of the test; any other, of whatever size, is refused
+abbrev pub core_of : ℕ → ℕ → List ℕ → Result ℕ Fault
+core_of cores remaining digits = if nat_lt (decimal_value digits) cores then Ok (decimal_value digits) else Err (fault NoSuchCore remaining)

@@ -1,0 +1,100 @@
+//! The parts of a test, made of what was read: only here are names copied; while reading they are slices of the text.
+
+ghost use Rattle.std.specs.Prelude.{◌≡◌, IfOk, All, map, replicate, string_bytes};
+ghost use Rattle.std.specs.Str.{IsUtf8};
+ghost use Rattle.tso_model.specs.Names as names;
+ghost use Rattle.litmus_reader.specs.Locations.{texts};
+ghost use Rattle.litmus_reader.specs.inner.Initial as initial;
+ghost use Rattle.litmus_reader.specs.inner.Reading as spec;
+ghost use Rattle.litmus_reader.specs.Returned.{AreParts, asked_of};
+
+use crate::cell::CoreInstr;
+use crate::row::Table;
+use std::alloc::{AllocError, Global};
+use tso_model::{Cond, Instr, NoMemory, TestParts};
+
+fn string_of(alloc: Global, bytes: &[u8]) -> Result<String, AllocError>
+    requires { IsUtf8 bytes.now }
+    ensures { IfOk result (λ text. string_bytes text ≡ bytes.now) }
+{
+    String::from_utf8_lossy(alloc, bytes)
+}
+
+#[tactic(auto, using(crate::proofs::PartsAssembled::texts_next, std::proofs::lemmas::List::map_push, std::proofs::lemmas::List::take_all))]
+fn strings_of(alloc: Global, names: &[&[u8]]) -> Result<Vec<String>, NoMemory>
+    requires { All (λ name. IsUtf8 name) (texts names.now) }
+    ensures { IfOk result (λ v. map string_bytes v.items ≡ texts names.now) }
+{
+    let mut strings = Vec::new(alloc);
+    for name in names {
+        strings.push(string_of(alloc, name)?)?;
+    }
+    Ok(strings)
+}
+
+fn zeros(alloc: Global, count: usize) -> Result<Vec<u32>, AllocError>
+    ensures { IfOk result (λ v. v.items ≡ replicate count 0) }
+{
+    vec![in alloc; 0; count]
+}
+
+/// The words with zeros after them, so many in all.
+fn words_of(alloc: Global, mut words: Vec<u32>, count: usize) -> Result<Vec<u32>, AllocError>
+    ensures { IfOk result (λ v. v.items ≡ initial.words_of count words.items) }
+{
+    let mut rest = zeros(alloc, count.saturating_sub(words.len()))?;
+    words.append(&mut rest)?;
+    Ok(words)
+}
+
+fn program_of(alloc: Global, instrs: &[CoreInstr], core: usize) -> Result<Vec<Instr>, AllocError>
+    ensures { IfOk result (λ v. v.items ≡ spec.program_of instrs.now core) }
+{
+    instrs
+        .iter()
+        .filter(|i| i.core == core)
+        .map(|i| i.instr)
+        .collect(alloc)
+}
+
+#[tactic(auto, using(crate::proofs::PartsAssembled::programs_next, std::proofs::lemmas::List::map_push))]
+fn programs_of(
+    alloc: Global,
+    instrs: &[CoreInstr],
+    cores: usize,
+) -> Result<Vec<Vec<Instr>>, NoMemory>
+    ensures { IfOk result (λ v. map (λ program. program.items) v.items ≡ spec.programs_from 0 cores instrs.now) }
+{
+    let mut programs = Vec::new(alloc);
+    for core in 0..cores {
+        programs.push(program_of(alloc, instrs, core)?)?;
+    }
+    Ok(programs)
+}
+
+/// The parts of a test from what was read: the words of locations that the initial state doesn't
+/// name are 0.
+///
+/// Errors: out of memory only.
+pub fn parts_of(
+    alloc: Global,
+    name: &[u8],
+    names: &[&[u8]],
+    words: Vec<u32>,
+    table: Table,
+    cond: Option<Cond>,
+) -> Result<TestParts, NoMemory>
+    requires name { IsUtf8 name.now }
+    requires names { All (λ name. IsUtf8 name) (texts names.now) }
+    ensures { AreParts result (spec.test_of name.now (texts names.now) words.items table.registers.items table.instrs.items (asked_of cond)) }
+{
+    let cores = table.registers.len();
+    Ok(TestParts {
+        name: string_of(alloc, name)?,
+        locations: strings_of(alloc, names)?,
+        words: words_of(alloc, words, names.len())?,
+        programs: programs_of(alloc, &table.instrs, cores)?,
+        registers: table.registers,
+        cond,
+    })
+}

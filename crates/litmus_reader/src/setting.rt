@@ -1,0 +1,151 @@
+//! Values of registers and locations, as the initial state and conditions spell them: one reading for both, so that both
+//! refuse alike.
+
+ghost use Rattle.std.specs.Prelude.{◌≡◌, ◌<◌, ◌≤◌, length, None, IfSome, IfOk};
+ghost use Rattle.std.specs.Option.{option_map};
+ghost use Rattle.tso_model.specs.Limits.{most_cores};
+ghost use Rattle.decimals.specs.Decimals.{decimal_value};
+ghost use Rattle.litmus_tokens.specs.inner.Pieces.{pieces};
+ghost use Rattle.litmus_tokens.specs.inner.Mapped.{mapped};
+ghost use Rattle.litmus_reader.specs.inner.Settings as spec;
+ghost use Rattle.litmus_reader.specs.inner.Settings.{setting_of};
+
+use crate::fault::{Fault, Part, Why};
+use litmus_tokens::{Symbol, Token, after_symbol, name_at, number_at, word};
+use tso_model::names::is_location_name;
+use tso_model::{Core, Reg};
+
+/// A value of a register or a location, as the initial state and conditions spell it. Cores and
+/// values are digits, of any length.
+#[derive(Clone, Copy)]
+pub enum SpelledSetting<'a> {
+    Register(&'a [u8], Reg, &'a [u8]),
+    Location(&'a [u8], &'a [u8]),
+}
+
+/// The name of a location at the front, and the tokens after it.
+#[tactic(auto, unfolding(crate::specs::inner::Settings::location_at))]
+pub fn location_at<'a, 'b>(tokens: &'b [Token<'a>]) -> Option<(&'a [u8], &'b [Token<'a>])>
+    ensures value { option_map (λ x. (x.0.now, pieces x.1.now)) result ≡ spec.location_at (pieces tokens.now) }
+    ensures shorter { IfSome result (λ x. length x.1.now < length tokens.now) }
+{
+    let (name, rest) = name_at(tokens)?;
+    if is_location_name(name) {
+        Some((name, rest))
+    } else {
+        None
+    }
+}
+
+/// The register whose name is at the front, and the tokens after it.
+#[tactic(auto, unfolding(crate::specs::inner::Settings::register_at))]
+pub fn register_at<'a, 'b>(tokens: &'b [Token<'a>]) -> Option<(Reg, &'b [Token<'a>])>
+    ensures value { option_map (λ x. (x.0, pieces x.1.now)) result ≡ spec.register_at (pieces tokens.now) }
+    ensures shorter { IfSome result (λ x. length x.1.now < length tokens.now) }
+{
+    let (name, rest) = name_at(tokens)?;
+    let reg = Reg::from_name(name)?;
+    Some((reg, rest))
+}
+
+/// `=v`: the digits of the value, and the tokens after them.
+#[tactic(auto, unfolding(crate::specs::inner::Settings::value_at))]
+fn value_at<'a, 'b>(
+    part: Part,
+    tokens: &'b [Token<'a>],
+) -> Result<(&'a [u8], &'b [Token<'a>]), Fault>
+    ensures value { mapped (λ x. (decimal_value x.0.now, pieces x.1.now)) result ≡ spec.value_at part (pieces tokens.now) }
+    ensures shorter { IfOk result (λ x. length x.1.now < length tokens.now) }
+{
+    let rest = part.expect(tokens, after_symbol(Symbol::Equals, tokens))?;
+    part.expect(rest, number_at(rest))
+}
+
+#[tactic(auto, unfolding(crate::specs::inner::Settings::register_setting))]
+fn register_setting<'a, 'b>(
+    part: Part,
+    core: &'a [u8],
+    tokens: &'b [Token<'a>],
+) -> Result<(SpelledSetting<'a>, &'b [Token<'a>]), Fault>
+    ensures value { mapped (λ x. (setting_of x.0, pieces x.1.now)) result ≡ spec.register_setting part core.now (pieces tokens.now) }
+    ensures shorter { IfOk result (λ x. length x.1.now < length tokens.now) }
+{
+    let rest = part.expect(tokens, after_symbol(Symbol::Colon, tokens))?;
+    let (reg, rest) = part.expect(rest, register_at(rest))?;
+    let (value, rest) = value_at(part, rest)?;
+    Ok((SpelledSetting::Register(core, reg, value), rest))
+}
+
+#[tactic(auto, unfolding(crate::specs::inner::Settings::square_setting))]
+fn square_setting<'a, 'b>(
+    part: Part,
+    tokens: &'b [Token<'a>],
+) -> Result<(SpelledSetting<'a>, &'b [Token<'a>]), Fault>
+    ensures value { mapped (λ x. (setting_of x.0, pieces x.1.now)) result ≡ spec.square_setting part (pieces tokens.now) }
+    ensures shorter { IfOk result (λ x. length x.1.now < length tokens.now) }
+{
+    let (name, rest) = part.expect(tokens, location_at(tokens))?;
+    let rest = part.expect(rest, after_symbol(Symbol::CloseSquare, rest))?;
+    let (value, rest) = value_at(part, rest)?;
+    Ok((SpelledSetting::Location(name, value), rest))
+}
+
+#[tactic(auto, unfolding(crate::specs::inner::Settings::plain_setting))]
+fn plain_setting<'a, 'b>(
+    part: Part,
+    tokens: &'b [Token<'a>],
+) -> Result<(SpelledSetting<'a>, &'b [Token<'a>]), Fault>
+    ensures value { mapped (λ x. (setting_of x.0, pieces x.1.now)) result ≡ spec.plain_setting part (pieces tokens.now) }
+    ensures shorter { IfOk result (λ x. length x.1.now < length tokens.now) }
+{
+    let (name, rest) = part.expect(tokens, location_at(tokens))?;
+    let (value, rest) = value_at(part, rest)?;
+    Ok((SpelledSetting::Location(name, value), rest))
+}
+
+/// `c:REG=v`, `[x]=v` or `x=v` at the front, and the tokens after it.
+///
+/// What doesn't fit is refused as `part` says.
+#[tactic(auto, unfolding(crate::specs::inner::Settings::setting_at))]
+pub fn setting_at<'a, 'b>(
+    part: Part,
+    tokens: &'b [Token<'a>],
+) -> Result<(SpelledSetting<'a>, &'b [Token<'a>]), Fault>
+    ensures value { mapped (λ x. (setting_of x.0, pieces x.1.now)) result ≡ spec.setting_at part (pieces tokens.now) }
+    ensures shorter { IfOk result (λ x. length x.1.now < length tokens.now) }
+{
+    if let Some((core, rest)) = number_at(tokens) {
+        return register_setting(part, core, rest);
+    }
+    if let Some(rest) = after_symbol(Symbol::OpenSquare, tokens) {
+        return square_setting(part, rest);
+    }
+    plain_setting(part, tokens)
+}
+
+/// The number that digits say; `BadNumber` at `remaining` where a word has no room for it.
+pub fn word_at(remaining: usize, digits: &[u8]) -> Result<u32, Fault>
+    ensures { result ≡ spec.word_at remaining (decimal_value digits.now) }
+{
+    match word(digits) {
+        Some(value) => Ok(value),
+        None => Err(Fault {
+            why: Why::BadNumber,
+            remaining,
+        }),
+    }
+}
+
+/// A core of the test; `NoSuchCore` at `remaining` for any other, of whatever size.
+pub fn core_of(cores: usize, remaining: usize, digits: &[u8]) -> Result<Core, Fault>
+    requires { cores ≤ most_cores }
+    ensures { mapped (λ core. core.0) result ≡ spec.core_of cores remaining digits.now }
+{
+    match word(digits) {
+        Some(core) if (core as usize) < cores => Ok(Core(core as u8)),
+        _ => Err(Fault {
+            why: Why::NoSuchCore,
+            remaining,
+        }),
+    }
+}

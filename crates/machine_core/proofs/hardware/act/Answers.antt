@@ -1,0 +1,31 @@
+use Rattle.std.proofs.Common.{sym, refl, subst}
+use Rattle.tso_model.specs.MemoryAccess.{drain_access}
+use Rattle.tso_model.specs.declared.choice.Choice.TheVariants.{Drain}
+use Rattle.snoop_bus.specs.Bus.{words_of}
+use Rattle.machine_core.specs.inner.Cores.{pending_in, drain_by}
+use Rattle.machine_core.specs.inner.OneCore.{SucceedsUnlessCommitting}
+use Rattle.machine_core.proofs.ChoiceEffects.{access_of-drain, effect_in-drain, may-make, IfOk-Makes, within-cores}
+use Rattle.machine_core.proofs.hardware.act.Goals as goal
+
+pub drain-requires-clause-free : goal.drain-requires-clause-free
+drain-requires-clause-free g c =
+    let within = within-cores c.args.test.now c.args.hardware.now c.in-Drain.core.0 c.requires.fits (rw c.in-Drain.is at c.requires.core) in
+    may-make c.args.way c.args.test.now c.args.hardware.now (Drain c.in-Drain.core) _
+    (access_of-drain c.args.test.now c.args.hardware.now c.in-Drain.core c.index_mut-processor.result.now within c.index_mut-processor.ensures.value) (rw c.in-Drain.is at c.requires.free)
+
+pub returns-in-Drain-clause-makes : goal.returns-in-Drain-clause-makes
+returns-in-Drain-clause-makes g c =
+    let p = c.index_mut-processor.result.now in
+    let core = c.in-Drain.core in
+    let within = within-cores c.args.test.now c.args.hardware.now core.0 c.requires.fits (rw c.in-Drain.is at c.requires.core) in
+    rw c.in-Drain.is
+    (IfOk-Makes c.args.way c.drain.result c.args.test.now c.args.hardware.now _ (Drain core) (drain_access (pending_in core.0 p)) p c.drain.new.processor (drain_by core.0 p (words_of c.args.hardware.now.bus))
+    (rw c.in-Drain.is at c.requires.free) (effect_in-drain c.args.test.now c.args.hardware.now core p within c.index_mut-processor.ensures.value)
+    (access_of-drain c.args.test.now c.args.hardware.now core p within c.index_mut-processor.ensures.value) within c.index_mut-processor.ensures.value refl refl c.drain.ensures.acts)
+
+pub returns-in-Drain-clause-succeeds : goal.returns-in-Drain-clause-succeeds
+returns-in-Drain-clause-succeeds g c =
+    let within = within-cores c.args.test.now c.args.hardware.now c.in-Drain.core.0 c.requires.fits (rw c.in-Drain.is at c.requires.core) in
+    let effect = effect_in-drain c.args.test.now c.args.hardware.now c.in-Drain.core c.index_mut-processor.result.now within c.index_mut-processor.ensures.value in
+    rw c.in-Drain.is
+    (subst (λ f. SucceedsUnlessCommitting c.drain.result f) (sym effect) c.drain.ensures.succeeds)

@@ -1,0 +1,19 @@
+use Rattle.std.proofs.Common.{sym, ◌∙◌, ap, length}
+use Rattle.machine_core.proofs.TallyLemmas.{flusher-next, few-next, tallied-next}
+use Rattle.machine_core.proofs.hardware.make_choice.Goals as goal
+
+pub tally-requires-clause-flusher : goal.tally-requires-clause-flusher
+tally-requires-clause-flusher g c =
+    flusher-next c.args.test.now c.args.hardware.now c.args.choice c.act_on_bus.new.hardware.bus c.in_ok-outcome.cache_use c.deref_mut.result.now
+    c.requires.consistent.fits c.requires.tallied c.in_ok-outcome.ensures.makes.caches (c.deref_mut.ensures.value ∙ c.act_on_bus.ensures.keeps.counts)
+
+pub tally-requires-clause-few : goal.tally-requires-clause-few
+tally-requires-clause-few g c =
+    few-next c.args.test.now c.args.hardware.now c.deref_mut.result.now c.requires.consistent.fits c.requires.tallied (c.deref_mut.ensures.value ∙ c.act_on_bus.ensures.keeps.counts)
+
+pub returns-clause-tallied : goal.returns-clause-tallied
+returns-clause-tallied g c =
+    tallied-next c.args.test.now c.args.hardware.now c.act_on_bus.new.hardware c.args.choice c.in_ok-outcome.outcome c.in_ok-outcome.cache_use
+    c.core_of.result.0 c.act_on_bus.new.hardware.counts.len c.deref_mut.result.now c.tally.new.counts _ c.requires.consistent.fits c.requires.core c.requires.consistent.holder c.requires.tallied c.in_ok-outcome.ensures.makes.ok
+    c.in_ok-outcome.ensures.makes.caches c.core_of.ensures.chosen (c.deref_mut.ensures.value ∙ c.act_on_bus.ensures.keeps.counts) c.tally.ensures
+    (c.act_on_bus.new.hardware.counts.ok.0 ∙ ap length (sym c.deref_mut.ensures.value))

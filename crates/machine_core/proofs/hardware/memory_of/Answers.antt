@@ -1,0 +1,9 @@
+use Rattle.std.proofs.Common.{◌∙◌, ◌++◌, ◌∷◌, [], ap, sym}
+use Rattle.snoop_bus.specs.inner.Accesses.{memory_words_of}
+use Rattle.machine_core.proofs.CoreLemmas.{take-got}
+use Rattle.machine_core.proofs.hardware.memory_of.Goals as goal
+
+pub loop-location-preserved : goal.loop-location-preserved
+loop-location-preserved g c =
+    c.in_ok-push.ensures.items ∙ ap (λ xs. xs ++ c.memory_word.result ∷ []) c.loop-location.invariant
+    ∙ sym (take-got (memory_words_of c.args.bus.now) c.loop-location.location c.memory_word.result c.memory_word.ensures.value)

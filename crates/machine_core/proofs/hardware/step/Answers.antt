@@ -1,0 +1,68 @@
+use Rattle.std.proofs.Common.{◌≡◌, ap, sym, ◌∙◌, refl, subst, slice_get, None, Some, Ok}
+use Rattle.tso_model.specs.FlatMachine.{program_of, stalled}
+use Rattle.tso_model.specs.MemoryAccess.{NoAccess, step_access}
+use Rattle.tso_model.specs.declared.choice.Choice.TheVariants.{Step}
+use Rattle.tso_model.specs.declared.choice.Stall.TheVariants as stall
+use Rattle.tso_model.specs.declared.choice.Outcome.TheVariants.{Stalled}
+use Rattle.snoop_bus.specs.Bus.{words_of}
+use Rattle.machine_core.specs.declared.accesses.CacheUse.TheVariants.{Unused}
+use Rattle.machine_core.specs.Cores.{core_state}
+use Rattle.machine_core.specs.inner.Cores.{pending_in, step_by}
+use Rattle.machine_core.specs.inner.OneCore.{SucceedsUnlessCommitting}
+use Rattle.machine_core.proofs.ActedLemmas.{acts-stalls}
+use Rattle.machine_core.proofs.ChoiceEffects.{access_of-step, access_of-done, effect_in-step, effect_in-done, may-make, whole-done, IfOk-Makes, PartsFitTest-next, IsCore-at, within-cores}
+use Rattle.machine_core.proofs.hardware.step.Goals as goal
+
+pub returns-in-None-clause-makes : goal.returns-in-None-clause-makes
+returns-in-None-clause-makes g c =
+    let p = c.index_mut-processor.result.now in
+    let within = within-cores c.args.test.now c.args.hardware.now c.args.core.0 c.requires.fits c.requires.core in
+    let got : slice_get (program_of c.args.test.now c.args.core.0) p.place ≡ None = ap (λ xs. slice_get xs p.place) (sym c.program-program.ensures.value) ∙ sym c.in-None.ensures in
+    let none = access_of-done c.args.test.now c.args.hardware.now c.args.core p within c.index_mut-processor.ensures.value got in
+    let whole = whole-done c.args.way c.args.test.now c.args.hardware.now (Step c.args.core) none c.requires.free in
+    IfOk-Makes c.args.way (Ok (Stalled stall.Done, Unused)) c.args.test.now c.args.hardware.now _ (Step c.args.core) NoAccess p p (stalled stall.Done (core_state c.args.core.0 p)) c.requires.free
+    (effect_in-done c.args.test.now c.args.hardware.now c.args.core p within c.index_mut-processor.ensures.value got) none within c.index_mut-processor.ensures.value refl refl
+    (acts-stalls c.args.way NoAccess c.args.core.0 p c.args.hardware.now.bus c.args.hardware.now.commits (stalled stall.Done (core_state c.args.core.0 p)) stall.Done whole refl)
+
+pub returns-in-None-clause-holder : goal.returns-in-None-clause-holder
+returns-in-None-clause-holder g c =
+    let p = c.index_mut-processor.result.now in
+    let within = within-cores c.args.test.now c.args.hardware.now c.args.core.0 c.requires.fits c.requires.core in
+    let got : slice_get (program_of c.args.test.now c.args.core.0) p.place ≡ None = ap (λ xs. slice_get xs p.place) (sym c.program-program.ensures.value) ∙ sym c.in-None.ensures in
+    let none = access_of-done c.args.test.now c.args.hardware.now c.args.core p within c.index_mut-processor.ensures.value got in
+    rw (whole-done c.args.way c.args.test.now c.args.hardware.now (Step c.args.core) none c.requires.free) refl
+
+pub returns-in-Some-clause-makes : goal.returns-in-Some-clause-makes
+returns-in-Some-clause-makes g c =
+    let p = c.index_mut-processor.result.now in
+    let within = within-cores c.args.test.now c.args.hardware.now c.args.core.0 c.requires.fits c.requires.core in
+    let got : slice_get (program_of c.args.test.now c.args.core.0) p.place ≡ Some c.in-Some.instr = ap (λ xs. slice_get xs p.place) (sym c.program-program.ensures.value) ∙ sym c.in-Some.ensures in
+    let core = IsCore-at c.args.test.now c.args.hardware.now c.args.core.0 p c.requires.fits c.requires.core c.index_mut-processor.ensures.value in
+    let effect = effect_in-step c.args.test.now c.args.hardware.now c.args.core p c.in-Some.instr within c.index_mut-processor.ensures.value core.depth_is got in
+    let access = access_of-step c.args.test.now c.args.hardware.now c.args.core p c.in-Some.instr within c.index_mut-processor.ensures.value core.depth_is got in
+    IfOk-Makes c.args.way c.step.result c.args.test.now c.args.hardware.now _ (Step c.args.core) (step_access p.stores.depth (Some c.in-Some.instr) (pending_in c.args.core.0 p)) p c.step.new.processor
+    (step_by c.in-Some.instr c.args.core.0 p (words_of c.args.hardware.now.bus)) c.requires.free effect access within c.index_mut-processor.ensures.value refl refl c.step.ensures.acts
+
+pub returns-in-Some-clause-succeeds : goal.returns-in-Some-clause-succeeds
+returns-in-Some-clause-succeeds g c =
+    let p = c.index_mut-processor.result.now in
+    let within = within-cores c.args.test.now c.args.hardware.now c.args.core.0 c.requires.fits c.requires.core in
+    let got : slice_get (program_of c.args.test.now c.args.core.0) p.place ≡ Some c.in-Some.instr = ap (λ xs. slice_get xs p.place) (sym c.program-program.ensures.value) ∙ sym c.in-Some.ensures in
+    let core = IsCore-at c.args.test.now c.args.hardware.now c.args.core.0 p c.requires.fits c.requires.core c.index_mut-processor.ensures.value in
+    let effect = effect_in-step c.args.test.now c.args.hardware.now c.args.core p c.in-Some.instr within c.index_mut-processor.ensures.value core.depth_is got in
+    subst (λ f. SucceedsUnlessCommitting c.step.result f) (sym effect) c.step.ensures.succeeds
+
+pub returns-in-Some-clause-fits : goal.returns-in-Some-clause-fits
+returns-in-Some-clause-fits g c =
+    let core = IsCore-at c.args.test.now c.args.hardware.now c.args.core.0 c.index_mut-processor.result.now c.requires.fits c.requires.core c.index_mut-processor.ensures.value in
+    PartsFitTest-next c.args.test.now c.args.hardware.now _ c.args.core.0 c.step.new.processor c.requires.fits refl refl
+    c.step.ensures.sizes.cores c.step.ensures.sizes.count (c.step.ensures.depth ∙ core.depth_is) c.step.ensures.stores
+
+pub step-requires-clause-free : goal.step-requires-clause-free
+step-requires-clause-free g c =
+    let p = c.index_mut-processor.result.now in
+    let within = within-cores c.args.test.now c.args.hardware.now c.args.core.0 c.requires.fits c.requires.core in
+    let got : slice_get (program_of c.args.test.now c.args.core.0) p.place ≡ Some c.in-Some.instr = ap (λ xs. slice_get xs p.place) (sym c.program-program.ensures.value) ∙ sym c.in-Some.ensures in
+    let core = IsCore-at c.args.test.now c.args.hardware.now c.args.core.0 p c.requires.fits c.requires.core c.index_mut-processor.ensures.value in
+    may-make c.args.way c.args.test.now c.args.hardware.now (Step c.args.core) _
+    (access_of-step c.args.test.now c.args.hardware.now c.args.core p c.in-Some.instr within c.index_mut-processor.ensures.value core.depth_is got) c.requires.free

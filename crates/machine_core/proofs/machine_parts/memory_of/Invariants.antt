@@ -1,6 +1,0 @@
-use Rattle.std.proofs.Common.{◌≡◌, take}
-use Rattle.snoop_bus.specs.inner.Accesses.{memory_words_of}
-use Rattle.machine_core.proofs.machine_parts.memory_of.Given as goal
-
-abbrev pub invariant-loop-location : goal.invariant-loop-location
-invariant-loop-location g l = l.memory.items ≡ take l.location (memory_words_of l.bus)

@@ -1,6 +1,0 @@
-use Rattle.std.proofs.Common.{◌≡◌, replicate}
-use Rattle.machine_core.specs.Statistics.{no_counts}
-use Rattle.machine_core.proofs.machine_parts.nothing_counted.Given as goal
-
-abbrev pub invariant-loop : goal.invariant-loop
-invariant-loop l = l.counts.items ≡ replicate l.counter no_counts

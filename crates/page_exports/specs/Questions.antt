@@ -1,0 +1,111 @@
+-- What the numbers of the page ask for, and what answers them: the same settings and answers as those of the program, so
+-- that its promises hold of the page.
+use Rattle.std.specs.Prelude.{ℕ, ◌≡◌, ◌<◌, ◌≤◌, ◌⊎◌, true, List, Some}
+use Rattle.tso_model.specs.declared.choice.Bus.{Bus}
+use Rattle.snoop_bus.specs.Geometry.{geometry, IsShapeWithinLimits}
+use Rattle.protocol_tables.specs.declared.kind.ProtocolKind.{ProtocolKind}
+use Rattle.tso_model.specs.Limits.{most_depth}
+use Rattle.machine_core.specs.Configuration.{Configuration}
+use Rattle.command_line.specs.Limits.{IsDepth}
+use Rattle.command_line.specs.Plan.{IsPlanWithinLimits}
+use Rattle.command_line.specs.Search.{IsSearchWithinLimits}
+use Rattle.command_line.specs.declared.settings.Settings.{Settings}
+use Rattle.tso_cli.specs.Headline.{Headline}
+use Rattle.tso_cli.specs.Answers.{IsAnswer}
+use Rattle.tso_cli.specs.Step.{IsStepAnswer}
+use Rattle.tso_cli.specs.Hints.{IsTold}
+use Rattle.tso_cli.specs.declared.answer.Status.{Status}
+use Rattle.page_exports.specs.declared.question.Numbers.{Numbers}
+use Rattle.page_exports.specs.declared.question.Question.{Question}
+use Rattle.tso_model.specs.declared.choice.Bus.TheVariants as buses
+use Rattle.protocol_tables.specs.declared.kind.ProtocolKind.TheVariants as kinds
+use Rattle.command_line.specs.declared.settings.Settings.TheVariants as settings
+use Rattle.tso_cli.specs.declared.answer.Status.TheVariants as statuses
+use Rattle.page_exports.specs.declared.question.Question.TheVariants as questions
+
+abbrev pub kind_number : ProtocolKind → ℕ
+kind_number kinds.Msi = 0
+kind_number kinds.Mesi = 1
+kind_number kinds.Moesi = 2
+kind_number kinds.Mosi = 3
+
+abbrev pub bus_number : Bus → ℕ
+bus_number buses.Atomic = 0
+bus_number buses.Split = 1
+
+-- the number of a status is the command's exit status
+abbrev pub number_of : Status → ℕ
+number_of statuses.Good = 0
+number_of statuses.Refused = 1
+number_of statuses.Unended = 3
+number_of statuses.Invalid = 4
+
+-- a machine is the one that the numbers ask for
+abbrev pub IsMachineOf : Numbers → ProtocolKind → Configuration → Type 0
+IsMachineOf a kind config =
+    (kind_number kind ≡ a.protocol) × (config.depth ≡ a.depth) × (bus_number config.bus ≡ a.bus)
+    × (config.shape ≡ geometry a.sets a.ways a.words)
+
+-- the settings of the command that the numbers ask for: these are one at most
+abbrev pub Asks : Numbers → Settings → Type 0
+Asks a (settings.Run kind config json) = (a.command ≡ 0) × IsMachineOf a kind config × (json ≡ a.json)
+Asks a (settings.Sweep kind config plan) =
+    (a.command ≡ 1) × IsMachineOf a kind config × (plan ≡ record { from = a.from; seeds = a.seeds; length = a.length })
+Asks a settings.Check = a.command ≡ 2
+Asks a (settings.Witness depth) = (a.command ≡ 3) × (depth ≡ a.depth)
+Asks a (settings.Tables kind) = (a.command ≡ 4) × (kind_number kind ≡ a.protocol)
+Asks a (settings.Outcomes search json) =
+    (a.command ≡ 5) × (search ≡ record { depth = a.depth; states = a.states }) × (json ≡ a.json)
+Asks a (settings.Trace kind config json) = (a.command ≡ 6) × IsMachineOf a kind config × (json ≡ a.json)
+
+-- the question that the numbers ask: a command's, or for the last step of a trace
+abbrev pub AsksFor : Numbers → Question → Type 0
+AsksFor a (questions.Command settings) = Asks a settings
+AsksFor a (questions.Step kind config) = (a.command ≡ 7) × IsMachineOf a kind config
+
+-- a machine that there is
+abbrev pub IsMachineAsked : Numbers → Type 0
+IsMachineAsked a = (a.protocol < 4) × (a.bus < 2) × (a.depth ≤ most_depth) × IsShapeWithinLimits (geometry a.sets a.ways a.words)
+
+-- a command that there is, with all that it looks at within its limits
+abbrev pub IsCommandAskable : Numbers → Type 0
+IsCommandAskable a =
+    ((a.command ≡ 0) × IsMachineAsked a)
+    ⊎ ((a.command ≡ 1) × IsMachineAsked a × IsPlanWithinLimits (record { from = a.from; seeds = a.seeds; length = a.length }))
+    ⊎ (a.command ≡ 2)
+    ⊎ ((a.command ≡ 3) × IsDepth a.depth)
+    ⊎ ((a.command ≡ 4) × (a.protocol < 4))
+    ⊎ ((a.command ≡ 5) × IsSearchWithinLimits (record { depth = a.depth; states = a.states }))
+    ⊎ ((a.command ≡ 6) × IsMachineAsked a)
+
+-- the same of a question
+abbrev pub IsAskable : Numbers → Type 0
+IsAskable a = IsCommandAskable a ⊎ ((a.command ≡ 7) × IsMachineAsked a)
+
+-- the settings of the command whose hints stand beside the answer: of a step, those of the trace that it is of
+abbrev pub settings_of : Question → Settings
+settings_of (questions.Command command) = command
+settings_of (questions.Step kind config) = settings.Trace kind config true
+
+-- the answer of a command under settings, of which the headline is true
+pub record IsCommandAnswer (settings : Settings) (input out : List ℕ) (status : Status) : Type 0 where
+  pub exact : IsAnswer settings (Some input) out status
+  pub headline : Headline settings (Some input) out
+
+-- the answer to a question about an input
+abbrev pub IsAnswerTo : Question → List ℕ → List ℕ → Status → Type 0
+IsAnswerTo (questions.Command settings) input out status = IsCommandAnswer settings input out status
+IsAnswerTo (questions.Step kind config) input out status = IsStepAnswer kind config input out status
+
+-- these bytes are the answer to the question, with its exit status, and the others are the hint beside such an answer
+pub record Answers (question : Question) (input out hint : List ℕ) (number : ℕ) : Type 0 where
+  pub status : Status
+  pub numbered : number_of status ≡ number
+  pub answer : IsAnswerTo question input out status
+  pub told : IsTold (settings_of question) status hint
+
+-- the numbers ask a question, and these bytes answer it
+pub record AnswersAsked (a : Numbers) (input out hint : List ℕ) (number : ℕ) : Type 0 where
+  pub question : Question
+  pub asked : AsksFor a question
+  pub answers : Answers question input out hint number

@@ -1,0 +1,189 @@
+//! What numbers ask for: settings, where they are within the limits, and else nothing. The page is no part of what is
+//! proved, so nothing it sends is believed.
+
+ghost use Rattle.std.specs.Prelude.{◌≡◌, ◌≢◌, ◌<◌, ◌≤◌, ◌↔◌, IsSome, IfSome};
+ghost use Rattle.tso_model.specs.Limits.{most_depth};
+ghost use Rattle.snoop_bus.specs.Geometry.{geometry, IsShapeWithinLimits};
+ghost use Rattle.command_line.specs.Limits.{HasDepth};
+ghost use Rattle.page_exports.specs.Questions.{AsksFor, IsAskable, Asks, IsCommandAskable, settings_of};
+ghost use Rattle.page_exports.specs.inner.Questions.{HasDepthFor};
+ghost use Rattle.page_exports.specs.Questions.{kind_number, bus_number, number_of};
+
+use command_line::{SearchPlan, SweepPlan};
+use machine_core::Config;
+use protocol_tables::ProtocolKind;
+use snoop_bus::Shape;
+use tso_cli::{Settings, Status};
+use tso_model::Bus;
+use tso_model::limits::{MAX_DEPTH, MIN_DEPTH};
+
+/// A command and its options, as numbers; each command looks at its own options alone.
+#[repr(C)]
+#[derive(Clone, Copy)]
+pub struct Numbers {
+    /// 0 run, 1 sweep, 2 check, 3 witness, 4 tables, 5 outcomes, 6 trace; 7 the last step of a trace alone.
+    pub command: u8,
+    /// 0 msi, 1 mesi, 2 moesi, 3 mosi.
+    pub protocol: u8,
+    /// 0 atomic, 1 split.
+    pub bus: u8,
+    /// How many stores a core's buffer holds, 0 to 32; of a witness 1 to 32.
+    pub depth: u8,
+    /// Sets of a cache, 1 to 8.
+    pub sets: u8,
+    /// Lines for which a set has room, 1 to 8.
+    pub ways: u8,
+    /// Words of a line, 1, 2 or 4.
+    pub words: u8,
+    /// Whether the answer of a run, of a trace or of a search is JSON.
+    pub json: bool,
+    /// The first seed of a sweep.
+    pub from: u32,
+    /// How many seeds a sweep has, 1 to 1000.
+    pub seeds: u32,
+    /// How many choices a seed makes, 0 to 100000.
+    pub length: u32,
+    /// How many states a search may keep, 1 to 10000000.
+    pub states: u32,
+}
+
+/// What numbers ask for.
+#[derive(Clone, Copy)]
+pub enum Question {
+    /// The answer of a command under these settings.
+    Command(Settings),
+    /// The last step of a trace as JSON alone, on such a machine.
+    Step {
+        protocol: ProtocolKind,
+        config: Config,
+    },
+}
+
+impl Question {
+    /// The settings of the command whose hints stand beside the answer.
+    pub fn settings(&self) -> Settings
+        ensures { result ≡ settings_of self.now }
+    {
+        match self {
+            Question::Command(settings) => *settings,
+            Question::Step { protocol, config } => Settings::Trace {
+                protocol: *protocol,
+                config: *config,
+                json: true,
+            },
+        }
+    }
+}
+
+/// What the numbers ask for; `None` where one of them is outside its limits.
+pub fn question_of(asked: &Numbers) -> Option<Question>
+    ensures asks { IfSome result (AsksFor asked.now) }
+    ensures depth { IfSome result HasDepthFor }
+    ensures valid { IsSome result ↔ IsAskable asked.now }
+{
+    if asked.command == 7 {
+        let (protocol, config) = (kind_of(asked.protocol)?, config_of(asked)?);
+        Some(Question::Step { protocol, config })
+    } else {
+        Some(Question::Command(command_of(asked)?))
+    }
+}
+
+/// The settings of the command that the numbers ask for; `None` where there is none, or a number is outside its limits.
+fn command_of(asked: &Numbers) -> Option<Settings>
+    ensures asks { IfSome result (Asks asked.now) }
+    ensures depth { IfSome result HasDepth }
+    ensures valid { IsSome result ↔ IsCommandAskable asked.now }
+{
+    match asked.command {
+        0 => {
+            let (protocol, config) = (kind_of(asked.protocol)?, config_of(asked)?);
+            Some(Settings::Run {
+                protocol,
+                config,
+                json: asked.json,
+            })
+        }
+        1 => {
+            let (protocol, config) = (kind_of(asked.protocol)?, config_of(asked)?);
+            let plan = SweepPlan::new(asked.from, asked.seeds, asked.length)?;
+            Some(Settings::Sweep {
+                protocol,
+                config,
+                plan,
+            })
+        }
+        2 => Some(Settings::Check),
+        3 => {
+            if (MIN_DEPTH..=MAX_DEPTH).contains(&asked.depth) {
+                Some(Settings::Witness { depth: asked.depth })
+            } else {
+                None
+            }
+        }
+        4 => Some(Settings::Tables(kind_of(asked.protocol)?)),
+        5 => {
+            let search = SearchPlan::new(asked.depth, asked.states)?;
+            Some(Settings::Outcomes {
+                search,
+                json: asked.json,
+            })
+        }
+        6 => {
+            let (protocol, config) = (kind_of(asked.protocol)?, config_of(asked)?);
+            Some(Settings::Trace {
+                protocol,
+                config,
+                json: asked.json,
+            })
+        }
+        _ => None,
+    }
+}
+
+/// The number of a status: the command's exit status.
+pub fn status_number(status: Status) -> u8
+    ensures value { result ≡ number_of status }
+    ensures command { result ≢ 2 }
+{
+    match status {
+        Status::Good => 0,
+        Status::Refused => 1,
+        Status::Unended => 3,
+        Status::Invalid => 4,
+    }
+}
+
+fn config_of(asked: &Numbers) -> Option<Config>
+    ensures valid { IsSome result ↔ ((asked.now.bus < 2) × (asked.now.depth ≤ most_depth)
+        × IsShapeWithinLimits (geometry asked.now.sets asked.now.ways asked.now.words)) }
+    ensures value { IfSome result (λ c. (c.depth ≡ asked.now.depth) × (bus_number c.bus ≡ asked.now.bus)
+        × (c.shape ≡ geometry asked.now.sets asked.now.ways asked.now.words)) }
+{
+    let shape = Shape::new(asked.sets, asked.ways, asked.words)?;
+    Config::new(asked.depth, shape, bus_of(asked.bus)?)
+}
+
+fn bus_of(number: u8) -> Option<Bus>
+    ensures value { IfSome result (λ b. bus_number b ≡ number) }
+    ensures valid { IsSome result ↔ (number < 2) }
+{
+    match number {
+        0 => Some(Bus::Atomic),
+        1 => Some(Bus::Split),
+        _ => None,
+    }
+}
+
+fn kind_of(number: u8) -> Option<ProtocolKind>
+    ensures value { IfSome result (λ k. kind_number k ≡ number) }
+    ensures valid { IsSome result ↔ (number < 4) }
+{
+    match number {
+        0 => Some(ProtocolKind::Msi),
+        1 => Some(ProtocolKind::Mesi),
+        2 => Some(ProtocolKind::Moesi),
+        3 => Some(ProtocolKind::Mosi),
+        _ => None,
+    }
+}

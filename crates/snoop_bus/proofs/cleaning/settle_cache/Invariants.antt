@@ -1,0 +1,13 @@
+use Rattle.std.proofs.Common.{◌≡◌, ℕ, map, option_map, nat_lt, if◌then◌else◌}
+use Rattle.snoop_bus.specs.Lines.{line_in}
+use Rattle.snoop_bus.specs.Copies.{copy_in, tags_in}
+use Rattle.snoop_bus.specs.inner.Requests.{clean_copy, cleaned_below, words_if_dirty}
+use Rattle.snoop_bus.proofs.cleaning.settle_cache.Given as goal
+
+abbrev pub invariant-loop-line : goal.invariant-loop-line
+invariant-loop-line g l = record {
+  tags : map tags_in l.cache ≡ map (cleaned_below l.line) (map tags_in l.fn.cache);
+  copies : (k : ℕ) → copy_in l.cache k ≡ (if nat_lt k l.line then option_map clean_copy (copy_in l.fn.cache k) else copy_in l.fn.cache k);
+  memory : (k : ℕ) → line_in l.memory k ≡ (if nat_lt k l.line then words_if_dirty (copy_in l.fn.cache k) (line_in l.fn.memory k) else line_in l.fn.memory k);
+  ways : map (λ s. s.ways) l.cache ≡ map (λ s. s.ways) l.fn.cache;
+}

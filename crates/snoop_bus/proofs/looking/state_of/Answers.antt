@@ -1,0 +1,19 @@
+use Rattle.std.proofs.Common.{◌≡◌, Some, None, [], sym, ap, ◌∙◌, option_map}
+use Rattle.std.proofs.lemmas.List.{get_or_default}
+use Rattle.cache_set.specs.declared.Line.{Line}
+use Rattle.std.proofs.Common.{Option}
+use Rattle.snoop_bus.specs.Copies.{Sets, copy_in, copy_at}
+use Rattle.snoop_bus.proofs.StateLemmas.{tag_at-copy}
+use Rattle.snoop_bus.proofs.looking.state_of.Goals as goal
+
+pub returns-in-None : goal.returns-in-None
+returns-in-None c =
+    let looked = c.index-caches-core.is ∙ get_or_default c.args.caches.now c.args.core c.index-caches-core.result [] c.requires in
+    let absent : copy_at c.args.caches.now c.args.core c.args.line ≡ None = sym (ap (λ (sets : Sets). copy_in sets c.args.line) looked) ∙ sym c.in-None.ensures.found in
+    sym (tag_at-copy c.args.caches.now c.args.core c.args.line ∙ ap (λ (o : Option Line). option_map (λ copy. copy.state) o) absent)
+
+pub returns-in-Some : goal.returns-in-Some
+returns-in-Some c =
+    let looked = c.index-caches-core.is ∙ get_or_default c.args.caches.now c.args.core c.index-caches-core.result [] c.requires in
+    let found : copy_at c.args.caches.now c.args.core c.args.line ≡ Some c.in-Some.copy.now = sym (ap (λ (sets : Sets). copy_in sets c.args.line) looked) ∙ sym c.in-Some.ensures.found in
+    sym (tag_at-copy c.args.caches.now c.args.core c.args.line ∙ ap (λ (o : Option Line). option_map (λ copy. copy.state) o) found)
