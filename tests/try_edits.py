@@ -6,8 +6,13 @@
 Run it for a crate whose code or contracts change. An edit has the form of those in crates/NAME/must-fail/: a line
 'file: src/lib.rt' and pairs of lines 'old: TEXT' and 'new: TEXT'. Where the file is one of a crate below, a line
 'crate: OTHER' stands before it: then what stands between the two is built anew over the edited file, and NAME is
-checked. Everything happens in a scratch copy. The last line is 'N passed, M failed'.
+checked. Everything happens in a scratch copy, by 'rt check'.
+
+A function is judged by its own body and the contracts of what it calls. So edits of the bodies of functions of different
+names are tried by one check, and each is refused where a function that it changes isn't proved. Any other edit has a
+check of its own, and so has each that its group's check doesn't refuse. The last line is 'N passed, M failed'.
 """
+import collections
 import glob
 import os
 import re
@@ -21,6 +26,11 @@ import judging
 from judging import TOP
 
 EDITS = os.path.join(TOP, "tests", "data", "edits")
+# Maximum number of edits that one check tries.
+GROUP = 12
+
+# An edit: its name, the crate whose files it changes, and of each change the file, the text there and the new one.
+Edit = collections.namedtuple("Edit", "name crate changes")
 
 
 def scratch_copy(room):
@@ -31,87 +41,150 @@ def scratch_copy(room):
     shutil.copytree(os.path.join(TOP, "crates"), os.path.join(room, "crates"), ignore=skipped, symlinks=True)
 
 
-def run(words, folder):
-    return subprocess.run(words, cwd=folder, stdin=subprocess.DEVNULL, stdout=subprocess.PIPE,
-                          stderr=subprocess.STDOUT, text=True, errors="replace")
+def read_edit(path, crate):
+    changes, file, old = [], None, None
+    with open(path) as opened:
+        for line in opened.read().split("\n"):
+            key, _, value = line.partition(": ")
+            if key == "crate":
+                crate = value
+            elif key == "file":
+                file = value
+            elif key == "old":
+                old = value
+            elif key == "new":
+                changes.append((file, old, value))
+    return Edit(os.path.basename(path), crate, changes)
 
 
-def try_own(room, crate, edits):
-    """Tries the edits of the crate's own files, by the toolchain's command."""
-    folder = os.path.join(room, "crates", crate, "must-fail")
-    os.makedirs(folder)
+def body_at(source, at):
+    """The name of the function in whose body this byte of a source stands; None where it stands elsewhere."""
+    before = source[:at].split("\n")
+    opened = False
+    for line in reversed(before[:-1]):
+        if re.match(r" *\{$", line) or re.match(r" *(pub(\(\w+\))? )?(const )?fn .*\{$", line):
+            opened = True
+        if re.match(r"( {4})?\}$", line):
+            return None
+        declared = re.match(r" *(?:pub(?:\(\w+\))? )?(?:const )?fn (\w+)", line)
+        if declared:
+            return declared[1] if opened else None
+    return None
+
+
+def bodies_of(room, edit):
+    """The names of the functions whose bodies, and nothing else, an edit changes; None where it changes more. (The checker names a
+    method by its type, in whatever file it stands.)"""
+    bodies = set()
+    for file, old, _ in edit.changes:
+        with open(os.path.join(room, "crates", edit.crate, file)) as opened:
+            source = opened.read()
+        name = body_at(source, source.find(old)) if file.startswith("src/") else None
+        if name is None:
+            return None
+        bodies.add(name)
+    return bodies
+
+
+def in_groups(room, edits):
+    """The edits in groups that one check can try: those of bodies together, where no two change one function."""
+    groups = []
     for edit in edits:
-        shutil.copy(edit, folder)
-    done = run(["rt", "must-fail", crate], room)
-    print(done.stdout, end="", flush=True)
-    shutil.rmtree(folder)
-    refused = len(re.findall(": refused, as it must be", done.stdout))
-    return refused, len(edits) - refused
+        bodies = bodies_of(room, edit)
+        for group, taken in groups:
+            if bodies and taken and len(group) < GROUP and not bodies & taken:
+                group.append(edit)
+                taken |= bodies
+                break
+        else:
+            groups.append(([edit], bodies and set(bodies)))
+    return [group for group, _ in groups]
 
 
-def not_proved(crate, lines):
-    """The crate's functions that a check left unproved, each with the clauses that it names."""
-    found = []
-    for line in lines:
-        if line.startswith("fn %s::" % crate) and not line.endswith(": proved"):
-            clauses = re.findall(r"`returns-clause-(\w+)`", line)
-            found.append(line.split(":")[2] + (" (%s)" % ", ".join(clauses) if clauses else ""))
-    return ", ".join(found)
+class Changed:
+    """The scratch copy while some edits are made in it."""
+
+    def __init__(self, room, edits):
+        self.kept, self.made, self.bad = {}, {}, []
+        for edit in edits:
+            for file, old, new in edit.changes:
+                path = os.path.join(room, "crates", edit.crate, file)
+                if path not in self.kept:
+                    with open(path) as opened:
+                        self.kept[path] = opened.read()
+                if self.kept[path].count(old) != 1:
+                    self.bad.append("%s: an 'old:' text stands there %d times" % (edit.name, self.kept[path].count(old)))
+                self.made.setdefault(path, []).append((self.kept[path].find(old), old, new))
+
+    def __enter__(self):
+        for path, changes in self.made.items():
+            text = self.kept[path]
+            for at, old, new in sorted(changes, reverse=True):
+                text = text[:at] + new + text[at + len(old):]
+            with open(path, "w") as opened:
+                opened.write(text)
+        return self
+
+    def __exit__(self, *_):
+        for path, text in self.kept.items():
+            with open(path, "w") as opened:
+                opened.write(text)
 
 
-def try_below(room, crate, edit, other):
-    """Tries an edit of a file of a crate below: the crate itself has to be refused."""
-    with open(edit) as file:
-        lines = file.read().split("\n")
-    path, text, old, kept = None, None, None, None
-    for line in lines:
-        key, _, value = line.partition(": ")
-        if key == "file":
-            path = os.path.join(room, "crates", other, value)
-            with open(path) as file:
-                kept = text = file.read()
-        elif key == "old":
-            old = value
-        elif key == "new":
-            if text.count(old) != 1:
-                print("%s: BAD EDIT: an 'old:' text stands there %d times" % (edit, text.count(old)))
-                return 0, 1
-            text = text.replace(old, value)
-    with open(path, "w") as file:
-        file.write(text)
-    done = run(["rt", "check", "--jobs", "1"], os.path.join(room, "crates", crate))
-    with open(path, "w") as file:
-        file.write(kept)
+def check(room, crate, edits):
+    """Checks the crate with these edits made. Answers the functions that aren't proved, each with what was said of it, or a
+    sentence where the crate itself wasn't judged."""
+    with Changed(room, edits) as changed:
+        if changed.bad:
+            return "; ".join(changed.bad)
+        done = subprocess.run(["rt", "check", "--jobs", "1"], cwd=os.path.join(room, "crates", crate), stdin=subprocess.DEVNULL,
+                              stdout=subprocess.PIPE, stderr=subprocess.STDOUT, text=True, errors="replace")
     lines = done.stdout.split("\n")
-    errors = [line for line in lines if ": error" in line]
-    verdicts = [line for line in lines if line.startswith("logic=")]
     # Where a crate in between fails, the crate itself was never checked, and nothing was refused.
-    checked = any(line.startswith("crate %s:" % crate) for line in lines)
-    refused = done.returncode == 1 and checked and verdicts[-1:] == ["logic=not-proved"]
-    said = "refused, as it must be" if refused else "NOT REFUSED"
-    print("%s/%s: %s: %s" % (crate, os.path.basename(edit), said, not_proved(crate, lines) or (errors or lines)[0][:160]), flush=True)
-    return int(refused), int(not refused)
+    if not any(line.startswith("crate %s:" % crate) for line in lines):
+        return ([line for line in lines if ": error" in line] or ["no verdict"])[0][:160]
+    found = (re.match(r"fn %s::(\S+): (?!proved$)(.*)" % crate, line) for line in lines)
+    return [(match[1].split("::"), match[2]) for match in found if match]
 
 
-def crate_of(edit):
-    with open(edit) as file:
-        found = re.search(r"^crate: (\S+)$", file.read(), re.M)
-    return found and found[1]
+def said_of(bodies, unproved):
+    """What is said of an edit by the functions that aren't proved; None where all that it changes are. A function that only calls one
+    that isn't proved says nothing of its own body."""
+    said = []
+    for path, verdict in unproved:
+        if bodies is None or any(name in path for name in bodies) and not verdict.startswith("no proof: it calls "):
+            clauses = re.findall(r"`returns-clause-(\w+)`", verdict)
+            said.append("::".join(path) + (" (%s)" % ", ".join(clauses) if clauses else ""))
+    return ", ".join(said) or None
+
+
+def try_group(room, crate, group):
+    """Tries the edits of a group, and once more alone each that this check doesn't refuse. Answers how many are refused."""
+    unproved, refused, is_alone = check(room, crate, group), 0, len(group) == 1
+    for edit in group:
+        if isinstance(unproved, str):
+            by, said = None, "NOT JUDGED: " + unproved
+        else:
+            by = said_of(None if is_alone else bodies_of(room, edit), unproved)
+            said = "refused, as it must be: " + by if by else "NOT REFUSED"
+        if by or is_alone:
+            refused += by is not None
+            print("%s/%s: %s" % (crate, edit.name, said), flush=True)
+        else:
+            refused += try_group(room, crate, [edit])
+    return refused
 
 
 def main(named):
     judging.tell(__doc__)
-    crates = named or sorted(os.listdir(EDITS))
     passed = failed = 0
     with tempfile.TemporaryDirectory(prefix="tso-edits-") as room:
         scratch_copy(room)
-        for crate in crates:
-            edits = sorted(glob.glob(os.path.join(EDITS, crate, "*.edit")))
-            own = [edit for edit in edits if not crate_of(edit)]
-            counts = [try_own(room, crate, own)] if own else []
-            counts += [try_below(room, crate, edit, crate_of(edit)) for edit in edits if crate_of(edit)]
-            passed += sum(count[0] for count in counts)
-            failed += sum(count[1] for count in counts)
+        for crate in named or sorted(os.listdir(EDITS)):
+            edits = [read_edit(path, crate) for path in sorted(glob.glob(os.path.join(EDITS, crate, "*.edit")))]
+            refused = sum(try_group(room, crate, group) for group in in_groups(room, edits))
+            passed += refused
+            failed += len(edits) - refused
     print("%d passed, %d failed" % (passed, failed))
     return 1 if failed else 0
 
