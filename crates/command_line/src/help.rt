@@ -24,7 +24,7 @@ tso COMMAND --help tells what a command reads and prints.";
 pub const RUN: &str = "\
 Standard input is a test, a line ====, and choices, separated by spaces or line ends:\n\
 \x20 0s        core 0 takes its next step\n\
-\x20 0d        core 0 drains its oldest buffered store to memory\n\
+\x20 0d        core 0 drains its oldest pending store to memory\n\
 \x20 seed N M  M choices drawn from the seed N (below 2^64)\n\
 There are at most 100000 choices. They are used until the test ends: each core has taken all its\n\
 steps, and each buffer is empty.\n\
