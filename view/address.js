@@ -10,7 +10,7 @@ const TEST_ADDRESS = /^test=/;
 /** What stands after `#` in the address of what is written now. */
 function currentAddress() {
   const command = currentCommand();
-  const pairs = [['test', byId('test').value], ['choices', byId('choices').value], ['order', byId('given').value], ['command', command]];
+  const pairs = [['test', byId('test').value], ['choices', choicesText()], ['order', byId('given').value], ['command', command]];
   const told = pairs.filter(([name, value]) => name === 'test' || (name === 'command' ? value !== 'run' : value !== ''));
   return new URLSearchParams([...told, ...changedSettings()]).toString();
 }
@@ -28,7 +28,7 @@ function drawShare() {
 function openTest(fragment) {
   const told = new URLSearchParams(fragment);
   putInput(told.get('test'));
-  if (told.has('choices')) byId('choices').value = told.get('choices');
+  if (told.has('choices')) putChoices(told.get('choices'));
   if (told.has('order')) byId('given').value = told.get('order');
   putSettings(told);
   putCommand(told.get('command'));

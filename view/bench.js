@@ -41,7 +41,7 @@ function answerNow(isAtStart = false) {
   byId('begin').disabled = wrong !== undefined;
   if (wrong) showSaid({ text: '', hint: '' }, wrong);
   else if (LONG.includes(command)) showRefusalAlone();
-  else if (command === 'run' && countChoices(byId('choices').value) > LONG_RUN) begin();
+  else if (command === 'run' && countChoices(choicesText()) > LONG_RUN) begin();
   else if (command === 'run') answerRun(options, isAtStart === true);
   else showOpenAnswer(asked(options, inputOf(command)));
 }
@@ -171,7 +171,7 @@ function showOutcomes(answer) {
 function loadChoices(choices) {
   settingOf('depth').value = settingOf('searched').value;
   settingOf('bus').value = 'atomic';
-  byId('choices').value = choices + '\n';
+  putChoices(choices + '\n');
   putCommand('run');
   answerNow();
 }

@@ -7,11 +7,13 @@ const FEW_CORES = 4; // so many have room beside the picture
 
 /**
  * The choices that are known (`words`), of which the first `count` are made; the input's test, and the whole input where it spells
- * these choices in words of its own (`given`); the machines with their histories
- * and panels; the panels that were shown last; the picture of the first machine; the core that keys act on; and the timers of playing
- * and of the address.
+ * these choices in words of its own (`given`); the machines with their histories and panels; the panels that were shown last; the
+ * picture of the first machine, and the list of what loads passed there; the core that keys act on; and the timers of playing and of
+ * what is drawn after the choices.
  */
-const drive = { isOn: false, words: [], count: 0, test: '', given: null, machines: [], panels: [], picture: null, core: 0, timer: null, sharing: null, beside: null };
+const drive = {
+  isOn: false, words: [], count: 0, test: '', given: null, machines: [], panels: [], picture: null, passes: null, core: 0, timer: null, resting: null, beside: null,
+};
 
 const firstHistory = () => drive.machines[0].history;
 
@@ -31,7 +33,7 @@ function beginDrive(history, { test, given }, count) {
   putPanels(drive.machines.map(({ panel }) => panel));
   byId('machines').classList.toggle('two', drive.machines.length > 1);
   byId('machines').classList.toggle('many', history.cores > FEW_CORES);
-  drive.picture = null;
+  Object.assign(drive, { picture: null, passes: null });
   drawBesideChoices(history.options);
   showDrive();
 }
@@ -51,12 +53,13 @@ function putPanels(panels) {
 
 function endDrive() {
   stopPlaying();
-  Object.assign(drive, { isOn: false, machines: [], picture: null });
+  Object.assign(drive, { isOn: false, machines: [], picture: null, passes: null });
+  byId('passes').replaceChildren();
 }
 
 // Making choices.
 
-const SHARE_AFTER = 150; // milliseconds without a choice, after which the address is drawn anew
+const REST_AFTER = 150; // milliseconds without a choice, after which what can wait is drawn
 
 /** Makes a choice: the one that comes next where it is the same, and else another, after which nothing comes. */
 function makeChoice(word) {
@@ -111,12 +114,17 @@ function lastStep(options, words) {
 
 /** Puts the known choices into their field, with all that goes by it. */
 function putWords() {
-  byId('choices').value = drive.words.join(' ') + '\n';
+  putChoicesLater(drive.words.join(' ') + '\n');
   bench.answer = null;
   showSaid({ hint: '' }, '');
   byId('report-part').open = false;
-  clearTimeout(drive.sharing);
-  drive.sharing = setTimeout(drawShare, SHARE_AFTER);
+  clearTimeout(drive.resting);
+  drive.resting = setTimeout(drawRest, REST_AFTER);
+}
+
+function drawRest() {
+  writeChoices();
+  drawShare();
 }
 
 /** Shows the machines after so many choices. */

@@ -20,6 +20,7 @@ function showDrive() {
 /** Scrolls to what the last choice changed. For that the browser has to lay the page out, so it comes after all changes. */
 function keepInSight() {
   scrollPicture();
+  drive.passes.keepInSight();
   for (const { panel } of drive.machines) panel.keepInSight();
   const top = `${byId('stepper').offsetHeight}px`; // the lanes' names stand still below it
   if (byId('names').style.top !== top) byId('names').style.top = top;
@@ -29,7 +30,7 @@ const startSentence = () => 'The machine at its start. Choose what a core does: 
 
 function showMoves() {
   const isFirst = drive.count === 0, isLast = drive.count === drive.words.length;
-  for (const button of document.querySelectorAll('[data-move]')) button.disabled = ['first', 'back'].includes(button.dataset.move) ? isFirst : isLast;
+  for (const button of byId('stepper').querySelectorAll('[data-move]')) button.disabled = ['first', 'back'].includes(button.dataset.move) ? isFirst : isLast;
   for (const id of ['play', 'draw-seed']) byId(id).disabled = isAtEnd(drive.count);
 }
 
@@ -39,11 +40,14 @@ function markCore() {
 }
 
 const SCROLLBAR = 17; // pixels, at most
+const FRAME_MOST = 0.68; // of the window's height, as the style has it
 
 function makePicture() {
   const room = byId('frame').parentElement.clientWidth - SCROLLBAR;
   const picture = drive.picture = Object.assign(new GrowingPicture(firstHistory(), room), { room });
   shown.layout = picture.layout;
+  byId('frame').classList.toggle('whole', picture.layout.width <= room);
+  byId('frame').style.containIntrinsicWidth = `${picture.layout.width}px`;
   byId('frame').replaceChildren(picture.element);
   byId('names').replaceChildren(drawNames(firstHistory(), picture.layout));
 }
@@ -51,6 +55,7 @@ function makePicture() {
 function showPicture() {
   if (drive.picture === null || drive.picture.isTooNarrow()) makePicture();
   drive.picture.show(drive.count);
+  byId('frame').classList.toggle('full', drive.picture.bottom - HEAD > FRAME_MOST * innerHeight);
 }
 
 /** Brings the last row into sight, and where the picture goes on to the side the lane of the core that acted. */
@@ -77,7 +82,7 @@ function showEnd(history) {
   showPasses(history);
   byId('at-end').hidden = run === null;
   byId('comparison').hidden = run === null;
-  for (const button of document.querySelectorAll('[data-save=line]')) button.disabled = run === null;
+  byId('saves').querySelector('[data-save=line]').disabled = run === null;
   if (run === null) return;
   byId('left').replaceChildren(...finalTables(run));
   if (byId('order-part').open) showOrder();
@@ -86,8 +91,8 @@ function showEnd(history) {
 
 /** Lists what loads passed so far. */
 function showPasses(history) {
-  const order = history.order.slice(0, history.momentAfter(drive.count).rows);
-  putItems(byId('passes'), history.hasEnded(drive.count) ? passesOf(order) : passesOf(order, 'None so far.'));
+  drive.passes ??= new PassList(byId('passes'));
+  drive.passes.show(history.order, history.momentAfter(drive.count).rows, history.hasEnded(drive.count));
 }
 
 const conditionSentence = ({ proposition }) => (proposition === null ? 'Condition: the test has none.' :

@@ -10,7 +10,7 @@ const readsOrder = command => command === 'check' || command === 'witness';
 function inputOf(command) {
   const test = byId('test').value, ended = test.endsWith('\n') || test === '' ? test : test + '\n';
   if (command !== 'run' && !readsOrder(command)) return ended;
-  return `${ended}${DIVIDING_LINE}\n${byId(readsOrder(command) ? 'given' : 'choices').value}`;
+  return `${ended}${DIVIDING_LINE}\n${readsOrder(command) ? byId('given').value : choicesText()}`;
 }
 
 /** The parts of a whole input: what is before the first dividing line, and what is after it, or null. */
@@ -26,10 +26,44 @@ function putInput(text) {
   const { test, rest } = partsOf(text.replace(/\r\n/g, '\n'));
   const isOrder = rest !== null && /^(Order|Endorder\b.*)$/m.test(rest);
   byId('test').value = test;
-  byId('choices').value = isOrder ? '' : rest ?? '';
+  putChoices(isOrder ? '' : rest ?? '');
   byId('given').value = isOrder ? rest : '';
   for (const id of ['test', 'given']) drawLines(id, null);
   return isOrder;
+}
+
+// The field of choices. A long text takes the browser some time to lay out, so where nobody sees the field the choices that are made
+// come there a little later.
+
+const choicesField = { unwritten: null, isInSight: true };
+
+/** What the field of choices holds, or will hold. */
+const choicesText = () => choicesField.unwritten ?? byId('choices').value;
+
+function putChoices(text) {
+  forgetUnwritten();
+  byId('choices').value = text;
+}
+
+/** What is typed into the field takes the place of what was to come. */
+function forgetUnwritten() {
+  choicesField.unwritten = null;
+}
+
+function putChoicesLater(text) {
+  choicesField.unwritten = text;
+  if (choicesField.isInSight) writeChoices();
+}
+
+/** Writes what has yet to come into the field. */
+function writeChoices() {
+  if (choicesField.unwritten !== null) putChoices(choicesField.unwritten);
+}
+
+/** Notes whether the field is in sight. */
+function seeChoices(isInSight) {
+  choicesField.isInSight = isInSight;
+  if (isInSight) writeChoices();
 }
 
 // A field that marks a line has a column of numbers and, under its text, a band for the line that is marked.
@@ -74,6 +108,6 @@ function markRefusal(line) {
   const place = placeOfRefusal(line);
   for (const id of ['test', 'given']) drawLines(id, place?.field === id && place.line ? place.line : null);
   for (const id of ['test', 'choices', 'given']) byId(id).setAttribute('aria-invalid', String(place?.field === id));
-  const word = place?.word ? wordAt(byId('choices').value, place.word) : undefined;
+  const word = place?.word ? wordAt(choicesText(), place.word) : undefined;
   byId('refused-word').textContent = word === undefined ? '' : `Word ${place.word} is ${word}`;
 }

@@ -1,9 +1,14 @@
 'use strict';
 
 // The picture of a run that isn't over: its rows come and go with the steps. Under the last row stands what waits.
+//
+// It is made of sheets, one over the other: each layer of the picture has one for each piece of so many rows. What a step adds goes
+// to the last piece, so the browser lays out and paints the last sheets anew, and lets all others be. What reaches over the rows of
+// other pieces is on the sheet of its last row, and hangs over this sheet's edge.
 
 const STRIP = 34; // pixels under the last row
-const LAYERS = ['grid', 'frames', 'waits', 'arrows', 'entries'];
+const PIECE = 16; // rows
+const LAYERS = ['grounds', 'waits', 'arrows', 'entries'];
 
 /** A store that waits: its bar from the moment at which it went in down into the strip. */
 class WaitingBar {
@@ -21,6 +26,12 @@ class WaitingBar {
   reach(bottom) {
     setAll(this.bar, { height: bottom - this.top });
   }
+}
+
+/** Makes rows those of the first `count` entries of an order: takes the last ones away while they are of others, and adds what lacks. */
+function growRows(rows, order, count, add, take) {
+  while (rows.length > 0 && (rows.length > count || rows.at(-1).entry !== order[rows.length - 1])) take(rows.pop());
+  while (rows.length < count) rows.push(add(order[rows.length]));
 }
 
 /** How many entries a run of these programs makes. */
@@ -41,25 +52,64 @@ function drawHalf(layout, half) {
     fittingText({ x: x + width / 2, y: 21 }, 13, labelOf(half, 12), width - 8));
 }
 
-/** Its drawing is as high as it may become, of which the window shows what has come: so no step has all of it laid out anew. */
+/** What one entry adds to the layers. A locked instruction's frame comes with its store part, over the line between its rows. */
+function drawRow(history, layout, entry) {
+  const y = layout.top(entry.index);
+  return {
+    grounds: [
+      svg('line', { class: 'row', x1: GUTTER, x2: layout.width, y1: y, y2: y }),
+      textAt({ class: 'faint', x: GUTTER - 8, y: layout.top(entry.index + 0.5) + 4, 'text-anchor': 'end' }, 12, String(entry.index + 1)),
+      ...(entry.kind === 'LW' ? [drawFrame(layout, history.order[entry.index - 1])] : [])],
+    waits: entry.track === undefined ? [] : [drawWait(history, layout, entry)],
+    arrows: isRead(entry) ? [drawSource(history, layout, entry)] : [],
+    entries: [drawEntry(history, layout, entry)],
+  };
+}
+
+/** A layer of the picture: in it each piece has a sheet, and on this each row a group of its own, so that little is new to the browser
+ * where a row is filled. */
+class Layer {
+  /** Where `isUnder`, what comes later goes under what is there: a store's way goes over the bars of later ones. */
+  constructor(layout, isUnder) {
+    Object.assign(this, { layout, isUnder, groups: [] });
+    this.element = html('div', { class: 'layer' });
+  }
+
+  fill(row, parts) {
+    if (parts.length === 0) return;
+    if (!this.groups[row]) this.addSheet(row - row % PIECE);
+    this.groups[row].append(...parts);
+  }
+
+  empty(row) {
+    this.groups[row]?.replaceChildren();
+  }
+
+  /** Adds the sheet of the piece that begins with this row. */
+  addSheet(first) {
+    const groups = Array.from({ length: PIECE }, () => svg('g', {})), inOrder = this.isUnder ? groups.toReversed() : groups;
+    groups.forEach((group, at) => { this.groups[first + at] = group; });
+    this.element[this.isUnder ? 'prepend' : 'append'](drawSheet(this.layout, this.layout.top(first), PIECE * ROW, ...inOrder));
+  }
+}
+
+/** A sheet, which lies at its place in the picture and has the picture's measures. */
+function drawSheet({ width }, top, height, ...parts) {
+  const sheet = svg('svg', { class: 'sheet', 'aria-hidden': 'true', width, height, viewBox: `0 ${top} ${width} ${height}` }, ...parts);
+  sheet.style.top = `${top - HEAD}px`;
+  return sheet;
+}
+
 class GrowingPicture {
   constructor(history, width) {
     this.history = history;
     this.layout = { ...layoutOf(history, width) };
     this.rows = [];
     this.arrowsNow = [];
-    this.layers = Object.fromEntries(LAYERS.map(name => [name, svg('g', {})]));
+    this.forwarded = new Map();
+    this.layers = Object.fromEntries(LAYERS.map(name => [name, new Layer(this.layout, name === 'waits')]));
     this.makeStrip();
-    this.band = svg('rect', { class: 'band', x: 0, width: this.layout.width });
-    const { lane, left } = this.layout;
-    const height = this.layout.top(mostRows(history.programs)) + STRIP;
-    const lanes = coresOf(history).map(core => svg('rect', { class: 'lane', x: left(core), y: 1, width: lane, height }));
-    this.cursor = svg('line', { class: 'cursor', x1: 0, x2: this.layout.width });
-    const size = { width: this.layout.width, height: height - HEAD, viewBox: `0 ${HEAD} ${this.layout.width} ${height - HEAD}` };
-    this.drawing = svg('svg', { class: 'picture growing', role: 'img', ...size },
-      this.band, svg('g', { class: 'names' }, ...coresOf(history).map(core => drawName(this.layout, core, 23))),
-      ...lanes, ...LAYERS.map(name => this.layers[name]), this.waiting, this.strip, this.cursor);
-    this.element = html('div', { class: 'grown' }, this.drawing);
+    this.makeSheets();
   }
 
   /** What goes on down with the rows: the bars of the stores that wait, and the strip, which moves as a whole. */
@@ -72,6 +122,45 @@ class GrowingPicture {
     this.strip = svg('g', {}, ...this.stores.map(({ element }) => element), this.half);
   }
 
+  /** Under the layers the lanes with the mark of the last step, and over them what goes on down. Both are as high as the picture may
+   * become, of which the window shows what has come: so no step has all of it laid out anew. */
+  makeSheets() {
+    const { history, layout } = this, { width, lane, left } = layout;
+    const height = layout.top(mostRows(history.programs)) + STRIP;
+    this.band = svg('rect', { class: 'band', x: 0, width });
+    this.cursor = svg('line', { class: 'cursor', x1: 0, x2: width });
+    const lanes = coresOf(history).map(core => svg('rect', { class: 'lane', x: left(core), y: 1, width: lane, height }));
+    const names = svg('g', { class: 'names' }, ...coresOf(history).map(core => drawName(layout, core, 23)));
+    this.lowest = drawSheet(layout, HEAD, height - HEAD, this.band, names, ...lanes);
+    this.lowest.classList.add('lowest');
+    this.highest = drawSheet(layout, HEAD, height - HEAD, this.waiting, this.strip, this.cursor);
+    this.extent = html('div', {}); // gives all of it its height: the browser then looks anew at this empty element alone
+    const layers = Object.values(this.layers).map(({ element }) => element);
+    this.element = html('div', { class: 'grown', role: 'img' }, this.extent, this.lowest, ...layers, this.highest);
+    this.element.style.width = `${width}px`;
+  }
+
+  /** All that is drawn, the lowest first. */
+  get parts() {
+    return [...this.element.querySelectorAll('.sheet > :not(g:empty)')];
+  }
+
+  get label() {
+    return this.element.getAttribute('aria-label');
+  }
+
+  /** For paper: what has come as one picture, or where that doesn't go on one page in pieces of whole rows, between which a page may end. */
+  onPaper() {
+    const { label, bottom, layout: { width, top } } = this, rows = this.rows.length, above = this.element.getBoundingClientRect().top - HEAD;
+    const placed = this.parts.map(part => [part, part.getBoundingClientRect()]);
+    const piece = rows > PAPER.whole ? PAPER.piece : Math.max(1, rows);
+    return Array.from({ length: Math.max(1, Math.ceil(rows / piece)) }, (_, at) => {
+      const y = top(at * piece), end = (at + 1) * piece < rows ? top((at + 1) * piece) : bottom;
+      const parts = placed.filter(([, box]) => box.top - above < end && box.bottom - above > y).map(([part]) => part.cloneNode(true));
+      return svg('svg', { class: 'picture', width, height: end - y, viewBox: `0 ${y} ${width} ${end - y}`, role: 'img', 'aria-label': label }, ...parts);
+    });
+  }
+
   /** Whether the history has come to more bars side by side than this picture has room for. */
   isTooNarrow() {
     return this.history.tracks > this.layout.tracks;
@@ -80,12 +169,12 @@ class GrowingPicture {
   /** Shows the order after so many steps. */
   show(count) {
     const { rows, waiting, half } = this.history.momentAfter(count), before = this.history.momentAfter(count - 1 < 0 ? 0 : count - 1).rows;
-    while (this.rows.length > 0 && (this.rows.length > rows || this.rows.at(-1).entry !== this.history.order[this.rows.length - 1])) this.take();
-    while (this.rows.length < rows) this.add(this.history.order[this.rows.length]);
+    growRows(this.rows, this.history.order, rows, entry => this.add(entry), row => this.take(row));
     this.size(rows, before);
     this.showBars(waiting.flat());
     this.stores.forEach((part, core) => part.show(waiting[core].map(store => `${store.location}=${store.value}`).join(' ')));
-    this.half.replaceChildren(...(half ? [drawHalf(this.layout, half)] : []));
+    if (half !== this.halfShown) this.half.replaceChildren(...(half ? [drawHalf(this.layout, half)] : []));
+    this.halfShown = half;
   }
 
   showBars(stores) {
@@ -110,8 +199,8 @@ class GrowingPicture {
   size(rows, before) {
     const { layout } = this;
     this.bottom = layout.top(rows) + STRIP;
-    this.element.style.height = `${this.bottom - HEAD}px`;
-    setAll(this.drawing, { 'aria-label': `Memory order of the run so far: ${rows} entries. The store buffers and the last step stand above in words.` });
+    this.extent.style.height = `${this.bottom - HEAD}px`;
+    setAll(this.element, { 'aria-label': `Memory order of the run so far: ${rows} entries. The store buffers and the last step stand above in words.` });
     setAll(this.band, { y: layout.top(before), height: (rows - before) * ROW, visibility: rows > before ? 'visible' : 'hidden' });
     setAll(this.cursor, { y1: layout.top(rows), y2: layout.top(rows) });
     setAll(this.strip, { transform: `translate(0 ${layout.top(rows)})` });
@@ -122,31 +211,28 @@ class GrowingPicture {
 
   /** Adds the row of an entry to each layer. */
   add(entry) {
-    const { history, layout, layers } = this, y = layout.top(entry.index);
-    const parts = { grid: [
-      svg('line', { class: 'row', x1: GUTTER, x2: layout.width, y1: y, y2: y }),
-      textAt({ class: 'faint', x: GUTTER - 8, y: layout.top(entry.index + 0.5) + 4, 'text-anchor': 'end' }, 12, String(entry.index + 1))] };
-    if (entry.kind === 'LR') parts.frames = [drawFrame(layout, entry)];
-    if (entry.track !== undefined) parts.waits = [drawWait(history, layout, entry)];
-    if (isRead(entry)) parts.arrows = [drawSource(history, layout, entry)];
-    parts.entries = [drawEntry(history, layout, entry)];
-    for (const [name, made] of Object.entries(parts)) {
-      if (name === 'waits') layers[name].prepend(...made); // a store's way goes over the bars of later ones
-      else layers[name].append(...made);
-    }
-    this.rows.push({ entry, parts: Object.values(parts).flat(), arrow: parts.arrows?.[0] });
+    const parts = drawRow(this.history, this.layout, entry), [arrow] = parts.arrows;
+    const store = entry.source?.index > entry.index ? entry.source : null; // one that was forwarded to this load
+    for (const name of LAYERS) this.layers[name].fill(entry.index, parts[name]);
+    if (store) this.arrowsOf(store).push(arrow);
     this.nameSource(entry, entry.index);
+    return { entry, store, arrow };
   }
 
-  take() {
-    const { entry, parts } = this.rows.pop();
-    for (const part of parts) part.remove();
+  take({ entry, store }) {
+    for (const name of LAYERS) this.layers[name].empty(this.rows.length);
+    if (store) this.arrowsOf(store).pop();
     this.nameSource(entry, 'waits');
   }
 
-  /** Notes at the arrows to loads that a store was forwarded to where in the order the store stands. */
+  /** The arrows to the loads that a store was forwarded to. */
+  arrowsOf(store) {
+    if (!this.forwarded.has(store)) this.forwarded.set(store, []);
+    return this.forwarded.get(store);
+  }
+
+  /** Notes at these arrows where in the order the store stands. */
   nameSource(store, index) {
-    if (store.track === undefined) return;
-    for (const { entry, arrow } of this.rows) if (entry.source === store) arrow.setAttribute('data-from', index);
+    for (const arrow of this.forwarded.get(store) ?? []) arrow.setAttribute('data-from', index);
   }
 }

@@ -5,6 +5,7 @@
 const MOST_SLOTS = 8; // of a store buffer that are drawn while they are free
 const MOST_LINES = 8; // of a program that are in sight at a time
 const LINE = 20; // pixels: the height of a program's line, as the style has it
+const CACHED = { most: 4, height: 25 }; // rows of a cache that have room while they aren't there, and a row's pixels
 
 const marked = (name, isChanged) => (isChanged ? { class: `${name} changed` } : { class: name });
 const hidden = text => html('span', { class: 'unshown' }, text);
@@ -59,7 +60,7 @@ class CorePanel {
     this.core = core;
     this.program = programs[core];
     this.depth = options.depth;
-    this.makeParts();
+    this.makeParts(options);
     this.element = html('section', { class: 'core', 'data-core': core, 'aria-label': `Core P${core}` },
       html('h4', {}, `P${core}`), html('div', { class: 'core-buttons' }, this.step, this.drain),
       html('h5', {}, 'Program'), this.list, html('h5', {}, 'Registers'), this.registers.element,
@@ -67,7 +68,7 @@ class CorePanel {
       html('h5', {}, 'Cache'), this.cache);
   }
 
-  makeParts() {
+  makeParts({ sets, ways }) {
     const button = (way, name) => html('button', { type: 'button', 'data-choice': `${this.core}${name}` }, `${way} `, html('code', {}));
     const list = (name, label, draw) => new Part(html('ul', { class: name, 'aria-label': label }), draw);
     this.step = button('step', 's');
@@ -76,16 +77,18 @@ class CorePanel {
     this.registers = list('registers', 'Registers', registerItems);
     this.buffer = list('buffer', 'Store buffer, the oldest store first', bufferItems);
     this.lines = new Part(html('tbody', {}), cacheRows);
-    this.cache = html('table', { class: 'cache', 'aria-label': 'Cache' }, this.lines.element);
+    this.cache = html('div', {}, html('table', { class: 'cache', 'aria-label': 'Cache' }, this.lines.element));
+    this.cache.style.minHeight = `${Math.min(CACHED.most, sets * ways + 1) * CACHED.height}px`; // one row more, for a line that leaves
   }
 
-  /** Shows the core as it is after a step and what that step changed. */
-  show(now, before, { bus, changes, hasEnded, isLast }) {
-    const core = now.cores[this.core], old = before.cores[this.core];
+  /** Shows the core as it is after a step and what that step changed. `bus` is the bus where this core holds it, and else null. */
+  show(core, old, { bus, changes, hasEnded, isLast }) {
+    const key = JSON.stringify([core, old, bus, changes, hasEnded, isLast]);
+    if (key === this.key) return;
+    this.key = key;
     this.registers.show(core.registers, old.registers);
     this.buffer.show(core.buffer, old.buffer, this.depth);
-    const isAwaited = bus?.core === this.core && bus.state?.length > 1;
-    this.lines.show(core.lines, changes.filter(change => change.core === this.core), isAwaited ? { line: bus.line, state: bus.state } : null);
+    this.lines.show(core.lines, changes, bus?.state?.length > 1 ? { line: bus.line, state: bus.state } : null);
     this.showButtons(core, bus, hasEnded);
     this.showPlace(core.place, core.place !== old.place);
     this.element.classList.toggle('acted', isLast);
@@ -158,7 +161,10 @@ class MachinePanel {
     const { history } = this, last = count <= history.steps.length ? history.steps[count - 1] : undefined;
     const now = history.machineAfter(count), before = last ? history.machineAfter(count - 1) : now;
     const changes = last ? stateChanges(last) : [], hasEnded = history.hasEnded(count);
-    this.panels.forEach((panel, core) => panel.show(now, before, { bus: now.bus, changes, hasEnded, isLast: last !== undefined && coreOfChoice(last.choice) === core }));
+    this.panels.forEach((panel, core) => panel.show(now.cores[core], before.cores[core], {
+      bus: now.bus?.core === core ? now.bus : null, changes: changes.filter(change => change.core === core), hasEnded,
+      isLast: last !== undefined && coreOfChoice(last.choice) === core,
+    }));
     this.bus.show(history.options.bus, now.bus, last && { transaction: last.transaction, flush: last.flush, write_back: last.write_back });
     this.memory.show({ memory: now.memory, seen: now.seen }, { memory: before.memory, seen: before.seen });
     this.said.textContent = count > history.steps.length ? 'Its test had ended before: this choice is left over.' : last ? stepSentences(last, before).join(' ') : '';

@@ -46,6 +46,8 @@ document.addEventListener('drop', event => {
   if (files.length > 0) takeFile(files[0]);
   else takeText(event.dataTransfer.getData('text'));
 });
+new IntersectionObserver(seen => seeChoices(seen.at(-1).isIntersecting)).observe(byId('choices'));
+byId('choices').addEventListener('input', forgetUnwritten);
 for (const id of WRITTEN) byId(id).addEventListener('input', answerNow);
 for (const id of ['test', 'given']) byId(id).addEventListener('scroll', () => placeLines(id));
 byId('commands').addEventListener('change', () => {
@@ -71,7 +73,8 @@ window.addEventListener('resize', () => {
   if ((shown.run || drive.isOn) && !matchMedia('print').matches) redraw();
 });
 window.addEventListener('beforeprint', () => {
-  if (shown.run?.order.length > PAPER.whole && !drive.isOn) byId('frame').replaceChildren(...drawPieces(shown.run, shown.layout));
+  if (drive.isOn) byId('frame').replaceChildren(...drive.picture.onPaper());
+  else if (shown.run?.order.length > PAPER.whole) byId('frame').replaceChildren(...drawPieces(shown.run, shown.layout));
 });
 window.addEventListener('afterprint', () => (shown.run || drive.isOn) && redraw());
 window.addEventListener('hashchange', showAddress);

@@ -21,27 +21,31 @@ const saveText = (name, text, type = 'text/plain') => saveFile(name, new Blob([t
 const STYLED = ['fill', 'stroke', 'stroke-width', 'stroke-dasharray', 'opacity', 'font-family', 'font-weight', 'font-size', 'text-anchor'];
 const OF_THE_SCREEN = '.unseen, .cursor, .band';
 
-/** Of a picture of a run that isn't over what has come, with the lanes' names, which stand apart from it on the page. */
-function showWhole(copy) {
-  if (drive.isOn) setAll(copy, { viewBox: `0 0 ${copy.viewBox.baseVal.width} ${drive.picture.bottom}`, height: drive.picture.bottom });
+/** The picture that is shown: its parts, the lowest first, and its measures. Of a run that isn't over it is what has come, with the
+ * lanes' names, which stand apart from it on the page. */
+function pictureNow() {
+  if (drive.isOn) return { parts: drive.picture.parts, label: drive.picture.label, y: 0, width: drive.picture.layout.width, height: drive.picture.bottom };
+  const picture = byId('frame').firstChild, { y, width, height } = picture.viewBox.baseVal;
+  return { parts: [...picture.children], label: picture.getAttribute('aria-label'), y, width, height };
 }
 
-/** The picture alone, with its style in its attributes. */
-function savedPicture(picture) {
-  const copy = picture.cloneNode(true);
-  showWhole(copy);
-  const [shownParts, parts] = [picture, copy].map(root => [...root.querySelectorAll('*')]);
+/** A copy of something that is drawn, with its style in its attributes. */
+function styledCopy(drawn) {
+  const copy = drawn.cloneNode(true), [shownParts, parts] = [drawn, copy].map(root => [root, ...root.querySelectorAll('*')]);
   shownParts.forEach((part, at) => {
     const style = getComputedStyle(part);
     for (const name of STYLED) parts[at].setAttribute(name, style.getPropertyValue(name));
   });
-  for (const part of copy.querySelectorAll(OF_THE_SCREEN)) part.remove();
-  const point = byId('point').cloneNode(true);
-  point.firstElementChild.setAttribute('fill', getComputedStyle(byId('point').firstElementChild).fill);
-  const { y, width, height } = copy.viewBox.baseVal;
+  return copy;
+}
+
+/** The picture alone, as a text that needs no style. */
+function savedPicture({ parts, label, y, width, height }) {
+  const kept = parts.filter(part => !part.matches(OF_THE_SCREEN));
   const ground = svg('rect', { y, width, height, fill: getComputedStyle(document.body).backgroundColor });
-  copy.prepend(svg('defs', {}, point), ground);
-  return '<?xml version="1.0" encoding="UTF-8"?>\n' + new XMLSerializer().serializeToString(copy) + '\n';
+  const picture = svg('svg', { class: 'picture', width, height, viewBox: `0 ${y} ${width} ${height}`, role: 'img', 'aria-label': label },
+    svg('defs', {}, styledCopy(byId('point'))), ground, ...kept.map(styledCopy));
+  return '<?xml version="1.0" encoding="UTF-8"?>\n' + new XMLSerializer().serializeToString(picture) + '\n';
 }
 
 /** The picture in points, at twice its size. */
@@ -66,8 +70,6 @@ function saveInput() {
   const command = currentCommand();
   saveText(fileName(testName(), readsOrder(command) ? '.order' : '.litmus'), inputOf(command));
 }
-
-const pictureNow = () => (drive.isOn ? drive.picture.drawing : byId('frame').firstChild);
 
 const pictureName = () => (drive.isOn ? testName() : shown.run.test);
 
