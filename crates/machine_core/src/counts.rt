@@ -43,6 +43,7 @@ impl Counts {
 }
 
 /// Counts what a choice of this core had to do with the caches.
+#[inline(always)]
 pub fn tally(counts: &mut [Counts], core: Core, cache_use: CacheUse)
     requires core { core.0 < length counts.old }
     requires flusher { IsFlusherAmong (length counts.old) cache_use }
@@ -62,6 +63,7 @@ pub fn tally(counts: &mut [Counts], core: Core, cache_use: CacheUse)
 }
 
 /// Counts an access of the core itself.
+#[inline(always)]
 fn tally_access(counts: &mut Counts, access: Access)
     requires few { IsAtMost most_counted counts.old }
     ensures value { counts.new ≡ with_write_back access.wrote_back (with_access access.kind counts.old) }

@@ -1,6 +1,7 @@
 //! What a machine consists of, and what a choice does to it: one core acts, on the caches' bus and on the list of commits.
 //! A stall, or memory that is refused, must leave all of them as they were; a choice made by half would put memory order
-//! and memory at odds.
+//! and memory at odds. A choice passes many small functions, here and on the bus: they are inlined, since each would
+//! else lay out anew in memory what the choice answers.
 
 ghost use Rattle.std.specs.Prelude.{◌≡◌, ℕ, ◌<◌, ◌≤◌, None, IfOk, OnOk, OnErr, All, length, map, replicate, slice_get, take};
 ghost use Rattle.tso_model.specs.Limits.{most_depth};
@@ -111,6 +112,7 @@ fn processors_of(alloc: Global, test: &Test, depth: u8) -> Result<Vec<Processor>
 /// Makes a choice, counts what it had to do with the caches, and answers its outcome and that.
 ///
 /// Errors: out of memory only; nothing is changed then.
+#[inline(always)]
 pub fn make_choice<P: Protocol>(
     hardware: &mut Hardware<P>,
     test: &Test,
@@ -157,6 +159,7 @@ pub fn core_of(choice: Choice) -> Core
 }
 
 /// Makes a choice on the kind of bus that there is. On the atomic bus every choice is whole.
+#[inline(always)]
 fn act_on_bus<P: Protocol>(
     hardware: &mut Hardware<P>,
     test: &Test,
@@ -179,6 +182,7 @@ fn act_on_bus<P: Protocol>(
 }
 
 /// Makes a choice whose access is made this way, and answers its outcome and what it had to do with the caches.
+#[inline(always)]
 pub fn act<P: Protocol>(
     hardware: &mut Hardware<P>,
     test: &Test,
@@ -211,6 +215,7 @@ pub fn act<P: Protocol>(
 }
 
 /// A step of a core at its next instruction, if there is one.
+#[inline(always)]
 fn step<P: Protocol>(
     hardware: &mut Hardware<P>,
     test: &Test,

@@ -28,6 +28,7 @@ pub struct Locked {
 
 /// A locked instruction waits until nothing is pending. Then it reads the word into the register and
 /// writes what the update makes of the word and the register's value, both at once.
+#[inline(always)]
 pub fn read_and_write<P: Protocol>(
     processor: &mut Processor,
     core: Core,
@@ -59,6 +60,7 @@ pub fn read_and_write<P: Protocol>(
 /// Notes both parts of a locked instruction that made this of the word.
 ///
 /// Errors: out of memory only, and not where there is room for both.
+#[inline(always)]
 fn note_locked(
     commits: &mut Commits,
     core: Core,

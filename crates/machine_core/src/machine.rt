@@ -87,6 +87,7 @@ impl<'a, P: Protocol> Machine<'a, P> {
     ///
     /// Errors: out of memory only, which a choice takes only where it commits; then the machine
     /// has failed, and each later call fails as well.
+    #[inline(always)]
     pub fn choose(&mut self, choice: Choice) -> Result<Outcome, NoMemory>
         requires { chosen choice < length self.old.test.programs }
 
@@ -113,6 +114,7 @@ impl<'a, P: Protocol> Machine<'a, P> {
     ///
     /// Errors: out of memory only, which a choice takes only where it commits; then the machine
     /// has failed, and each later call fails as well.
+    #[inline(always)]
     pub fn choose_telling(&mut self, choice: Choice) -> Result<(Outcome, CacheUse), NoMemory>
         requires { chosen choice < length self.old.test.programs }
 

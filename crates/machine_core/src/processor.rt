@@ -82,6 +82,7 @@ impl Processor {
 /// A step of the core at this instruction, which is its next.
 ///
 /// Errors: out of memory only; nothing is changed then.
+#[inline(always)]
 pub fn step<P: Protocol>(
     processor: &mut Processor,
     turn: Turn,
@@ -121,6 +122,7 @@ pub fn step<P: Protocol>(
 }
 
 /// A plain store waits in the buffer. Without one it goes to memory at once.
+#[inline(always)]
 fn store<P: Protocol>(
     processor: &mut Processor,
     turn: Turn,
@@ -150,6 +152,7 @@ fn store<P: Protocol>(
 }
 
 /// A plain store waits in the buffer, or stalls where that is full.
+#[inline(always)]
 fn buffer(processor: &mut Processor, loc: Loc, value: u32) -> Outcome
     requires place { processor.old.place < most_instructions }
     requires depth { 0 < processor.old.stores.depth }
@@ -168,6 +171,7 @@ fn buffer(processor: &mut Processor, loc: Loc, value: u32) -> Outcome
 }
 
 /// A load reads the newest own store to the location, or memory's word where none is pending.
+#[inline(always)]
 fn load<P: Protocol>(
     processor: &mut Processor,
     turn: Turn,
@@ -192,6 +196,7 @@ fn load<P: Protocol>(
 }
 
 /// The value of the newest store to the location, or memory's word where none is pending.
+#[inline(always)]
 fn see<P: Protocol>(
     stores: &PendingStores,
     turn: Turn,
@@ -217,6 +222,7 @@ fn see<P: Protocol>(
 }
 
 /// The word at a location of the bus, and what the access was.
+#[inline(always)]
 fn read<P: Protocol>(turn: Turn, loc: Loc, bus: &mut SnoopBus<P>) -> Result<(u32, Access), NoMemory>
     requires access { MayAccess turn bus.old loc (Reads loc) }
 
@@ -243,6 +249,7 @@ fn set(processor: &mut Processor, reg: Reg, value: u32) -> Outcome
 }
 
 /// A fence waits until nothing is pending.
+#[inline(always)]
 fn fence(
     processor: &mut Processor,
     core: Core,
@@ -274,6 +281,7 @@ pub fn advance(processor: &mut Processor, reg: Reg, value: u32)
 /// The oldest pending store goes to memory, if there is one.
 ///
 /// Errors: out of memory only; nothing is changed then.
+#[inline(always)]
 pub fn drain<P: Protocol>(
     processor: &mut Processor,
     turn: Turn,
@@ -304,6 +312,7 @@ pub fn drain<P: Protocol>(
 /// A plain store goes to memory, and is noted.
 ///
 /// Errors: out of memory only; nothing is changed then.
+#[inline(always)]
 fn write<P: Protocol>(
     turn: Turn,
     store: Pending,
@@ -326,6 +335,7 @@ fn write<P: Protocol>(
 }
 
 /// Writes the word at a location of the bus, and answers what the access was.
+#[inline(always)]
 fn write_word<P: Protocol>(
     turn: Turn,
     loc: Loc,

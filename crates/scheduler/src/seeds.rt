@@ -1,7 +1,7 @@
 //! The choices of a seed. They are decided by a published generator (PCG XSH RR 64/32, O'Neill) and not by the machine that
 //! it runs on, so that a seed gives the same run everywhere.
 
-ghost use Rattle.std.specs.Prelude.{◌≡◌, ◌<◌, ◌++◌, IfOk, OnOk};
+ghost use Rattle.std.specs.Prelude.{◌≡◌, ◌*◌, ◌%◌, ◌<◌, ◌++◌, IfOk, OnOk};
 ghost use Rattle.scheduler.specs.Seeds.{choice_of_word, seeded_choices};
 
 use crate::coming::{Choices, Seeded};
@@ -14,12 +14,27 @@ pub fn choice_of_word(cores: u8, word: u32) -> Choice
     requires { 0 < cores }
     ensures { result ≡ choice_of_word cores word }
 {
-    let pick = word % (2 * u32::from(cores));
+    let pick = pick_of(cores, word);
     let core = Core((pick / 2) as u8);
     if pick % 2 == 0 {
         Choice::Step(core)
     } else {
         Choice::Drain(core)
+    }
+}
+
+/// The word modulo twice the cores. A division is a good part of what a choice costs, so none is made where that
+/// divisor is a power of two.
+fn pick_of(cores: u8, word: u32) -> u32
+    requires { 0 < cores }
+    ensures { result ≡ word % (2 * cores) }
+{
+    match cores {
+        1 => word % 2,
+        2 => word % 4,
+        4 => word % 8,
+        8 => word % 16,
+        _ => word % (2 * u32::from(cores)),
     }
 }
 

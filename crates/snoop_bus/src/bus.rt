@@ -101,6 +101,7 @@ impl<P: Protocol> SnoopBus<P> {
     /// who holds the bus stays: beside one who does, only a hit may be made.
     ///
     /// Errors: out of memory only, which a hit doesn't take; nothing is changed then.
+    #[inline(always)]
     pub fn load(&mut self, core: Core, loc: Loc) -> Result<(u32, Access), NoMemory>
         requires core { core.0 < cores_of self.old }
         requires loc { loc.0 < length (words_of self.old) }
@@ -118,6 +119,7 @@ impl<P: Protocol> SnoopBus<P> {
     /// Writes the word at a location. Answers what the access was. No other word that is seen changes.
     ///
     /// Errors: out of memory only, which a hit and an upgrade don't take; nothing is changed then.
+    #[inline(always)]
     pub fn store(&mut self, core: Core, loc: Loc, value: u32) -> Result<Access, NoMemory>
         requires core { core.0 < cores_of self.old }
         requires loc { loc.0 < length (words_of self.old) }
@@ -135,6 +137,7 @@ impl<P: Protocol> SnoopBus<P> {
     /// Writes the word at a location. Answers the word that was there, and what the one write access was.
     ///
     /// Errors: out of memory only, which a hit and an upgrade don't take; nothing is changed then.
+    #[inline(always)]
     pub fn swap(&mut self, core: Core, loc: Loc, value: u32) -> Result<(u32, Access), NoMemory>
         requires core { core.0 < cores_of self.old }
         requires loc { loc.0 < length (words_of self.old) }
@@ -172,6 +175,7 @@ impl<P: Protocol> SnoopBus<P> {
     /// Makes of the word at a location what the update makes of it and of this value, by one write access.
     ///
     /// Errors: out of memory only, which a hit and an upgrade don't take; nothing is changed then.
+    #[inline(always)]
     pub fn update(
         &mut self,
         core: Core,

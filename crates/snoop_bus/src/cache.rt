@@ -1,6 +1,6 @@
 //! The whole cache of one core. Each step says what it makes of the sets (`exact`), what is then found
 //! at each line (`copies`), and that the room in each set stays (`ways`).
-ghost use Rattle.std.specs.Prelude.{◌≡◌, ◌≢◌, ◌<◌, ℕ, [], Some, None, IsSome, IfOk, IfSome, OnErr};
+ghost use Rattle.std.specs.Prelude.{◌≡◌, ◌≢◌, ◌<◌, ◌%◌, ℕ, [], Some, None, IsSome, IfOk, IfSome, OnErr};
 ghost use Rattle.std.specs.Prelude.{length, map, replicate, slice_index_or, option_copied, option_map};
 ghost use Rattle.cache_set.specs.Limits.{most_words};
 ghost use Rattle.cache_set.specs.Contents.{contents, victim_of};
@@ -65,6 +65,19 @@ impl Cache {
         &self.sets[usize::from(set)]
     }
 
+    /// The number of a line's set. A cache of one set does without the division, which costs more than the look-up that
+    /// follows.
+    fn home(&self, line: u8) -> usize
+        ensures value { result ≡ line % length self.now }
+        ensures within { result < length self.now }
+    {
+        let count = self.sets.len();
+        if count == 1 {
+            return 0;
+        }
+        usize::from(line) % count
+    }
+
     /// The copy of a line, if there is one.
     pub fn look(&self, line: u8) -> Option<&Line>
         ensures found { option_copied result ≡ copy_in self.now line }
@@ -72,7 +85,7 @@ impl Cache {
         ensures home { AtHome self.now }
         ensures not_invalid { IfSome (copy_in self.now line) (λ copy. copy.state ≢ State.I) }
     {
-        self.sets[usize::from(line) % self.sets.len()].look(line)
+        self.sets[self.home(line)].look(line)
     }
 
     /// A line that is here was used.
@@ -83,7 +96,7 @@ impl Cache {
         ensures copies { (k : ℕ) → copy_in self.new k ≡ copy_in self.old k }
         ensures ways { ways_in self.new ≡ ways_in self.old }
     {
-        let at = usize::from(line) % self.sets.len();
+        let at = self.home(line);
         let set = &mut self.sets[at];
         set.touch(line);
     }
@@ -106,7 +119,7 @@ impl Cache {
         ensures err { OnErr result (self.new ≡ self.old) }
         ensures ways { ways_in self.new ≡ ways_in self.old }
     {
-        let at = usize::from(line) % self.sets.len();
+        let at = self.home(line);
         let set = &mut self.sets[at];
         set.fill(line, state, words)
     }
@@ -119,7 +132,7 @@ impl Cache {
         ensures copies { OnlyAt line (option_map (with_state state)) self.old self.new }
         ensures ways { ways_in self.new ≡ ways_in self.old }
     {
-        let at = usize::from(line) % self.sets.len();
+        let at = self.home(line);
         let set = &mut self.sets[at];
         set.set_state(line, state);
     }
@@ -132,7 +145,7 @@ impl Cache {
         ensures copies { OnlyAt line (option_map (with_word offset value)) self.old self.new }
         ensures ways { ways_in self.new ≡ ways_in self.old }
     {
-        let at = usize::from(line) % self.sets.len();
+        let at = self.home(line);
         let set = &mut self.sets[at];
         set.write_word(line, offset, value);
     }
@@ -144,7 +157,7 @@ impl Cache {
         ensures copies { OnlyAt line (λ _. None) self.old self.new }
         ensures ways { ways_in self.new ≡ ways_in self.old }
     {
-        let at = usize::from(line) % self.sets.len();
+        let at = self.home(line);
         let set = &mut self.sets[at];
         set.drop_line(line);
     }

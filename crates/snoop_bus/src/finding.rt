@@ -44,33 +44,24 @@ impl Found {
     }
 
     /// One core more has a copy, which does this at the request.
-    fn with(self, core: usize, copy: Line, snoop: Snoop) -> Found
+    fn note(&mut self, core: usize, copy: &Line, snoop: Snoop)
         requires { core < most_cores }
-        ensures { result ≡ noting core copy snoop self }
+        ensures { self.new ≡ noting core copy.now snoop self.old }
     {
-        let mut states = self.states;
-        states[core] = Some(copy.state);
-        let words = if self.words.is_none() && snoop.supplies {
-            Some(copy.words)
-        } else {
-            self.words
-        };
-        let flushed = if self.flushed.is_none() && snoop.to_memory {
-            Some(Core(core as u8))
-        } else {
-            self.flushed
-        };
-        Found {
-            words,
-            shared: true,
-            flushed,
-            states,
+        if self.words.is_none() && snoop.supplies {
+            self.words = Some(copy.words);
         }
+        if self.flushed.is_none() && snoop.to_memory {
+            self.flushed = Some(Core(core as u8));
+        }
+        self.shared = true;
+        self.states[core] = Some(copy.state);
     }
 }
 
 impl Hierarchy {
     /// Looks for the line once in each cache.
+    #[inline(always)]
     pub fn find<P: Protocol>(&self, protocol: &P, request: Request, line: u8) -> Found
         requires few { length self.now.caches.items ≤ most_cores }
         ensures words { HasSupplied (asked (P.table protocol.now) request) self.now.caches.items line result.words }
@@ -80,9 +71,9 @@ impl Hierarchy {
     {
         let mut found = Found::nothing();
         for core in 0..self.caches.len() {
-            if let Some(copy) = self.caches[core].look(line).copied() {
+            if let Some(copy) = self.caches[core].look(line) {
                 let snoop = answer(protocol, request, copy.state);
-                found = found.with(core, copy, snoop);
+                found.note(core, copy, snoop);
             }
         }
         found

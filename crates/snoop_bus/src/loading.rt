@@ -21,6 +21,7 @@ impl Hierarchy {
     /// A core's load of a word of a line: the word, and what the access was.
     ///
     /// Errors: out of memory only, which only a miss takes; nothing is changed then.
+    #[inline(always)]
     pub fn load<P: Protocol>(
         &mut self,
         protocol: &P,

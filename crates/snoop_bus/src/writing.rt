@@ -26,6 +26,7 @@ impl Hierarchy {
     /// A core's write access to a line, which makes this change to the word. Answers the word before and after, and what the access was.
     ///
     /// Errors: out of memory only, which only a miss takes; nothing is changed then.
+    #[inline(always)]
     pub fn update<P: Protocol>(
         &mut self,
         protocol: &P,
@@ -61,6 +62,7 @@ impl Hierarchy {
     /// no other core has one. Answers the words that the line has, and what the access was.
     ///
     /// Errors: out of memory only, which only a miss takes; nothing is changed then.
+    #[inline(always)]
     fn acquire<P: Protocol>(
         &mut self,
         protocol: &P,
@@ -97,6 +99,7 @@ impl Hierarchy {
     }
 
     /// A core's copy of a line goes to another state than I, and to the front of its set.
+    #[inline(always)]
     pub fn enter(&mut self, core: usize, line: u8, state: State)
         requires core { core < length self.old.caches.items }
         requires present { IsSome (copy_at self.old.caches.items core line) }
@@ -142,6 +145,7 @@ impl Hierarchy {
     }
 
     /// Writes the word at an offset in a line that the core has.
+    #[inline(always)]
     pub fn write(&mut self, target: Target, value: u32)
         requires core { target.core < length self.old.caches.items }
         requires present { IsSome (copy_at self.old.caches.items target.core target.line) }

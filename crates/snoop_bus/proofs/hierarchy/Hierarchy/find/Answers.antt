@@ -1,4 +1,4 @@
-use Rattle.std.proofs.Common.{arith, ◌≡◌, ◌<◌, ℕ, [], length, ap, subst, sym, ◌∙◌}
+use Rattle.std.proofs.Common.{arith, option_copied, ◌≡◌, ◌<◌, ℕ, [], length, ap, subst, sym, ◌∙◌}
 use Rattle.std.proofs.lemmas.List.{get_or_default}
 use Rattle.snoop_bus.specs.Requests.{asked}
 use Rattle.snoop_bus.specs.Copies.{Sets, copy_in, copy_at}
@@ -11,13 +11,13 @@ loop-core-preserved g c =
     let on = asked (g.P.Protocol.table c.args.protocol.now) c.args.request in
     let within : c.loop-core.core < length c.args.self.now.caches.items = omega arith in
     let at = c.index.ensures ∙ get_or_default c.args.self.now.caches.items c.loop-core.core c.index.result.now [] within in
-    let here : c.copied.result ≡ copy_at c.args.self.now.caches.items c.loop-core.core c.args.line = c.copied.ensures ∙ c.look.ensures.found ∙ ap (λ (sets : Sets). copy_in sets c.args.line) at in
-    elim c.match-copied.branch [
+    let here : option_copied c.look.result ≡ copy_at c.args.self.now.caches.items c.loop-core.core c.args.line = c.look.ensures.found ∙ ap (λ (sets : Sets). copy_in sets c.args.line) at in
+    elim c.match-look.branch [
       | in-Some w ↦
-          rw (w.found-is ∙ w.with-found.ensures, w.answer-snoop.ensures)
-          (noted on c.args.line c.loop-core.core c.args.self.now.caches.items c.loop-core.found w.in-Some.copy within c.requires.few (sym here ∙ w.in-Some.is) c.loop-core.invariant)
+          rw (w.found-is ∙ w.note.ensures, w.answer-snoop.ensures)
+          (noted on c.args.line c.loop-core.core c.args.self.now.caches.items c.loop-core.found w.in-Some.copy.now within c.requires.few (sym here ∙ ap option_copied w.in-Some.is) c.loop-core.invariant)
       | in_default w ↦
-          rw w.found-is (passed-by on c.args.line c.loop-core.core c.args.self.now.caches.items c.loop-core.found within (sym here ∙ w.in_default.is) c.loop-core.invariant)
+          rw w.found-is (passed-by on c.args.line c.loop-core.core c.args.self.now.caches.items c.loop-core.found within (sym here ∙ ap option_copied w.in_default.is) c.loop-core.invariant)
     ]
 
 pub loop-core-init : goal.loop-core-init
