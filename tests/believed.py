@@ -226,7 +226,7 @@ LAWS = {
 }
 
 
-FREE_FUNCTION = re.compile(r"^pub (?:extern \"C\" )?fn (\w+)[^{;]*?\n    (?:ensures|requires)\b", re.M)
+FREE_FUNCTION = re.compile(r"^pub (?:extern \"C\" )?fn (\w+)(?:[^{;]|; \d+\])*?\n    (?:ensures|requires)\b", re.M)
 
 
 def named_functions():

@@ -4,5 +4,9 @@ pub mod Avoiding
 pub mod Others
 pub mod Own
 pub mod Beside
+pub mod Clearing
+pub mod Alike
+pub mod Seeing
+pub mod EagerAlike
 pub mod Closing
 pub mod Taking

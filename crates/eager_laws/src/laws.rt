@@ -1,18 +1,25 @@
-//! The laws of eager choices: made first, they lose no end of a run. A choice that is called eager and isn't would make a
-//! search miss final states.
+//! The laws of what a search for all ends of a test's runs may leave out: eager choices, made first, lose no end, and neither
+//! do dead registers. A choice that is called eager and isn't, or a register called dead that is read, would make a search
+//! miss final states.
 
 ghost use Rattle.eager_laws.specs.Closed.{ClosedStatesMissNone};
+ghost use Rattle.eager_laws.specs.Dead.{DeadRegistersChangeNothing};
 ghost use Rattle.eager_laws.specs.Eager.{EagerChoicesTakeEffect};
 
 use tso_laws::runs_stop_where_they_end;
 
 /// A list of states that has what eager choices make of the first state, and of each state what each choice, with eager
-/// choices after it, makes of it, has the last state of every run that ends.
+/// choices after it, makes of it, has the last state of every run that ends. In each of these a dead register may hold 0.
 pub fn closed_states_miss_none()
     ensures { ClosedStatesMissNone }
 {
     runs_stop_where_they_end();
 }
+
+/// What dead registers hold changes no choice, and nothing that is seen at the end.
+pub fn dead_registers_change_nothing()
+    ensures { DeadRegistersChangeNothing }
+{}
 
 /// An eager choice takes effect: it stalls nowhere.
 pub fn eager_choices_take_effect()

@@ -9,4 +9,4 @@
 
 pub mod laws;
 
-pub use laws::{closed_states_miss_none, eager_choices_take_effect};
+pub use laws::{closed_states_miss_none, dead_registers_change_nothing, eager_choices_take_effect};

@@ -1,8 +1,10 @@
 -- The snapshots of a set have as many states as they are.
-use Rattle.std.proofs.Common.{◌≡◌, ◌<◌, ℕ, zero, suc, false, List, [], ◌∷◌, Some, slice_get, length, map, arith, ap, sym, ◌∙◌, subst, refl}
+use Rattle.std.proofs.Common.{◌≡◌, ◌<◌, ℕ, zero, suc, Bool, false, List, [], ◌∷◌, Some, slice_get, length, arith, ap, sym, ◌∙◌, subst, refl}
 use Rattle.std.specs.List.{IsDistinct, AllByRecursion}
 use Rattle.std.proofs.lemmas.Map.Keys.{IsDistinct-head, IsDistinct-tail, IsDistinct-cons}
 use Rattle.tso_model.specs.Litmus.{Litmus}
+use Rattle.tso_model.specs.FlatMachine.{State}
+use Rattle.eager_laws.specs.Dead.{forgotten, DeadRegistersChangeNothing}
 use Rattle.explorer.specs.State.{state_of}
 use Rattle.explorer.specs.inner.Settled.{AreLinked}
 use Rattle.explorer.specs.FinalStates.{IsReachable, HasMoreStates}
@@ -11,7 +13,6 @@ use Rattle.explorer.specs.declared.link.Link.{Link}
 use Rattle.explorer.specs.contracts.snapshot.SnapshotPartialEq.TheImpl as snapshot_eq
 use Rattle.explorer.proofs.Same.{snapshots-equal}
 use Rattle.explorer.proofs.Linking.{linked-leads, reachable}
-use Rattle.explorer.proofs.Searching.{from-list}
 
 differs : (x : Snapshot) (xs : List Snapshot) (j : ℕ) (b : Snapshot) → AllByRecursion (λ y. (snapshot_eq.eq-value).it x y ≡ false) xs → slice_get xs j ≡ Some b → state_of x ≡ state_of b → ⊥
 differs x [] j b h p q = let z : ⊥ = cc in z
@@ -32,22 +33,43 @@ apart (x ∷ xs) d (suc i) zero a b p q e =
     let f : x ≡ b = cc in absurd (differs x xs i a (IsDistinct-head (snapshot_eq.eq-value).it x xs d) p (ap state_of f ∙ sym e))
 apart (x ∷ xs) d (suc i) (suc j) a b p q e = ap suc (apart xs (IsDistinct-tail (snapshot_eq.eq-value).it x xs d) i j a b p q e)
 
-length-map : (xs : List Snapshot) → length (map state_of xs) ≡ length xs
-length-map [] = refl
-length-map (x ∷ xs) = ap suc (length-map xs)
+-- for each element one that stands for it
+record AreFor {A B : Type 0} (R : A → B → Type 0) (xs : List A) (ys : List B) : Type 0 where
+  count : length ys ≡ length xs
+  each : (i : ℕ) (y : B) → slice_get ys i ≡ Some y → (x : A) × (slice_get xs i ≡ Some x) × R x y
+
+collect : {A B : Type 0} (R : A → B → Type 0) (xs : List A) → ((i : ℕ) (x : A) → slice_get xs i ≡ Some x → (y : B) × R x y) → (ys : List B) × AreFor R xs ys
+collect R [] h = ([], record { count = refl; each = λ i y q. absurd (let z : ⊥ = cc in z) })
+collect {A} {B} R (x ∷ xs) h =
+    let one = h 0 x refl in
+    let rest = collect R xs (λ i x q. h (suc i) x q) in
+    (one.0 ∷ rest.0, record { count = ap suc rest.1.count; each = each one.0 one.1 rest.0 rest.1 })
+  where
+    each : (y : B) → R x y → (ys : List B) → AreFor R xs ys → (i : ℕ) (w : B) → slice_get (y ∷ ys) i ≡ Some w → (v : A) × (slice_get (x ∷ xs) i ≡ Some v) × R v w
+    each y r ys a zero w q = let e : y ≡ w = cc in (x, refl, subst (λ z. R x z) e r)
+    each y r ys a (suc i) w q = a.each i w q
+
+-- the state can be reached, and is that of the snapshot once its dead registers are forgotten
+record StandsFor (t : Litmus) (d : ℕ) (hidden : List (List Bool)) (x : Snapshot) (s : State) : Type 0 where
+  reachable : IsReachable t d s
+  kept_is : forgotten t hidden s ≡ state_of x
 
 -- as many states can be reached as snapshots are linked
-pub more-states : (d : ℕ) (t : Litmus) (xs : List Snapshot) (links : List Link) (limit : ℕ) → IsDistinct (snapshot_eq.eq-value).it xs → AreLinked d t xs links
-    → limit < length xs → HasMoreStates t d limit
-more-states d t xs links limit distinct h l = record {
-  states = map state_of xs;
-  reachable = λ i s p.
-      let r = from-list xs i s p in
-      let w = linked-leads d t xs links h (suc i) i r.0 (omega arith) r.1 in
-      subst (λ z. IsReachable t d z) r.2 (reachable d t (state_of r.0) w.0 w.1);
-  distinct = λ i j s p q. let a = from-list xs i s p in let b = from-list xs j s q in apart xs distinct i j a.0 b.0 a.1 b.1 (a.2 ∙ sym b.2);
-  more = let n = length-map xs in omega (arith, n, l);
-}
+pub more-states : DeadRegistersChangeNothing → (d : ℕ) (t : Litmus) (hidden : List (List Bool)) (xs : List Snapshot) (links : List Link) (limit : ℕ) → IsDistinct (snapshot_eq.eq-value).it xs
+    → AreLinked d t hidden xs links → limit < length xs → HasMoreStates t d limit
+more-states law d t hidden xs links limit distinct h l =
+    let all = collect (StandsFor t d hidden) xs (λ i x p.
+    let w = linked-leads law d t hidden xs links h (suc i) i x (omega arith) p in
+    (w.1.last, record { reachable = reachable d t w.1.last w.0 w.1.leads; kept_is = w.1.kept_is })) in
+    record {
+      states = all.0;
+      reachable = λ i s p. (all.1.each i s p).2.reachable;
+      distinct = λ i j s p q.
+          let a = all.1.each i s p in
+          let b = all.1.each j s q in
+          apart xs distinct i j a.0 b.0 a.1 b.1 (sym a.2.kept_is ∙ b.2.kept_is);
+      more = let n = all.1.count in omega (arith, n, l);
+    }
 
 distinct-none : IsDistinct (snapshot_eq.eq-value).it []
 unfolding IsDistinct

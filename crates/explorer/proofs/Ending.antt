@@ -1,7 +1,9 @@
 -- States in which the test has ended, and choices that lead there.
-use Rattle.std.proofs.Common.{◌≡◌, ◌<◌, ℕ, ◌+◌, zero, suc, Bool, true, false, ◌==◌, List, [], ◌∷◌, length, map, slice_index_or, if◌then◌else◌, arith, ap, sym, ◌∙◌, refl}
+use Rattle.std.proofs.Common.{◌≡◌, ◌<◌, ℕ, ◌+◌, zero, suc, Bool, true, false, ◌==◌, List, [], ◌∷◌, length, map, drop, slice_index_or, if◌then◌else◌, arith, ap, sym, ◌∙◌, refl}
 use Rattle.std.proofs.Math.ListN.{length-set}
 use Rattle.std.proofs.lemmas.Bool.Decides.{nat_tests}
+use Rattle.std.proofs.lemmas.Option.{slice_get-get_or}
+use Rattle.basic_laws.proofs.Lists.{drop-at}
 use Rattle.basic_laws.proofs.Basics.{and-left, and-right}
 use Rattle.tso_model.specs.Litmus.{Litmus}
 use Rattle.tso_model.specs.FlatMachine.{CoreState, State, idle, is_none_pending, program_of, core_of, step_of, drain_of, effect_of, chosen, after_choice, started, start, registers_in}
@@ -78,12 +80,12 @@ start-cores t = go 0 t.programs t.registers
     go c [] rs = refl
     go c (p ∷ ps) rs = ap suc (go (c + 1) ps rs)
 
-pub leads-to-end : (d : ℕ) (t : Litmus) (cs : List Choice) (s : Snapshot) (registers : List (List ℕ)) (memory : List ℕ) → LeadsBy d t (start t) cs (state_of s) → has_ended t (state_of s) ≡ true
-    → registers_in (state_of s) ≡ registers → s.memory.items ≡ memory → LeadToEnd t d cs registers memory
+pub leads-to-end : (d : ℕ) (t : Litmus) (cs : List Choice) (s : State) (registers : List (List ℕ)) (memory : List ℕ) → LeadsBy d t (start t) cs s → has_ended t s ≡ true
+    → registers_in s ≡ registers → s.memory ≡ memory → LeadToEnd t d cs registers memory
 leads-to-end d t cs s registers memory l h r m =
-    let e = leads-end d t (start t) cs (state_of s) (start-cores t) l h in
+    let e = leads-end d t (start t) cs s (start-cores t) l h in
     record {
-      cores = leads-cores d t (start t) cs (state_of s) l;
+      cores = leads-cores d t (start t) cs s l;
       ended = e.ended;
       stalled = e.stalled;
       unused = e.unused;
@@ -114,7 +116,7 @@ cores-same (p ∷ ps) (x ∷ xs) (y ∷ ys) n m a b q =
     core-same x y p r q = ap (λ z. record { place = z; registers = x.registers; pending = x.pending }) p ∙ ap (λ z. record { place = y.place; registers = z; pending = x.pending }) r
         ∙ ap (λ z. record { place = y.place; registers = y.registers; pending = z }) q
 
-length-map : (xs : List Processor) → length (map core_of_processor xs) ≡ length xs
+pub length-map : (xs : List Processor) → length (map core_of_processor xs) ≡ length xs
 length-map [] = refl
 length-map (x ∷ xs) = ap suc (length-map xs)
 
@@ -128,3 +130,7 @@ ended-same t a b n m p q r w =
 pub registers-map : (xs : List Processor) → map (λ c. c.registers) xs ≡ map (λ s. s.registers) (map core_of_processor xs)
 registers-map [] = refl
 registers-map (x ∷ xs) = ap (λ z. x.registers ∷ z) (registers-map xs)
+
+-- what is left of a list of choices begins with the next
+pub next-choice : (cs : List Choice) (i : ℕ) (c : Choice) → i < length cs → drop i cs ≡ slice_index_or cs i c ∷ drop (i + 1) cs
+next-choice cs i c l = drop-at cs i (slice_index_or cs i c) (slice_get-get_or cs i c l)

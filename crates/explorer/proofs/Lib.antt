@@ -3,6 +3,8 @@ pub mod Starting
 pub mod Choosing
 pub mod Absent
 pub mod Linking
+pub mod Planning
+pub mod Forgets
 pub mod Searching
 pub mod Counting
 pub mod Ending

@@ -11,8 +11,10 @@ use Rattle.tso_model.specs.Runs.{CoresExist, stall_count}
 use Rattle.tso_model.specs.declared.choice.Choice.{Choice}
 use Rattle.tso_laws.specs.Choices.{state_after}
 use Rattle.explorer.specs.State.{state_of}
-use Rattle.explorer.specs.Settled.{LeadsBy, IsSettled}
-use Rattle.explorer.specs.inner.Settled.{IsLinked, AreLinked, IsPath, GoBack}
+use Rattle.eager_laws.specs.Closed.{LeadsEagerly}
+use Rattle.eager_laws.specs.Dead.{forgotten, AreAlike, DeadRegistersChangeNothing}
+use Rattle.explorer.specs.Settled.{LeadsBy, LeadsTo, IsSettled}
+use Rattle.explorer.specs.inner.Settled.{IsReached, IsLinked, AreLinked, IsPath, GoBack}
 use Rattle.explorer.specs.FinalStates.{IsReachable}
 use Rattle.explorer.specs.declared.snapshot.Snapshot.{Snapshot}
 use Rattle.explorer.specs.declared.link.Link.{Link}
@@ -62,19 +64,35 @@ pub leads-cores : (d : ℕ) (t : Litmus) (s : State) (cs : List Choice) (r : Sta
 leads-cores d t s [] r q = tt
 leads-cores d t s (c ∷ cs) r l = (l.0, leads-cores d t (after_choice t d s c) cs r l.2)
 
+-- the same choices lead on from a state that differs in dead registers alone
+leads-alike : DeadRegistersChangeNothing → (d : ℕ) (t : Litmus) (hidden : List (List Bool)) (s u : State) (cs : List Choice) (r : State) → AreAlike t hidden s u → LeadsBy d t s cs r
+    → (v : State) × LeadsBy d t u cs v × AreAlike t hidden v r
+leads-alike law d t hidden s u [] r a q = (u, refl, sym a ∙ ap (forgotten t hidden) q)
+leads-alike law d t hidden s u (c ∷ cs) r a l =
+    let w = leads-alike law d t hidden (after_choice t d s c) (after_choice t d u c) cs r (law.after t d hidden s u c a) l.2 in
+    (w.0, (l.0, ap stall_count (sym (law.outcome t d hidden s u c a)) ∙ l.1, w.1), w.2)
+
+-- and so from a kept state on
+pub leads-join : DeadRegistersChangeNothing → (d : ℕ) (t : Litmus) (hidden : List (List Bool)) (s kept more : State) (cs ds : List Choice)
+    → LeadsTo d t hidden s cs kept → LeadsTo d t hidden kept ds more → LeadsTo d t hidden s (cs ++ ds) more
+leads-join law d t hidden s kept more cs ds h k =
+    let alike : AreAlike t hidden kept h.last = ap (forgotten t hidden) (sym h.kept_is) ∙ law.twice t hidden h.last in
+    let w = leads-alike law d t hidden kept h.last ds k.last alike k.leads in
+    record { last = w.0; leads = leads-append d t s cs h.last ds w.0 h.leads w.1; kept_is = w.2 ∙ k.kept_is }
+
 -- ---- links
 
-linked-grown : (d : ℕ) (t : Litmus) (xs ys : List Snapshot) (i : ℕ) (s : Snapshot) (link : Link) → IsLinked d t xs i s link → IsLinked d t (xs ++ ys) i s link
-linked-grown d t xs ys zero s link h = h
-linked-grown d t xs ys (suc i) s link h = (h.0, h.1, get-left xs ys link.from h.0 h.2, h.3)
+linked-grown : (d : ℕ) (t : Litmus) (hidden : List (List Bool)) (xs ys : List Snapshot) (i : ℕ) (s : Snapshot) (link : Link) → IsLinked d t hidden xs i s link → IsLinked d t hidden (xs ++ ys) i s link
+linked-grown d t hidden xs ys zero s link h = h
+linked-grown d t hidden xs ys (suc i) s link h = (h.0, h.1, get-left xs ys link.from h.0 h.2, h.3)
 
 -- one snapshot more, reached from one that is there
-pub linked-more : (d : ℕ) (t : Litmus) (xs : List Snapshot) (links : List Link) (r x : Snapshot) (link : Link) → AreLinked d t xs links
-    → slice_get xs link.from ≡ Some r → LeadsBy d t (state_of r) link.choices.items (state_of x) → AreLinked d t (xs ++ x ∷ []) (links ++ link ∷ [])
-linked-more d t xs links r x link h at leads = record {
+pub linked-more : (d : ℕ) (t : Litmus) (hidden : List (List Bool)) (xs : List Snapshot) (links : List Link) (r x : Snapshot) (link : Link) → AreLinked d t hidden xs links
+    → slice_get xs link.from ≡ Some r → LeadsTo d t hidden (state_of r) link.choices.items (state_of x) → AreLinked d t hidden (xs ++ x ∷ []) (links ++ link ∷ [])
+linked-more d t hidden xs links r x link h at leads = record {
   count = let a = length-append xs (x ∷ []) in let b = length-append links (link ∷ []) in let n = h.count in omega (arith, a, b, n);
   each = λ i s l p q. elim (lt-or (length xs) i) [
-    | inl m ↦ let n = h.count in linked-grown d t xs (x ∷ []) i s l (h.each i s l (get-back xs (x ∷ []) i s m p) (get-back links (link ∷ []) i l (omega (arith, m, n)) q))
+    | inl m ↦ let n = h.count in linked-grown d t hidden xs (x ∷ []) i s l (h.each i s l (get-back xs (x ∷ []) i s m p) (get-back links (link ∷ []) i l (omega (arith, m, n)) q))
     | inr m ↦ let n = h.count in
         let a = get-last xs x s i m p in
         let b = get-last links link l i (omega (arith, m, n)) q in
@@ -85,12 +103,12 @@ linked-more d t xs links r x link h at leads = record {
     within : link.from < length xs
     within = get-within xs link.from r at
 
-    new : (i : ℕ) → i ≡ length xs → IsLinked d t (xs ++ x ∷ []) i x link
+    new : (i : ℕ) → i ≡ length xs → IsLinked d t hidden (xs ++ x ∷ []) i x link
     new zero e = absurd (let l = within in let z : ⊥ = omega (arith, e, l) in z)
     new (suc i) e = (r, (let l = within in omega (arith, e, l)), get-left xs (x ∷ []) link.from r at, leads)
 
-    last : (i : ℕ) (s : Snapshot) (l : Link) → i ≡ length xs → x ≡ s → link ≡ l → IsLinked d t (xs ++ x ∷ []) i s l
-    last i s l e p q = subst (λ z. IsLinked d t (xs ++ x ∷ []) i z l) p (subst (λ z. IsLinked d t (xs ++ x ∷ []) i x z) q (new i e))
+    last : (i : ℕ) (s : Snapshot) (l : Link) → i ≡ length xs → x ≡ s → link ≡ l → IsLinked d t hidden (xs ++ x ∷ []) i s l
+    last i s l e p q = subst (λ z. IsLinked d t hidden (xs ++ x ∷ []) i z l) p (subst (λ z. IsLinked d t hidden (xs ++ x ∷ []) i x z) q (new i e))
 
 not-true : (b : Bool) → not b ≡ true → b ≡ false
 not-true true q = absurd (let z : ⊥ = cc in z)
@@ -106,34 +124,48 @@ pub leads-settled : (d : ℕ) (t : Litmus) (s acted settled : State) (c : Choice
 leads-settled d t s acted settled c after l k e h =
     subst (λ z. LeadsBy d t s z settled) (sym h.appended) (l, k, subst (λ z. LeadsBy d t z h.made settled) e h.leads)
 
-module _ (eq : Snapshot → Snapshot → Bool) (d : ℕ) (t : Litmus) (old new : List Snapshot) (x : Snapshot) (links : List Link) (added : Bool)
-    (keys : new ≡ insert_key eq old x) (is : added ≡ not (list_any (eq x) old)) (h : AreLinked d t old links) where
+-- and without what is dead there
+pub reached-is : (d : ℕ) (t : Litmus) (hidden : List (List Bool)) (s acted settled kept : State) (c : Choice) (before after : List Choice) → chosen c < length t.programs
+    → stall_count (effect_of t d s c).outcome ≡ 0 → acted ≡ after_choice t d s c → before ≡ c ∷ [] → IsSettled d t acted settled before after → kept ≡ forgotten t hidden settled
+    → IsReached d t hidden s c after kept
+reached-is d t hidden s acted settled kept c before after l k e b h f =
+    let made : IsSettled d t acted settled (c ∷ []) after = subst (λ z. IsSettled d t acted settled z after) b h in
+    record {
+      leads = record { last = settled; leads = leads-settled d t s acted settled c after l k e made; kept_is = sym f };
+      last = settled;
+      later = h.made;
+      eager = subst (λ z. LeadsEagerly d t z h.made settled) e h.eager;
+      kept_is = sym f;
+    }
+
+module _ (eq : Snapshot → Snapshot → Bool) (d : ℕ) (t : Litmus) (hidden : List (List Bool)) (old new : List Snapshot) (x : Snapshot) (links : List Link) (added : Bool)
+    (keys : new ≡ insert_key eq old x) (is : added ≡ not (list_any (eq x) old)) (h : AreLinked d t hidden old links) where
   -- it was new
   pub linked-new : (r : Snapshot) (link : Link) (more : List Link) → added ≡ true → more ≡ links ++ link ∷ [] → slice_get old link.from ≡ Some r
-      → LeadsBy d t (state_of r) link.choices.items (state_of x) → AreLinked d t new more
+      → LeadsTo d t hidden (state_of r) link.choices.items (state_of x) → AreLinked d t hidden new more
   linked-new r link more q m at leads =
       let last : new ≡ old ++ x ∷ [] = keys ∙ ap (λ b. if b then old else old ++ x ∷ []) (not-true (list_any (eq x) old) (sym is ∙ q)) in
-      subst (λ z. AreLinked d t z more) (sym last) (subst (λ z. AreLinked d t (old ++ x ∷ []) z) (sym m) (linked-more d t old links r x link h at leads))
+      subst (λ z. AreLinked d t hidden z more) (sym last) (subst (λ z. AreLinked d t hidden (old ++ x ∷ []) z) (sym m) (linked-more d t hidden old links r x link h at leads))
 
   -- it was there
-  pub linked-old : added ≡ false → AreLinked d t new links
+  pub linked-old : added ≡ false → AreLinked d t hidden new links
   linked-old q =
       let same : new ≡ old = keys ∙ ap (λ b. if b then old else old ++ x ∷ []) (not-false (list_any (eq x) old) (sym is ∙ q)) in
-      subst (λ z. AreLinked d t z links) (sym same) h
+      subst (λ z. AreLinked d t hidden z links) (sym same) h
 
 -- the first alone
-pub linked-first : (d : ℕ) (t : Litmus) (x : Snapshot) (link : Link) → LeadsBy d t (start t) link.choices.items (state_of x) → AreLinked d t (x ∷ []) (link ∷ [])
-linked-first d t x link leads = record { count = refl; each = each }
+pub linked-first : (d : ℕ) (t : Litmus) (hidden : List (List Bool)) (x : Snapshot) (link : Link) → LeadsTo d t hidden (start t) link.choices.items (state_of x) → AreLinked d t hidden (x ∷ []) (link ∷ [])
+linked-first d t hidden x link leads = record { count = refl; each = each }
   where
-    each : (i : ℕ) (s : Snapshot) (l : Link) → slice_get (x ∷ []) i ≡ Some s → slice_get (link ∷ []) i ≡ Some l → IsLinked d t (x ∷ []) i s l
+    each : (i : ℕ) (s : Snapshot) (l : Link) → slice_get (x ∷ []) i ≡ Some s → slice_get (link ∷ []) i ≡ Some l → IsLinked d t hidden (x ∷ []) i s l
     each zero s l p q = let a : x ≡ s = cc in let b : link ≡ l = cc in
-        subst (λ z. LeadsBy d t (start t) z.choices.items (state_of s)) b (subst (λ z. LeadsBy d t (start t) link.choices.items (state_of z)) a leads)
+        subst (λ z. LeadsTo d t hidden (start t) z.choices.items (state_of s)) b (subst (λ z. LeadsTo d t hidden (start t) link.choices.items (state_of z)) a leads)
     each (suc i) s l p q = absurd (let z : ⊥ = cc in z)
 
 -- ---- paths
 
-pub goes-back : (d : ℕ) (t : Litmus) (xs : List Snapshot) (links : List Link) → AreLinked d t xs links → GoBack links
-goes-back d t xs links h i link q =
+pub goes-back : (d : ℕ) (t : Litmus) (hidden : List (List Bool)) (xs : List Snapshot) (links : List Link) → AreLinked d t hidden xs links → GoBack links
+goes-back d t hidden xs links h i link q =
     let n = h.count in
     let m = get-within links (suc i) link q in
     let r = get-some xs (suc i) (omega (arith, n, m)) in
@@ -145,36 +177,36 @@ earlier links (suc i) d h p l = let r = h i (slice_index_or links (suc i) d) (sl
 
 pub path-first : (links : List Link) (at : ℕ) (d : Link) (cs was : List Choice) → at ≤ 0 → at < length links → cs ≡ was ++ (slice_index_or links at d).choices.items → was ≡ []
     → IsPath links at cs
-path-first links zero d cs was p l e w = λ depth t xs s h q.
-    subst (λ z. LeadsBy depth t (start t) z (state_of s)) (sym (e ∙ ap (λ z. z ++ (slice_index_or links 0 d).choices.items) w))
+path-first links zero d cs was p l e w = λ depth t hidden xs s h q.
+    subst (λ z. LeadsTo depth t hidden (start t) z (state_of s)) (sym (e ∙ ap (λ z. z ++ (slice_index_or links 0 d).choices.items) w))
     (h.each 0 s (slice_index_or links 0 d) q (slice_get-get_or links 0 d l))
 path-first links (suc i) d cs was p l e w = absurd (let z : ⊥ = omega (arith, p) in z)
 
-pub path-on : (links : List Link) (at : ℕ) (c d : Link) (cs was before : List Choice) → 0 < at → at < length links → IsPath links (slice_index_or links at c).from before
+pub path-on : DeadRegistersChangeNothing → (links : List Link) (at : ℕ) (c d : Link) (cs was before : List Choice) → 0 < at → at < length links → IsPath links (slice_index_or links at c).from before
     → cs ≡ was ++ (slice_index_or links at d).choices.items → was ≡ before → IsPath links at cs
-path-on links zero c d cs was before p l h e w = absurd (let z : ⊥ = omega (arith, p) in z)
-path-on links (suc i) c d cs was before p l h e w = λ depth t xs s linked q.
+path-on law links zero c d cs was before p l h e w = absurd (let z : ⊥ = omega (arith, p) in z)
+path-on law links (suc i) c d cs was before p l h e w = λ depth t hidden xs s linked q.
     let g : slice_get links (suc i) ≡ Some (slice_index_or links (suc i) c) = slice_get-get_or links (suc i) c l in
     let r = linked.each (suc i) s (slice_index_or links (suc i) c) q g in
     let same : slice_index_or links (suc i) c ≡ slice_index_or links (suc i) d = get-one links (suc i) _ _ g (slice_get-get_or links (suc i) d l) in
-    subst (λ z. LeadsBy depth t (start t) z (state_of s)) (sym (e ∙ ap (λ z. z ++ (slice_index_or links (suc i) d).choices.items) w ∙ ap (λ z. before ++ z.choices.items) (sym same)))
-    (leads-append depth t (start t) before (state_of r.0) (slice_index_or links (suc i) c).choices.items (state_of s) (h depth t xs r.0 linked r.2) r.3)
+    subst (λ z. LeadsTo depth t hidden (start t) z (state_of s)) (sym (e ∙ ap (λ z. z ++ (slice_index_or links (suc i) d).choices.items) w ∙ ap (λ z. before ++ z.choices.items) (sym same)))
+    (leads-join law depth t hidden (start t) (state_of r.0) (state_of s) before (slice_index_or links (suc i) c).choices.items (h depth t hidden xs r.0 linked r.2) r.3)
 
--- each snapshot can be reached
-pub linked-leads : (d : ℕ) (t : Litmus) (xs : List Snapshot) (links : List Link) → AreLinked d t xs links → (n i : ℕ) (s : Snapshot) → i < n → slice_get xs i ≡ Some s
-    → (cs : List Choice) × LeadsBy d t (start t) cs (state_of s)
-linked-leads d t xs links h zero i s l at = absurd (let z : ⊥ = omega (arith, l) in z)
-linked-leads d t xs links h (suc n) zero s l at =
+-- each snapshot can be reached, but for its dead registers
+pub linked-leads : DeadRegistersChangeNothing → (d : ℕ) (t : Litmus) (hidden : List (List Bool)) (xs : List Snapshot) (links : List Link) → AreLinked d t hidden xs links
+    → (n i : ℕ) (s : Snapshot) → i < n → slice_get xs i ≡ Some s → (cs : List Choice) × LeadsTo d t hidden (start t) cs (state_of s)
+linked-leads law d t hidden xs links h zero i s l at = absurd (let z : ⊥ = omega (arith, l) in z)
+linked-leads law d t hidden xs links h (suc n) zero s l at =
     let m = get-within xs 0 s at in let k = h.count in
     let r = get-some links 0 (omega (arith, m, k)) in
     (r.0.choices.items, h.each 0 s r.0 at r.1)
-linked-leads d t xs links h (suc n) (suc i) s l at =
+linked-leads law d t hidden xs links h (suc n) (suc i) s l at =
     let m = get-within xs (suc i) s at in let k = h.count in
     let r = get-some links (suc i) (omega (arith, m, k)) in
     let w = h.each (suc i) s r.0 at r.1 in
     let before = w.1 in
-    let p = linked-leads d t xs links h n r.0.from w.0 (omega (arith, l, before)) w.2 in
-    (p.0 ++ r.0.choices.items, leads-append d t (start t) p.0 (state_of w.0) r.0.choices.items (state_of s) p.1 w.3)
+    let p = linked-leads law d t hidden xs links h n r.0.from w.0 (omega (arith, l, before)) w.2 in
+    (p.0 ++ r.0.choices.items, leads-join law d t hidden (start t) (state_of w.0) (state_of s) p.0 r.0.choices.items p.1 w.3)
 
 pub reachable : (d : ℕ) (t : Litmus) (s : State) (cs : List Choice) → LeadsBy d t (start t) cs s → IsReachable t d s
 reachable d t s cs h = record { choices = cs; cores = leads-cores d t (start t) cs s h; state_is = leads-after d t (start t) cs s h }

@@ -1,3 +1,4 @@
 -- Words of contracts inside the project.
 pub mod Collected
 pub mod Settled
+pub mod Planned

@@ -1,22 +1,26 @@
 //! The final states that a search found: those kept states in which the test has ended, each once, with choices that lead
-//! there.
+//! there. A kept state has 0 in its hidden registers; what they hold at the end is known by making the choices again.
 ghost use Rattle.std.specs.Prelude.{◌≡◌, ◌<◌, IfOk, IfErr, length, slice_get, Some, map};
-ghost use Rattle.tso_model.specs.FlatMachine.{registers_in};
-ghost use Rattle.tso_model.specs.Runs.{is_done, has_ended};
+ghost use Rattle.tso_model.specs.FlatMachine.{start};
+ghost use Rattle.tso_model.specs.Limits.{most_depth};
+ghost use Rattle.tso_model.specs.Runs.{is_done, has_ended, CoresExist};
+ghost use Rattle.tso_laws.specs.Choices.{state_after};
 ghost use Rattle.explorer.specs.State.{state_of, core_of_processor};
-ghost use Rattle.explorer.specs.inner.Settled.{HaveCores, GoBack, IsPath};
+ghost use Rattle.explorer.specs.inner.Planned.{IsPlan};
+ghost use Rattle.explorer.specs.inner.Settled.{HaveCores, AreLinked};
+ghost use Rattle.explorer.specs.inner.Collected.{IsFinalOf, AreFinalsOf};
 ghost use Rattle.explorer.specs.FinalStates.{AreReached, HaveEveryEnd, AreDistinct, HasMoreStates};
 ghost use Rattle.explorer.specs.FinalStates.{AreWhatTsoAllows, AreWhatSequentialConsistencyAllows};
-ghost use Rattle.tso_model.specs.Limits.{most_depth};
-ghost use Rattle.explorer.specs.inner.Collected.{AreFinalsOf};
 ghost use Rattle.explorer.specs.declared.snapshot.Snapshot.{Snapshot};
 ghost use Rattle.explorer.specs.declared.fault.ExploreFault.{ExploreFault};
 
+use crate::acting::act;
 use crate::fault::ExploreFault;
 use crate::link::path;
+use crate::plan::{Plan, plan_of};
 use crate::search::{Found, search};
-use crate::snapshot::{Processor, Snapshot};
-use eager_laws::closed_states_miss_none;
+use crate::snapshot::{Processor, Snapshot, start};
+use eager_laws::{closed_states_miss_none, dead_registers_change_nothing};
 use outcome_laws::ends_are_what_tso_allows;
 use std::alloc::Global;
 use tso_laws::runs_stop_where_they_end;
@@ -34,7 +38,7 @@ pub struct FinalState {
 /// What a search answers.
 #[derive(Drop)]
 pub struct Exploration {
-    /// Every final state that the machine can reach at the depth, each once.
+    /// Every final state that the machine can reach at the depth, each once, but for hidden registers.
     pub final_states: Vec<FinalState>,
     /// How many states the search kept.
     pub kept: usize,
@@ -73,27 +77,40 @@ fn registers_of(alloc: Global, cores: &[Processor]) -> Result<Vec<[u32; 6]>, NoM
     Ok(registers)
 }
 
+/// The state that choices lead to from the beginning of the test.
+///
+/// Errors: out of memory only.
+fn state_after(
+    alloc: Global,
+    test: &Test,
+    depth: u8,
+    choices: &[Choice],
+) -> Result<Snapshot, NoMemory>
+    requires { CoresExist (length test.now.programs) choices.now }
+    ensures { IfOk result (λ s. state_of s ≡ state_after test.now depth (start test.now) choices.now) }
+{
+    let mut state = start(alloc, test)?;
+    for choice in choices {
+        act(&mut state, test, depth, *choice)?;
+    }
+    Ok(state)
+}
+
 /// The final state of a snapshot, with the choices that lead there.
 ///
 /// Errors: out of memory only.
-fn final_state(alloc: Global, found: &Found, at: usize) -> Result<FinalState, NoMemory>
+fn final_state(alloc: Global, plan: &Plan, found: &Found, at: usize) -> Result<FinalState, NoMemory>
     requires at { at < length found.now.snapshots.keys }
-    requires links { length found.now.links.items ≡ length found.now.snapshots.keys }
-    requires back { GoBack found.now.links.items }
-    ensures registers { IfOk result (λ f. (s : Snapshot) → slice_get found.now.snapshots.keys at ≡ Some s
-        → f.registers.items ≡ registers_in (state_of s)) }
-    ensures memory { IfOk result (λ f. (s : Snapshot) → slice_get found.now.snapshots.keys at ≡ Some s
-        → f.memory.items ≡ s.memory.items) }
-    ensures path { IfOk result (λ f. IsPath found.now.links.items at f.choices.items) }
+    requires linked { AreLinked plan.now.depth plan.now.test.now plan.now.hidden.now found.now.snapshots.keys found.now.links.items }
+    ensures { IfOk result (λ f. (s : Snapshot) → slice_get found.now.snapshots.keys at ≡ Some s
+        → IsFinalOf plan.now.depth plan.now.test.now plan.now.hidden.now (state_of s) f) }
 {
-    let snapshot = &found.snapshots[at];
-    let registers = registers_of(alloc, &snapshot.cores)?;
-    let mut memory = Vec::new(alloc);
-    memory.extend_from_slice(&snapshot.memory)?;
     let choices = path(alloc, &found.links, at)?;
+    let last = state_after(alloc, plan.test, plan.depth, &choices)?;
+    let registers = registers_of(alloc, &last.cores)?;
     Ok(FinalState {
         registers,
-        memory,
+        memory: last.memory,
         choices,
     })
 }
@@ -101,17 +118,17 @@ fn final_state(alloc: Global, found: &Found, at: usize) -> Result<FinalState, No
 /// The final states among the snapshots.
 ///
 /// Errors: out of memory only.
-fn final_states(alloc: Global, test: &Test, found: &Found) -> Result<Vec<FinalState>, NoMemory>
-    requires cores { HaveCores test.now found.now.snapshots.keys }
-    requires links { length found.now.links.items ≡ length found.now.snapshots.keys }
-    requires back { GoBack found.now.links.items }
-    ensures { IfOk result (λ fs. AreFinalsOf test.now found.now.snapshots.keys found.now.links.items
+fn final_states(alloc: Global, plan: &Plan, found: &Found) -> Result<Vec<FinalState>, NoMemory>
+    requires cores { HaveCores plan.now.test.now found.now.snapshots.keys }
+    requires linked { AreLinked plan.now.depth plan.now.test.now plan.now.hidden.now found.now.snapshots.keys found.now.links.items }
+    ensures { IfOk result (λ fs. AreFinalsOf plan.now.depth plan.now.test.now plan.now.hidden.now found.now.snapshots.keys
         (length found.now.snapshots.keys) fs.items) }
 {
+    dead_registers_change_nothing();
     let mut final_states = Vec::new(alloc);
     for at in 0..found.snapshots.len() {
-        if has_ended(test, &found.snapshots[at]) {
-            final_states.push(final_state(alloc, found, at)?)?;
+        if has_ended(plan.test, &found.snapshots[at]) {
+            final_states.push(final_state(alloc, plan, found, at)?)?;
         }
     }
     Ok(final_states)
@@ -120,6 +137,10 @@ fn final_states(alloc: Global, test: &Test, found: &Found) -> Result<Vec<FinalSt
 /// Every final state that the machine can reach at this depth of its store buffers, each once, with
 /// choices that lead there. At the greatest depth these are what TSO allows, at depth 0, where the
 /// machine has no store buffers, what sequential consistency allows.
+///
+/// `hidden` says of each core, in the order of `Reg::ALL`, which registers nobody looks at. Of final
+/// states that differ in these alone one is answered, and the search keeps fewer states. Of a core for
+/// which it has no entry none is hidden; so with an empty list every final state is answered.
 ///
 /// Errors:
 /// - [`ExploreFault::TooMany`]: only where the machine can reach more states than `limit`. The
@@ -130,20 +151,23 @@ pub fn explore(
     test: &Test,
     depth: u8,
     limit: usize,
+    hidden: &[[bool; 6]],
 ) -> Result<Exploration, ExploreFault>
     ensures reached { IfOk result (λ x. AreReached test.now depth x.final_states.items) }
-    ensures complete { IfOk result (λ x. HaveEveryEnd test.now depth x.final_states.items) }
-    ensures tso { IfOk result (λ x. depth ≡ most_depth → AreWhatTsoAllows test.now x.final_states.items) }
-    ensures sequential { IfOk result (λ x. depth ≡ 0 → AreWhatSequentialConsistencyAllows test.now x.final_states.items) }
-    ensures once { IfOk result (λ x. AreDistinct x.final_states.items) }
+    ensures complete { IfOk result (λ x. HaveEveryEnd test.now depth hidden.now x.final_states.items) }
+    ensures tso { IfOk result (λ x. depth ≡ most_depth → AreWhatTsoAllows test.now hidden.now x.final_states.items) }
+    ensures sequential { IfOk result (λ x. depth ≡ 0 → AreWhatSequentialConsistencyAllows test.now hidden.now x.final_states.items) }
+    ensures once { IfOk result (λ x. AreDistinct hidden.now x.final_states.items) }
     ensures too_many { IfErr result (λ fault. fault ≡ ExploreFault.TooMany → HasMoreStates test.now depth limit) }
 {
     closed_states_miss_none();
+    dead_registers_change_nothing();
     ends_are_what_tso_allows();
     runs_stop_where_they_end();
     test.know_limits();
-    let found = search(alloc, test, depth, limit)?;
-    let final_states = final_states(alloc, test, &found)?;
+    let plan = plan_of(alloc, test, depth, hidden)?;
+    let found = search(alloc, &plan, limit)?;
+    let final_states = final_states(alloc, &plan, &found)?;
     Ok(Exploration {
         final_states,
         kept: found.snapshots.len(),

@@ -3,14 +3,17 @@
 //!
 //! A search keeps the machine's states in one set, in the order in which they were found, and makes
 //! every choice in each of them in turn. Choices that need not wait are made at once, as
-//! `eager_laws` allows, so the states on their way aren't kept.
+//! `eager_laws` allows, so the states on their way aren't kept. States that differ in dead registers
+//! alone are kept as one: those that nothing reads any more, and that nobody looks at in the end.
 #![tactic(auto)]
 
 mod acting;
 mod eager;
 pub mod fault;
 pub mod final_states;
+mod forgetting;
 pub mod link;
+pub mod plan;
 pub mod reached;
 pub mod search;
 pub mod snapshot;

@@ -3,6 +3,7 @@
 ghost use Rattle.std.specs.Prelude.{◌<◌, length, IfOk};
 ghost use Rattle.explorer.specs.inner.Settled.{GoBack, IsPath};
 
+use eager_laws::dead_registers_change_nothing;
 use std::alloc::Global;
 use tso_model::{Choice, NoMemory};
 
@@ -22,6 +23,7 @@ pub fn path(alloc: Global, links: &[Link], at: usize) -> Result<Vec<Choice>, NoM
     requires back { GoBack links.now }
     ensures { IfOk result (λ choices. IsPath links.now at choices.items) }
 {
+    dead_registers_change_nothing();
     let mut choices = Vec::new(alloc);
     if at > 0 {
         choices = path(alloc, links, links[at].from)?;

@@ -1,11 +1,15 @@
-//! The state that a choice leads to, with the choices after it that need not wait. A choice that stalls leads nowhere new.
+//! The state that a choice leads to, with the choices after it that need not wait, and without what is dead there. A choice
+//! that stalls leads nowhere new.
 ghost use Rattle.std.specs.Prelude.{◌≡◌, ◌<◌, IfOk, OnOk, true, false, length};
 ghost use Rattle.tso_model.specs.FlatMachine.{after_choice, chosen};
 ghost use Rattle.explorer.specs.State.{state_of};
+ghost use Rattle.explorer.specs.inner.Planned.{IsPlan};
 ghost use Rattle.explorer.specs.inner.Settled.{IsReached};
 
 use crate::acting::{act, has_stalled, is_idle};
 use crate::eager::settle;
+use crate::forgetting::forget;
+use crate::plan::Plan;
 use crate::snapshot::{Snapshot, overwrite, start};
 use std::alloc::Global;
 use tso_laws::stalls_change_nothing;
@@ -31,37 +35,43 @@ pub fn nowhere(alloc: Global, test: &Test) -> Result<Reached, NoMemory>
     })
 }
 
-/// Makes a choice in a snapshot, and what choices need not wait after it. Answers whether the choice
-/// took effect; where it stalled, what was reached says nothing.
+/// Makes a choice in a snapshot, and what choices need not wait after it, and forgets what is dead
+/// then. Answers whether the choice took effect; where it stalled, what was reached says nothing.
 ///
 /// Errors: out of memory only.
 pub fn reach(
     reached: &mut Reached,
     snapshot: &Snapshot,
-    test: &Test,
-    depth: u8,
+    plan: &Plan,
     choice: Choice,
 ) -> Result<bool, NoMemory>
-    requires cores { length snapshot.now.cores.items ≡ length test.now.programs }
-    requires room { length reached.old.state.cores.items ≡ length test.now.programs }
-    requires chosen { chosen choice < length test.now.programs }
+    requires plan { IsPlan plan.now }
+    requires cores { length snapshot.now.cores.items ≡ length plan.now.test.now.programs }
+    requires room { length reached.old.state.cores.items ≡ length plan.now.test.now.programs }
+    requires chosen { chosen choice < length plan.now.test.now.programs }
     ensures stalled { IfOk result (λ made. made ≡ false
-        → after_choice test.now depth (state_of snapshot.now) choice ≡ state_of snapshot.now) }
-    ensures reached { IfOk result (λ made. made ≡ true
-        → IsReached depth test.now (state_of snapshot.now) choice reached.new.choices.items (state_of reached.new.state)) }
-    ensures room { OnOk result (length reached.new.state.cores.items ≡ length test.now.programs) }
+        → after_choice plan.now.test.now plan.now.depth (state_of snapshot.now) choice ≡ state_of snapshot.now) }
+    ensures reached { IfOk result (λ made. made ≡ true → IsReached plan.now.depth plan.now.test.now plan.now.hidden.now
+        (state_of snapshot.now) choice reached.new.choices.items (state_of reached.new.state)) }
+    ensures room { OnOk result (length reached.new.state.cores.items ≡ length plan.now.test.now.programs) }
 {
     stalls_change_nothing();
-    if is_idle(snapshot, test, choice) {
+    if is_idle(snapshot, plan.test, choice) {
         return Ok(false);
     }
     overwrite(&mut reached.state, snapshot)?;
-    let outcome = act(&mut reached.state, test, depth, choice)?;
+    let outcome = act(&mut reached.state, plan.test, plan.depth, choice)?;
     if has_stalled(outcome) {
         return Ok(false);
     }
     reached.choices.clear();
     reached.choices.push(choice)?;
-    settle(&mut reached.state, test, depth, &mut reached.choices)?;
+    settle(
+        &mut reached.state,
+        plan.test,
+        plan.depth,
+        &mut reached.choices,
+    )?;
+    forget(&mut reached.state, plan);
     Ok(true)
 }

@@ -1,24 +1,28 @@
 //! The search for all states that choices lead to. One list is queue and visited set at once; each of its states is gone
 //! through, and where there are more than may be kept the search says so and answers nothing.
-ghost use Rattle.std.specs.Prelude.{◌≡◌, ℕ, ◌<◌, IfOk, IfErr, OnOk, map, length, slice_get, Some};
+ghost use Rattle.std.specs.Prelude.{◌≡◌, ℕ, ◌<◌, Bool, List, IfOk, IfErr, OnOk, map, length, slice_get, Some};
 ghost use Rattle.tso_model.specs.FlatMachine.{chosen, start};
 ghost use Rattle.eager_laws.specs.Closed.{IsIn, IsCovered, IsExpanded};
 ghost use Rattle.tso_model.specs.Litmus.{Litmus};
-ghost use Rattle.explorer.specs.Settled.{LeadsBy};
+ghost use Rattle.explorer.specs.Settled.{LeadsTo};
 ghost use Rattle.explorer.specs.State.{state_of};
 ghost use Rattle.explorer.specs.inner.Settled.{Grows, HaveCores, IsVisited, AreVisited, AreLinked, IsSearched};
+ghost use Rattle.explorer.specs.inner.Planned.{IsPlan};
 ghost use Rattle.explorer.specs.FinalStates.{HasMoreStates};
 ghost use Rattle.explorer.specs.declared.snapshot.Snapshot.{Snapshot};
 ghost use Rattle.explorer.specs.declared.fault.ExploreFault.{ExploreFault};
 
 use crate::eager::settle;
 use crate::fault::ExploreFault;
+use crate::forgetting::forget;
 use crate::link::Link;
+use crate::plan::Plan;
 use crate::reached::{Reached, nowhere, reach};
 use crate::snapshot::{Snapshot, copy, exact, start};
+use eager_laws::dead_registers_change_nothing;
 use indexmap::IndexSet;
 use std::alloc::Global;
-use tso_model::{Choice, Core, NoMemory, Test};
+use tso_model::{Choice, Core, NoMemory};
 
 /// What a search has found: each snapshot once, and how each was reached.
 #[derive(Drop)]
@@ -41,9 +45,10 @@ pub fn keep(
     ensures among { OnOk result (IsIn (map state_of found.new.snapshots.keys) (state_of reached.now.state)) }
     ensures cores { OnOk result ((t : Litmus) → HaveCores t found.old.snapshots.keys
         → length reached.now.state.cores.items ≡ length t.programs → HaveCores t found.new.snapshots.keys) }
-    ensures linked { OnOk result ((depth : ℕ) (t : Litmus) (s : Snapshot) → AreLinked depth t found.old.snapshots.keys found.old.links.items
-        → slice_get found.old.snapshots.keys from ≡ Some s → LeadsBy depth t (state_of s) reached.now.choices.items (state_of reached.now.state)
-        → AreLinked depth t found.new.snapshots.keys found.new.links.items) }
+    ensures linked { OnOk result ((depth : ℕ) (t : Litmus) (hidden : List (List Bool)) (s : Snapshot)
+        → AreLinked depth t hidden found.old.snapshots.keys found.old.links.items → slice_get found.old.snapshots.keys from ≡ Some s
+        → LeadsTo depth t hidden (state_of s) reached.now.choices.items (state_of reached.now.state)
+        → AreLinked depth t hidden found.new.snapshots.keys found.new.links.items) }
 {
     if found.snapshots.contains(&reached.state) {
         return Ok(());
@@ -65,24 +70,24 @@ pub fn visit(
     alloc: Global,
     found: &mut Found,
     reached: &mut Reached,
-    test: &Test,
-    depth: u8,
+    plan: &Plan,
     from: usize,
     choice: Choice,
 ) -> Result<(), NoMemory>
+    requires plan { IsPlan plan.now }
     requires from { from < length found.old.snapshots.keys }
-    requires cores { HaveCores test.now found.old.snapshots.keys }
-    requires linked { AreLinked depth test.now found.old.snapshots.keys found.old.links.items }
-    requires room { length reached.old.state.cores.items ≡ length test.now.programs }
-    requires chosen { chosen choice < length test.now.programs }
+    requires cores { HaveCores plan.now.test.now found.old.snapshots.keys }
+    requires linked { AreLinked plan.now.depth plan.now.test.now plan.now.hidden.now found.old.snapshots.keys found.old.links.items }
+    requires room { length reached.old.state.cores.items ≡ length plan.now.test.now.programs }
+    requires chosen { chosen choice < length plan.now.test.now.programs }
     ensures grows { OnOk result (Grows found.old.snapshots.keys found.new.snapshots.keys) }
-    ensures cores { OnOk result (HaveCores test.now found.new.snapshots.keys) }
-    ensures linked { OnOk result (AreLinked depth test.now found.new.snapshots.keys found.new.links.items) }
-    ensures room { OnOk result (length reached.new.state.cores.items ≡ length test.now.programs) }
+    ensures cores { OnOk result (HaveCores plan.now.test.now found.new.snapshots.keys) }
+    ensures linked { OnOk result (AreLinked plan.now.depth plan.now.test.now plan.now.hidden.now found.new.snapshots.keys found.new.links.items) }
+    ensures room { OnOk result (length reached.new.state.cores.items ≡ length plan.now.test.now.programs) }
     ensures visited { OnOk result ((s : Snapshot) → slice_get found.old.snapshots.keys from ≡ Some s
-        → IsVisited depth test.now found.new.snapshots.keys (state_of s) choice) }
+        → IsVisited plan.now.depth plan.now.test.now plan.now.hidden.now found.new.snapshots.keys (state_of s) choice) }
 {
-    if reach(reached, &found.snapshots[from], test, depth, choice)? {
+    if reach(reached, &found.snapshots[from], plan, choice)? {
         keep(alloc, found, reached, from)?;
     }
     Ok(())
@@ -95,27 +100,27 @@ fn visit_core(
     alloc: Global,
     found: &mut Found,
     reached: &mut Reached,
-    test: &Test,
-    depth: u8,
+    plan: &Plan,
     from: usize,
     core: u8,
 ) -> Result<(), NoMemory>
+    requires plan { IsPlan plan.now }
     requires from { from < length found.old.snapshots.keys }
-    requires cores { HaveCores test.now found.old.snapshots.keys }
-    requires linked { AreLinked depth test.now found.old.snapshots.keys found.old.links.items }
-    requires room { length reached.old.state.cores.items ≡ length test.now.programs }
-    requires core { core < length test.now.programs }
+    requires cores { HaveCores plan.now.test.now found.old.snapshots.keys }
+    requires linked { AreLinked plan.now.depth plan.now.test.now plan.now.hidden.now found.old.snapshots.keys found.old.links.items }
+    requires room { length reached.old.state.cores.items ≡ length plan.now.test.now.programs }
+    requires core { core < length plan.now.test.now.programs }
     ensures grows { OnOk result (Grows found.old.snapshots.keys found.new.snapshots.keys) }
-    ensures cores { OnOk result (HaveCores test.now found.new.snapshots.keys) }
-    ensures linked { OnOk result (AreLinked depth test.now found.new.snapshots.keys found.new.links.items) }
-    ensures room { OnOk result (length reached.new.state.cores.items ≡ length test.now.programs) }
+    ensures cores { OnOk result (HaveCores plan.now.test.now found.new.snapshots.keys) }
+    ensures linked { OnOk result (AreLinked plan.now.depth plan.now.test.now plan.now.hidden.now found.new.snapshots.keys found.new.links.items) }
+    ensures room { OnOk result (length reached.new.state.cores.items ≡ length plan.now.test.now.programs) }
     ensures visited { OnOk result ((s : Snapshot) → slice_get found.old.snapshots.keys from ≡ Some s
-        → AreVisited depth test.now found.new.snapshots.keys (state_of s) core) }
+        → AreVisited plan.now.depth plan.now.test.now plan.now.hidden.now found.new.snapshots.keys (state_of s) core) }
 {
     let step = Choice::Step(Core(core));
-    visit(alloc, found, reached, test, depth, from, step)?;
+    visit(alloc, found, reached, plan, from, step)?;
     let drain = Choice::Drain(Core(core));
-    visit(alloc, found, reached, test, depth, from, drain)
+    visit(alloc, found, reached, plan, from, drain)
 }
 
 /// Makes every choice in one of the snapshots.
@@ -125,23 +130,23 @@ pub fn expand(
     alloc: Global,
     found: &mut Found,
     reached: &mut Reached,
-    test: &Test,
-    depth: u8,
+    plan: &Plan,
     from: usize,
 ) -> Result<(), NoMemory>
+    requires plan { IsPlan plan.now }
     requires from { from < length found.old.snapshots.keys }
-    requires cores { HaveCores test.now found.old.snapshots.keys }
-    requires linked { AreLinked depth test.now found.old.snapshots.keys found.old.links.items }
-    requires room { length reached.old.state.cores.items ≡ length test.now.programs }
+    requires cores { HaveCores plan.now.test.now found.old.snapshots.keys }
+    requires linked { AreLinked plan.now.depth plan.now.test.now plan.now.hidden.now found.old.snapshots.keys found.old.links.items }
+    requires room { length reached.old.state.cores.items ≡ length plan.now.test.now.programs }
     ensures grows { OnOk result (Grows found.old.snapshots.keys found.new.snapshots.keys) }
-    ensures cores { OnOk result (HaveCores test.now found.new.snapshots.keys) }
-    ensures linked { OnOk result (AreLinked depth test.now found.new.snapshots.keys found.new.links.items) }
-    ensures room { OnOk result (length reached.new.state.cores.items ≡ length test.now.programs) }
+    ensures cores { OnOk result (HaveCores plan.now.test.now found.new.snapshots.keys) }
+    ensures linked { OnOk result (AreLinked plan.now.depth plan.now.test.now plan.now.hidden.now found.new.snapshots.keys found.new.links.items) }
+    ensures room { OnOk result (length reached.new.state.cores.items ≡ length plan.now.test.now.programs) }
     ensures expanded { OnOk result ((s : Snapshot) → slice_get found.old.snapshots.keys from ≡ Some s
-        → IsExpanded depth test.now (map state_of found.new.snapshots.keys) (state_of s)) }
+        → IsExpanded plan.now.depth plan.now.test.now plan.now.hidden.now (map state_of found.new.snapshots.keys) (state_of s)) }
 {
-    for core in 0..test.cores() {
-        visit_core(alloc, found, reached, test, depth, from, core)?;
+    for core in 0..plan.test.cores() {
+        visit_core(alloc, found, reached, plan, from, core)?;
     }
     Ok(())
 }
@@ -149,32 +154,37 @@ pub fn expand(
 /// What a search begins with: where the choices that need not wait lead from the first state.
 ///
 /// Errors: out of memory only.
-fn beginning(alloc: Global, test: &Test, depth: u8) -> Result<Found, NoMemory>
-    ensures cores { IfOk result (λ found. HaveCores test.now found.snapshots.keys) }
-    ensures linked { IfOk result (λ found. AreLinked depth test.now found.snapshots.keys found.links.items) }
-    ensures covered { IfOk result (λ found. IsCovered depth test.now (map state_of found.snapshots.keys) (start test.now)) }
+fn beginning(alloc: Global, plan: &Plan) -> Result<Found, NoMemory>
+    requires { IsPlan plan.now }
+    ensures cores { IfOk result (λ found. HaveCores plan.now.test.now found.snapshots.keys) }
+    ensures linked { IfOk result (λ found. AreLinked plan.now.depth plan.now.test.now plan.now.hidden.now found.snapshots.keys found.links.items) }
+    ensures covered { IfOk result (λ found. IsCovered plan.now.depth plan.now.test.now plan.now.hidden.now
+        (map state_of found.snapshots.keys) (start plan.now.test.now)) }
     ensures one { IfOk result (λ found. length found.snapshots.keys ≡ 1) }
 {
     let mut snapshots = IndexSet::new(alloc);
     let mut links = Vec::new(alloc);
-    let mut first = start(alloc, test)?;
+    let mut first = start(alloc, plan.test)?;
     let mut choices = Vec::new(alloc);
-    settle(&mut first, test, depth, &mut choices)?;
+    settle(&mut first, plan.test, plan.depth, &mut choices)?;
+    forget(&mut first, plan);
     snapshots.insert(first)?;
     links.push(Link { from: 0, choices })?;
     Ok(Found { snapshots, links })
 }
 
 /// Searches all states that choices lead to, but for those that are passed on the way to where no
-/// choice is eager.
+/// choice is eager. States that differ in dead registers alone are kept as one.
 ///
-/// Errors: too many where they are more than `limit`, and out of memory.
-pub fn search(alloc: Global, test: &Test, depth: u8, limit: usize) -> Result<Found, ExploreFault>
-    ensures searched { IfOk result (λ found. IsSearched depth test.now found.snapshots.keys found.links.items) }
-    ensures too_many { IfErr result (λ fault. fault ≡ ExploreFault.TooMany → HasMoreStates test.now depth limit) }
+/// Errors: too many where those that are kept are more than `limit`, and out of memory.
+pub fn search(alloc: Global, plan: &Plan, limit: usize) -> Result<Found, ExploreFault>
+    requires { IsPlan plan.now }
+    ensures searched { IfOk result (λ found. IsSearched plan.now.depth plan.now.test.now plan.now.hidden.now found.snapshots.keys found.links.items) }
+    ensures too_many { IfErr result (λ fault. fault ≡ ExploreFault.TooMany → HasMoreStates plan.now.test.now plan.now.depth limit) }
 {
-    let mut found = beginning(alloc, test, depth)?;
-    let mut reached = nowhere(alloc, test)?;
+    dead_registers_change_nothing();
+    let mut found = beginning(alloc, plan)?;
+    let mut reached = nowhere(alloc, plan.test)?;
     if limit == 0 {
         return Err(ExploreFault::TooMany);
     }
@@ -182,7 +192,7 @@ pub fn search(alloc: Global, test: &Test, depth: u8, limit: usize) -> Result<Fou
         if at >= found.snapshots.len() {
             break;
         }
-        expand(alloc, &mut found, &mut reached, test, depth, at)?;
+        expand(alloc, &mut found, &mut reached, plan, at)?;
         if found.snapshots.len() > limit {
             return Err(ExploreFault::TooMany);
         }

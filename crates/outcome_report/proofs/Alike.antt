@@ -10,35 +10,36 @@ use Rattle.tso_report.specs.Tally.{values_in}
 use Rattle.explorer.specs.FinalStates.{Have}
 use Rattle.explorer.specs.declared.final_states.FinalState.{FinalState}
 use Rattle.outcome_report.specs.Outcomes.{Outcome, outcome_of, shown_values, ArePrinted}
+use Rattle.outcome_report.specs.Hidden.{AreNotShown}
 use Rattle.outcome_report.specs.Laws.{AreAlike, OutcomesOfTheSameValuesAreAlike, OutcomesAreOneButForChoices}
 use Rattle.outcome_report.proofs.Members.{Member, to-member, member-place, member-map, member-each, same-lists}
 use Rattle.outcome_report.proofs.Showing.{truth-shown}
 
 -- ---- the same values
 
-printed-there : (t : Litmus) (others : List FinalState) (again : List Outcome) (registers : List (List ℕ)) (memory : List ℕ) → ArePrinted t others again → Have others registers memory
-    → Member (values_in t registers memory) (map (shown_values t) again)
-printed-there t others again registers memory printed h =
+printed-there : (t : Litmus) (hidden : List (List Bool)) (others : List FinalState) (again : List Outcome) (registers : List (List ℕ)) (memory : List ℕ) → AreNotShown t hidden → ArePrinted t others again
+    → Have hidden others registers memory → Member (values_in t registers memory) (map (shown_values t) again)
+printed-there t hidden others again registers memory unseen printed h =
     let g = h.final in
     let lt = slice_get_within others h.at g h.stands in
     let found : Contains (map (shown_values t) again) (shown_values t (outcome_of g)) =
     subst (λ f. Contains (map (shown_values t) again) (shown_values t (outcome_of f))) (get_or_from_slice_get others h.at g g h.stands) (printed.complete h.at g lt) in
-    subst (λ v. Member v (map (shown_values t) again)) (ap (λ r. values_in t r g.memory.items) h.registers_are ∙ ap (λ m. values_in t registers m) h.memory_is)
+    subst (λ v. Member v (map (shown_values t) again)) (unseen g.registers.items registers g.memory.items h.registers_are ∙ ap (λ m. values_in t registers m) h.memory_is)
     (to-member (shown_values t (outcome_of g)) (map (shown_values t) again) found)
 
-among : (t : Litmus) (finals others : List FinalState) (outcomes again : List Outcome)
-    → ((registers : List (List ℕ)) (memory : List ℕ) → Have finals registers memory → Have others registers memory)
+among : (t : Litmus) (hidden : List (List Bool)) (finals others : List FinalState) (outcomes again : List Outcome) → AreNotShown t hidden
+    → ((registers : List (List ℕ)) (memory : List ℕ) → Have hidden finals registers memory → Have hidden others registers memory)
     → ArePrinted t finals outcomes → ArePrinted t others again → (v : List ℕ) → Member v (map (shown_values t) outcomes) → Member v (map (shown_values t) again)
-among t finals others outcomes again have printed more v m =
+among t hidden finals others outcomes again unseen have printed more v m =
     let one = member-map (shown_values t) v outcomes m in
     let found : Contains (map outcome_of finals) one.0 =
     member-each (Contains (map outcome_of finals)) one.0 outcomes (recursion_from_All (Contains (map outcome_of finals)) outcomes printed.found) one.1 in
     let final = member-map outcome_of one.0 finals (to-member one.0 (map outcome_of finals) found) in
     let f = final.0 in
     let place = member-place f finals final.1 in
-    let there : Have finals f.registers.items f.memory.items = record { at = place.0; final = f; stands = place.1; registers_are = refl; memory_is = refl } in
+    let there : Have hidden finals f.registers.items f.memory.items = record { at = place.0; final = f; stands = place.1; registers_are = refl; memory_is = refl } in
     subst (λ w. Member w (map (shown_values t) again)) (sym (one.2 ∙ ap (shown_values t) final.2))
-    (printed-there t others again f.registers.items f.memory.items more (have f.registers.items f.memory.items there))
+    (printed-there t hidden others again f.registers.items f.memory.items unseen more (have f.registers.items f.memory.items there))
 
 -- ---- the same counts
 
@@ -77,9 +78,9 @@ same-values-alike t outcomes again test ascending more same =
     (λ v m. to-member v a ((same v).1 (from-member v b m))))
 
 pub one-but-for-choices : OutcomesAreOneButForChoices
-one-but-for-choices t finals others outcomes again test same printed more =
+one-but-for-choices t hidden finals others outcomes again test unseen same printed more =
     let values : map (shown_values t) outcomes ≡ map (shown_values t) again =
     same-lists (map (shown_values t) outcomes) (map (shown_values t) again) printed.ascending more.ascending
-    (among t finals others outcomes again (λ registers memory. (same registers memory).0) printed more)
-    (among t others finals again outcomes (λ registers memory. (same registers memory).1) more printed) in
+    (among t hidden finals others outcomes again unseen (λ registers memory. (same registers memory).0) printed more)
+    (among t hidden others finals again outcomes unseen (λ registers memory. (same registers memory).1) more printed) in
     alike t outcomes again test values

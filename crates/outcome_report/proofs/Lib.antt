@@ -7,3 +7,4 @@ pub mod Printing
 pub mod Members
 pub mod Showing
 pub mod Alike
+pub mod Hiding

@@ -1,6 +1,6 @@
 -- What the laws say that are too long for a line: each is the contract of the function of the same name. So it doesn't
 -- matter which of two states that look alike is printed.
-use Rattle.std.specs.Prelude.{ℕ, ◌≡◌, ◌↔◌, List, map, Some, Contains}
+use Rattle.std.specs.Prelude.{ℕ, ◌≡◌, ◌↔◌, Bool, List, map, Some, Contains}
 use Rattle.std.specs.Option.{ForSome}
 use Rattle.std.specs.Ordering.{nat_cmp}
 use Rattle.std.specs.Cmp.Lexicographic.{slice_cmp}
@@ -9,6 +9,7 @@ use Rattle.tso_model.specs.Litmus.{Litmus, IsTest}
 use Rattle.tso_model.specs.Condition.{Condition, truth_of}
 use Rattle.explorer.specs.FinalStates.{Have}
 use Rattle.explorer.specs.declared.final_states.FinalState.{FinalState}
+use Rattle.outcome_report.specs.Hidden.{AreNotShown}
 use Rattle.outcome_report.specs.Outcomes.{Outcome, shown_values, ArePrinted, held_in, failed_in}
 
 -- of two states that look alike the condition's proposition is true in both, or in none
@@ -31,9 +32,10 @@ OutcomesOfTheSameValuesAreAlike =
     → ((values : List ℕ) → Contains (map (shown_values t) outcomes) values ↔ Contains (map (shown_values t) others) values)
     → AreAlike t outcomes others
 
--- of the same final states, however they are listed and whichever choices stand with them, what is printed differs in choices alone
+-- of final states that are the same but for registers that no value shows, however they are listed and whichever choices stand
+-- with them, what is printed differs in choices alone
 abbrev pub OutcomesAreOneButForChoices : Type 0
 OutcomesAreOneButForChoices =
-    (t : Litmus) (finals others : List FinalState) (outcomes again : List Outcome) → IsTest t
-    → ((registers : List (List ℕ)) (memory : List ℕ) → Have finals registers memory ↔ Have others registers memory)
+    (t : Litmus) (hidden : List (List Bool)) (finals others : List FinalState) (outcomes again : List Outcome) → IsTest t → AreNotShown t hidden
+    → ((registers : List (List ℕ)) (memory : List ℕ) → Have hidden finals registers memory ↔ Have hidden others registers memory)
     → ArePrinted t finals outcomes → ArePrinted t others again → AreAlike t outcomes again

@@ -16,8 +16,8 @@ pub fn outcomes_of_the_same_values_are_alike()
     ensures { OutcomesOfTheSameValuesAreAlike }
 {}
 
-/// Of the same final states, however they are listed and whichever choices stand with them, what is printed differs in
-/// choices alone.
+/// Of final states that are the same but for registers that no value shows, however they are listed and whichever choices
+/// stand with them, what is printed differs in choices alone.
 pub fn outcomes_are_one_but_for_choices()
     ensures { OutcomesAreOneButForChoices }
 {}

@@ -1,1 +1,2 @@
 mod TracedRuns
+mod ExactSearches

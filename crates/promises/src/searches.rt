@@ -1,11 +1,17 @@
 //! All final states: what a search finds, and what is printed of it: no state is missed, and none is printed that can't be
 //! reached.
 
-ghost use Rattle.std.specs.Prelude.{◌≡◌, ◌↔◌, ℕ, Bool, IfOk, List, Some};
+ghost use Rattle.std.specs.Prelude.{◌≡◌, ◌↔◌, ℕ, Bool, IfOk, List, [], Some, slice_get};
 ghost use Rattle.tso_model.specs.Condition.{Condition, truth_of};
 ghost use Rattle.tso_model.specs.Litmus.{Litmus, IsTest};
 ghost use Rattle.tso_model.specs.declared.choice.Bus.TheVariants.{Atomic};
-ghost use Rattle.explorer.specs.FinalStates.{AreDistinct, AreWhatTsoAllows, AreWhatSequentialConsistencyAllows, Have};
+ghost use Rattle.outcome_laws.specs.Outcomes.{IsAllowedByTso, IsAllowedSequentially};
+ghost use Rattle.tso_model.specs.FlatMachine.{State};
+ghost use Rattle.tso_model.specs.declared.choice.Choice.{Choice};
+ghost use Rattle.eager_laws.specs.Dead as dead;
+ghost use Rattle.explorer.specs.Settled.{LeadsTo, LeadsBy};
+ghost use Rattle.explorer.specs.FinalStates.{AreDistinct, AreWhatTsoAllows, AreWhatSequentialConsistencyAllows, AreAmong, Have};
+ghost use Rattle.outcome_report.specs.Hidden.{AreNotShown};
 ghost use Rattle.explorer.specs.declared.final_states.FinalState.{FinalState};
 ghost use Rattle.protocol_tables.specs.declared.kind.ProtocolKind.{ProtocolKind};
 ghost use Rattle.machine_core.specs.Configuration.{Configuration};
@@ -20,24 +26,47 @@ ghost use Rattle.tso_cli.specs.Dividing.{parts_of, IsJoinable};
 ghost use Rattle.tso_cli.specs.Revisited.{AreRevisited};
 ghost use Rattle.tso_cli.specs.declared.answer.Status.TheVariants.{Good};
 
+use eager_laws::dead_registers_change_nothing;
 use explorer::{Exploration, ExploreFault, explore};
 use outcome_report::laws::{outcomes_are_one_but_for_choices, truth_is_shown};
 use std::alloc::Global;
 use tso_cli::laws::{inputs_have_one_answer, searches_reach_their_states};
 use tso_model::Test;
 
-/// With buffers of 32 stores a search finds what TSO allows, without buffers what sequential consistency allows, each once.
+/// With buffers of 32 stores a search finds what TSO allows, without buffers what sequential consistency allows, each once, but
+/// for registers that nobody looks at.
 pub fn a_search_finds_what_is_allowed(
     alloc: Global,
     test: &Test,
     depth: u8,
     limit: usize,
+    hidden: &[[bool; 6]],
 ) -> Result<Exploration, ExploreFault>
-    ensures tso { IfOk result (λ x. depth ≡ 32 → AreWhatTsoAllows test.now x.final_states.items) }
-    ensures sequential { IfOk result (λ x. depth ≡ 0 → AreWhatSequentialConsistencyAllows test.now x.final_states.items) }
-    ensures once { IfOk result (λ x. AreDistinct x.final_states.items) }
+    ensures tso { IfOk result (λ x. depth ≡ 32 → AreWhatTsoAllows test.now hidden.now x.final_states.items) }
+    ensures sequential { IfOk result (λ x. depth ≡ 0 → AreWhatSequentialConsistencyAllows test.now hidden.now x.final_states.items) }
+    ensures once { IfOk result (λ x. AreDistinct hidden.now x.final_states.items) }
 {
-    explore(alloc, test, depth, limit)
+    explore(alloc, test, depth, limit, hidden)
+}
+
+/// Where no register is hidden, they are exactly the final states that are allowed.
+pub fn where_no_register_is_hidden_they_are_exactly_those()
+    ensures tso { (t : Litmus) (finals : List FinalState) (registers : List (List ℕ)) (memory : List ℕ) → AreWhatTsoAllows t [] finals
+        → AreAmong finals registers memory ↔ IsAllowedByTso t registers memory }
+    ensures sequential { (t : Litmus) (finals : List FinalState) (registers : List (List ℕ)) (memory : List ℕ)
+        → AreWhatSequentialConsistencyAllows t [] finals → AreAmong finals registers memory ↔ IsAllowedSequentially t registers memory }
+    ensures once { (finals : List FinalState) (i j : ℕ) (f g : FinalState) → AreDistinct [] finals → slice_get finals i ≡ Some f
+        → slice_get finals j ≡ Some g → f.registers.items ≡ g.registers.items → f.memory.items ≡ g.memory.items → i ≡ j }
+{
+    dead_registers_change_nothing();
+}
+
+/// Choices that lead to a state which a search keeps lead to one that differs from it in dead registers alone.
+pub fn what_is_kept_is_reached_but_for_dead_registers()
+    ensures { (depth : ℕ) (t : Litmus) (hidden : List (List Bool)) (state kept : State) (choices : List Choice)
+        → LeadsTo depth t hidden state choices kept → (last : State) × LeadsBy depth t state choices last × dead.AreAlike t hidden kept last }
+{
+    dead_registers_change_nothing();
 }
 
 /// Of two states that look alike the condition's proposition is true in both, or in none.
@@ -48,10 +77,10 @@ pub fn states_that_look_alike_have_one_truth()
     truth_is_shown();
 }
 
-/// Of the same final states the same is printed, but for the choices.
+/// Of final states that are the same but for registers that no value shows the same is printed, but for the choices.
 pub fn the_same_states_are_printed_alike()
-    ensures { (t : Litmus) (finals others : List FinalState) (outcomes again : List Outcome) → IsTest t
-        → ((registers : List (List ℕ)) (memory : List ℕ) → Have finals registers memory ↔ Have others registers memory)
+    ensures { (t : Litmus) (hidden : List (List Bool)) (finals others : List FinalState) (outcomes again : List Outcome) → IsTest t → AreNotShown t hidden
+        → ((registers : List (List ℕ)) (memory : List ℕ) → Have hidden finals registers memory ↔ Have hidden others registers memory)
         → ArePrinted t finals outcomes → ArePrinted t others again → AreAlike t outcomes again }
 {
     outcomes_are_one_but_for_choices();

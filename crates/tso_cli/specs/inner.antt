@@ -9,3 +9,4 @@ pub mod Step
 pub mod Streams
 pub mod Sweep
 pub mod Trace
+pub mod Searched

@@ -27,17 +27,38 @@ X86 IRIW\n\
 \x20MOV [x],$1 | MOV EAX,[x] | MOV [y],$1 | MOV EAX,[y] ;\n\
 \x20           | MOV EBX,[y] |            | MOV EBX,[x] ;\n";
 
+const SAME_REGISTER: &[u8] = b"\
+X86 same-register\n\
+{ }\n\
+\x20P0          | P1          ;\n\
+\x20MOV EAX,[x] | MOV EAX,[y] ;\n\
+\x20MOV EAX,[x] | MOV EAX,[y] ;\n\
+\x20MOV [y],$1  | MOV [x],$1  ;\n\
+\x20MOV EAX,[x] | MOV EAX,[y] ;\n\
+\x20MOV [y],$2  | MOV [x],$2  ;\n";
+
+/// How many states a search of a test keeps, and how many final states it finds, where nobody looks at
+/// these registers.
+fn searched(rt: &impl Abort, alloc: Global, text: &[u8], hidden: &[[bool; 6]]) -> (usize, usize) {
+    let test = test_of(rt, alloc, text);
+    let found = explore(alloc, &test, 32, 10_000, hidden).expect(rt, MEMORY);
+    (found.kept, found.final_states.len())
+}
+
 /// How many final states a test has at a depth, where a search may keep a thousand states.
 fn count(rt: &impl Abort, alloc: Global, text: &[u8], depth: u8) -> usize {
     let test = test_of(rt, alloc, text);
-    let found = explore(alloc, &test, depth, 1000).expect(rt, MEMORY);
+    let found = explore(alloc, &test, depth, 1000, &[]).expect(rt, MEMORY);
     found.final_states.len()
 }
 
 /// Whether a search that may keep so many states of the first test finds that they are more.
 fn are_too_many(rt: &impl Abort, alloc: Global, limit: usize) -> bool {
     let test = test_of(rt, alloc, SB);
-    matches!(explore(alloc, &test, 32, limit), Err(ExploreFault::TooMany))
+    matches!(
+        explore(alloc, &test, 32, limit, &[]),
+        Err(ExploreFault::TooMany)
+    )
 }
 
 #[test]
@@ -58,4 +79,20 @@ fn more_states_than_the_limit_are_too_many(rt: HostRuntime) {
     assert!(rt; are_too_many(&rt, rt.alloc(), 0));
     assert!(rt; are_too_many(&rt, rt.alloc(), 3));
     assert!(rt; !are_too_many(&rt, rt.alloc(), 1000));
+}
+
+#[test]
+fn registers_that_nobody_looks_at_tell_no_states_apart(rt: HostRuntime) {
+    let (kept, finals) = searched(&rt, rt.alloc(), SAME_REGISTER, &[]);
+    let (fewer, alike) = searched(&rt, rt.alloc(), SAME_REGISTER, &[[true; 6]; 2]);
+    assert!(rt; fewer < kept);
+    assert!(rt; alike < finals);
+}
+
+#[test]
+fn a_register_that_is_looked_at_tells_states_apart(rt: HostRuntime) {
+    let eax = [false, true, true, true, true, true];
+    assert!(rt; searched(&rt, rt.alloc(), SB, &[eax; 2]).1 == 4);
+    assert!(rt; searched(&rt, rt.alloc(), SB, &[eax, [true; 6]]).1 == 2);
+    assert!(rt; searched(&rt, rt.alloc(), SB, &[[true; 6]; 2]).1 == 1);
 }

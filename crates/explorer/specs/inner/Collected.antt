@@ -1,30 +1,36 @@
 -- The final states that are collected from the snapshots of a search, as far as it has come: each once, with what it was
 -- made of.
-use Rattle.std.specs.Prelude.{ℕ, ◌≡◌, ◌<◌, true, List, Some, slice_get}
+use Rattle.std.specs.Prelude.{ℕ, ◌≡◌, ◌<◌, true, Bool, List, Some, slice_get}
 use Rattle.tso_model.specs.Litmus.{Litmus}
-use Rattle.tso_model.specs.FlatMachine.{registers_in}
+use Rattle.tso_model.specs.FlatMachine.{State, start, registers_in}
 use Rattle.tso_model.specs.Runs.{has_ended}
+use Rattle.eager_laws.specs.Dead.{forgotten}
 use Rattle.explorer.specs.State.{state_of}
-use Rattle.explorer.specs.inner.Settled.{IsPath}
+use Rattle.explorer.specs.Settled.{LeadsBy}
 use Rattle.explorer.specs.FinalStates.{Have, AreDistinct}
 use Rattle.explorer.specs.declared.snapshot.Snapshot.{Snapshot}
-use Rattle.explorer.specs.declared.link.Link.{Link}
 use Rattle.explorer.specs.declared.final_states.FinalState.{FinalState}
 
+-- the final state is what its choices lead to, and once dead registers are forgotten that is this state
+pub record IsFinalOf (depth : ℕ) (t : Litmus) (hidden : List (List Bool)) (kept : State) (f : FinalState) : Type 0 where
+  pub last : State
+  pub leads : LeadsBy depth t (start t) f.choices.items last
+  pub kept_is : forgotten t hidden last ≡ kept
+  pub registers_are : registers_in last ≡ f.registers.items
+  pub memory_is : last.memory ≡ f.memory.items
+
 -- a final state that was made of one of the first so many snapshots: one that has ended
-pub record IsMadeOf (t : Litmus) (snapshots : List Snapshot) (links : List Link) (count : ℕ) (f : FinalState) : Type 0 where
+pub record IsMadeOf (depth : ℕ) (t : Litmus) (hidden : List (List Bool)) (snapshots : List Snapshot) (count : ℕ) (f : FinalState) : Type 0 where
   pub at : ℕ
   pub snapshot : Snapshot
   pub within : at < count
   pub stands : slice_get snapshots at ≡ Some snapshot
   pub ended : has_ended t (state_of snapshot) ≡ true
-  pub registers_are : registers_in (state_of snapshot) ≡ f.registers.items
-  pub memory_is : snapshot.memory.items ≡ f.memory.items
-  pub path : IsPath links at f.choices.items
+  pub made : IsFinalOf depth t hidden (state_of snapshot) f
 
 -- those of the first so many snapshots that have ended, each once
-pub record AreFinalsOf (t : Litmus) (snapshots : List Snapshot) (links : List Link) (count : ℕ) (finals : List FinalState) : Type 0 where
-  pub each : (i : ℕ) (f : FinalState) → slice_get finals i ≡ Some f → IsMadeOf t snapshots links count f
+pub record AreFinalsOf (depth : ℕ) (t : Litmus) (hidden : List (List Bool)) (snapshots : List Snapshot) (count : ℕ) (finals : List FinalState) : Type 0 where
+  pub each : (i : ℕ) (f : FinalState) → slice_get finals i ≡ Some f → IsMadeOf depth t hidden snapshots count f
   pub all : (i : ℕ) (s : Snapshot) → i < count → slice_get snapshots i ≡ Some s → has_ended t (state_of s) ≡ true
-      → Have finals (registers_in (state_of s)) s.memory.items
-  pub once : AreDistinct finals
+      → Have hidden finals (registers_in (state_of s)) s.memory.items
+  pub once : AreDistinct hidden finals

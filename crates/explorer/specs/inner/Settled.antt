@@ -1,14 +1,15 @@
 -- What the search keeps from step to step: whatever a choice leads to from a state that was gone through is covered by a
 -- state that is kept. Nothing else shows that no end is missed.
-use Rattle.std.specs.Prelude.{ℕ, ◌≡◌, ◌≤◌, ◌++◌, List, length, map, Some, slice_get, ◌⊎◌, All, zero, suc}
+use Rattle.std.specs.Prelude.{ℕ, ◌≡◌, ◌≤◌, ◌++◌, Bool, List, length, map, Some, slice_get, ◌⊎◌, All, zero, suc}
 use Rattle.tso_model.specs.Litmus.{Litmus}
 use Rattle.tso_model.specs.FlatMachine.{State, start, after_choice, step, drain}
 use Rattle.tso_model.specs.declared.choice.Choice.{Choice}
 use Rattle.eager_laws.specs.Closed.{IsCovered, AreClosed, LeadsEagerly}
+use Rattle.eager_laws.specs.Dead.{forgotten}
 use Rattle.explorer.specs.State.{state_of}
 use Rattle.explorer.specs.declared.snapshot.Snapshot.{Snapshot}
 use Rattle.explorer.specs.declared.link.Link.{Link}
-use Rattle.explorer.specs.Settled.{LeadsBy}
+use Rattle.explorer.specs.Settled.{LeadsTo}
 
 -- no snapshot was taken away, and those that are new came last
 abbrev pub Grows : List Snapshot → List Snapshot → Type 0
@@ -18,47 +19,49 @@ Grows old new = (more : List Snapshot) × (new ≡ old ++ more)
 abbrev pub HaveCores : Litmus → List Snapshot → Type 0
 HaveCores t snapshots = All (λ s. length s.cores.items ≡ length t.programs) snapshots
 
--- choices lead from the one state to the other: a first one, and eager ones after it
-pub record IsReached (depth : ℕ) (t : Litmus) (state : State) (c : Choice) (choices : List Choice) (last : State) : Type 0 where
-  pub leads : LeadsBy depth t state choices last
+-- choices lead from the one state to the kept one, a first one and eager ones after it
+pub record IsReached (depth : ℕ) (t : Litmus) (hidden : List (List Bool)) (state : State) (c : Choice) (choices : List Choice) (kept : State) : Type 0 where
+  pub leads : LeadsTo depth t hidden state choices kept
+  pub last : State
   pub later : List Choice
   pub eager : LeadsEagerly depth t (after_choice t depth state c) later last
+  pub kept_is : forgotten t hidden last ≡ kept
 
 -- the choice stalls in the state, or what it leads to is covered
-abbrev pub IsVisited : ℕ → Litmus → List Snapshot → State → Choice → Type 0
-IsVisited depth t snapshots state c =
-    (after_choice t depth state c ≡ state) ⊎ IsCovered depth t (map state_of snapshots) (after_choice t depth state c)
+abbrev pub IsVisited : ℕ → Litmus → List (List Bool) → List Snapshot → State → Choice → Type 0
+IsVisited depth t hidden snapshots state c =
+    (after_choice t depth state c ≡ state) ⊎ IsCovered depth t hidden (map state_of snapshots) (after_choice t depth state c)
 
 -- both choices of a core
-abbrev pub AreVisited : ℕ → Litmus → List Snapshot → State → ℕ → Type 0
-AreVisited depth t snapshots state core =
-    IsVisited depth t snapshots state (step core) × IsVisited depth t snapshots state (drain core)
+abbrev pub AreVisited : ℕ → Litmus → List (List Bool) → List Snapshot → State → ℕ → Type 0
+AreVisited depth t hidden snapshots state core =
+    IsVisited depth t hidden snapshots state (step core) × IsVisited depth t hidden snapshots state (drain core)
 
 -- a link's choices lead to its snapshot: those of the first from the beginning of the test, those of each other from the
 -- snapshot that the link names, which stands before it
-abbrev pub IsLinked : ℕ → Litmus → List Snapshot → ℕ → Snapshot → Link → Type 0
-IsLinked depth t snapshots zero s link = LeadsBy depth t (start t) link.choices.items (state_of s)
-IsLinked depth t snapshots (suc i) s link =
+abbrev pub IsLinked : ℕ → Litmus → List (List Bool) → List Snapshot → ℕ → Snapshot → Link → Type 0
+IsLinked depth t hidden snapshots zero s link = LeadsTo depth t hidden (start t) link.choices.items (state_of s)
+IsLinked depth t hidden snapshots (suc i) s link =
     (r : Snapshot) × (link.from ≤ i) × (slice_get snapshots link.from ≡ Some r)
-    × LeadsBy depth t (state_of r) link.choices.items (state_of s)
+    × LeadsTo depth t hidden (state_of r) link.choices.items (state_of s)
 
 -- each snapshot has its link
-pub record AreLinked (depth : ℕ) (t : Litmus) (snapshots : List Snapshot) (links : List Link) : Type 0 where
+pub record AreLinked (depth : ℕ) (t : Litmus) (hidden : List (List Bool)) (snapshots : List Snapshot) (links : List Link) : Type 0 where
   pub count : length links ≡ length snapshots
   pub each : (i : ℕ) (s : Snapshot) (link : Link)
-      → slice_get snapshots i ≡ Some s → slice_get links i ≡ Some link → IsLinked depth t snapshots i s link
+      → slice_get snapshots i ≡ Some s → slice_get links i ≡ Some link → IsLinked depth t hidden snapshots i s link
 
 -- the snapshots miss no end of a run, each has a core for each program, and each has its link
-pub record IsSearched (depth : ℕ) (t : Litmus) (snapshots : List Snapshot) (links : List Link) : Type 0 where
-  pub closed : AreClosed depth t (map state_of snapshots)
+pub record IsSearched (depth : ℕ) (t : Litmus) (hidden : List (List Bool)) (snapshots : List Snapshot) (links : List Link) : Type 0 where
+  pub closed : AreClosed depth t hidden (map state_of snapshots)
   pub cores : HaveCores t snapshots
-  pub linked : AreLinked depth t snapshots links
+  pub linked : AreLinked depth t hidden snapshots links
 
 -- these choices lead from the beginning to the snapshot of this number, wherever the links are those of the snapshots
 abbrev pub IsPath : List Link → ℕ → List Choice → Type 0
 IsPath links at choices =
-    (depth : ℕ) (t : Litmus) (snapshots : List Snapshot) (s : Snapshot)
-    → AreLinked depth t snapshots links → slice_get snapshots at ≡ Some s → LeadsBy depth t (start t) choices (state_of s)
+    (depth : ℕ) (t : Litmus) (hidden : List (List Bool)) (snapshots : List Snapshot) (s : Snapshot)
+    → AreLinked depth t hidden snapshots links → slice_get snapshots at ≡ Some s → LeadsTo depth t hidden (start t) choices (state_of s)
 
 -- each link but the first names a snapshot before its own
 abbrev pub GoBack : List Link → Type 0

@@ -1,30 +1,30 @@
 use Rattle.explorer.proofs.Allowing.{finals-tso, finals-sequential}
-use Rattle.explorer.proofs.Finals.{finals-reached, finals-complete}
-use Rattle.explorer.proofs.Linking.{goes-back}
+use Rattle.explorer.proofs.Finals.{answered}
 use Rattle.explorer.proofs.final_states.explore.Goals as goal
-
-pub final_states-requires-clause-back : goal.final_states-requires-clause-back
-final_states-requires-clause-back c = goes-back c.args.depth c.args.test.now c.in_ok-found.found.snapshots.keys c.in_ok-found.found.links.items c.in_ok-found.ensures.searched.linked
 
 pub returns-clause-reached : goal.returns-clause-reached
 returns-clause-reached c =
-    finals-reached c.args.depth c.args.test.now c.in_ok-found.found.snapshots.keys c.in_ok-found.found.links.items _ c.in_ok-final_states.final_states.items c.in_ok-found.ensures.searched c.in_ok-final_states.ensures
+    (answered c.dead_registers_change_nothing.ensures c.closed_states_miss_none.ensures c.runs_stop_where_they_end.ensures _ c.args.depth _ c.args.test.now _ c.args.hidden.now c.in_ok-found.found.snapshots.keys
+    c.in_ok-found.found.links.items c.in_ok-final_states.final_states.items c.in_ok-plan.ensures.depth c.in_ok-plan.ensures.test c.in_ok-plan.ensures.hidden c.know_limits.ensures c.in_ok-found.ensures.searched c.in_ok-final_states.ensures).reached
 
 pub returns-clause-complete : goal.returns-clause-complete
 returns-clause-complete c =
-    finals-complete c.closed_states_miss_none.ensures c.runs_stop_where_they_end.ensures c.args.depth c.args.test.now c.in_ok-found.found.snapshots.keys c.in_ok-found.found.links.items
-    c.in_ok-final_states.final_states.items c.know_limits.ensures c.in_ok-found.ensures.searched c.in_ok-final_states.ensures
+    (answered c.dead_registers_change_nothing.ensures c.closed_states_miss_none.ensures c.runs_stop_where_they_end.ensures _ c.args.depth _ c.args.test.now _ c.args.hidden.now c.in_ok-found.found.snapshots.keys
+    c.in_ok-found.found.links.items c.in_ok-final_states.final_states.items c.in_ok-plan.ensures.depth c.in_ok-plan.ensures.test c.in_ok-plan.ensures.hidden c.know_limits.ensures c.in_ok-found.ensures.searched c.in_ok-final_states.ensures).complete
 
 pub returns-clause-tso : goal.returns-clause-tso
 returns-clause-tso c =
-    finals-tso c.ends_are_what_tso_allows.ensures c.args.test.now c.args.depth c.in_ok-final_states.final_states.items c.know_limits.ensures
-    (finals-reached c.args.depth c.args.test.now c.in_ok-found.found.snapshots.keys c.in_ok-found.found.links.items _ c.in_ok-final_states.final_states.items c.in_ok-found.ensures.searched c.in_ok-final_states.ensures)
-    (finals-complete c.closed_states_miss_none.ensures c.runs_stop_where_they_end.ensures c.args.depth c.args.test.now c.in_ok-found.found.snapshots.keys c.in_ok-found.found.links.items
-    c.in_ok-final_states.final_states.items c.know_limits.ensures c.in_ok-found.ensures.searched c.in_ok-final_states.ensures)
+    let a = answered c.dead_registers_change_nothing.ensures c.closed_states_miss_none.ensures c.runs_stop_where_they_end.ensures _ c.args.depth _ c.args.test.now _ c.args.hidden.now c.in_ok-found.found.snapshots.keys
+    c.in_ok-found.found.links.items c.in_ok-final_states.final_states.items c.in_ok-plan.ensures.depth c.in_ok-plan.ensures.test c.in_ok-plan.ensures.hidden c.know_limits.ensures c.in_ok-found.ensures.searched c.in_ok-final_states.ensures in
+    finals-tso c.ends_are_what_tso_allows.ensures c.args.test.now c.args.depth c.args.hidden.now c.in_ok-final_states.final_states.items c.know_limits.ensures a.reached a.complete
 
 pub returns-clause-sequential : goal.returns-clause-sequential
 returns-clause-sequential c =
-    finals-sequential c.ends_are_what_tso_allows.ensures c.args.test.now c.args.depth c.in_ok-final_states.final_states.items c.know_limits.ensures
-    (finals-reached c.args.depth c.args.test.now c.in_ok-found.found.snapshots.keys c.in_ok-found.found.links.items _ c.in_ok-final_states.final_states.items c.in_ok-found.ensures.searched c.in_ok-final_states.ensures)
-    (finals-complete c.closed_states_miss_none.ensures c.runs_stop_where_they_end.ensures c.args.depth c.args.test.now c.in_ok-found.found.snapshots.keys c.in_ok-found.found.links.items
-    c.in_ok-final_states.final_states.items c.know_limits.ensures c.in_ok-found.ensures.searched c.in_ok-final_states.ensures)
+    let a = answered c.dead_registers_change_nothing.ensures c.closed_states_miss_none.ensures c.runs_stop_where_they_end.ensures _ c.args.depth _ c.args.test.now _ c.args.hidden.now c.in_ok-found.found.snapshots.keys
+    c.in_ok-found.found.links.items c.in_ok-final_states.final_states.items c.in_ok-plan.ensures.depth c.in_ok-plan.ensures.test c.in_ok-plan.ensures.hidden c.know_limits.ensures c.in_ok-found.ensures.searched c.in_ok-final_states.ensures in
+    finals-sequential c.ends_are_what_tso_allows.ensures c.args.test.now c.args.depth c.args.hidden.now c.in_ok-final_states.final_states.items c.know_limits.ensures a.reached a.complete
+
+pub returns-clause-once : goal.returns-clause-once
+returns-clause-once c =
+    (answered c.dead_registers_change_nothing.ensures c.closed_states_miss_none.ensures c.runs_stop_where_they_end.ensures _ c.args.depth _ c.args.test.now _ c.args.hidden.now c.in_ok-found.found.snapshots.keys
+    c.in_ok-found.found.links.items c.in_ok-final_states.final_states.items c.in_ok-plan.ensures.depth c.in_ok-plan.ensures.test c.in_ok-plan.ensures.hidden c.know_limits.ensures c.in_ok-found.ensures.searched c.in_ok-final_states.ensures).once

@@ -1,11 +1,40 @@
-use Rattle.std.proofs.Common.{ap, sym, ◌∙◌, map}
-use Rattle.tso_model.specs.FlatMachine.{registers_in}
+use Rattle.std.proofs.Common.{◌≡◌, length, map, ap, sym, ◌∙◌, subst, arith}
+use Rattle.tso_model.specs.FlatMachine.{start, registers_in}
+use Rattle.tso_model.specs.Runs.{CoresExist}
+use Rattle.tso_laws.specs.Choices.{state_after}
 use Rattle.explorer.specs.State.{state_of}
+use Rattle.explorer.specs.Settled.{LeadsTo}
+use Rattle.explorer.specs.inner.Settled.{IsPath, GoBack}
 use Rattle.explorer.proofs.Ending.{registers-map}
-use Rattle.explorer.proofs.Searching.{same-some}
+use Rattle.explorer.proofs.Linking.{goes-back, get-some, leads-cores, leads-after}
 use Rattle.explorer.proofs.final_states.final_state.Goals as goal
 
-pub returns-clause-registers : goal.returns-clause-registers
-returns-clause-registers c = λ s at.
-    c.in_ok-registers.ensures ∙ ap (λ z. map (λ p. p.registers) z) c.deref.ensures.value ∙ registers-map c.index-snapshot.result.now.cores.items
-    ∙ ap (λ z. registers_in (state_of z)) (same-some _ _ (sym c.index-snapshot.ensures ∙ at))
+pub path-requires : goal.path-requires
+path-requires c = record {
+  at = let a = c.requires.at in let n = c.requires.linked.count in let l = ap length c.deref.ensures.value in omega (arith, a, n, l);
+  back = subst GoBack (sym c.deref.ensures.value) (goes-back c.args.plan.now.depth c.args.plan.now.test.now c.args.plan.now.hidden.now c.args.found.now.snapshots.keys c.args.found.now.links.items c.requires.linked);
+}
+
+pub state_after-requires : goal.state_after-requires
+state_after-requires c =
+    let s = get-some c.args.found.now.snapshots.keys c.args.at c.requires.at in
+    let path : IsPath c.args.found.now.links.items c.args.at c.in_ok-choices.choices.items = subst (λ z. IsPath z c.args.at c.in_ok-choices.choices.items) c.deref.ensures.value c.in_ok-choices.ensures in
+    let p = path c.args.plan.now.depth c.args.plan.now.test.now c.args.plan.now.hidden.now c.args.found.now.snapshots.keys s.0 c.requires.linked s.1 in
+    subst (CoresExist (length c.args.plan.now.test.now.programs)) (sym c.deref-2.ensures.value)
+    (leads-cores c.args.plan.now.depth c.args.plan.now.test.now (start c.args.plan.now.test.now) c.in_ok-choices.choices.items p.last p.leads)
+
+pub returns : goal.returns
+returns c = λ s at.
+    let path : IsPath c.args.found.now.links.items c.args.at c.in_ok-choices.choices.items = subst (λ z. IsPath z c.args.at c.in_ok-choices.choices.items) c.deref.ensures.value c.in_ok-choices.ensures in
+    let p : LeadsTo c.args.plan.now.depth c.args.plan.now.test.now c.args.plan.now.hidden.now (start c.args.plan.now.test.now) c.in_ok-choices.choices.items (state_of s) =
+    path c.args.plan.now.depth c.args.plan.now.test.now c.args.plan.now.hidden.now c.args.found.now.snapshots.keys s c.requires.linked at in
+    let same : state_of c.in_ok-last.last ≡ p.last =
+    c.in_ok-last.ensures ∙ ap (state_after c.args.plan.now.test.now c.args.plan.now.depth (start c.args.plan.now.test.now)) c.deref-2.ensures.value
+    ∙ leads-after c.args.plan.now.depth c.args.plan.now.test.now (start c.args.plan.now.test.now) c.in_ok-choices.choices.items p.last p.leads in
+    record {
+      last = p.last;
+      leads = p.leads;
+      kept_is = p.kept_is;
+      registers_are = sym (c.in_ok-registers.ensures ∙ ap (λ z. map (λ q. q.registers) z) c.deref-3.ensures.value ∙ registers-map c.in_ok-last.last.cores.items ∙ ap registers_in same);
+      memory_is = ap (λ z. z.memory) (sym same);
+    }

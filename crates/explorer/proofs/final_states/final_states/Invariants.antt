@@ -2,4 +2,4 @@ use Rattle.explorer.specs.inner.Collected.{AreFinalsOf}
 use Rattle.explorer.proofs.final_states.final_states.Given as goal
 
 abbrev pub invariant-loop-at : goal.invariant-loop-at
-invariant-loop-at l = AreFinalsOf l.test l.found.snapshots.keys l.found.links.items l.at l.final_states.items
+invariant-loop-at l = AreFinalsOf l.plan.depth l.plan.test.now l.plan.hidden.now l.found.snapshots.keys l.at l.final_states.items

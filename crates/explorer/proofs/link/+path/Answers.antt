@@ -15,7 +15,7 @@ returns t c =
     let items = c.in_ok-extend_from_slice.ensures.items ∙ ap (λ z. c.if-at-gt0.choices.items ++ z) c.deref.ensures.value in
     elim c.if-at-gt0.branch [
       | then-at-gt0+in_ok-choices w ↦
-          path-on c.args.links.now c.args.at w.index-links-at.result c.index-links-at-2.result c.extend_from_slice.new.self.items c.if-at-gt0.choices.items w.in_ok-choices.choices.items
+          path-on c.dead_registers_change_nothing.ensures c.args.links.now c.args.at w.index-links-at.result c.index-links-at-2.result c.extend_from_slice.new.self.items c.if-at-gt0.choices.items w.in_ok-choices.choices.items
           w.if-at-gt0.true c.requires.at w.in_ok-choices.ensures items (ap (λ z. z.items) w.choices-is)
       | else-at-gt0 w ↦
           path-first c.args.links.now c.args.at c.index-links-at-2.result c.extend_from_slice.new.self.items c.if-at-gt0.choices.items

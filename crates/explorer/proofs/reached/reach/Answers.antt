@@ -1,11 +1,26 @@
-use Rattle.std.proofs.Common.{◌≡◌, sym, ◌∙◌, subst}
-use Rattle.tso_model.specs.FlatMachine.{after_choice}
+use Rattle.std.proofs.Common.{◌≡◌, ℕ, [], ◌∷◌, ◌++◌, sym, ap, ◌∙◌, subst}
+use Rattle.tso_model.specs.Litmus.{Litmus}
+use Rattle.tso_model.specs.FlatMachine.{after_choice, effect_of}
+use Rattle.tso_model.specs.Runs.{stall_count}
 use Rattle.explorer.specs.State.{state_of}
-use Rattle.explorer.proofs.Choosing.{stall-why}
+use Rattle.explorer.proofs.Choosing.{stall-why, takes-effect}
+use Rattle.explorer.proofs.Linking.{reached-is}
 use Rattle.explorer.proofs.reached.reach.Goals as goal
 
 pub returns-then-has_stalled-clause-stalled : goal.returns-then-has_stalled-clause-stalled
 returns-then-has_stalled-clause-stalled c = λ q.
     let w = stall-why c.in_ok-outcome.outcome (sym c.has_stalled.ensures ∙ c.if-has_stalled.true) in
-    subst (λ z. after_choice c.args.test.now c.args.depth z c.args.choice ≡ z) c.in_ok-overwrite.ensures.value
-    (c.stalls_change_nothing.ensures c.args.test.now c.args.depth (state_of c.overwrite.new.state) c.args.choice w.0 (sym c.in_ok-outcome.ensures.outcome ∙ w.1)).same
+    subst (λ z. after_choice c.args.plan.now.test.now c.args.plan.now.depth z c.args.choice ≡ z) c.in_ok-overwrite.ensures.value
+    (c.stalls_change_nothing.ensures c.args.plan.now.test.now c.args.plan.now.depth (state_of c.overwrite.new.state) c.args.choice w.0 (sym c.in_ok-outcome.ensures.outcome ∙ w.1)).same
+
+pub returns-clause-reached : goal.returns-clause-reached
+returns-clause-reached c = λ q.
+    let t : Litmus = c.args.plan.now.test.now in
+    let d : ℕ = c.args.plan.now.depth in
+    let e = c.in_ok-overwrite.ensures.value in
+    reached-is d t c.args.plan.now.hidden.now (state_of c.args.snapshot.now) (state_of c.act.new.state) (state_of c.settle.new.state) (state_of c.forget.new.state) c.args.choice _ _ c.requires.chosen
+    (subst (λ z. stall_count (effect_of t d z c.args.choice).outcome ≡ 0) e
+    (subst (λ o. stall_count o ≡ 0) c.in_ok-outcome.ensures.outcome (takes-effect _ (sym c.has_stalled.ensures ∙ c.if-has_stalled.false))))
+    (c.in_ok-outcome.ensures.after ∙ ap (λ z. after_choice t d z c.args.choice) e)
+    (c.in_ok-push.ensures.items ∙ ap (λ z. z ++ c.args.choice ∷ []) c.clear.ensures.items)
+    c.in_ok-settle.ensures.settled c.forget.ensures.value

@@ -7,9 +7,9 @@ use Rattle.explorer.proofs.search.expand.Given as goal
 abbrev pub invariant-loop-core : goal.invariant-loop-core
 invariant-loop-core l = record {
   grows : Grows l.fn.found.snapshots.keys l.found.snapshots.keys;
-  cores : HaveCores l.test l.found.snapshots.keys;
-  linked : AreLinked l.depth l.test l.found.snapshots.keys l.found.links.items;
-  room : length l.reached.state.cores.items ≡ length l.test.programs;
+  cores : HaveCores l.plan.test.now l.found.snapshots.keys;
+  linked : AreLinked l.plan.depth l.plan.test.now l.plan.hidden.now l.found.snapshots.keys l.found.links.items;
+  room : length l.reached.state.cores.items ≡ length l.plan.test.now.programs;
   visited : (s : Snapshot) → slice_get l.fn.found.snapshots.keys l.from ≡ Some s → (k : ℕ) → k < l.core
-      → AreVisited l.depth l.test l.found.snapshots.keys (state_of s) k;
+      → AreVisited l.plan.depth l.plan.test.now l.plan.hidden.now l.found.snapshots.keys (state_of s) k;
 }

@@ -1,6 +1,6 @@
 use Rattle.std.proofs.Common.{map, sym, ◌∙◌, subst}
 use Rattle.eager_laws.specs.Closed.{IsIn}
-use Rattle.explorer.specs.Settled.{LeadsBy}
+use Rattle.explorer.specs.Settled.{LeadsTo}
 use Rattle.explorer.specs.State.{state_of}
 use Rattle.explorer.specs.contracts.snapshot.SnapshotPartialEq.TheImpl as snapshot_eq
 use Rattle.explorer.proofs.Linking.{linked-new}
@@ -29,8 +29,8 @@ returns-in_ok-push-clause-cores c = λ t h q.
     rw c.in_ok-added.ensures.keys (cores-insert (snapshot_eq.eq-value).it t c.args.found.now.snapshots.keys c.in_ok-state.state h (c.in_ok-state.ensures.cores ∙ q))
 
 pub returns-in_ok-push-clause-linked : goal.returns-in_ok-push-clause-linked
-returns-in_ok-push-clause-linked c = λ depth t s h at leads.
-    linked-new (snapshot_eq.eq-value).it depth t c.args.found.now.snapshots.keys _ c.in_ok-state.state c.args.found.now.links.items _ c.in_ok-added.ensures.keys c.in_ok-added.ensures.added h
+returns-in_ok-push-clause-linked c = λ depth t hidden s h at leads.
+    linked-new (snapshot_eq.eq-value).it depth t hidden c.args.found.now.snapshots.keys _ c.in_ok-state.state c.args.found.now.links.items _ c.in_ok-added.ensures.keys c.in_ok-added.ensures.added h
     s _ _ c.if-added.true c.in_ok-push.ensures.items at
-    (subst (λ z. LeadsBy depth t (state_of s) z (state_of c.in_ok-state.state)) (sym (c.in_ok-choices.ensures ∙ c.deref.ensures.value))
-    (subst (λ z. LeadsBy depth t (state_of s) c.args.reached.now.choices.items z) (sym c.in_ok-state.ensures.value) leads))
+    (subst (λ z. LeadsTo depth t hidden (state_of s) z (state_of c.in_ok-state.state)) (sym (c.in_ok-choices.ensures ∙ c.deref.ensures.value))
+    (subst (λ z. LeadsTo depth t hidden (state_of s) c.args.reached.now.choices.items z) (sym c.in_ok-state.ensures.value) leads))

@@ -1,0 +1,60 @@
+use Rattle.std.proofs.Common.{◌≡◌, ◌<◌, ◌∙◌, ℕ, ap, sym, subst, refl, arith, length, map, slice_index_or, Some}
+use Rattle.std.proofs.Math.ListN.{length-set}
+use Rattle.std.proofs.lemmas.Option.{slice_get-get_or}
+use Rattle.tso_model.specs.FlatMachine.{program_of}
+use Rattle.eager_laws.specs.Dead.{hidden_of, forgotten_core}
+use Rattle.explorer.specs.State.{core_of_processor}
+use Rattle.explorer.specs.inner.Planned.{AreDead}
+use Rattle.explorer.specs.declared.snapshot.Processor.{Processor}
+use Rattle.explorer.proofs.Choosing.{map-at, map-set}
+use Rattle.explorer.proofs.Ending.{length-map}
+use Rattle.explorer.proofs.Forgets.{forgets-more, forgets-all}
+use Rattle.explorer.proofs.forgetting.forget.Goals as goal
+
+pub loop-core-init : goal.loop-core-init
+loop-core-init c = record { count = refl; memory = refl; cores = refl }
+
+pub loop-core-preserved : goal.loop-core-preserved
+loop-core-preserved c =
+    let k : ℕ = c.loop-core.core in
+    let a = c.loop-core-test.true in
+    let b = c.cores-core-end.ensures.value in
+    let n = c.loop-core.invariant.count in
+    let m = c.requires.cores in
+    let o = c.requires.plan.count in
+    let at : c.from-at.result ≡ k = c.from-at.ensures in
+    let within : k < length c.loop-core.state.cores.items = omega (arith, a, b, n, m) in
+    let p : Processor = c.index_mut.result.now in
+    let h1 = c.index_mut.ensures.value in
+    let p-is : p ≡ slice_index_or c.loop-core.state.cores.items k p = cc in
+    let h2 = c.index.ensures in
+    let rows-is : c.index.result.now ≡ slice_index_or c.args.plan.now.dead.items k c.index.result.now = cc in
+    let rows : AreDead (program_of c.args.plan.now.test.now k) (hidden_of c.args.plan.now.hidden.now k) c.index.result.now.items =
+    c.requires.plan.each k c.index.result.now (slice_get-get_or c.args.plan.now.dead.items k c.index.result.now (omega (arith, a, b, o)) ∙ ap Some (sym rows-is)) in
+    let core-is : core_of_processor c.forget_core.new.processor ≡ forgotten_core (program_of c.args.plan.now.test.now k) (hidden_of c.args.plan.now.hidden.now k) (core_of_processor p) =
+    c.forget_core.ensures (hidden_of c.args.plan.now.hidden.now k)
+    (subst (λ z. AreDead z (hidden_of c.args.plan.now.hidden.now k) c.deref.result.now) (sym c.program.ensures.value)
+    (subst (λ z. AreDead (program_of c.args.plan.now.test.now k) (hidden_of c.args.plan.now.hidden.now k) z) (sym c.deref.ensures.value) rows))
+    ∙ ap (λ z. forgotten_core z (hidden_of c.args.plan.now.hidden.now k) (core_of_processor p)) c.program.ensures.value in
+    record {
+      count = length-set c.loop-core.state.cores.items c.from-at.result c.forget_core.new.processor ∙ n;
+      memory = c.loop-core.invariant.memory;
+      cores = forgets-more c.args.plan.now.test.now c.args.plan.now.hidden.now (map core_of_processor c.args.state.now.cores.items) (map core_of_processor c.loop-core.state.cores.items) _ k
+          (core_of_processor c.forget_core.new.processor) c.loop-core.invariant.cores (let w = length-map c.loop-core.state.cores.items in omega (arith, w, within))
+          (map-set c.loop-core.state.cores.items c.from-at.result c.forget_core.new.processor ∙ (rw at refl))
+          (core-is ∙ ap (forgotten_core (program_of c.args.plan.now.test.now k) (hidden_of c.args.plan.now.hidden.now k)) (ap core_of_processor p-is ∙ sym (map-at c.loop-core.state.cores.items k p within)));
+    }
+
+pub returns : goal.returns
+returns c =
+    let a = c.loop-core-test.false in
+    let b = c.cores-core-end.ensures.value in
+    let n = c.loop-core.invariant.count in
+    let m = c.requires.cores in
+    let w = length-map c.loop-core.state.cores.items in
+    let f = forgets-all c.args.plan.now.test.now c.args.plan.now.hidden.now (map core_of_processor c.args.state.now.cores.items) (map core_of_processor c.loop-core.state.cores.items) c.loop-core.core
+    c.loop-core.invariant.cores (omega (arith, a, b, n, m, w)) in
+    record {
+      value = rw (c.loop-core.invariant.memory, f) refl;
+      cores = n;
+    }

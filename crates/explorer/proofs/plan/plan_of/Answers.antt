@@ -1,0 +1,30 @@
+use Rattle.std.proofs.Common.{length, length-append, ◌∷◌, [], ap, subst, refl, arith}
+use Rattle.tso_model.specs.FlatMachine.{program_of}
+use Rattle.eager_laws.specs.Dead.{hidden_of}
+use Rattle.explorer.specs.inner.Planned.{AreDead}
+use Rattle.explorer.proofs.Planning.{plan-none, plan-more}
+use Rattle.explorer.proofs.plan.plan_of.Goals as goal
+
+pub loop-core-init : goal.loop-core-init
+loop-core-init c = record {
+  count = ap length c.new-dead.ensures.items;
+  each = plan-none (λ k rows. AreDead (program_of c.args.test.now k) (hidden_of c.args.hidden.now k) rows.items) c.new-dead.result.items c.new-dead.ensures.items;
+}
+
+pub loop-core-preserved : goal.loop-core-preserved
+loop-core-preserved c = record {
+  count = let a = ap length c.in_ok-push.ensures.items in let b = length-append c.loop-core.dead.items (c.in_ok-dead_registers.field-0 ∷ []) in let n = c.loop-core.invariant.count in omega (arith, a, b, n);
+  each = plan-more (λ k rows. AreDead (program_of c.args.test.now k) (hidden_of c.args.hidden.now k) rows.items) c.loop-core.dead.items c.loop-core.core c.in_ok-dead_registers.field-0 c.push.new.self.items
+      c.loop-core.invariant.count c.in_ok-push.ensures.items
+      (subst (λ z. AreDead z (hidden_of c.args.hidden.now c.loop-core.core) c.in_ok-dead_registers.field-0.items) c.program.ensures.value
+      (subst (λ z. AreDead c.program.result.now z c.in_ok-dead_registers.field-0.items) c.hidden_of-hidden.ensures c.in_ok-dead_registers.ensures))
+      c.loop-core.invariant.each;
+}
+
+pub returns : goal.returns
+returns c = let l = c.loop-core-test.false in let m = c.loop-core.auto.core-end in let n = c.cores-core-end.ensures.value in let k = c.loop-core.invariant.count in record {
+  plan = record { count = omega (arith, l, m, n, k); each = c.loop-core.invariant.each };
+  test = refl;
+  depth = refl;
+  hidden = refl;
+}

@@ -1,0 +1,48 @@
+//! Dead registers are forgotten: each gets 0, so that they tell no two states apart. Nothing else of a state changes.
+ghost use Rattle.std.specs.Prelude.{◌≡◌, ◌+◌, Bool, List, length};
+ghost use Rattle.tso_model.specs.declared.instruction.Instr.{Instr};
+ghost use Rattle.eager_laws.specs.Dead.{cleared, forgotten_core, forgotten};
+ghost use Rattle.explorer.specs.State.{state_of, core_of_processor};
+ghost use Rattle.explorer.specs.inner.Planned.{AreDead, IsPlan};
+
+use crate::plan::Plan;
+use crate::snapshot::{Processor, Snapshot};
+use tso_model::{Core, Instr};
+
+/// Puts 0 into the registers that are dead.
+fn clear(registers: &mut [u32; 6], dead: &[bool; 6])
+    ensures { registers.new ≡ cleared dead.now registers.old }
+{
+    for at in 0..6 {
+        if dead[at] {
+            registers[at] = 0;
+        }
+    }
+}
+
+/// Forgets the dead registers of a core.
+fn forget_core(processor: &mut Processor, program: &[Instr], dead: &[[bool; 6]])
+    requires { length dead.now ≡ length program.now + 1 }
+    ensures { (hidden : List Bool) → AreDead program.now hidden dead.now
+        → core_of_processor processor.new ≡ forgotten_core program.now hidden (core_of_processor processor.old) }
+{
+    let left = program.len().saturating_sub(usize::from(processor.place));
+    clear(&mut processor.registers, &dead[left]);
+}
+
+/// Forgets the dead registers of each core.
+pub fn forget(state: &mut Snapshot, plan: &Plan)
+    requires plan { IsPlan plan.now }
+    requires cores { length state.old.cores.items ≡ length plan.now.test.now.programs }
+    ensures value { state_of state.new ≡ forgotten plan.now.test.now plan.now.hidden.now (state_of state.old) }
+    ensures cores { length state.new.cores.items ≡ length state.old.cores.items }
+{
+    for core in 0..plan.test.cores() {
+        let at = usize::from(core);
+        forget_core(
+            &mut state.cores[at],
+            plan.test.program(Core(core)),
+            &plan.dead[at],
+        );
+    }
+}

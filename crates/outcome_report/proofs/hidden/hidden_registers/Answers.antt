@@ -1,0 +1,40 @@
+use Rattle.std.proofs.Common.{◌≡◌, ◌∙◌, ◌<◌, ℕ, Some, slice_get, length, inl, inr, ap, sym, subst, arith}
+use Rattle.tso_report.specs.declared.named.Named.{Named}
+use Rattle.outcome_report.specs.inner.Hidden.{IsNotHidden}
+use Rattle.outcome_report.proofs.Hiding.{core-known, whole, get-or, get-within, lt-or, not-shown}
+use Rattle.outcome_report.proofs.hidden.hidden_registers.Goals as goal
+
+pub show-requires : goal.show-requires
+show-requires c = λ core reg is.
+    let k = core-known _ _ _ _ c.loop-named.named-index _ core reg c.in_ok-names.ensures.known c.deref-named-items.ensures.value c.loop-named-test.true is in
+    let a = ap length c.deref_mut.ensures.value in
+    let b = c.loop-named.invariant.count in
+    omega (arith, k, a, b)
+
+pub loop-named-init : goal.loop-named-init
+loop-named-init c = record {
+  count = let a = c.loop-core.invariant in let b = c.loop-core-test.false in let l = c.loop-core.auto._core-end in let n = c.cores-core-end.ensures.value in omega (arith, a, b, l, n);
+  shown = λ j n l. absurd (let z : ⊥ = omega (arith, l) in z);
+}
+
+pub loop-named-preserved : goal.loop-named-preserved
+loop-named-preserved c =
+    let count = c.show.ensures.count ∙ ap length c.deref_mut.ensures.value in
+    let same = whole c.show.new.hidden c.loop-named.hidden.items c.loop-named.hidden.len count c.loop-named.hidden.ok.0 in
+    record {
+      count = ap length same ∙ count ∙ c.loop-named.invariant.count;
+      shown = λ j n l at. subst (λ z. IsNotHidden z n) (sym same) (elim (lt-or c.loop-named.named-index j) [
+        | inl m ↦ c.show.ensures.others n (subst (λ z. IsNotHidden z n) (sym c.deref_mut.ensures.value) (c.loop-named.invariant.shown j n m at))
+        | inr m ↦
+            let q : j ≡ c.loop-named.named-index = omega (arith, l, m) in
+            subst (IsNotHidden c.show.new.hidden) (get-or c.deref-named-items.result.now c.loop-named.named-index _ n (subst (λ z. slice_get c.deref-named-items.result.now z ≡ Some n) q at)) c.show.ensures.shown
+      ]);
+    }
+
+pub returns : goal.returns
+returns c =
+    not-shown c.args.test.now c.loop-named.hidden.items c.in_ok-names.names.items c.in_ok-names.ensures.list (λ j n at.
+    let l = get-within c.in_ok-names.names.items j n at in
+    let m = c.loop-named-test.false in
+    let a = ap length c.deref-named-items.ensures.value in
+    c.loop-named.invariant.shown j n (omega (arith, l, m, a)) (subst (λ z. slice_get z j ≡ Some n) (sym c.deref-named-items.ensures.value) at))

@@ -1,0 +1,43 @@
+//! Registers that no printed value shows. Of final states that differ in these alone one is enough, so a search need not
+//! tell them apart; a register that is looked at must not be among them.
+
+ghost use Rattle.std.specs.Prelude.{◌≡◌, ◌<◌, IfOk, length};
+ghost use Rattle.outcome_report.specs.Hidden.{AreNotShown};
+ghost use Rattle.outcome_report.specs.inner.Hidden.{IsNotHidden};
+ghost use Rattle.tso_model.specs.declared.instruction.Core.{Core};
+ghost use Rattle.tso_model.specs.declared.register.Reg.{Reg};
+ghost use Rattle.tso_report.specs.declared.named.Named.{Named};
+
+use std::alloc::Global;
+use tso_model::{NoMemory, Test};
+use tso_report::named::{Named, looked_at};
+
+/// What is named is looked at: a register of a core isn't hidden then.
+fn show(hidden: &mut [[bool; 6]], named: Named)
+    requires { (core : Core) (reg : Reg) → named ≡ Named.Register core reg → core.0 < length hidden.old }
+    ensures shown { IsNotHidden hidden.new named }
+    ensures others { (other : Named) → IsNotHidden hidden.old other → IsNotHidden hidden.new other }
+    ensures count { length hidden.new ≡ length hidden.old }
+{
+    match named {
+        Named::Register(core, reg) => hidden[usize::from(core.0)][reg.index()] = false,
+        Named::Location(_) => {}
+    }
+}
+
+/// Of each core which registers no printed value shows, in the order of `Reg::ALL`.
+///
+/// Errors: out of memory only.
+pub fn hidden_registers(alloc: Global, test: &Test) -> Result<Vec<[bool; 6]>, NoMemory>
+    ensures { IfOk result (λ hidden. AreNotShown test.now hidden.items) }
+{
+    let names = looked_at(alloc, test)?;
+    let mut hidden = Vec::new(alloc);
+    for _core in 0..test.cores() {
+        hidden.push([true; 6])?;
+    }
+    for named in &names {
+        show(&mut hidden, *named);
+    }
+    Ok(hidden)
+}

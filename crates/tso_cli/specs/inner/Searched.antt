@@ -1,0 +1,13 @@
+-- What a search must have found, so that its final states are printed as all that there are.
+use Rattle.std.specs.Prelude.{ℕ, List, map, Contains}
+use Rattle.tso_model.specs.Litmus.{Litmus}
+use Rattle.outcome_laws.specs.Outcomes.{IsEnd}
+use Rattle.explorer.specs.declared.final_states.FinalState.{FinalState}
+use Rattle.tso_report.specs.Tally.{values_in}
+use Rattle.outcome_report.specs.Outcomes.{outcome_of, shown_values}
+
+-- every end of the machine's runs at this depth looks like one of them
+abbrev pub ShowEveryEnd : Litmus → ℕ → List FinalState → Type 0
+ShowEveryEnd t depth finals =
+    (registers : List (List ℕ)) (memory : List ℕ) → IsEnd t depth registers memory
+    → Contains (map (λ f. shown_values t (outcome_of f)) finals) (values_in t registers memory)
