@@ -2,7 +2,7 @@
 use Rattle.std.proofs.Common.{arith, ◌≡◌, ◌≢◌, ◌≤◌, ℕ, zero, suc, Bool, true, false, List, [], ◌∷◌, length, take, map, slice_get, Option, Some, None, option_map, nat_eq, if◌then◌else◌, inl, inr, refl, sym, ap, ◌∙◌}
 use Rattle.std.proofs.lemmas.Bool.Decides.{eqb_tells}
 use Rattle.std.proofs.lemmas.Bool.{eq-eqb}
-use Rattle.std.specs.Map.{lookup, lookup_entry, remove_entry, set_value}
+use Rattle.std.specs.Map.{lookup, remove_entry, set_value}
 use Rattle.protocol_tables.specs.declared.state.State.TheVariants.{I}
 use Rattle.cache_set.specs.declared.Line.{Line}
 use Rattle.cache_set.specs.inner.Contents.{NoLineTwice, NoneInvalid, changed_at}
@@ -14,14 +14,6 @@ none = None
 either_none : (b : Bool) → (if b then none else none) ≡ none
 either_none true = refl
 either_none false = refl
-
--- an entry that is found, by its line and its copy
-pub lookup_entry-is : (line : ℕ) (es : List (ℕ × Line)) → lookup_entry (nat_eq line) es ≡ option_map (λ copy. (line, copy)) (lookup (nat_eq line) es)
-lookup_entry-is line [] = refl
-lookup_entry-is line (e ∷ es) = elim (eqb_tells line e.0) [
-  | inl p ↦ rw (p.0, p.1) refl
-  | inr p ↦ rw p.0 (lookup_entry-is line es)
-]
 
 -- a copy that is found is in no state I
 pub valid-found : (line : ℕ) (copy : Line) (es : List (ℕ × Line)) → NoneInvalid es → lookup (nat_eq line) es ≡ Some copy → copy.state ≢ I
@@ -203,16 +195,3 @@ module _ (change : Line → Line) (line : ℕ) where
         rw (p.0, rest, same) refl
     | inr p ↦ rw p.0 (ap (λ l. e ∷ l) (set_value-changed copy es d.1 (rw p.0 at h)))
   ]
-
--- A walk along the entries.
-
-pub lookup-first : (line here : ℕ) (copy : Line) (all left rest : List (ℕ × Line)) → lookup (nat_eq line) all ≡ lookup (nat_eq line) left → left ≡ (here, copy) ∷ rest → here ≡ line
-    → Some copy ≡ lookup (nat_eq line) all
-lookup-first line here copy all left rest among is same =
-    let this : nat_eq line here ≡ true = eq-eqb line here (sym same) in
-    sym (among ∙ ap (λ (es : List (ℕ × Line)). lookup (nat_eq line) es) is ∙ rw this refl)
-
-pub lookup-later : (line here : ℕ) (copy : Line) (left rest : List (ℕ × Line)) → left ≡ (here, copy) ∷ rest → here ≢ line → lookup (nat_eq line) left ≡ lookup (nat_eq line) rest
-lookup-later line here copy left rest is other =
-    ap (λ (es : List (ℕ × Line)). lookup (nat_eq line) es) is
-    ∙ elim (eqb_tells line here) [ inl p ↦ absurd (other (sym p.1)) | inr p ↦ rw p.0 refl ]

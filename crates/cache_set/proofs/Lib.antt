@@ -1,2 +1,4 @@
 pub mod Entries
 pub mod SetLemmas
+pub mod WayContents
+pub mod WayLists

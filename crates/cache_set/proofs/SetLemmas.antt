@@ -1,27 +1,17 @@
--- The contents of a set after each call: what holds of them, what is found in them, and that the list
--- which `lru` ends with is theirs.
-use Rattle.std.proofs.Common.{arith, ◌≡◌, ◌≢◌, ◌<◌, ◌-◌, ℕ, zero, suc, List, ◌∷◌, take, slice_get, Option, Some, None, IfSome, option_map, nat_eq, if◌then◌else◌, inl, inr, refl, sym}
+-- The contents of a set after each call: what holds of them, and what is found in them.
+use Rattle.std.proofs.Common.{arith, ◌≡◌, ◌≢◌, ◌-◌, ℕ, zero, suc, List, ◌∷◌, take, slice_get, Option, Some, None, IfSome, option_map, nat_eq, if◌then◌else◌, inl, inr, refl, sym}
 use Rattle.std.proofs.lemmas.Bool.Decides.{eqb_tells}
 use Rattle.std.proofs.lemmas.List.{length-map}
 use Rattle.std.specs.Option.{option_map_or}
-use Rattle.std.specs.Map.{lookup, remove_entry, set_value}
-use Rattle.lru.specs.LruCache.{lru_cache, promoted, put_entries}
+use Rattle.std.specs.Map.{lookup, remove_entry}
 use Rattle.protocol_tables.specs.declared.state.State.TheVariants.{I}
 use Rattle.cache_set.specs.declared.Line.{Line}
 use Rattle.cache_set.specs.declared.Victim.{Victim}
 use Rattle.cache_set.specs.Contents.{Contents, contents, copy_of, as_victim, victim_of}
 use Rattle.cache_set.specs.inner.Contents.{IsCacheSet, to_front, with_new, changed_at, with_changed, without, after_fill}
-use Rattle.cache_set.proofs.Entries.{lookup_entry-is, valid-found, lookup-remove, absent-remove, once-remove, valid-remove, length-remove, length-remove-found, once-take, valid-take, length-cut, lookup-at, lookup-cut, take-short, lookup-changed, once-changed, valid-changed, set_value-changed}
+use Rattle.cache_set.proofs.Entries.{valid-found, lookup-remove, absent-remove, once-remove, valid-remove, length-remove, length-remove-found, once-take, valid-take, length-cut, lookup-at, lookup-cut, take-short, lookup-changed, once-changed, valid-changed}
 
 -- A line goes to the front.
-
-pub contents-promoted : (line : ℕ) (es : List (ℕ × Line)) (ways : ℕ) → contents (promoted (nat_eq line) es) ways ≡ to_front line (contents es ways)
-contents-promoted line es ways = rw (lookup_entry-is line es) (found (lookup (nat_eq line) es))
-  where
-    found : (o : Option Line) → contents (option_map_or (λ e. e ∷ remove_entry (nat_eq line) es) (option_map (λ copy. (line, copy)) o) es) ways
-        ≡ contents (option_map_or (λ copy. (line, copy) ∷ remove_entry (nat_eq line) es) o es) ways
-    found None = refl
-    found (Some copy) = refl
 
 pub IsCacheSet-to_front : (line : ℕ) (s : Contents) → IsCacheSet s → IsCacheSet (to_front line s)
 IsCacheSet-to_front line s h = found (copy_of s line) refl
@@ -49,11 +39,6 @@ copy_of-to_front line k s new h is = rw is (found (copy_of s line) refl)
     ]
 
 -- A line comes in.
-
-pub put_entries-with_new : (line : ℕ) (copy : Line) (es : List (ℕ × Line)) (ways : ℕ) → 0 < ways → lookup (nat_eq line) es ≡ None
-    → contents (put_entries nat_eq (lru_cache es ways) line copy) ways ≡ with_new line copy (contents es ways)
-put_entries-with_new line copy es zero room absent = absurd (omega arith)
-put_entries-with_new line copy es (suc n) room absent = let one : suc n - 1 ≡ n = omega arith in rw (lookup_entry-is line es, absent, one) refl
 
 pub IsCacheSet-with_new : (line : ℕ) (copy : Line) (s : Contents) → copy_of s line ≡ None → copy.state ≢ I → IsCacheSet s → IsCacheSet (with_new line copy s)
 IsCacheSet-with_new line copy s absent valid h = record {
@@ -85,10 +70,6 @@ victim_of-was_here v s h left = rw left (last (slice_get s.copies (s.ways - 1)) 
     last (Some x) e = lookup-at (s.ways - 1) x s.copies h.once e
 
 -- A copy is changed.
-
-pub contents-set_value : (change : Line → Line) (line : ℕ) (copy : Line) (es : List (ℕ × Line)) (ways : ℕ) → IsCacheSet (contents es ways) → lookup (nat_eq line) es ≡ Some copy
-    → contents (set_value (nat_eq line) es (change copy)) ways ≡ with_changed change line (contents es ways)
-contents-set_value change line copy es ways h found = rw (set_value-changed change line copy es h.once found) refl
 
 pub IsCacheSet-with_changed : (change : Line → Line) (line : ℕ) (s : Contents) → ((copy : Line) → copy.state ≢ I → (change copy).state ≢ I) → IsCacheSet s → IsCacheSet (with_changed change line s)
 IsCacheSet-with_changed change line s keeps h = record {

@@ -1,21 +1,21 @@
-//! The hash of a line's number, which is that number: a set has a few lines, and a better hash would only cost time.
+//! The hash of a way's number, which is that number: a set has a few ways, and a better hash would only cost time.
 
 ghost use Rattle.std.specs.Prelude.{◌≡◌, fold};
 
 use std::hash::{BuildHasher, Hasher};
 
-/// Hashes the number of a line to itself. A set has few lines, so that more would only cost time.
+/// Hashes the number of a way to itself. A set has few ways, so that more would only cost time.
 #[derive(Clone, Copy)]
-pub struct LineHasher(u64);
+pub struct NumberHasher(u64);
 
-impl LineHasher {
+impl NumberHasher {
     /// The hasher before it was given a number.
     pub fn new() -> Self {
-        LineHasher(0)
+        NumberHasher(0)
     }
 }
 
-impl Hasher for LineHasher {
+impl Hasher for NumberHasher {
     ghost write = { λ h bytes. record { 0 = fold (λ last byte. byte) h.0 bytes } };
 
     ghost finish = { λ h. h.0 };
@@ -31,12 +31,12 @@ impl Hasher for LineHasher {
     }
 }
 
-impl BuildHasher for LineHasher {
-    type Hasher = LineHasher;
+impl BuildHasher for NumberHasher {
+    type Hasher = NumberHasher;
 
     ghost build_hasher = { λ h. h };
 
-    fn build_hasher(&self) -> LineHasher {
+    fn build_hasher(&self) -> NumberHasher {
         *self
     }
 }

@@ -7,13 +7,15 @@ ghost use Rattle.std.specs.Prelude.{◌≡◌, ◌≢◌, ◌<◌, ◌≤◌, �
 ghost use Rattle.cache_set.specs.Limits.{most_ways, most_words};
 
 mod hashing;
+mod ways;
 
-use crate::hashing::LineHasher;
-use lru::LruCache;
+use crate::ways::{
+    Way, Ways, copy_at, copy_of, empty_all, empty_ways, is_first, take_over, victim_in, way_of,
+    way_to_take_over,
+};
 use protocol_tables::State;
 use std::alloc::Global;
 use std::marker::Model;
-use std::num::NonZeroUsize;
 use tso_model::NoMemory;
 
 /// Maximum number of lines that a set has room for.
@@ -49,18 +51,19 @@ pub struct Victim {
 /// (`copies`), and that the above still holds (`valid`).
 #[derive(Drop)]
 pub struct CacheSet {
-    lines: LruCache<u8, Line, LineHasher>,
+    ways: Ways,
 }
 
 impl Model for CacheSet {
     ghost use Rattle.cache_set.specs.Contents.{Contents, contents};
     ghost use Rattle.cache_set.specs.inner.Contents.{IsCacheSet};
+    ghost use Rattle.cache_set.specs.inner.Ways.{copies_in, AreWays};
 
     ghost Value = { Contents };
 
-    ghost view = { λ s. contents s.lines.entries s.lines.cap };
+    ghost view = { λ s. contents (copies_in s.ways.entries) s.ways.cap };
 
-    ghost invariant = { λ s. IsCacheSet (contents s.lines.entries s.lines.cap) };
+    ghost invariant = { λ s. IsCacheSet (contents (copies_in s.ways.entries) s.ways.cap) × AreWays s.ways.entries s.ways.cap };
 }
 
 impl CacheSet {
@@ -77,9 +80,8 @@ impl CacheSet {
         requires { (0 < ways) × (ways ≤ most_ways) }
         ensures { IfOk result (λ s. s ≡ contents [] ways) }
     {
-        let capacity = NonZeroUsize::new(usize::from(ways)).unwrap();
-        let lines = LruCache::with_hasher(alloc, capacity, LineHasher::new())?;
-        Ok(CacheSet { lines })
+        let ways = empty_ways(alloc, ways)?;
+        Ok(CacheSet { ways })
     }
 
     /// The copy of a line, if it is here. Nothing moves.
@@ -88,13 +90,7 @@ impl CacheSet {
         ensures valid { IsCacheSet self.now }
         ensures copies { (k : ℕ) → IfSome (copy_of self.now k) (λ copy. copy.state ≢ State.I) }
     {
-        // A set has few lines, so a walk over them costs less than their hashes.
-        for (here, copy) in self.lines.iter() {
-            if *here == line {
-                return Some(copy);
-            }
-        }
-        None
+        copy_of(&self.ways, line)
     }
 
     /// The line of this rank with its copy, where rank 0 is the most recently used; `None` where there are
@@ -103,7 +99,7 @@ impl CacheSet {
         ensures value { result ≡ slice_get self.now.copies rank }
         ensures found { IfSome result (λ r. copy_of self.now r.0 ≡ Some r.1) }
     {
-        entry_at(&self.lines, rank)
+        copy_at(&self.ways, rank)
     }
 
     /// A line that is here was used: it goes to the front, and the others stay in their order.
@@ -113,7 +109,12 @@ impl CacheSet {
         ensures valid { IsCacheSet self.new }
         ensures copies { (k : ℕ) → copy_of self.new k ≡ copy_of self.old k }
     {
-        self.lines.promote(&line);
+        if is_first(&self.ways, line) {
+            return;
+        }
+        let _numbers = self.ways.len();
+        let number = way_of(&self.ways, line).unwrap();
+        self.ways.promote(&number);
     }
 
     /// A line that is not here comes in at the front, in a state other than I. A full set hands its
@@ -135,8 +136,16 @@ impl CacheSet {
         ensures err { OnErr result (self.new ≡ self.old) }
         ensures valid { IsCacheSet self.new }
     {
-        let victim = self.lines.push(line, Line { state, words })?;
-        Ok(victim.map(|(line, content)| Victim { line, content }))
+        let used = self.ways.len();
+        let copy = Line { state, words };
+        let new = Way { line, copy };
+        match way_to_take_over(&self.ways) {
+            Some(number) => Ok(victim_in(take_over(&mut self.ways, number, new))),
+            None => {
+                self.ways.push(used as u8, new)?;
+                Ok(None)
+            }
+        }
     }
 
     /// A line that is here goes to another state than I, and keeps its place.
@@ -147,8 +156,10 @@ impl CacheSet {
         ensures valid { IsCacheSet self.new }
         ensures copies { ChangesLine line (option_map (with_state state)) self.old self.new }
     {
-        let copy = self.lines.peek_mut(&line).unwrap();
-        copy.state = state;
+        let _numbers = self.ways.len();
+        let number = way_of(&self.ways, line).unwrap();
+        let way = self.ways.peek_mut(&number).unwrap();
+        way.copy.state = state;
     }
 
     /// The word at this place of a line that is here is written, and the line keeps its place in the set and
@@ -160,8 +171,10 @@ impl CacheSet {
         ensures valid { IsCacheSet self.new }
         ensures copies { ChangesLine line (option_map (with_word place value)) self.old self.new }
     {
-        let copy = self.lines.peek_mut(&line).unwrap();
-        copy.words[usize::from(place)] = value;
+        let _numbers = self.ways.len();
+        let number = way_of(&self.ways, line).unwrap();
+        let way = self.ways.peek_mut(&number).unwrap();
+        way.copy.words[usize::from(place)] = value;
     }
 
     /// A line that is here leaves, and the others stay in their order. Answers its copy.
@@ -172,7 +185,12 @@ impl CacheSet {
         ensures valid { IsCacheSet self.new }
         ensures copies { ChangesLine line (λ _. None) self.old self.new }
     {
-        self.lines.pop(&line).unwrap()
+        let _numbers = self.ways.len();
+        let number = way_of(&self.ways, line).unwrap();
+        let way = self.ways.peek_mut(&number).unwrap();
+        let copy = way.copy;
+        way.copy.state = State::I;
+        copy
     }
 
     /// Every line leaves, so that the set is as `new` left it.
@@ -181,13 +199,6 @@ impl CacheSet {
         ensures valid { IsCacheSet self.new }
         ensures copies { (k : ℕ) → copy_of self.new k ≡ None }
     {
-        self.lines.clear();
+        empty_all(&mut self.ways);
     }
-}
-
-/// The entry at this place of the list, if there is one. Nothing moves.
-fn entry_at(lines: &LruCache<u8, Line, LineHasher>, place: usize) -> Option<(u8, Line)>
-    ensures { result ≡ slice_get lines.now.entries place }
-{
-    lines.iter().nth(place).map(|(line, copy)| (*line, *copy))
 }

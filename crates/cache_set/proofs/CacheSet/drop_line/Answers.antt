@@ -1,18 +1,46 @@
-use Rattle.std.proofs.Common.{refl}
+use Rattle.std.proofs.Common.{◌≡◌, Some, nat_eq, sym, ap, ◌∙◌}
+use Rattle.std.specs.Map.{lookup}
+use Rattle.cache_set.specs.Contents.{Contents, copy_of}
 use Rattle.cache_set.specs.inner.Contents.{IsCacheSet}
+use Rattle.cache_set.specs.inner.Ways.{way_of}
 use Rattle.cache_set.proofs.SetLemmas.{IsCacheSet-without, copy_of-without}
+use Rattle.cache_set.proofs.WayLists.{once-distinct, way_of-some, way_of-found, some-copied, lookup-way}
+use Rattle.cache_set.proofs.WayContents.{contents-emptied, AreWays-set}
 use Rattle.cache_set.proofs.CacheSet.drop_line.Goals as goal
 
+pub unwrap-number-requires : goal.unwrap-number-requires
+unwrap-number-requires c = rw c.way_of.ensures (way_of-some c.args.line c.self.inside.ways.entries (rw (← c.self.view_is) at c.requires))
+
+pub unwrap-way-requires : goal.unwrap-way-requires
+unwrap-way-requires c =
+    let h : way_of c.args.line c.self.inside.ways.entries ≡ Some c.unwrap-number.result = sym (rw c.unwrap-number.ensures at c.way_of.ensures) in
+    let there = way_of-found c.args.line c.unwrap-number.result c.self.inside.ways.entries h in
+    some-copied c.peek_mut.result there.0 (c.peek_mut.ensures.value ∙ there.1)
+
 pub invariant_of-self : goal.invariant_of-self
-invariant_of-self c = rw c.pop.ensures.entries (IsCacheSet-without c.args.line _ c.self.invariant)
+invariant_of-self c =
+    let h : way_of c.args.line c.self.inside.ways.entries ≡ Some c.unwrap-number.result = sym (rw c.unwrap-number.ensures at c.way_of.ensures) in
+    let once = once-distinct c.self.inside.ways.entries c.len-numbers.ensures.valid.0 in
+    rw (contents-emptied c.args.line c.unwrap-number.result c.self.inside.ways.cap c.unwrap-way.result.now c.self.inside.ways.entries once h)
+    (IsCacheSet-without c.args.line _ c.self.invariant.0, AreWays-set c.unwrap-number.result c.self.inside.ways.cap _ c.self.inside.ways.entries c.self.invariant.1)
+
+pub returns-clause-content : goal.returns-clause-content
+returns-clause-content c =
+    let h : way_of c.args.line c.self.inside.ways.entries ≡ Some c.unwrap-number.result = sym (rw c.unwrap-number.ensures at c.way_of.ensures) in
+    let once = once-distinct c.self.inside.ways.entries c.len-numbers.ensures.valid.0 in
+    let found : lookup (nat_eq c.unwrap-number.result) c.self.inside.ways.entries ≡ Some c.unwrap-way.result.now = sym (rw c.unwrap-way.ensures at c.peek_mut.ensures.value) in
+    sym (lookup-way c.args.line c.unwrap-number.result c.unwrap-way.result.now c.self.inside.ways.entries once h found).1.1 ∙ ap (λ (s : Contents). copy_of s c.args.line) c.self.view_is
 
 pub returns-clause-exact : goal.returns-clause-exact
-returns-clause-exact c = rw (c.pop.ensures.entries, ← c.self.view_is) refl
+returns-clause-exact c =
+    let h : way_of c.args.line c.self.inside.ways.entries ≡ Some c.unwrap-number.result = sym (rw c.unwrap-number.ensures at c.way_of.ensures) in
+    let once = once-distinct c.self.inside.ways.entries c.len-numbers.ensures.valid.0 in
+    rw (← c.self.view_is) (contents-emptied c.args.line c.unwrap-number.result c.self.inside.ways.cap c.unwrap-way.result.now c.self.inside.ways.entries once h)
 
 pub returns-clause-valid : goal.returns-clause-valid
-returns-clause-valid c = invariant_of-self c
+returns-clause-valid c = (invariant_of-self c).0
 
 pub returns-clause-copies : goal.returns-clause-copies
 returns-clause-copies c = λ k.
-    let was : IsCacheSet c.args.self.now = rw c.self.view_is at c.self.invariant in
+    let was : IsCacheSet c.args.self.now = rw c.self.view_is at c.self.invariant.0 in
     copy_of-without c.args.line k c.args.self.now _ was (returns-clause-exact c)

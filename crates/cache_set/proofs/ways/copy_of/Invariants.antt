@@ -1,0 +1,8 @@
+use Rattle.std.proofs.Common.{◌≡◌, nat_eq}
+use Rattle.std.specs.Map.{lookup}
+use Rattle.cache_set.specs.inner.Ways.{copies_in}
+use Rattle.cache_set.proofs.ways.copy_of.Given as goal
+
+-- the line is among those that are left, if it is here at all
+abbrev pub invariant-loop-way : goal.invariant-loop-way
+invariant-loop-way l = lookup (nat_eq l.line) (copies_in l.ways.entries) ≡ lookup (nat_eq l.line) (copies_in l.way-iterator)
