@@ -71,7 +71,11 @@ pub mod RefusedOpens
 pub mod RefusedLast
 pub mod RefusedTexts
 pub mod Decided
-pub mod Closings
 pub mod TokensRead
 pub mod Lexed
-pub mod Remaining
+pub mod SectionSteps
+pub mod Cuts
+pub mod SettingCuts
+pub mod SectionItems
+pub mod SectionRows
+pub mod SectionReadings

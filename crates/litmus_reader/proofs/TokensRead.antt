@@ -1,20 +1,17 @@
 -- Tokens, one after the other, and the ends of a text that they leave.
-use Rattle.std.proofs.Common.{◌≡◌, ℕ, ◌-◌, ◌≤◌, Bool, true, false, eqb, eqb-true, nat_eq, ltb, ◌&&◌, List, [], ◌∷◌, ◌++◌, length, drop, Option, Some, None, Result, Ok, Err, refl, sym, ap, subst, ◌∙◌, inl, inr, append_assoc, true≢false, arith}
+use Rattle.std.proofs.Common.{◌≡◌, ℕ, ◌≤◌, Bool, true, false, eqb, eqb-true, nat_eq, ltb, ◌&&◌, List, [], ◌∷◌, ◌++◌, length, drop, Option, Some, None, Result, Ok, refl, sym, ap, subst, ◌∙◌, inl, inr, append_assoc, true≢false, arith}
 use Rattle.std.specs.List.{list_all, prefix_len, starts_with}
 use Rattle.std.specs.Char.{is_ascii_digit}
-use Rattle.std.proofs.Math.Seq.{drop-append_seam}
 use Rattle.std.proofs.lemmas.Bool.Decides.{nat_tests}
 use Rattle.std.proofs.lemmas.List.{length-append}
 use Rattle.tso_model.specs.Limits.{longest_name}
 use Rattle.tso_model.specs.Names.{begins_name, continues_name}
 use Rattle.litmus_tokens.specs.declared.token.Stop.{Stop}
-use Rattle.litmus_tokens.specs.declared.token.Stop.TheVariants.{End, BadToken, Unclosed}
 use Rattle.litmus_tokens.specs.declared.token.Symbol.{Symbol}
 use Rattle.litmus_tokens.specs.declared.token.Symbol.TheVariants.{Equals, Semicolon, Colon, OpenSquare, CloseSquare, OpenCurly, CloseCurly, Bar, Comma, Dollar, Tilde, OpenRound, CloseRound, And, Or}
 use Rattle.litmus_tokens.specs.Gap.{is_space, opens_comment, closes_comment, gap_end}
 use Rattle.litmus_tokens.specs.Terms.{Term, symbol, spelling_of, symbols, symbol_among, symbol_of, run_of, symbol_or_bad, term_at}
 use Rattle.litmus_tokens.specs.Front.{is_symbol_term}
-use Rattle.litmus_reader.specs.Places.{from_place}
 use Rattle.litmus_reader.proofs.GrammarTokens.{chosen, pair_is}
 use Rattle.litmus_reader.proofs.GrammarRuns.{both, Stops, run, run_after}
 
@@ -33,13 +30,6 @@ end_further text bytes rest a b = record { front = a.front ++ b.front; parts = a
 
 pub end_within : (text bytes : List ℕ) → AreEnd text bytes → length bytes ≤ length text
 end_within text bytes a = let whole : length text ≡ length (a.front ++ bytes) = ap (λ (l : List ℕ). length l) a.parts in omega (arith, whole, length-append a.front bytes)
-
--- an end stands at the place from which its bytes are left
-pub end_placed : (text bytes : List ℕ) → AreEnd text bytes → from_place text (length bytes) ≡ bytes
-end_placed text bytes a =
-    let whole : length text ≡ length (a.front ++ bytes) = ap (λ (l : List ℕ). length l) a.parts in
-    let skipped : length text - length bytes ≡ length a.front = omega (arith, whole, length-append a.front bytes) in
-    ap (λ (n : ℕ). drop n text) skipped ∙ ap (λ (l : List ℕ). drop (length a.front) l) a.parts ∙ drop-append_seam a.front bytes
 
 -- ---- gaps
 
@@ -76,30 +66,6 @@ gap_read (Some opener) (b ∷ c ∷ bs) at e =
     elim (chosen (closes_comment b c) _ _ (Ok at) e) [
       | inl hit ↦ more_gap (b ∷ c ∷ []) (b ∷ c ∷ bs) bs at refl (gap_read None bs at hit.1)
       | inr miss ↦ more_gap (b ∷ []) (b ∷ c ∷ bs) (c ∷ bs) at refl (gap_read (Some opener) (c ∷ bs) at miss.1)
-    ]
-
-same_stop : (x y : Stop) → (let r : Result (List ℕ) Stop = Err x in r) ≡ Err y → x ≡ y
-same_stop x y e = cc
-
--- only a comment that doesn't end stops a gap
-pub gap_stops : (opener : Option ℕ) (bytes : List ℕ) (stop : Stop) → gap_end opener bytes ≡ Err stop → (remaining : ℕ) × (stop ≡ Unclosed remaining)
-unfolding gap_end
-gap_stops None [] stop e = absurd cc
-gap_stops None (b ∷ []) stop e = elim (chosen (is_space b) (Ok []) (Ok (b ∷ [])) (Err stop) e) [ inl hit ↦ absurd cc | inr miss ↦ absurd cc ]
-gap_stops None (b ∷ c ∷ bs) stop e =
-    elim (chosen (is_space b) _ _ (Err stop) e) [
-      | inl hit ↦ gap_stops None (c ∷ bs) stop hit.1
-      | inr miss ↦ elim (chosen (opens_comment b c) _ _ (Err stop) miss.1) [
-        | inl opens ↦ gap_stops (Some (length (b ∷ c ∷ bs))) bs stop opens.1
-        | inr solid ↦ absurd cc
-      ]
-    ]
-gap_stops (Some opener) [] stop e = (opener, sym (same_stop _ _ e))
-gap_stops (Some opener) (b ∷ []) stop e = (opener, sym (same_stop _ _ e))
-gap_stops (Some opener) (b ∷ c ∷ bs) stop e =
-    elim (chosen (closes_comment b c) _ _ (Err stop) e) [
-      | inl hit ↦ gap_stops None bs stop hit.1
-      | inr miss ↦ gap_stops (Some opener) (c ∷ bs) stop miss.1
     ]
 
 -- ---- single tokens
@@ -243,30 +209,3 @@ term_read (b ∷ bs) t after e =
         let same = ok_both (symbol s) t rest after h in
         let spelled = symbol_spelled symbols (b ∷ bs) s rest found in
         subst (λ y. TokenRead (b ∷ bs) y after) same.0 (symbol_read s b bs after spelled.0 (sym same.1 ∙ spelled.1))
-
--- where no token stands, the bytes are at their end, or the first of them begins none
-pub data TermStops (bytes : List ℕ) (stop : Stop) : Type 0 where
-  at_end : bytes ≡ [] → stop ≡ End → TermStops bytes stop
-  at_bad : stop ≡ BadToken (length bytes) → TermStops bytes stop
-
-term_stop : (x y : Stop) → (let r : Result (Term × List ℕ) Stop = Err x in r) ≡ Err y → y ≡ x
-term_stop x y e = cc
-
-pub term_stops : (bytes : List ℕ) (stop : Stop) → term_at bytes ≡ Err stop → TermStops bytes stop
-unfolding term_at
-term_stops [] stop e = at_end refl (term_stop End stop e)
-term_stops (b ∷ bs) stop e =
-    elim (chosen (is_ascii_digit b) _ _ (Err stop) e) [
-      | inl digit ↦ absurd cc
-      | inr none ↦ elim (chosen (begins_name b) _ _ (Err stop) none.1) [
-        | inl begins ↦ elim (chosen (ltb longest_name (length (run_of continues_name (b ∷ bs)).0)) _ _ (Err stop) begins.1) [
-          | inl long ↦ at_bad (term_stop _ stop long.1)
-          | inr short ↦ absurd cc
-        ]
-        | inr neither ↦ by_symbol (symbol_of (b ∷ bs)) neither.1
-      ]
-    ]
-  where
-    by_symbol : (o : Option (Symbol × List ℕ)) → symbol_or_bad (length (b ∷ bs)) o ≡ Err stop → TermStops (b ∷ bs) stop
-    by_symbol None h = at_bad (term_stop _ stop h)
-    by_symbol (Some found) h = absurd cc

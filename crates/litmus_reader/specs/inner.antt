@@ -13,6 +13,6 @@ pub mod Locations
 pub mod Observed
 pub mod Arguments
 pub mod Reading
-pub mod Remaining
 pub mod Returned
 pub mod Rows
+pub mod Sections

@@ -6,19 +6,20 @@ ghost use Rattle.std.specs.Prelude.{◌≡◌, ◌≤◌, ◌<◌, ◌++◌, ◌
 ghost use Rattle.std.specs.List.{list_any};
 ghost use Rattle.tso_model.specs.Limits.{most_cores};
 ghost use Rattle.litmus_reader.specs.inner.Faults.{Gives};
-ghost use Rattle.litmus_tokens.specs.inner.Mapped.{mapped};
 ghost use Rattle.litmus_reader.specs.Locations.{texts};
 ghost use Rattle.litmus_reader.specs.inner.Settings.{setting_of};
 ghost use Rattle.litmus_reader.specs.inner.Initial as spec;
 ghost use Rattle.litmus_reader.specs.inner.Initial.{given_of, KnowsGiven};
-ghost use Rattle.litmus_reader.specs.inner.Returned.{GivesJudged, GivesItem, GivesInitial, so_far};
+ghost use Rattle.litmus_reader.specs.inner.Returned.{GivesJudged, GivesItem, GivesSection, GivesInitial, so_far};
+ghost use Rattle.litmus_reader.specs.inner.Sections.{tokens_in, stop_of};
 ghost use Rattle.litmus_reader.specs.Places as places;
 
 use crate::fault::{Fault, Part, ReadError, Why, at_stop, remaining_of};
 use crate::location::located;
+use crate::section::{after_opening, read_item_tokens};
 use crate::setting::{SpelledSetting, core_of, setting_at, word_at};
 use indexmap::IndexSet;
-use litmus_tokens::{Stop, Symbol, Token, after_symbol, is_symbol};
+use litmus_tokens::{Stop, Symbol, Token, is_symbol};
 use std::alloc::Global;
 use tso_model::{NoMemory, Reg};
 
@@ -41,21 +42,6 @@ pub struct Initial<'a> {
     /// Which registers these are, so that one is found among many at once: the digits of the core, and
     /// the register's number.
     given: IndexSet<(&'a [u8], usize)>,
-}
-
-fn before_initial(stop: Stop) -> Part
-    ensures { result ≡ spec.before_initial stop }
-{
-    Part {
-        why: Why::BadToken,
-        missing: at_stop(
-            Fault {
-                why: Why::Unclosed,
-                remaining: 0,
-            },
-            stop,
-        ),
-    }
 }
 
 fn in_initial(remaining: usize, stop: Stop) -> Part
@@ -171,9 +157,19 @@ fn read_item<'a, 'b>(
     Ok(rest)
 }
 
-/// Reads the `;` or the item at the front, and answers the tokens after it.
-#[tactic(auto, unfolding(crate::specs::inner::Initial::step_in))]
-fn read_step<'a, 'b>(
+#[tactic(auto, unfolding(crate::specs::inner::Initial::closes))]
+fn closes(tokens: &[Token<'_>]) -> bool
+    ensures { result ≡ spec.closes (pieces tokens.now) }
+{
+    match tokens.first() {
+        Some(first) => is_symbol(Symbol::CloseCurly, first),
+        None => false,
+    }
+}
+
+/// Reads the item at the front, unless an item ends there, and answers the tokens from that end on.
+#[tactic(auto, unfolding(crate::specs::inner::Initial::item_or_none))]
+fn read_item_or_none<'a, 'b>(
     part: Part,
     state: &mut Initial<'a>,
     names: &mut IndexSet<&'a [u8]>,
@@ -181,48 +177,59 @@ fn read_step<'a, 'b>(
 ) -> Result<&'b [Token<'a>], ReadError>
     requires { KnowsGiven state.old }
     ensures knows { OnOk result (KnowsGiven state.new) }
-    ensures value { GivesItem result names.new.keys state.new (spec.step_in part (so_far names.old.keys state.old) (pieces tokens.now)) }
-    ensures shorter { IfOk result (λ rest. length rest.now < length tokens.now) }
+    ensures value { GivesItem result names.new.keys state.new (spec.item_or_none part (so_far names.old.keys state.old) (pieces tokens.now)) }
 {
-    if let Some(rest) = after_symbol(Symbol::Semicolon, tokens) {
-        return Ok(rest);
+    if ends_item(tokens) {
+        return Ok(tokens);
     }
     read_item(part, state, names, tokens)
 }
 
-/// What stands after the `{` at the front.
-fn after_opening<'a, 'b>(stop: Stop, tokens: &'b [Token<'a>]) -> Result<&'b [Token<'a>], Fault>
-    ensures { mapped (λ x. pieces x.now) result ≡ spec.opened_at stop (pieces tokens.now) }
+/// Reads a section of the initial state, and answers whether the initial state ends with it.
+#[tactic(auto, unfolding(crate::specs::inner::Initial::section_in))]
+fn read_section<'a>(
+    part: Part,
+    state: &mut Initial<'a>,
+    names: &mut IndexSet<&'a [u8]>,
+    tokens: &[Token<'a>],
+) -> Result<bool, ReadError>
+    requires { KnowsGiven state.old }
+    ensures knows { OnOk result (KnowsGiven state.new) }
+    ensures value { GivesSection result names.new.keys state.new (spec.section_in part (so_far names.old.keys state.old) (pieces tokens.now)) }
 {
-    before_initial(stop).expect(tokens, after_symbol(Symbol::OpenCurly, tokens))
+    let end = read_item_or_none(part, state, names, tokens)?;
+    Ok(closes(end))
 }
 
-/// Reads the initial state, and answers what it gives and the tokens after it. There are no names
-/// of locations before it.
+/// Reads the initial state with which a text begins, and answers what it gives and what stands after it.
+/// There are no names of locations before it.
 ///
 /// `BadInit` at a token that doesn't fit, `Unclosed` at its `{` where the text ends; as an item's
 /// `;` or `}` stands there, at the item's first token, `BadNumber`, `TooLarge` for a location too
 /// many, and `TwiceInit`.
-pub fn read_initial<'a, 'b>(
+pub fn read_initial<'a>(
     alloc: Global,
-    stop: Stop,
     names: &mut IndexSet<&'a [u8]>,
-    tokens: &'b [Token<'a>],
-) -> Result<(Initial<'a>, &'b [Token<'a>]), ReadError>
-    ensures { GivesInitial result names.new.keys (spec.initial_at stop (texts names.old.keys) (pieces tokens.now)) }
+    text: &'a [u8],
+) -> Result<(Initial<'a>, &'a [u8]), ReadError>
+    ensures value { GivesInitial result names.new.keys (spec.initial_at (stop_of text.now) (texts names.old.keys) (tokens_in text.now)) }
+    ensures stop { IfOk result (λ x. stop_of x.1.now ≡ stop_of text.now) }
 {
-    let part = in_initial(remaining_of(tokens), stop);
-    let mut rest = after_opening(stop, tokens)?;
+    let (remaining, mut rest) = after_opening(Symbol::OpenCurly, Why::Unclosed, text)?;
     let mut state = Initial {
         words: Vec::new(alloc),
         registers: Vec::new(alloc),
         given: IndexSet::new(alloc),
     };
+    let mut tokens = Vec::new(alloc);
     'items: loop {
-        if let Some(after) = after_symbol(Symbol::CloseCurly, rest) {
-            return Ok((state, after));
+        let onward = read_item_tokens(&mut tokens, rest)?;
+        let part = in_initial(remaining, onward.stop);
+        let is_last = read_section(part, &mut state, names, &tokens)?;
+        rest = onward.rest;
+        if is_last {
+            return Ok((state, rest));
         }
-        rest = read_step(part, &mut state, names, rest)?;
     }
 }
 

@@ -23,6 +23,7 @@ mod location;
 mod observed;
 mod reader;
 mod row;
+mod section;
 mod setting;
 
 pub use fault::{Fault, ReadError, TextFault, Why};

@@ -17,7 +17,7 @@ ghost use Rattle.litmus_tokens.specs.inner.Mapped.{mapped};
 ghost use Rattle.litmus_reader.specs.Locations.{texts};
 ghost use Rattle.litmus_reader.specs.inner.Reading as spec;
 ghost use Rattle.litmus_reader.specs.Reading.{refusal};
-ghost use Rattle.litmus_reader.specs.inner.Remaining.{HasTokens};
+ghost use Rattle.litmus_reader.specs.inner.Sections.{tokens_in, stop_of};
 ghost use Rattle.litmus_reader.specs.inner.Returned.{GivesEnding, IsUnlessMemory};
 ghost use Rattle.litmus_reader.specs.Spelling.{SpellsTest, IsRefused};
 
@@ -28,7 +28,7 @@ use crate::header::{header_at, sized};
 use crate::information::braces_at;
 use crate::initial::read_initial;
 use crate::laws::{texts_are_read_as_they_are_spelled, texts_are_refused_as_they_are_read};
-use crate::observed::{Remaining, after_observed};
+use crate::observed::after_observed;
 use crate::row::read_table;
 use indexmap::IndexSet;
 use litmus_tokens::{Stop, Token, line_of, tokens_of};
@@ -76,61 +76,46 @@ fn ending_at<'a>(
     Ok(cond)
 }
 
-/// What stands after the rows: `locations [..]`, the condition and the end. The tokens are ones of
-/// this text's end, and are not made anew.
+/// What stands after the rows of a text: `locations [..]`, the condition and the end.
 #[tactic(auto, unfolding(crate::specs::inner::Reading::tail_at))]
 fn tail_at<'a>(
     alloc: Global,
     text: &'a [u8],
-    stop: Stop,
     cores: usize,
     names: &mut IndexSet<&'a [u8]>,
-    tokens: &[Token<'a>],
+    rest: &'a [u8],
 ) -> Result<Option<Cond>, ReadError>
     requires cores { cores ≤ most_cores }
-    requires tokens { HasTokens text.now (pieces tokens.now) stop }
-    ensures { GivesEnding result names.new.keys (spec.tail_at text.now stop cores (texts names.old.keys) (pieces tokens.now)) }
+    ensures { GivesEnding result names.new.keys (spec.tail_at text.now (stop_of rest.now) cores (texts names.old.keys) (tokens_in rest.now)) }
 {
-    match after_observed(text, stop, tokens)? {
-        Remaining::Tokens(rest) => ending_at(alloc, stop, cores, names, rest),
-        Remaining::Bytes(bytes) => {
-            let tokens = tokens_of(alloc, bytes)?;
-            ending_at(alloc, tokens.stop, cores, names, &tokens.items)
-        }
-    }
+    let bytes = after_observed(text, rest)?;
+    let tokens = tokens_of(alloc, bytes)?;
+    ending_at(alloc, tokens.stop, cores, names, &tokens.items)
 }
 
 /// The initial state, the table and what stands after it.
 #[tactic(auto, using(crate::proofs::Within::names_are_text), unfolding(crate::specs::inner::Reading::body_of))]
-fn body_of<'a>(
-    alloc: Global,
-    name: &[u8],
-    text: &'a [u8],
-    stop: Stop,
-    tokens: &[Token<'a>],
-) -> Result<TestParts, ReadError>
-    requires name { IsUtf8 name.now }
-    requires tokens { HasTokens text.now (pieces tokens.now) stop }
-    ensures { Gives (λ parts. litmus_of parts) result (spec.body_of name.now text.now stop (pieces tokens.now)) }
+fn body_of<'a>(alloc: Global, name: &[u8], text: &'a [u8]) -> Result<TestParts, ReadError>
+    requires { IsUtf8 name.now }
+    ensures { Gives (λ parts. litmus_of parts) result (spec.body_of name.now text.now (stop_of text.now) (tokens_in text.now)) }
 {
     let mut names = IndexSet::new(alloc);
-    let (initial, rest) = read_initial(alloc, stop, &mut names, tokens)?;
-    let (table, rest) = read_table(alloc, stop, &initial.registers, &mut names, rest)?;
-    let cond = tail_at(alloc, text, stop, table.cores, &mut names, rest)?;
+    let (initial, rest) = read_initial(alloc, &mut names, text)?;
+    let (table, rest) = read_table(alloc, &initial.registers, &mut names, rest)?;
+    let cond = tail_at(alloc, text, table.cores, &mut names, rest)?;
     let parts = parts_of(alloc, name, names.as_slice(), initial.words, table, cond)?;
     Ok(parts)
 }
 
 /// The parts of the test that the text spells.
-#[tactic(auto, using(crate::proofs::Within::name_is_text, crate::proofs::Lexed::all_tokens), unfolding(crate::specs::inner::Reading::reading_of))]
+#[tactic(auto, using(crate::proofs::Within::name_is_text), unfolding(crate::specs::inner::Reading::reading_of))]
 fn read_parts(alloc: Global, text: &[u8]) -> Result<TestParts, ReadError>
     ensures { Gives (λ parts. litmus_of parts) result (spec.reading_of text.now) }
 {
     let text = sized(text)?;
     let (name, rest) = header_at(text)?;
     let rest = braces_at(rest)?;
-    let tokens = tokens_of(alloc, rest)?;
-    body_of(alloc, name, rest, tokens.stop, &tokens.items)
+    body_of(alloc, name, rest)
 }
 
 /// The test that a text spells.

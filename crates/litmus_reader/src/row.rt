@@ -9,6 +9,7 @@ ghost use Rattle.litmus_tokens.specs.inner.Mapped.{mapped};
 ghost use Rattle.litmus_reader.specs.Locations.{texts};
 ghost use Rattle.litmus_reader.specs.inner.Initial.{given_of};
 ghost use Rattle.litmus_reader.specs.inner.Rows as spec;
+ghost use Rattle.litmus_reader.specs.inner.Sections.{tokens_in, stop_of};
 ghost use Rattle.litmus_reader.specs.inner.Returned.{GivesCells, GivesTable};
 ghost use Rattle.litmus_reader.specs.Places.{remaining_of};
 ghost use Rattle.litmus_reader.specs.RefusedTable as refused;
@@ -18,8 +19,9 @@ use crate::cell::{CoreInstr, argument_of, read_cells};
 use crate::columns::columns_at;
 use crate::fault::{Fault, ReadError, Why, at_stop, remaining_of};
 use crate::initial::{RegisterWord, registers_of};
+use crate::section::read_row_tokens;
 use indexmap::IndexSet;
-use litmus_tokens::{Lexeme, Stop, Symbol, Token, is_symbol};
+use litmus_tokens::{Lexeme, Stop, Symbol, Token, is_symbol, token_at};
 use std::alloc::Global;
 
 /// A row without its `;`, and the tokens after it.
@@ -86,14 +88,14 @@ fn ends_rows_term(lexeme: Lexeme<'_>) -> bool
     }
 }
 
-/// Whether no row begins with the token at the front, or no token is there.
-#[tactic(auto, unfolding(crate::specs::GrammarTable::ends_rows))]
-fn ends_rows(tokens: &[Token<'_>]) -> bool
-    ensures { result ≡ grammar.ends_rows (pieces tokens.now) }
+/// Whether a text begins with a token with which no row begins, or has no token.
+#[tactic(auto, using(crate::proofs::SectionSteps::ends_rows_there, crate::proofs::SectionSteps::ends_rows_missing))]
+fn ends_rows(text: &[u8]) -> bool
+    ensures { result ≡ grammar.ends_rows (tokens_in text.now) }
 {
-    match tokens.first() {
-        Some(first) => ends_rows_term(first.lexeme) || is_symbol(Symbol::Tilde, first),
-        None => true,
+    match token_at(text) {
+        Ok((first, _)) => ends_rows_term(first.lexeme) || is_symbol(Symbol::Tilde, &first),
+        Err(_) => true,
     }
 }
 
@@ -107,29 +109,33 @@ pub struct Table {
     pub instrs: Vec<CoreInstr>,
 }
 
-/// Reads the header row and all rows, and answers the tokens after them.
+/// Reads the header row and all rows with which a text begins, and answers what stands after them.
 ///
 /// As the header row ends, `NoSuchCore` at the first item of the initial state whose core isn't
 /// there. A row is first taken to its `;` (`Unclosed` at its first token where the text ends), then
 /// its cells are counted, then they are read.
-pub fn read_table<'a, 'b>(
+pub fn read_table<'a>(
     alloc: Global,
-    stop: Stop,
     given: &[RegisterWord<'a>],
     names: &mut IndexSet<&'a [u8]>,
-    tokens: &'b [Token<'a>],
-) -> Result<(Table, &'b [Token<'a>]), ReadError>
-    ensures value { GivesTable (spec.table_at stop (map given_of given.now)) names.old.keys tokens.now result names.new.keys }
+    text: &'a [u8],
+) -> Result<(Table, &'a [u8]), ReadError>
+    ensures value { GivesTable (spec.table_at (stop_of text.now) (map given_of given.now)) names.old.keys text.now result names.new.keys }
     ensures cores { IfOk result (λ x. x.0.cores ≤ most_cores) }
+    ensures stop { IfOk result (λ x. stop_of x.1.now ≡ stop_of text.now) }
 {
-    let (cores, mut rest) = columns_at(stop, tokens)?;
+    let mut tokens = Vec::new(alloc);
+    let header = read_row_tokens(&mut tokens, text)?;
+    let (cores, _) = columns_at(header.stop, &tokens)?;
     let registers = registers_of(alloc, cores, given)?;
     let mut instrs = Vec::new(alloc);
+    let mut rest = header.rest;
     'rows: while !ends_rows(rest) {
-        let remaining = remaining_of(rest);
-        let (row, after) = row_at(stop, rest)?;
+        let onward = read_row_tokens(&mut tokens, rest)?;
+        let remaining = remaining_of(&tokens);
+        let (row, _) = row_at(onward.stop, &tokens)?;
         read_row(cores, remaining, &mut instrs, names, row)?;
-        rest = after;
+        rest = onward.rest;
     }
     let table = Table {
         cores,

@@ -142,8 +142,10 @@ fn lexeme_at(bytes: &[u8]) -> Result<(Lexeme<'_>, &[u8]), Stop>
 }
 
 /// The next token after white space and comments, and what stands after it.
+///
+/// The stop says why no token stands there.
 #[tactic(auto, unfolding(crate::specs::Pieces::piece_at))]
-fn token_at(bytes: &[u8]) -> Result<(Token<'_>, &[u8]), Stop>
+pub fn token_at(bytes: &[u8]) -> Result<(Token<'_>, &[u8]), Stop>
     ensures value { mapped (λ x. (piece_of x.0, x.1.now)) result ≡ spec.piece_at bytes.now }
     ensures shorter { IfOk result (λ x. length x.1.now < length bytes.now) }
 {

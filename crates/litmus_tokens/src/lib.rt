@@ -11,5 +11,5 @@ mod token;
 
 pub use front::{after_symbol, is_symbol, name_at, number_at};
 pub use gap::after_gap;
-pub use lexing::{limits_are_as_defined, tokens_of, word};
+pub use lexing::{limits_are_as_defined, token_at, tokens_of, word};
 pub use token::{Lexeme, Stop, Symbol, Token, Tokens, line_of};

@@ -96,6 +96,19 @@ item_in part i ps =
 unfoldable pub step_in : Part → Initial → List Piece → Result (Initial × List Piece) Fault
 step_in part i ps = there (symbol_at Semicolon ps) (λ rest. Ok (i, rest)) (item_in part i ps)
 
+-- the item at the front, unless an item ends there, and what stands from that end on
+unfoldable pub item_or_none : Part → Initial → List Piece → Result (Initial × List Piece) Fault
+item_or_none part i ps = if ends_item ps then Ok (i, ps) else item_in part i ps
+
+-- whether the initial state ends here
+unfoldable pub closes : List Piece → Bool
+closes [] = false
+closes (p ∷ ps) = is_symbol CloseCurly p
+
+-- what a section of the initial state gives, which ends as an item does, and whether the initial state ends with it
+unfoldable pub section_in : Part → Initial → List Piece → Result (Initial × Bool) Fault
+section_in part i ps = item_or_none part i ps >>= λ read. Ok (read.0, closes read.1)
+
 -- what stands before the `}`, in at most n steps, and what stands after it
 unfoldable pub items_within : ℕ → Part → Initial → List Piece → Result (Initial × List Piece) Fault
 items_within zero part i ps = Err (unfit part ps)

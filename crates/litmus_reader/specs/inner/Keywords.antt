@@ -1,6 +1,7 @@
 -- Words of the grammar: `exists` and its like are names to the lexer, and words only where the grammar has them.
-use Rattle.std.specs.Prelude.{ℕ, List, Option, Some, None, if◌then◌else◌}
+use Rattle.std.specs.Prelude.{ℕ, Bool, false, List, Option, Some, None, if◌then◌else◌}
 use Rattle.std.specs.Str.{bytes_eq}
+use Rattle.litmus_tokens.specs.Terms.{Term, name}
 use Rattle.litmus_tokens.specs.Pieces.{Piece}
 use Rattle.litmus_tokens.specs.inner.Front.{name_at}
 use Rattle.litmus_reader.specs.inner.Faults.{there}
@@ -11,3 +12,8 @@ if_word word found = if bytes_eq found.0 word then Some found.1 else None
 -- what stands after this word, if it is at the front
 unfoldable pub word_after : List ℕ → List Piece → Option (List Piece)
 word_after word ps = there (name_at ps) (if_word word) None
+
+-- whether a token is this word
+abbrev pub is_word : List ℕ → Term → Bool
+is_word word (name x) = bytes_eq x word
+is_word word other = false

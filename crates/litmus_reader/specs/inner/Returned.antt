@@ -1,10 +1,9 @@
 -- What the functions that read return: what a reading gives, unless memory ran out.
-use Rattle.std.specs.Prelude.{◌≡◌, ◌≢◌, ℕ, List, map, Option, Result}
+use Rattle.std.specs.Prelude.{◌≡◌, ◌≢◌, ℕ, Bool, List, map, Option, Result}
 use denote.Ref.{Bor}
 use Rattle.tso_model.specs.Condition.{Condition, claim_of}
 use Rattle.tso_model.specs.declared.condition.Cond.{Cond}
 use Rattle.tso_model.specs.declared.condition.Prop.{Prop}
-use Rattle.tso_model.specs.declared.out_of_memory.NoMemory.{NoMemory}
 use Rattle.litmus_tokens.specs.declared.token.Token.{Token}
 use Rattle.litmus_tokens.specs.Pieces.{Piece}
 use Rattle.litmus_tokens.specs.inner.Pieces.{pieces}
@@ -17,6 +16,7 @@ use Rattle.litmus_reader.specs.inner.Faults.{Gives}
 use Rattle.litmus_reader.specs.inner.Initial.{Initial, initial, given_of, judged}
 use Rattle.litmus_reader.specs.Locations.{texts}
 use Rattle.litmus_reader.specs.inner.Rows.{Table, table, rows}
+use Rattle.litmus_reader.specs.inner.Sections.{tokens_in}
 use Rattle.litmus_reader.specs.Written.{Setting}
 use Rattle.litmus_reader.specs.Returned.{asked_of}
 use Rattle.litmus_reader.specs.declared.fault.Why.TheVariants as why
@@ -66,18 +66,22 @@ abbrev pub GivesItem : Result (Bor (List Token)) ReadError → List (Bor (List �
     → Result (Initial × List Piece) Fault → Type 0
 GivesItem result names i read = Gives (λ rest. (so_far names i, pieces rest.now)) result read
 
--- the whole initial state, and what stands after it
-abbrev pub GivesInitial : Result (state.Initial × Bor (List Token)) ReadError → List (Bor (List ℕ))
-    → Result (Initial × List Piece) Fault → Type 0
-GivesInitial result names read = Gives (λ x. (so_far names x.0, pieces x.1.now)) result read
+-- the initial state with a section more, and whether it ends
+abbrev pub GivesSection : Result Bool ReadError → List (Bor (List ℕ)) → state.Initial → Result (Initial × Bool) Fault → Type 0
+GivesSection result names i read = Gives (λ is_last. (so_far names i, is_last)) result read
 
--- The reading of these tokens, after these names of locations, gives the header row and all rows, the names, and what stands
+-- the whole initial state, and what stands after it
+abbrev pub GivesInitial : Result (state.Initial × Bor (List ℕ)) ReadError → List (Bor (List ℕ))
+    → Result (Initial × List Piece) Fault → Type 0
+GivesInitial result names read = Gives (λ x. (so_far names x.0, tokens_in x.1.now)) result read
+
+-- The reading of a text's tokens, after these names of locations, gives the header row and all rows, the names, and what stands
 -- after the rows.
-abbrev pub GivesTable : (List (List ℕ) → List Piece → Result Table Fault) → List (Bor (List ℕ)) → List Token
-    → Result (code.Table × Bor (List Token)) ReadError → List (Bor (List ℕ)) → Type 0
-GivesTable reading names tokens result names_new =
-    Gives (λ x. table x.0.cores x.0.registers.items (rows x.0.instrs.items (texts names_new) (pieces x.1.now))) result
-    (reading (texts names) (pieces tokens))
+abbrev pub GivesTable : (List (List ℕ) → List Piece → Result Table Fault) → List (Bor (List ℕ)) → List ℕ
+    → Result (code.Table × Bor (List ℕ)) ReadError → List (Bor (List ℕ)) → Type 0
+GivesTable reading names text result names_new =
+    Gives (λ x. table x.0.cores x.0.registers.items (rows x.0.instrs.items (texts names_new) (tokens_in x.1.now))) result
+    (reading (texts names) (tokens_in text))
 
 -- this refusal, unless memory ran out
 abbrev pub IsUnlessMemory : TextFault → TextFault → Type 0

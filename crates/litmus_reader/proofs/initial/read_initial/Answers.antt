@@ -1,38 +1,48 @@
-use Rattle.std.proofs.Common.{refl, ◌<◌, ℕ, length, ap, ◌∙◌, arith, map}
+use Rattle.std.proofs.Common.{ap, sym, ◌∙◌, ℕ, refl}
 use Rattle.std.proofs.lemmas.Result.{err_from_is_err_and}
-use Rattle.std.proofs.lemmas.List.{length-map}
 use Rattle.litmus_tokens.specs.inner.Pieces.{pieces}
 use Rattle.litmus_reader.specs.Locations.{texts}
-use Rattle.litmus_reader.specs.inner.Initial.{initial, given_of}
-use Rattle.litmus_reader.proofs.ItemSteps.{items_start, items_end, items_go_on, item_fails, initial_done, initial_fails, never_opened}
-use Rattle.litmus_reader.proofs.initial.read_initial.Goals as goal
 use Rattle.litmus_reader.specs.Places.{in_initial}
+use Rattle.litmus_reader.specs.inner.Returned.{so_far}
+use Rattle.litmus_reader.specs.inner.Sections.{tokens_in, stop_of}
+use Rattle.litmus_reader.proofs.ItemSteps.{items_start, initial_done, initial_fails, never_opened}
+use Rattle.litmus_reader.proofs.SectionReadings.{items_done, items_further, items_fail, items_some}
+use Rattle.litmus_reader.proofs.initial.read_initial.Goals as goal
 
 pub items-init : goal.items-init
 items-init c = record {
-  items = rw (c.new.ensures.items, c.new-2.ensures.items) (items_start c.in_initial-part.result (texts c.args.names.now.keys) (pieces c.in_ok-rest.rest.now));
+  items = rw (c.new.ensures.items, c.new-2.ensures.items) (items_start (in_initial c.in_ok-remaining.remaining (stop_of c.args.text.now)) (texts c.args.names.now.keys) (tokens_in c.in_ok-remaining.rest.now));
   knows = rw (c.new-3.ensures.empty, c.new-2.ensures.items) refl;
+  stop_kept = c.in_ok-remaining.ensures.stop;
 }
 
-pub items-preserved : goal.items-preserved
-items-preserved c =
-    let shorter : length (pieces c.in_ok-rest-2.rest.now) < length (pieces c.items.rest.now) = simp length-map (omega (arith, c.in_ok-rest-2.ensures.shorter)) in
-    record { items = items_go_on c.in_initial-part.result (initial (texts c.items.names.keys) c.items.state.words.items (map given_of c.items.state.registers.items)) (initial (texts c.read_step.new.names.keys) c.read_step.new.state.words.items (map given_of c.read_step.new.state.registers.items)) (pieces c.items.rest.now) (pieces c.in_ok-rest-2.rest.now) _ c.in_default.ensures.value c.in_ok-rest-2.ensures.value shorter c.items.invariant.items; knows = c.in_ok-rest-2.ensures.knows }
-
-pub returns-in_err-rest : goal.returns-in_err-rest
-returns-in_err-rest c =
+pub returns-in_err-remaining-clause-value : goal.returns-in_err-remaining-clause-value
+returns-in_err-remaining-clause-value c =
     let p = err_from_is_err_and c.from_residual.result c.from_residual.ensures.1 in
-    rw (p.1, p.2) (never_opened c.in_err-rest.field-0.0 c.args.stop (texts c.args.names.now.keys) (pieces c.args.tokens.now) c.in_err-rest.ensures)
+    rw (p.1, p.2) (never_opened c.in_err-remaining.field-0.0 (stop_of c.args.text.now) (texts c.args.names.now.keys) (tokens_in c.args.text.now) c.in_err-remaining.ensures.value)
 
-pub returns-in-Some : goal.returns-in-Some
-returns-in-Some c =
-    initial_done c.args.stop c.in_initial-part.result (texts c.args.names.now.keys) (pieces c.args.tokens.now) (pieces c.in_ok-rest.rest.now) _
-    (c.in_initial-part.ensures ∙ ap (λ (l : ℕ). in_initial l c.args.stop) c.remaining_of.ensures) c.in_ok-rest.ensures
-    (items_end c.in_initial-part.result (initial (texts c.items.names.keys) c.items.state.words.items (map given_of c.items.state.registers.items)) (pieces c.items.rest.now) (pieces c.in-Some.after.now) _ c.in-Some.ensures.value c.items.invariant.items)
+pub returns-in_err-is_last-clause-value : goal.returns-in_err-is_last-clause-value
+returns-in_err-is_last-clause-value c =
+    let p = err_from_is_err_and c.from_residual-in_err-is_last.result c.from_residual-in_err-is_last.ensures.1 in
+    rw (p.1, p.2) (initial_fails c.in_err-is_last.field-0.0 (stop_of c.args.text.now) (in_initial c.in_ok-remaining.remaining (stop_of c.args.text.now)) (texts c.args.names.now.keys) (tokens_in c.args.text.now) (tokens_in c.in_ok-remaining.rest.now)
+    (ap (λ (l : ℕ). in_initial l (stop_of c.args.text.now)) c.in_ok-remaining.ensures.place) c.in_ok-remaining.ensures.value
+    (items_fail c.in_err-is_last.field-0.0 c.in_ok-remaining.remaining c.args.text.now c.items.rest.now c.in_ok-onward.onward.rest.now c.in_ok-onward.onward.stop c.in_initial-part.result (so_far c.items.names.keys c.items.state) (pieces c.read_item_tokens.new.tokens.items) _
+    c.in_ok-onward.ensures.value c.in_initial-part.ensures c.items.invariant.stop_kept (rw c.deref.ensures.value at c.in_err-is_last.ensures.value) c.items.invariant.items))
 
-pub returns-in_err-rest-2 : goal.returns-in_err-rest-2
-returns-in_err-rest-2 c =
-    let p = err_from_is_err_and c.from_residual-in_err-rest-2.result c.from_residual-in_err-rest-2.ensures.1 in
-    rw (p.1, p.2) (initial_fails c.in_err-rest-2.field-0.0 c.args.stop c.in_initial-part.result (texts c.args.names.now.keys) (pieces c.args.tokens.now) (pieces c.in_ok-rest.rest.now)
-    (c.in_initial-part.ensures ∙ ap (λ (l : ℕ). in_initial l c.args.stop) c.remaining_of.ensures) c.in_ok-rest.ensures
-    (item_fails c.in_err-rest-2.field-0.0 c.in_initial-part.result (initial (texts c.items.names.keys) c.items.state.words.items (map given_of c.items.state.registers.items)) (pieces c.items.rest.now) _ c.in_default.ensures.value c.in_err-rest-2.ensures.value c.items.invariant.items))
+pub returns-then-is_last-clause-value : goal.returns-then-is_last-clause-value
+returns-then-is_last-clause-value c =
+    initial_done (stop_of c.args.text.now) (in_initial c.in_ok-remaining.remaining (stop_of c.args.text.now)) (texts c.args.names.now.keys) (tokens_in c.args.text.now) (tokens_in c.in_ok-remaining.rest.now) _
+    (ap (λ (l : ℕ). in_initial l (stop_of c.args.text.now)) c.in_ok-remaining.ensures.place) c.in_ok-remaining.ensures.value
+    (items_done c.in_ok-remaining.remaining c.args.text.now c.items.rest.now c.in_ok-onward.onward.rest.now c.in_ok-onward.onward.stop c.in_initial-part.result (so_far c.items.names.keys c.items.state) (so_far c.read_section.new.names.keys c.read_section.new.state) (pieces c.read_item_tokens.new.tokens.items) _
+    c.in_ok-onward.ensures.value c.in_initial-part.ensures c.items.invariant.stop_kept (rw (c.deref.ensures.value, c.if-is_last.true) at c.in_ok-is_last.ensures.value) c.items.invariant.items)
+
+pub items-smaller : goal.items-smaller
+items-smaller c = c.in_ok-onward.ensures.shorter (items_some c.in_initial-part.result (so_far c.items.names.keys c.items.state) c.read_item_tokens.new.tokens.items _ (rw c.deref.ensures.value at c.in_ok-is_last.ensures.value))
+
+pub items-preserved : goal.items-preserved
+items-preserved c = record {
+  items = items_further c.in_ok-remaining.remaining c.args.text.now c.items.rest.now c.in_ok-onward.onward.rest.now c.in_ok-onward.onward.stop c.in_initial-part.result (so_far c.items.names.keys c.items.state) (so_far c.read_section.new.names.keys c.read_section.new.state) (pieces c.read_item_tokens.new.tokens.items) _
+      c.in_ok-onward.ensures.value c.in_initial-part.ensures c.items.invariant.stop_kept (rw (c.deref.ensures.value, c.if-is_last.false) at c.in_ok-is_last.ensures.value) c.items.invariant.items;
+  knows = c.in_ok-is_last.ensures.knows;
+  stop_kept = sym c.in_ok-onward.ensures.value.stop_kept ∙ c.items.invariant.stop_kept;
+}

@@ -1,12 +1,15 @@
-use Rattle.std.proofs.Common.{length}
-use Rattle.litmus_tokens.specs.inner.Pieces.{pieces}
+use Rattle.std.proofs.Common.{◌≡◌, length}
 use Rattle.litmus_reader.specs.Locations.{texts}
 use Rattle.litmus_reader.specs.inner.Rows.{rows_at}
+use Rattle.litmus_reader.specs.inner.Sections.{tokens_in, stop_of}
 use Rattle.litmus_reader.proofs.RowSteps.{RowsAfter}
 use Rattle.litmus_reader.proofs.row.read_table.Given as goal
 
 abbrev pub invariant-rows : goal.invariant-rows
-invariant-rows l = RowsAfter l.stop l.cores l.instrs.items (texts l.names.keys) (pieces l.rest) (rows_at l.stop l.cores (texts l.initial.names.keys) (pieces l.initial.rest))
+invariant-rows l = record {
+  rows : RowsAfter (stop_of l.text) l.cores l.instrs.items (texts l.names.keys) (tokens_in l.rest) (rows_at (stop_of l.text) l.cores (texts l.initial.names.keys) (tokens_in l.initial.rest));
+  stop_kept : stop_of l.rest ≡ stop_of l.text;
+}
 
 abbrev pub decreases-rows : goal.decreases-rows
 decreases-rows l = length l.rest

@@ -1,0 +1,10 @@
+use Rattle.std.proofs.Common.{length}
+use Rattle.litmus_tokens.specs.inner.Pieces.{pieces}
+use Rattle.litmus_reader.proofs.SectionSteps.{SoFar}
+use Rattle.litmus_reader.proofs.section.read_section.Given as goal
+
+abbrev pub invariant-tokens : goal.invariant-tokens
+invariant-tokens l = SoFar l.ends l.text (pieces l.tokens.items) l.rest
+
+abbrev pub decreases-tokens : goal.decreases-tokens
+decreases-tokens l = length l.rest
