@@ -4,7 +4,8 @@
     tests/outcomes.py PROGRAM [--tests N] [--seed S]
 
 The tests are those of the gallery and of the examples, and N (500) made at random from a seed S (1): two to four cores, at most
-twelve instructions together, of all kinds. Of each, at depths 0, 1, 2 and 32:
+twelve instructions together, of all kinds; and half as many more in which some cores have the same program. Of each, at depths 0, 1,
+2 and 32:
 
 - the text is that of the final states that the search finds (its lines `By` are taken as they are);
 - the choices of each state, handed to `run` at that depth, end there, none stalled and none left over;
@@ -184,16 +185,32 @@ def made_test(draw, number):
     programs = [[] for _ in range(cores)]
     for _ in range(draw.randint(1, (12, 10, 8)[cores - 2])):
         draw.choice(programs).append(cell(draw))
+    atoms = ["%d:%s=%d" % (draw.randrange(cores), draw.choice(REGISTERS), draw.randint(0, 2)) for _ in range(2)]
+    return written(draw, "made%d" % number, programs, draw.sample(LOCATIONS + ("0:EAX", "1:EBX"), 2), atoms)
+
+
+def alike_test(draw, number):
+    """A test made at random, of which some cores have the same program, and often the same first and shown registers."""
+    cores = draw.choice((2, 3, 3, 4, 4))
+    programs = [[cell(draw) for _ in range(draw.randint(1, (5, 3, 2)[cores - 2]))] for _ in range(draw.choice((1, 1, 2)))]
+    register = draw.choice(REGISTERS)
+    atoms = ["%d:%s=%d" % (core, register, draw.randint(0, 2)) for core in range(draw.choice((2, cores, cores)))]
+    return written(draw, "alike%d" % number, [draw.choice(programs) for _ in range(cores)],
+                   draw.sample(LOCATIONS + ("0:EAX",), draw.choice((1, 1, 2))), [" /\\ ".join(atoms), atoms[-1]])
+
+
+def written(draw, name, programs, first_places, atoms):
+    """A test of these programs, whose initial state has these places, and whose condition these two claims and one on a location."""
+    cores = len(programs)
     rows = [["P%d" % core for core in range(cores)]]
     rows += [[program[at] if at < len(program) else "" for program in programs] for at in range(max(map(len, programs)))]
     table = "".join(" " + " | ".join(row) + " ;\n" for row in rows)
-    first = "{ %s }" % "".join("%s=%d; " % (place, draw.randint(0, 3)) for place in draw.sample(LOCATIONS + ("0:EAX", "1:EBX"), 2))
-    atoms = ["%d:%s=%d" % (draw.randrange(cores), draw.choice(REGISTERS), draw.randint(0, 2)) for _ in range(2)]
+    first = "{ %s }" % "".join("%s=%d; " % (place, draw.randint(0, 3)) for place in first_places)
     used = sorted(set(re.findall(r"\[(\w)\]", table)) or {"x"})
-    atoms += ["%s=%d" % (draw.choice(used), draw.randint(0, 3))]
+    atoms = atoms + ["%s=%d" % (draw.choice(used), draw.randint(0, 3))]
     condition = draw.choice(("", "exists (%s /\\ %s)\n" % (atoms[0], atoms[1]), "~exists (%s \\/ %s)\n" % (atoms[0], atoms[2]),
                              "forall (not (%s /\\ %s))\n" % (atoms[1], atoms[2])))
-    return ("X86 made%d\n%s\n%s%s" % (number, first, table, condition)).encode()
+    return ("X86 %s\n%s\n%s%s" % (name, first, table, condition)).encode()
 
 
 def tests(count, seed):
@@ -203,6 +220,8 @@ def tests(count, seed):
     draw = random.Random(seed)
     for number in range(count):
         yield "made test %d of seed %d" % (number, seed), made_test(draw, number)
+    for number in range(count // 2):
+        yield "test %d of seed %d with alike cores" % (number, seed), alike_test(draw, number)
 
 
 def main():

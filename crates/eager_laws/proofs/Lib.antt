@@ -8,5 +8,7 @@ pub mod Clearing
 pub mod Alike
 pub mod Seeing
 pub mod EagerAlike
+pub mod Names
+pub mod Exchanging
 pub mod Closing
 pub mod Taking

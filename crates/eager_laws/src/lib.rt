@@ -4,9 +4,13 @@
 //! it does, or be changed by it: a register move, a plain store that finds room in the buffer, a
 //! fence or a locked instruction that need not wait, a load or a drain at a location that no other
 //! core meets any more. Who looks for all ends of a test's runs may make an eager choice first, and
-//! leave all others for later.
+//! leave all others for later; and of states that differ in what nobody reads any more, or by which of
+//! two cores that are alike is which, it may keep one.
 #![tactic(auto)]
 
 pub mod laws;
 
-pub use laws::{closed_states_miss_none, dead_registers_change_nothing, eager_choices_take_effect};
+pub use laws::{
+    alike_cores_are_exchangeable, closed_states_miss_none, dead_registers_change_nothing,
+    eager_choices_take_effect,
+};

@@ -5,6 +5,7 @@ use Rattle.std.proofs.lemmas.Map.Keys.{IsDistinct-head, IsDistinct-tail, IsDisti
 use Rattle.tso_model.specs.Litmus.{Litmus}
 use Rattle.tso_model.specs.FlatMachine.{State}
 use Rattle.eager_laws.specs.Dead.{forgotten, DeadRegistersChangeNothing}
+use Rattle.eager_laws.specs.Exchanged.{AlikeCoresAreExchangeable}
 use Rattle.explorer.specs.State.{state_of}
 use Rattle.explorer.specs.inner.Settled.{AreLinked}
 use Rattle.explorer.specs.FinalStates.{IsReachable, HasMoreStates}
@@ -55,11 +56,11 @@ record StandsFor (t : Litmus) (d : ℕ) (hidden : List (List Bool)) (x : Snapsho
   kept_is : forgotten t hidden s ≡ state_of x
 
 -- as many states can be reached as snapshots are linked
-pub more-states : DeadRegistersChangeNothing → (d : ℕ) (t : Litmus) (hidden : List (List Bool)) (xs : List Snapshot) (links : List Link) (limit : ℕ) → IsDistinct (snapshot_eq.eq-value).it xs
+pub more-states : DeadRegistersChangeNothing → AlikeCoresAreExchangeable → (d : ℕ) (t : Litmus) (hidden : List (List Bool)) (xs : List Snapshot) (links : List Link) (limit : ℕ) → IsDistinct (snapshot_eq.eq-value).it xs
     → AreLinked d t hidden xs links → limit < length xs → HasMoreStates t d limit
-more-states law d t hidden xs links limit distinct h l =
+more-states law all_alike d t hidden xs links limit distinct h l =
     let all = collect (StandsFor t d hidden) xs (λ i x p.
-    let w = linked-leads law d t hidden xs links h (suc i) i x (omega arith) p in
+    let w = linked-leads law all_alike d t hidden xs links h (suc i) i x (omega arith) p in
     (w.1.last, record { reachable = reachable d t w.1.last w.0 w.1.leads; kept_is = w.1.kept_is })) in
     record {
       states = all.0;

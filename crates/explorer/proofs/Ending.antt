@@ -6,7 +6,7 @@ use Rattle.std.proofs.lemmas.Option.{slice_get-get_or}
 use Rattle.basic_laws.proofs.Lists.{drop-at}
 use Rattle.basic_laws.proofs.Basics.{and-left, and-right}
 use Rattle.tso_model.specs.Litmus.{Litmus}
-use Rattle.tso_model.specs.FlatMachine.{CoreState, State, idle, is_none_pending, program_of, core_of, step_of, drain_of, effect_of, chosen, after_choice, started, start, registers_in}
+use Rattle.tso_model.specs.FlatMachine.{CoreState, State, idle, is_none_pending, program_of, core_of, step_of, drain_of, effect_of, chosen, after_choice, start, registers_in}
 use Rattle.tso_model.specs.Runs.{is_done, all_done, has_ended, stall_count, resting, then_run, run_from}
 use Rattle.tso_model.specs.declared.instruction.Instr.{Instr}
 use Rattle.tso_model.specs.declared.execution.Entry.{Entry}
@@ -18,6 +18,7 @@ use Rattle.explorer.specs.Settled.{LeadsBy}
 use Rattle.explorer.specs.declared.snapshot.Processor.{Processor}
 use Rattle.explorer.specs.declared.snapshot.Snapshot.{Snapshot}
 use Rattle.explorer.proofs.Choosing.{beyond}
+use Rattle.explorer.proofs.Exchanging.{start-cores}
 use Rattle.explorer.proofs.Linking.{leads-cores}
 
 -- ---- an ended state has no further choice
@@ -72,13 +73,6 @@ leads-end d t s (c ∷ cs) last n l h =
           stalled = ap (λ z. z.stalled) r ∙ (let a = l.1 in let b = w.stalled in omega (arith, a, b));
           unused = ap (λ z. z.unused) r ∙ w.unused;
         }
-
-start-cores : (t : Litmus) → length (start t).cores ≡ length t.programs
-start-cores t = go 0 t.programs t.registers
-  where
-    go : (c : ℕ) (ps : List (List Instr)) (rs : List (List ℕ)) → length (started c ps rs) ≡ length ps
-    go c [] rs = refl
-    go c (p ∷ ps) rs = ap suc (go (c + 1) ps rs)
 
 pub leads-to-end : (d : ℕ) (t : Litmus) (cs : List Choice) (s : State) (registers : List (List ℕ)) (memory : List ℕ) → LeadsBy d t (start t) cs s → has_ended t s ≡ true
     → registers_in s ≡ registers → s.memory ≡ memory → LeadToEnd t d cs registers memory

@@ -1,5 +1,5 @@
 -- The final states among the snapshots, one more at a time.
-use Rattle.std.proofs.Common.{◌≡◌, ◌<◌, ℕ, ◌+◌, zero, suc, Bool, true, false, List, [], ◌∷◌, ◌++◌, length, map, Some, slice_get, slice_index_or, inl, inr, arith, ap, sym, ◌∙◌, subst, refl}
+use Rattle.std.proofs.Common.{◌≡◌, ◌<◌, ℕ, ◌+◌, Bool, true, false, List, [], ◌∷◌, ◌++◌, length, map, Some, slice_get, inl, inr, arith, ap, sym, ◌∙◌, subst, refl}
 use Rattle.std.specs.List.{IsDistinct}
 use Rattle.basic_laws.proofs.Basics.{lt-or}
 use Rattle.tso_model.specs.Litmus.{Litmus, IsTest}
@@ -8,8 +8,10 @@ use Rattle.tso_model.specs.Runs.{run, has_ended}
 use Rattle.tso_laws.specs.inner.Laws.{RunsStopWhereTheyEnd}
 use Rattle.eager_laws.specs.Closed.{ClosedStatesMissNone}
 use Rattle.eager_laws.specs.Dead.{forgotten, AreAlike, seen, DeadRegistersChangeNothing}
+use Rattle.eager_laws.specs.Exchanged.{AreAllAlike, AlikeCoresAreExchangeable}
 use Rattle.explorer.specs.State.{state_of}
-use Rattle.explorer.specs.inner.Settled.{HaveCores, IsSearched}
+use Rattle.explorer.specs.inner.Settled.{Grows, HaveCores, IsSearched}
+use Rattle.explorer.specs.inner.Arranged.{AreExchanged}
 use Rattle.explorer.specs.FinalStates.{AreReached, Have, HaveEveryEnd, AreDistinct}
 use Rattle.explorer.specs.inner.Collected.{IsFinalOf, IsMadeOf, AreFinalsOf}
 use Rattle.explorer.specs.declared.snapshot.Snapshot.{Snapshot}
@@ -18,13 +20,9 @@ use Rattle.explorer.specs.declared.final_states.FinalState.{FinalState}
 use Rattle.explorer.specs.contracts.snapshot.SnapshotPartialEq.TheImpl as snapshot_eq
 use Rattle.explorer.proofs.Counting.{apart}
 use Rattle.explorer.proofs.Ending.{ended-same, leads-to-end}
-use Rattle.explorer.proofs.Linking.{get-left, get-back, get-last, get-within, get-one}
-use Rattle.explorer.proofs.Searching.{from-list}
-
-get-or : (xs : List Snapshot) (i : ℕ) (x d : Snapshot) → slice_get xs i ≡ Some x → slice_index_or xs i d ≡ x
-get-or [] i x d q = absurd (let z : ⊥ = cc in z)
-get-or (y ∷ xs) zero x d q = let z : y ≡ x = cc in z
-get-or (y ∷ xs) (suc i) x d q = get-or xs i x d q
+use Rattle.explorer.proofs.Linking.{get-left, get-back, get-last, get-within, get-one, get-or}
+use Rattle.explorer.proofs.Completing.{found-back, end-cores}
+use Rattle.explorer.proofs.Searching.{from-list, in-grown}
 
 pub cores-at : (t : Litmus) (xs : List Snapshot) (i : ℕ) (s : Snapshot) → HaveCores t xs → slice_get xs i ≡ Some s → length s.cores.items ≡ length t.programs
 cores-at t xs i s h q = ap (λ z. length z.cores.items) (sym (get-or xs i s s q)) ∙ h i s (get-within xs i s q)
@@ -149,20 +147,31 @@ finals-reached law d t hidden xs n fs h i f q =
     let m = h.each i f q in
     leads-to-end d t f.choices.items m.made.last f.registers.items f.memory.items m.made.leads (last-ended law d t hidden m.snapshot f m.made m.ended) m.made.registers_are m.made.memory_is
 
-pub finals-complete : DeadRegistersChangeNothing → ClosedStatesMissNone → RunsStopWhereTheyEnd → (d : ℕ) (t : Litmus) (hidden : List (List Bool)) (xs : List Snapshot) (links : List Link) (fs : List FinalState)
-    → IsTest t → IsSearched d t hidden xs links → AreFinalsOf d t hidden xs (length xs) fs → HaveEveryEnd t d hidden fs
-finals-complete law closed stop d t hidden xs links fs test w h registers memory e =
-    let m = closed d t hidden (map state_of xs) e.choices test w.closed e.ended in
-    let r = from-list xs m.among.0 m.kept m.among.1 in
+-- the snapshots of a search, and those that were added to it: what exchanges make of those that have ended
+pub record AreAll (d : ℕ) (t : Litmus) (hidden : List (List Bool)) (pairs : List (ℕ × ℕ)) (old : List Snapshot) (links : List Link) (xs : List Snapshot) : Type 0 where
+  pub alike : AreAllAlike t hidden pairs
+  pub searched : IsSearched d t hidden pairs old links
+  pub grows : Grows old xs
+  pub cores : HaveCores t xs
+  pub exchanged : AreExchanged t pairs xs (length xs)
+
+pub finals-complete : DeadRegistersChangeNothing → AlikeCoresAreExchangeable → ClosedStatesMissNone → RunsStopWhereTheyEnd → (d : ℕ) (t : Litmus) (hidden : List (List Bool)) (pairs : List (ℕ × ℕ))
+    (old : List Snapshot) (links : List Link) (xs : List Snapshot) (fs : List FinalState)
+    → IsTest t → AreAll d t hidden pairs old links xs → AreFinalsOf d t hidden xs (length xs) fs → HaveEveryEnd t d hidden fs
+finals-complete law all closed stop d t hidden pairs old links xs fs test w h registers memory e =
+    let m = closed d t hidden pairs (map state_of old) e.choices test w.alike w.searched.closed e.ended in
     let last : State = (run t d e.choices).state in
-    let ended : has_ended t m.kept ≡ true = law.ended t hidden m.kept last m.alike ∙ (sym (stop.stops t d e.choices).ended ∙ e.ended) in
-    let f = h.all m.among.0 r.0 r.3 r.1 (subst (λ z. has_ended t z ≡ true) (sym r.2) ended) in
+    let ended : has_ended t last ≡ true = sym (stop.stops t d e.choices).ended ∙ e.ended in
+    let k = found-back law all t hidden pairs xs w.alike w.cores w.exchanged m.exchanges m.of_pairs last (end-cores stop d t e.choices) ended m.kept (in-grown old xs m.kept w.grows m.among) m.alike in
+    let r = from-list xs k.among.0 k.state k.among.1 in
+    let kept_ended : has_ended t k.state ≡ true = law.ended t hidden k.state last k.alike ∙ ended in
+    let f = h.all k.among.0 r.0 r.3 r.1 (subst (λ z. has_ended t z ≡ true) (sym r.2) kept_ended) in
     record {
       at = f.at;
       final = f.final;
       stands = f.stands;
-      registers_are = f.registers_are ∙ ap (λ z. seen hidden (registers_in z)) r.2 ∙ seen-same law t hidden m.kept last m.alike ended ∙ ap (seen hidden) e.registers_are;
-      memory_is = f.memory_is ∙ ap (λ z. z.memory) r.2 ∙ ap (λ z. z.memory) m.alike ∙ e.memory_is;
+      registers_are = f.registers_are ∙ ap (λ z. seen hidden (registers_in z)) r.2 ∙ seen-same law t hidden k.state last k.alike kept_ended ∙ ap (seen hidden) e.registers_are;
+      memory_is = f.memory_is ∙ ap (λ z. z.memory) r.2 ∙ ap (λ z. z.memory) k.alike ∙ e.memory_is;
     }
 
 -- what is answered, where the search went by the same test, depth and hidden registers
@@ -171,14 +180,16 @@ pub record AreAnswered (d : ℕ) (t : Litmus) (hidden : List (List Bool)) (fs : 
   pub complete : HaveEveryEnd t d hidden fs
   pub once : AreDistinct hidden fs
 
-pub answered : DeadRegistersChangeNothing → ClosedStatesMissNone → RunsStopWhereTheyEnd → (d e : ℕ) (t u : Litmus) (hidden other : List (List Bool)) (xs : List Snapshot) (links : List Link) (fs : List FinalState)
-    → d ≡ e → t ≡ u → hidden ≡ other → IsTest u → IsSearched d t hidden xs links → AreFinalsOf d t hidden xs (length xs) fs → AreAnswered e u other fs
-answered law closed stop d e t u hidden other xs links fs p q r test w h =
-    let w2 : IsSearched e u other xs links = subst (λ z. IsSearched z u other xs links) p (subst (λ z. IsSearched d z other xs links) q (subst (λ z. IsSearched d t z xs links) r w)) in
+pub answered : DeadRegistersChangeNothing → AlikeCoresAreExchangeable → ClosedStatesMissNone → RunsStopWhereTheyEnd → (d e : ℕ) (t u : Litmus) (hidden other : List (List Bool)) (pairs : List (ℕ × ℕ))
+    (old : List Snapshot) (links : List Link) (xs : List Snapshot) (fs : List FinalState)
+    → d ≡ e → t ≡ u → hidden ≡ other → IsTest u → AreAll d t hidden pairs old links xs → AreFinalsOf d t hidden xs (length xs) fs → AreAnswered e u other fs
+answered law all closed stop d e t u hidden other pairs old links xs fs p q r test w h =
+    let w2 : AreAll e u other pairs old links xs =
+    subst (λ z. AreAll z u other pairs old links xs) p (subst (λ z. AreAll d z other pairs old links xs) q (subst (λ z. AreAll d t z pairs old links xs) r w)) in
     let h2 : AreFinalsOf e u other xs (length xs) fs =
     subst (λ z. AreFinalsOf z u other xs (length xs) fs) p (subst (λ z. AreFinalsOf d z other xs (length xs) fs) q (subst (λ z. AreFinalsOf d t z xs (length xs) fs) r h)) in
     record {
       reached = finals-reached law e u other xs (length xs) fs h2;
-      complete = finals-complete law closed stop e u other xs links fs test w2 h2;
+      complete = finals-complete law all closed stop e u other pairs old links xs fs test w2 h2;
       once = h2.once;
     }

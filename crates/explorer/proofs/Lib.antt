@@ -2,11 +2,14 @@ pub mod Same
 pub mod Starting
 pub mod Choosing
 pub mod Absent
+pub mod Exchanging
 pub mod Linking
+pub mod Mapping
 pub mod Planning
 pub mod Forgets
 pub mod Searching
 pub mod Counting
 pub mod Ending
+pub mod Completing
 pub mod Finals
 pub mod Allowing

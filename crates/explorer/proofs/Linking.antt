@@ -13,11 +13,15 @@ use Rattle.tso_laws.specs.Choices.{state_after}
 use Rattle.explorer.specs.State.{state_of}
 use Rattle.eager_laws.specs.Closed.{LeadsEagerly}
 use Rattle.eager_laws.specs.Dead.{forgotten, AreAlike, DeadRegistersChangeNothing}
+use Rattle.eager_laws.specs.Exchanged.{exchanged_by, AreOf, AreAllAlike, AlikeCoresAreExchangeable}
 use Rattle.explorer.specs.Settled.{LeadsBy, LeadsTo, IsSettled}
-use Rattle.explorer.specs.inner.Settled.{IsReached, IsLinked, AreLinked, IsPath, GoBack}
+use Rattle.explorer.specs.inner.Settled.{LeadByTurns, IsReached, IsLinked, AreLinked, IsPath, GoBack}
+use Rattle.explorer.specs.inner.Arranged.{played, IsArranged}
+use Rattle.explorer.specs.declared.link.Turn.{Turn}
 use Rattle.explorer.specs.FinalStates.{IsReachable}
 use Rattle.explorer.specs.declared.snapshot.Snapshot.{Snapshot}
 use Rattle.explorer.specs.declared.link.Link.{Link}
+use Rattle.explorer.proofs.Exchanging.{leads-exchanged, of-alike, played-is}
 
 -- ---- places of a list
 
@@ -47,6 +51,11 @@ get-some [] i l = absurd (let z : ⊥ = omega (arith, l) in z)
 get-some (y ∷ xs) zero l = (y, refl)
 get-some (y ∷ xs) (suc i) l = get-some xs i (omega (arith, l))
 
+pub get-or : (xs : List Snapshot) (i : ℕ) (x d : Snapshot) → slice_get xs i ≡ Some x → slice_index_or xs i d ≡ x
+get-or [] i x d q = absurd (let z : ⊥ = cc in z)
+get-or (y ∷ xs) zero x d q = let z : y ≡ x = cc in z
+get-or (y ∷ xs) (suc i) x d q = get-or xs i x d q
+
 pub get-one : {A : Type 0} (xs : List A) (i : ℕ) (x y : A) → slice_get xs i ≡ Some x → slice_get xs i ≡ Some y → x ≡ y
 get-one xs i x y p q = let z : x ≡ y = cc in z
 
@@ -72,13 +81,24 @@ leads-alike law d t hidden s u (c ∷ cs) r a l =
     let w = leads-alike law d t hidden (after_choice t d s c) (after_choice t d u c) cs r (law.after t d hidden s u c a) l.2 in
     (w.0, (l.0, ap stall_count (sym (law.outcome t d hidden s u c a)) ∙ l.1, w.1), w.2)
 
--- and so from a kept state on
-pub leads-join : DeadRegistersChangeNothing → (d : ℕ) (t : Litmus) (hidden : List (List Bool)) (s kept more : State) (cs ds : List Choice)
-    → LeadsTo d t hidden s cs kept → LeadsTo d t hidden kept ds more → LeadsTo d t hidden s (cs ++ ds) more
-leads-join law d t hidden s kept more cs ds h k =
+-- choices from the first state, and turns from a kept state on
+pub leads-join : DeadRegistersChangeNothing → AlikeCoresAreExchangeable → (d : ℕ) (t : Litmus) (hidden : List (List Bool)) (kept more : State) (cs : List Choice) (turns : List Turn)
+    → LeadsTo d t hidden (start t) cs kept → LeadByTurns d t hidden kept turns more → LeadsTo d t hidden (start t) (played turns cs) more
+leads-join law all d t hidden kept more cs turns h k =
+    let last : State = k.lead.last in
     let alike : AreAlike t hidden kept h.last = ap (forgotten t hidden) (sym h.kept_is) ∙ law.twice t hidden h.last in
-    let w = leads-alike law d t hidden kept h.last ds k.last alike k.leads in
-    record { last = w.0; leads = leads-append d t s cs h.last ds w.0 h.leads w.1; kept_is = w.2 ∙ k.kept_is }
+    let w = leads-alike law d t hidden kept h.last k.choices last alike k.lead.leads in
+    let x = leads-exchanged d t hidden all (cs ++ k.choices) k.exchanges w.0 k.lead.alike (leads-append d t (start t) cs h.last k.choices w.0 h.leads w.1) in
+    subst (λ z. LeadsTo d t hidden (start t) z more) (sym (ap (λ z. played z cs) k.turns_are ∙ played-is k.choices k.exchanges cs))
+    (record { last = x.last; leads = x.leads; kept_is = x.kept_is ∙ ap (exchanged_by k.exchanges) w.2 ∙ k.lead.kept_is })
+
+-- turns from the first state
+pub leads-first : AlikeCoresAreExchangeable → (d : ℕ) (t : Litmus) (hidden : List (List Bool)) (more : State) (turns : List Turn) → LeadByTurns d t hidden (start t) turns more
+    → LeadsTo d t hidden (start t) (played turns []) more
+leads-first all d t hidden more turns k =
+    let x = leads-exchanged d t hidden all k.choices k.exchanges k.lead.last k.lead.alike k.lead.leads in
+    subst (λ z. LeadsTo d t hidden (start t) z more) (sym (ap (λ z. played z []) k.turns_are ∙ played-is k.choices k.exchanges []))
+    (record { last = x.last; leads = x.leads; kept_is = x.kept_is ∙ k.lead.kept_is })
 
 -- ---- links
 
@@ -88,7 +108,7 @@ linked-grown d t hidden xs ys (suc i) s link h = (h.0, h.1, get-left xs ys link.
 
 -- one snapshot more, reached from one that is there
 pub linked-more : (d : ℕ) (t : Litmus) (hidden : List (List Bool)) (xs : List Snapshot) (links : List Link) (r x : Snapshot) (link : Link) → AreLinked d t hidden xs links
-    → slice_get xs link.from ≡ Some r → LeadsTo d t hidden (state_of r) link.choices.items (state_of x) → AreLinked d t hidden (xs ++ x ∷ []) (links ++ link ∷ [])
+    → slice_get xs link.from ≡ Some r → LeadByTurns d t hidden (state_of r) link.turns.items (state_of x) → AreLinked d t hidden (xs ++ x ∷ []) (links ++ link ∷ [])
 linked-more d t hidden xs links r x link h at leads = record {
   count = let a = length-append xs (x ∷ []) in let b = length-append links (link ∷ []) in let n = h.count in omega (arith, a, b, n);
   each = λ i s l p q. elim (lt-or (length xs) i) [
@@ -124,25 +144,29 @@ pub leads-settled : (d : ℕ) (t : Litmus) (s acted settled : State) (c : Choice
 leads-settled d t s acted settled c after l k e h =
     subst (λ z. LeadsBy d t s z settled) (sym h.appended) (l, k, subst (λ z. LeadsBy d t z h.made settled) e h.leads)
 
--- and without what is dead there
-pub reached-is : (d : ℕ) (t : Litmus) (hidden : List (List Bool)) (s acted settled kept : State) (c : Choice) (before after : List Choice) → chosen c < length t.programs
-    → stall_count (effect_of t d s c).outcome ≡ 0 → acted ≡ after_choice t d s c → before ≡ c ∷ [] → IsSettled d t acted settled before after → kept ≡ forgotten t hidden settled
-    → IsReached d t hidden s c after kept
-reached-is d t hidden s acted settled kept c before after l k e b h f =
+-- and without what is dead there, with cores that are alike exchanged
+pub reached-is : (d : ℕ) (t : Litmus) (hidden : List (List Bool)) (pairs : List (ℕ × ℕ)) (s acted settled forgot kept : State) (c : Choice) (before after : List Choice) (none exchanges : List (ℕ × ℕ))
+    → AreAllAlike t hidden pairs → chosen c < length t.programs → stall_count (effect_of t d s c).outcome ≡ 0 → acted ≡ after_choice t d s c → before ≡ c ∷ []
+    → IsSettled d t acted settled before after → forgot ≡ forgotten t hidden settled → none ≡ [] → IsArranged pairs forgot kept none exchanges → IsReached d t hidden pairs s c after exchanges kept
+reached-is d t hidden pairs s acted settled forgot kept c before after none exchanges all l k e b h f n a =
     let made : IsSettled d t acted settled (c ∷ []) after = subst (λ z. IsSettled d t acted settled z after) b h in
+    let of : AreOf pairs exchanges = subst (AreOf pairs) (sym (a.appended ∙ ap (λ z. z ++ a.made) n)) a.of_pairs in
+    let is : exchanged_by exchanges (forgotten t hidden settled) ≡ kept =
+    ap (λ z. exchanged_by exchanges z) (sym f) ∙ ap (λ z. exchanged_by z forgot) (a.appended ∙ ap (λ z. z ++ a.made) n) ∙ a.new_is in
     record {
-      leads = record { last = settled; leads = leads-settled d t s acted settled c after l k e made; kept_is = sym f };
+      leads = record { last = settled; leads = leads-settled d t s acted settled c after l k e made; alike = of-alike t hidden pairs exchanges all of; kept_is = is };
       last = settled;
       later = h.made;
       eager = subst (λ z. LeadsEagerly d t z h.made settled) e h.eager;
-      kept_is = sym f;
+      of_pairs = of;
+      kept_is = is;
     }
 
 module _ (eq : Snapshot → Snapshot → Bool) (d : ℕ) (t : Litmus) (hidden : List (List Bool)) (old new : List Snapshot) (x : Snapshot) (links : List Link) (added : Bool)
     (keys : new ≡ insert_key eq old x) (is : added ≡ not (list_any (eq x) old)) (h : AreLinked d t hidden old links) where
   -- it was new
   pub linked-new : (r : Snapshot) (link : Link) (more : List Link) → added ≡ true → more ≡ links ++ link ∷ [] → slice_get old link.from ≡ Some r
-      → LeadsTo d t hidden (state_of r) link.choices.items (state_of x) → AreLinked d t hidden new more
+      → LeadByTurns d t hidden (state_of r) link.turns.items (state_of x) → AreLinked d t hidden new more
   linked-new r link more q m at leads =
       let last : new ≡ old ++ x ∷ [] = keys ∙ ap (λ b. if b then old else old ++ x ∷ []) (not-true (list_any (eq x) old) (sym is ∙ q)) in
       subst (λ z. AreLinked d t hidden z more) (sym last) (subst (λ z. AreLinked d t hidden (old ++ x ∷ []) z) (sym m) (linked-more d t hidden old links r x link h at leads))
@@ -154,12 +178,14 @@ module _ (eq : Snapshot → Snapshot → Bool) (d : ℕ) (t : Litmus) (hidden : 
       subst (λ z. AreLinked d t hidden z links) (sym same) h
 
 -- the first alone
-pub linked-first : (d : ℕ) (t : Litmus) (hidden : List (List Bool)) (x : Snapshot) (link : Link) → LeadsTo d t hidden (start t) link.choices.items (state_of x) → AreLinked d t hidden (x ∷ []) (link ∷ [])
+pub linked-first : (d : ℕ) (t : Litmus) (hidden : List (List Bool)) (x : Snapshot) (link : Link) → LeadByTurns d t hidden (start t) link.turns.items (state_of x)
+    → AreLinked d t hidden (x ∷ []) (link ∷ [])
 linked-first d t hidden x link leads = record { count = refl; each = each }
   where
     each : (i : ℕ) (s : Snapshot) (l : Link) → slice_get (x ∷ []) i ≡ Some s → slice_get (link ∷ []) i ≡ Some l → IsLinked d t hidden (x ∷ []) i s l
     each zero s l p q = let a : x ≡ s = cc in let b : link ≡ l = cc in
-        subst (λ z. LeadsTo d t hidden (start t) z.choices.items (state_of s)) b (subst (λ z. LeadsTo d t hidden (start t) link.choices.items (state_of z)) a leads)
+        subst (λ z. LeadByTurns d t hidden (start t) z.turns.items (state_of s)) b
+        (subst (λ z. LeadByTurns d t hidden (start t) link.turns.items (state_of z)) a leads)
     each (suc i) s l p q = absurd (let z : ⊥ = cc in z)
 
 -- ---- paths
@@ -175,38 +201,48 @@ pub earlier : (links : List Link) (at : ℕ) (d : Link) → GoBack links → 0 <
 earlier links zero d h p l = absurd (let z : ⊥ = omega (arith, p) in z)
 earlier links (suc i) d h p l = let r = h i (slice_index_or links (suc i) d) (slice_get-get_or links (suc i) d l) in omega (arith, r)
 
-pub path-first : (links : List Link) (at : ℕ) (d : Link) (cs was : List Choice) → at ≤ 0 → at < length links → cs ≡ was ++ (slice_index_or links at d).choices.items → was ≡ []
-    → IsPath links at cs
-path-first links zero d cs was p l e w = λ depth t hidden xs s h q.
-    subst (λ z. LeadsTo depth t hidden (start t) z (state_of s)) (sym (e ∙ ap (λ z. z ++ (slice_index_or links 0 d).choices.items) w))
-    (h.each 0 s (slice_index_or links 0 d) q (slice_get-get_or links 0 d l))
-path-first links (suc i) d cs was p l e w = absurd (let z : ⊥ = omega (arith, p) in z)
+pub path-first : AlikeCoresAreExchangeable → (links : List Link) (at : ℕ) (d : Link) (cs was : List Choice) → at ≤ 0 → at < length links
+    → cs ≡ played (slice_index_or links at d).turns.items was → was ≡ [] → IsPath links at cs
+path-first all links zero d cs was p l e w = λ depth t hidden xs s h q.
+    let link : Link = slice_index_or links 0 d in
+    subst (λ z. LeadsTo depth t hidden (start t) z (state_of s)) (sym (e ∙ ap (played link.turns.items) w))
+    (leads-first all depth t hidden (state_of s) link.turns.items (h.each 0 s link q (slice_get-get_or links 0 d l)))
+path-first all links (suc i) d cs was p l e w = absurd (let z : ⊥ = omega (arith, p) in z)
 
-pub path-on : DeadRegistersChangeNothing → (links : List Link) (at : ℕ) (c d : Link) (cs was before : List Choice) → 0 < at → at < length links → IsPath links (slice_index_or links at c).from before
-    → cs ≡ was ++ (slice_index_or links at d).choices.items → was ≡ before → IsPath links at cs
-path-on law links zero c d cs was before p l h e w = absurd (let z : ⊥ = omega (arith, p) in z)
-path-on law links (suc i) c d cs was before p l h e w = λ depth t hidden xs s linked q.
-    let g : slice_get links (suc i) ≡ Some (slice_index_or links (suc i) c) = slice_get-get_or links (suc i) c l in
-    let r = linked.each (suc i) s (slice_index_or links (suc i) c) q g in
-    let same : slice_index_or links (suc i) c ≡ slice_index_or links (suc i) d = get-one links (suc i) _ _ g (slice_get-get_or links (suc i) d l) in
-    subst (λ z. LeadsTo depth t hidden (start t) z (state_of s)) (sym (e ∙ ap (λ z. z ++ (slice_index_or links (suc i) d).choices.items) w ∙ ap (λ z. before ++ z.choices.items) (sym same)))
-    (leads-join law depth t hidden (start t) (state_of r.0) (state_of s) before (slice_index_or links (suc i) c).choices.items (h depth t hidden xs r.0 linked r.2) r.3)
+pub path-on : DeadRegistersChangeNothing → AlikeCoresAreExchangeable → (links : List Link) (at : ℕ) (c d : Link) (cs was before : List Choice) → 0 < at → at < length links
+    → IsPath links (slice_index_or links at c).from before → cs ≡ played (slice_index_or links at d).turns.items was → was ≡ before → IsPath links at cs
+path-on law all links zero c d cs was before p l h e w = absurd (let z : ⊥ = omega (arith, p) in z)
+path-on law all links (suc i) c d cs was before p l h e w = λ depth t hidden xs s linked q.
+    let link : Link = slice_index_or links (suc i) c in
+    let g : slice_get links (suc i) ≡ Some link = slice_get-get_or links (suc i) c l in
+    let r = linked.each (suc i) s link q g in
+    let same : link ≡ slice_index_or links (suc i) d = get-one links (suc i) _ _ g (slice_get-get_or links (suc i) d l) in
+    let is : cs ≡ played link.turns.items before = e ∙ ap (λ z. played z.turns.items was) (sym same) ∙ ap (played link.turns.items) w in
+    subst (λ z. LeadsTo depth t hidden (start t) z (state_of s)) (sym is)
+    (leads-join law all depth t hidden (state_of r.0) (state_of s) before link.turns.items (h depth t hidden xs r.0 linked r.2) r.3)
 
 -- each snapshot can be reached, but for its dead registers
-pub linked-leads : DeadRegistersChangeNothing → (d : ℕ) (t : Litmus) (hidden : List (List Bool)) (xs : List Snapshot) (links : List Link) → AreLinked d t hidden xs links
+pub linked-leads : DeadRegistersChangeNothing → AlikeCoresAreExchangeable → (d : ℕ) (t : Litmus) (hidden : List (List Bool)) (xs : List Snapshot) (links : List Link) → AreLinked d t hidden xs links
     → (n i : ℕ) (s : Snapshot) → i < n → slice_get xs i ≡ Some s → (cs : List Choice) × LeadsTo d t hidden (start t) cs (state_of s)
-linked-leads law d t hidden xs links h zero i s l at = absurd (let z : ⊥ = omega (arith, l) in z)
-linked-leads law d t hidden xs links h (suc n) zero s l at =
+linked-leads law all d t hidden xs links h zero i s l at = absurd (let z : ⊥ = omega (arith, l) in z)
+linked-leads law all d t hidden xs links h (suc n) zero s l at =
     let m = get-within xs 0 s at in let k = h.count in
     let r = get-some links 0 (omega (arith, m, k)) in
-    (r.0.choices.items, h.each 0 s r.0 at r.1)
-linked-leads law d t hidden xs links h (suc n) (suc i) s l at =
+    (played r.0.turns.items [], leads-first all d t hidden (state_of s) r.0.turns.items (h.each 0 s r.0 at r.1))
+linked-leads law all d t hidden xs links h (suc n) (suc i) s l at =
     let m = get-within xs (suc i) s at in let k = h.count in
     let r = get-some links (suc i) (omega (arith, m, k)) in
     let w = h.each (suc i) s r.0 at r.1 in
     let before = w.1 in
-    let p = linked-leads law d t hidden xs links h n r.0.from w.0 (omega (arith, l, before)) w.2 in
-    (p.0 ++ r.0.choices.items, leads-join law d t hidden (start t) (state_of w.0) (state_of s) p.0 r.0.choices.items p.1 w.3)
+    let p = linked-leads law all d t hidden xs links h n r.0.from w.0 (omega (arith, l, before)) w.2 in
+    (played r.0.turns.items p.0, leads-join law all d t hidden (state_of w.0) (state_of s) p.0 r.0.turns.items p.1 w.3)
+
+-- a kept state has its dead registers forgotten
+pub linked-forgotten : DeadRegistersChangeNothing → AlikeCoresAreExchangeable → (d : ℕ) (t : Litmus) (hidden : List (List Bool)) (xs : List Snapshot) (links : List Link) → AreLinked d t hidden xs links
+    → (i : ℕ) (s : Snapshot) → slice_get xs i ≡ Some s → forgotten t hidden (state_of s) ≡ state_of s
+linked-forgotten law all d t hidden xs links h i s at =
+    let w = linked-leads law all d t hidden xs links h (suc i) i s (omega arith) at in
+    ap (forgotten t hidden) (sym w.1.kept_is) ∙ law.twice t hidden w.1.last ∙ w.1.kept_is
 
 pub reachable : (d : ℕ) (t : Litmus) (s : State) (cs : List Choice) → LeadsBy d t (start t) cs s → IsReachable t d s
 reachable d t s cs h = record { choices = cs; cores = leads-cores d t (start t) cs s h; state_is = leads-after d t (start t) cs s h }

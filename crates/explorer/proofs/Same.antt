@@ -2,7 +2,8 @@
 use Rattle.std.proofs.Common.{◌≡◌, ℕ, List, [], ◌∷◌, Bool, true, ◌&&◌, map, ap, refl, rules, subst}
 use Rattle.std.specs.Cmp.Lexicographic.{pointwise}
 use Rattle.std.proofs.lemmas.Bool.{eqb-true, eq-eqb}
-use Rattle.std.proofs.Common.{eqb}
+use Rattle.std.proofs.Common.{eqb, false, sym}
+use mathlib.Core.Bool.{beq}
 use Rattle.basic_laws.proofs.Basics.{and-left, and-right}
 use Rattle.tso_model.specs.declared.execution.Entry.{Entry}
 use Rattle.tso_model.specs.FlatMachine.{CoreState, State}
@@ -30,6 +31,15 @@ entries-same x y q = search rules
 
 pub words-same : (xs ys : List ℕ) → pointwise eqb xs ys ≡ true → xs ≡ ys
 words-same xs ys q = pointwise-same eqb eqb-true xs ys q
+
+pub tests-same : (xs ys : List Bool) → pointwise beq xs ys ≡ true → xs ≡ ys
+tests-same xs ys q = pointwise-same beq both-tests xs ys q
+  where
+    both-tests : (x y : Bool) → beq x y ≡ true → x ≡ y
+    both-tests true true q = refl
+    both-tests true false q = sym q
+    both-tests false true q = q
+    both-tests false false q = refl
 
 pub processors-same : (a b : Processor) → (processor_eq.eq-value).it a b ≡ true → core_of_processor a ≡ core_of_processor b
 processors-same a b q =

@@ -13,11 +13,14 @@ use Rattle.tso_model.specs.Runs.{stall_count}
 use Rattle.eager_laws.specs.Eager.{IsEager}
 use Rattle.eager_laws.specs.Closed.{LeadsEagerly, IsIn, IsCovered, IsExpanded, AreClosed}
 use Rattle.eager_laws.specs.Dead.{forgotten}
+use Rattle.eager_laws.specs.Exchanged.{exchanged_by}
 use Rattle.explorer.specs.State.{state_of}
 use Rattle.explorer.specs.Settled.{LeadsBy, IsSettled}
 use Rattle.explorer.specs.inner.Settled.{Grows, HaveCores, IsReached, IsVisited, AreVisited, AreLinked}
 use Rattle.explorer.specs.declared.snapshot.Snapshot.{Snapshot}
 use Rattle.explorer.specs.declared.link.Link.{Link}
+use Rattle.explorer.specs.declared.link.Turn.TheVariants.{Made, Exchanged}
+use Rattle.explorer.proofs.Exchanging.{none-alike}
 use Rattle.explorer.proofs.Linking.{get-left, get-back, leads-append, linked-first}
 
 -- ---- eager choices, one more
@@ -63,15 +66,22 @@ get-grown xs ys i x g q = subst (λ z. slice_get z i ≡ Some x) (sym g.1) (get-
 pub in-grown : (xs ys : List Snapshot) (s : State) → Grows xs ys → IsIn (map state_of xs) s → IsIn (map state_of ys) s
 in-grown xs ys s g m = (m.0, subst (λ z. slice_get z m.0 ≡ Some s) (sym (ap (map state_of) g.1 ∙ map-append xs g.0)) (get-left (map state_of xs) (map state_of g.0) m.0 s m.1))
 
-pub covered-grown : (d : ℕ) (t : Litmus) (hidden : List (List Bool)) (xs ys : List Snapshot) (s : State) → Grows xs ys → IsCovered d t hidden (map state_of xs) s → IsCovered d t hidden (map state_of ys) s
-covered-grown d t hidden xs ys s g h = record { eager = h.eager; last = h.last; leads = h.leads; among = in-grown xs ys (forgotten t hidden h.last) g h.among }
+pub covered-grown : (d : ℕ) (t : Litmus) (hidden : List (List Bool)) (pairs : List (ℕ × ℕ)) (xs ys : List Snapshot) (s : State) → Grows xs ys → IsCovered d t hidden pairs (map state_of xs) s → IsCovered d t hidden pairs (map state_of ys) s
+covered-grown d t hidden pairs xs ys s g h = record {
+  eager = h.eager;
+  last = h.last;
+  leads = h.leads;
+  exchanges = h.exchanges;
+  of_pairs = h.of_pairs;
+  among = in-grown xs ys (exchanged_by h.exchanges (forgotten t hidden h.last)) g h.among;
+}
 
-pub visited-grown : (d : ℕ) (t : Litmus) (hidden : List (List Bool)) (xs ys : List Snapshot) (s : State) (c : Choice) → Grows xs ys → IsVisited d t hidden xs s c → IsVisited d t hidden ys s c
-visited-grown d t hidden xs ys s c g (inl q) = inl q
-visited-grown d t hidden xs ys s c g (inr h) = inr (covered-grown d t hidden xs ys (after_choice t d s c) g h)
+pub visited-grown : (d : ℕ) (t : Litmus) (hidden : List (List Bool)) (pairs : List (ℕ × ℕ)) (xs ys : List Snapshot) (s : State) (c : Choice) → Grows xs ys → IsVisited d t hidden pairs xs s c → IsVisited d t hidden pairs ys s c
+visited-grown d t hidden pairs xs ys s c g (inl q) = inl q
+visited-grown d t hidden pairs xs ys s c g (inr h) = inr (covered-grown d t hidden pairs xs ys (after_choice t d s c) g h)
 
-pub expanded-grown : (d : ℕ) (t : Litmus) (hidden : List (List Bool)) (xs ys : List Snapshot) (s : State) → Grows xs ys → IsExpanded d t hidden (map state_of xs) s → IsExpanded d t hidden (map state_of ys) s
-expanded-grown d t hidden xs ys s g h c l = visited-grown d t hidden xs ys s c g (h c l)
+pub expanded-grown : (d : ℕ) (t : Litmus) (hidden : List (List Bool)) (pairs : List (ℕ × ℕ)) (xs ys : List Snapshot) (s : State) → Grows xs ys → IsExpanded d t hidden pairs (map state_of xs) s → IsExpanded d t hidden pairs (map state_of ys) s
+expanded-grown d t hidden pairs xs ys s g h c l = visited-grown d t hidden pairs xs ys s c g (h c l)
 
 -- ---- the place of a snapshot
 
@@ -106,41 +116,41 @@ cores-insert eq t xs x h q = go (list_any (eq x) xs)
 
 -- ---- all choices of a state
 
-pub expands : (d : ℕ) (t : Litmus) (hidden : List (List Bool)) (xs : List Snapshot) (s : State) → ((k : ℕ) → k < length t.programs → AreVisited d t hidden xs s k) → IsExpanded d t hidden (map state_of xs) s
-expands d t hidden xs s h (Step k) l = (h k.0 l).0
-expands d t hidden xs s h (Drain k) l = (h k.0 l).1
+pub expands : (d : ℕ) (t : Litmus) (hidden : List (List Bool)) (pairs : List (ℕ × ℕ)) (xs : List Snapshot) (s : State) → ((k : ℕ) → k < length t.programs → AreVisited d t hidden pairs xs s k) → IsExpanded d t hidden pairs (map state_of xs) s
+expands d t hidden pairs xs s h (Step k) l = (h k.0 l).0
+expands d t hidden pairs xs s h (Drain k) l = (h k.0 l).1
 
-pub closes : (d : ℕ) (t : Litmus) (hidden : List (List Bool)) (xs : List Snapshot) (n : ℕ) → length xs ≤ n → IsCovered d t hidden (map state_of xs) (start t)
-    → ((i : ℕ) (x : Snapshot) → i < n → slice_get xs i ≡ Some x → IsExpanded d t hidden (map state_of xs) (state_of x)) → AreClosed d t hidden (map state_of xs)
-closes d t hidden xs n l first each = record {
+pub closes : (d : ℕ) (t : Litmus) (hidden : List (List Bool)) (pairs : List (ℕ × ℕ)) (xs : List Snapshot) (n : ℕ) → length xs ≤ n → IsCovered d t hidden pairs (map state_of xs) (start t)
+    → ((i : ℕ) (x : Snapshot) → i < n → slice_get xs i ≡ Some x → IsExpanded d t hidden pairs (map state_of xs) (state_of x)) → AreClosed d t hidden pairs (map state_of xs)
+closes d t hidden pairs xs n l first each = record {
   first = first;
   each = λ s m.
       let r = from-list xs m.0 s m.1 in
       let k = r.3 in
-      subst (λ z. IsExpanded d t hidden (map state_of xs) z) r.2 (each m.0 r.0 (omega (arith, l, k)) r.1);
+      subst (λ z. IsExpanded d t hidden pairs (map state_of xs) z) r.2 (each m.0 r.0 (omega (arith, l, k)) r.1);
 }
 
 pub grown-within : (xs ys : List Snapshot) (i : ℕ) → Grows xs ys → i < length xs → i < length ys
 grown-within xs ys i g l = let q = ap length g.1 in let n = length-append xs g.0 in omega (arith, q, n, l)
 
 -- one core more is visited
-pub visited-more : (d : ℕ) (t : Litmus) (hidden : List (List Bool)) (xs ys : List Snapshot) (s : State) (n : ℕ) → Grows xs ys
-    → ((k : ℕ) → k < n → AreVisited d t hidden xs s k) → AreVisited d t hidden ys s n → (k : ℕ) → k < n + 1 → AreVisited d t hidden ys s k
-visited-more d t hidden xs ys s n g before now k l = elim (lt-or n k) [
-  | inl m ↦ let r = before k m in (visited-grown d t hidden xs ys s (step k) g r.0, visited-grown d t hidden xs ys s (drain k) g r.1)
-  | inr m ↦ let q : n ≡ k = omega (arith, l, m) in subst (λ z. AreVisited d t hidden ys s z) q now
+pub visited-more : (d : ℕ) (t : Litmus) (hidden : List (List Bool)) (pairs : List (ℕ × ℕ)) (xs ys : List Snapshot) (s : State) (n : ℕ) → Grows xs ys
+    → ((k : ℕ) → k < n → AreVisited d t hidden pairs xs s k) → AreVisited d t hidden pairs ys s n → (k : ℕ) → k < n + 1 → AreVisited d t hidden pairs ys s k
+visited-more d t hidden pairs xs ys s n g before now k l = elim (lt-or n k) [
+  | inl m ↦ let r = before k m in (visited-grown d t hidden pairs xs ys s (step k) g r.0, visited-grown d t hidden pairs xs ys s (drain k) g r.1)
+  | inr m ↦ let q : n ≡ k = omega (arith, l, m) in subst (λ z. AreVisited d t hidden pairs ys s z) q now
 ]
 
 -- one snapshot more is expanded
-pub expanded-more : (d : ℕ) (t : Litmus) (hidden : List (List Bool)) (xs ys : List Snapshot) (n : ℕ) → n < length xs → Grows xs ys
-    → ((i : ℕ) (x : Snapshot) → i < n → slice_get xs i ≡ Some x → IsExpanded d t hidden (map state_of xs) (state_of x))
-    → ((x : Snapshot) → slice_get xs n ≡ Some x → IsExpanded d t hidden (map state_of ys) (state_of x))
-    → (i : ℕ) (x : Snapshot) → i < n + 1 → slice_get ys i ≡ Some x → IsExpanded d t hidden (map state_of ys) (state_of x)
-expanded-more d t hidden xs ys n within g before now i x l q =
+pub expanded-more : (d : ℕ) (t : Litmus) (hidden : List (List Bool)) (pairs : List (ℕ × ℕ)) (xs ys : List Snapshot) (n : ℕ) → n < length xs → Grows xs ys
+    → ((i : ℕ) (x : Snapshot) → i < n → slice_get xs i ≡ Some x → IsExpanded d t hidden pairs (map state_of xs) (state_of x))
+    → ((x : Snapshot) → slice_get xs n ≡ Some x → IsExpanded d t hidden pairs (map state_of ys) (state_of x))
+    → (i : ℕ) (x : Snapshot) → i < n + 1 → slice_get ys i ≡ Some x → IsExpanded d t hidden pairs (map state_of ys) (state_of x)
+expanded-more d t hidden pairs xs ys n within g before now i x l q =
     let m : i < length xs = omega (arith, l, within) in
     let old : slice_get xs i ≡ Some x = get-back xs g.0 i x m (subst (λ z. slice_get z i ≡ Some x) g.1 q) in
     elim (lt-or n i) [
-      | inl k ↦ expanded-grown d t hidden xs ys (state_of x) g (before i x k old)
+      | inl k ↦ expanded-grown d t hidden pairs xs ys (state_of x) g (before i x k old)
       | inr k ↦ let e : i ≡ n = omega (arith, l, k) in now x (subst (λ z. slice_get xs z ≡ Some x) e old)
     ]
 
@@ -155,9 +165,16 @@ among eq sound (y ∷ ys) x q = go (eq x y) refl (λ r. among eq sound ys x r) q
     go false e later r = let m = later r in (suc m.0, m.1)
 
 -- what a choice leads to is covered where it is in the set
-pub visits : (d : ℕ) (t : Litmus) (hidden : List (List Bool)) (keys : List Snapshot) (s kept : State) (c : Choice) (choices : List Choice)
-    → IsReached d t hidden s c choices kept → IsIn (map state_of keys) kept → IsVisited d t hidden keys s c
-visits d t hidden keys s kept c choices h m = inr (record { eager = h.later; last = h.last; leads = h.eager; among = subst (IsIn (map state_of keys)) (sym h.kept_is) m })
+pub visits : (d : ℕ) (t : Litmus) (hidden : List (List Bool)) (pairs : List (ℕ × ℕ)) (keys : List Snapshot) (s kept : State) (c : Choice) (choices : List Choice) (exchanges : List (ℕ × ℕ))
+    → IsReached d t hidden pairs s c choices exchanges kept → IsIn (map state_of keys) kept → IsVisited d t hidden pairs keys s c
+visits d t hidden pairs keys s kept c choices exchanges h m = inr (record {
+  eager = h.later;
+  last = h.last;
+  leads = h.eager;
+  exchanges = exchanges;
+  of_pairs = h.of_pairs;
+  among = subst (IsIn (map state_of keys)) (sym h.kept_is) m;
+})
 
 -- the first of a list
 pub first-is : (xs : List Entry) (x : Entry) → (length xs == 0) ≡ false → x ≡ slice_index_or xs 0 x → xs ≡ x ∷ drop 1 xs
@@ -168,23 +185,35 @@ pub same-some : (x y : Snapshot) → Some x ≡ Some y → x ≡ y
 same-some x y q = let z : x ≡ y = cc in z
 
 -- the first snapshot alone
-module _ (eq : Snapshot → Snapshot → Bool) (d : ℕ) (t : Litmus) (hidden : List (List Bool)) (old new : List Snapshot) (x : Snapshot) (first last : State) (before after : List Choice)
+module _ (eq : Snapshot → Snapshot → Bool) (d : ℕ) (t : Litmus) (hidden : List (List Bool)) (pairs : List (ℕ × ℕ)) (old new : List Snapshot) (x : Snapshot) (first last : State) (before after : List Choice)
     (e : old ≡ []) (n : new ≡ insert_key eq old x) (f : first ≡ start t) (h : IsSettled d t first last before after) (kept : state_of x ≡ forgotten t hidden last) where
   pub first-alone : new ≡ x ∷ []
   first-alone = n ∙ ap (λ z. insert_key eq z x) e
 
-  pub first-linked : (links : List Link) (link : Link) → before ≡ [] → link.choices.items ≡ after → links ≡ link ∷ [] → AreLinked d t hidden new links
-  first-linked links link b a m =
-      let leads : LeadsBy d t (start t) link.choices.items last =
-      subst (λ z. LeadsBy d t (start t) z last) (sym (a ∙ h.appended ∙ ap (λ z. z ++ h.made) b)) (subst (λ z. LeadsBy d t z h.made last) f h.leads) in
+  pub first-linked : (links : List Link) (link : Link) (es : List (ℕ × ℕ)) → before ≡ [] → link.turns.items ≡ map Made after ++ map Exchanged es → es ≡ [] → links ≡ link ∷ [] → AreLinked d t hidden new links
+  first-linked links link es b a none m =
+      let leads : LeadsBy d t (start t) after last =
+      subst (λ z. LeadsBy d t (start t) z last) (sym (h.appended ∙ ap (λ z. z ++ h.made) b)) (subst (λ z. LeadsBy d t z h.made last) f h.leads) in
       subst (λ z. AreLinked d t hidden z links) (sym first-alone)
-      (subst (λ z. AreLinked d t hidden (x ∷ []) z) (sym m) (linked-first d t hidden x link (record { last = last; leads = leads; kept_is = sym kept })))
+      (subst (λ z. AreLinked d t hidden (x ∷ []) z) (sym m) (linked-first d t hidden x link (record {
+        choices = after;
+        exchanges = es;
+        turns_are = a;
+        lead = record {
+          last = last;
+          leads = leads;
+          alike = none-alike t hidden es none;
+          kept_is = ap (λ z. exchanged_by z (forgotten t hidden last)) none ∙ sym kept;
+        };
+      })))
 
-  pub first-covered : IsCovered d t hidden (map state_of new) (start t)
+  pub first-covered : IsCovered d t hidden pairs (map state_of new) (start t)
   first-covered = record {
     eager = h.made;
     last = last;
     leads = subst (λ z. LeadsEagerly d t z h.made last) f h.eager;
+    exchanges = [];
+    of_pairs = tt;
     among = subst (λ z. IsIn (map state_of z) (forgotten t hidden last)) (sym first-alone) (0, ap Some kept);
   }
 

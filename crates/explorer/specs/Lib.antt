@@ -7,6 +7,7 @@ pub use Rattle.tso_model.specs.Litmus
 pub use Rattle.tso_model.specs.Runs
 pub use Rattle.tso_laws.specs.Choices
 pub use Rattle.eager_laws.specs.Eager
+pub use Rattle.eager_laws.specs.Exchanged
 pub use Rattle.eager_laws.specs.Closed
 pub use Rattle.eager_laws.specs.Dead
 pub use Rattle.outcome_laws.specs.Outcomes

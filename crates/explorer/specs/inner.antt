@@ -1,4 +1,5 @@
 -- Words of contracts inside the project.
+pub mod Arranged
 pub mod Collected
 pub mod Settled
 pub mod Planned

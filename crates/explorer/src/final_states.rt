@@ -15,12 +15,15 @@ ghost use Rattle.explorer.specs.declared.snapshot.Snapshot.{Snapshot};
 ghost use Rattle.explorer.specs.declared.fault.ExploreFault.{ExploreFault};
 
 use crate::acting::act;
+use crate::closing::close;
 use crate::fault::ExploreFault;
 use crate::link::path;
 use crate::plan::{Plan, plan_of};
 use crate::search::{Found, search};
 use crate::snapshot::{Processor, Snapshot, start};
-use eager_laws::{closed_states_miss_none, dead_registers_change_nothing};
+use eager_laws::{
+    alike_cores_are_exchangeable, closed_states_miss_none, dead_registers_change_nothing,
+};
 use outcome_laws::ends_are_what_tso_allows;
 use std::alloc::Global;
 use tso_laws::runs_stop_where_they_end;
@@ -40,7 +43,7 @@ pub struct FinalState {
 pub struct Exploration {
     /// Every final state that the machine can reach at the depth, each once, but for hidden registers.
     pub final_states: Vec<FinalState>,
-    /// How many states the search kept.
+    /// How many states the search kept, those among them that exchanges of alike cores made of the ended ones.
     pub kept: usize,
 }
 
@@ -52,7 +55,7 @@ fn is_done(program: &[Instr], processor: &Processor) -> bool
 }
 
 /// Whether the test has ended: each core is done.
-fn has_ended(test: &Test, snapshot: &Snapshot) -> bool
+pub fn has_ended(test: &Test, snapshot: &Snapshot) -> bool
     requires { length snapshot.now.cores.items ≡ length test.now.programs }
     ensures { result ≡ has_ended test.now (state_of snapshot.now) }
 {
@@ -160,13 +163,15 @@ pub fn explore(
     ensures once { IfOk result (λ x. AreDistinct hidden.now x.final_states.items) }
     ensures too_many { IfErr result (λ fault. fault ≡ ExploreFault.TooMany → HasMoreStates test.now depth limit) }
 {
+    alike_cores_are_exchangeable();
     closed_states_miss_none();
     dead_registers_change_nothing();
     ends_are_what_tso_allows();
     runs_stop_where_they_end();
     test.know_limits();
     let plan = plan_of(alloc, test, depth, hidden)?;
-    let found = search(alloc, &plan, limit)?;
+    let mut found = search(alloc, &plan, limit)?;
+    close(alloc, &plan, &mut found, limit)?;
     let final_states = final_states(alloc, &plan, &found)?;
     Ok(Exploration {
         final_states,

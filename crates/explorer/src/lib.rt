@@ -4,11 +4,17 @@
 //! A search keeps the machine's states in one set, in the order in which they were found, and makes
 //! every choice in each of them in turn. Choices that need not wait are made at once, as
 //! `eager_laws` allows, so the states on their way aren't kept. States that differ in dead registers
-//! alone are kept as one: those that nothing reads any more, and that nobody looks at in the end.
+//! alone are kept as one: those that nothing reads any more, and that nobody looks at in the end. So
+//! are states that differ by which of some cores that are alike is which; at the end all of those in
+//! which the test has ended are put back.
 #![tactic(auto)]
 
 mod acting;
+mod alike;
+mod arranging;
+mod closing;
 mod eager;
+mod exchange;
 pub mod fault;
 pub mod final_states;
 mod forgetting;

@@ -1,18 +1,75 @@
-//! How the search reached a state: from which one, and by which choices. Back along the links are the choices that lead to
-//! each final state.
-ghost use Rattle.std.specs.Prelude.{◌<◌, length, IfOk};
+//! How the search reached a state: from which one, by which choices, and by which exchanges of alike cores after them. Back
+//! along the links are the choices that lead to each final state; an exchange is made in all those before it.
+ghost use Rattle.std.specs.Prelude.{◌≡◌, ◌<◌, ◌++◌, length, map, IfOk, OnOk};
+ghost use Rattle.explorer.specs.declared.link.Turn.{Turn};
+ghost use Rattle.explorer.specs.inner.Arranged.{played};
 ghost use Rattle.explorer.specs.inner.Settled.{GoBack, IsPath};
 
-use eager_laws::dead_registers_change_nothing;
+use crate::exchange::exchange_choices;
+use eager_laws::{alike_cores_are_exchangeable, dead_registers_change_nothing};
 use std::alloc::Global;
 use tso_model::{Choice, NoMemory};
 
-/// How a snapshot was reached: from which one, by its number, and by which choices. The first was
-/// reached from the beginning of the test, and its `from` says nothing.
+/// What leads on from a state: a choice, or an exchange of two cores that are alike. Both are told in one
+/// list, since as many of these are kept as there are states.
+#[derive(Clone, Copy)]
+pub enum Turn {
+    Made(Choice),
+    Exchanged((u8, u8)),
+}
+
+/// How a snapshot was reached: from which one, by its number, and by which choices and exchanges. The
+/// first was reached from the beginning of the test, and its `from` says nothing.
 #[derive(Drop)]
 pub struct Link {
     pub from: usize,
-    pub choices: Vec<Choice>,
+    pub turns: Vec<Turn>,
+}
+
+/// Appends exchanges.
+///
+/// Errors: out of memory only.
+fn append(turns: &mut Vec<Turn>, exchanges: &[(u8, u8)]) -> Result<(), NoMemory>
+    ensures { OnOk result (turns.new.items ≡ turns.old.items ++ map Turn.Exchanged exchanges.now) }
+{
+    for pair in exchanges {
+        turns.push(Turn::Exchanged(*pair))?;
+    }
+    Ok(())
+}
+
+/// These choices and then these exchanges, with no room to spare.
+///
+/// Errors: out of memory only.
+pub fn turns_of(
+    alloc: Global,
+    choices: &[Choice],
+    exchanges: &[(u8, u8)],
+) -> Result<Vec<Turn>, NoMemory>
+    ensures { IfOk result (λ turns. turns.items ≡ map Turn.Made choices.now ++ map Turn.Exchanged exchanges.now) }
+{
+    let count = choices.len().saturating_add(exchanges.len());
+    let mut turns = Vec::with_capacity(alloc, count)?;
+    for choice in choices {
+        turns.push(Turn::Made(*choice))?;
+    }
+    append(&mut turns, exchanges)?;
+    Ok(turns)
+}
+
+/// Appends the choices among the turns, and makes each exchange in all choices that stand there then.
+///
+/// Errors: out of memory only.
+fn play(choices: &mut Vec<Choice>, turns: &[Turn]) -> Result<(), NoMemory>
+    ensures { OnOk result (choices.new.items ≡ played turns.now choices.old.items) }
+{
+    for turn in turns {
+        match *turn {
+            Turn::Made(choice) => choices.push(choice)?,
+            Turn::Exchanged(pair) => exchange_choices(choices, pair),
+        }
+    }
+    Ok(())
 }
 
 /// The choices that lead from the beginning of the test to the snapshot of this number.
@@ -23,11 +80,12 @@ pub fn path(alloc: Global, links: &[Link], at: usize) -> Result<Vec<Choice>, NoM
     requires back { GoBack links.now }
     ensures { IfOk result (λ choices. IsPath links.now at choices.items) }
 {
+    alike_cores_are_exchangeable();
     dead_registers_change_nothing();
     let mut choices = Vec::new(alloc);
     if at > 0 {
         choices = path(alloc, links, links[at].from)?;
     }
-    choices.extend_from_slice(&links[at].choices)?;
+    play(&mut choices, &links[at].turns)?;
     Ok(choices)
 }

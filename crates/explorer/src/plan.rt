@@ -5,6 +5,7 @@ ghost use Rattle.std.specs.Prelude.{◌≡◌, IfOk};
 ghost use Rattle.eager_laws.specs.Dead.{unless_read, dead_before, hidden_of};
 ghost use Rattle.explorer.specs.inner.Planned.{AreDead, IsPlan};
 
+use crate::alike::alike_pairs;
 use std::alloc::Global;
 use tso_model::{Action, Core, Instr, NoMemory, Operand, Test};
 
@@ -18,6 +19,8 @@ pub struct Plan<'a> {
     pub hidden: &'a [[bool; 6]],
     /// For each core, by how many of its instructions are still to come, which of its registers are dead.
     pub dead: Vec<Vec<[bool; 6]>>,
+    /// Pairs of cores that are alike.
+    pub alike: Vec<(u8, u8)>,
 }
 
 /// A register that the operand reads isn't dead.
@@ -75,7 +78,7 @@ fn dead_registers(
 }
 
 /// The hidden registers of a core, if there are any.
-fn hidden_of(hidden: &[[bool; 6]], core: u8) -> [bool; 6]
+pub fn hidden_of(hidden: &[[bool; 6]], core: u8) -> [bool; 6]
     ensures { result ≡ Rattle.eager_laws.specs.Dead.hidden_of hidden.now core }
 {
     match hidden.get(usize::from(core)) {
@@ -103,10 +106,12 @@ pub fn plan_of<'a>(
         let hidden = hidden_of(hidden, core);
         dead.push(dead_registers(alloc, test.program(Core(core)), hidden)?)?;
     }
+    let alike = alike_pairs(alloc, test, hidden)?;
     Ok(Plan {
         test,
         depth,
         hidden,
         dead,
+        alike,
     })
 }

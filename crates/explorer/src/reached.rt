@@ -1,5 +1,5 @@
-//! The state that a choice leads to, with the choices after it that need not wait, and without what is dead there. A choice
-//! that stalls leads nowhere new.
+//! The state that a choice leads to, with the choices after it that need not wait, without what is dead there, and with cores
+//! that are alike in one order. A choice that stalls leads nowhere new.
 ghost use Rattle.std.specs.Prelude.{◌≡◌, ◌<◌, IfOk, OnOk, true, false, length};
 ghost use Rattle.tso_model.specs.FlatMachine.{after_choice, chosen};
 ghost use Rattle.explorer.specs.State.{state_of};
@@ -7,6 +7,7 @@ ghost use Rattle.explorer.specs.inner.Planned.{IsPlan};
 ghost use Rattle.explorer.specs.inner.Settled.{IsReached};
 
 use crate::acting::{act, has_stalled, is_idle};
+use crate::arranging::arrange;
 use crate::eager::settle;
 use crate::forgetting::forget;
 use crate::plan::Plan;
@@ -21,6 +22,8 @@ use tso_model::{Choice, NoMemory, Test};
 pub struct Reached {
     pub state: Snapshot,
     pub choices: Vec<Choice>,
+    /// Which cores were exchanged after the choices, one pair after the other.
+    pub exchanges: Vec<(u8, u8)>,
 }
 
 /// The first state of a test, where no choice has been made.
@@ -32,11 +35,12 @@ pub fn nowhere(alloc: Global, test: &Test) -> Result<Reached, NoMemory>
     Ok(Reached {
         state: start(alloc, test)?,
         choices: Vec::new(alloc),
+        exchanges: Vec::new(alloc),
     })
 }
 
-/// Makes a choice in a snapshot, and what choices need not wait after it, and forgets what is dead
-/// then. Answers whether the choice took effect; where it stalled, what was reached says nothing.
+/// Makes a choice in a snapshot, and what choices need not wait after it, forgets what is dead then,
+/// and puts cores that are alike into one order. Answers whether the choice took effect; where it stalled, what was reached says nothing.
 ///
 /// Errors: out of memory only.
 pub fn reach(
@@ -51,8 +55,8 @@ pub fn reach(
     requires chosen { chosen choice < length plan.now.test.now.programs }
     ensures stalled { IfOk result (λ made. made ≡ false
         → after_choice plan.now.test.now plan.now.depth (state_of snapshot.now) choice ≡ state_of snapshot.now) }
-    ensures reached { IfOk result (λ made. made ≡ true → IsReached plan.now.depth plan.now.test.now plan.now.hidden.now
-        (state_of snapshot.now) choice reached.new.choices.items (state_of reached.new.state)) }
+    ensures reached { IfOk result (λ made. made ≡ true → IsReached plan.now.depth plan.now.test.now plan.now.hidden.now plan.now.alike.items
+        (state_of snapshot.now) choice reached.new.choices.items reached.new.exchanges.items (state_of reached.new.state)) }
     ensures room { OnOk result (length reached.new.state.cores.items ≡ length plan.now.test.now.programs) }
 {
     stalls_change_nothing();
@@ -73,5 +77,7 @@ pub fn reach(
         &mut reached.choices,
     )?;
     forget(&mut reached.state, plan);
+    reached.exchanges.clear();
+    arrange(&mut reached.state, &plan.alike, &mut reached.exchanges)?;
     Ok(true)
 }

@@ -1,12 +1,11 @@
 //! The search for all states that choices lead to. One list is queue and visited set at once; each of its states is gone
 //! through, and where there are more than may be kept the search says so and answers nothing.
-ghost use Rattle.std.specs.Prelude.{◌≡◌, ℕ, ◌<◌, Bool, List, IfOk, IfErr, OnOk, map, length, slice_get, Some};
+ghost use Rattle.std.specs.Prelude.{◌≡◌, ℕ, ◌<◌, ◌≤◌, Bool, List, IfOk, IfErr, OnOk, map, length, slice_get, Some};
 ghost use Rattle.tso_model.specs.FlatMachine.{chosen, start};
 ghost use Rattle.eager_laws.specs.Closed.{IsIn, IsCovered, IsExpanded};
 ghost use Rattle.tso_model.specs.Litmus.{Litmus};
-ghost use Rattle.explorer.specs.Settled.{LeadsTo};
 ghost use Rattle.explorer.specs.State.{state_of};
-ghost use Rattle.explorer.specs.inner.Settled.{Grows, HaveCores, IsVisited, AreVisited, AreLinked, IsSearched};
+ghost use Rattle.explorer.specs.inner.Settled.{Grows, HaveCores, LeadTo, IsVisited, AreVisited, AreLinked, IsSearched};
 ghost use Rattle.explorer.specs.inner.Planned.{IsPlan};
 ghost use Rattle.explorer.specs.FinalStates.{HasMoreStates};
 ghost use Rattle.explorer.specs.declared.snapshot.Snapshot.{Snapshot};
@@ -15,11 +14,11 @@ ghost use Rattle.explorer.specs.declared.fault.ExploreFault.{ExploreFault};
 use crate::eager::settle;
 use crate::fault::ExploreFault;
 use crate::forgetting::forget;
-use crate::link::Link;
+use crate::link::{Link, turns_of};
 use crate::plan::Plan;
 use crate::reached::{Reached, nowhere, reach};
-use crate::snapshot::{Snapshot, copy, exact, start};
-use eager_laws::dead_registers_change_nothing;
+use crate::snapshot::{Snapshot, copy, start};
+use eager_laws::{alike_cores_are_exchangeable, dead_registers_change_nothing};
 use indexmap::IndexSet;
 use std::alloc::Global;
 use tso_model::{Choice, Core, NoMemory};
@@ -47,17 +46,17 @@ pub fn keep(
         → length reached.now.state.cores.items ≡ length t.programs → HaveCores t found.new.snapshots.keys) }
     ensures linked { OnOk result ((depth : ℕ) (t : Litmus) (hidden : List (List Bool)) (s : Snapshot)
         → AreLinked depth t hidden found.old.snapshots.keys found.old.links.items → slice_get found.old.snapshots.keys from ≡ Some s
-        → LeadsTo depth t hidden (state_of s) reached.now.choices.items (state_of reached.now.state)
+        → LeadTo depth t hidden (state_of s) reached.now.choices.items reached.now.exchanges.items (state_of reached.now.state)
         → AreLinked depth t hidden found.new.snapshots.keys found.new.links.items) }
 {
     if found.snapshots.contains(&reached.state) {
         return Ok(());
     }
     let state = copy(alloc, &reached.state)?;
-    let choices = exact(alloc, &reached.choices)?;
+    let turns = turns_of(alloc, &reached.choices, &reached.exchanges)?;
     let (_, added) = found.snapshots.insert_full(state)?;
     if added {
-        found.links.push(Link { from, choices })?;
+        found.links.push(Link { from, turns })?;
     }
     Ok(())
 }
@@ -85,7 +84,7 @@ pub fn visit(
     ensures linked { OnOk result (AreLinked plan.now.depth plan.now.test.now plan.now.hidden.now found.new.snapshots.keys found.new.links.items) }
     ensures room { OnOk result (length reached.new.state.cores.items ≡ length plan.now.test.now.programs) }
     ensures visited { OnOk result ((s : Snapshot) → slice_get found.old.snapshots.keys from ≡ Some s
-        → IsVisited plan.now.depth plan.now.test.now plan.now.hidden.now found.new.snapshots.keys (state_of s) choice) }
+        → IsVisited plan.now.depth plan.now.test.now plan.now.hidden.now plan.now.alike.items found.new.snapshots.keys (state_of s) choice) }
 {
     if reach(reached, &found.snapshots[from], plan, choice)? {
         keep(alloc, found, reached, from)?;
@@ -115,7 +114,7 @@ fn visit_core(
     ensures linked { OnOk result (AreLinked plan.now.depth plan.now.test.now plan.now.hidden.now found.new.snapshots.keys found.new.links.items) }
     ensures room { OnOk result (length reached.new.state.cores.items ≡ length plan.now.test.now.programs) }
     ensures visited { OnOk result ((s : Snapshot) → slice_get found.old.snapshots.keys from ≡ Some s
-        → AreVisited plan.now.depth plan.now.test.now plan.now.hidden.now found.new.snapshots.keys (state_of s) core) }
+        → AreVisited plan.now.depth plan.now.test.now plan.now.hidden.now plan.now.alike.items found.new.snapshots.keys (state_of s) core) }
 {
     let step = Choice::Step(Core(core));
     visit(alloc, found, reached, plan, from, step)?;
@@ -143,7 +142,7 @@ pub fn expand(
     ensures linked { OnOk result (AreLinked plan.now.depth plan.now.test.now plan.now.hidden.now found.new.snapshots.keys found.new.links.items) }
     ensures room { OnOk result (length reached.new.state.cores.items ≡ length plan.now.test.now.programs) }
     ensures expanded { OnOk result ((s : Snapshot) → slice_get found.old.snapshots.keys from ≡ Some s
-        → IsExpanded plan.now.depth plan.now.test.now plan.now.hidden.now (map state_of found.new.snapshots.keys) (state_of s)) }
+        → IsExpanded plan.now.depth plan.now.test.now plan.now.hidden.now plan.now.alike.items (map state_of found.new.snapshots.keys) (state_of s)) }
 {
     for core in 0..plan.test.cores() {
         visit_core(alloc, found, reached, plan, from, core)?;
@@ -158,7 +157,7 @@ fn beginning(alloc: Global, plan: &Plan) -> Result<Found, NoMemory>
     requires { IsPlan plan.now }
     ensures cores { IfOk result (λ found. HaveCores plan.now.test.now found.snapshots.keys) }
     ensures linked { IfOk result (λ found. AreLinked plan.now.depth plan.now.test.now plan.now.hidden.now found.snapshots.keys found.links.items) }
-    ensures covered { IfOk result (λ found. IsCovered plan.now.depth plan.now.test.now plan.now.hidden.now
+    ensures covered { IfOk result (λ found. IsCovered plan.now.depth plan.now.test.now plan.now.hidden.now plan.now.alike.items
         (map state_of found.snapshots.keys) (start plan.now.test.now)) }
     ensures one { IfOk result (λ found. length found.snapshots.keys ≡ 1) }
 {
@@ -169,19 +168,24 @@ fn beginning(alloc: Global, plan: &Plan) -> Result<Found, NoMemory>
     settle(&mut first, plan.test, plan.depth, &mut choices)?;
     forget(&mut first, plan);
     snapshots.insert(first)?;
-    links.push(Link { from: 0, choices })?;
+    let turns = turns_of(alloc, &choices, &[])?;
+    links.push(Link { from: 0, turns })?;
     Ok(Found { snapshots, links })
 }
 
 /// Searches all states that choices lead to, but for those that are passed on the way to where no
-/// choice is eager. States that differ in dead registers alone are kept as one.
+/// choice is eager. States that differ in dead registers alone, or by which of alike cores is which,
+/// are kept as one.
 ///
 /// Errors: too many where those that are kept are more than `limit`, and out of memory.
 pub fn search(alloc: Global, plan: &Plan, limit: usize) -> Result<Found, ExploreFault>
     requires { IsPlan plan.now }
-    ensures searched { IfOk result (λ found. IsSearched plan.now.depth plan.now.test.now plan.now.hidden.now found.snapshots.keys found.links.items) }
+    ensures searched { IfOk result (λ found. IsSearched plan.now.depth plan.now.test.now plan.now.hidden.now plan.now.alike.items
+        found.snapshots.keys found.links.items) }
+    ensures within { IfOk result (λ found. length found.snapshots.keys ≤ limit) }
     ensures too_many { IfErr result (λ fault. fault ≡ ExploreFault.TooMany → HasMoreStates plan.now.test.now plan.now.depth limit) }
 {
+    alike_cores_are_exchangeable();
     dead_registers_change_nothing();
     let mut found = beginning(alloc, plan)?;
     let mut reached = nowhere(alloc, plan.test)?;

@@ -6,10 +6,13 @@ use Rattle.tso_model.specs.FlatMachine.{State, start, after_choice, step, drain}
 use Rattle.tso_model.specs.declared.choice.Choice.{Choice}
 use Rattle.eager_laws.specs.Closed.{IsCovered, AreClosed, LeadsEagerly}
 use Rattle.eager_laws.specs.Dead.{forgotten}
+use Rattle.eager_laws.specs.Exchanged.{exchanged_by, AreOf, AreAllAlike}
 use Rattle.explorer.specs.State.{state_of}
 use Rattle.explorer.specs.declared.snapshot.Snapshot.{Snapshot}
+use Rattle.explorer.specs.declared.link.Turn.{Turn}
+use Rattle.explorer.specs.declared.link.Turn.TheVariants.{Made, Exchanged}
 use Rattle.explorer.specs.declared.link.Link.{Link}
-use Rattle.explorer.specs.Settled.{LeadsTo}
+use Rattle.explorer.specs.Settled.{LeadsBy, LeadsTo}
 
 -- no snapshot was taken away, and those that are new came last
 abbrev pub Grows : List Snapshot → List Snapshot → Type 0
@@ -19,31 +22,46 @@ Grows old new = (more : List Snapshot) × (new ≡ old ++ more)
 abbrev pub HaveCores : Litmus → List Snapshot → Type 0
 HaveCores t snapshots = All (λ s. length s.cores.items ≡ length t.programs) snapshots
 
--- choices lead from the one state to the kept one, a first one and eager ones after it
-pub record IsReached (depth : ℕ) (t : Litmus) (hidden : List (List Bool)) (state : State) (c : Choice) (choices : List Choice) (kept : State) : Type 0 where
-  pub leads : LeadsTo depth t hidden state choices kept
+-- choices lead to a state that is the kept one once its dead registers are forgotten and then cores that are alike exchanged
+pub record LeadTo (depth : ℕ) (t : Litmus) (hidden : List (List Bool)) (state : State) (choices : List Choice) (exchanges : List (ℕ × ℕ)) (kept : State) : Type 0 where
+  pub last : State
+  pub leads : LeadsBy depth t state choices last
+  pub alike : AreAllAlike t hidden exchanges
+  pub kept_is : exchanged_by exchanges (forgotten t hidden last) ≡ kept
+
+-- so do the choices of these turns, with the exchanges after them
+pub record LeadByTurns (depth : ℕ) (t : Litmus) (hidden : List (List Bool)) (state : State) (turns : List Turn) (kept : State) : Type 0 where
+  pub choices : List Choice
+  pub exchanges : List (ℕ × ℕ)
+  pub turns_are : turns ≡ map Made choices ++ map Exchanged exchanges
+  pub lead : LeadTo depth t hidden state choices exchanges kept
+
+-- choices lead from the one state to the kept one, a first one and eager ones after it, and then exchanges of these pairs
+pub record IsReached (depth : ℕ) (t : Litmus) (hidden : List (List Bool)) (pairs : List (ℕ × ℕ)) (state : State) (c : Choice) (choices : List Choice) (exchanges : List (ℕ × ℕ)) (kept : State) : Type 0 where
+  pub leads : LeadTo depth t hidden state choices exchanges kept
   pub last : State
   pub later : List Choice
   pub eager : LeadsEagerly depth t (after_choice t depth state c) later last
-  pub kept_is : forgotten t hidden last ≡ kept
+  pub of_pairs : AreOf pairs exchanges
+  pub kept_is : exchanged_by exchanges (forgotten t hidden last) ≡ kept
 
 -- the choice stalls in the state, or what it leads to is covered
-abbrev pub IsVisited : ℕ → Litmus → List (List Bool) → List Snapshot → State → Choice → Type 0
-IsVisited depth t hidden snapshots state c =
-    (after_choice t depth state c ≡ state) ⊎ IsCovered depth t hidden (map state_of snapshots) (after_choice t depth state c)
+abbrev pub IsVisited : ℕ → Litmus → List (List Bool) → List (ℕ × ℕ) → List Snapshot → State → Choice → Type 0
+IsVisited depth t hidden pairs snapshots state c =
+    (after_choice t depth state c ≡ state) ⊎ IsCovered depth t hidden pairs (map state_of snapshots) (after_choice t depth state c)
 
 -- both choices of a core
-abbrev pub AreVisited : ℕ → Litmus → List (List Bool) → List Snapshot → State → ℕ → Type 0
-AreVisited depth t hidden snapshots state core =
-    IsVisited depth t hidden snapshots state (step core) × IsVisited depth t hidden snapshots state (drain core)
+abbrev pub AreVisited : ℕ → Litmus → List (List Bool) → List (ℕ × ℕ) → List Snapshot → State → ℕ → Type 0
+AreVisited depth t hidden pairs snapshots state core =
+    IsVisited depth t hidden pairs snapshots state (step core) × IsVisited depth t hidden pairs snapshots state (drain core)
 
--- a link's choices lead to its snapshot: those of the first from the beginning of the test, those of each other from the
+-- a link's turns lead to its snapshot: those of the first from the beginning of the test, those of each other from the
 -- snapshot that the link names, which stands before it
 abbrev pub IsLinked : ℕ → Litmus → List (List Bool) → List Snapshot → ℕ → Snapshot → Link → Type 0
-IsLinked depth t hidden snapshots zero s link = LeadsTo depth t hidden (start t) link.choices.items (state_of s)
+IsLinked depth t hidden snapshots zero s link = LeadByTurns depth t hidden (start t) link.turns.items (state_of s)
 IsLinked depth t hidden snapshots (suc i) s link =
     (r : Snapshot) × (link.from ≤ i) × (slice_get snapshots link.from ≡ Some r)
-    × LeadsTo depth t hidden (state_of r) link.choices.items (state_of s)
+    × LeadByTurns depth t hidden (state_of r) link.turns.items (state_of s)
 
 -- each snapshot has its link
 pub record AreLinked (depth : ℕ) (t : Litmus) (hidden : List (List Bool)) (snapshots : List Snapshot) (links : List Link) : Type 0 where
@@ -52,8 +70,8 @@ pub record AreLinked (depth : ℕ) (t : Litmus) (hidden : List (List Bool)) (sna
       → slice_get snapshots i ≡ Some s → slice_get links i ≡ Some link → IsLinked depth t hidden snapshots i s link
 
 -- the snapshots miss no end of a run, each has a core for each program, and each has its link
-pub record IsSearched (depth : ℕ) (t : Litmus) (hidden : List (List Bool)) (snapshots : List Snapshot) (links : List Link) : Type 0 where
-  pub closed : AreClosed depth t hidden (map state_of snapshots)
+pub record IsSearched (depth : ℕ) (t : Litmus) (hidden : List (List Bool)) (pairs : List (ℕ × ℕ)) (snapshots : List Snapshot) (links : List Link) : Type 0 where
+  pub closed : AreClosed depth t hidden pairs (map state_of snapshots)
   pub cores : HaveCores t snapshots
   pub linked : AreLinked depth t hidden snapshots links
 

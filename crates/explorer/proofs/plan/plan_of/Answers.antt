@@ -23,7 +23,7 @@ loop-core-preserved c = record {
 
 pub returns : goal.returns
 returns c = let l = c.loop-core-test.false in let m = c.loop-core.auto.core-end in let n = c.cores-core-end.ensures.value in let k = c.loop-core.invariant.count in record {
-  plan = record { count = omega (arith, l, m, n, k); each = c.loop-core.invariant.each };
+  plan = record { count = omega (arith, l, m, n, k); each = c.loop-core.invariant.each; alike = c.in_ok-alike.ensures };
   test = refl;
   depth = refl;
   hidden = refl;

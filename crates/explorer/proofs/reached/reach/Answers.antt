@@ -2,9 +2,12 @@ use Rattle.std.proofs.Common.{◌≡◌, ℕ, [], ◌∷◌, ◌++◌, sym, ap, 
 use Rattle.tso_model.specs.Litmus.{Litmus}
 use Rattle.tso_model.specs.FlatMachine.{after_choice, effect_of}
 use Rattle.tso_model.specs.Runs.{stall_count}
+use Rattle.eager_laws.specs.Exchanged.{AreAllAlike}
 use Rattle.explorer.specs.State.{state_of}
+use Rattle.explorer.specs.inner.Arranged.{IsArranged}
 use Rattle.explorer.proofs.Choosing.{stall-why, takes-effect}
 use Rattle.explorer.proofs.Linking.{reached-is}
+use Rattle.explorer.proofs.Mapping.{pairs-within}
 use Rattle.explorer.proofs.reached.reach.Goals as goal
 
 pub returns-then-has_stalled-clause-stalled : goal.returns-then-has_stalled-clause-stalled
@@ -18,9 +21,17 @@ returns-clause-reached c = λ q.
     let t : Litmus = c.args.plan.now.test.now in
     let d : ℕ = c.args.plan.now.depth in
     let e = c.in_ok-overwrite.ensures.value in
-    reached-is d t c.args.plan.now.hidden.now (state_of c.args.snapshot.now) (state_of c.act.new.state) (state_of c.settle.new.state) (state_of c.forget.new.state) c.args.choice _ _ c.requires.chosen
+    reached-is d t c.args.plan.now.hidden.now c.args.plan.now.alike.items (state_of c.args.snapshot.now) (state_of c.act.new.state) (state_of c.settle.new.state) (state_of c.forget.new.state) (state_of c.arrange.new.state)
+    c.args.choice _ _ c.clear-2.new.self.items c.arrange.new.exchanges.items c.requires.plan.alike c.requires.chosen
     (subst (λ z. stall_count (effect_of t d z c.args.choice).outcome ≡ 0) e
     (subst (λ o. stall_count o ≡ 0) c.in_ok-outcome.ensures.outcome (takes-effect _ (sym c.has_stalled.ensures ∙ c.if-has_stalled.false))))
     (c.in_ok-outcome.ensures.after ∙ ap (λ z. after_choice t d z c.args.choice) e)
     (c.in_ok-push.ensures.items ∙ ap (λ z. z ++ c.args.choice ∷ []) c.clear.ensures.items)
-    c.in_ok-settle.ensures.settled c.forget.ensures.value
+    c.in_ok-settle.ensures.settled c.forget.ensures.value c.clear-2.ensures.items
+    (subst (λ z. IsArranged z (state_of c.forget.new.state) (state_of c.arrange.new.state) c.clear-2.new.self.items c.arrange.new.exchanges.items) c.deref.ensures.value c.in_ok-arrange.ensures.arranged)
+
+pub arrange-requires : goal.arrange-requires
+arrange-requires c =
+    pairs-within c.args.plan.now.test.now c.args.plan.now.hidden.now _ _
+    (subst (AreAllAlike c.args.plan.now.test.now c.args.plan.now.hidden.now) (sym c.deref.ensures.value) c.requires.plan.alike)
+    (c.forget.ensures.cores ∙ c.in_ok-settle.ensures.cores)

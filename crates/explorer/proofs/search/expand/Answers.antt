@@ -10,6 +10,6 @@ loop-core-preserved c = record {
   cores = c.in_ok-visit_core.ensures.cores;
   linked = c.in_ok-visit_core.ensures.linked;
   room = c.in_ok-visit_core.ensures.room;
-  visited = λ s at. visited-more _ _ _ _ _ _ _ c.in_ok-visit_core.ensures.grows (c.loop-core.invariant.visited s at)
+  visited = λ s at. visited-more _ _ _ _ _ _ _ _ c.in_ok-visit_core.ensures.grows (c.loop-core.invariant.visited s at)
       (c.in_ok-visit_core.ensures.visited s (get-grown _ _ _ s c.loop-core.invariant.grows at));
 }

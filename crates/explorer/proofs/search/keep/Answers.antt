@@ -1,11 +1,12 @@
-use Rattle.std.proofs.Common.{map, sym, ◌∙◌, subst}
+use Rattle.std.proofs.Common.{◌++◌, map, ap, sym, ◌∙◌, subst}
 use Rattle.eager_laws.specs.Closed.{IsIn}
-use Rattle.explorer.specs.Settled.{LeadsTo}
+use Rattle.explorer.specs.inner.Settled.{LeadTo}
+use Rattle.explorer.specs.declared.link.Turn.TheVariants.{Made, Exchanged}
 use Rattle.explorer.specs.State.{state_of}
 use Rattle.explorer.specs.contracts.snapshot.SnapshotPartialEq.TheImpl as snapshot_eq
 use Rattle.explorer.proofs.Linking.{linked-new}
 use Rattle.explorer.proofs.Same.{snapshots-same}
-use Rattle.explorer.proofs.Searching.{among, cores-insert, in-list}
+use Rattle.explorer.proofs.Searching.{among, cores-insert, grows-insert, in-list}
 use Rattle.explorer.proofs.search.keep.Goals as goal
 
 pub returns-then-contains-clause-among : goal.returns-then-contains-clause-among
@@ -24,6 +25,11 @@ returns-else-added-clause-among c =
     subst (λ z. IsIn (map state_of c.insert_full.new.self.keys) z) (sym (snapshots-same c.in_ok-state.state k.0 k.2) ∙ c.in_ok-state.ensures.value)
     (in-list c.insert_full.new.self.keys c.in_ok-added.field-0-0 k.0 k.1)
 
+pub returns-else-added-clause-grows : goal.returns-else-added-clause-grows
+returns-else-added-clause-grows c =
+    let g = grows-insert (snapshot_eq.eq-value).it c.args.found.now.snapshots.keys c.in_ok-state.state in
+    (g.0, c.in_ok-added.ensures.keys ∙ g.1)
+
 pub returns-in_ok-push-clause-cores : goal.returns-in_ok-push-clause-cores
 returns-in_ok-push-clause-cores c = λ t h q.
     rw c.in_ok-added.ensures.keys (cores-insert (snapshot_eq.eq-value).it t c.args.found.now.snapshots.keys c.in_ok-state.state h (c.in_ok-state.ensures.cores ∙ q))
@@ -32,5 +38,10 @@ pub returns-in_ok-push-clause-linked : goal.returns-in_ok-push-clause-linked
 returns-in_ok-push-clause-linked c = λ depth t hidden s h at leads.
     linked-new (snapshot_eq.eq-value).it depth t hidden c.args.found.now.snapshots.keys _ c.in_ok-state.state c.args.found.now.links.items _ c.in_ok-added.ensures.keys c.in_ok-added.ensures.added h
     s _ _ c.if-added.true c.in_ok-push.ensures.items at
-    (subst (λ z. LeadsTo depth t hidden (state_of s) z (state_of c.in_ok-state.state)) (sym (c.in_ok-choices.ensures ∙ c.deref.ensures.value))
-    (subst (λ z. LeadsTo depth t hidden (state_of s) c.args.reached.now.choices.items z) (sym c.in_ok-state.ensures.value) leads))
+    (record {
+      choices = c.args.reached.now.choices.items;
+      exchanges = c.args.reached.now.exchanges.items;
+      turns_are = c.in_ok-turns.ensures ∙ ap (λ z. map Made z ++ map Exchanged c.deref-2.result.now) c.deref.ensures.value
+          ∙ ap (λ z. map Made c.args.reached.now.choices.items ++ map Exchanged z) c.deref-2.ensures.value;
+      lead = subst (λ z. LeadTo depth t hidden (state_of s) c.args.reached.now.choices.items c.args.reached.now.exchanges.items z) (sym c.in_ok-state.ensures.value) leads;
+    })

@@ -9,5 +9,5 @@ visit-requires-2-clause-from c = grown-within _ _ _ c.in_ok-visit.ensures.grows 
 pub returns-clause-visited : goal.returns-clause-visited
 returns-clause-visited c =
     on-ok-2 c.visit-2.result (λ g v s at.
-    (visited-grown c.args.plan.now.depth c.args.plan.now.test.now c.args.plan.now.hidden.now _ _ _ (step c.args.core) g (c.in_ok-visit.ensures.visited s at), v s (get-grown _ _ _ s c.in_ok-visit.ensures.grows at)))
+    (visited-grown c.args.plan.now.depth c.args.plan.now.test.now c.args.plan.now.hidden.now c.args.plan.now.alike.items _ _ _ (step c.args.core) g (c.in_ok-visit.ensures.visited s at), v s (get-grown _ _ _ s c.in_ok-visit.ensures.grows at)))
     c.visit-2.ensures.grows c.visit-2.ensures.visited

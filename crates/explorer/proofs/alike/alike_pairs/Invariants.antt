@@ -1,0 +1,5 @@
+use Rattle.eager_laws.specs.Exchanged.{AreAllAlike}
+use Rattle.explorer.proofs.alike.alike_pairs.Given as goal
+
+abbrev pub invariant-loop-core : goal.invariant-loop-core
+invariant-loop-core l = AreAllAlike l.test l.hidden l.pairs.items

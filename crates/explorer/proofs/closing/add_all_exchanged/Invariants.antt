@@ -1,0 +1,17 @@
+use Rattle.std.proofs.Common.{◌≡◌, ◌<◌, ℕ, Some, slice_get, map, length}
+use Rattle.eager_laws.specs.Closed.{IsIn}
+use Rattle.eager_laws.specs.Exchanged.{exchanged}
+use Rattle.explorer.specs.State.{state_of}
+use Rattle.explorer.specs.inner.Settled.{Grows, HaveCores, AreLinked}
+use Rattle.explorer.specs.declared.snapshot.Snapshot.{Snapshot}
+use Rattle.explorer.proofs.closing.add_all_exchanged.Given as goal
+
+abbrev pub invariant-loop-at : goal.invariant-loop-at
+invariant-loop-at l = record {
+  grows : Grows l.fn.found.snapshots.keys l.found.snapshots.keys;
+  cores : HaveCores l.plan.test.now l.found.snapshots.keys;
+  linked : AreLinked l.plan.depth l.plan.test.now l.plan.hidden.now l.found.snapshots.keys l.found.links.items;
+  room : length l.reached.state.cores.items ≡ length l.plan.test.now.programs;
+  exchanged : (s : Snapshot) → slice_get l.fn.found.snapshots.keys l.from ≡ Some s → (i : ℕ) (pair : ℕ × ℕ) → i < l.at → slice_get l.plan.alike.items i ≡ Some pair
+      → IsIn (map state_of l.found.snapshots.keys) (exchanged pair (state_of s));
+}

@@ -1,0 +1,41 @@
+use Rattle.std.proofs.Common.{◌∷◌, ◌++◌, [], ap, ◌∙◌, arith}
+use Rattle.eager_laws.specs.Exchanged.{exchanged}
+use Rattle.explorer.specs.State.{state_of}
+use Rattle.explorer.proofs.Choosing.{on-ok}
+use Rattle.explorer.proofs.Completing.{one-exchange}
+use Rattle.explorer.proofs.Finals.{cores-at}
+use Rattle.explorer.proofs.Linking.{linked-forgotten}
+use Rattle.explorer.proofs.closing.add_exchanged.Goals as goal
+
+pub exchange-requires-clause-first : goal.exchange-requires-clause-first
+exchange-requires-clause-first c =
+    let a = c.requires.plan.alike c.args.pair c.requires.pair in
+    let l = a.first in let n = c.in_ok-overwrite.ensures.cores in
+    let m = cores-at c.args.plan.now.test.now c.args.found.now.snapshots.keys c.args.from c.index.result.now c.requires.cores c.index.ensures in omega (arith, l, n, m)
+
+pub exchange-requires-clause-second : goal.exchange-requires-clause-second
+exchange-requires-clause-second c =
+    let a = c.requires.plan.alike c.args.pair c.requires.pair in
+    let l = a.second in let n = c.in_ok-overwrite.ensures.cores in
+    let m = cores-at c.args.plan.now.test.now c.args.found.now.snapshots.keys c.args.from c.index.result.now c.requires.cores c.index.ensures in omega (arith, l, n, m)
+
+pub returns-clause-cores : goal.returns-clause-cores
+returns-clause-cores c =
+    let m = cores-at c.args.plan.now.test.now c.args.found.now.snapshots.keys c.args.from c.index.result.now c.requires.cores c.index.ensures in
+    on-ok c.keep.result (λ f. f c.args.plan.now.test.now c.requires.cores (c.exchange.ensures.cores ∙ c.in_ok-overwrite.ensures.cores ∙ m)) c.keep.ensures.cores
+
+pub returns-clause-room : goal.returns-clause-room
+returns-clause-room c =
+    let m = cores-at c.args.plan.now.test.now c.args.found.now.snapshots.keys c.args.from c.index.result.now c.requires.cores c.index.ensures in
+    on-ok c.keep.result (λ f. c.exchange.ensures.cores ∙ c.in_ok-overwrite.ensures.cores ∙ m) c.keep.ensures.grows
+
+pub returns-clause-linked : goal.returns-clause-linked
+returns-clause-linked c =
+    on-ok c.keep.result (λ f.
+    f c.args.plan.now.depth c.args.plan.now.test.now c.args.plan.now.hidden.now c.index.result.now c.requires.linked c.index.ensures
+    (one-exchange c.args.plan.now.depth c.args.plan.now.test.now c.args.plan.now.hidden.now c.args.plan.now.alike.items c.push.new.self.items c.args.pair c.clear.new.self.items
+    (state_of c.index.result.now) (state_of c.exchange.new.state) c.requires.plan.alike c.requires.pair
+    (linked-forgotten c.dead_registers_change_nothing.ensures c.alike_cores_are_exchangeable.ensures c.args.plan.now.depth c.args.plan.now.test.now c.args.plan.now.hidden.now
+    c.args.found.now.snapshots.keys c.args.found.now.links.items c.requires.linked c.args.from c.index.result.now c.index.ensures)
+    c.clear.ensures.items (c.in_ok-push.ensures.items ∙ ap (λ z. z ++ c.args.pair ∷ []) c.clear-2.ensures.items)
+    (c.exchange.ensures.value ∙ ap (exchanged c.args.pair) c.in_ok-overwrite.ensures.value))) c.keep.ensures.linked

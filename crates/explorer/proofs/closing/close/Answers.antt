@@ -1,0 +1,34 @@
+use Rattle.std.proofs.Common.{◌<◌, ◌≤◌, length, arith}
+use Rattle.explorer.proofs.Completing.{all-exchanged, all-exchanged-more}
+use Rattle.explorer.proofs.Counting.{more-states}
+use Rattle.explorer.proofs.Searching.{grows-on}
+use Rattle.explorer.proofs.closing.close.Goals as goal
+use Rattle.explorer.proofs.closing.close.Goals.{else-loop-at-test, then-loop-at-test+then-at-len}
+
+pub returns-then-len-limit-clause-too_many : goal.returns-then-len-limit-clause-too_many
+returns-then-len-limit-clause-too_many c = λ q.
+    let n = c.len-in-loop-at.ensures.len in
+    let m = c.if-len-limit.true in
+    more-states c.dead_registers_change_nothing.ensures c.alike_cores_are_exchangeable.ensures c.args.plan.now.depth c.args.plan.now.test.now c.args.plan.now.hidden.now
+    c.add_all_exchanged.new.found.snapshots.keys c.add_all_exchanged.new.found.links.items c.args.limit c.len-in-loop-at.ensures.unique c.in_ok-add_all_exchanged.ensures.linked (omega (arith, n, m))
+
+pub loop-at-preserved : goal.loop-at-preserved
+loop-at-preserved c =
+    let within : c.loop-at.at < length c.loop-at.found.snapshots.keys = let l = c.if-at-len.false in let n = c.len.ensures.len in omega (arith, l, n) in
+    record {
+      grows = grows-on _ _ _ c.loop-at.invariant.grows c.in_ok-add_all_exchanged.ensures.grows;
+      cores = c.in_ok-add_all_exchanged.ensures.cores;
+      linked = c.in_ok-add_all_exchanged.ensures.linked;
+      room = c.in_ok-add_all_exchanged.ensures.room;
+      exchanged = all-exchanged-more c.args.plan.now.test.now c.args.plan.now.alike.items _ _ c.loop-at.at within c.in_ok-add_all_exchanged.ensures.grows c.loop-at.invariant.exchanged
+          c.in_ok-add_all_exchanged.ensures.exchanged;
+      within = let l = c.if-len-limit.false in let n = c.len-in-loop-at.ensures.len in omega (arith, l, n);
+    }
+
+pub returns-clause-exchanged : goal.returns-clause-exchanged
+returns-clause-exchanged c =
+    let all : length c.loop-at.found.snapshots.keys ≤ c.loop-at.at = elim c.loop-at-test.branch [
+      | else-loop-at-test w ↦ let l = w.loop-at-test.false in let n = c.loop-at.invariant.within in omega (arith, l, n)
+      | then-loop-at-test+then-at-len w ↦ let l = w.if-at-len.true in let n = w.len.ensures.len in omega (arith, l, n)
+    ] in
+    all-exchanged c.args.plan.now.test.now c.args.plan.now.alike.items c.loop-at.found.snapshots.keys c.loop-at.at all c.loop-at.invariant.exchanged

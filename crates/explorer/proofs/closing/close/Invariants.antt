@@ -1,0 +1,14 @@
+use Rattle.std.proofs.Common.{◌≡◌, ◌≤◌, length}
+use Rattle.explorer.specs.inner.Arranged.{AreExchanged}
+use Rattle.explorer.specs.inner.Settled.{Grows, HaveCores, AreLinked}
+use Rattle.explorer.proofs.closing.close.Given as goal
+
+abbrev pub invariant-loop-at : goal.invariant-loop-at
+invariant-loop-at l = record {
+  grows : Grows l.fn.found.snapshots.keys l.found.snapshots.keys;
+  cores : HaveCores l.plan.test.now l.found.snapshots.keys;
+  linked : AreLinked l.plan.depth l.plan.test.now l.plan.hidden.now l.found.snapshots.keys l.found.links.items;
+  room : length l.reached.state.cores.items ≡ length l.plan.test.now.programs;
+  exchanged : AreExchanged l.plan.test.now l.plan.alike.items l.found.snapshots.keys l.at;
+  within : length l.found.snapshots.keys ≤ l.limit;
+}

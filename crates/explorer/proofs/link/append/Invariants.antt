@@ -1,0 +1,6 @@
+use Rattle.std.proofs.Common.{◌≡◌, ◌++◌, take, map}
+use Rattle.explorer.specs.declared.link.Turn.TheVariants.{Exchanged}
+use Rattle.explorer.proofs.link.append.Given as goal
+
+abbrev pub invariant-loop-pair : goal.invariant-loop-pair
+invariant-loop-pair l = l.turns.items ≡ l.fn.turns.items ++ map Exchanged (take l.pair-index l.exchanges)

@@ -1,0 +1,6 @@
+use Rattle.std.proofs.Common.{◌≡◌, drop}
+use Rattle.explorer.specs.inner.Arranged.{played}
+use Rattle.explorer.proofs.link.play.Given as goal
+
+abbrev pub invariant-loop-turn : goal.invariant-loop-turn
+invariant-loop-turn l = played l.turns l.fn.choices.items ≡ played (drop l.turn-index l.turns) l.choices.items

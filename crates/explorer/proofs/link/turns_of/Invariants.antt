@@ -1,0 +1,6 @@
+use Rattle.std.proofs.Common.{◌≡◌, take, map}
+use Rattle.explorer.specs.declared.link.Turn.TheVariants.{Made}
+use Rattle.explorer.proofs.link.turns_of.Given as goal
+
+abbrev pub invariant-loop-choice : goal.invariant-loop-choice
+invariant-loop-choice l = l.turns.items ≡ map Made (take l.choice-index l.choices)

@@ -1,0 +1,109 @@
+//! Which cores of a test are alike: the same program, the same first registers and the same hidden registers. States that
+//! differ by which of two such cores is which are kept as one; cores called alike that differ would make a search miss final
+//! states.
+ghost use Rattle.std.specs.Prelude.{◌≡◌, ◌<◌, IfOk, IfSome, length, true};
+ghost use Rattle.eager_laws.specs.Exchanged.{CoresAreAlike, AreAllAlike};
+
+use crate::plan::hidden_of;
+use std::alloc::Global;
+use tso_model::{Core, Instr, NoMemory, Reg, Test};
+
+/// Whether two registers are the same.
+fn is_same_register(reg: Reg, other: Reg) -> bool
+    ensures { result ≡ true → reg ≡ other }
+{
+    reg.index() == other.index()
+}
+
+/// Whether two instructions are the same.
+fn is_same_instr(instr: Instr, other: Instr) -> bool
+    ensures { result ≡ true → instr ≡ other }
+{
+    match (instr, other) {
+        (Instr::StoreImm(loc, value), Instr::StoreImm(at, number)) => {
+            loc.0 == at.0 && value == number
+        }
+        (Instr::StoreReg(loc, reg), Instr::StoreReg(at, held)) => {
+            loc.0 == at.0 && is_same_register(reg, held)
+        }
+        (Instr::Load(reg, loc), Instr::Load(held, at)) => {
+            loc.0 == at.0 && is_same_register(reg, held)
+        }
+        (Instr::SetImm(reg, value), Instr::SetImm(held, number)) => {
+            value == number && is_same_register(reg, held)
+        }
+        (Instr::SetReg(reg, from), Instr::SetReg(held, source)) => {
+            is_same_register(reg, held) && is_same_register(from, source)
+        }
+        (Instr::Fence, Instr::Fence) => true,
+        (Instr::Xchg(loc, reg), Instr::Xchg(at, held)) => {
+            loc.0 == at.0 && is_same_register(reg, held)
+        }
+        (Instr::Xadd(loc, reg), Instr::Xadd(at, held)) => {
+            loc.0 == at.0 && is_same_register(reg, held)
+        }
+        _ => false,
+    }
+}
+
+/// Whether two programs are the same.
+fn is_same_program(program: &[Instr], other: &[Instr]) -> bool
+    ensures { result ≡ true → program.now ≡ other.now }
+{
+    if program.len() != other.len() {
+        return false;
+    }
+    for place in 0..program.len() {
+        if !is_same_instr(program[place], other[place]) {
+            return false;
+        }
+    }
+    true
+}
+
+/// Whether two cores are alike, where nobody looks at the hidden registers.
+fn are_alike(test: &Test, hidden: &[[bool; 6]], core: u8, other: u8) -> bool
+    requires core { core < length test.now.programs }
+    requires other { other < length test.now.programs }
+    ensures { result ≡ true → CoresAreAlike test.now hidden.now (core, other) }
+{
+    if !is_same_program(test.program(Core(core)), test.program(Core(other))) {
+        return false;
+    }
+    let registers = test.initial_registers(Core(core));
+    registers == test.initial_registers(Core(other))
+        && hidden_of(hidden, core) == hidden_of(hidden, other)
+}
+
+/// The first core after this one that is like it, if there is one.
+fn next_alike(test: &Test, hidden: &[[bool; 6]], core: u8) -> Option<u8>
+    requires { core < length test.now.programs }
+    ensures { IfSome result (λ other. CoresAreAlike test.now hidden.now (core, other)) }
+{
+    let cores = test.cores();
+    for other in core + 1..cores {
+        if are_alike(test, hidden, core, other) {
+            return Some(other);
+        }
+    }
+    None
+}
+
+/// Pairs of cores that are alike: each core with the next one like it.
+///
+/// Errors: out of memory only.
+pub fn alike_pairs(
+    alloc: Global,
+    test: &Test,
+    hidden: &[[bool; 6]],
+) -> Result<Vec<(u8, u8)>, NoMemory>
+    ensures { IfOk result (λ pairs. AreAllAlike test.now hidden.now pairs.items) }
+{
+    let mut pairs = Vec::new(alloc);
+    for core in 0..test.cores() {
+        if let Some(other) = next_alike(test, hidden, core) {
+            pairs.push((core, other))?;
+        }
+    }
+    Ok(pairs)
+}

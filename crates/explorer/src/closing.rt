@@ -1,0 +1,128 @@
+//! What exchanges of alike cores make of the states in which the test has ended. A search keeps one of the states that
+//! differ by such exchanges; all of those that have ended are added to it at its end, each with choices that lead there.
+ghost use Rattle.std.specs.Prelude.{◌≡◌, ◌<◌, ◌≤◌, true, IfErr, OnOk, map, length, slice_get, Some};
+ghost use Rattle.tso_model.specs.Runs.{has_ended};
+ghost use Rattle.eager_laws.specs.Closed.{IsIn};
+ghost use Rattle.eager_laws.specs.Exchanged.{exchanged, IsOneOf};
+ghost use Rattle.explorer.specs.State.{state_of};
+ghost use Rattle.explorer.specs.inner.Settled.{Grows, HaveCores, AreLinked};
+ghost use Rattle.explorer.specs.inner.Arranged.{HasExchanged, AreExchanged};
+ghost use Rattle.explorer.specs.inner.Planned.{IsPlan};
+ghost use Rattle.explorer.specs.FinalStates.{HasMoreStates};
+ghost use Rattle.explorer.specs.declared.snapshot.Snapshot.{Snapshot};
+ghost use Rattle.explorer.specs.declared.fault.ExploreFault.{ExploreFault};
+
+use crate::exchange::exchange;
+use crate::fault::ExploreFault;
+use crate::final_states::has_ended;
+use crate::plan::Plan;
+use crate::reached::{Reached, nowhere};
+use crate::search::{Found, keep};
+use crate::snapshot::overwrite;
+use eager_laws::{alike_cores_are_exchangeable, dead_registers_change_nothing};
+use std::alloc::Global;
+use tso_model::NoMemory;
+
+/// Adds what one exchange makes of a snapshot, if it isn't there yet.
+///
+/// Errors: out of memory only.
+fn add_exchanged(
+    alloc: Global,
+    plan: &Plan,
+    found: &mut Found,
+    reached: &mut Reached,
+    from: usize,
+    pair: (u8, u8),
+) -> Result<(), NoMemory>
+    requires plan { IsPlan plan.now }
+    requires from { from < length found.old.snapshots.keys }
+    requires cores { HaveCores plan.now.test.now found.old.snapshots.keys }
+    requires linked { AreLinked plan.now.depth plan.now.test.now plan.now.hidden.now found.old.snapshots.keys found.old.links.items }
+    requires room { length reached.old.state.cores.items ≡ length plan.now.test.now.programs }
+    requires pair { IsOneOf plan.now.alike.items pair }
+    ensures grows { OnOk result (Grows found.old.snapshots.keys found.new.snapshots.keys) }
+    ensures cores { OnOk result (HaveCores plan.now.test.now found.new.snapshots.keys) }
+    ensures linked { OnOk result (AreLinked plan.now.depth plan.now.test.now plan.now.hidden.now found.new.snapshots.keys found.new.links.items) }
+    ensures room { OnOk result (length reached.new.state.cores.items ≡ length plan.now.test.now.programs) }
+    ensures among { OnOk result ((s : Snapshot) → slice_get found.old.snapshots.keys from ≡ Some s
+        → IsIn (map state_of found.new.snapshots.keys) (exchanged pair (state_of s))) }
+{
+    alike_cores_are_exchangeable();
+    dead_registers_change_nothing();
+    overwrite(&mut reached.state, &found.snapshots[from])?;
+    exchange(&mut reached.state, pair);
+    reached.choices.clear();
+    reached.exchanges.clear();
+    reached.exchanges.push(pair)?;
+    keep(alloc, found, reached, from)
+}
+
+/// Adds what each exchange of two alike cores makes of a snapshot, if the test has ended in it.
+///
+/// Errors: out of memory only.
+fn add_all_exchanged(
+    alloc: Global,
+    plan: &Plan,
+    found: &mut Found,
+    reached: &mut Reached,
+    from: usize,
+) -> Result<(), NoMemory>
+    requires plan { IsPlan plan.now }
+    requires from { from < length found.old.snapshots.keys }
+    requires cores { HaveCores plan.now.test.now found.old.snapshots.keys }
+    requires linked { AreLinked plan.now.depth plan.now.test.now plan.now.hidden.now found.old.snapshots.keys found.old.links.items }
+    requires room { length reached.old.state.cores.items ≡ length plan.now.test.now.programs }
+    ensures grows { OnOk result (Grows found.old.snapshots.keys found.new.snapshots.keys) }
+    ensures cores { OnOk result (HaveCores plan.now.test.now found.new.snapshots.keys) }
+    ensures linked { OnOk result (AreLinked plan.now.depth plan.now.test.now plan.now.hidden.now found.new.snapshots.keys found.new.links.items) }
+    ensures room { OnOk result (length reached.new.state.cores.items ≡ length plan.now.test.now.programs) }
+    ensures exchanged { OnOk result ((s : Snapshot) → slice_get found.old.snapshots.keys from ≡ Some s
+        → has_ended plan.now.test.now (state_of s) ≡ true → HasExchanged plan.now.alike.items found.new.snapshots.keys (state_of s)) }
+{
+    if !has_ended(plan.test, &found.snapshots[from]) {
+        return Ok(());
+    }
+    for at in 0..plan.alike.len() {
+        add_exchanged(alloc, plan, found, reached, from, plan.alike[at])?;
+    }
+    Ok(())
+}
+
+/// Adds what exchanges of alike cores make of the snapshots in which the test has ended, until
+/// nothing is new.
+///
+/// Errors: too many where there are more than `limit` then, and out of memory.
+pub fn close(
+    alloc: Global,
+    plan: &Plan,
+    found: &mut Found,
+    limit: usize,
+) -> Result<(), ExploreFault>
+    requires plan { IsPlan plan.now }
+    requires cores { HaveCores plan.now.test.now found.old.snapshots.keys }
+    requires linked { AreLinked plan.now.depth plan.now.test.now plan.now.hidden.now found.old.snapshots.keys found.old.links.items }
+    requires within { length found.old.snapshots.keys ≤ limit }
+    ensures grows { OnOk result (Grows found.old.snapshots.keys found.new.snapshots.keys) }
+    ensures cores { OnOk result (HaveCores plan.now.test.now found.new.snapshots.keys) }
+    ensures linked { OnOk result (AreLinked plan.now.depth plan.now.test.now plan.now.hidden.now found.new.snapshots.keys found.new.links.items) }
+    ensures exchanged { OnOk result (AreExchanged plan.now.test.now plan.now.alike.items found.new.snapshots.keys
+        (length found.new.snapshots.keys)) }
+    ensures too_many { IfErr result (λ fault. fault ≡ ExploreFault.TooMany → HasMoreStates plan.now.test.now plan.now.depth limit) }
+{
+    alike_cores_are_exchangeable();
+    dead_registers_change_nothing();
+    if plan.alike.is_empty() {
+        return Ok(());
+    }
+    let mut reached = nowhere(alloc, plan.test)?;
+    for at in 0..limit {
+        if at >= found.snapshots.len() {
+            break;
+        }
+        add_all_exchanged(alloc, plan, found, &mut reached, at)?;
+        if found.snapshots.len() > limit {
+            return Err(ExploreFault::TooMany);
+        }
+    }
+    Ok(())
+}

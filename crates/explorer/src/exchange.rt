@@ -1,0 +1,61 @@
+//! Two cores exchanged: each has the other's state, and what the one has pending or chooses is the other's.
+ghost use Rattle.std.specs.Prelude.{◌≡◌, ◌<◌, length, map};
+ghost use Rattle.eager_laws.specs.Exchanged.{exchanged_core, exchanged_choice, exchanged_entry, exchanged};
+ghost use Rattle.explorer.specs.State.{state_of};
+
+use crate::snapshot::Snapshot;
+use tso_model::{Choice, Core, Entry};
+
+/// The core that stands for this one where two are exchanged.
+fn exchanged_core(core: Core, pair: (u8, u8)) -> Core
+    ensures { result.0 ≡ Rattle.eager_laws.specs.Exchanged.exchanged_core pair core.0 }
+{
+    if core.0 == pair.0 {
+        Core(pair.1)
+    } else if core.0 == pair.1 {
+        Core(pair.0)
+    } else {
+        core
+    }
+}
+
+/// Exchanges whose the pending stores are.
+fn exchange_entries(pending: &mut Vec<Entry>, pair: (u8, u8))
+    ensures { pending.new.items ≡ map (exchanged_entry pair) pending.old.items }
+{
+    for at in 0..pending.len() {
+        pending[at].core = exchanged_core(pending[at].core, pair);
+    }
+}
+
+/// Exchanges two cores of a state.
+pub fn exchange(state: &mut Snapshot, pair: (u8, u8))
+    requires first { pair.0 < length state.old.cores.items }
+    requires second { pair.1 < length state.old.cores.items }
+    ensures value { state_of state.new ≡ exchanged pair (state_of state.old) }
+    ensures cores { length state.new.cores.items ≡ length state.old.cores.items }
+{
+    for core in 0..state.cores.len() {
+        exchange_entries(&mut state.cores[core].pending, pair);
+    }
+    state.cores.swap(usize::from(pair.0), usize::from(pair.1));
+}
+
+/// Exchanges two cores in a choice.
+fn exchanged_choice(choice: Choice, pair: (u8, u8)) -> Choice
+    ensures { result ≡ Rattle.eager_laws.specs.Exchanged.exchanged_choice pair choice }
+{
+    match choice {
+        Choice::Step(core) => Choice::Step(exchanged_core(core, pair)),
+        Choice::Drain(core) => Choice::Drain(exchanged_core(core, pair)),
+    }
+}
+
+/// Exchanges two cores in each of the choices.
+pub fn exchange_choices(choices: &mut Vec<Choice>, pair: (u8, u8))
+    ensures { choices.new.items ≡ map (exchanged_choice pair) choices.old.items }
+{
+    for at in 0..choices.len() {
+        choices[at] = exchanged_choice(choices[at], pair);
+    }
+}
