@@ -186,6 +186,16 @@ def faults_of_scripts():
     return ["%s is listed and isn't there, or is there and isn't listed" % name for name in sorted(listed ^ there)]
 
 
+def faults_of_crates_files():
+    """Tables of docs/HACKING.md name files of a crate by a folder in backquotes, with the names that stand in it after a colon."""
+    faults = []
+    for crate, cell in re.findall(r"^\| `(\w+)` \| (.*) \|$", content(os.path.join(TOP, "docs", "HACKING.md")), re.MULTILINE):
+        for folder, names in re.findall(r"`([\w/]+)/`: ([^;]*)", re.sub(r"\([^)]*\)", "", cell)):
+            paths = [os.path.join("crates", crate, folder, name.strip()) for name in names.split(",")]
+            faults += ["no file " + path for path in paths if not glob.glob(os.path.join(TOP, path) + ".*")]
+    return faults
+
+
 def faults_of_declared():
     """How many types and views of the code the definitions rest on, where a document says so."""
     done = subprocess.run([os.path.join(TOP, "tests", "declared.py")], capture_output=True, text=True, timeout=SECONDS)
@@ -243,6 +253,7 @@ def rows_of(program):
     yield from document_tables.rows_of(program)
     yield "names of refusals", faults_of_names
     yield "scripts of tests/", faults_of_scripts
+    yield "files of crates in docs/HACKING.md", faults_of_crates_files
     yield "types that the headline rests on", faults_of_declared
     yield "what has to be believed", faults_of_believed
     yield "cells of docs/PROVED.md", faults_of_cells
