@@ -13,6 +13,7 @@ const FEW_CORES = 4; // so many have room beside the picture
  */
 const drive = {
   isOn: false, words: [], count: 0, test: '', given: null, machines: [], panels: [], picture: null, passes: null, core: 0, timer: null, resting: null, beside: null,
+  ahead: null,
 };
 
 const firstHistory = () => drive.machines[0].history;
@@ -103,13 +104,25 @@ function refuseMore() {
 
 /** The step of the last of these choices; of a module without that command, from the whole trace. */
 function lastStep(options, words) {
-  const input = inputOfWords(words);
-  const { status, text, hint } = bench.tracing === 'step' ? asked({ ...options, command: 'step', json: true }, input) : { status: Tso.STATUS.nothingAsked };
-  if (status === Tso.STATUS.good || status === Tso.STATUS.unended) return readStep(text);
+  const input = inputOfWords(words), answer = drive.ahead?.input === input ? drive.ahead.answers.get(options) : undefined;
+  const { status, text, hint } = answer ?? stepAnswer(options, input);
+  if (isOfStep(status)) return readStep(text);
   if (status === Tso.STATUS.nothingAsked) return historyOf(options, input).history?.steps.at(-1);
   stopPlaying();
   showSaid({ status, hint }, text.trim());
   return null;
+}
+
+const isOfStep = status => status === Tso.STATUS.good || status === Tso.STATUS.unended;
+
+const stepAnswer = (options, input) => (bench.tracing === 'step' ? asked({ ...options, command: 'step', json: true }, input) : { status: Tso.STATUS.nothingAsked });
+
+/** Asks what a choice would do as soon as its button goes down: a click comes when it goes up, and finds the answer there. */
+function askAhead(word) {
+  if (!drive.isOn || isAtEnd(drive.count) || drive.words[drive.count] === word || drive.count >= MOST_STEPS) return;
+  const input = inputOfWords([...drive.words.slice(0, drive.count), word]);
+  const answers = drive.machines.map(({ history: { options } }) => [options, stepAnswer(options, input)]);
+  drive.ahead = { input, answers: new Map(answers.filter(([, { status }]) => isOfStep(status))) };
 }
 
 /** Puts the known choices into their field, with all that goes by it. */

@@ -65,6 +65,13 @@ function scrollPicture() {
   if (layout.width > room && step) byId('frame').scrollLeft = layout.left(coreOfChoice(step.choice)) - (room - layout.lane) / 2;
 }
 
+/** What goes by how far the picture is scrolled: the lanes' names above it, and what of it need not be there. */
+function placeDriven() {
+  const { scrollLeft, scrollTop } = byId('frame');
+  byId('names').scrollLeft = scrollLeft;
+  drive.picture?.hideAbove(scrollTop);
+}
+
 // The end.
 
 /** The run that the program reports of the choices made, once the test has ended; else null. */

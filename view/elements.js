@@ -33,6 +33,16 @@ function putItems(list, texts) {
   list.append(...texts.slice(same).map(text => html('li', {}, text)));
 }
 
+/** Makes an element's children these. What is equal to the one in its place stays, and the browser lets it be. */
+function putChildren(element, children) {
+  while (element.childNodes.length > children.length) element.lastChild.remove();
+  children.forEach((child, at) => {
+    const there = element.childNodes[at];
+    if (!there) element.append(child);
+    else if (!there.isEqualNode(child)) there.replaceWith(child);
+  });
+}
+
 /** An element that is drawn anew only where what it shows isn't what it showed. */
 class Part {
   constructor(element, draw) {
@@ -43,6 +53,6 @@ class Part {
     const key = JSON.stringify(shownNow);
     if (key === this.key) return;
     this.key = key;
-    this.element.replaceChildren(...this.draw(...shownNow));
+    putChildren(this.element, this.draw(...shownNow));
   }
 }

@@ -4,10 +4,12 @@
 //
 // It is made of sheets, one over the other: each layer of the picture has one for each piece of so many rows. What a step adds goes
 // to the last piece, so the browser lays out and paints the last sheets anew, and lets all others be. What reaches over the rows of
-// other pieces is on the sheet of its last row, and hangs over this sheet's edge.
+// other pieces is on the sheet of its last row, and hangs over this sheet's upper edge. So of a sheet that lies above what is in sight
+// nothing can be seen, and the browser has less to go through while it is hidden.
 
 const STRIP = 34; // pixels under the last row
 const PIECE = 16; // rows
+const SPARE = 2; // pieces above what is in sight that aren't hidden, for one who scrolls
 const LAYERS = ['grounds', 'waits', 'arrows', 'entries'];
 
 /** A store that waits: its bar from the moment at which it went in down into the strip. */
@@ -71,7 +73,7 @@ function drawRow(history, layout, entry) {
 class Layer {
   /** Where `isUnder`, what comes later goes under what is there: a store's way goes over the bars of later ones. */
   constructor(layout, isUnder) {
-    Object.assign(this, { layout, isUnder, groups: [] });
+    Object.assign(this, { layout, isUnder, groups: [], sheets: [] });
     this.element = html('div', { class: 'layer' });
   }
 
@@ -89,7 +91,13 @@ class Layer {
   addSheet(first) {
     const groups = Array.from({ length: PIECE }, () => svg('g', {})), inOrder = this.isUnder ? groups.toReversed() : groups;
     groups.forEach((group, at) => { this.groups[first + at] = group; });
-    this.element[this.isUnder ? 'prepend' : 'append'](drawSheet(this.layout, this.layout.top(first), PIECE * ROW, ...inOrder));
+    const sheet = this.sheets[first / PIECE] = drawSheet(this.layout, this.layout.top(first), PIECE * ROW, ...inOrder);
+    this.element[this.isUnder ? 'prepend' : 'append'](sheet);
+  }
+
+  /** Hides the sheets of all pieces before this one, and no others. */
+  hideBefore(piece) {
+    this.sheets.forEach((sheet, at) => sheet.toggleAttribute('hidden', at < piece));
   }
 }
 
@@ -105,6 +113,7 @@ class GrowingPicture {
     this.history = history;
     this.layout = { ...layoutOf(history, width) };
     this.rows = [];
+    this.firstPiece = 0;
     this.arrowsNow = [];
     this.forwarded = new Map();
     this.layers = Object.fromEntries(LAYERS.map(name => [name, new Layer(this.layout, name === 'waits')]));
@@ -151,6 +160,7 @@ class GrowingPicture {
 
   /** For paper: what has come as one picture, or where that doesn't go on one page in pieces of whole rows, between which a page may end. */
   onPaper() {
+    this.hideAbove(0);
     const { label, bottom, layout: { width, top } } = this, rows = this.rows.length, above = this.element.getBoundingClientRect().top - HEAD;
     const placed = this.parts.map(part => [part, part.getBoundingClientRect()]);
     const piece = rows > PAPER.whole ? PAPER.piece : Math.max(1, rows);
@@ -159,6 +169,14 @@ class GrowingPicture {
       const parts = placed.filter(([, box]) => box.top - above < end && box.bottom - above > y).map(([part]) => part.cloneNode(true));
       return svg('svg', { class: 'picture', width, height: end - y, viewBox: `0 ${y} ${width} ${end - y}`, role: 'img', 'aria-label': label }, ...parts);
     });
+  }
+
+  /** Hides what lies far above a height of the picture, which is the highest in sight. */
+  hideAbove(top) {
+    const piece = Math.max(0, Math.floor(top / (PIECE * ROW)) - SPARE);
+    if (piece === this.firstPiece) return;
+    this.firstPiece = piece;
+    for (const layer of Object.values(this.layers)) layer.hideBefore(piece);
   }
 
   /** Whether the history has come to more bars side by side than this picture has room for. */

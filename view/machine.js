@@ -73,7 +73,8 @@ class CorePanel {
     const list = (name, label, draw) => new Part(html('ul', { class: name, 'aria-label': label }), draw);
     this.step = button('step', 's');
     this.drain = button('drain', 'd');
-    this.list = html('ol', { class: 'program', start: 0 }, ...this.program.map((text, at) => html('li', { value: at }, html('code', {}, text))));
+    const isLong = this.program.length > MOST_LINES;
+    this.list = html('ol', { class: isLong ? 'program long' : 'program', start: 0 }, ...this.program.map((text, at) => html('li', { value: at }, html('code', {}, text))));
     this.registers = list('registers', 'Registers', registerItems);
     this.buffer = list('buffer', 'Store buffer, the oldest store first', bufferItems);
     this.lines = new Part(html('tbody', {}), cacheRows);
@@ -167,7 +168,7 @@ class MachinePanel {
     }));
     this.bus.show(history.options.bus, now.bus, last && { transaction: last.transaction, flush: last.flush, write_back: last.write_back });
     this.memory.show({ memory: now.memory, seen: now.seen }, { memory: before.memory, seen: before.seen });
-    this.said.textContent = count > history.steps.length ? 'Its test had ended before: this choice is left over.' : last ? stepSentences(last, before).join(' ') : '';
+    putText(this.said, count > history.steps.length ? 'Its test had ended before: this choice is left over.' : last ? stepSentences(last, before).join(' ') : '');
   }
 
   keepInSight() {

@@ -26,6 +26,10 @@ document.addEventListener('keydown', event => {
   else if (!drive.isOn || !driveByKey(event.key)) return;
   event.preventDefault();
 });
+document.addEventListener('pointerdown', event => {
+  const choice = event.target.closest('[data-choice]')?.dataset.choice;
+  if (choice !== undefined) askAhead(choice);
+});
 document.addEventListener('click', event => {
   const { move: way, choices, file, save, machine, choice } = (event.target.closest('[data-choice]') ?? event.target).dataset;
   if (way !== undefined) move(way);

@@ -52,7 +52,7 @@ function redraw() {
 
 /** Keeps the lanes' names in sight: above the picture, where the picture's own are behind what stands still. */
 function placeNames() {
-  if (drive.isOn) return byId('names').scrollLeft = byId('frame').scrollLeft;
+  if (drive.isOn) return placeDriven();
   const { top, bottom } = byId('frame').getBoundingClientRect(), edge = byId('stepper').getBoundingClientRect().bottom;
   byId('lanes').classList.toggle('needed', top < edge - HEAD && bottom > edge);
   byId('lanes').scrollLeft = byId('frame').scrollLeft;

@@ -5,12 +5,11 @@ import re
 
 import runs
 from bench import CONTRAST, OVERHANGING, differs, safety
-from frames import Costs, click_costs
+from frames import AT_REST, Costs, click_costs
 from driver import ACTING_LANE, DRAWN, LARGE, RUNS, SHOWN, Driver, faults_at, faults_of_machine
 
-# The most that a click takes, in milliseconds of processor time, in the median and at worst. The work in all has paint by software in it:
-# it is less than before the picture lay in sheets, and not yet within the limits of its making.
-MAKING, WORK = (16, 50), (32, 100)
+# The most that a click takes up to the next frame, in milliseconds, in the median and at worst: processor time, and by the clock.
+WORK, CLOCK = (16, 50), (16, 50)
 CLICKS, ROUNDS = 16, 4
 
 
@@ -84,6 +83,32 @@ def other_choice_row(bench):
     bench.wait("byId('report').textContent")
     report = bench.value("bench.tso.answer({ command: 'run' }, inputOf('run')).text")
     return faults + differs("the report", bench.text("#report"), report) + safety(bench)
+
+
+PRESSED = """(downs, word) => {
+  for (const each of downs) document.querySelector(`[data-choice='${each}']`).dispatchEvent(new PointerEvent('pointerdown', { bubbles: true }));
+  document.querySelector(`[data-choice='${word}']`).click();
+}"""
+
+
+def pressed_row(bench):
+    """What a choice does is asked for when its button goes down, and a click shows that of its own choice, asked for once."""
+    name, test, choices, settings = RUNS[3]
+    bench.load(test, choices, settings)
+    words = bench.value("drive.words")
+    whole = bench.trace(words=json.dumps(words))
+    bench.fill("choices", "")
+    bench.value("window.asks = 0; window.own = bench.tso.answer.bind(bench.tso); "
+                "bench.tso.answer = (options, input) => { asks += options.command === 'step'; return own(options, input); }; true")
+    faults = []
+    for count, word in enumerate(words, 1):
+        other = word[0] + ("d" if word[1] == "s" else "s")
+        bench.value("(%s)(%s, '%s')" % (PRESSED, json.dumps([[word], [other, word], [other]][count % 3]), word))
+        faults += faults_at(bench, whole, count)
+    each = [[1, 2, 2][count % 3] for count in range(1, len(words) + 1)]
+    faults += differs("how often it asked", bench.value("asks"), sum(each))
+    bench.value("bench.tso.answer = own; true")
+    return faults + safety(bench)
 
 
 def seeds_row(bench):
@@ -189,6 +214,33 @@ def saves_row(bench):
     return faults + safety(bench)
 
 
+UNDRAWN = """(() => {
+  const { scrollTop, clientHeight } = byId('frame'), { layout } = drive.picture;
+  const isInSight = ({ dataset: { entry } }) => layout.top(Number(entry) + 1) - HEAD > scrollTop && layout.top(Number(entry)) - HEAD < scrollTop + clientHeight;
+  return [...document.querySelectorAll('#frame [data-entry]')].filter(isInSight).filter(each => each.getClientRects().length === 0).length;
+})()"""
+ENTRIES = "new Set([...%s.matchAll(/data-entry=.(\\d+)/g)].map(([, entry]) => entry)).size"
+
+
+def long_picture_row(bench):
+    """Of a long picture all is drawn that is in sight, wherever one scrolls; and what is saved or printed is whole."""
+    bench.load(LARGE, "seed 3 900", {})
+    bench.value("goTo(500)")
+    bench.value(AT_REST % 50)
+    rows, hidden = bench.value("[drive.picture.rows.length, document.querySelectorAll('#frame .sheet[hidden]').length]")
+    faults = [] if rows > 100 and hidden > 0 else ["%d rows, and %d sheets are hidden" % (rows, hidden)]
+    for part in (1, 0.7, 0.4, 0.1, 0, 0.5, 1):
+        bench.value("byId('frame').scrollTop = %g * byId('frame').scrollHeight" % part)
+        bench.value(AT_REST % 50)
+        faults += differs("at %g of its height, entries in sight that aren't drawn" % part, bench.value(UNDRAWN), 0)
+    faults += differs("sheets that are hidden again", bench.value("document.querySelectorAll('#frame .sheet[hidden]').length"), hidden)
+    faults += differs("entries of the saved picture", bench.value(ENTRIES % "savedPicture(pictureNow())"), rows)
+    bench.value("dispatchEvent(new Event('beforeprint'))")
+    faults += differs("entries on paper", bench.value(ENTRIES % "byId('frame').innerHTML"), rows)
+    bench.value("dispatchEvent(new Event('afterprint'))")
+    return faults + safety(bench)
+
+
 NAMES_IN_SIGHT = """(() => {
   const names = byId('names').getBoundingClientRect(), edge = byId('stepper').getBoundingClientRect().bottom;
   return names.top >= edge - 1 && names.bottom <= innerHeight && names.height > 0;
@@ -253,7 +305,7 @@ def round_of_clicks(bench):
 
 
 def is_within(costs):
-    return all(time <= most for times, limits in ((costs.making, MAKING), (costs.work, WORK)) for time, most in zip(times, limits))
+    return all(time <= most for times, limits in ((costs.work, WORK), (costs.clock, CLOCK)) for time, most in zip(times, limits))
 
 
 def speed_row(bench):
@@ -278,9 +330,11 @@ def rows(page, folder):
     return [
         ("the machine at its start", lambda: begins_row(bench, folder)), *driven,
         ("another choice", lambda: other_choice_row(bench)),
+        ("buttons that go down", lambda: pressed_row(bench)),
         ("seeds and playing", lambda: seeds_row(bench)),
         ("two machines", lambda: beside_row(bench, folder)),
         ("many choices", lambda: many_row(bench)),
+        ("a long picture", lambda: long_picture_row(bench)),
         ("whole traces, and none", lambda: whole_traces_row(bench)),
         ("a trap at a choice", lambda: trap_row(bench)),
         ("what is saved of a machine", lambda: saves_row(bench)),

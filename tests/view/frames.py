@@ -2,7 +2,7 @@
 
 Three times are taken of each click, without a trace, which would cost time itself:
 
-- the making: the processor time of script, style and layout;
+- the making: the processor time of script, style and layout, from when the button goes up (what the choice does is asked for while it is down);
 - the work: that of all tasks of the page's thread, which has paint and the handing over of the frame beside these;
 - the clock, from the event's own time stamp to the first task after the frame was handed over. In it are also the waits: for a free
   processor, and for the screen's next picture, of which there is one in 16.7 ms."""
