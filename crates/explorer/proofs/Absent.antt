@@ -4,9 +4,9 @@ use Rattle.tso_model.specs.Litmus.{Litmus}
 use Rattle.tso_model.specs.FlatMachine.{program_of, core_of, idle}
 use Rattle.tso_model.specs.declared.instruction.Instr.{Instr}
 use Rattle.eager_laws.specs.Eager.{Avoids}
-use Rattle.explorer.specs.State.{state_of, core_of_processor}
-use Rattle.explorer.specs.declared.snapshot.Processor.{Processor}
-use Rattle.explorer.specs.declared.snapshot.Snapshot.{Snapshot}
+use Rattle.flat_machine.specs.State.{state_of, core_of_processor}
+use Rattle.flat_machine.specs.declared.snapshot.Processor.{Processor}
+use Rattle.flat_machine.specs.declared.snapshot.Snapshot.{Snapshot}
 
 no-program : (ps : List (List Instr)) (k : ℕ) → length ps ≤ k → slice_index_or ps k [] ≡ []
 no-program [] k l = refl

@@ -11,10 +11,10 @@ use Rattle.tso_laws.specs.inner.Laws.{RunsStopWhereTheyEnd}
 use Rattle.eager_laws.specs.Closed.{IsIn}
 use Rattle.eager_laws.specs.Dead.{forgotten, AreAlike, DeadRegistersChangeNothing}
 use Rattle.eager_laws.specs.Exchanged.{exchanged, exchanged_by, IsOneOf, AreOf, AreAllAlike, AlikeCoresAreExchangeable}
-use Rattle.explorer.specs.State.{state_of}
+use Rattle.flat_machine.specs.State.{state_of}
 use Rattle.explorer.specs.inner.Arranged.{HasExchanged, AreExchanged}
 use Rattle.explorer.specs.inner.Settled.{Grows, HaveCores, LeadTo}
-use Rattle.explorer.specs.declared.snapshot.Snapshot.{Snapshot}
+use Rattle.flat_machine.specs.declared.snapshot.Snapshot.{Snapshot}
 use Rattle.explorer.proofs.Ending.{length-map}
 use Rattle.explorer.proofs.Exchanging.{start-cores, length-exchanged}
 use Rattle.explorer.proofs.Linking.{get-back, get-within, get-or}

@@ -6,12 +6,12 @@ use Rattle.tso_model.specs.Litmus.{Litmus}
 use Rattle.tso_model.specs.FlatMachine.{State}
 use Rattle.eager_laws.specs.Dead.{forgotten, DeadRegistersChangeNothing}
 use Rattle.eager_laws.specs.Exchanged.{AlikeCoresAreExchangeable}
-use Rattle.explorer.specs.State.{state_of}
+use Rattle.flat_machine.specs.State.{state_of}
 use Rattle.explorer.specs.inner.Settled.{AreLinked}
 use Rattle.explorer.specs.FinalStates.{IsReachable, HasMoreStates}
-use Rattle.explorer.specs.declared.snapshot.Snapshot.{Snapshot}
+use Rattle.flat_machine.specs.declared.snapshot.Snapshot.{Snapshot}
 use Rattle.explorer.specs.declared.link.Link.{Link}
-use Rattle.explorer.specs.contracts.snapshot.SnapshotPartialEq.TheImpl as snapshot_eq
+use Rattle.flat_machine.specs.contracts.snapshot.SnapshotPartialEq.TheImpl as snapshot_eq
 use Rattle.explorer.proofs.Same.{snapshots-equal}
 use Rattle.explorer.proofs.Linking.{linked-leads, reachable}
 

@@ -13,11 +13,11 @@ use Rattle.tso_model.specs.declared.execution.Entry.{Entry}
 use Rattle.tso_model.specs.declared.choice.Choice.{Choice}
 use Rattle.tso_model.specs.declared.choice.Choice.TheVariants.{Step, Drain}
 use Rattle.outcome_laws.specs.Outcomes.{LeadToEnd}
-use Rattle.explorer.specs.State.{core_of_processor, state_of}
+use Rattle.flat_machine.specs.State.{core_of_processor, state_of}
 use Rattle.explorer.specs.Settled.{LeadsBy}
-use Rattle.explorer.specs.declared.snapshot.Processor.{Processor}
-use Rattle.explorer.specs.declared.snapshot.Snapshot.{Snapshot}
-use Rattle.explorer.proofs.Choosing.{beyond}
+use Rattle.flat_machine.specs.declared.snapshot.Processor.{Processor}
+use Rattle.flat_machine.specs.declared.snapshot.Snapshot.{Snapshot}
+use Rattle.flat_machine.proofs.Choosing.{beyond}
 use Rattle.explorer.proofs.Exchanging.{start-cores}
 use Rattle.explorer.proofs.Linking.{leads-cores}
 

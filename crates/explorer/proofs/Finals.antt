@@ -9,15 +9,15 @@ use Rattle.tso_laws.specs.inner.Laws.{RunsStopWhereTheyEnd}
 use Rattle.eager_laws.specs.Closed.{ClosedStatesMissNone}
 use Rattle.eager_laws.specs.Dead.{forgotten, AreAlike, seen, DeadRegistersChangeNothing}
 use Rattle.eager_laws.specs.Exchanged.{AreAllAlike, AlikeCoresAreExchangeable}
-use Rattle.explorer.specs.State.{state_of}
+use Rattle.flat_machine.specs.State.{state_of}
 use Rattle.explorer.specs.inner.Settled.{Grows, HaveCores, IsSearched}
 use Rattle.explorer.specs.inner.Arranged.{AreExchanged}
 use Rattle.explorer.specs.FinalStates.{AreReached, Have, HaveEveryEnd, AreDistinct}
 use Rattle.explorer.specs.inner.Collected.{IsFinalOf, IsMadeOf, AreFinalsOf}
-use Rattle.explorer.specs.declared.snapshot.Snapshot.{Snapshot}
+use Rattle.flat_machine.specs.declared.snapshot.Snapshot.{Snapshot}
 use Rattle.explorer.specs.declared.link.Link.{Link}
 use Rattle.explorer.specs.declared.final_states.FinalState.{FinalState}
-use Rattle.explorer.specs.contracts.snapshot.SnapshotPartialEq.TheImpl as snapshot_eq
+use Rattle.flat_machine.specs.contracts.snapshot.SnapshotPartialEq.TheImpl as snapshot_eq
 use Rattle.explorer.proofs.Counting.{apart}
 use Rattle.explorer.proofs.Ending.{ended-same, leads-to-end}
 use Rattle.explorer.proofs.Linking.{get-left, get-back, get-last, get-within, get-one, get-or}

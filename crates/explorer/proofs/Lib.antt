@@ -1,6 +1,4 @@
 pub mod Same
-pub mod Starting
-pub mod Choosing
 pub mod Absent
 pub mod Exchanging
 pub mod Linking

@@ -10,7 +10,7 @@ use Rattle.tso_model.specs.FlatMachine.{State, after_choice, start, effect_of, c
 use Rattle.tso_model.specs.Runs.{CoresExist, stall_count}
 use Rattle.tso_model.specs.declared.choice.Choice.{Choice}
 use Rattle.tso_laws.specs.Choices.{state_after}
-use Rattle.explorer.specs.State.{state_of}
+use Rattle.flat_machine.specs.State.{state_of}
 use Rattle.eager_laws.specs.Closed.{LeadsEagerly}
 use Rattle.eager_laws.specs.Dead.{forgotten, AreAlike, DeadRegistersChangeNothing}
 use Rattle.eager_laws.specs.Exchanged.{exchanged_by, AreOf, AreAllAlike, AlikeCoresAreExchangeable}
@@ -19,7 +19,7 @@ use Rattle.explorer.specs.inner.Settled.{LeadByTurns, IsReached, IsLinked, AreLi
 use Rattle.explorer.specs.inner.Arranged.{played, IsArranged}
 use Rattle.explorer.specs.declared.link.Turn.{Turn}
 use Rattle.explorer.specs.FinalStates.{IsReachable}
-use Rattle.explorer.specs.declared.snapshot.Snapshot.{Snapshot}
+use Rattle.flat_machine.specs.declared.snapshot.Snapshot.{Snapshot}
 use Rattle.explorer.specs.declared.link.Link.{Link}
 use Rattle.explorer.proofs.Exchanging.{leads-exchanged, of-alike, played-is}
 

@@ -7,12 +7,12 @@ use mathlib.Core.Bool.{beq}
 use Rattle.basic_laws.proofs.Basics.{and-left, and-right}
 use Rattle.tso_model.specs.declared.execution.Entry.{Entry}
 use Rattle.tso_model.specs.FlatMachine.{CoreState, State}
-use Rattle.explorer.specs.State.{core_of_processor, state_of}
-use Rattle.explorer.specs.declared.snapshot.Processor.{Processor}
-use Rattle.explorer.specs.declared.snapshot.Snapshot.{Snapshot}
+use Rattle.flat_machine.specs.State.{core_of_processor, state_of}
+use Rattle.flat_machine.specs.declared.snapshot.Processor.{Processor}
+use Rattle.flat_machine.specs.declared.snapshot.Snapshot.{Snapshot}
 use Rattle.tso_model.specs.contracts.execution.EntryPartialEq.TheImpl as entry_eq
-use Rattle.explorer.specs.contracts.snapshot.ProcessorPartialEq.TheImpl as processor_eq
-use Rattle.explorer.specs.contracts.snapshot.SnapshotPartialEq.TheImpl as snapshot_eq
+use Rattle.flat_machine.specs.contracts.snapshot.ProcessorPartialEq.TheImpl as processor_eq
+use Rattle.flat_machine.specs.contracts.snapshot.SnapshotPartialEq.TheImpl as snapshot_eq
 
 pub pointwise-map : {A B : Type 0} (E : A → A → Bool) (f : A → B) → ((x y : A) → E x y ≡ true → f x ≡ f y) → (xs ys : List A) → pointwise E xs ys ≡ true → map f xs ≡ map f ys
 pointwise-map E f h [] [] q = refl

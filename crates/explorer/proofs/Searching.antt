@@ -14,10 +14,10 @@ use Rattle.eager_laws.specs.Eager.{IsEager}
 use Rattle.eager_laws.specs.Closed.{LeadsEagerly, IsIn, IsCovered, IsExpanded, AreClosed}
 use Rattle.eager_laws.specs.Dead.{forgotten}
 use Rattle.eager_laws.specs.Exchanged.{exchanged_by}
-use Rattle.explorer.specs.State.{state_of}
+use Rattle.flat_machine.specs.State.{state_of}
 use Rattle.explorer.specs.Settled.{LeadsBy, IsSettled}
 use Rattle.explorer.specs.inner.Settled.{Grows, HaveCores, IsReached, IsVisited, AreVisited, AreLinked}
-use Rattle.explorer.specs.declared.snapshot.Snapshot.{Snapshot}
+use Rattle.flat_machine.specs.declared.snapshot.Snapshot.{Snapshot}
 use Rattle.explorer.specs.declared.link.Link.{Link}
 use Rattle.explorer.specs.declared.link.Turn.TheVariants.{Made, Exchanged}
 use Rattle.explorer.proofs.Exchanging.{none-alike}

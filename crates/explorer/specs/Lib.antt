@@ -1,4 +1,3 @@
-pub mod State
 pub mod Settled
 pub mod FinalStates
 pub mod inner

@@ -4,22 +4,21 @@ ghost use Rattle.std.specs.Prelude.{◌≡◌, ◌<◌, ◌≤◌, true, IfErr, 
 ghost use Rattle.tso_model.specs.Runs.{has_ended};
 ghost use Rattle.eager_laws.specs.Closed.{IsIn};
 ghost use Rattle.eager_laws.specs.Exchanged.{exchanged, IsOneOf};
-ghost use Rattle.explorer.specs.State.{state_of};
+ghost use Rattle.flat_machine.specs.State.{state_of};
 ghost use Rattle.explorer.specs.inner.Settled.{Grows, HaveCores, AreLinked};
 ghost use Rattle.explorer.specs.inner.Arranged.{HasExchanged, AreExchanged};
 ghost use Rattle.explorer.specs.inner.Planned.{IsPlan};
 ghost use Rattle.explorer.specs.FinalStates.{HasMoreStates};
-ghost use Rattle.explorer.specs.declared.snapshot.Snapshot.{Snapshot};
+ghost use Rattle.flat_machine.specs.declared.snapshot.Snapshot.{Snapshot};
 ghost use Rattle.explorer.specs.declared.fault.ExploreFault.{ExploreFault};
 
 use crate::exchange::exchange;
 use crate::fault::ExploreFault;
-use crate::final_states::has_ended;
 use crate::plan::Plan;
 use crate::reached::{Reached, nowhere};
 use crate::search::{Found, keep};
-use crate::snapshot::overwrite;
 use eager_laws::{alike_cores_are_exchangeable, dead_registers_change_nothing};
+use flat_machine::{has_ended, overwrite};
 use std::alloc::Global;
 use tso_model::NoMemory;
 

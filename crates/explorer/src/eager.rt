@@ -4,12 +4,11 @@ ghost use Rattle.std.specs.Prelude.{◌≡◌, ◌≢◌, ◌<◌, ◌++◌, tru
 ghost use Rattle.tso_model.specs.FlatMachine.{chosen, program_of, core_of};
 ghost use Rattle.tso_model.specs.declared.choice.Choice.{Choice};
 ghost use Rattle.eager_laws.specs.Eager.{meets, Avoids, OthersAvoid, IsEager, IsEagerBy};
-ghost use Rattle.explorer.specs.State.{state_of, core_of_processor};
+ghost use Rattle.flat_machine.specs.State.{state_of, core_of_processor};
 ghost use Rattle.explorer.specs.Settled.{IsSettled};
 
-use crate::acting::act;
-use crate::snapshot::{Processor, Snapshot};
 use eager_laws::eager_choices_take_effect;
+use flat_machine::{Processor, Snapshot, act};
 use tso_model::{Action, Choice, Core, Entry, Instr, Loc, NoMemory, Test};
 
 /// Maximum number of choices that a test takes: for each core two for each instruction.

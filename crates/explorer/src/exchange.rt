@@ -1,9 +1,9 @@
 //! Two cores exchanged: each has the other's state, and what the one has pending or chooses is the other's.
 ghost use Rattle.std.specs.Prelude.{◌≡◌, ◌<◌, length, map};
 ghost use Rattle.eager_laws.specs.Exchanged.{exchanged_core, exchanged_choice, exchanged_entry, exchanged};
-ghost use Rattle.explorer.specs.State.{state_of};
+ghost use Rattle.flat_machine.specs.State.{state_of};
 
-use crate::snapshot::Snapshot;
+use flat_machine::Snapshot;
 use tso_model::{Choice, Core, Entry};
 
 /// The core that stands for this one where two are exchanged.

@@ -1,33 +1,32 @@
 //! The final states that a search found: those kept states in which the test has ended, each once, with choices that lead
 //! there. A kept state has 0 in its hidden registers; what they hold at the end is known by making the choices again.
-ghost use Rattle.std.specs.Prelude.{◌≡◌, ◌<◌, IfOk, IfErr, length, slice_get, Some, map};
+ghost use Rattle.std.specs.Prelude.{◌≡◌, ◌<◌, IfOk, IfErr, length, slice_get, Some};
 ghost use Rattle.tso_model.specs.FlatMachine.{start};
 ghost use Rattle.tso_model.specs.Limits.{most_depth};
-ghost use Rattle.tso_model.specs.Runs.{is_done, has_ended, CoresExist};
+ghost use Rattle.tso_model.specs.Runs.{CoresExist};
 ghost use Rattle.tso_laws.specs.Choices.{state_after};
-ghost use Rattle.explorer.specs.State.{state_of, core_of_processor};
+ghost use Rattle.flat_machine.specs.State.{state_of};
 ghost use Rattle.explorer.specs.inner.Planned.{IsPlan};
 ghost use Rattle.explorer.specs.inner.Settled.{HaveCores, AreLinked};
 ghost use Rattle.explorer.specs.inner.Collected.{IsFinalOf, AreFinalsOf};
 ghost use Rattle.explorer.specs.FinalStates.{AreReached, HaveEveryEnd, AreDistinct, HasMoreStates};
 ghost use Rattle.explorer.specs.FinalStates.{AreWhatTsoAllows, AreWhatSequentialConsistencyAllows};
-ghost use Rattle.explorer.specs.declared.snapshot.Snapshot.{Snapshot};
+ghost use Rattle.flat_machine.specs.declared.snapshot.Snapshot.{Snapshot};
 ghost use Rattle.explorer.specs.declared.fault.ExploreFault.{ExploreFault};
 
-use crate::acting::act;
 use crate::closing::close;
 use crate::fault::ExploreFault;
 use crate::link::path;
 use crate::plan::{Plan, plan_of};
 use crate::search::{Found, search};
-use crate::snapshot::{Processor, Snapshot, start};
 use eager_laws::{
     alike_cores_are_exchangeable, closed_states_miss_none, dead_registers_change_nothing,
 };
+use flat_machine::{Snapshot, act, has_ended, registers_of, start};
 use outcome_laws::ends_are_what_tso_allows;
 use std::alloc::Global;
 use tso_laws::runs_stop_where_they_end;
-use tso_model::{Choice, Core, Instr, NoMemory, Test};
+use tso_model::{Choice, NoMemory, Test};
 
 /// A final state of a test: the registers of each core, in the order of `Reg::ALL`, the word of each
 /// location, and choices that lead there, of which none stalls and none is left over.
@@ -45,39 +44,6 @@ pub struct Exploration {
     pub final_states: Vec<FinalState>,
     /// How many states the search kept, those among them that exchanges of alike cores made of the ended ones.
     pub kept: usize,
-}
-
-/// Whether the core is at the end of its program with nothing pending.
-fn is_done(program: &[Instr], processor: &Processor) -> bool
-    ensures { result ≡ is_done program.now (core_of_processor processor.now) }
-{
-    program.len() == usize::from(processor.place) && processor.pending.is_empty()
-}
-
-/// Whether the test has ended: each core is done.
-pub fn has_ended(test: &Test, snapshot: &Snapshot) -> bool
-    requires { length snapshot.now.cores.items ≡ length test.now.programs }
-    ensures { result ≡ has_ended test.now (state_of snapshot.now) }
-{
-    for core in 0..test.cores() {
-        if !is_done(test.program(Core(core)), &snapshot.cores[usize::from(core)]) {
-            return false;
-        }
-    }
-    true
-}
-
-/// The registers of each core.
-///
-/// Errors: out of memory only.
-fn registers_of(alloc: Global, cores: &[Processor]) -> Result<Vec<[u32; 6]>, NoMemory>
-    ensures { IfOk result (λ rs. rs.items ≡ map (λ c. c.registers) cores.now) }
-{
-    let mut registers = Vec::new(alloc);
-    for core in cores {
-        registers.push(core.registers)?;
-    }
-    Ok(registers)
 }
 
 /// The state that choices lead to from the beginning of the test.

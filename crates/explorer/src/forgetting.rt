@@ -2,11 +2,11 @@
 ghost use Rattle.std.specs.Prelude.{◌≡◌, ◌+◌, Bool, List, length};
 ghost use Rattle.tso_model.specs.declared.instruction.Instr.{Instr};
 ghost use Rattle.eager_laws.specs.Dead.{cleared, forgotten_core, forgotten};
-ghost use Rattle.explorer.specs.State.{state_of, core_of_processor};
+ghost use Rattle.flat_machine.specs.State.{state_of, core_of_processor};
 ghost use Rattle.explorer.specs.inner.Planned.{AreDead, IsPlan};
 
 use crate::plan::Plan;
-use crate::snapshot::{Processor, Snapshot};
+use flat_machine::{Processor, Snapshot};
 use tso_model::{Core, Instr};
 
 /// Puts 0 into the registers that are dead.

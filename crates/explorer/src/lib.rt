@@ -9,7 +9,6 @@
 //! which the test has ended are put back.
 #![tactic(auto)]
 
-mod acting;
 mod alike;
 mod arranging;
 mod closing;
@@ -22,7 +21,6 @@ pub mod link;
 pub mod plan;
 pub mod reached;
 pub mod search;
-pub mod snapshot;
 
 pub use fault::ExploreFault;
 pub use final_states::{Exploration, FinalState, explore};

@@ -2,16 +2,15 @@
 //! that are alike in one order. A choice that stalls leads nowhere new.
 ghost use Rattle.std.specs.Prelude.{◌≡◌, ◌<◌, IfOk, OnOk, true, false, length};
 ghost use Rattle.tso_model.specs.FlatMachine.{after_choice, chosen};
-ghost use Rattle.explorer.specs.State.{state_of};
+ghost use Rattle.flat_machine.specs.State.{state_of};
 ghost use Rattle.explorer.specs.inner.Planned.{IsPlan};
 ghost use Rattle.explorer.specs.inner.Settled.{IsReached};
 
-use crate::acting::{act, has_stalled, is_idle};
 use crate::arranging::arrange;
 use crate::eager::settle;
 use crate::forgetting::forget;
 use crate::plan::Plan;
-use crate::snapshot::{Snapshot, overwrite, start};
+use flat_machine::{Snapshot, act, has_stalled, is_idle, overwrite, start};
 use std::alloc::Global;
 use tso_laws::stalls_change_nothing;
 use tso_model::{Choice, NoMemory, Test};

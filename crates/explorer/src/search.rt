@@ -4,11 +4,11 @@ ghost use Rattle.std.specs.Prelude.{◌≡◌, ℕ, ◌<◌, ◌≤◌, Bool, Li
 ghost use Rattle.tso_model.specs.FlatMachine.{chosen, start};
 ghost use Rattle.eager_laws.specs.Closed.{IsIn, IsCovered, IsExpanded};
 ghost use Rattle.tso_model.specs.Litmus.{Litmus};
-ghost use Rattle.explorer.specs.State.{state_of};
+ghost use Rattle.flat_machine.specs.State.{state_of};
 ghost use Rattle.explorer.specs.inner.Settled.{Grows, HaveCores, LeadTo, IsVisited, AreVisited, AreLinked, IsSearched};
 ghost use Rattle.explorer.specs.inner.Planned.{IsPlan};
 ghost use Rattle.explorer.specs.FinalStates.{HasMoreStates};
-ghost use Rattle.explorer.specs.declared.snapshot.Snapshot.{Snapshot};
+ghost use Rattle.flat_machine.specs.declared.snapshot.Snapshot.{Snapshot};
 ghost use Rattle.explorer.specs.declared.fault.ExploreFault.{ExploreFault};
 
 use crate::eager::settle;
@@ -17,8 +17,8 @@ use crate::forgetting::forget;
 use crate::link::{Link, turns_of};
 use crate::plan::Plan;
 use crate::reached::{Reached, nowhere, reach};
-use crate::snapshot::{Snapshot, copy, start};
 use eager_laws::{alike_cores_are_exchangeable, dead_registers_change_nothing};
+use flat_machine::{Snapshot, copy, start};
 use indexmap::IndexSet;
 use std::alloc::Global;
 use tso_model::{Choice, Core, NoMemory};

@@ -3,7 +3,8 @@
 #![tactic(auto)]
 
 ghost use Rattle.std.specs.Prelude.{◌≡◌, ◌≢◌, ◌<◌, ◌⊎◌, ◌↔◌, true, false, take, length, string_bytes, IfOk};
-ghost use Rattle.page_exports.specs.Questions.{AnswersAsked, Answers, IsAnswerTo, IsAskable, number_of};
+ghost use Rattle.command_line.specs.Limits.{HasDepth};
+ghost use Rattle.page_exports.specs.Questions.{AnswersAsked, Answers, IsAnswerTo, IsCommandAnswer, IsAskable, number_of};
 ghost use Rattle.page_exports.specs.inner.Questions.{HasDepthFor};
 
 mod question;
@@ -11,7 +12,7 @@ mod question;
 pub use question::Numbers;
 use question::{Question, question_of, status_number};
 use std::alloc::Global;
-use tso_cli::{Answer, answer_to, hint, step_answer};
+use tso_cli::{Answer, Settings, answer_to, hint, step_answer};
 use tso_model::NoMemory;
 
 /// The status where the numbers ask for nothing that there is, as the program's for a command line that is refused.
@@ -86,9 +87,19 @@ fn answer_of(alloc: Global, question: &Question, input: &[u8]) -> Result<Answer,
     ensures { IfOk result (λ a. IsAnswerTo question.now input.now (string_bytes a.text) a.status) }
 {
     match question {
-        Question::Command(settings) => answer_to(alloc, settings, input),
+        Question::Command(settings) => command_answer(alloc, settings, input),
         Question::Step { protocol, config } => step_answer(alloc, *protocol, *config, input),
     }
+}
+
+/// The answer of a command to an input.
+///
+/// Errors: out of memory only.
+fn command_answer(alloc: Global, settings: &Settings, input: &[u8]) -> Result<Answer, NoMemory>
+    requires { HasDepth settings.now }
+    ensures { IfOk result (λ a. IsCommandAnswer settings.now input.now (string_bytes a.text) a.status) }
+{
+    answer_to(alloc, settings, input)
 }
 
 /// Answers a question, and tells what fitted into the rooms.

@@ -21,6 +21,7 @@ pub mod CommandLemmas
 pub mod SimulationLemmas
 pub mod Endings
 pub mod SweptRuns
+pub mod FlatSweeps
 pub mod Joined
 pub mod Rechecked
 pub mod Replayed

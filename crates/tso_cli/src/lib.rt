@@ -7,6 +7,7 @@ mod checking;
 pub mod command;
 pub mod counted;
 pub mod dividing;
+mod flat_sweep;
 pub mod headline_laws;
 pub mod hinting;
 pub mod laws;

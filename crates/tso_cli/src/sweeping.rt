@@ -1,5 +1,5 @@
 //! The answer of `sweep`: one machine makes the runs of all seeds, each from the beginning of the test, and only their
-//! tally is kept. So room doesn't grow with the number of runs.
+//! tally is kept. So room doesn't grow with the number of runs. On the atomic bus that machine is the flat one.
 
 ghost use Rattle.std.specs.Prelude.{◌≡◌, ◌<◌, ◌-◌, ◌^◌, ◌==◌, if◌then◌else◌, IfOk, OnOk, length, string_bytes};
 ghost use Rattle.tso_model.specs.Runs.{CoresExist};
@@ -10,10 +10,11 @@ ghost use Rattle.tso_cli.specs.Sweep.{with_one_run, sweep_counts, SweepAnswersFi
 ghost use Rattle.tso_cli.specs.inner.Sweep.{EachKindWith};
 
 use crate::answer::{Answer, Status};
+use crate::flat_sweep::sweep_flat;
 use crate::simulation::{drive, verdict_of};
 use command_line::SweepPlan;
 use hints::{Cause, Stalls};
-use machine_core::{Config, Machine};
+use machine_core::{Bus, Config, Machine};
 use protocol_tables::{Mesi, Moesi, Mosi, Msi, Protocol, ProtocolKind};
 use scheduler::{Choices, Seeded};
 use split_laws::{
@@ -78,13 +79,32 @@ fn status_of(all_ended: bool) -> Status
 
 /// What a sweep has counted, and whether all of its runs ended.
 #[derive(Drop)]
-struct Swept<'a> {
-    tally: Tally<'a>,
-    all_ended: bool,
+pub(crate) struct Swept<'a> {
+    pub tally: Tally<'a>,
+    pub all_ended: bool,
 }
 
 /// Makes the runs of a plan, one seed after the other, and counts them.
 fn sweep<'a>(
+    alloc: Global,
+    test: &'a Test,
+    protocol: ProtocolKind,
+    config: Config,
+    plan: SweepPlan,
+) -> Result<Swept<'a>, NoMemory>
+    ensures test { IfOk result (λ s. s.tally.test ≡ test.now) }
+    ensures counts { IfOk result (λ s. s.tally.counts ≡ sweep_counts test.now protocol config plan) }
+    ensures ended { IfOk result (λ s. s.all_ended ≡ (s.tally.counts.unfinished == 0)) }
+    ensures answers { OnOk result (SweepAnswersFit test.now protocol config plan) }
+{
+    match config.bus() {
+        Bus::Atomic => sweep_flat(alloc, test, config, plan),
+        Bus::Split => sweep_split(alloc, test, protocol, config, plan),
+    }
+}
+
+/// The same by the machine with its caches: on a split bus a run goes by their answers.
+fn sweep_split<'a>(
     alloc: Global,
     test: &'a Test,
     protocol: ProtocolKind,

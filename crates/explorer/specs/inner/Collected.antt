@@ -5,10 +5,10 @@ use Rattle.tso_model.specs.Litmus.{Litmus}
 use Rattle.tso_model.specs.FlatMachine.{State, start, registers_in}
 use Rattle.tso_model.specs.Runs.{has_ended}
 use Rattle.eager_laws.specs.Dead.{forgotten}
-use Rattle.explorer.specs.State.{state_of}
+use Rattle.flat_machine.specs.State.{state_of}
 use Rattle.explorer.specs.Settled.{LeadsBy}
 use Rattle.explorer.specs.FinalStates.{Have, AreDistinct}
-use Rattle.explorer.specs.declared.snapshot.Snapshot.{Snapshot}
+use Rattle.flat_machine.specs.declared.snapshot.Snapshot.{Snapshot}
 use Rattle.explorer.specs.declared.final_states.FinalState.{FinalState}
 
 -- the final state is what its choices lead to, and once dead registers are forgotten that is this state

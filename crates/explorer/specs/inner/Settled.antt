@@ -7,8 +7,8 @@ use Rattle.tso_model.specs.declared.choice.Choice.{Choice}
 use Rattle.eager_laws.specs.Closed.{IsCovered, AreClosed, LeadsEagerly}
 use Rattle.eager_laws.specs.Dead.{forgotten}
 use Rattle.eager_laws.specs.Exchanged.{exchanged_by, AreOf, AreAllAlike}
-use Rattle.explorer.specs.State.{state_of}
-use Rattle.explorer.specs.declared.snapshot.Snapshot.{Snapshot}
+use Rattle.flat_machine.specs.State.{state_of}
+use Rattle.flat_machine.specs.declared.snapshot.Snapshot.{Snapshot}
 use Rattle.explorer.specs.declared.link.Turn.{Turn}
 use Rattle.explorer.specs.declared.link.Turn.TheVariants.{Made, Exchanged}
 use Rattle.explorer.specs.declared.link.Link.{Link}

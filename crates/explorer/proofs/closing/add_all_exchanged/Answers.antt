@@ -4,7 +4,7 @@ use Rattle.std.proofs.lemmas.Bool.{both_ways}
 use Rattle.tso_model.specs.Runs.{has_ended}
 use Rattle.eager_laws.specs.Closed.{IsIn}
 use Rattle.eager_laws.specs.Exchanged.{exchanged}
-use Rattle.explorer.specs.State.{state_of}
+use Rattle.flat_machine.specs.State.{state_of}
 use Rattle.explorer.proofs.Completing.{exchanged-more}
 use Rattle.explorer.proofs.Finals.{cores-at}
 use Rattle.explorer.proofs.Linking.{get-within, get-one}

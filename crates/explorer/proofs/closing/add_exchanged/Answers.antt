@@ -1,7 +1,7 @@
 use Rattle.std.proofs.Common.{◌∷◌, ◌++◌, [], ap, ◌∙◌, arith}
 use Rattle.eager_laws.specs.Exchanged.{exchanged}
-use Rattle.explorer.specs.State.{state_of}
-use Rattle.explorer.proofs.Choosing.{on-ok}
+use Rattle.flat_machine.specs.State.{state_of}
+use Rattle.flat_machine.proofs.Choosing.{on-ok}
 use Rattle.explorer.proofs.Completing.{one-exchange}
 use Rattle.explorer.proofs.Finals.{cores-at}
 use Rattle.explorer.proofs.Linking.{linked-forgotten}

@@ -2,7 +2,7 @@ use Rattle.std.proofs.Common.{◌≡◌, length, map, ap, sym, ◌∙◌, subst,
 use Rattle.tso_model.specs.FlatMachine.{start, registers_in}
 use Rattle.tso_model.specs.Runs.{CoresExist}
 use Rattle.tso_laws.specs.Choices.{state_after}
-use Rattle.explorer.specs.State.{state_of}
+use Rattle.flat_machine.specs.State.{state_of}
 use Rattle.explorer.specs.Settled.{LeadsTo}
 use Rattle.explorer.specs.inner.Settled.{IsPath, GoBack}
 use Rattle.explorer.proofs.Ending.{registers-map}

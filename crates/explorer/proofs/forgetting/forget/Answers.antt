@@ -3,10 +3,10 @@ use Rattle.std.proofs.Math.ListN.{length-set}
 use Rattle.std.proofs.lemmas.Option.{slice_get-get_or}
 use Rattle.tso_model.specs.FlatMachine.{program_of}
 use Rattle.eager_laws.specs.Dead.{hidden_of, forgotten_core}
-use Rattle.explorer.specs.State.{core_of_processor}
+use Rattle.flat_machine.specs.State.{core_of_processor}
 use Rattle.explorer.specs.inner.Planned.{AreDead}
-use Rattle.explorer.specs.declared.snapshot.Processor.{Processor}
-use Rattle.explorer.proofs.Choosing.{map-at, map-set}
+use Rattle.flat_machine.specs.declared.snapshot.Processor.{Processor}
+use Rattle.flat_machine.proofs.Choosing.{map-at, map-set}
 use Rattle.explorer.proofs.Ending.{length-map}
 use Rattle.explorer.proofs.Forgets.{forgets-more, forgets-all}
 use Rattle.explorer.proofs.forgetting.forget.Goals as goal

@@ -1,5 +1,5 @@
 use Rattle.std.proofs.Common.{◌≡◌, length, map}
-use Rattle.explorer.specs.State.{core_of_processor}
+use Rattle.flat_machine.specs.State.{core_of_processor}
 use Rattle.explorer.proofs.Forgets.{IsForgetting}
 use Rattle.explorer.proofs.forgetting.forget.Given as goal
 

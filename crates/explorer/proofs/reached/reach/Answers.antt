@@ -3,9 +3,9 @@ use Rattle.tso_model.specs.Litmus.{Litmus}
 use Rattle.tso_model.specs.FlatMachine.{after_choice, effect_of}
 use Rattle.tso_model.specs.Runs.{stall_count}
 use Rattle.eager_laws.specs.Exchanged.{AreAllAlike}
-use Rattle.explorer.specs.State.{state_of}
+use Rattle.flat_machine.specs.State.{state_of}
 use Rattle.explorer.specs.inner.Arranged.{IsArranged}
-use Rattle.explorer.proofs.Choosing.{stall-why, takes-effect}
+use Rattle.flat_machine.proofs.Choosing.{stall-why, takes-effect}
 use Rattle.explorer.proofs.Linking.{reached-is}
 use Rattle.explorer.proofs.Mapping.{pairs-within}
 use Rattle.explorer.proofs.reached.reach.Goals as goal

@@ -2,8 +2,8 @@ use Rattle.std.proofs.Common.{◌++◌, map, ap, sym, ◌∙◌, subst}
 use Rattle.eager_laws.specs.Closed.{IsIn}
 use Rattle.explorer.specs.inner.Settled.{LeadTo}
 use Rattle.explorer.specs.declared.link.Turn.TheVariants.{Made, Exchanged}
-use Rattle.explorer.specs.State.{state_of}
-use Rattle.explorer.specs.contracts.snapshot.SnapshotPartialEq.TheImpl as snapshot_eq
+use Rattle.flat_machine.specs.State.{state_of}
+use Rattle.flat_machine.specs.contracts.snapshot.SnapshotPartialEq.TheImpl as snapshot_eq
 use Rattle.explorer.proofs.Linking.{linked-new}
 use Rattle.explorer.proofs.Same.{snapshots-same}
 use Rattle.explorer.proofs.Searching.{among, cores-insert, grows-insert, in-list}

@@ -1,9 +1,9 @@
 use Rattle.std.proofs.Common.{◌≡◌, ◌<◌, ◌≤◌, ℕ, Some, slice_get, map, length}
 use Rattle.tso_model.specs.FlatMachine.{start}
 use Rattle.eager_laws.specs.Closed.{IsCovered, IsExpanded}
-use Rattle.explorer.specs.State.{state_of}
+use Rattle.flat_machine.specs.State.{state_of}
 use Rattle.explorer.specs.inner.Settled.{HaveCores, AreLinked}
-use Rattle.explorer.specs.declared.snapshot.Snapshot.{Snapshot}
+use Rattle.flat_machine.specs.declared.snapshot.Snapshot.{Snapshot}
 use Rattle.explorer.proofs.search.search.Given as goal
 
 abbrev pub invariant-loop-at : goal.invariant-loop-at

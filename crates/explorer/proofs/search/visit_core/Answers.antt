@@ -1,5 +1,5 @@
 use Rattle.tso_model.specs.FlatMachine.{step}
-use Rattle.explorer.proofs.Choosing.{on-ok-2}
+use Rattle.flat_machine.proofs.Choosing.{on-ok-2}
 use Rattle.explorer.proofs.Searching.{grown-within, get-grown, visited-grown}
 use Rattle.explorer.proofs.search.visit_core.Goals as goal
 

@@ -1,0 +1,3 @@
+pub mod Starting
+pub mod Choosing
+pub mod Onward

@@ -1,0 +1,113 @@
+//! A state of the flat machine, as the search keeps it: memory, and each core's place, registers and pending stores. Two
+//! snapshots are one only where nothing in them differs.
+ghost use Rattle.std.specs.Prelude.{◌≡◌, IfOk, OnOk, length};
+ghost use Rattle.tso_model.specs.FlatMachine.{start};
+ghost use Rattle.flat_machine.specs.State.{state_of, core_of_processor};
+
+use std::alloc::Global;
+use tso_model::{Core, Entry, NoMemory, Test};
+
+/// A core: the place in its program, its registers, and its pending stores, oldest first.
+#[derive(Drop, PartialEq, Eq, Hash)]
+pub struct Processor {
+    pub place: u8,
+    pub registers: [u32; 6],
+    pub pending: Vec<Entry>,
+}
+
+/// Memory, and each core.
+#[derive(PartialEq, Eq, Hash, Drop)]
+pub struct Snapshot {
+    pub memory: Vec<u32>,
+    pub cores: Vec<Processor>,
+}
+
+/// The first state of a test.
+///
+/// Errors: out of memory only.
+pub fn start(alloc: Global, test: &Test) -> Result<Snapshot, NoMemory>
+    ensures value { IfOk result (λ s. state_of s ≡ start test.now) }
+    ensures cores { IfOk result (λ s. length s.cores.items ≡ length test.now.programs) }
+{
+    let mut memory = Vec::new(alloc);
+    for word in test.initial_words() {
+        memory.push(*word)?;
+    }
+    let mut cores = Vec::new(alloc);
+    for core in 0..test.cores() {
+        cores.push(Processor {
+            place: 0,
+            registers: test.initial_registers(Core(core)),
+            pending: Vec::new(alloc),
+        })?;
+    }
+    Ok(Snapshot { memory, cores })
+}
+
+/// The same items once more, with no room to spare: as many of these are kept as there are states.
+///
+/// Errors: out of memory only.
+pub fn exact<T: Copy>(alloc: Global, items: &[T]) -> Result<Vec<T>, NoMemory>
+    ensures { IfOk result (λ v. v.items ≡ items.now) }
+{
+    let mut same = Vec::with_capacity(alloc, items.len())?;
+    same.extend_from_slice(items)?;
+    Ok(same)
+}
+
+/// The same core once more.
+///
+/// Errors: out of memory only.
+fn copy_core(alloc: Global, core: &Processor) -> Result<Processor, NoMemory>
+    ensures { IfOk result (λ c. core_of_processor c ≡ core_of_processor core.now) }
+{
+    Ok(Processor {
+        place: core.place,
+        registers: core.registers,
+        pending: exact(alloc, &core.pending)?,
+    })
+}
+
+/// The same state once more.
+///
+/// Errors: out of memory only.
+pub fn copy(alloc: Global, state: &Snapshot) -> Result<Snapshot, NoMemory>
+    ensures value { IfOk result (λ s. state_of s ≡ state_of state.now) }
+    ensures cores { IfOk result (λ s. length s.cores.items ≡ length state.now.cores.items) }
+{
+    let memory = exact(alloc, &state.memory)?;
+    let mut cores = Vec::with_capacity(alloc, state.cores.len())?;
+    for core in &state.cores {
+        cores.push(copy_core(alloc, core)?)?;
+    }
+    Ok(Snapshot { memory, cores })
+}
+
+/// Makes a core the same as another one, in the memory that it has.
+///
+/// Errors: out of memory only.
+fn overwrite_core(core: &mut Processor, other: &Processor) -> Result<(), NoMemory>
+    ensures { OnOk result (core_of_processor core.new ≡ core_of_processor other.now) }
+{
+    core.place = other.place;
+    core.registers = other.registers;
+    core.pending.clear();
+    core.pending.extend_from_slice(&other.pending)?;
+    Ok(())
+}
+
+/// Makes a state the same as another one with as many cores, in the memory that it has.
+///
+/// Errors: out of memory only.
+pub fn overwrite(state: &mut Snapshot, other: &Snapshot) -> Result<(), NoMemory>
+    requires { length state.old.cores.items ≡ length other.now.cores.items }
+    ensures value { OnOk result (state_of state.new ≡ state_of other.now) }
+    ensures cores { OnOk result (length state.new.cores.items ≡ length other.now.cores.items) }
+{
+    state.memory.clear();
+    state.memory.extend_from_slice(&other.memory)?;
+    for core in 0..other.cores.len() {
+        overwrite_core(&mut state.cores[core], &other.cores[core])?;
+    }
+    Ok(())
+}
