@@ -1,7 +1,7 @@
 #!/usr/bin/env python3
 """Breaks a built program's standard input and output, and looks for the word 'fault device' and the status 5.
 
-    tests/break_devices.py PROGRAM
+    tests/break_devices.py PROGRAM [--also PROGRAM]
 
 Standard output is closed, full, a pipe whose reader left at once or in the midst of a report, open for reading alone, a file
 that may not grow; standard input is closed, a folder, open for writing alone, without an end. What was taken is a beginning
@@ -11,7 +11,6 @@ Then each call on standard input and on standard output fails in turn, and none 
 move one byte a call, which is enough for the whole answer. A small library does that, tests/failing_calls.c, which is built
 with the C compiler and preloaded; without a C compiler that counts as a failure. The last line is 'N passed, M failed'.
 """
-import concurrent.futures
 import fcntl
 import os
 import resource
@@ -59,8 +58,6 @@ PAGE = 4096
 
 ONE_BYTE = {"FAIL_SHORT": ""}
 
-WORKERS = 2
-
 
 def redirected(redirection):
     """A command that starts the program named after it with this redirection."""
@@ -78,22 +75,22 @@ def unseen_fault_of(done):
 
 
 def closed_output(program, words, given):
-    return unseen_fault_of(judging.started(redirected(">&-") + [program] + words, given))
+    return unseen_fault_of(judging.started(redirected(">&-") + [program.path] + words, given))
 
 
 def full_output(program, words, given):
-    return unseen_fault_of(judging.started(redirected("> /dev/full") + [program] + words, given))
+    return unseen_fault_of(judging.started(redirected("> /dev/full") + [program.path] + words, given))
 
 
 def output_for_reading_alone(program, words, given):
-    return unseen_fault_of(judging.started(redirected("1< /dev/null") + [program] + words, given))
+    return unseen_fault_of(judging.started(redirected("1< /dev/null") + [program.path] + words, given))
 
 
 def pipe_without_reader(program, words, given):
     reader, writer = os.pipe()
     os.close(reader)
     try:
-        return unseen_fault_of(judging.started([program] + words, given, stdout=writer))
+        return unseen_fault_of(judging.started([program.path] + words, given, stdout=writer))
     finally:
         os.close(writer)
 
@@ -107,7 +104,7 @@ def full_pipe_that_does_not_wait(program, words, given):
     except BlockingIOError:
         pass
     try:
-        return unseen_fault_of(judging.started([program] + words, given, stdout=writer))
+        return unseen_fault_of(judging.started([program.path] + words, given, stdout=writer))
     finally:
         os.close(reader)
         os.close(writer)
@@ -115,9 +112,9 @@ def full_pipe_that_does_not_wait(program, words, given):
 
 def file_that_may_not_grow(program, words, given):
     """A beginning is taken. The signal that tells of the limit is ignored, as a caller may have it."""
-    whole = judging.run(program, words, given).stdout
+    whole = program.run(words, given).stdout
     with tempfile.TemporaryFile() as file:
-        done = judging.started([program] + words, given, stdout=file, restore_signals=False,
+        done = judging.started([program.path] + words, given, stdout=file, restore_signals=False,
                        preexec_fn=lambda: resource.setrlimit(resource.RLIMIT_FSIZE, (SHORT_FILE, SHORT_FILE)))
         file.seek(0)
         done.stdout = file.read()
@@ -144,21 +141,21 @@ INPUTS = [
 
 def input_faults(program, words, redirection):
     """What differs where standard input can't be read: `tables` reads none, and so prints its table."""
-    done = judging.started(redirected(redirection) + [program] + words, None, stdin=subprocess.DEVNULL)
+    done = judging.started(redirected(redirection) + [program.path] + words, None, stdin=subprocess.DEVNULL)
     errors = b"" if "2>" in redirection else DEVICE_FAULT
     if words[0] == "tables":
-        return judging.difference(done, ENDED, judging.run(program, words, b"").stdout)
+        return judging.difference(done, ENDED, program.run(words, b"").stdout)
     return judging.difference(done, FAULT, b"", errors)
 
 
 def reader_that_leaves(program):
     """The reader of a pipe takes a few bytes of a long report, waits until the pipe is full, and leaves."""
-    whole = judging.run(program, ["run"], LONG_REPORT).stdout
+    whole = program.run(["run"], LONG_REPORT).stdout
     if len(whole) < 2 * PAGE:
         return ["the report is too short: %d bytes" % len(whole)]
     reader, writer = os.pipe()
     fcntl.fcntl(writer, fcntl.F_SETPIPE_SZ, PAGE)
-    child = subprocess.Popen([program, "run"], stdin=subprocess.PIPE, stdout=writer, stderr=subprocess.PIPE)
+    child = subprocess.Popen([program.path, "run"], stdin=subprocess.PIPE, stdout=writer, stderr=subprocess.PIPE)
     os.close(writer)
     child.stdin.write(LONG_REPORT)
     child.stdin.close()
@@ -177,12 +174,12 @@ def reader_that_leaves(program):
 
 def endless_input(program, words, recurring):
     """An input without an end is refused for its size, and no more is read than tells that."""
-    done = judging.started(redirected("< /dev/zero") + [program] + words, None, stdin=subprocess.DEVNULL)
+    done = judging.started(redirected("< /dev/zero") + [program.path] + words, None, stdin=subprocess.DEVNULL)
     faults = judging.difference(done, REFUSED, b"Refused input TooLarge\n")
     with tempfile.TemporaryFile() as file:
         file.write(recurring * (2 * judging.LONGEST_INPUT // len(recurring)))
         file.seek(0)
-        done = judging.started([program] + words, None, stdin=file)
+        done = judging.started([program.path] + words, None, stdin=file)
         read = os.lseek(file.fileno(), 0, os.SEEK_CUR)
     faults += judging.difference(done, REFUSED, b"Refused input TooLarge\n")
     if read > judging.LONGEST_INPUT + 1:
@@ -192,7 +189,7 @@ def endless_input(program, words, recurring):
 
 def refused_line(program, redirection):
     """A refused command line has its status also where nothing can be told."""
-    done = judging.started(redirected(redirection) + [program, "run", "--depth", "33"], b"")
+    done = judging.started(redirected(redirection) + [program.path, "run", "--depth", "33"], b"")
     return ["status %s, and not %d" % (done.returncode, BAD_LINE)] if done.returncode != BAD_LINE else []
 
 
@@ -200,7 +197,7 @@ def judge_devices(program, jobs, tally):
     """The devices that can be broken without a library."""
     for line, given, status in jobs:
         words = line.split()
-        done = judging.run(program, words, given)
+        done = program.run(words, given)
         tally.add(line, [("working devices", judging.difference(done, status, done.stdout))])
         tally.add(line, [(name, break_it(program, words, given)) for name, break_it in OUTPUTS])
     for line in dict.fromkeys(line for line, _, _ in jobs):
@@ -211,18 +208,18 @@ def judge_devices(program, jobs, tally):
     tally.add("a refused line", [(to, refused_line(program, to)) for to in ("2>&-", "2> /dev/full", ">&- 2>&-")])
 
 
-def with_calls(program, library, words, given, told):
+def with_calls(program, words, given, told):
     """The answer under the library, which is told so, and its notes of calls that failed or came after such a one."""
-    done, noted = failing.answer(program, library, words, given, told)
+    done, noted = failing.answer(program, words, given, told)
     return done, [word for word, _ in noted if word != "reading"]
 
 
-def failing_in_turn(program, library, words, given, call, told):
+def failing_in_turn(program, words, given, call, told):
     """The answers for each such call that fails, and the notes, up to and without the first run in which none does."""
     found = []
     while True:
         at = str(len(found) + 1)
-        done, noted = with_calls(program, library, words, given, dict(told, FAIL_CALL=call, FAIL_FIRST=at, FAIL_LAST=at))
+        done, noted = with_calls(program, words, given, dict(told, FAIL_CALL=call, FAIL_FIRST=at, FAIL_LAST=at))
         if not noted:
             return found
         found.append((done, noted))
@@ -239,34 +236,34 @@ def judged(call, found, output_before):
     return results or [(call, ["no call came"])]
 
 
-def judge_calls(program, library, line, given, status):
+def judge_calls(program, line, given, status):
     """The results of all calls of this command line and input."""
     words = line.split()
-    whole = judging.run(program, words, given).stdout
-    done, _ = with_calls(program, library, words, given, ONE_BYTE)
+    whole = program.run(words, given).stdout
+    done, _ = with_calls(program, words, given, ONE_BYTE)
     results = [("one byte a call", judging.difference(done, status, whole))]
     if words[0] != "tables":
         for told in ({}, ONE_BYTE):
-            found = failing_in_turn(program, library, words, given, "input", told)
+            found = failing_in_turn(program, words, given, "input", told)
             results += judged("input", found, lambda at: b"")
     for told in (ONE_BYTE, dict(ONE_BYTE, FAIL_EMPTY="")):
-        found = failing_in_turn(program, library, words, given, "output", told)
+        found = failing_in_turn(program, words, given, "output", told)
         results += judged("output byte by byte", found, lambda at: whole[:at - 1])
         results.append(("output byte by byte", [] if len(found) == len(whole) else ["%d calls took it" % len(found)]))
-    found = failing_in_turn(program, library, words, given, "output", {})
+    found = failing_in_turn(program, words, given, "output", {})
     taken = [done.stdout for done, _ in found]
     return results + judged("output", found, lambda at: whole[:len(taken[at - 1])] if at > 1 else b"")
 
 
 def main():
-    program = judging.asked(__doc__, with_part=False).program
+    programs = judging.programs_in(judging.with_programs(__doc__, with_part=False).parse_args())
     tally, calls = judging.Tally(), 0
-    judge_devices(program, JOBS, tally)
-    print("devices broken: %d" % (tally.passed + tally.failed - len(JOBS)))
-    with failing.library(tally) as library, concurrent.futures.ThreadPoolExecutor(WORKERS) as pool:
-        jobs = JOBS if library else []
-        for job, results in zip(jobs, pool.map(lambda job: judge_calls(program, library, *job), jobs)):
-            calls += tally.add(job[0], results)
+    for program in programs:
+        judge_devices(program, JOBS, tally)
+    print("devices broken: %d" % (tally.passed + tally.failed - len(programs) * len(JOBS)))
+    jobs = [(program, *job) for program in programs for job in JOBS] if failing.is_there(tally) else []
+    for job, results in zip(jobs, judging.in_processes(lambda job: judge_calls(*job), jobs, at_once=1)):
+        calls += tally.add(job[1], results)
     print("calls on standard input and output that failed: %d" % calls)
     return tally.end()
 

@@ -1,7 +1,7 @@
 #!/usr/bin/env python3
 """Gives a built program texts that were cut, damaged, or are as great as they can be.
 
-    tests/damage_texts.py PROGRAM
+    tests/damage_texts.py PROGRAM [--also PROGRAM]
 
 Each beginning of a generated test, of a list of choices and of a report is read, with the answer that it must get. In a
 small test, its choices and an order each byte is replaced by each of the 256 in turn: the answer must be of a form that
@@ -9,6 +9,7 @@ the program has, with a name of a refusal and a place that the text has. And the
 under a small stack and within a bound of processor time. All of it also on the split bus, without store buffers, traced
 and searched, where a byte is replaced by one of each kind that a text tells apart. The last line is 'N passed, M failed'.
 """
+import collections
 import re
 import resource
 import sys
@@ -20,7 +21,8 @@ from great_texts import ONE_STORE, great_texts, greatest_test
 from judging import DIVIDER, ENDED, INVALID, REFUSED, UNFINISHED
 from reference import hints, reading
 
-WORKERS = 2
+# So many texts a process takes at once.
+AT_ONCE = 64
 
 RUNS = ["run", "run --bus split", "run --depth 0", "trace --bus split"]
 SEARCHES = ["outcomes"]
@@ -131,26 +133,32 @@ def faults_of_form(line, given, done):
     return ["no such answer is there: " + judging.described(done)]
 
 
-class Cuts:
-    """Beginnings of texts, each with the answer that it must get."""
+def faults_of_cut(line, given, done, refusal):
+    """The faults of the answer to a text that was cut: it must be this refusal; where that is None, the form of any other answer."""
+    if refusal is not None:
+        return judging.difference(done, REFUSED, b"Refused " + refusal + b"\n")
+    if done.returncode == REFUSED:
+        return ["refused: " + judging.shown(done.stdout)]
+    return faults_of_form(line, given, done)
 
-    def __init__(self, program):
-        self.program = program
-        self.statuses = {}
 
-    def answer(self, line, given):
-        done = judging.run(self.program, line.split(), given)
-        self.statuses[done.returncode] = self.statuses.get(done.returncode, 0) + 1
-        return done
+def judge_texts(programs, tally, line, texts, faults_of, what):
+    """Judges the answers to these texts, each a name, an input, and what else `faults_of` takes. Answers how many they were."""
+    def judged(text):
+        name, given, *due = text
+        statuses = []
 
-    def faults(self, line, given, refusal):
-        """The faults of the answer: it must be this refusal; where that is None, the form of any other answer."""
-        done = self.answer(line, given)
-        if refusal is not None:
-            return judging.difference(done, REFUSED, b"Refused " + refusal + b"\n")
-        if done.returncode == REFUSED:
-            return ["refused: " + judging.shown(done.stdout)]
-        return faults_of_form(line, given, done)
+        def judge(program):
+            done = program.run(line.split(), given)
+            statuses.append(done.returncode)
+            return faults_of(line, given, done, *due)
+        return name, judging.faults_on_each(programs, judge), statuses[:1]
+    found = judging.in_processes(judged, texts, AT_ONCE)
+    tally.add(line, [(name, faults) for name, each, _ in found for faults in each])
+    statuses = collections.Counter(status for _, _, first in found for status in first)
+    counts = ", ".join("%d with status %s" % (count, status) for status, count in sorted(statuses.items(), key=str))
+    print("%s: %d %s, answered: %s" % (line, len(found), what, counts), flush=True)
+    return len(found)
 
 
 def test_beginnings():
@@ -194,27 +202,18 @@ def order_beginnings(report):
         yield judging.OWN_STORE_FIRST + DIVIDER + cut, order_refusal(cut)
 
 
-def judge_cuts(program, tally):
+def judge_cuts(programs, tally):
     """Cuts the texts. Answers how many were cut."""
-    cuts, texts = Cuts(program), 0
-    report = cuts.answer("run", judging.OWN_STORE_FIRST + DIVIDER + judging.LOADS_BEFORE_OWN_STORE).stdout
-    faults = [] if judging.OWN_STORE_FIRST_ORDER in report else [judging.shown(report)]
-    tally.add("run", [("the report that is cut", faults)])
-    jobs = [(line, given, refusal) for line in RUNS for beginnings in (test_beginnings(), choice_beginnings())
-            for given, refusal in beginnings]
-    jobs += [(line, given, refusal) for line in SEARCHES for given, refusal in test_beginnings()]
-    jobs += [(line, given, refusal) for line in JUDGES for given, refusal in order_beginnings(report)]
-    for line in RUNS + SEARCHES + JUDGES:
-        mine = [job for job in jobs if job[0] == line]
-        cuts.statuses = {}
-        texts += tally.add(line, [("cut to %d bytes" % len(job[1]), cuts.faults(*job)) for job in mine])
-        print("%s: %s" % (line, told(cuts.statuses, "texts cut")))
-    return texts
-
-
-def told(statuses, what):
-    counts = ", ".join("%d with status %s" % (count, status) for status, count in sorted(statuses.items(), key=str))
-    return "%d %s, answered: %s" % (sum(statuses.values()), what, counts)
+    given = judging.OWN_STORE_FIRST + DIVIDER + judging.LOADS_BEFORE_OWN_STORE
+    reports = [program.run(["run"], given).stdout for program in programs]
+    for report in reports:
+        faults = [] if judging.OWN_STORE_FIRST_ORDER in report and report == reports[0] else [judging.shown(report)]
+        tally.add("run", [("the report that is cut", faults)])
+    beginnings = dict.fromkeys(RUNS, [*test_beginnings(), *choice_beginnings()])
+    beginnings.update(dict.fromkeys(SEARCHES, [*test_beginnings()]))
+    beginnings.update(dict.fromkeys(JUDGES, [*order_beginnings(reports[0])]))
+    return sum(judge_texts(programs, tally, line, [("cut to %d bytes" % len(given), given, refusal) for given, refusal in cut],
+                           faults_of_cut, "texts cut") for line, cut in beginnings.items())
 
 
 def damaged(text, first, others):
@@ -224,23 +223,14 @@ def damaged(text, first, others):
             yield "byte %d in place %d" % (byte, at), text[:at] + bytes([byte]) + text[at + 1:]
 
 
-def judge_damage(program, tally):
+def judge_damage(programs, tally):
     """Damages bytes. Answers how many."""
     whole = SMALL_TEST + DIVIDER + SMALL_CHOICES
     ordered = SMALL_TEST + DIVIDER + SMALL_ORDER
     jobs = [(line, whole, 0, ALL_BYTES if line == "run" else KINDS_OF_BYTES) for line in RUNS + SEARCHES]
     jobs.append(("check", ordered, len(SMALL_TEST + DIVIDER), ALL_BYTES))
-    bytes_damaged = 0
-    for line, text, first, others in jobs:
-        tests = list(damaged(text, first, others))
-        answers = judging.in_threads(lambda test: judging.run(program, line.split(), test[1]), tests, WORKERS)
-        statuses = {}
-        for done in answers:
-            statuses[done.returncode] = statuses.get(done.returncode, 0) + 1
-        results = [(name, faults_of_form(line, given, done)) for (name, given), done in zip(tests, answers)]
-        bytes_damaged += tally.add(line, results)
-        print("%s: %s" % (line, told(statuses, "bytes damaged")), flush=True)
-    return bytes_damaged
+    return sum(judge_texts(programs, tally, line, damaged(text, first, others), faults_of_form, "bytes damaged")
+               for line, text, first, others in jobs)
 
 
 class Limits:
@@ -252,7 +242,7 @@ class Limits:
 
     def answer(self, name, line, given):
         """The answer, and its faults: one that took too long or was ended by a signal."""
-        words = ["sh", "-c", 'ulimit -s %d && exec "$0" "$@"' % STACK, self.program] + line.split()
+        words = ["sh", "-c", 'ulimit -s %d && exec "$0" "$@"' % STACK, self.program.path] + line.split()
         before = resource.getrusage(resource.RUSAGE_CHILDREN)
         done = judging.started(words, given)
         after = resource.getrusage(resource.RUSAGE_CHILDREN)
@@ -317,11 +307,12 @@ def judge_limits(program, tally):
 
 
 def main():
-    program = judging.asked(__doc__, with_part=False).program
+    programs = judging.programs_in(judging.with_programs(__doc__, with_part=False).parse_args())
     tally = judging.Tally()
-    print("texts cut: %d" % judge_cuts(program, tally), flush=True)
-    print("greatest texts: %d" % judge_limits(program, tally), flush=True)
-    print("bytes damaged: %d" % judge_damage(program, tally), flush=True)
+    print("texts cut: %d" % judge_cuts(programs, tally), flush=True)
+    for program in programs:
+        print("greatest texts: %d" % judge_limits(program, tally), flush=True)
+    print("bytes damaged: %d" % judge_damage(programs, tally), flush=True)
     return tally.end()
 
 

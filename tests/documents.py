@@ -154,7 +154,7 @@ def faults_of_named_files(path):
 def faults_of_names():
     """Each name that the program gives a refusal has a heading among the messages."""
     there = headings(os.path.join(TOP, "docs", "MESSAGES.md"))
-    names = re.findall(r'Why::(\w+) =>', content(os.path.join(TOP, "crates", "litmus_reader", "src", "fault.rt")))
+    names = re.findall(r'Why::(\w+) =>', content(os.path.join(TOP, "crates", "litmus_cells", "src", "fault.rt")))
     names += ["BadWord", "NoSuchCore", "TooMany", "NoOrder", "BadLine", "BadCount", "C1", "C2", "C3", "C4", "C5"]
     return ["no heading for " + name for name in sorted(set(names)) if name != "NoMemory" and name.lower() not in there]
 
@@ -260,20 +260,21 @@ def rows_of(program):
     yield "names in the guided reading", faults_of_reading
 
 
-def check(program, part):
+def check(words):
     tally = judging.Tally(shown=100)
-    blocks = judging.in_threads(lambda path: rows_of_blocks(program, path), documents())
-    tally.add("documents", [row for rows in blocks for row in rows if part in row[0]])
-    tally.add("documents", judging.judged(rows_of(program), part))
+    blocks = judging.in_threads(lambda path: rows_of_blocks(words.program, path), documents())
+    tally.add("documents", [row for rows in blocks for row in rows if words.part in row[0]])
+    rows = [row for row in rows_of(words.program) if words.part in row[0]]
+    tally.add("documents", judging.in_threads(lambda row: (row[0], judging.faults_told(row[1])), rows))
     return tally.end()
 
 
-def write(program, part):
+def write(words):
     for path in documents():
-        if part in short(path) and BLOCK.search(content(path)):
-            write_blocks(program, path)
+        if words.part in short(path) and BLOCK.search(content(path)):
+            write_blocks(words.program, path)
     return 0
 
 
 if __name__ == "__main__":
-    sys.exit(judging.check_or_write(__doc__, check, write))
+    sys.exit(judging.check_or_write(judging.with_program(__doc__), check, write))

@@ -1,7 +1,7 @@
 #!/usr/bin/env python3
 """Runs a built program on each machine that its options allow.
 
-    tests/every_machine.py PROGRAM [PART-OF-NAME]
+    tests/every_machine.py PROGRAM [PART-OF-NAME] [--also PROGRAM]
 
 Under each protocol and on both buses: each depth of the store buffers, 0 to 32, with a core that fills its buffer and
 empties it again; and each shape of the caches, 1 to 8 sets, 1 to 8 ways and 1, 2 or 4 words of a line, with three cores that
@@ -67,7 +67,7 @@ def choices_line(depth):
 
 def faults_of_trace(program, test, choices, machine, report):
     """How the trace of the same run isn't this report with a numbered line for each choice that was used in it."""
-    done = judging.run(program, ["trace"] + words_of(*machine)[1:], test + judging.DIVIDER + choices)
+    done = program.run(["trace"] + words_of(*machine)[1:], test + judging.DIVIDER + choices)
     head, _, rest = done.stdout.partition(b"Trace\n")
     lines, _, rest = rest.partition(b"Endtrace ")
     count, _, rest = rest.partition(b"\n")
@@ -81,27 +81,27 @@ def faults_of_trace(program, test, choices, machine, report):
 
 def faults_of(program, test, choices, machine, wanted):
     """How the run on a machine isn't as it must be; `wanted` says it of the lines that it tells on the atomic bus."""
-    done = judging.run(program, words_of(*machine), test + judging.DIVIDER + choices)
+    done = program.run(words_of(*machine), test + judging.DIVIDER + choices)
     if done.returncode != judging.ENDED or done.stderr:
         return ["it doesn't end: " + judging.described(done)]
     faults = [] if machine_line(*machine) in done.stdout else ["it doesn't name its machine: " + judging.shown(done.stdout)]
     if machine[1] == "atomic" and not wanted(told_alike(done.stdout)):
         faults.append("it tells otherwise than it must: " + judging.shown(done.stdout))
     faults += faults_of_trace(program, test, choices, machine, done.stdout)
-    checked = judging.run(program, ["check"], test + judging.DIVIDER + done.stdout)
+    checked = program.run(["check"], test + judging.DIVIDER + done.stdout)
     return faults + judging.difference(checked, judging.ENDED, b"Check valid\n")
 
 
 def rows(program):
     for protocol, bus, depth in itertools.product(PROTOCOLS, BUSES, DEPTHS):
         machine = protocol, bus, depth, DEFAULT_SHAPE
-        yield told(machine), lambda machine=machine: faults_of(
+        yield told(machine), lambda program, machine=machine: faults_of(
             program, FILLING, FILL_AND_EMPTY, machine, lambda lines: choices_line(machine[2]) in lines)
     default = words_of("msi", "atomic", DEFAULT_DEPTH, DEFAULT_SHAPE)
-    same = told_alike(judging.run(program, default, SHARING + judging.DIVIDER + SHARE).stdout)
+    same = told_alike(program.run(default, SHARING + judging.DIVIDER + SHARE).stdout)
     for protocol, bus, shape in itertools.product(PROTOCOLS, BUSES, SHAPES):
         machine = protocol, bus, DEFAULT_DEPTH, shape
-        yield told(machine), lambda machine=machine: faults_of(program, SHARING, SHARE, machine, lambda lines: lines == same)
+        yield told(machine), lambda program, machine=machine: faults_of(program, SHARING, SHARE, machine, lambda lines: lines == same)
 
 
 if __name__ == "__main__":

@@ -1,4 +1,4 @@
-/* Fails calls of the C library by their number. It is preloaded before a program, and told by the environment:
+/* Fails calls of the C library by their number. It is preloaded before a program, behind many_starts.c, and told by the environment:
 
      FAIL_CALL    which calls: memory, input (reads of standard input) or output (writes to standard output)
      FAIL_FIRST   the number of the first of them that fails, from 1; where it isn't there, none does
@@ -28,8 +28,7 @@ static void note(const char *word, long number) {
         syscall(SYS_write, notes, line, length);
 }
 
-/* Runs before the program's own code, but after the loader's: what that asks for isn't counted. */
-__attribute__((constructor)) static void begin(void) {
+static void begin(void) {
     const char *text;
     if ((text = getenv("FAIL_CALL")))
         failing = text;
@@ -42,6 +41,17 @@ __attribute__((constructor)) static void begin(void) {
     empty = getenv("FAIL_EMPTY") != NULL;
     one_byte = getenv("FAIL_SHORT") != NULL;
     ready = 1;
+}
+
+typedef int Main(int, char **, char **);
+typedef void Hook(void);
+typedef int Start(Main *, int, char **, Hook *, Hook *, Hook *, void *);
+
+/* Begins at each start, before the program's own code, but after the loader's: what that asks for isn't counted. */
+int __libc_start_main(Main *main, int count, char **words, Hook *init, Hook *fini, Hook *end, void *stack) {
+    Start *next = (Start *)dlsym(RTLD_NEXT, "__libc_start_main");
+    begin();
+    return next(main, count, words, init, fini, end, stack);
 }
 
 /* Whether this call, of so many bytes, is one that fails. */

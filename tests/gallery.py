@@ -1,7 +1,7 @@
 #!/usr/bin/env python3
 """Holds the gallery of litmus tests, examples/gallery/, against a built program, and makes its page.
 
-    tests/gallery.py PROGRAM [PART-OF-NAME]
+    tests/gallery.py PROGRAM [PART-OF-NAME] [--also PROGRAM]
     tests/gallery.py --write PROGRAM           makes examples/GALLERY.md anew from the tests, and from the program's runs
 
 NAME.litmus is an input of `run`: a test, and choices. Its key lines are the facts: Family, Asks, TSO and SC (allowed or
@@ -21,10 +21,9 @@ against them are
 
 The last line is 'N passed, M failed'.
 """
-import concurrent.futures
+import functools
 import os
 import re
-import subprocess
 import sys
 import urllib.parse
 
@@ -239,6 +238,7 @@ def faults_of_form(piece):
     return faults
 
 
+@functools.cache
 def verdicts_of_reference(test):
     """TSO, SC and the smallest depth that the program has, as the reference finds them."""
     least = flat_machine.least_depth(test)
@@ -246,7 +246,8 @@ def verdicts_of_reference(test):
     return words[least is not None], words[least == 0], None if least is None else str(max(least, 1))
 
 
-def faults_of_verdicts(piece, found):
+def faults_of_verdicts(piece):
+    found = verdicts_of_reference(piece.test)
     said = piece.facts["TSO"], piece.facts["SC"], piece.facts.get("Depth")
     return [] if said == found else ["it says %s, and the reference finds %s" % (said, found)]
 
@@ -271,7 +272,7 @@ def faults_of_outcomes(program, piece):
 
 
 def answer(program, words, text):
-    done = subprocess.run([program] + words, input=text.encode(), capture_output=True, timeout=120)
+    done = program.run(words, text.encode())
     return done.returncode, done.stdout.decode()
 
 
@@ -329,36 +330,33 @@ def faults_of_sweep(program, piece):
     return differs("status of sweep", status, ENDED) + differs("sweep's last line", report.splitlines()[-1:], [observation])
 
 
-def rows_of(program, piece, verdicts):
-    yield "form", lambda: faults_of_form(piece)
-    yield "outcomes", lambda: faults_of_outcomes(program, piece)
-    yield "reference", lambda: faults_of_verdicts(piece, verdicts.result())
-    yield "run", lambda: faults_of_run(program, piece)
+def rows_of(piece):
+    yield "form", lambda program: faults_of_form(piece)
+    yield "outcomes", lambda program: faults_of_outcomes(program, piece)
+    yield "reference", lambda program: faults_of_verdicts(piece)
+    yield "run", lambda program: faults_of_run(program, piece)
     if piece.allowed:
-        yield "witness", lambda: faults_of_witness(program, piece)
+        yield "witness", lambda program: faults_of_witness(program, piece)
     else:
-        yield "order", lambda: faults_of_order(program, piece)
-    yield "sweep", lambda: faults_of_sweep(program, piece)
+        yield "order", lambda program: faults_of_order(program, piece)
+    yield "sweep", lambda program: faults_of_sweep(program, piece)
 
 
-def check(program, part):
-    all_pieces, tally = pieces(), judging.Tally(shown=100)
-    chosen = [piece for piece in all_pieces if part in piece.name]
-    rows = [] if part else [("page", lambda: faults_of_page(program, all_pieces)), ("folder", lambda: faults_of_folder(all_pieces))]
-    with concurrent.futures.ProcessPoolExecutor() as explorers:
-        for piece in chosen:
-            verdicts = explorers.submit(verdicts_of_reference, piece.test)
-            rows += [("%s: %s" % (piece.name, what), judge) for what, judge in rows_of(program, piece, verdicts)]
-        tally.add("gallery", judging.judged(rows))
+def check(words):
+    all_pieces, tally, part = pieces(), judging.Tally(shown=100), words.part
+    rows = [("page", lambda program: faults_of_page(program, all_pieces)), ("folder", lambda program: faults_of_folder(all_pieces))]
+    rows = [] if part else rows
+    rows += [("%s: %s" % (piece.name, what), judge) for piece in all_pieces if part in piece.name for what, judge in rows_of(piece)]
+    tally.add("gallery", judging.judged(rows, judging.programs_in(words)))
     return tally.end()
 
 
-def write(program, _):
-    page = page_of(program, pieces())
+def write(words):
+    page = page_of(judging.Program(words.program), pieces())
     with open(PAGE, "w", encoding="utf-8") as file:
         file.write(page)
     return 0
 
 
 if __name__ == "__main__":
-    sys.exit(judging.check_or_write(__doc__, check, write))
+    sys.exit(judging.check_or_write(judging.with_programs(__doc__), check, write))

@@ -1,7 +1,7 @@
 #!/usr/bin/env python3
 """Holds the hints of a built program, which stand on standard error, against the rows of tests/data/rows/hints.rows.
 
-    tests/hints.py PROGRAM [PART-OF-HINT]
+    tests/hints.py PROGRAM [PART-OF-HINT] [--also PROGRAM]
 
 tests/rows.py says how a row is written; standard error is the hint, and empty where there must be none. Where standard error is closed,
 standard output and the status must be the same. The last line is 'N passed, M failed'.
@@ -15,8 +15,8 @@ import rows
 
 def faults_of(program, row):
     """How the answer to a row's input differs from the row, and the answer where standard error is closed."""
-    faults = judging.difference(judging.run(program, row.words, row.given), row.status, row.output, row.errors)
-    closed = ["sh", "-c", 'exec "$0" "$@" 2>&-', program] + row.words
+    faults = judging.difference(program.run(row.words, row.given), row.status, row.output, row.errors)
+    closed = ["sh", "-c", 'exec "$0" "$@" 2>&-', program.path] + row.words
     return faults + judging.difference(judging.started(closed, row.given), row.status, row.output, b"")
 
 
@@ -24,8 +24,8 @@ def named(row):
     return "%s %s" % (row.name, row.errors.decode().strip())
 
 
-def works(program):
-    return [(named(row), lambda row=row: faults_of(program, row)) for row in rows.read("hints").values()]
+def works(_):
+    return [(named(row), lambda program, row=row: faults_of(program, row)) for row in rows.read("hints").values()]
 
 
 if __name__ == "__main__":

@@ -3,12 +3,15 @@ import argparse
 import concurrent.futures
 import difflib
 import glob
+import multiprocessing
 import os
 import re
 import subprocess
 import sys
 
-TESTS = os.path.dirname(os.path.abspath(__file__))
+import starts
+from starts import PATIENCE, TESTS
+
 TOP = os.path.dirname(TESTS)
 EXAMPLES = os.path.join(TOP, "examples")
 GALLERY = os.path.join(EXAMPLES, "gallery")
@@ -26,9 +29,6 @@ WITH_HINT = (REFUSED, UNFINISHED)
 MISLEADING = (re.compile(rb"^Sweep .*\n(?:State .*\n)*Observation .* Never 0 [1-9][0-9]*\n\Z", re.MULTILINE),)
 
 MEMORY_FAULT, DEVICE_FAULT = b"fault memory\n", b"fault device\n"
-
-# For so many seconds an answer is waited for.
-PATIENCE = 60
 
 LONGEST_INPUT, LONGEST_TEST = 1_048_576, 65_536
 
@@ -65,17 +65,27 @@ def with_program(document, with_part=True):
     return words
 
 
+def add_also(words):
+    """Adds [--also PROGRAM]: further programs, which the same sources make, each judged like the first one."""
+    words.add_argument("--also", metavar="PROGRAM", type=os.path.abspath, action="append", default=[], help="a further program to judge")
+    return words
+
+
+def with_programs(document, with_part=True):
+    """The same with [--also PROGRAM]."""
+    return add_also(with_program(document, with_part))
+
+
 def asked(document, with_part=True):
     """The words PROGRAM [PART-OF-NAME] of a script's command line."""
     return with_program(document, with_part).parse_args()
 
 
-def check_or_write(document, check, write):
+def check_or_write(words, check, write):
     """A script that holds something against a program, or writes it anew where --write is among its words. Answers its status."""
-    words = with_program(document)
     words.add_argument("--write", action="store_true", help="write anew what is held against the program")
     words = words.parse_args()
-    return (write if words.write else check)(words.program, words.part)
+    return (write if words.write else check)(words)
 
 
 def tell(document):
@@ -154,16 +164,40 @@ def in_threads(function, items, workers=None):
         return list(pool.map(function, items))
 
 
-def judged(rows, part=""):
-    """Judges rows, pairs of a name and a function of its faults: those whose name has this part."""
-    return in_threads(lambda row: (row[0], faults_told(row[1])), [row for row in rows if part in row[0]])
+# What the processes of `in_processes` do: a function, and its items.
+_work = []
 
 
-def judge_rows(document, group, rows):
-    """A script whose command line is PROGRAM [PART-OF-NAME] and which judges rows; `rows` answers those of a program."""
-    words = asked(document)
+def _at(number):
+    function, items = _work[-1]
+    return function(items[number])
+
+
+def in_processes(function, items, at_once=16):
+    """The same by forks of this process, each of which takes so many items at once."""
+    items = list(items)
+    starts.library("many_starts")
+    _work.append((function, items))
+    with concurrent.futures.ProcessPoolExecutor(mp_context=multiprocessing.get_context("fork")) as pool:
+        found = list(pool.map(_at, range(len(items)), chunksize=at_once))
+    _work.pop()
+    return found
+
+
+def judged(rows, programs, part="", at_once=16):
+    """Judges rows, pairs of a name and a function of a program's faults: those whose name has this part, on each of these programs."""
+    rows = [row for row in rows if part in row[0]]
+    found = in_processes(lambda row: faults_on_each(programs, row[1]), rows, at_once)
+    return [(name, faults) for (name, _), each in zip(rows, found) for faults in each]
+
+
+def judge_rows(document, group, rows, kind=None, at_once=16):
+    """A script whose command line is PROGRAM [PART-OF-NAME] [--also PROGRAM] and which judges rows; `rows` answers them, and
+    may ask the first program which there are. The programs are of this kind, Program where none is named."""
+    words = with_programs(document).parse_args()
     tally = Tally(shown=100)
-    tally.add(group, judged(rows(words.program), words.part))
+    programs = programs_in(words, kind or Program)
+    tally.add(group, judged(rows(programs[0]), programs, words.part, at_once))
     return tally.end()
 
 
@@ -178,9 +212,71 @@ def started(words, given, **how):
         return subprocess.CompletedProcess(words, "none within %d seconds" % PATIENCE, b"", b"")
 
 
-def run(program, words, given, **how):
-    """The program's answer to this input."""
-    return started([program] + words, given, **how)
+def run(path, words, given):
+    """The answer of the program with this path to this input."""
+    return Program(path).run(words, given)
+
+
+class Program:
+    """A built program."""
+
+    def __init__(self, path):
+        self.path = path
+
+    def run(self, words, given):
+        """Its answer to this input. On its command line it has its own name, whatever its file is called."""
+        if starts.library("many_starts") is None:
+            return started([starts.NAME] + words, given, executable=self.path)
+        return starts.answer(self.path, words, given)[0]
+
+
+class Started(Program):
+    """The same, by a start of its own each time."""
+
+    def run(self, words, given):
+        return started([starts.NAME] + words, given, executable=self.path)
+
+
+class Noted:
+    """The same, with its answers noted. They aren't all that a row goes by where its path was asked for too."""
+
+    def __init__(self, program):
+        self.program, self.answers, self.are_all = program, [], True
+
+    def run(self, words, given):
+        done = self.program.run(words, given)
+        self.answers.append((words, given, done))
+        return done
+
+    @property
+    def path(self):
+        self.are_all = False
+        return self.program.path
+
+    def is_repeated_by(self, other):
+        """Whether another program gives the same answers, byte for byte."""
+        return self.are_all and bool(self.answers) and all(
+            is_same_answer(other.run(words, given), done) for words, given, done in self.answers)
+
+
+def is_same_answer(one, other):
+    return (one.returncode, one.stdout, one.stderr) == (other.returncode, other.stdout, other.stderr)
+
+
+def programs_in(words, kind=Program):
+    """The programs of a command line."""
+    return [kind(path) for path in [words.program, *words.also]]
+
+
+def faults_on_each(programs, judge):
+    """A row's faults on each of these programs. Where the first one has none, another that gives its answers to the same inputs has none
+    either: a row goes by the answers alone. Where it gives others, it is judged by them."""
+    first = Noted(programs[0])
+    found = [faults_told(lambda: judge(first))]
+    for other in programs[1:]:
+        is_judged = not found[0] and first.is_repeated_by(other)
+        found.append([] if is_judged else ["%s: %s" % (other.path, fault) for fault in faults_told(lambda: judge(other))])
+    return found
 
 
 def shown(text):

@@ -1,7 +1,7 @@
 #!/usr/bin/env python3
 """Holds what `outcomes` prints against a plain search of all runs, with no reduction.
 
-    tests/outcomes.py PROGRAM [--tests N] [--seed S]
+    tests/outcomes.py PROGRAM [--tests N] [--seed S] [--also PROGRAM]
 
 The tests are those of the gallery and of the examples, and N (500) made at random from a seed S (1): two to four cores, at most
 twelve instructions together, of all kinds; and half as many more in which some cores have the same program. Of each, at depths 0, 1,
@@ -142,7 +142,7 @@ class Shown:
 
 def faults_of_way(program, given, shown, values, way):
     """How the run under these choices differs from one that ends in these values, none stalled and none left over."""
-    done = judging.run(program, ["run", "--depth", str(shown.depth)], given + judging.DIVIDER + way.encode())
+    done = program.run(["run", "--depth", str(shown.depth)], given + judging.DIVIDER + way.encode())
     report = done.stdout.decode("latin-1")
     words = dict(re.findall(r" (\w+)=(\d+)", re.search(r"^Memory(.*)$", report, re.M).group(1))) if done.returncode == 0 else {}
     for core, line in re.findall(r"^Registers P(\d)(.*)$", report, re.M):
@@ -158,7 +158,7 @@ def faults_at(program, given, depth):
     test = reading.read_test(given)
     shown = Shown(test, depth)
     words = ["outcomes", "--depth", str(depth)]
-    plain, as_json = judging.run(program, words, given), judging.run(program, words + ["--json"], given)
+    plain, as_json = program.run(words, given), program.run(words + ["--json"], given)
     text = plain.stdout.decode("latin-1")
     ways = re.findall(r"^By ?(.*)$", text, re.M)
     if plain.returncode != 0 or text != shown.text(ways) or len(ways) != len(shown.states):
@@ -225,14 +225,14 @@ def tests(count, seed):
 
 
 def main():
-    parser = judging.with_program(__doc__, with_part=False)
+    parser = judging.with_programs(__doc__, with_part=False)
     parser.add_argument("--tests", type=int, default=500)
     parser.add_argument("--seed", type=int, default=1)
     asked = parser.parse_args()
-    jobs = [(name, given, depth) for name, given in tests(asked.tests, asked.seed) for depth in DEPTHS]
-    found = judging.in_threads(lambda job: faults_at(asked.program, job[1], job[2]), jobs)
+    rows = [("%s, depth %d" % (name, depth), lambda program, given=given, depth=depth: faults_at(program, given, depth))
+            for name, given in tests(asked.tests, asked.seed) for depth in DEPTHS]
     tally = judging.Tally()
-    tally.add("outcomes", [("%s, depth %d" % (name, depth), faults) for (name, _, depth), faults in zip(jobs, found)])
+    tally.add("outcomes", judging.judged(rows, judging.programs_in(asked)))
     return tally.end()
 
 

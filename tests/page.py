@@ -15,10 +15,7 @@ the page in a browser. The last line is 'N passed, M failed'.
 """
 import argparse
 import base64
-import concurrent.futures
 import gzip
-import importlib.machinery
-import importlib.util
 import json
 import os
 import queue
@@ -31,6 +28,7 @@ import tempfile
 sys.dont_write_bytecode = True
 import judging
 import made_inputs
+import run_rows
 
 TESTS = os.path.dirname(os.path.abspath(__file__))
 TOP = os.path.dirname(TESTS)
@@ -125,18 +123,17 @@ def faults_of_script(script):
 
 
 class Served:
-    """Answers calls of the page's program, in the place of the module subprocess, by processes of Node that go on."""
-    TimeoutExpired = subprocess.TimeoutExpired
+    """The page's program, by processes of Node that go on."""
 
     def __init__(self, count):
         self.free = queue.Queue()
         for _ in range(count):
             self.free.put(subprocess.Popen([PAGE_PROGRAM, "--serve"], stdin=subprocess.PIPE, stdout=subprocess.PIPE))
 
-    def run(self, words, input=b"", **_):
+    def run(self, words, given):
         server = self.free.get()
         try:
-            call = {"words": words[1:], "input": base64.b64encode(input or b"").decode()}
+            call = {"words": words, "input": base64.b64encode(given).decode()}
             server.stdin.write(json.dumps(call).encode() + b"\n")
             server.stdin.flush()
             answer = json.loads(server.stdout.readline())
@@ -151,33 +148,25 @@ class Served:
             server.wait()
 
 
-def run_rows():
-    loader = importlib.machinery.SourceFileLoader("run_rows", os.path.join(TESTS, "run_rows.py"))
-    module = importlib.util.module_from_spec(importlib.util.spec_from_loader("run_rows", loader))
-    loader.exec_module(module)
-    return module
-
-
-def row_works(rows):
-    """The rows, but for those of the command line itself, as pairs of a name and a function of its faults."""
-    return rows.works(PAGE_PROGRAM, lambda row: row.status != judging.BAD_LINE)
+def row_works(served):
+    """The rows, but for those of the command line itself, as pairs of a name and a function of a program's faults."""
+    return run_rows.works(served, lambda row: row.status != judging.BAD_LINE)
 
 
 def faults_of_input(program, served, made):
     wanted = judging.run(program, made.words, made.given)
     if wanted.returncode == judging.BAD_LINE:
         return []
-    return judging.difference(served.run([PAGE_PROGRAM, *made.words], made.given), wanted.returncode, wanted.stdout, wanted.stderr)
+    return judging.difference(served.run(made.words, made.given), wanted.returncode, wanted.stdout, wanted.stderr)
 
 
-def input_works(program, served, count):
+def input_works(program, count):
     made = [(number, made_inputs.made(SEED, number)) for number in range(count)]
-    return [("input %d of seed %d" % (number, SEED), lambda each=each: faults_of_input(program, served, each)) for number, each in made]
+    return [("input %d of seed %d" % (number, SEED), lambda served, each=each: faults_of_input(program, served, each)) for number, each in made]
 
 
-def judged(works):
-    with concurrent.futures.ThreadPoolExecutor(os.cpu_count()) as pool:
-        return list(pool.map(lambda work: (work[0], work[1]()), works))
+def judged(works, served):
+    return judging.in_threads(lambda work: (work[0], work[1](served)), works)
 
 
 def faults_of_second_module():
@@ -216,10 +205,9 @@ def main():
         return tally.end()
     script = script_of(TOP)
     tally.add("view/", [("module.js of this module", faults_of_script(script)), ("its size with the module", faults_of_size(script))])
-    served, rows = Served(os.cpu_count()), run_rows()
-    rows.subprocess = served
-    tally.add("rows", judged(row_works(rows)))
-    tally.add("made inputs", judged(input_works(os.path.abspath(given.program), served, given.inputs)))
+    served = Served(os.cpu_count())
+    tally.add("rows", judged(row_works(served), served))
+    tally.add("made inputs", judged(input_works(os.path.abspath(given.program), given.inputs), served))
     served.end()
     if given.twice:
         tally.add("the module", [("made in another folder", faults_of_second_module())])

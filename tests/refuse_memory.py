@@ -1,7 +1,7 @@
 #!/usr/bin/env python3
 """Refuses a built program its requests for memory, one after the other.
 
-    tests/refuse_memory.py PROGRAM
+    tests/refuse_memory.py PROGRAM [--also PROGRAM]
 
 For each command line and input below, the Nth request is refused, for N = 1, 2, .. until a run has none refused: first
 that request alone, then all from it on. Where the parser of the command line is refused, the status is 2. Before it, while
@@ -17,15 +17,12 @@ it, or for keeping the input of which it is made.
 The requests are refused by a small library, tests/failing_calls.c, which is built with the C compiler and preloaded; without
 a C compiler nothing is judged, and that counts as a failure. The last line is 'N passed, M failed'.
 """
-import concurrent.futures
 import sys
 
 sys.dont_write_bytecode = True
 import failing
 import judging
 from judging import BAD_LINE, DIVIDER, ENDED, FAULT, INVALID, MEMORY_FAULT, REFUSED, UNFINISHED
-
-WORKERS = 2
 
 EVERY_FORM = (b"(* a comment *) X86 every-form\n\"a quotation\" Key=value\n{ x=1; [y]=2; 0:EAX=3; }\n"
               b" P0          | P1               ;\n"
@@ -88,18 +85,18 @@ class Answer:
         self.next_request = next((number for word, number in notes if word == "again"), None)
 
 
-def answer(program, library, words, given, first, last):
+def answer(program, words, given, first, last):
     """The answer where the requests from the first to the last are refused; a first of 0 is none, a last of 0 no end."""
     told = {"FAIL_CALL": "memory", "FAIL_FIRST": str(first), "FAIL_LAST": str(last)}
-    return Answer(*failing.answer(program, library, words, given, told))
+    return Answer(*failing.answer(program, words, given, told))
 
 
-def answers_until_none_is_refused(program, library, words, given, alone):
+def answers_until_none_is_refused(program, words, given, alone):
     """The answers for N = 1, 2, .., up to and without the first run that has no request refused."""
     found = []
     while True:
         at = len(found) + 1
-        one = answer(program, library, words, given, at, at if alone else 0)
+        one = answer(program, words, given, at, at if alone else 0)
         if not one.refused:
             return found
         found.append(one)
@@ -143,28 +140,27 @@ def judged(found, ample, alone):
     return results
 
 
-def judge_job(program, library, line, given, status):
+def judge_job(program, line, given, status):
     """The results of all requests of this command line and input, and how many were granted at the next request."""
     words = line.split()
-    undisturbed = judging.run(program, words, given)
-    ample = answer(program, library, words, given, 0, 0)
+    undisturbed = program.run(words, given)
+    ample = answer(program, words, given, 0, 0)
     faults = judging.difference(ample.done, status, undisturbed.stdout)
     results, granted = [("ample memory", faults)], 0
     for alone in (True, False):
-        found = answers_until_none_is_refused(program, library, words, given, alone)
+        found = answers_until_none_is_refused(program, words, given, alone)
         results += judged(found, ample, alone)
         granted += sum(is_whole(one, ample, alone) for one in found)
     return results, granted
 
 
 def main():
-    program = judging.asked(__doc__, with_part=False).program
+    programs = judging.programs_in(judging.with_programs(__doc__, with_part=False).parse_args())
     tally, requests, granted = judging.Tally(), 0, 0
-    with failing.library(tally) as library, concurrent.futures.ThreadPoolExecutor(WORKERS) as pool:
-        jobs = JOBS if library else []
-        for job, (results, again) in zip(jobs, pool.map(lambda job: judge_job(program, library, *job), jobs)):
-            requests += tally.add(job[0], results) - 1
-            granted += again
+    jobs = [(program, *job) for program in programs for job in JOBS] if failing.is_there(tally) else []
+    for job, (results, again) in zip(jobs, judging.in_processes(lambda job: judge_job(*job), jobs, at_once=1)):
+        requests += tally.add(job[1], results) - 1
+        granted += again
     print("requests for memory refused: %d, of which %d were made again at once and granted" % (requests, granted))
     return tally.end()
 

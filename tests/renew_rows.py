@@ -13,7 +13,6 @@ import sys
 sys.dont_write_bytecode = True
 import judging
 import rows
-import run_rows
 
 
 def changes(row, done):
@@ -25,7 +24,8 @@ def changes(row, done):
 def main():
     asked = judging.asked(__doc__)
     named = [row for name, row in rows.all_rows().items() if asked.part in name and not row.value("beginnings")]
-    answers = judging.in_threads(lambda row: run_rows.answer(asked.program, row.words, row.given), named)
+    program = judging.Started(asked.program)
+    answers = judging.in_threads(lambda row: program.run(row.words, row.given), named)
     same = [(row, done) for row, done in zip(named, answers) if done.returncode == row.status]
     for row, done in zip(named, answers):
         if done.returncode != row.status:

@@ -1,7 +1,7 @@
 #!/usr/bin/env python3
 """Holds a built program against the rows of tests/data/rows/.
 
-    tests/run_rows.py PROGRAM [PART-OF-NAME]
+    tests/run_rows.py PROGRAM [PART-OF-NAME] [--also PROGRAM]
 
 A row is a command line with its standard input, and what the answer must be: tests/rows.py says how it is written. The rows of hints
 are held by tests/hints.py.
@@ -17,7 +17,6 @@ Last come files of rows that aren't in the form: each is refused with its line a
 The last line is 'N passed, M failed'.
 """
 import re
-import subprocess
 import sys
 
 sys.dont_write_bytecode = True
@@ -29,16 +28,8 @@ from judging import DIVIDER, ENDED, EXAMPLES, PROTOCOLS, REFUSED, UNFINISHED
 SHAPES = (["--sets", "1", "--ways", "1"], ["--sets", "2", "--ways", "2"], ["--ways", "2", "--words", "4"])
 SEED = b" seed 1 5000\n"
 
-# For so many seconds an answer is waited for.
-PATIENCE = 120
-
 # Rows that have a script of their own.
 OTHERS = ("hints",)
-
-
-def answer(program, words, given):
-    """The program's answer. Help names the program by its own word, whatever the file that was built is called."""
-    return subprocess.run(["tso"] + words, executable=program, input=given, capture_output=True, timeout=PATIENCE)
 
 
 def faults_of_errors(wanted, got):
@@ -49,7 +40,7 @@ def faults_of_errors(wanted, got):
 
 
 def faults_of_answer(done, row):
-    faults = ["status %d, and not %d" % (done.returncode, row.status)] if done.returncode != row.status else []
+    faults = ["status %s, and not %d" % (done.returncode, row.status)] if done.returncode != row.status else []
     return faults + judging.lines_that_differ(row.output, done.stdout) + faults_of_errors(row.errors, done.stderr)
 
 
@@ -57,7 +48,7 @@ def faults_of_beginnings(program, row):
     """How the answers to the beginnings of a text differ from the row: which refuses each, or that none does."""
     faults = []
     for given, refusal in row.beginnings():
-        done = answer(program, row.words, given)
+        done = program.run(row.words, given)
         wanted = (REFUSED,) if refusal else (ENDED, UNFINISHED)
         if done.returncode not in wanted or refusal and (done.stdout != refusal or faults_of_errors(row.errors, done.stderr)):
             faults.append("%d bytes: %s" % (len(given), judging.described(done)))
@@ -67,16 +58,17 @@ def faults_of_beginnings(program, row):
 def faults_of(program, row):
     if row.value("beginnings"):
         return faults_of_beginnings(program, row)
-    return faults_of_answer(answer(program, row.words, row.given), row)
+    return faults_of_answer(program.run(row.words, row.given), row)
 
 
 def order_in(report):
     return re.search(rb"^Order\n.*^Endorder [0-9]+$", report, re.MULTILINE | re.DOTALL).group()
 
 
-def faults_of_round_trip(program, test, report, protocol):
-    found = answer(program, ["witness"], test + DIVIDER + report)
-    again = answer(program, ["run", "--protocol", protocol], test + DIVIDER + found.stdout)
+def faults_of_round_trip(program, test, choices, protocol):
+    report = program.run(["run"], test + DIVIDER + choices).stdout
+    found = program.run(["witness"], test + DIVIDER + report)
+    again = program.run(["run", "--protocol", protocol], test + DIVIDER + found.stdout)
     if found.returncode != ENDED or again.returncode != ENDED:
         return ["no choices were found, or they don't end the test"]
     faults = judging.lines_that_differ(order_in(report), order_in(again.stdout))
@@ -87,34 +79,38 @@ def faults_of_round_trip(program, test, report, protocol):
 
 def round_trips(program):
     for name, test, choices in judging.tests_in(EXAMPLES):
-        done = answer(program, ["run"], test + DIVIDER + choices)
-        for protocol in PROTOCOLS if done.returncode == ENDED else ():
+        ends = program.run(["run"], test + DIVIDER + choices).returncode == ENDED
+        for protocol in PROTOCOLS if ends else ():
             yield ("round trip of %s under %s" % (name, protocol),
-                   lambda test=test, done=done, protocol=protocol: faults_of_round_trip(program, test, done.stdout, protocol))
+                   lambda program, test=test, choices=choices, protocol=protocol: faults_of_round_trip(program, test, choices, protocol))
 
 
 def faults_of_split_run(program, test, choices, words):
-    done = answer(program, ["run", "--bus", "split"] + words, test + DIVIDER + choices + SEED)
+    done = program.run(["run", "--bus", "split"] + words, test + DIVIDER + choices + SEED)
     if done.returncode != ENDED:
         return ["the run doesn't end"]
     if b" bus=split\n" not in done.stdout:
         return ["the machine's line doesn't name the bus"]
-    checked = answer(program, ["check"], test + DIVIDER + done.stdout)
+    checked = program.run(["check"], test + DIVIDER + done.stdout)
     return judging.lines_that_differ(b"Check valid\n", checked.stdout)
 
 
-def split_runs(program):
+def split_runs():
     return [("%s on the split bus, %s" % (name, " ".join(words)),
-             lambda test=test, choices=choices, words=words: faults_of_split_run(program, test, choices, words))
+             lambda program, test=test, choices=choices, words=words: faults_of_split_run(program, test, choices, words))
             for name, test, choices in judging.tests_in(EXAMPLES)
             for words in (["--protocol", protocol] + shape for protocol in PROTOCOLS for shape in SHAPES)]
 
 
 def works(program, wanted=lambda row: True):
-    """What is judged, as pairs of a name and a function of its faults: those of the rows that are wanted, round trips, split runs."""
+    """What is judged, as pairs of a name and a function of a program's faults: those of the rows that are wanted, round trips, split runs."""
     kept = [row for row in rows.all_rows(without=OTHERS).values() if wanted(row)]
-    return [*((row.name, lambda row=row: faults_of(program, row)) for row in kept), *round_trips(program), *split_runs(program)]
+    return [*((row.name, lambda program, row=row: faults_of(program, row)) for row in kept), *round_trips(program), *split_runs()]
+
+
+def form_works():
+    return [(name, lambda _, judge=judge: judge()) for name, judge in row_forms.works()]
 
 
 if __name__ == "__main__":
-    sys.exit(judging.judge_rows(__doc__, "rows", lambda program: works(program) + list(row_forms.works())))
+    sys.exit(judging.judge_rows(__doc__, "rows", lambda program: works(program) + form_works(), kind=judging.Started))

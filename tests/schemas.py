@@ -40,11 +40,17 @@ class Schema:
     def __init__(self, path):
         with open(path, encoding="utf-8") as file:
             self.whole = json.load(file)
+        # Objects and lists of the last value whose faults were asked for, each with a schema that it fits.
+        self.fitting, self.learns = set(), False
 
     def faults(self, value):
-        return list(self.faults_at("", self.whole, value))
+        self.fitting, self.learns = set(), True
+        found = list(self.faults_at("", self.whole, value))
+        self.learns = False
+        return found
 
     def fits(self, value):
+        """Whether it fits. What it shares with the last value whose faults were asked for isn't looked through again."""
         return self.fits_at("", self.whole, value)
 
     def fits_at(self, place, schema, value):
@@ -52,9 +58,16 @@ class Schema:
         return next(self.faults_at(place, schema, value), None) is None
 
     def faults_at(self, place, schema, value):
+        pair, fits = (id(schema), id(value)), True
+        if pair in self.fitting:
+            return
         for word, asked in schema.items():
             if word not in NOTES:
-                yield from getattr(self, "word_" + word.lstrip("$"))(place, schema, asked, value)
+                for fault in getattr(self, "word_" + word.lstrip("$"))(place, schema, asked, value):
+                    fits = False
+                    yield fault
+        if fits and self.learns and isinstance(value, (dict, list)):
+            self.fitting.add(pair)
 
     def word_ref(self, place, schema, asked, value):
         yield from self.faults_at(place, self.whole["$defs"][asked.rsplit("/", 1)[1]], value)

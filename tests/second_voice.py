@@ -1,7 +1,7 @@
 #!/usr/bin/env python3
 """Holds a built program against a second one in plain Python, tests/reference, on inputs made at random.
 
-    tests/second_voice.py PROGRAM [--inputs N] [--seed S]
+    tests/second_voice.py PROGRAM [--inputs N] [--seed S] [--also PROGRAM]
     tests/second_voice.py --print NUMBER [--seed S]
 
 Each of N inputs, which are made from the seed S, has the same standard output and exit status from both, byte for byte, and
@@ -13,7 +13,6 @@ With --print no program is asked: the command line of the input with this number
 line is 'N passed, M failed'.
 """
 import collections
-import multiprocessing
 import os
 import sys
 
@@ -35,7 +34,7 @@ PUBLISHED = (0xA15C02B7, 0x7B47F409, 0xBA1D3330, 0x83D2F293, 0xBFA4784B, 0xCBED6
 def faults_of(program, made):
     """How the program's answer differs from the reference's; of outputs that are alike for long, also where they begin to differ."""
     wanted = commands.answer(made.words, made.given)
-    done = judging.run(program, made.words, made.given)
+    done = program.run(made.words, made.given)
     unknown = wanted.status == commands.BAD_LINE and wanted.errors is None
     faults = judging.difference(done, wanted.status, wanted.output, done.stderr if unknown else wanted.errors)
     if unknown and not done.stderr:
@@ -47,28 +46,20 @@ def faults_of(program, made):
     return faults
 
 
-def judged(work):
-    """The faults of some inputs, each with the input's number and kind; and what came up in answering them."""
-    program, seed, numbers = work
-    results, counts = [], collections.Counter()
-    for number in numbers:
-        made = made_inputs.made(seed, number)
-        seen.taken()
-        faults = faults_of(program, made)
-        counts += seen.taken()
-        results.append((made.kind, "input %d of seed %d, words %s" % (number, seed, made.words), faults))
-    return results, counts
+def judged(programs, seed, number):
+    """Of the input with this number its kind, its name, its faults on each program, and what came up in answering it."""
+    made = made_inputs.made(seed, number)
+    seen.taken()
+    found = judging.faults_on_each(programs, lambda program: faults_of(program, made))
+    return made.kind, "input %d of seed %d, words %s" % (number, seed, made.words), found, seen.taken()
 
 
-def judge_inputs(program, seed, inputs, tally):
+def judge_inputs(programs, seed, inputs, tally):
     """Judges so many inputs; answers what came up."""
-    works = [(program, seed, range(at, min(at + AT_ONCE, inputs))) for at in range(0, inputs, AT_ONCE)]
     counts, groups = collections.Counter(), collections.defaultdict(list)
-    with multiprocessing.Pool(os.cpu_count()) as pool:
-        for results, more in pool.imap(judged, works):
-            counts += more
-            for kind, name, faults in results:
-                groups[kind].append((name, faults))
+    for kind, name, found, more in judging.in_processes(lambda number: judged(programs, seed, number), range(inputs), AT_ONCE):
+        counts += more
+        groups[kind] += [(name, faults) for faults in found]
     for kind, results in groups.items():
         tally.add(kind, results)
     return counts
@@ -94,7 +85,8 @@ def print_input(seed, number):
 
 def arguments():
     parser = judging.parser(__doc__)
-    parser.add_argument("program", nargs="?")
+    parser.add_argument("program", nargs="?", type=os.path.abspath)
+    judging.add_also(parser)
     parser.add_argument("--inputs", type=int, default=INPUTS)
     parser.add_argument("--seed", type=int, default=SEED)
     parser.add_argument("--print", type=int, metavar="NUMBER", dest="printed")
@@ -111,7 +103,7 @@ def main():
         return 0
     tally = judging.Tally()
     tally.add("the reference", [("the generator PCG32", faults_of_generator())])
-    counts = judge_inputs(os.path.abspath(given.program), given.seed, given.inputs, tally)
+    counts = judge_inputs(judging.programs_in(given), given.seed, given.inputs, tally)
     print("%d inputs from the seed %d" % (given.inputs, given.seed), flush=True)
     if given.inputs >= INPUTS:
         judge_names(counts, tally)

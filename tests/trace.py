@@ -1,7 +1,7 @@
 #!/usr/bin/env python3
 """Holds what `trace` prints against `run`, and follows its lines on a board of buffers, lines and memory.
 
-    tests/trace.py PROGRAM [PART-OF-NAME]
+    tests/trace.py PROGRAM [PART-OF-NAME] [--also PROGRAM]
 
 Each example, with its own choices and with `seed 1 1000` after them, each test of the gallery with that seed after its choices, and
 one with an instruction of each kind; under four protocols, in three shapes of the caches, on both buses, with buffers of depth 0, 1 and 4:
@@ -17,17 +17,15 @@ Each outcome, stall, access, request and change of a state has to come up. The l
 """
 import collections
 import itertools
-import multiprocessing
 import os
 import re
 import sys
-import tempfile
 
 sys.dont_write_bytecode = True
 
 import judging
 import trace_board
-from judging import BUSES, PROTOCOLS
+from judging import BUSES, ENDED, PROTOCOLS, UNFINISHED
 from reference import choices, reading
 
 SHAPES = ((1, 1, 1), (2, 1, 2), (1, 2, 4))
@@ -55,12 +53,6 @@ COUNTS = ("hits", "misses", "upgrades", "forwards", "write_backs", "flushes")
 # The first two lines, the lines of the choices, their count, and the rest of the report.
 FORM = re.compile(r"(Test [^\n]*\nMachine [^\n]*\n)Trace\n((?:\d[^\n]*\n)*)Endtrace (\d+)\n((?:Order|Unfinished )[^\f]*)")
 
-# A shell makes the answers of one input on all machines: a process for each is the most of the time.
-ANSWERS = """while read words; do
-    "$0" trace $words < "$1" 2> /dev/null; printf '\\n%d\\n\\f' $?
-    "$0" run $words < "$1" 2> /dev/null; printf '\\n%d\\n\\f' $?
-done"""
-
 MUST_COME_UP = {
     "outcomes": ["buffered", "committed", "moved", "asked"],
     "stalls": ["Done", "Full", "Fence", "Lock", "Empty", "Bus"],
@@ -73,6 +65,12 @@ def words_of(protocol, shape, bus, depth):
     return "--protocol %s --sets %d --ways %d --words %d --bus %s --depth %d" % ((protocol,) + shape + (bus, depth))
 
 
+def answer(program, command, machine, given):
+    """The answer of `trace` or of `run`: status and output."""
+    done = program.run([command] + words_of(*machine).split(), given)
+    return done.returncode, done.stdout.decode()
+
+
 def inputs():
     """Names and inputs."""
     yield "every kind of instruction", EVERY_KIND + judging.DIVIDER + SEED
@@ -81,19 +79,6 @@ def inputs():
             yield name, given
         divider = b"" if re.search(rb"^====$", given, re.M) else judging.DIVIDER
         yield name + " and a seed", given + divider + SEED
-
-
-def answers(program, given):
-    """Of each machine the answers of `trace` and of `run`: status and output."""
-    with tempfile.NamedTemporaryFile() as file:
-        file.write(given)
-        file.flush()
-        for _, machines in itertools.groupby(MACHINES, lambda machine: machine[:2]):
-            machines = list(machines)
-            lines = "".join(words_of(*machine) + "\n" for machine in machines)
-            done = judging.started(["sh", "-c", ANSWERS, program, file.name], lines.encode())
-            told = [re.fullmatch(r"(.*)\n(\d+)\n", text, re.S).group(2, 1) for text in done.stdout.decode().split("\f")[:-1]]
-            yield from zip(machines, told[::2], told[1::2])
 
 
 def counts_in(lines, cores):
@@ -137,10 +122,10 @@ def faults_of(test, made, table, machine, traced, run):
     """How a trace isn't as it must be."""
     _, (sets, ways, words), bus, depth = machine
     found = FORM.fullmatch(traced[1])
-    if found is None or traced[0] not in ("0", "3"):
+    if found is None or traced[0] not in (ENDED, UNFINISHED):
         return ["status %s, %s" % (traced[0], judging.shown(traced[1]))]
     head, lines, count, rest = found[1], found[2].splitlines(), int(found[3]), found[4]
-    if run != (traced[0], (head if traced[0] == "0" else "") + rest):
+    if run != (traced[0], (head if traced[0] == ENDED else "") + rest):
         return ["run has status %s, and another report" % run[0]]
     board = trace_board.Board(test, table, depth, sets, ways, words, bus)
     faults = follow(board, made, lines)
@@ -148,37 +133,37 @@ def faults_of(test, made, table, machine, traced, run):
         return faults
     if not len(lines) == board.number == count:
         return ["%d lines for %d choices, and Endtrace %d" % (len(lines), len(made), count)]
-    if traced[0] == "0":
+    if traced[0] == ENDED:
         return faults_of_end(board, rest, lines, len(made)) if board.has_ended() else ["it stops before the test ends"]
     unfinished = "Unfinished used=%d stalled=%d\n" % (len(made), board.stalled)
     return [] if rest == unfinished and not board.has_ended() else ["%r after %d lines" % (rest, count)]
 
 
-def judged(work):
-    """The faults of each machine, and what came up."""
-    program, tables, name, given = work
+def judged(programs, tables, name, given):
+    """The faults on each machine of each program, and what came up."""
     test_text, _, choice_text = given.partition(judging.DIVIDER)
     test = reading.read_test(test_text)
     made = list(choices.read_choices(choice_text, test.cores()))
-    results, came_up = [], collections.Counter()
-    for machine, traced, run in answers(program, given):
-        results.append(("%s, %s" % (name, words_of(*machine)), faults_of(test, made, tables[machine[0]], machine, traced, run)))
+    came_up = collections.Counter()
+
+    def faults_on(machine, program):
+        traced, run = (answer(program, command, machine, given) for command in ("trace", "run"))
         came_up.update(traced[1].partition("\nTrace\n")[2].split())
-    if len(results) != len(MACHINES):
-        results.append((name, ["%d machines answered" % len(results)]))
+        return faults_of(test, made, tables[machine[0]], machine, traced, run)
+    results = [("%s, %s" % (name, words_of(*machine)), faults) for machine in MACHINES
+               for faults in judging.faults_on_each(programs, lambda program: faults_on(machine, program))]
     return results, came_up
 
 
 def main():
-    asked = judging.asked(__doc__)
-    program, part = asked.program, asked.part
-    tables = {name: trace_board.Table(judging.run(program, ["tables", "--protocol", name], b"").stdout.decode()) for name in PROTOCOLS}
-    works = [(program, tables, name, given) for name, given in inputs() if part in name]
+    asked = judging.with_programs(__doc__).parse_args()
+    programs, part = judging.programs_in(asked), asked.part
+    tables = {name: trace_board.Table(programs[0].run(["tables", "--protocol", name], b"").stdout.decode()) for name in PROTOCOLS}
+    works = [(name, given) for name, given in inputs() if part in name]
     tally, came_up = judging.Tally(), collections.Counter()
-    with multiprocessing.Pool(os.cpu_count()) as pool:
-        for results, more in pool.imap(judged, works):
-            came_up.update(more)
-            tally.add("trace", results)
+    for results, more in judging.in_processes(lambda work: judged(programs, tables, *work), works, at_once=1):
+        came_up.update(more)
+        tally.add("trace", results)
     if not part:
         for kind, names in MUST_COME_UP.items():
             print("%s: %s" % (kind, ", ".join("%s %d" % (name, came_up[name]) for name in names)))

@@ -1,7 +1,7 @@
 #!/usr/bin/env python3
 """Holds a machine without store buffers against sequential consistency.
 
-    tests/unbuffered.py PROGRAM [PART-OF-NAME]
+    tests/unbuffered.py PROGRAM [PART-OF-NAME] [--also PROGRAM]
 
 Of each example, on the atomic bus and on the split one: `sweep --depth 0` over 1,000 seeds, and `run --depth 0` under the
 choices of each of these seeds. Every printed order keeps program order, without exception, and the final states of these
@@ -25,12 +25,12 @@ SEEDS, LENGTH = 1000, 1000
 
 def sweep(program, bus, test):
     words = ["sweep", "--depth", "0", "--bus", bus, "--seeds", str(SEEDS), "--length", str(LENGTH)]
-    return judging.run(program, words, test).stdout.decode()
+    return program.run(words, test).stdout.decode()
 
 
 def report_of(program, bus, test, seed):
     choices = b"seed %d %d\n" % (seed, LENGTH)
-    return judging.run(program, ["run", "--depth", "0", "--bus", bus], test + judging.DIVIDER + choices).stdout.decode()
+    return program.run(["run", "--depth", "0", "--bus", bus], test + judging.DIVIDER + choices).stdout.decode()
 
 
 def entry_out_of_place(report):
@@ -80,15 +80,15 @@ def faults_of_outcome(program, bus, test):
     return [] if last and re.search(r" Never 0 %d$" % SEEDS, last[0]) else ["the sweep's last line is %s" % last]
 
 
-def rows(program):
+def rows(_):
     for name, test, _ in judging.tests_in(EXAMPLES):
         for bus in BUSES:
-            yield "%s, %s bus" % (name, bus), lambda bus=bus, test=test: faults_of_seeds(program, bus, test)
+            yield "%s, %s bus" % (name, bus), lambda program, bus=bus, test=test: faults_of_seeds(program, bus, test)
     for name, test, _ in judging.tests_in(GALLERY):
         if b"\nSC=forbidden\n" in test:
             for bus in BUSES:
-                yield "%s, %s bus" % (name, bus), lambda bus=bus, test=test: faults_of_outcome(program, bus, test)
+                yield "%s, %s bus" % (name, bus), lambda program, bus=bus, test=test: faults_of_outcome(program, bus, test)
 
 
 if __name__ == "__main__":
-    sys.exit(judging.judge_rows(__doc__, "unbuffered", rows))
+    sys.exit(judging.judge_rows(__doc__, "unbuffered", rows, at_once=1))
