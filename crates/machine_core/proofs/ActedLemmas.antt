@@ -27,7 +27,7 @@ use Rattle.basic_laws.proofs.WithPending.{drain_with}
 use Rattle.snoop_bus.specs.declared.access.Access as bus_access
 
 -- only a load and a store are ever completed
-whole-by : (way : Way) (b : BusModel) (core : Core) (what : MemoryAccess) → (HasAsked b core what → ⊥) → MayMakeBy way b core what → way ≡ Whole
+pub whole-by : (way : Way) (b : BusModel) (core : Core) (what : MemoryAccess) → (HasAsked b core what → ⊥) → MayMakeBy way b core what → way ≡ Whole
 whole-by Whole b core what never may = refl
 whole-by Asked b core what never may = absurd (never may)
 

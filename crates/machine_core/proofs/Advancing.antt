@@ -53,7 +53,7 @@ asks-nothing c core (Writes loc) = refl
 asks-nothing c core (Locks loc) = refl
 
 -- the same choice
-same-is : (a b : Choice) → same_choice a b ≡ true → a ≡ b
+pub same-is : (a b : Choice) → same_choice a b ≡ true → a ≡ b
 same-is (Step m) (Step n) h = ap (λ core. Step (record { 0 = core })) (let z : m.0 ≡ n.0 = grind (arith, nat_tests, h) in z)
 same-is (Drain m) (Drain n) h = ap (λ core. Drain (record { 0 = core })) (let z : m.0 ≡ n.0 = grind (arith, nat_tests, h) in z)
 same-is (Step m) (Drain n) h = absurd (let z : ⊥ = cc in z)

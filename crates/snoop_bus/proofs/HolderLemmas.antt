@@ -117,6 +117,10 @@ holds caches memory shape locations core loc stage (Some h) e held placed =
       },
     )
 
+-- what is found to hold the bus is the action that is known to
+pub same_held : (held : Option HeldBus) (found known : HeldBus) → held ≡ Some found → held ≡ Some known → found ≡ known
+same_held held found known a b = cc
+
 -- a locked instruction that has read has its line in M, and the bus keeps nothing
 pub locked_real : (x : Option Transaction) (own : Option Line) → Awaits Locked x own → (x ≡ None) × (state_of own ≡ M)
 locked_real None own a = (refl, a)

@@ -10,6 +10,7 @@ pub mod SnoopLemmas
 pub mod FindLemmas
 pub mod AccessLemmas
 pub mod MissLemmas
+pub mod FillCalls
 pub mod LoadLemmas
 pub mod LoadMiss
 pub mod OwnLemmas
@@ -18,6 +19,7 @@ pub mod LineLemmas
 pub mod NewLemmas
 pub mod WriteLemmas
 pub mod WriteMiss
+pub mod AcquireCalls
 pub mod HitLemmas
 pub mod WordWritten
 pub mod SettleLemmas
@@ -30,6 +32,7 @@ pub mod UpgradeAsk
 pub mod CompleteLemmas
 pub mod AcquireAsked
 pub mod HolderLemmas
+pub mod Completed
 pub mod BesideLemmas
 pub mod WholeAccess
 pub mod Emptied

@@ -1,16 +1,20 @@
-use Rattle.std.proofs.Common.{◌∙◌, refl, sym, ap, subst, slice_get}
+use Rattle.std.proofs.Common.{◌∙◌, refl, sym, ap, subst, slice_get, slice_set, length}
+use Rattle.std.proofs.lemmas.List.{length-set}
 use Rattle.tso_model.specs.SplitMachine.{Free, acts}
 use Rattle.tso_model.specs.declared.choice.Choice.TheVariants.{Step}
 use Rattle.tso_model.specs.declared.choice.Outcome.TheVariants.{Committed}
 use Rattle.machine_core.specs.declared.accesses.CacheUse.TheVariants.{Unused}
-use Rattle.machine_core.specs.Cores.{core_state}
+use Rattle.snoop_bus.specs.Bus.{words_of, holder_of}
+use Rattle.machine_core.specs.declared.processor.Processor.{Processor}
+use Rattle.machine_core.specs.Cores.{core_state, AreKnown, state_of}
+use Rattle.machine_core.specs.Keeping.{held_as, state_in}
 use Rattle.machine_core.specs.inner.Cores.{pending_in}
 use Rattle.machine_core.specs.Effects.{HasUsed}
 use Rattle.machine_core.specs.inner.Split.{writes_last_in}
-use Rattle.machine_core.proofs.ChoiceEffects.{Performs-by, within-cores}
+use Rattle.machine_core.proofs.ChoiceEffects.{Performs-by, within-cores, IsCore-at, PartsFitTest-next}
 use Rattle.machine_core.proofs.StepCompletions.{next-some, place-within, IsNext, is-next, access-next}
 use Rattle.machine_core.proofs.LastWrites.{has-read, locks-some, is-lock, last_part, writes-last, use-last, rests-last}
-use Rattle.machine_core.proofs.Splitting.{held-with}
+use Rattle.machine_core.proofs.Splitting.{held-with, held-freed}
 use Rattle.machine_core.proofs.completing.write_last.Goals as goal
 
 pub unwrap-instr-requires : goal.unwrap-instr-requires
@@ -34,6 +38,44 @@ written-reg-requires g c =
 pub advance-requires : goal.advance-requires
 advance-requires g c =
     place-within c.program.result.now c.instruction_at.result c.unwrap-instr.result c.index_mut-processor.result.now.place c.instruction_at.ensures c.unwrap-instr.ensures c.program.ensures.size
+
+pub complete_write-requires : goal.complete_write-requires
+complete_write-requires g c = record {
+  holds = c.requires.consistent.held ∙ ap (held_as c.args.test.now c.args.hardware.now.config.depth (state_in c.args.hardware.now).flat) c.requires.between;
+}
+
+pub returns-in_err-note-clause-commits_at_once : goal.returns-in_err-note-clause-commits_at_once
+returns-in_err-note-clause-commits_at_once g c =
+    let p = c.index_mut-processor.result.now in
+    let e = c.args.read in
+    let read = has-read c.args.test.now c.args.hardware.now e c.requires.consistent.holder c.requires.between in
+    let next : IsNext c.args.test.now c.args.hardware.now e.core p c.action.result =
+    is-next c.args.test.now c.args.hardware.now e.core p c.program.result.now c.instruction_at.result c.unwrap-instr.result c.action.result c.action.result c.requires.consistent.fits c.requires.core c.index_mut-processor.ensures.value
+    c.program.ensures.value c.instruction_at.ensures c.unwrap-instr.ensures c.action.ensures refl in
+    ap (λ f. f.effect.outcome) (writes-last c.args.test.now c.args.hardware.now e p c.action.result c.written-reg.result.0 c.written-reg.result.1 next read c.written-reg.ensures)
+
+pub returns-clause-commits_at_once : goal.returns-clause-commits_at_once
+returns-clause-commits_at_once g c =
+    let p = c.index_mut-processor.result.now in
+    let e = c.args.read in
+    let read = has-read c.args.test.now c.args.hardware.now e c.requires.consistent.holder c.requires.between in
+    let next : IsNext c.args.test.now c.args.hardware.now e.core p c.action.result =
+    is-next c.args.test.now c.args.hardware.now e.core p c.program.result.now c.instruction_at.result c.unwrap-instr.result c.action.result c.action.result c.requires.consistent.fits c.requires.core c.index_mut-processor.ensures.value
+    c.program.ensures.value c.instruction_at.ensures c.unwrap-instr.ensures c.action.ensures refl in
+    ap (λ f. f.effect.outcome) (writes-last c.args.test.now c.args.hardware.now e p c.action.result c.written-reg.result.0 c.written-reg.result.1 next read c.written-reg.ensures)
+
+pub returns-clause-of_test : goal.returns-clause-of_test
+returns-clause-of_test g c =
+    let m = c.args.hardware.now in
+    let e = c.args.read in
+    let core = IsCore-at c.args.test.now m e.core.0 c.index_mut-processor.result.now c.requires.consistent.fits c.requires.core c.index_mut-processor.ensures.value in
+    record {
+      fits = PartsFitTest-next c.args.test.now m _ e.core.0 c.advance.new.processor c.requires.consistent.fits refl refl c.complete_write.ensures.machine.cores
+          (ap length c.complete_write.ensures.words ∙ length-set (words_of m.bus) e.loc.0 c.written-reg.result.1)
+          (ap (λ (q : Processor). q.stores.depth) c.advance.ensures ∙ core.depth_is)
+          (subst (λ (q : Processor). AreKnown (length (words_of m.bus)) q.stores) (sym c.advance.ensures) core.known);
+      held = held-freed c.args.test.now m.config.depth (state_of (slice_set m.processors.items e.core.0 c.advance.new.processor) (words_of c.complete_write.new.self)) m.next (holder_of c.complete_write.new.self) c.complete_write.ensures.free;
+    }
 
 pub returns-clause-makes : goal.returns-clause-makes
 returns-clause-makes g c = record {

@@ -5,6 +5,7 @@ use Rattle.snoop_bus.specs.Bus.{words_of}
 use Rattle.machine_core.specs.inner.Cores.{pending_in, drain_by}
 use Rattle.machine_core.specs.inner.OneCore.{SucceedsUnlessCommitting}
 use Rattle.machine_core.proofs.ChoiceEffects.{access_of-drain, effect_in-drain, may-make, IfOk-Makes, within-cores}
+use Rattle.machine_core.proofs.Undoing.{acts-holder, undone}
 use Rattle.machine_core.proofs.hardware.act.Goals as goal
 
 pub drain-requires-clause-free : goal.drain-requires-clause-free
@@ -29,3 +30,22 @@ returns-in-Drain-clause-succeeds g c =
     let effect = effect_in-drain c.args.test.now c.args.hardware.now c.in-Drain.core c.index_mut-processor.result.now within c.index_mut-processor.ensures.value in
     rw c.in-Drain.is
     (subst (λ f. SucceedsUnlessCommitting c.drain.result f) (sym effect) c.drain.ensures.succeeds)
+
+pub returns-in-Drain-clause-err : goal.returns-in-Drain-clause-err
+returns-in-Drain-clause-err g c =
+    undone c.drain.result c.args.hardware.now _ c.in-Drain.core.0 c.index_mut-processor.result.now c.drain.new.processor c.index_mut-processor.ensures.value refl refl c.drain.ensures.err
+
+pub returns-in-Drain-clause-holder : goal.returns-in-Drain-clause-holder
+returns-in-Drain-clause-holder g c =
+    let p = c.index_mut-processor.result.now in
+    acts-holder c.drain.result (record { core = c.in-Drain.core; way = c.args.way }) (drain_access (pending_in c.in-Drain.core.0 p)) drain_by p c.drain.new.processor c.args.hardware.now.bus c.drain.new.bus
+    c.args.hardware.now.commits c.drain.new.commits c.drain.ensures.acts
+
+pub step-requires-clause-free : goal.step-requires-clause-free
+step-requires-clause-free g c = rw c.in-Step.is at c.requires.free
+
+pub returns-in-Step-clause-makes : goal.returns-in-Step-clause-makes
+returns-in-Step-clause-makes g c = rw c.in-Step.is c.step.ensures.makes
+
+pub returns-in-Step-clause-succeeds : goal.returns-in-Step-clause-succeeds
+returns-in-Step-clause-succeeds g c = rw c.in-Step.is c.step.ensures.succeeds

@@ -7,10 +7,12 @@ use Rattle.tso_model.specs.declared.choice.Outcome.TheVariants.{Stalled}
 use Rattle.snoop_bus.specs.Bus.{words_of}
 use Rattle.machine_core.specs.declared.accesses.CacheUse.TheVariants.{Unused}
 use Rattle.machine_core.specs.Cores.{core_state}
-use Rattle.machine_core.specs.inner.Cores.{pending_in, step_by}
+use Rattle.machine_core.specs.inner.Cores.{pending_in, own_access, step_by}
 use Rattle.machine_core.specs.inner.OneCore.{SucceedsUnlessCommitting}
 use Rattle.machine_core.proofs.ActedLemmas.{acts-stalls}
 use Rattle.machine_core.proofs.ChoiceEffects.{access_of-step, access_of-done, effect_in-step, effect_in-done, may-make, whole-done, IfOk-Makes, PartsFitTest-next, IsCore-at, within-cores}
+use Rattle.tso_model.specs.Actions.{action_of}
+use Rattle.machine_core.proofs.Undoing.{acts-holder, undone}
 use Rattle.machine_core.proofs.hardware.step.Goals as goal
 
 pub returns-in-None-clause-makes : goal.returns-in-None-clause-makes
@@ -66,3 +68,13 @@ step-requires-clause-free g c =
     let core = IsCore-at c.args.test.now c.args.hardware.now c.args.core.0 p c.requires.fits c.requires.core c.index_mut-processor.ensures.value in
     may-make c.args.way c.args.test.now c.args.hardware.now (Step c.args.core) _
     (access_of-step c.args.test.now c.args.hardware.now c.args.core p c.in-Some.instr within c.index_mut-processor.ensures.value core.depth_is got) c.requires.free
+
+pub returns-in-Some-clause-err : goal.returns-in-Some-clause-err
+returns-in-Some-clause-err g c =
+    undone c.step.result c.args.hardware.now _ c.args.core.0 c.index_mut-processor.result.now c.step.new.processor c.index_mut-processor.ensures.value refl refl c.step.ensures.err
+
+pub returns-in-Some-clause-holder : goal.returns-in-Some-clause-holder
+returns-in-Some-clause-holder g c =
+    let p = c.index_mut-processor.result.now in
+    acts-holder c.step.result (record { core = c.args.core; way = c.args.way }) (own_access (action_of c.in-Some.instr) c.args.core.0 p) (step_by c.in-Some.instr) p c.step.new.processor c.args.hardware.now.bus c.step.new.bus
+    c.args.hardware.now.commits c.step.new.commits c.step.ensures.acts

@@ -5,6 +5,7 @@ use Rattle.snoop_bus.specs.Bus.{words_of}
 use Rattle.machine_core.specs.inner.Cores.{pending_in, lock_by}
 use Rattle.machine_core.specs.declared.turn.Way.TheVariants.{Whole}
 use Rattle.machine_core.proofs.CoreLemmas.{lock-waits}
+use Rattle.machine_core.proofs.Locking.{acts-locks, lock-commits, may-lock}
 use Rattle.machine_core.proofs.ActedLemmas.{acts-stalls}
 use Rattle.machine_core.proofs.locked.read_and_write.Goals as goal
 
@@ -14,3 +15,26 @@ returns-then-not-is_empty-clause-acts g c =
     let words = words_of c.args.bus.now in
     acts-stalls Whole (locked_access c.args.locked.loc (pending_in c.args.core.0 p)) c.args.core.0 p c.args.bus.now c.args.commits.now (lock_by c.args.locked.loc c.args.locked.reg c.args.locked.update c.args.core.0 p words) stall.Lock refl
     (lock-waits c.args.core.0 p words c.args.locked.loc c.args.locked.reg c.args.locked.update c.is_empty.result c.is_empty.ensures.1 c.if-not-is_empty.true)
+
+pub returns-clause-acts : goal.returns-clause-acts
+returns-clause-acts g c =
+    acts-locks c.args.core c.args.locked.loc c.args.locked.reg c.args.locked.update c.args.processor.now c.advance.new.processor c.args.bus.now c.update.new.self c.args.commits.now c.make_room.new.self c.note_locked.new.commits
+    c.register-value.result c.in_ok-updated.updated (c.is_empty.ensures.0 c.if-not-is_empty.false) c.register-value.ensures c.in_ok-updated.ensures.before c.in_ok-updated.ensures.after c.in_ok-updated.ensures.done c.update.ensures.machine
+    c.make_room.ensures.same c.in_ok-note_locked.ensures.ok
+    c.advance.ensures
+
+pub returns-in_err-make_room-clause-succeeds : goal.returns-in_err-make_room-clause-succeeds
+returns-in_err-make_room-clause-succeeds g c =
+    lock-commits _ c.args.core.0 c.args.locked.loc c.args.locked.reg c.args.locked.update c.args.processor.now (words_of c.args.bus.now) (c.is_empty.ensures.0 c.if-not-is_empty.false)
+
+pub returns-in_err-updated-clause-succeeds : goal.returns-in_err-updated-clause-succeeds
+returns-in_err-updated-clause-succeeds g c =
+    lock-commits _ c.args.core.0 c.args.locked.loc c.args.locked.reg c.args.locked.update c.args.processor.now (words_of c.args.bus.now) (c.is_empty.ensures.0 c.if-not-is_empty.false)
+
+pub returns-in_err-note_locked-clause-succeeds : goal.returns-in_err-note_locked-clause-succeeds
+returns-in_err-note_locked-clause-succeeds g c =
+    lock-commits _ c.args.core.0 c.args.locked.loc c.args.locked.reg c.args.locked.update c.args.processor.now (words_of c.args.bus.now) (c.is_empty.ensures.0 c.if-not-is_empty.false)
+
+pub update-requires-clause-free : goal.update-requires-clause-free
+update-requires-clause-free g c =
+    may-lock c.args.core c.args.locked.loc c.args.processor.now c.args.bus.now (c.is_empty.ensures.0 c.if-not-is_empty.false) c.requires.access.free

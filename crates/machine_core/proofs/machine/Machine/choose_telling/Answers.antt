@@ -10,6 +10,7 @@ use Rattle.machine_core.specs.Statistics.{statistics_after}
 use Rattle.machine_core.specs.Effects.{HasEffect}
 use Rattle.machine_core.specs.inner.Effects.{attempt_in, effect_in}
 use Rattle.machine_core.proofs.RunningLemmas.{Running-same, statistics_after-nothing, same-state, on-ok, possible-next}
+use Rattle.machine_core.proofs.Telling.{outcome-told, how-told, after-told, succeeds-told, refused-told}
 use Rattle.machine_core.proofs.machine.Machine.choose_telling.Goals as goal
 
 pub returns-clause-stall : goal.returns-clause-stall
@@ -56,3 +57,18 @@ invariant_of-self g c =
 pub returns-clause-answer : goal.returns-clause-answer
 returns-clause-answer g c =
     on-ok c.make_choice-made.result (AnswerFits c.args.self.now c.args.choice) (subst (λ m. AnswerFits m c.args.choice) c.self.view_is c.make_choice-made.ensures.answer)
+
+pub returns-clause-outcome : goal.returns-clause-outcome
+returns-clause-outcome g c = outcome-told c.make_choice-made.result c.self.inside.test.now c.self.inside.hardware c.make_choice-made.new.hardware c.args.choice c.args.self.now c.self.inside.failed c.self.view_is c.make_choice-made.ensures.ok
+
+pub returns-clause-how : goal.returns-clause-how
+returns-clause-how g c = how-told c.make_choice-made.result c.self.inside.test.now c.self.inside.hardware c.make_choice-made.new.hardware c.args.choice c.args.self.now c.self.inside.failed c.self.view_is c.make_choice-made.ensures.how
+
+pub returns-clause-after : goal.returns-clause-after
+returns-clause-after g c = after-told c.make_choice-made.result c.self.inside.test.now c.self.inside.hardware c.make_choice-made.new.hardware c.args.choice c.args.self.now c.self.inside.failed c.self.view_is c.is_err-self-inside.result c.make_choice-made.ensures.config c.if-self.false c.is_err-self-inside.ensures.value c.make_choice-made.ensures.ok c.make_choice-made.ensures.statistics
+
+pub returns-clause-succeeds : goal.returns-clause-succeeds
+returns-clause-succeeds g c = λ sound. succeeds-told c.make_choice-made.result c.self.inside.test.now c.self.inside.hardware c.make_choice-made.new.hardware c.args.choice c.args.self.now c.self.inside.failed c.self.view_is c.make_choice-made.ensures.succeeds
+
+pub returns-clause-refused : goal.returns-clause-refused
+returns-clause-refused g c = refused-told c.make_choice-made.result c.self.inside.test.now c.self.inside.hardware c.make_choice-made.new.hardware c.args.choice c.args.self.now c.self.inside.failed c.self.view_is c.is_err-self-inside.result c.make_choice-made.ensures.config c.is_err-self-inside.ensures.value c.make_choice-made.ensures.err_state c.make_choice-made.ensures.err_commits c.make_choice-made.ensures.err_statistics

@@ -1,5 +1,7 @@
-use Rattle.std.proofs.Common.{rules, ◌≡◌, ◌/◌, ◌<◌, Some, None}
+use Rattle.std.proofs.Common.{◌≡◌, ◌/◌, ◌<◌, Some, None, length, ap, ◌∙◌}
 use Rattle.snoop_bus.specs.Held.{counted}
+use Rattle.snoop_bus.specs.Asks.{request_for}
+use Rattle.snoop_bus.proofs.MissLemmas.{length-asked}
 use Rattle.snoop_bus.proofs.RowLemmas.{table_of-rows}
 use Rattle.snoop_bus.proofs.HolderLemmas.{free-held, not_here}
 use Rattle.snoop_bus.proofs.NewLemmas.{bus-kept}
@@ -41,6 +43,7 @@ pub invariant_of-self : goal.invariant_of-self
 invariant_of-self g c =
     let free : c.self.inside.held ≡ None = free-held c.self.inside.held (rw (← c.self.view_is) at c.requires.free) in
     let within : c.args.loc.0 < c.self.inside.locations = loc_in c.self.inside.shape.words c.self.inside.locations (counted c.self.inside.held c.self.inside.hierarchy.caches.items) c.self.inside.hierarchy.memory.items c.args.loc.0 (rw (← c.self.view_is) at c.requires.loc) in
-    (bus-kept c.self.inside.shape c.self.inside.locations c.self.inside.hierarchy c.ask-held.new.self None (Some c.ask-held.result) (rw free at c.self.invariant) (search rules)
+    (bus-kept c.self.inside.shape c.self.inside.locations c.self.inside.hierarchy c.ask-held.new.self None (Some c.ask-held.result) (rw free at c.self.invariant)
+    (ap length c.ask-held.ensures.memory ∙ length-asked (g.P.Protocol.table c.self.inside.protocol) (request_for c.args.write) c.line_of-line.result c.self.inside.hierarchy.caches.items c.self.inside.hierarchy.memory.items)
     c.ask-held.ensures.words c.ask-held.ensures.ways c.ask-held.ensures.awaited
     (rw c.ask-held.ensures.exact (record { loc_in = within; line_is = c.line_of-line.ensures.value })))

@@ -1,12 +1,6 @@
-use Rattle.std.proofs.Common.{rules, ◌≡◌, ◌/◌, ℕ, Some, None, length, refl, sym, ap, ◌∙◌}
-use Rattle.snoop_bus.specs.declared.holding.Stage.TheVariants.{Write, Locked}
-use Rattle.snoop_bus.specs.Held.{counted_in}
-use Rattle.snoop_bus.specs.inner.Held.{held_by}
-use Rattle.snoop_bus.specs.Bus.{current_words}
-use Rattle.snoop_bus.proofs.WordLemmas.{words-get, words-same}
-use Rattle.snoop_bus.proofs.NewLemmas.{bus-kept}
-use Rattle.snoop_bus.proofs.UpgradeAsk.{now_held}
-use Rattle.snoop_bus.proofs.HolderLemmas.{holds}
+use Rattle.std.proofs.Common.{Some, refl}
+use Rattle.snoop_bus.specs.declared.holding.Stage.TheVariants.{Write}
+use Rattle.snoop_bus.proofs.Completed.{word_due, words_beside, locked, same_machine, completes}
 use Rattle.snoop_bus.proofs.bus.SnoopBus.complete_read.Goals as goal
 
 pub returns-in_err-done-clause-words : goal.returns-in_err-done-clause-words
@@ -15,35 +9,29 @@ returns-in_err-done-clause-words g c =
     rw (← c.self.view_is) (rw (unchanged.caches, unchanged.memory) refl)
 
 pub returns-clause-word : goal.returns-clause-word
-returns-clause-word g c =
-    let held = holds c.self.inside.hierarchy.caches.items c.self.inside.hierarchy.memory.items c.self.inside.shape c.self.inside.locations c.args.core c.args.loc Write c.self.inside.held (rw (← c.self.view_is) at c.requires.holds) c.self.invariant.awaited c.self.invariant.placed in
-    let some : c.self.inside.held ≡ Some c.unwrap-held.result = search rules in
-    let same : c.unwrap-held.result ≡ held_by c.args.core c.args.loc Write (c.args.loc.0 / c.self.inside.shape.words) held.0 = cc (some, held.1.held_is) in
-    let word = rw (c.target_of-target.ensures.value, same) at c.in_ok-done.ensures.word in
-    rw (← c.self.view_is, held.1.held_is)
-    (words-get c.self.inside.shape.words (current_words (counted_in c.args.core.0 (c.args.loc.0 / c.self.inside.shape.words) held.0 c.self.inside.hierarchy.caches.items) c.self.inside.hierarchy.memory.items) c.self.inside.locations c.args.loc.0 held.1.loc_in
-    ∙ ap (λ (w : ℕ). Some w) (sym word))
+returns-clause-word g c = word_due (g.P.Protocol.table c.self.inside.protocol) c.self.inside.shape c.self.inside.locations c.self.inside.held c.args.self.now c.self.inside.hierarchy c.complete_read.new.self c.unwrap-held.result c.args.core c.args.loc Write c.target_of-target.result
+    (record { now_is = c.self.view_is; bus = c.self.invariant; holds = c.requires.holds; found = c.unwrap-held.ensures; target_is = c.target_of-target.ensures.value; ways = c.complete_read.ensures.ways })
+    c.in_ok-done.done.0 c.in_ok-done.ensures.word
 
 pub returns-clause-words : goal.returns-clause-words
-returns-clause-words g c =
-    let held = holds c.self.inside.hierarchy.caches.items c.self.inside.hierarchy.memory.items c.self.inside.shape c.self.inside.locations c.args.core c.args.loc Write c.self.inside.held (rw (← c.self.view_is) at c.requires.holds) c.self.invariant.awaited c.self.invariant.placed in
-    let some : c.self.inside.held ≡ Some c.unwrap-held.result = search rules in
-    let same : c.unwrap-held.result ≡ held_by c.args.core c.args.loc Write (c.args.loc.0 / c.self.inside.shape.words) held.0 = cc (some, held.1.held_is) in
-    let keeps = rw (c.target_of-target.ensures.value, same) at c.in_ok-done.ensures.words in
-    rw (← c.self.view_is, held.1.held_is, c.held_at.ensures)
-    (words-same c.self.inside.shape.words c.self.inside.locations (length c.self.inside.hierarchy.memory.items) (current_words (counted_in c.args.core.0 (c.args.loc.0 / c.self.inside.shape.words) held.0 c.self.inside.hierarchy.caches.items) c.self.inside.hierarchy.memory.items) (current_words c.complete_read.new.self.caches.items c.complete_read.new.self.memory.items)
-    c.self.invariant.some_word c.self.invariant.enough_lines keeps.words)
+returns-clause-words g c = words_beside (g.P.Protocol.table c.self.inside.protocol) c.self.inside.shape c.self.inside.locations c.self.inside.held c.args.self.now c.self.inside.hierarchy c.complete_read.new.self c.unwrap-held.result c.args.core c.args.loc Write c.target_of-target.result
+    (record { now_is = c.self.view_is; bus = c.self.invariant; holds = c.requires.holds; found = c.unwrap-held.ensures; target_is = c.target_of-target.ensures.value; ways = c.complete_read.ensures.ways })
+    c.in_ok-done.ensures.words c.held_at.result c.held_at.ensures
 
 pub invariant_of-self-2 : goal.invariant_of-self-2
-invariant_of-self-2 g c =
-    let held = holds c.self.inside.hierarchy.caches.items c.self.inside.hierarchy.memory.items c.self.inside.shape c.self.inside.locations c.args.core c.args.loc Write c.self.inside.held (rw (← c.self.view_is) at c.requires.holds) c.self.invariant.awaited c.self.invariant.placed in
-    let some : c.self.inside.held ≡ Some c.unwrap-held.result = search rules in
-    let same : c.unwrap-held.result ≡ held_by c.args.core c.args.loc Write (c.args.loc.0 / c.self.inside.shape.words) held.0 = cc (some, held.1.held_is) in
-    let keeps = rw (c.target_of-target.ensures.value, same) at c.in_ok-done.ensures.words in
-    rw (c.held_at.ensures, same)
-    (bus-kept c.self.inside.shape c.self.inside.locations c.self.inside.hierarchy c.complete_read.new.self (Some (held_by c.args.core c.args.loc Write (c.args.loc.0 / c.self.inside.shape.words) held.0)) (Some (held_by c.args.core c.args.loc Locked (c.args.loc.0 / c.self.inside.shape.words) None)) (rw held.1.held_is at c.self.invariant) (search rules) keeps c.complete_read.ensures.ways
-    (now_held c.self.inside.hierarchy.caches.items c.complete_read.new.self.caches.items c.self.inside.hierarchy.memory.items c.complete_read.new.self.memory.items c.args.core c.args.loc Locked (c.args.loc.0 / c.self.inside.shape.words) None c.complete_read.ensures.ways held.1.core_in held.1.some_set held.1.within (search rules)
-    (rw c.target_of-target.ensures.value at c.in_ok-done.ensures.own)) (record { loc_in = held.1.loc_in; line_is = refl }))
+invariant_of-self-2 g c = locked (g.P.Protocol.table c.self.inside.protocol) c.self.inside.shape c.self.inside.locations c.self.inside.held c.args.self.now c.self.inside.hierarchy c.complete_read.new.self c.unwrap-held.result c.args.core c.args.loc Write c.target_of-target.result
+    (record { now_is = c.self.view_is; bus = c.self.invariant; holds = c.requires.holds; found = c.unwrap-held.ensures; target_is = c.target_of-target.ensures.value; ways = c.complete_read.ensures.ways })
+    c.in_ok-done.ensures.words c.in_ok-done.done.1 c.held_at.result c.held_at.ensures c.in_ok-done.ensures.own c.in_ok-done.ensures.ok
 
 pub returns-clause-coherent : goal.returns-clause-coherent
 returns-clause-coherent g c = (invariant_of-self-2 g c).coherent
+
+pub returns-clause-machine : goal.returns-clause-machine
+returns-clause-machine g c = same_machine (g.P.Protocol.table c.self.inside.protocol) c.self.inside.shape c.self.inside.locations c.self.inside.held c.args.self.now c.self.inside.hierarchy c.complete_read.new.self c.unwrap-held.result c.args.core c.args.loc Write c.target_of-target.result
+    (record { now_is = c.self.view_is; bus = c.self.invariant; holds = c.requires.holds; found = c.unwrap-held.ensures; target_is = c.target_of-target.ensures.value; ways = c.complete_read.ensures.ways })
+    (Some c.held_at.result)
+
+pub returns-clause-done : goal.returns-clause-done
+returns-clause-done g c = completes (g.P.Protocol.table c.self.inside.protocol) c.self.inside.shape c.self.inside.locations c.self.inside.held c.args.self.now c.self.inside.hierarchy c.complete_read.new.self c.unwrap-held.result c.args.core c.args.loc Write c.target_of-target.result
+    (record { now_is = c.self.view_is; bus = c.self.invariant; holds = c.requires.holds; found = c.unwrap-held.ensures; target_is = c.target_of-target.ensures.value; ways = c.complete_read.ensures.ways })
+    c.in_ok-done.done.1 (Some c.held_at.result) c.in_ok-done.ensures.ok

@@ -1,16 +1,18 @@
-use Rattle.std.proofs.Common.{rules, ◌<◌, length, [], refl, ◌∙◌}
+use Rattle.std.proofs.Common.{◌<◌, length, [], refl, ap, ◌∙◌}
 use Rattle.std.proofs.lemmas.List.{get_or_default}
 use Rattle.snoop_bus.specs.Copies.{cache_of, copy_at, tags_of}
 use Rattle.snoop_bus.specs.Bus.{current_words}
 use Rattle.snoop_bus.specs.declared.holding.Stage.TheVariants.{Load, Write}
 use Rattle.std.proofs.Common.{Some}
+use Rattle.protocol_tables.specs.declared.requests.Request.TheVariants.{GetS}
+use Rattle.snoop_bus.proofs.MissLemmas.{length-asked}
 use Rattle.snoop_bus.proofs.UpgradeAsk.{load_ask-exact, load_ask-tags, load_ask-awaits, now_held}
 use Rattle.snoop_bus.proofs.hierarchy.Hierarchy.ask.Goals as goal
 
 pub returns-then-write-clause-awaited : goal.returns-then-write-clause-awaited
 returns-then-write-clause-awaited g c =
     let here = (rw c.from-at.ensures at c.index.ensures) ∙ get_or_default c.args.self.now.caches.items c.args.wanted.core.0 c.index.result.now [] c.requires.ready.core_in in
-    let some : 0 < length (cache_of c.args.self.now.caches.items c.args.wanted.core.0) = search rules in
+    let some : 0 < length (cache_of c.args.self.now.caches.items c.args.wanted.core.0) = rw here at c.know_sets.ensures.some in
     rw (c.held_at.ensures, c.ask_write-transaction.ensures.memory)
     (now_held c.args.self.now.caches.items c.ask_write-transaction.new.self.caches.items c.args.self.now.memory.items c.args.self.now.memory.items c.args.wanted.core c.args.wanted.loc Write c.args.wanted.line c.ask_write-transaction.result
     c.ask_write-transaction.ensures.ways c.requires.ready.core_in some c.requires.ready.line_in refl (rw c.from-at.ensures at c.ask_write-transaction.ensures.awaits))
@@ -30,5 +32,5 @@ returns-else-write-clause-awaited g c =
     let some : 0 < length (cache_of c.args.self.now.caches.items c.args.wanted.core.0) = rw here at c.know_sets.ensures.some in
     rw c.held_at-else-write.ensures
     (now_held c.args.self.now.caches.items c.ask_load.new.self.caches.items c.args.self.now.memory.items c.ask_load.new.self.memory.items c.args.wanted.core c.args.wanted.loc Load c.args.wanted.line (Some c.ask_load.result)
-    c.ask_load.ensures.ways c.requires.ready.core_in some c.requires.ready.line_in (search rules)
+    c.ask_load.ensures.ways c.requires.ready.core_in some c.requires.ready.line_in (ap length c.ask_load.ensures.memory ∙ length-asked (g.P.Protocol.table c.args.protocol.now) GetS c.args.wanted.line c.args.self.now.caches.items c.args.self.now.memory.items)
     (load_ask-awaits (g.P.Protocol.table c.args.protocol.now) c.args.wanted.line (current_words c.args.self.now.caches.items c.args.self.now.memory.items c.args.wanted.line) (tags_of c.args.self.now.caches.items) (copy_at c.ask_load.new.self.caches.items c.args.wanted.core.0 c.args.wanted.line) c.ask_load.result c.ask_load.ensures.transaction (rw c.from-at.ensures at c.ask_load.ensures.own)))

@@ -1,22 +1,21 @@
-use Rattle.std.proofs.Common.{◌≡◌, Some, None, [], sym, ap, ◌∙◌, refl}
-use Rattle.std.proofs.lemmas.List.{get_or_default}
+use Rattle.std.proofs.Common.{◌≡◌, Some, None, sym, refl}
 use Rattle.protocol_tables.specs.Transients.{transient_of}
 use Rattle.protocol_tables.specs.declared.requests.Request.TheVariants.{GetM}
-use Rattle.snoop_bus.specs.Copies.{Sets, copy_in, copy_at, tags_of}
+use Rattle.snoop_bus.specs.Copies.{copy_at, tags_of}
 use Rattle.snoop_bus.specs.Bus.{current_words}
+use Rattle.std.specs.Option.{option_copied}
+use Rattle.snoop_bus.proofs.AcquireCalls.{own_found, own_absent}
 use Rattle.snoop_bus.proofs.UpgradeAsk.{asked_by-absent, asked_by-found, miss-awaits, upgrade_ask-transaction, upgrade_ask-tags, upgrade_ask-words}
 use Rattle.snoop_bus.proofs.hierarchy.Hierarchy.ask_write.Goals as goal
 
 pub returns-in-None-clause-transaction : goal.returns-in-None-clause-transaction
 returns-in-None-clause-transaction g c =
-    let looked = c.index.ensures ∙ get_or_default c.args.self.now.caches.items c.args.core c.index.result.now [] c.requires.ready.core_in in
-    let absent : copy_at c.args.self.now.caches.items c.args.core c.args.line ≡ None = sym (ap (λ (sets : Sets). copy_in sets c.args.line) looked) ∙ cc (c.look.ensures.found, c.in-None.ensures) in
+    let absent : copy_at c.args.self.now.caches.items c.args.core c.args.line ≡ None = own_absent c.args.self.now.caches.items c.args.core c.args.line c.index.result.now (option_copied c.look.result) c.requires.ready.core_in c.index.ensures c.look.ensures.found c.in-None.ensures in
     rw (asked_by-absent c.args.self.now.caches.items c.args.core c.args.line absent) (rw c.ask_write_miss.ensures.transaction refl)
 
 pub returns-in-None-clause-tags : goal.returns-in-None-clause-tags
 returns-in-None-clause-tags g c =
-    let looked = c.index.ensures ∙ get_or_default c.args.self.now.caches.items c.args.core c.index.result.now [] c.requires.ready.core_in in
-    let absent : copy_at c.args.self.now.caches.items c.args.core c.args.line ≡ None = sym (ap (λ (sets : Sets). copy_in sets c.args.line) looked) ∙ cc (c.look.ensures.found, c.in-None.ensures) in
+    let absent : copy_at c.args.self.now.caches.items c.args.core c.args.line ≡ None = own_absent c.args.self.now.caches.items c.args.core c.args.line c.index.result.now (option_copied c.look.result) c.requires.ready.core_in c.index.ensures c.look.ensures.found c.in-None.ensures in
     rw (asked_by-absent c.args.self.now.caches.items c.args.core c.args.line absent) c.ask_write_miss.ensures.tags
 
 pub returns-in-None-clause-awaits : goal.returns-in-None-clause-awaits
@@ -24,38 +23,33 @@ returns-in-None-clause-awaits g c = miss-awaits (g.P.Protocol.table c.args.proto
 
 pub returns-in-None-transient-clause-transaction : goal.returns-in-None-transient-clause-transaction
 returns-in-None-transient-clause-transaction g c =
-    let looked = c.index.ensures ∙ get_or_default c.args.self.now.caches.items c.args.core c.index.result.now [] c.requires.ready.core_in in
-    let found : copy_at c.args.self.now.caches.items c.args.core c.args.line ≡ Some c.in-Some.copy = sym (ap (λ (sets : Sets). copy_in sets c.args.line) looked) ∙ cc (c.look.ensures.found, c.in-Some.ensures) in
-    let nothing : transient_of c.in-Some.copy.state GetM ≡ None = cc c.in-None-transient.ensures in
+    let found : copy_at c.args.self.now.caches.items c.args.core c.args.line ≡ Some c.in-Some.copy = own_found c.args.self.now.caches.items c.args.core c.args.line c.index.result.now (option_copied c.look.result) c.requires.ready.core_in c.index.ensures c.look.ensures.found c.in-Some.copy c.in-Some.ensures in
+    let nothing : transient_of c.in-Some.copy.state GetM ≡ None = sym c.in-None-transient.ensures in
     rw (asked_by-found c.args.self.now.caches.items c.args.core c.args.line c.in-Some.copy found, nothing) refl
 
 pub returns-in-None-transient-clause-tags : goal.returns-in-None-transient-clause-tags
 returns-in-None-transient-clause-tags g c =
-    let looked = c.index.ensures ∙ get_or_default c.args.self.now.caches.items c.args.core c.index.result.now [] c.requires.ready.core_in in
-    let found : copy_at c.args.self.now.caches.items c.args.core c.args.line ≡ Some c.in-Some.copy = sym (ap (λ (sets : Sets). copy_in sets c.args.line) looked) ∙ cc (c.look.ensures.found, c.in-Some.ensures) in
-    let nothing : transient_of c.in-Some.copy.state GetM ≡ None = cc c.in-None-transient.ensures in
+    let found : copy_at c.args.self.now.caches.items c.args.core c.args.line ≡ Some c.in-Some.copy = own_found c.args.self.now.caches.items c.args.core c.args.line c.index.result.now (option_copied c.look.result) c.requires.ready.core_in c.index.ensures c.look.ensures.found c.in-Some.copy c.in-Some.ensures in
+    let nothing : transient_of c.in-Some.copy.state GetM ≡ None = sym c.in-None-transient.ensures in
     rw (asked_by-found c.args.self.now.caches.items c.args.core c.args.line c.in-Some.copy found, nothing) refl
 
 pub returns-in-Some-transient-clause-transaction : goal.returns-in-Some-transient-clause-transaction
 returns-in-Some-transient-clause-transaction g c =
-    let looked = c.index.ensures ∙ get_or_default c.args.self.now.caches.items c.args.core c.index.result.now [] c.requires.ready.core_in in
-    let found : copy_at c.args.self.now.caches.items c.args.core c.args.line ≡ Some c.in-Some.copy = sym (ap (λ (sets : Sets). copy_in sets c.args.line) looked) ∙ cc (c.look.ensures.found, c.in-Some.ensures) in
-    let asks : transient_of c.in-Some.copy.state GetM ≡ Some c.in-Some-transient.transient = cc c.in-Some-transient.ensures in
+    let found : copy_at c.args.self.now.caches.items c.args.core c.args.line ≡ Some c.in-Some.copy = own_found c.args.self.now.caches.items c.args.core c.args.line c.index.result.now (option_copied c.look.result) c.requires.ready.core_in c.index.ensures c.look.ensures.found c.in-Some.copy c.in-Some.ensures in
+    let asks : transient_of c.in-Some.copy.state GetM ≡ Some c.in-Some-transient.transient = sym c.in-Some-transient.ensures in
     upgrade_ask-transaction (g.P.Protocol.table c.args.protocol.now) (g.met.P.Protocol.gives_up c.args.protocol.now) c.args.self.now.caches.items c.snoop_others.new.self.caches.items c.args.self.now.memory.items c.args.core c.args.line c.in-Some.copy c.in-Some-transient.transient
     (record { coherent = c.requires.ready.coherent; core_in = c.requires.ready.core_in; some_set = c.requires.some_set; within = c.requires.ready.line_in; found = found; asks = asks; left = c.snoop_others.ensures.copies; tags = c.snoop_others.ensures.tags; ways = c.snoop_others.ensures.ways })
 
 pub returns-in-Some-transient-clause-tags : goal.returns-in-Some-transient-clause-tags
 returns-in-Some-transient-clause-tags g c =
-    let looked = c.index.ensures ∙ get_or_default c.args.self.now.caches.items c.args.core c.index.result.now [] c.requires.ready.core_in in
-    let found : copy_at c.args.self.now.caches.items c.args.core c.args.line ≡ Some c.in-Some.copy = sym (ap (λ (sets : Sets). copy_in sets c.args.line) looked) ∙ cc (c.look.ensures.found, c.in-Some.ensures) in
-    let asks : transient_of c.in-Some.copy.state GetM ≡ Some c.in-Some-transient.transient = cc c.in-Some-transient.ensures in
+    let found : copy_at c.args.self.now.caches.items c.args.core c.args.line ≡ Some c.in-Some.copy = own_found c.args.self.now.caches.items c.args.core c.args.line c.index.result.now (option_copied c.look.result) c.requires.ready.core_in c.index.ensures c.look.ensures.found c.in-Some.copy c.in-Some.ensures in
+    let asks : transient_of c.in-Some.copy.state GetM ≡ Some c.in-Some-transient.transient = sym c.in-Some-transient.ensures in
     upgrade_ask-tags (g.P.Protocol.table c.args.protocol.now) (g.met.P.Protocol.gives_up c.args.protocol.now) c.args.self.now.caches.items c.snoop_others.new.self.caches.items c.args.self.now.memory.items c.args.core c.args.line c.in-Some.copy c.in-Some-transient.transient
     (record { coherent = c.requires.ready.coherent; core_in = c.requires.ready.core_in; some_set = c.requires.some_set; within = c.requires.ready.line_in; found = found; asks = asks; left = c.snoop_others.ensures.copies; tags = c.snoop_others.ensures.tags; ways = c.snoop_others.ensures.ways })
 
 pub returns-in-Some-transient-clause-words : goal.returns-in-Some-transient-clause-words
 returns-in-Some-transient-clause-words g c =
-    let looked = c.index.ensures ∙ get_or_default c.args.self.now.caches.items c.args.core c.index.result.now [] c.requires.ready.core_in in
-    let found : copy_at c.args.self.now.caches.items c.args.core c.args.line ≡ Some c.in-Some.copy = sym (ap (λ (sets : Sets). copy_in sets c.args.line) looked) ∙ cc (c.look.ensures.found, c.in-Some.ensures) in
-    let asks : transient_of c.in-Some.copy.state GetM ≡ Some c.in-Some-transient.transient = cc c.in-Some-transient.ensures in
+    let found : copy_at c.args.self.now.caches.items c.args.core c.args.line ≡ Some c.in-Some.copy = own_found c.args.self.now.caches.items c.args.core c.args.line c.index.result.now (option_copied c.look.result) c.requires.ready.core_in c.index.ensures c.look.ensures.found c.in-Some.copy c.in-Some.ensures in
+    let asks : transient_of c.in-Some.copy.state GetM ≡ Some c.in-Some-transient.transient = sym c.in-Some-transient.ensures in
     upgrade_ask-words (g.P.Protocol.table c.args.protocol.now) (g.met.P.Protocol.gives_up c.args.protocol.now) c.args.self.now.caches.items c.snoop_others.new.self.caches.items c.args.self.now.memory.items c.args.core c.args.line c.in-Some.copy c.in-Some-transient.transient
     (record { coherent = c.requires.ready.coherent; core_in = c.requires.ready.core_in; some_set = c.requires.some_set; within = c.requires.ready.line_in; found = found; asks = asks; left = c.snoop_others.ensures.copies; tags = c.snoop_others.ensures.tags; ways = c.snoop_others.ensures.ways })

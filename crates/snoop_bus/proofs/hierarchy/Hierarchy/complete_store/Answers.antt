@@ -1,6 +1,7 @@
-use Rattle.std.proofs.Common.{rules, refl}
+use Rattle.std.proofs.Common.{rules, refl, length, ap, ◌∙◌}
 use Rattle.snoop_bus.specs.Held.{counted_in}
 use Rattle.snoop_bus.specs.Bus.{current_words}
+use Rattle.snoop_bus.proofs.Completed.{length-completed}
 use Rattle.snoop_bus.proofs.AcquireAsked.{completed_written}
 use Rattle.snoop_bus.proofs.hierarchy.Hierarchy.complete_store.Goals as goal
 
@@ -9,4 +10,4 @@ returns-clause-words g c =
     let d0 = counted_in c.args.target.core c.args.target.line c.args.transaction c.args.self.now.caches.items in
     rw c.write.ensures.memory
     (completed_written d0 c.acquire_asked.new.self.caches.items c.write.new.self.caches.items c.args.self.now.memory.items c.acquire_asked.new.self.memory.items c.args.target.core c.args.target.line c.args.target.offset c.args.value (current_words d0 c.args.self.now.memory.items c.args.target.line)
-    c.requires.awaited.line_in (search rules) (search rules) c.in_ok-access.ensures.own refl c.in_ok-access.ensures.words c.write.ensures.copies)
+    c.requires.awaited.line_in (search rules) (ap length c.in_ok-access.ensures.ok.memory ∙ length-completed (g.P.Protocol.table c.args.protocol.now) c.args.target.core c.args.target.line c.args.transaction c.args.self.now.caches.items c.args.self.now.memory.items) c.in_ok-access.ensures.own refl c.in_ok-access.ensures.words c.write.ensures.copies)

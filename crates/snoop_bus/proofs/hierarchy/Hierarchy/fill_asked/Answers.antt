@@ -1,5 +1,8 @@
-use Rattle.std.proofs.Common.{[], refl, ◌∙◌}
+use Rattle.std.proofs.Common.{[], refl, ap, ◌∙◌}
 use Rattle.std.proofs.lemmas.List.{get_or_default}
+use Rattle.snoop_bus.specs.Copies.{Sets, copy_in}
+use Rattle.snoop_bus.specs.MemoryAfter.{victim_at}
+use Rattle.snoop_bus.proofs.FillCalls.{filled_own, written_victim}
 use Rattle.snoop_bus.proofs.AccessLemmas.{writes_back_is}
 use Rattle.snoop_bus.proofs.UseLemmas.{tags-filled, ways-set_cache}
 use Rattle.snoop_bus.proofs.CompleteLemmas.{fill-words, counted-valid, victim_within}
@@ -45,3 +48,20 @@ returns-clause-words g c =
       was_here = rw here at c.in_ok-victim.ensures.was_here;
       memory = c.write_back.ensures.memory;
     }))
+
+pub fill-requires-clause-absent : goal.fill-requires-clause-absent
+fill-requires-clause-absent g c =
+    let here = c.index_mut-cache.ensures.value ∙ get_or_default c.args.self.now.caches.items c.args.core c.index_mut-cache.result.now [] c.requires.core in
+    ap (λ (sets : Sets). copy_in sets c.args.line) here ∙ c.requires.absent
+
+pub returns-clause-memory : goal.returns-clause-memory
+returns-clause-memory g c =
+    let here = c.index_mut-cache.ensures.value ∙ get_or_default c.args.self.now.caches.items c.args.core c.index_mut-cache.result.now [] c.requires.core in
+    written_victim (g.P.Protocol.table c.args.protocol.now) c.in_ok-victim.victim (victim_at c.args.self.now.caches.items c.args.core c.args.line) c.args.self.now.memory.items c.write_back.new.self.memory.items c.write_back.ensures.memory
+    (rw here at c.in_ok-victim.ensures.victim)
+
+pub returns-clause-own : goal.returns-clause-own
+returns-clause-own g c =
+    let here = c.index_mut-cache.ensures.value ∙ get_or_default c.args.self.now.caches.items c.args.core c.index_mut-cache.result.now [] c.requires.core in
+    rw c.write_back.ensures.caches
+    (filled_own c.args.self.now.caches.items c.args.core c.args.line c.args.transaction.copy c.in_ok-victim.victim c.fill.new.self c.requires.core (rw here at c.in_ok-victim.ensures.copies))

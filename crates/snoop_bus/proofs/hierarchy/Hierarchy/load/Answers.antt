@@ -1,38 +1,36 @@
-use Rattle.std.proofs.Common.{◌≡◌, Some, [], sym, ap, ◌∙◌}
+use Rattle.std.proofs.Common.{◌≡◌, Some, [], ◌∙◌}
 use Rattle.std.proofs.lemmas.List.{get_or_default}
-use Rattle.snoop_bus.specs.Copies.{Sets, copy_in, copy_at}
+use Rattle.snoop_bus.specs.Copies.{copy_at}
+use Rattle.std.specs.Option.{option_copied}
+use Rattle.snoop_bus.proofs.AcquireCalls.{own_found}
 use Rattle.snoop_bus.proofs.HitLemmas.{load_hit}
 use Rattle.snoop_bus.proofs.hierarchy.Hierarchy.load.Goals as goal
 
 pub returns-in-Some-clause-ok : goal.returns-in-Some-clause-ok
 returns-in-Some-clause-ok g c =
-    let looked = c.index.ensures ∙ get_or_default c.args.self.now.caches.items c.args.target.core c.index.result.now [] c.requires.ready.core_in in
     let here = c.index_mut-cache.ensures.value ∙ get_or_default c.args.self.now.caches.items c.args.target.core c.index_mut-cache.result.now [] c.requires.ready.core_in in
-    let found : copy_at c.args.self.now.caches.items c.args.target.core c.args.target.line ≡ Some c.in-Some.copy = sym (ap (λ (sets : Sets). copy_in sets c.args.target.line) looked) ∙ cc (c.look.ensures.found, c.in-Some.ensures) in
+    let found : copy_at c.args.self.now.caches.items c.args.target.core c.args.target.line ≡ Some c.in-Some.copy = own_found c.args.self.now.caches.items c.args.target.core c.args.target.line c.index.result.now (option_copied c.look.result) c.requires.ready.core_in c.index.ensures c.look.ensures.found c.in-Some.copy c.in-Some.ensures in
     rw (c.from.ensures, c.quiet.ensures)
     (load_hit (g.P.Protocol.table c.args.protocol.now) c.args.held c.args.self.now.caches.items c.args.self.now.memory.items c.args.target.core c.args.target.line c.args.target.offset c.in-Some.copy c.touch.new.self c.requires.ready.coherent c.requires.ready.awaited c.requires.ready.core_in c.requires.ready.line_in found
     (rw here at c.touch.ensures.exact) (rw here at c.touch.ensures.copies) (rw here at c.touch.ensures.ways)).0
 
 pub returns-in-Some-clause-words : goal.returns-in-Some-clause-words
 returns-in-Some-clause-words g c =
-    let looked = c.index.ensures ∙ get_or_default c.args.self.now.caches.items c.args.target.core c.index.result.now [] c.requires.ready.core_in in
     let here = c.index_mut-cache.ensures.value ∙ get_or_default c.args.self.now.caches.items c.args.target.core c.index_mut-cache.result.now [] c.requires.ready.core_in in
-    let found : copy_at c.args.self.now.caches.items c.args.target.core c.args.target.line ≡ Some c.in-Some.copy = sym (ap (λ (sets : Sets). copy_in sets c.args.target.line) looked) ∙ cc (c.look.ensures.found, c.in-Some.ensures) in
+    let found : copy_at c.args.self.now.caches.items c.args.target.core c.args.target.line ≡ Some c.in-Some.copy = own_found c.args.self.now.caches.items c.args.target.core c.args.target.line c.index.result.now (option_copied c.look.result) c.requires.ready.core_in c.index.ensures c.look.ensures.found c.in-Some.copy c.in-Some.ensures in
     (load_hit (g.P.Protocol.table c.args.protocol.now) c.args.held c.args.self.now.caches.items c.args.self.now.memory.items c.args.target.core c.args.target.line c.args.target.offset c.in-Some.copy c.touch.new.self c.requires.ready.coherent c.requires.ready.awaited c.requires.ready.core_in c.requires.ready.line_in found
     (rw here at c.touch.ensures.exact) (rw here at c.touch.ensures.copies) (rw here at c.touch.ensures.ways)).1
 
 pub returns-in-Some-clause-awaited : goal.returns-in-Some-clause-awaited
 returns-in-Some-clause-awaited g c =
-    let looked = c.index.ensures ∙ get_or_default c.args.self.now.caches.items c.args.target.core c.index.result.now [] c.requires.ready.core_in in
     let here = c.index_mut-cache.ensures.value ∙ get_or_default c.args.self.now.caches.items c.args.target.core c.index_mut-cache.result.now [] c.requires.ready.core_in in
-    let found : copy_at c.args.self.now.caches.items c.args.target.core c.args.target.line ≡ Some c.in-Some.copy = sym (ap (λ (sets : Sets). copy_in sets c.args.target.line) looked) ∙ cc (c.look.ensures.found, c.in-Some.ensures) in
+    let found : copy_at c.args.self.now.caches.items c.args.target.core c.args.target.line ≡ Some c.in-Some.copy = own_found c.args.self.now.caches.items c.args.target.core c.args.target.line c.index.result.now (option_copied c.look.result) c.requires.ready.core_in c.index.ensures c.look.ensures.found c.in-Some.copy c.in-Some.ensures in
     (load_hit (g.P.Protocol.table c.args.protocol.now) c.args.held c.args.self.now.caches.items c.args.self.now.memory.items c.args.target.core c.args.target.line c.args.target.offset c.in-Some.copy c.touch.new.self c.requires.ready.coherent c.requires.ready.awaited c.requires.ready.core_in c.requires.ready.line_in found
     (rw here at c.touch.ensures.exact) (rw here at c.touch.ensures.copies) (rw here at c.touch.ensures.ways)).2
 
 pub returns-in-Some-clause-ways : goal.returns-in-Some-clause-ways
 returns-in-Some-clause-ways g c =
-    let looked = c.index.ensures ∙ get_or_default c.args.self.now.caches.items c.args.target.core c.index.result.now [] c.requires.ready.core_in in
     let here = c.index_mut-cache.ensures.value ∙ get_or_default c.args.self.now.caches.items c.args.target.core c.index_mut-cache.result.now [] c.requires.ready.core_in in
-    let found : copy_at c.args.self.now.caches.items c.args.target.core c.args.target.line ≡ Some c.in-Some.copy = sym (ap (λ (sets : Sets). copy_in sets c.args.target.line) looked) ∙ cc (c.look.ensures.found, c.in-Some.ensures) in
+    let found : copy_at c.args.self.now.caches.items c.args.target.core c.args.target.line ≡ Some c.in-Some.copy = own_found c.args.self.now.caches.items c.args.target.core c.args.target.line c.index.result.now (option_copied c.look.result) c.requires.ready.core_in c.index.ensures c.look.ensures.found c.in-Some.copy c.in-Some.ensures in
     (load_hit (g.P.Protocol.table c.args.protocol.now) c.args.held c.args.self.now.caches.items c.args.self.now.memory.items c.args.target.core c.args.target.line c.args.target.offset c.in-Some.copy c.touch.new.self c.requires.ready.coherent c.requires.ready.awaited c.requires.ready.core_in c.requires.ready.line_in found
     (rw here at c.touch.ensures.exact) (rw here at c.touch.ensures.copies) (rw here at c.touch.ensures.ways)).3

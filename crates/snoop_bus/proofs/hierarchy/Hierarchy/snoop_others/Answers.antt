@@ -1,4 +1,4 @@
-use Rattle.std.proofs.Common.{arith, rules, ◌≡◌, ℕ, length, subst, ◌∙◌}
+use Rattle.std.proofs.Common.{arith, ◌≡◌, ℕ, length, refl, subst, ◌∙◌}
 use Rattle.snoop_bus.specs.Requests.{asked}
 use Rattle.snoop_bus.specs.inner.Requests.{SeenBelow, LeftBelow}
 use Rattle.snoop_bus.proofs.CacheTags.{tags-requested}
@@ -10,8 +10,8 @@ pub loop-other-init : goal.loop-other-init
 loop-other-init g c = record {
   seen = seen-none (asked (g.P.Protocol.table c.args.protocol.now) c.args.request) c.args.core c.args.line c.args.self.now.caches.items;
   copies = left-none (asked (g.P.Protocol.table c.args.protocol.now) c.args.request) c.args.core c.args.line c.args.self.now.caches.items;
-  memory = search rules;
-  ways = search rules;
+  memory = refl;
+  ways = refl;
 }
 
 pub loop-other-preserved : goal.loop-other-preserved

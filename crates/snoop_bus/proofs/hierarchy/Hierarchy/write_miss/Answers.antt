@@ -1,8 +1,29 @@
-use Rattle.std.proofs.Common.{[], ◌∙◌}
+use Rattle.std.proofs.Common.{[], ap, ◌∙◌}
 use Rattle.std.proofs.lemmas.List.{get_or_default}
+use Rattle.tso_model.specs.Limits.{most_cores}
 use Rattle.snoop_bus.specs.Lines.{line_in}
+use Rattle.snoop_bus.specs.Copies.{Sets, copy_in}
+use Rattle.snoop_bus.proofs.FillCalls.{victim_in_memory, still_few, still_found}
 use Rattle.snoop_bus.proofs.WriteMiss.{write_missed}
 use Rattle.snoop_bus.proofs.hierarchy.Hierarchy.write_miss.Goals as goal
+
+pub fill-requires-clause-absent : goal.fill-requires-clause-absent
+fill-requires-clause-absent g c =
+    let here = c.index_mut-cache.ensures.value ∙ get_or_default c.args.self.now.caches.items c.args.core c.index_mut-cache.result.now [] c.requires.ready.core_in in
+    ap (λ (sets : Sets). copy_in sets c.args.line) here ∙ c.requires.absent
+
+pub write_back-wrote_back-requires : goal.write_back-wrote_back-requires
+write_back-wrote_back-requires g c =
+    let here = c.index_mut-cache.ensures.value ∙ get_or_default c.args.self.now.caches.items c.args.core c.index_mut-cache.result.now [] c.requires.ready.core_in in
+    victim_in_memory c.args.self.now.caches.items c.args.self.now.memory.items c.args.core c.in_ok-victim.victim c.requires.ready.coherent (rw here at c.in_ok-victim.ensures.was_here)
+
+pub snoop_others-requires-clause-few : goal.snoop_others-requires-clause-few
+snoop_others-requires-clause-few g c =
+    still_few c.args.self.now.caches.items c.write_back-wrote_back.new.self.caches.items c.args.core c.fill.new.self c.write_back-wrote_back.ensures.caches most_cores c.requires.ready.few_cores
+
+pub snoop_others-requires-clause-states : goal.snoop_others-requires-clause-states
+snoop_others-requires-clause-states g c =
+    still_found c.args.self.now.caches.items c.write_back-wrote_back.new.self.caches.items c.args.core c.fill.new.self c.write_back-wrote_back.ensures.caches c.args.line c.find-found.result.states c.find-found.ensures.states
 
 pub returns-clause-ok : goal.returns-clause-ok
 returns-clause-ok g c =

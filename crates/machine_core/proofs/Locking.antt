@@ -1,0 +1,91 @@
+-- A locked instruction made whole, from what the calls in it say.
+use Rattle.std.proofs.Common.{◌≡◌, ◌++◌, ◌∷◌, inl, inr, ℕ, true, false, None, Result, List, [], map, slice_index, refl, sym, ap, ◌∙◌, subst}
+use Rattle.tso_model.specs.Thread.{entry, value_in, with_value, updated}
+use Rattle.tso_model.specs.MemoryAccess.{locked_access, Locks}
+use Rattle.tso_model.specs.FlatMachine.{CoreState, Effect, advanced_with}
+use Rattle.tso_model.specs.declared.instruction.Core.{Core}
+use Rattle.tso_model.specs.declared.instruction.Loc.{Loc}
+use Rattle.tso_model.specs.declared.out_of_memory.NoMemory.{NoMemory}
+use Rattle.tso_model.specs.declared.register.Reg.{Reg}
+use Rattle.tso_model.specs.declared.action.Update.{Update}
+use Rattle.tso_model.specs.declared.execution.Entry.{Entry}
+use Rattle.tso_model.specs.declared.execution.Kind.TheVariants.{LR}
+use Rattle.tso_model.specs.declared.choice.Outcome.TheVariants.{Committed}
+use Rattle.store_buffer.specs.declared.Pending.{Pending}
+use Rattle.order_builder.specs.inner.Noted.{Noted}
+use Rattle.snoop_bus.specs.declared.access.Access.{Access}
+use Rattle.snoop_bus.specs.declared.access.Updated.{Updated}
+use Rattle.snoop_bus.specs.Bus.{BusModel, words_of, IsSameMachine}
+use Rattle.snoop_bus.specs.Accesses.{IsCurrentWord, WritesAt, CompletesAt, awaited_of}
+use Rattle.snoop_bus.specs.inner.Accesses.{MayGoOn}
+use Rattle.machine_core.specs.declared.processor.Processor.{Processor}
+use Rattle.machine_core.specs.declared.accesses.CacheUse.TheVariants.{Through}
+use Rattle.machine_core.specs.declared.turn.Way.TheVariants.{Whole}
+use Rattle.machine_core.specs.Cores.{store_of, core_state}
+use Rattle.machine_core.specs.inner.Cores.{pending_in, lock_by, both_parts, at_next, word_at}
+use Rattle.machine_core.specs.Caches.{caches_of, completion_by}
+use Rattle.machine_core.specs.Effects.{HasUsed}
+use Rattle.machine_core.specs.inner.Turns.{whole}
+use Rattle.machine_core.specs.inner.Effects.{MayMake}
+use Rattle.machine_core.specs.inner.OneCore.{Acts, HasActed, SucceedsUnlessCommitting, Notes}
+use Rattle.machine_core.proofs.CoreLemmas.{index-got}
+use Rattle.machine_core.proofs.CacheUses.{writes}
+use Rattle.basic_laws.proofs.WithPending.{locked_with}
+
+abbrev made : ℕ → CoreState → Loc → Reg → ℕ → ℕ → Effect
+made core s loc reg word value = record { outcome = Committed; after = advanced_with s reg word; commits = both_parts core s.place loc word value }
+
+locked-made : (core : ℕ) (s : CoreState) (loc : Loc) (reg : Reg) (word value : ℕ) (items : List Pending) → items ≡ [] → locked_with core s loc reg word value (map (store_of core) items) ≡ made core s loc reg word value
+locked-made core s loc reg word value [] h = refl
+locked-made core s loc reg word value (p ∷ ps) h = absurd (let z : ⊥ = cc in z)
+
+pub acts-locks : (core : Core) (loc : Loc) (reg : Reg) (update : Update) (p q : Processor) (b b' : BusModel) (noted mid noted' : Noted) (value : ℕ) (u : Updated) → p.stores.items ≡ [] → value ≡ value_in p.registers reg
+    → IsCurrentWord b loc.0 u.before → u.after ≡ updated update u.before value → WritesAt b b' core.0 loc.0 u.after u.access → IsSameMachine b b'
+    → mid.entries ≡ noted.entries → noted'.entries ≡ mid.entries ++ both_parts core.0 p.place loc u.before u.after
+    → q ≡ at_next p (with_value p.registers reg u.before) → Acts (whole core) (locked_access loc (pending_in core.0 p)) (lock_by loc reg update) p q b b' noted noted' (Committed, Through u.access)
+acts-locks core loc reg update p q b b' noted mid noted' value u none value_is before after done machine room notes next =
+    subst (λ f. HasActed Whole (locked_access loc (pending_in core.0 p)) core.0 p q b b' noted noted' f (Committed, Through u.access)) (sym effect) (record {
+      outcome = refl;
+      after = rw next refl;
+      words = done.words;
+      commits = rw (← room) notes;
+      caches = writes b b' core.0 loc.0 u.after u.access done machine;
+      holder = done.held.holder_is;
+    })
+  where
+    word : slice_index (words_of b) loc.0 ≡ u.before
+    word = index-got (words_of b) loc.0 u.before before
+
+    written : updated update (slice_index (words_of b) loc.0) (value_in p.registers reg) ≡ u.after
+    written = rw (word, ← value_is) (sym after)
+
+    effect : lock_by loc reg update core.0 p (words_of b) ≡ made core.0 (core_state core.0 p) loc reg u.before u.after
+    effect = locked-made core.0 (core_state core.0 p) loc reg _ _ p.stores.items none
+        ∙ ap (λ w. made core.0 (core_state core.0 p) loc reg w (updated update (slice_index (words_of b) loc.0) (value_in p.registers reg))) word
+        ∙ ap (λ v. made core.0 (core_state core.0 p) loc reg u.before v) written
+
+-- it commits where nothing is pending, so memory may be refused then alone
+pub lock-commits : {A : Type 0} (r : Result A NoMemory) (core : ℕ) (loc : Loc) (reg : Reg) (update : Update) (p : Processor) (words : List ℕ) → p.stores.items ≡ [] → SucceedsUnlessCommitting r (lock_by loc reg update core p words)
+lock-commits r core loc reg update p words none = λ other. absurd (other (ap (λ f. f.outcome) (locked-made core (core_state core p) loc reg _ _ p.stores.items none)))
+
+-- its access may be made whole
+pub may-lock : (core : Core) (loc : Loc) (p : Processor) (b : BusModel) → p.stores.items ≡ [] → MayMake (whole core) b (locked_access loc (pending_in core.0 p)) → MayGoOn b core.0 loc.0 true
+may-lock core loc p b none may = by_access (subst (λ items. MayMake (whole core) b (locked_access loc (map (store_of core.0) items))) none may)
+  where
+    by_access : MayMake (whole core) b (Locks loc) → MayGoOn b core.0 loc.0 true
+    by_access (inl free) = inl free
+    by_access (inr never) = (let z : ⊥ = cc in absurd z)
+
+-- its load part alone, on a split bus
+module _ (core : Core) (place : ℕ) (loc : Loc) (b b' : BusModel) (value : ℕ) (word : IsCurrentWord b loc.0 value) (read : Entry) (is : read ≡ entry core.0 place LR loc value) where
+  pub first-entry : read ≡ entry core.0 place LR loc (word_at b loc)
+  first-entry = rw (index-got (words_of b) loc.0 value word) is
+
+  pub first-noted : (noted mid noted' : Noted) → mid.entries ≡ noted.entries → noted'.entries ≡ mid.entries ++ read ∷ [] → Notes noted noted' (entry core.0 place LR loc (word_at b loc))
+  first-noted noted mid noted' room notes = rw (← room, ← first-entry) notes
+
+pub first-uses : (b b' : BusModel) (core loc : ℕ) (access : Access) → CompletesAt b b' core loc access → IsSameMachine b b' → awaited_of b' ≡ None → HasUsed (completion_by (caches_of b) core loc) b' (Through access)
+first-uses b b' core loc access done machine nothing = record { how_is = ap Through done.access_is; caches = rw (machine.rows, machine.shape, done.contents, nothing) refl }
+
+pub impossible : {A : Type 0} → false ≡ true → A
+impossible e = cc

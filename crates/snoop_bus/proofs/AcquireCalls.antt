@@ -1,0 +1,61 @@
+-- What the calls of a write access rest on, and what it leaves where nobody else holds the bus.
+use Rattle.std.proofs.lemmas.List.{get_or_default}
+use Rattle.std.proofs.Common.{◌≡◌, ◌≢◌, ℕ, ◌<◌, true, false, is_some, Option, Some, None, IsSome, IfSome, Result, IfOk, List, [], length, slice_index_or, refl, sym, ap, ◌∙◌}
+use Rattle.protocol_tables.specs.Laws.{WritesInPlace}
+use Rattle.protocol_tables.specs.Tables.{Table}
+use Rattle.protocol_tables.specs.declared.state.State.{State}
+use Rattle.protocol_tables.specs.declared.state.State.TheVariants.{I, M}
+use Rattle.cache_set.specs.declared.Line.{Line}
+use Rattle.snoop_bus.specs.declared.access.Access.{Access}
+use Rattle.snoop_bus.specs.declared.hierarchy.Hierarchy.{Hierarchy}
+use Rattle.snoop_bus.specs.declared.holding.HeldBus.{HeldBus}
+use Rattle.snoop_bus.specs.Lines.{Words}
+use Rattle.snoop_bus.specs.Copies.{Sets, copy_in, copy_at}
+use Rattle.snoop_bus.specs.inner.Held.{IsHeld}
+use Rattle.snoop_bus.specs.inner.Accessing.{IsReady, Acquires, KeepsWords}
+use Rattle.snoop_bus.specs.Held.{counted}
+use Rattle.snoop_bus.proofs.WriteLemmas.{written_m}
+
+-- what a look at a core's own sets found
+module _ (caches : List Sets) (core line : ℕ) (sets : Sets) (looked : Option Line) (within : core < length caches) (at : sets ≡ slice_index_or caches core sets) (is : looked ≡ copy_in sets line) where
+  there : copy_at caches core line ≡ looked
+  there = sym (ap (λ (s : Sets). copy_in s line) (at ∙ get_or_default caches core sets [] within)) ∙ sym is
+
+  pub own_found : (copy : Line) → Some copy ≡ looked → copy_at caches core line ≡ Some copy
+  own_found copy e = there ∙ sym e
+
+  pub own_absent : None ≡ looked → copy_at caches core line ≡ None
+  own_absent e = there ∙ sym e
+
+pub is_present : (o : Option Line) (copy : Line) → o ≡ Some copy → IsSome o
+is_present o copy e = rw e refl
+
+pub not_present : {A : Type 0} (o : Option Line) → o ≡ None → IsSome o → A
+not_present None e some = cc
+not_present (Some copy) e some = cc
+
+-- a write in place goes to M
+pub written_valid : (t : Table) → WritesInPlace t.written → (s next : State) → Some next ≡ t.written s → next ≢ I
+written_valid t law s next e = λ i. let m : next ≡ M = written_m s next (sym (law s) ∙ sym e) in cc
+
+-- nobody holds the bus
+pub is_free : (held : Option HeldBus) → is_some held ≡ false → held ≡ None
+is_free None e = refl
+is_free (Some h) e = cc
+
+pub is_not_held : (held : Option HeldBus) → held ≡ None → is_some held ≡ true → ⊥
+is_not_held held free e = let wrong : false ≡ true = rw free at e in cc
+
+module _ (held : Option HeldBus) (free : held ≡ None) where
+  pub ready_alone : (core line : ℕ) (h : Hierarchy) → IsReady held core line h → IsReady None core line h
+  ready_alone core line h ready = rw free at ready
+
+  pub nothing_awaited : (caches : List Sets) (memory : List Words) → IfSome held (IsHeld caches memory)
+  nothing_awaited caches memory = rw free tt
+
+  pub words_alone : (c0 c2 : List Sets) (m0 m2 : List Words) → KeepsWords c0 c2 m0 m2 → KeepsWords (counted held c0) (counted held c2) m0 m2
+  words_alone c0 c2 m0 m2 keeps = rw free keeps
+
+  pub acquired_alone : {E : Type 0} (r : Result (Words × Access) E) (t : Table) (core line : ℕ) (c0 c2 : List Sets) (m0 m2 : List Words) →
+      IfOk r (λ r. Acquires t None core line c0 c2 m0 m2 r.0 r.1) → IfOk r (λ r. Acquires t held core line c0 c2 m0 m2 r.0 r.1)
+  acquired_alone r t core line c0 c2 m0 m2 ok = rw free ok
