@@ -29,13 +29,22 @@ pub fn command_line<'a>(alloc: Global) -> Result<Command<'a>, AllocError> {
         .about("Runs x86 litmus tests on a simulated multiprocessor under total store order (TSO)")
         .after_help(help::TSO)
         .subcommand_required(true);
+    with_judges(alloc, with_runs(alloc, program)?)
+}
+
+/// The program with the commands that run a machine.
+fn with_runs<'a>(alloc: Global, program: Command<'a>) -> Result<Command<'a>, AllocError> {
     let program = with(program, run_line(alloc))?;
     let program = with(program, trace_line(alloc))?;
-    let program = with(program, sweep_line(alloc))?;
+    with(program, sweep_line(alloc))
+}
+
+/// The program with the commands that find or judge what a machine may do.
+fn with_judges<'a>(alloc: Global, program: Command<'a>) -> Result<Command<'a>, AllocError> {
     let program = with(program, outcomes_line(alloc))?;
     let program = program.subcommand(check_line(alloc))?;
     let program = with(program, witness_line(alloc))?;
-    program.subcommand(tables_line(alloc)?)
+    with(program, tables_line(alloc))
 }
 
 /// The program with one more command.
@@ -47,113 +56,133 @@ fn with<'a>(
 }
 
 fn run_line<'a>(alloc: Global) -> Result<Command<'a>, AllocError> {
-    let line = Command::new(alloc, "run")
-        .about("Runs a test under a list of choices, and reports the order that memory saw")
-        .after_help(help::RUN);
-    machine_options(alloc, line)?.arg(json_option(alloc))
+    let about = "Runs a test under a list of choices, and reports the order that memory saw";
+    choices_line(alloc, "run", about, help::RUN)
 }
 
 fn trace_line<'a>(alloc: Global) -> Result<Command<'a>, AllocError> {
-    let line = Command::new(alloc, "trace")
-        .about("Runs a test under a list of choices, and tells what each choice did")
-        .after_help(help::TRACE);
-    machine_options(alloc, line)?.arg(json_option(alloc))
+    let about = "Runs a test under a list of choices, and tells what each choice did";
+    choices_line(alloc, "trace", about, help::TRACE)
 }
 
-fn sweep_line<'a>(alloc: Global) -> Result<Command<'a>, AllocError> {
-    let line = Command::new(alloc, "sweep")
-        .about("Runs a test under the choices of many seeds, and counts its final states")
-        .after_help(help::SWEEP);
-    plan_options(alloc, machine_options(alloc, line)?)
-}
-
-fn outcomes_line<'a>(alloc: Global) -> Result<Command<'a>, AllocError> {
-    let states = "How many states of the machine may be kept, 1 to 10000000";
-    Command::new(alloc, "outcomes")
-        .about("Finds all final states of a test, with choices that lead to each")
-        .after_help(help::OUTCOMES)
-        .arg(depth_option(alloc, 0, SEARCH_DEPTH, "32"))?
-        .arg(number_option(
-            alloc,
-            "states",
-            states,
-            clap::value_parser!(u32).range(1..=10000000),
-            "1000000",
-        ))?
+/// A command that runs a test under a list of choices.
+fn choices_line<'a>(
+    alloc: Global,
+    name: &'a str,
+    about: &'a str,
+    help: &'a str,
+) -> Result<Command<'a>, AllocError> {
+    let options = machine_options(alloc)?;
+    command(alloc, name, about, help)
+        .args(options)?
         .arg(json_option(alloc))
 }
 
+/// A command without options.
+fn command<'a>(alloc: Global, name: &'a str, about: &'a str, help: &'a str) -> Command<'a> {
+    Command::new(alloc, name).about(about).after_help(help)
+}
+
+fn sweep_line<'a>(alloc: Global) -> Result<Command<'a>, AllocError> {
+    let about = "Runs a test under the choices of many seeds, and counts its final states";
+    let machine = machine_options(alloc)?;
+    let plan = plan_options(alloc)?;
+    command(alloc, "sweep", about, help::SWEEP)
+        .args(machine)?
+        .args(plan)
+}
+
+fn outcomes_line<'a>(alloc: Global) -> Result<Command<'a>, AllocError> {
+    let about = "Finds all final states of a test, with choices that lead to each";
+    let options = search_options(alloc)?;
+    command(alloc, "outcomes", about, help::OUTCOMES).args(options)
+}
+
 fn check_line<'a>(alloc: Global) -> Command<'a> {
-    Command::new(alloc, "check")
-        .about("Judges an order of a test by the axioms of TSO")
-        .after_help(help::CHECK)
+    let about = "Judges an order of a test by the axioms of TSO";
+    command(alloc, "check", about, help::CHECK)
 }
 
 fn witness_line<'a>(alloc: Global) -> Result<Command<'a>, AllocError> {
-    Command::new(alloc, "witness")
-        .about("Finds choices that reach an order of a test")
-        .after_help(help::WITNESS)
-        .arg(depth_option(alloc, 1, WITNESS_DEPTH, "4"))
+    let about = "Finds choices that reach an order of a test";
+    command(alloc, "witness", about, help::WITNESS).arg(depth_option(alloc, 1, WITNESS_DEPTH, "4"))
 }
 
 fn tables_line<'a>(alloc: Global) -> Result<Command<'a>, AllocError> {
-    Command::new(alloc, "tables")
-        .about("Prints the table of a coherence protocol")
-        .after_help(help::TABLES)
-        .arg(protocol_option(alloc, "Which protocol"))
+    let about = "Prints the table of a coherence protocol";
+    command(alloc, "tables", about, help::TABLES).arg(protocol_option(alloc, "Which protocol"))
 }
 
 /// The options that a machine is built by.
-fn machine_options<'a>(alloc: Global, line: Command<'a>) -> Result<Command<'a>, AllocError> {
+fn machine_options<'a>(alloc: Global) -> Result<Vec<Arg<'a>>, AllocError> {
     let sets = "How many sets each core's cache has, 1 to 8";
     let ways = "For how many lines each set has room, 1 to 8";
     let words = "How many words a cache line has: 1, 2 or 4";
-    line.arg(protocol_option(alloc, "Coherence protocol of the caches"))?
-        .arg(depth_option(alloc, 0, MACHINE_DEPTH, "4"))?
-        .arg(number_option(
-            alloc,
-            "sets",
-            sets,
-            clap::value_parser!(u8).range(1..=8),
-            "1",
-        ))?
-        .arg(number_option(
-            alloc,
-            "ways",
-            ways,
-            clap::value_parser!(u8).range(1..=8),
-            "2",
-        ))?
-        .arg(number_option(
-            alloc,
-            "words",
-            words,
-            clap::value_parser!(u8).range(1..=4),
-            "1",
-        ))?
-        .arg(bus_option(alloc))
+    Ok(vec![in alloc;
+        protocol_option(alloc, "Coherence protocol of the caches"),
+        depth_option(alloc, 0, MACHINE_DEPTH, "4"),
+        byte_option(alloc, "sets", sets, 8, "1"),
+        byte_option(alloc, "ways", ways, 8, "2"),
+        byte_option(alloc, "words", words, 4, "1"),
+        bus_option(alloc),
+    ]?)
 }
 
 /// The options that say which seeds are swept.
-fn plan_options<'a>(alloc: Global, line: Command<'a>) -> Result<Command<'a>, AllocError> {
+fn plan_options<'a>(alloc: Global) -> Result<Vec<Arg<'a>>, AllocError> {
     let from = "The first seed, 0 to 4294967295";
     let seeds = "How many seeds, each for a run, 1 to 1000";
     let length = "How many choices each seed makes, 0 to 100000";
-    line.arg(number_option(alloc, "from", from, clap::value_parser!(u32), "0"))?
-        .arg(number_option(
-            alloc,
-            "seeds",
-            seeds,
-            clap::value_parser!(u32).range(1..=1000),
-            "10",
-        ))?
-        .arg(number_option(
-            alloc,
-            "length",
-            length,
-            clap::value_parser!(u32).range(0..=100000),
-            "1000",
-        ))
+    Ok(vec![in alloc;
+        number_option(alloc, "from", from, clap::value_parser!(u32), "0"),
+        word_option(alloc, "seeds", seeds, 1, 1000, "10"),
+        word_option(alloc, "length", length, 0, 100000, "1000"),
+    ]?)
+}
+
+/// The options that say what is searched for, and how it is told.
+fn search_options<'a>(alloc: Global) -> Result<Vec<Arg<'a>>, AllocError> {
+    let states = "How many states of the machine may be kept, 1 to 10000000";
+    Ok(vec![in alloc;
+        depth_option(alloc, 0, SEARCH_DEPTH, "32"),
+        word_option(alloc, "states", states, 1, 10000000, "1000000"),
+        json_option(alloc),
+    ]?)
+}
+
+/// An option whose value is a number from 1 to this one.
+fn byte_option<'a>(
+    alloc: Global,
+    name: &'a str,
+    help: &'a str,
+    most: i64,
+    default: &'a str,
+) -> Arg<'a> {
+    number_option(
+        alloc,
+        name,
+        help,
+        clap::value_parser!(u8).range(1..=most),
+        default,
+    )
+}
+
+/// An option whose value is a number between these two, or one of them.
+fn word_option<'a>(
+    alloc: Global,
+    name: &'a str,
+    help: &'a str,
+    least: i64,
+    most: i64,
+    default: &'a str,
+) -> Arg<'a> {
+    number_option(
+        alloc,
+        name,
+        help,
+        clap::value_parser!(u32).range(least..=most),
+        default,
+    )
 }
 
 fn depth_option<'a>(alloc: Global, least: i64, help: &'a str, default: &'a str) -> Arg<'a> {

@@ -93,12 +93,17 @@ pub fn settings_of(alloc: Global, words: &[&str]) -> Result<Settings, LineFault>
     ensures within { IfOk result IsWithinLimits }
     ensures depth { IfOk result HasDepth }
 {
-    let command = command_line(alloc).map_err(clap::Error::from)?;
-    let matches = command.try_get_matches_from(words)?;
+    let matches = matches_of(alloc, words)?;
     match matches.subcommand() {
         Some((name, inner)) => settings_in(name, inner).ok_or(LineFault::Range),
         None => Err(LineFault::Range),
     }
+}
+
+/// What the words say, where they are a command with its options.
+fn matches_of<'a>(alloc: Global, words: &'a [&'a str]) -> Result<ArgMatches<'a>, clap::Error> {
+    let command = command_line(alloc)?;
+    command.try_get_matches_from(words)
 }
 
 /// The settings of a subcommand; `None` where a value is outside its limits.

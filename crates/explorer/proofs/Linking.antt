@@ -1,7 +1,8 @@
 -- Links lead to their snapshots.
-use Rattle.std.proofs.Common.{◌≡◌, ◌<◌, ◌≤◌, ℕ, zero, suc, Bool, true, false, List, [], ◌∷◌, ◌++◌, length, Some, slice_get, slice_index_or, if◌then◌else◌, inl, inr, arith, ap, sym, ◌∙◌, subst, refl, length-append}
+use Rattle.std.proofs.Common.{◌≡◌, ◌<◌, ◌≤◌, ℕ, ◌+◌, zero, suc, Bool, true, false, List, [], ◌∷◌, ◌++◌, length, Some, slice_get, slice_index_or, if◌then◌else◌, inl, inr, arith, ap, sym, ◌∙◌, subst, refl, length-append, get_or, take, map, append_assoc}
 use Rattle.std.specs.Prelude.{not}
 use Rattle.std.proofs.lemmas.Option.{slice_get-get_or}
+use Rattle.std.proofs.lemmas.List.{map-append, take_more}
 use Rattle.std.specs.List.{list_any}
 use Rattle.indexmap.specs.IndexSet.{insert_key}
 use Rattle.basic_laws.proofs.Basics.{lt-or}
@@ -246,3 +247,11 @@ linked-forgotten law all d t hidden xs links h i s at =
 
 pub reachable : (d : ℕ) (t : Litmus) (s : State) (cs : List Choice) → LeadsBy d t (start t) cs s → IsReachable t d s
 reachable d t s cs h = record { choices = cs; cores = leads-cores d t (start t) cs s h; state_is = leads-after d t (start t) cs s h }
+
+-- ---- turns, one more
+
+pub one-told : {A : Type 0} (f : A → Turn) (xs : List A) (i : ℕ) (d : A) (front before after : List Turn) → i < length xs → after ≡ before ++ f (get_or xs i d) ∷ []
+    → before ≡ front ++ map f (take i xs) → after ≡ front ++ map f (take (i + 1) xs)
+one-told f xs i d front before after within told so_far =
+    told ∙ (ap (λ z. z ++ f (get_or xs i d) ∷ []) so_far ∙ (append_assoc front (map f (take i xs)) (f (get_or xs i d) ∷ [])
+    ∙ ap (λ z. front ++ z) (sym (map-append f (take i xs) (get_or xs i d ∷ [])) ∙ ap (map f) (sym (take_more xs i d within)))))

@@ -16,7 +16,7 @@ use Rattle.eager_laws.specs.Dead.{forgotten}
 use Rattle.eager_laws.specs.Exchanged.{exchanged_by}
 use Rattle.flat_machine.specs.State.{state_of}
 use Rattle.explorer.specs.Settled.{LeadsBy, IsSettled}
-use Rattle.explorer.specs.inner.Settled.{Grows, HaveCores, IsReached, IsVisited, AreVisited, AreLinked}
+use Rattle.explorer.specs.inner.Settled.{Grows, HaveCores, IsFirst, IsReached, IsVisited, AreVisited, AreLinked}
 use Rattle.flat_machine.specs.declared.snapshot.Snapshot.{Snapshot}
 use Rattle.explorer.specs.declared.link.Link.{Link}
 use Rattle.explorer.specs.declared.link.Turn.TheVariants.{Made, Exchanged}
@@ -185,41 +185,38 @@ pub same-some : (x y : Snapshot) → Some x ≡ Some y → x ≡ y
 same-some x y q = let z : x ≡ y = cc in z
 
 -- the first snapshot alone
-module _ (eq : Snapshot → Snapshot → Bool) (d : ℕ) (t : Litmus) (hidden : List (List Bool)) (pairs : List (ℕ × ℕ)) (old new : List Snapshot) (x : Snapshot) (first last : State) (before after : List Choice)
-    (e : old ≡ []) (n : new ≡ insert_key eq old x) (f : first ≡ start t) (h : IsSettled d t first last before after) (kept : state_of x ≡ forgotten t hidden last) where
-  pub first-alone : new ≡ x ∷ []
-  first-alone = n ∙ ap (λ z. insert_key eq z x) e
+module _ (d : ℕ) (t : Litmus) (hidden : List (List Bool)) (x : Snapshot) (choices : List Choice) (es : List (ℕ × ℕ)) (h : IsFirst d t hidden choices es (state_of x)) where
+  leads-first : LeadsBy d t (start t) choices h.last
+  leads-first = subst (λ z. LeadsBy d t (start t) z h.last) (sym h.settled.appended) h.settled.leads
 
-  pub first-linked : (links : List Link) (link : Link) (es : List (ℕ × ℕ)) → before ≡ [] → link.turns.items ≡ map Made after ++ map Exchanged es → es ≡ [] → links ≡ link ∷ [] → AreLinked d t hidden new links
-  first-linked links link es b a none m =
-      let leads : LeadsBy d t (start t) after last =
-      subst (λ z. LeadsBy d t (start t) z last) (sym (h.appended ∙ ap (λ z. z ++ h.made) b)) (subst (λ z. LeadsBy d t z h.made last) f h.leads) in
-      subst (λ z. AreLinked d t hidden z links) (sym first-alone)
+  pub first-linked : (new : List Snapshot) → new ≡ x ∷ [] → (links : List Link) (link : Link) → link.turns.items ≡ map Made choices ++ map Exchanged es → links ≡ link ∷ [] → AreLinked d t hidden new links
+  first-linked new alone links link a m =
+      subst (λ z. AreLinked d t hidden z links) (sym alone)
       (subst (λ z. AreLinked d t hidden (x ∷ []) z) (sym m) (linked-first d t hidden x link (record {
-        choices = after;
+        choices = choices;
         exchanges = es;
         turns_are = a;
         lead = record {
-          last = last;
-          leads = leads;
-          alike = none-alike t hidden es none;
-          kept_is = ap (λ z. exchanged_by z (forgotten t hidden last)) none ∙ sym kept;
+          last = h.last;
+          leads = leads-first;
+          alike = none-alike t hidden es h.none;
+          kept_is = ap (λ z. exchanged_by z (forgotten t hidden h.last)) h.none ∙ sym h.kept_is;
         };
       })))
 
-  pub first-covered : IsCovered d t hidden pairs (map state_of new) (start t)
-  first-covered = record {
-    eager = h.made;
-    last = last;
-    leads = subst (λ z. LeadsEagerly d t z h.made last) f h.eager;
+  pub first-covered : (pairs : List (ℕ × ℕ)) (new : List Snapshot) → new ≡ x ∷ [] → IsCovered d t hidden pairs (map state_of new) (start t)
+  first-covered pairs new alone = record {
+    eager = h.settled.made;
+    last = h.last;
+    leads = h.settled.eager;
     exchanges = [];
     of_pairs = tt;
-    among = subst (λ z. IsIn (map state_of z) (forgotten t hidden last)) (sym first-alone) (0, ap Some kept);
+    among = subst (λ z. IsIn (map state_of z) (forgotten t hidden h.last)) (sym alone) (0, ap Some h.kept_is);
   }
 
-  pub first-cores : length x.cores.items ≡ length t.programs → HaveCores t new
-  first-cores q = subst (λ z. HaveCores t z) (sym first-alone) only
-    where
-      only : (k : ℕ) (d : Snapshot) → k < length (x ∷ []) → length (slice_index_or (x ∷ []) k d).cores.items ≡ length t.programs
-      only zero d l = q
-      only (suc k) d l = absurd (let z : ⊥ = omega (arith, l) in z)
+pub first-cores : (t : Litmus) (x : Snapshot) (new : List Snapshot) → new ≡ x ∷ [] → length x.cores.items ≡ length t.programs → HaveCores t new
+first-cores t x new alone q = subst (λ z. HaveCores t z) (sym alone) only
+  where
+    only : (k : ℕ) (d : Snapshot) → k < length (x ∷ []) → length (slice_index_or (x ∷ []) k d).cores.items ≡ length t.programs
+    only zero d l = q
+    only (suc k) d l = absurd (let z : ⊥ = omega (arith, l) in z)

@@ -1,6 +1,6 @@
 //! The state that a choice leads to, with the choices after it that need not wait, without what is dead there, and with cores
 //! that are alike in one order. A choice that stalls leads nowhere new.
-ghost use Rattle.std.specs.Prelude.{◌≡◌, ◌<◌, IfOk, OnOk, true, false, length};
+ghost use Rattle.std.specs.Prelude.{◌≡◌, ◌<◌, [], IfOk, OnOk, true, false, length};
 ghost use Rattle.tso_model.specs.FlatMachine.{after_choice, chosen};
 ghost use Rattle.flat_machine.specs.State.{state_of};
 ghost use Rattle.explorer.specs.inner.Planned.{IsPlan};
@@ -29,7 +29,10 @@ pub struct Reached {
 ///
 /// Errors: out of memory only.
 pub fn nowhere(alloc: Global, test: &Test) -> Result<Reached, NoMemory>
-    ensures { IfOk result (λ r. length r.state.cores.items ≡ length test.now.programs) }
+    ensures cores { IfOk result (λ r. length r.state.cores.items ≡ length test.now.programs) }
+    ensures state { IfOk result (λ r. state_of r.state ≡ Rattle.tso_model.specs.FlatMachine.start test.now) }
+    ensures choices { IfOk result (λ r. r.choices.items ≡ []) }
+    ensures exchanges { IfOk result (λ r. r.exchanges.items ≡ []) }
 {
     Ok(Reached {
         state: start(alloc, test)?,

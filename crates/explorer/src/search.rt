@@ -1,11 +1,11 @@
 //! The search for all states that choices lead to. One list is queue and visited set at once; each of its states is gone
 //! through, and where there are more than may be kept the search says so and answers nothing.
-ghost use Rattle.std.specs.Prelude.{◌≡◌, ℕ, ◌<◌, ◌≤◌, Bool, List, IfOk, IfErr, OnOk, map, length, slice_get, Some};
+ghost use Rattle.std.specs.Prelude.{◌≡◌, ℕ, ◌<◌, ◌≤◌, Bool, List, [], ◌∷◌, IfOk, IfErr, OnOk, map, length, slice_get, Some};
 ghost use Rattle.tso_model.specs.FlatMachine.{chosen, start};
 ghost use Rattle.eager_laws.specs.Closed.{IsIn, IsCovered, IsExpanded};
 ghost use Rattle.tso_model.specs.Litmus.{Litmus};
 ghost use Rattle.flat_machine.specs.State.{state_of};
-ghost use Rattle.explorer.specs.inner.Settled.{Grows, HaveCores, LeadTo, IsVisited, AreVisited, AreLinked, IsSearched};
+ghost use Rattle.explorer.specs.inner.Settled.{Grows, HaveCores, IsFirst, LeadTo, IsVisited, AreVisited, AreLinked, IsSearched};
 ghost use Rattle.explorer.specs.inner.Planned.{IsPlan};
 ghost use Rattle.explorer.specs.FinalStates.{HasMoreStates};
 ghost use Rattle.flat_machine.specs.declared.snapshot.Snapshot.{Snapshot};
@@ -18,7 +18,7 @@ use crate::link::{Link, turns_of};
 use crate::plan::Plan;
 use crate::reached::{Reached, nowhere, reach};
 use eager_laws::{alike_cores_are_exchangeable, dead_registers_change_nothing};
-use flat_machine::{Snapshot, copy, start};
+use flat_machine::{Snapshot, copy};
 use indexmap::IndexSet;
 use std::alloc::Global;
 use tso_model::{Choice, Core, NoMemory};
@@ -150,7 +150,22 @@ pub fn expand(
     Ok(())
 }
 
-/// What a search begins with: where the choices that need not wait lead from the first state.
+/// Where the choices that need not wait lead from the first state of a test, without what is dead there.
+///
+/// Errors: out of memory only.
+fn first_reached(alloc: Global, plan: &Plan) -> Result<Reached, NoMemory>
+    requires { IsPlan plan.now }
+    ensures cores { IfOk result (λ r. length r.state.cores.items ≡ length plan.now.test.now.programs) }
+    ensures first { IfOk result (λ r. IsFirst plan.now.depth plan.now.test.now plan.now.hidden.now
+        r.choices.items r.exchanges.items (state_of r.state)) }
+{
+    let mut first = nowhere(alloc, plan.test)?;
+    settle(&mut first.state, plan.test, plan.depth, &mut first.choices)?;
+    forget(&mut first.state, plan);
+    Ok(first)
+}
+
+/// What a search begins with: that first state alone, and how it was reached.
 ///
 /// Errors: out of memory only.
 fn beginning(alloc: Global, plan: &Plan) -> Result<Found, NoMemory>
@@ -161,16 +176,33 @@ fn beginning(alloc: Global, plan: &Plan) -> Result<Found, NoMemory>
         (map state_of found.snapshots.keys) (start plan.now.test.now)) }
     ensures one { IfOk result (λ found. length found.snapshots.keys ≡ 1) }
 {
-    let mut snapshots = IndexSet::new(alloc);
-    let mut links = Vec::new(alloc);
-    let mut first = start(alloc, plan.test)?;
-    let mut choices = Vec::new(alloc);
-    settle(&mut first, plan.test, plan.depth, &mut choices)?;
-    forget(&mut first, plan);
-    snapshots.insert(first)?;
-    let turns = turns_of(alloc, &choices, &[])?;
-    links.push(Link { from: 0, turns })?;
+    let first = first_reached(alloc, plan)?;
+    let turns = turns_of(alloc, &first.choices, &first.exchanges)?;
+    let links = one_link(alloc, Link { from: 0, turns })?;
+    let snapshots = one_snapshot(alloc, first.state)?;
     Ok(Found { snapshots, links })
+}
+
+/// A set of one snapshot.
+///
+/// Errors: out of memory only.
+fn one_snapshot(alloc: Global, snapshot: Snapshot) -> Result<IndexSet<Snapshot>, NoMemory>
+    ensures { IfOk result (λ set. set.keys ≡ snapshot ∷ []) }
+{
+    let mut snapshots = IndexSet::new(alloc);
+    snapshots.insert(snapshot)?;
+    Ok(snapshots)
+}
+
+/// A list of one link.
+///
+/// Errors: out of memory only.
+fn one_link(alloc: Global, link: Link) -> Result<Vec<Link>, NoMemory>
+    ensures { IfOk result (λ links. links.items ≡ link ∷ []) }
+{
+    let mut links = Vec::new(alloc);
+    links.push(link)?;
+    Ok(links)
 }
 
 /// Searches all states that choices lead to, but for those that are passed on the way to where no
@@ -188,18 +220,44 @@ pub fn search(alloc: Global, plan: &Plan, limit: usize) -> Result<Found, Explore
     alike_cores_are_exchangeable();
     dead_registers_change_nothing();
     let mut found = beginning(alloc, plan)?;
-    let mut reached = nowhere(alloc, plan.test)?;
     if limit == 0 {
         return Err(ExploreFault::TooMany);
     }
+    expand_all(alloc, plan, &mut found, limit)?;
+    Ok(found)
+}
+
+/// Expands each snapshot in turn, those that are added on the way too.
+///
+/// Errors: too many where there are more than `limit` then, and out of memory.
+fn expand_all(
+    alloc: Global,
+    plan: &Plan,
+    found: &mut Found,
+    limit: usize,
+) -> Result<(), ExploreFault>
+    requires plan { IsPlan plan.now }
+    requires cores { HaveCores plan.now.test.now found.old.snapshots.keys }
+    requires linked { AreLinked plan.now.depth plan.now.test.now plan.now.hidden.now found.old.snapshots.keys found.old.links.items }
+    requires covered { IsCovered plan.now.depth plan.now.test.now plan.now.hidden.now plan.now.alike.items
+        (map state_of found.old.snapshots.keys) (start plan.now.test.now) }
+    requires within { length found.old.snapshots.keys ≤ limit }
+    ensures searched { OnOk result (IsSearched plan.now.depth plan.now.test.now plan.now.hidden.now plan.now.alike.items
+        found.new.snapshots.keys found.new.links.items) }
+    ensures within { OnOk result (length found.new.snapshots.keys ≤ limit) }
+    ensures too_many { IfErr result (λ fault. fault ≡ ExploreFault.TooMany → HasMoreStates plan.now.test.now plan.now.depth limit) }
+{
+    alike_cores_are_exchangeable();
+    dead_registers_change_nothing();
+    let mut reached = nowhere(alloc, plan.test)?;
     for at in 0..limit {
         if at >= found.snapshots.len() {
             break;
         }
-        expand(alloc, &mut found, &mut reached, plan, at)?;
+        expand(alloc, found, &mut reached, plan, at)?;
         if found.snapshots.len() > limit {
             return Err(ExploreFault::TooMany);
         }
     }
-    Ok(found)
+    Ok(())
 }

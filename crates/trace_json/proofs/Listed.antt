@@ -1,9 +1,10 @@
 -- Values in a list, made one after the other.
-use Rattle.std.proofs.Common.{◌≡◌, ◌∙◌, ℕ, suc, ◌+◌, ◌-◌, ◌<◌, List, [], ◌∷◌, ◌++◌, map, sym, ap, append_assoc, arith}
+use Rattle.std.proofs.Common.{◌≡◌, ◌∙◌, ℕ, suc, ◌+◌, ◌-◌, ◌<◌, List, [], ◌∷◌, ◌++◌, map, sym, ap, append_assoc, arith, rules, String, Global, string_bytes}
 use Rattle.std.proofs.lemmas.List.{map-append}
-use Rattle.serde_json.specs.Data.{Data, array}
+use Rattle.serde_json.specs.Data.{Data, array, string}
 use Rattle.serde_json.specs.View.{view, items_of}
-use Rattle.serde_json.specs.declared.value.Value.{Value}
+use Rattle.serde_json.specs.declared.value.Value.{Value, the_lemmas}
+use Rattle.serde_json.specs.declared.value.Value.TheVariants.{String as Text}
 use Rattle.tso_model.specs.Litmus.{Litmus}
 use Rattle.tso_model.specs.FlatMachine.{core_of}
 use Rattle.tso_model.specs.declared.execution.Entry.{Entry}
@@ -15,7 +16,11 @@ use Rattle.trace_json.specs.Values.{texts}
 use Rattle.trace_json.specs.MachineJson.{set_json, sets_json, core_with, core_json, cores_json}
 use Rattle.trace_json.specs.inner.Looked.{IsShown}
 
-listed : (values after : List Value) (v : Value) (first : Data) (rest all whole : List Data) → after ≡ values ++ v ∷ [] → view v ≡ first → all ≡ first ∷ rest
+-- a text as a value
+pub view-text : (t : String Global) → view (Text t) ≡ string (string_bytes t)
+view-text t = search (rules, the_lemmas)
+
+pub listed : (values after : List Value) (v : Value) (first : Data) (rest all whole : List Data) → after ≡ values ++ v ∷ [] → view v ≡ first → all ≡ first ∷ rest
     → map view values ++ all ≡ whole → map view after ++ rest ≡ whole
 listed values after v first rest all whole pushed is next so_far =
     let more : map view after ≡ map view values ++ view v ∷ [] = ap (map view) pushed ∙ map-append view values (v ∷ []) in

@@ -1,5 +1,5 @@
 -- What is looked up on a machine, one after the other.
-use Rattle.std.proofs.Common.{◌≡◌, ◌∙◌, ℕ, zero, suc, ◌+◌, List, [], ◌∷◌, ◌++◌, length, map, take, Some, None, option_map, slice_get, slice_index_or, refl, sym, ap, arith, length-append}
+use Rattle.std.proofs.Common.{◌≡◌, ◌∙◌, ℕ, zero, suc, ◌+◌, ◌-◌, ◌<◌, List, [], ◌∷◌, ◌++◌, length, map, take, Some, None, option_map, slice_get, slice_index_or, refl, sym, ap, arith, length-append}
 use Rattle.std.specs.Option.{unwrap_or}
 use Rattle.tso_model.specs.FlatMachine.{CoreState, idle, core_of}
 use Rattle.snoop_bus.specs.declared.looking.CachedLine.{CachedLine}
@@ -61,3 +61,17 @@ registers-in (s ∷ ss) (suc i) = registers-in ss i
 pub registers-of : (m : Running) (core : ℕ)
     → registers_value (unwrap_or (option_map (λ (s : CoreState). s.registers) (core_at m core)) (0 ∷ 0 ∷ 0 ∷ 0 ∷ 0 ∷ 0 ∷ [])) ≡ registers_value (core_of m.state.flat core).registers
 registers-of m core = registers-in m.state.flat.cores core
+
+-- ---- how many are left
+
+copy-within : (xs : List CachedLine) (n : ℕ) (x : CachedLine) → Some x ≡ slice_get xs n → n < length xs
+copy-within [] n x found = absurd cc
+copy-within (y ∷ ys) zero x found = omega arith
+copy-within (y ∷ ys) (suc n) x found = let l = copy-within ys n x found in omega (arith, l)
+
+pub one-copy-fewer : (m : Running) (core set n : ℕ) (done after : List CachedLine) (x : CachedLine) → n ≡ length done → Some x ≡ cached_line m core set n → after ≡ done ++ x ∷ []
+    → length (copies_in m core set) - length after < length (copies_in m core set) - length done
+one-copy-fewer m core set n done after x many found pushed =
+    let l = copy-within (copies_in m core set) n x (found ∙ copy-at m core set n) in
+    let size : length after ≡ length done + 1 = ap length pushed ∙ length-append done (x ∷ []) in
+    omega (arith, l, many, size)

@@ -26,7 +26,7 @@ use Rattle.trace_json.specs.OwnWords.{own_words}
 use Rattle.trace_json.specs.MachineJson.{words_in, machine_json}
 use Rattle.trace_json.specs.StepJson.{step_json}
 use Rattle.trace_json.specs.TraceJson.{last_or, step_to, steps_json}
-use Rattle.trace_json.specs.inner.Looked.{IsShown, HasMemory, told_last}
+use Rattle.trace_json.specs.inner.Looked.{IsShown, told_last}
 
 -- whether the test has ended on a machine that was never refused memory
 end-of : (m : Running) (b : Bool) → m.failed ≡ false → b ≡ is_ended m → has_ended m.test m.state.flat ≡ b
@@ -147,17 +147,5 @@ pub none-told : (last : Option Shown) (m : Running) (memory : List ℕ) (choices
 none-told last m memory choices i whole past so_far =
     sym (ap (λ l. last_or (told_last last m memory) (steps_json m memory l)) (drop_of_length-le choices past)) ∙ so_far
 
--- a new machine has the test's first words
-pub has-memory-first : (table : Table) (config : Configuration) (t : Litmus) (m : Running) (own : List ℕ) → m ≡ new_machine table config t → length t.words ≡ length t.locations
-    → length own ≡ length t.locations → HasMemory t m own
-has-memory-first table config t m own is given own_each = record {
-  each = ap (λ (x : Running). length x.state.flat.memory) is ∙ given;
-  own_each = own_each;
-}
-
 pub new-traced : (table : Table) (config : Configuration) (t : Litmus) (m : Running) → m ≡ new_machine table config t → IsTraced t config m
 new-traced table config t m is = subst (λ x. IsTraced t config x) (sym is) (traced-first table config t)
-
-pub new-each : (table : Table) (config : Configuration) (t : Litmus) (m : Running) → m ≡ new_machine table config t → length t.words ≡ length t.locations
-    → length m.state.flat.memory ≡ length t.locations
-new-each table config t m is given = ap (λ (x : Running). length x.state.flat.memory) is ∙ given

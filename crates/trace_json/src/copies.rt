@@ -1,13 +1,14 @@
 //! The lines of a core's cache as a value, set by set and the most recently used first: so one sees which line would give
 //! way next.
 
-ghost use Rattle.std.specs.Prelude.{◌≡◌, ◌<◌, ◌≤◌, IfOk, length, map};
+ghost use Rattle.std.specs.Prelude.{◌≡◌, ◌<◌, ◌≤◌, [], IfOk, OnOk, length, map, string_bytes};
 ghost use Rattle.serde_json.specs.Data.{array};
-ghost use Rattle.serde_json.specs.View.{view, items_of};
+ghost use Rattle.serde_json.specs.View.{view, members_view, items_of};
 ghost use Rattle.machine_core.specs.Looking.{bus_holder_of};
 ghost use Rattle.trace_report.specs.Lines.{names_in_line};
 ghost use Rattle.trace_report.specs.inner.Told.{IsLookedAt};
 ghost use Rattle.trace_json.specs.MachineJson.{copy_json, copies_in, set_json, sets_json};
+ghost use Rattle.trace_json.specs.inner.Looked.{copy_members};
 
 use crate::texts::{counts, line_text};
 use machine_core::{BusHolder, CachedLine, Machine};
@@ -117,20 +118,27 @@ fn copy_value<P: Protocol>(
     let state = state_name(line_state(machine, holder, words, core, copy.line));
     let count = locations_in(test, words, copy.line);
     let mut members = Map::new(alloc);
-    put(&mut members, alloc, "line", Value::String(line))?;
-    put(
-        &mut members,
-        alloc,
-        "state",
-        Value::try_from_str(alloc, state)?,
-    )?;
-    put(
-        &mut members,
-        alloc,
-        "words",
-        counts(alloc, &copy.words[..count])?,
-    )?;
+    put_copy(&mut members, alloc, line, state, &copy.words[..count])?;
     Ok(Value::Object(members))
+}
+
+/// Puts what is told of a copy, by the names of its line and of what that is in, and the words of the line's locations.
+fn put_copy(
+    members: &mut Map<String, Value>,
+    alloc: Global,
+    line: String,
+    state: &str,
+    words: &[u32],
+) -> Result<(), NoMemory>
+    requires { members.old.entries ≡ [] }
+    ensures { OnOk result (members_view members.new.entries ≡ copy_members (string_bytes line) state.now words.now) }
+{
+    put(members, alloc, "line", Value::String(line))?;
+    let state = Value::try_from_str(alloc, state)?;
+    put(members, alloc, "state", state)?;
+    let words = counts(alloc, words)?;
+    put(members, alloc, "words", words)?;
+    Ok(())
 }
 
 /// How many locations a line has.

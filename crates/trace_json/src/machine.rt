@@ -1,11 +1,11 @@
 //! A machine between two choices as a value: all that can be seen of it, so that each step can be drawn by itself.
 
-ghost use Rattle.std.specs.Prelude.{◌≡◌, ◌<◌, IfOk, length};
-ghost use Rattle.serde_json.specs.View.{view};
+ghost use Rattle.std.specs.Prelude.{◌≡◌, ◌<◌, [], IfOk, OnOk, length};
+ghost use Rattle.serde_json.specs.View.{view, members_view};
 ghost use Rattle.machine_core.specs.Looking.{bus_holder_of};
 ghost use Rattle.trace_report.specs.inner.Told.{IsLookedAt};
 ghost use Rattle.trace_json.specs.MachineJson.{words_in_line, kept_words, holder_json, bus_json, machine_json};
-ghost use Rattle.trace_json.specs.inner.Looked.{IsShown};
+ghost use Rattle.trace_json.specs.inner.Looked.{IsShown, holder_members, machine_members};
 
 use crate::cores::cores_value;
 use crate::texts::{choice_text, counts, line_text, name_or_null};
@@ -34,31 +34,35 @@ pub fn machine_value<P: Protocol>(
 {
     let seen = seen_words(alloc, machine, test)?;
     let mut members = Map::new(alloc);
-    put(
-        &mut members,
-        alloc,
-        "bus",
-        bus_value(alloc, machine, test, config.words(), &seen)?,
-    )?;
-    put(
-        &mut members,
-        alloc,
-        "cores",
-        cores_value(alloc, machine, test, config)?,
-    )?;
-    put(
-        &mut members,
-        alloc,
-        "memory",
-        memory_value(alloc, test, memory)?,
-    )?;
-    put(
-        &mut members,
-        alloc,
-        "seen",
-        memory_value(alloc, test, &seen)?,
-    )?;
+    put_machine(&mut members, alloc, machine, test, config, memory, &seen)?;
     Ok(Value::Object(members))
+}
+
+/// Puts what is shown of a machine, where a program sees these words.
+fn put_machine<P: Protocol>(
+    members: &mut Map<String, Value>,
+    alloc: Global,
+    machine: &Machine<P>,
+    test: &Test,
+    config: Config,
+    memory: &[u32],
+    seen: &[u32],
+) -> Result<(), NoMemory>
+    requires shown { IsShown test.now config machine.now }
+    requires memory { length memory.now ≡ length test.now.locations }
+    requires seen { seen.now ≡ machine.now.state.flat.memory }
+    requires empty { members.old.entries ≡ [] }
+    ensures { OnOk result (members_view members.new.entries ≡ machine_members machine.now memory.now) }
+{
+    let bus = bus_value(alloc, machine, test, config.words(), seen)?;
+    put(members, alloc, "bus", bus)?;
+    let cores = cores_value(alloc, machine, test, config)?;
+    put(members, alloc, "cores", cores)?;
+    let own = memory_value(alloc, test, memory)?;
+    put(members, alloc, "memory", own)?;
+    let seen = memory_value(alloc, test, seen)?;
+    put(members, alloc, "seen", seen)?;
+    Ok(())
 }
 
 /// The words that a program sees, one for each location of the test.
@@ -108,30 +112,37 @@ fn holder_value(
     requires { 0 < words }
     ensures { IfOk result (λ value. view value ≡ holder_json test.now words seen.now holder) }
 {
+    let mut members = Map::new(alloc);
+    put_holder(&mut members, alloc, test, words, seen, holder)?;
+    Ok(Value::Object(members))
+}
+
+/// Puts what is told of the bus's holder.
+fn put_holder(
+    members: &mut Map<String, Value>,
+    alloc: Global,
+    test: &Test,
+    words: u8,
+    seen: &[u32],
+    holder: BusHolder,
+) -> Result<(), NoMemory>
+    requires words { 0 < words }
+    requires empty { members.old.entries ≡ [] }
+    ensures { OnOk result (members_view members.new.entries ≡ holder_members test.now words seen.now holder) }
+{
     let line = holder.loc.0 / words;
     let choice = choice_text(alloc, holder.choice)?;
+    put(members, alloc, "choice", Value::String(choice))?;
+    let core = Value::from(core_of(holder.choice).0);
+    put(members, alloc, "core", core)?;
     let name = line_text(alloc, test, words, line)?;
-    let core = core_of(holder.choice).0;
-    let mut members = Map::new(alloc);
-    put(&mut members, alloc, "choice", Value::String(choice))?;
-    put(&mut members, alloc, "core", Value::from(core))?;
-    put(&mut members, alloc, "line", Value::String(name))?;
-    put(
-        &mut members,
-        alloc,
-        "state",
-        name_or_null(alloc, holder.transient.map(transient_name))?,
-    )?;
-    put(
-        &mut members,
-        alloc,
-        "words",
-        counts(
-            alloc,
-            kept_words(holder.transient, words_in_line(words, seen, line)),
-        )?,
-    )?;
-    Ok(Value::Object(members))
+    put(members, alloc, "line", Value::String(name))?;
+    let state = name_or_null(alloc, holder.transient.map(transient_name))?;
+    put(members, alloc, "state", state)?;
+    let kept = kept_words(holder.transient, words_in_line(words, seen, line));
+    let kept = counts(alloc, kept)?;
+    put(members, alloc, "words", kept)?;
+    Ok(())
 }
 
 /// The words that the bus keeps for its holder: none where nothing is awaited.

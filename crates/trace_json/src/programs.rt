@@ -1,6 +1,7 @@
 //! The programs of a test as a value: each instruction as a test's text spells it.
 
-ghost use Rattle.std.specs.Prelude.{◌≡◌, ◌<◌, ◌++◌, All, IfOk, OnOk, length, string_bytes};
+ghost use Rattle.std.specs.Prelude.{◌≡◌, ◌<◌, ◌++◌, All, IfOk, OnOk, codes, length, string_bytes};
+ghost use Rattle.std.specs.Fmt.{decimal};
 ghost use Rattle.serde_json.specs.View.{view};
 ghost use Rattle.tso_model.specs.Litmus.{KnownLocation};
 ghost use Rattle.trace_json.specs.Programs.{instruction_text, program_value, programs_value};
@@ -41,34 +42,52 @@ fn instruction_text(alloc: Global, test: &Test, instr: &Instr) -> Result<String,
     ensures { IfOk result (λ text. string_bytes text ≡ instruction_text test.now instr.now) }
 {
     match *instr {
-        Instr::StoreImm(loc, value) => {
-            let name = test.location_name(loc);
-            Ok(format!(in alloc; "MOV [{name}],${value}")?)
-        }
+        Instr::StoreImm(loc, value) => value_to_location(alloc, test.location_name(loc), value),
         Instr::StoreReg(loc, reg) => {
-            let (name, reg) = (test.location_name(loc), reg.name());
-            Ok(format!(in alloc; "MOV [{name}],{reg}")?)
+            with_location(alloc, "MOV", test.location_name(loc), reg.name())
         }
-        Instr::Load(reg, loc) => {
-            let (reg, name) = (reg.name(), test.location_name(loc));
-            Ok(format!(in alloc; "MOV {reg},[{name}]")?)
-        }
-        Instr::SetImm(reg, value) => {
-            let reg = reg.name();
-            Ok(format!(in alloc; "MOV {reg},${value}")?)
-        }
-        Instr::SetReg(reg, from) => {
-            let (reg, from) = (reg.name(), from.name());
-            Ok(format!(in alloc; "MOV {reg},{from}")?)
-        }
-        Instr::Fence => Ok(format!(in alloc; "MFENCE")?),
-        Instr::Xchg(loc, reg) => {
-            let (name, reg) = (test.location_name(loc), reg.name());
-            Ok(format!(in alloc; "XCHG [{name}],{reg}")?)
-        }
+        Instr::Load(reg, loc) => location_to_register(alloc, reg.name(), test.location_name(loc)),
+        Instr::SetImm(reg, value) => value_to_register(alloc, reg.name(), value),
+        Instr::SetReg(reg, from) => register_to_register(alloc, reg.name(), from.name()),
+        Instr::Fence => Ok(String::from_str(alloc, "MFENCE")?),
+        Instr::Xchg(loc, reg) => with_location(alloc, "XCHG", test.location_name(loc), reg.name()),
         Instr::Xadd(loc, reg) => {
-            let (name, reg) = (test.location_name(loc), reg.name());
-            Ok(format!(in alloc; "LOCK XADD [{name}],{reg}")?)
+            with_location(alloc, "LOCK XADD", test.location_name(loc), reg.name())
         }
     }
+}
+
+/// `MOV [x],$1`
+fn value_to_location(alloc: Global, name: &str, value: u32) -> Result<String, NoMemory>
+    ensures { IfOk result (λ text. string_bytes text ≡ codes "MOV [" ++ (name.now ++ (codes "],$" ++ decimal value))) }
+{
+    Ok(format!(in alloc; "MOV [{name}],${value}")?)
+}
+
+/// An instruction of a location and then a register, `MOV [x],EAX`.
+fn with_location(alloc: Global, verb: &str, name: &str, reg: &str) -> Result<String, NoMemory>
+    ensures { IfOk result (λ text. string_bytes text ≡ verb.now ++ (codes " [" ++ (name.now ++ (codes "]," ++ reg.now)))) }
+{
+    Ok(format!(in alloc; "{verb} [{name}],{reg}")?)
+}
+
+/// `MOV EAX,[x]`
+fn location_to_register(alloc: Global, reg: &str, name: &str) -> Result<String, NoMemory>
+    ensures { IfOk result (λ text. string_bytes text ≡ codes "MOV " ++ (reg.now ++ (codes ",[" ++ (name.now ++ codes "]")))) }
+{
+    Ok(format!(in alloc; "MOV {reg},[{name}]")?)
+}
+
+/// `MOV EAX,$1`
+fn value_to_register(alloc: Global, reg: &str, value: u32) -> Result<String, NoMemory>
+    ensures { IfOk result (λ text. string_bytes text ≡ codes "MOV " ++ (reg.now ++ (codes ",$" ++ decimal value))) }
+{
+    Ok(format!(in alloc; "MOV {reg},${value}")?)
+}
+
+/// `MOV EAX,EBX`
+fn register_to_register(alloc: Global, reg: &str, from: &str) -> Result<String, NoMemory>
+    ensures { IfOk result (λ text. string_bytes text ≡ codes "MOV " ++ (reg.now ++ (codes "," ++ from.now))) }
+{
+    Ok(format!(in alloc; "MOV {reg},{from}")?)
 }

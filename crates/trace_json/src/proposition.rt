@@ -1,7 +1,9 @@
 //! The proposition of a condition as a text, with brackets only where it would be read in another way without.
 
-ghost use Rattle.std.specs.Prelude.{◌≡◌, ◌<◌, ◌++◌, IfOk, OnOk, length, string_bytes};
+ghost use Rattle.std.specs.Prelude.{◌≡◌, ◌<◌, ◌++◌, IfOk, OnOk, codes, length, string_bytes};
+ghost use Rattle.std.specs.Fmt.{decimal};
 ghost use Rattle.serde_json.specs.View.{view};
+ghost use Rattle.tso_model.specs.Registers.{name_of};
 ghost use Rattle.tso_model.specs.Condition.{NamesExist};
 ghost use Rattle.tso_model.specs.Condition.{claim_of};
 ghost use Rattle.trace_json.specs.Proposition.{is_or, is_joined, bracketed, truth_word, proposition_text, proposition_value};
@@ -9,7 +11,7 @@ ghost use Rattle.trace_json.specs.inner.Brackets.{opening, closing};
 
 use serde_json::Value;
 use std::alloc::Global;
-use tso_model::{NoMemory, Prop, Test};
+use tso_model::{Core, NoMemory, Prop, Reg, Test};
 
 /// The proposition of the test's condition as a text, `0:EAX=0 /\ 1:EAX=0`; `null` where it has none.
 ///
@@ -46,13 +48,11 @@ fn write_proposition(
             close(text, in_brackets)
         }
         Prop::RegIs(core, reg, value) => {
-            let (core, name) = (core.0, reg.name());
-            write!(text, "{core}:{name}={value}")?;
+            write_register(text, *core, *reg, *value)?;
             close(text, in_brackets)
         }
         Prop::LocIs(loc, value) => {
-            let name = test.location_name(*loc);
-            write!(text, "{name}={value}")?;
+            write_word(text, test.location_name(*loc), *value)?;
             close(text, in_brackets)
         }
         Prop::Not(inner) => {
@@ -73,6 +73,24 @@ fn write_proposition(
             close(text, in_brackets)
         }
     }
+}
+
+/// That a core's register has a value, `0:EAX=0`.
+fn write_register(text: &mut String, core: Core, reg: Reg, value: u32) -> Result<(), NoMemory>
+    ensures { OnOk result (string_bytes text.new
+        ≡ string_bytes text.old ++ (decimal core.0 ++ (codes ":" ++ (name_of reg ++ (codes "=" ++ decimal value))))) }
+{
+    let (core, name) = (core.0, reg.name());
+    write!(text, "{core}:{name}={value}")?;
+    Ok(())
+}
+
+/// That the word of a name has a value, `x=0`.
+fn write_word(text: &mut String, name: &str, value: u32) -> Result<(), NoMemory>
+    ensures { OnOk result (string_bytes text.new ≡ string_bytes text.old ++ (name.now ++ (codes "=" ++ decimal value))) }
+{
+    write!(text, "{name}={value}")?;
+    Ok(())
 }
 
 fn open(text: &mut String, in_brackets: bool) -> Result<(), NoMemory>

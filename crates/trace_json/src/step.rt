@@ -1,7 +1,7 @@
 //! What a choice did as a value: the members of a step, and `null` for what this choice has nothing of, so that each step
 //! has all of them.
 
-ghost use Rattle.std.specs.Prelude.{◌≡◌, ◌<◌, [], IfOk, OnOk, IfSome, All, map, option_map};
+ghost use Rattle.std.specs.Prelude.{◌≡◌, ◌<◌, [], IfOk, OnOk, IfSome, All, map, option_map, string_bytes};
 ghost use Rattle.serde_json.specs.View.{view, members_view};
 ghost use Rattle.order_builder.specs.PrintedOrder.{HasLocation};
 ghost use Rattle.trace_report.specs.Shown.{shown};
@@ -161,11 +161,24 @@ fn changes_value(
 {
     let mut values = Vec::new(alloc);
     for change in changes {
-        let mut text = String::new(alloc);
-        write_change(&mut text, test, words, *change)?;
-        values.push(Value::String(text))?;
+        values.push(Value::String(change_text(alloc, test, words, *change)?))?;
     }
     Ok(Value::Array(values))
+}
+
+/// A line whose state changed, `P1.x S>I`.
+fn change_text(
+    alloc: Global,
+    test: &Test,
+    words: u8,
+    change: StateChange,
+) -> Result<String, NoMemory>
+    requires { IsLine test.now words change.line }
+    ensures { IfOk result (λ text. string_bytes text ≡ printed_change test.now words change) }
+{
+    let mut text = String::new(alloc);
+    write_change(&mut text, test, words, change)?;
+    Ok(text)
 }
 
 /// What went on the bus, `GetM x`.

@@ -1,7 +1,8 @@
 //! The trace of a run as a value: the machine goes along once, and each step is made as it happens.
 
 ghost use Rattle.std.specs.Prelude.{◌≡◌, ◌<◌, IfOk, OnOk, IfSome, length, map, option_map};
-ghost use Rattle.serde_json.specs.View.{view};
+ghost use Rattle.serde_json.specs.Data.{array};
+ghost use Rattle.serde_json.specs.View.{view, items_of};
 ghost use Rattle.tso_model.specs.FlatMachine.{chosen};
 ghost use Rattle.tso_model.specs.Runs.{CoresExist};
 ghost use Rattle.machine_core.specs.Running.{new_machine, machine_after};
@@ -11,7 +12,8 @@ ghost use Rattle.trace_report.specs.Known.{IsKnown};
 ghost use Rattle.trace_report.specs.Told.{IsTraced, IsTold};
 ghost use Rattle.trace_json.specs.TraceJson.{alone, last_or, last_from, last_step_json};
 ghost use Rattle.trace_json.specs.TraceJson.{step_to, steps_json, trace_from, trace_json};
-ghost use Rattle.trace_json.specs.inner.Looked.{HasMemory, told_last};
+ghost use Rattle.trace_json.specs.MachineJson.{machine_json};
+ghost use Rattle.trace_json.specs.inner.Looked.{HasMemory, told_last, trace_with};
 ghost use Rattle.trace_json.specs.OwnWords.{own_words};
 
 use crate::machine::machine_value;
@@ -82,11 +84,35 @@ fn traced_by<P: Protocol>(
     ensures { IfOk result (λ value. view value ≡ trace_from (new_machine (P.table protocol) config test.now) choices.now) }
 {
     let mut machine = Machine::new(alloc, protocol, test, config)?;
-    let start = machine_value(alloc, &machine, test, config, test.initial_words())?;
-    let steps = steps_of(alloc, &mut machine, test, config, choices)?;
+    trace_on(alloc, &mut machine, test, config, choices)
+}
+
+/// The trace from a new machine on, whose memory has the test's first words.
+fn trace_on<P: Protocol>(
+    alloc: Global,
+    machine: &mut Machine<P>,
+    test: &Test,
+    config: Config,
+    choices: &[Choice],
+) -> Result<Value, NoMemory>
+    requires cores { CoresExist (length test.now.programs) choices.now }
+    requires traced { IsTraced test.now config machine.old }
+    requires each { length machine.old.state.flat.memory ≡ length test.now.locations }
+    ensures { IfOk result (λ value. view value ≡ trace_with (machine_json machine.old test.now.words)
+        (array (items_of (steps_json machine.old test.now.words choices.now)))) }
+{
+    let start = machine_value(alloc, machine, test, config, test.initial_words())?;
+    let steps = steps_of(alloc, machine, test, config, choices)?;
+    trace_of_parts(alloc, start, Value::Array(steps))
+}
+
+/// A trace from its parts.
+fn trace_of_parts(alloc: Global, start: Value, steps: Value) -> Result<Value, NoMemory>
+    ensures { IfOk result (λ value. view value ≡ trace_with (view start) (view steps)) }
+{
     let mut members = Map::new(alloc);
     put(&mut members, alloc, "start", start)?;
-    put(&mut members, alloc, "steps", Value::Array(steps))?;
+    put(&mut members, alloc, "steps", steps)?;
     Ok(Value::Object(members))
 }
 
@@ -105,21 +131,41 @@ fn steps_of<P: Protocol>(
 {
     let mut states = states_of(alloc, machine, test, config.words())?;
     let mut memory = words_of(alloc, test)?;
+    let steps = steps_on(
+        alloc,
+        machine,
+        &mut states,
+        &mut memory,
+        test,
+        config,
+        choices,
+    )?;
+    Ok(steps)
+}
+
+/// Makes the choices on a machine until the test has ended, and answers a step for each. The states of the machine's
+/// lines and memory's own words are those before the choices, and then those after them.
+fn steps_on<P: Protocol>(
+    alloc: Global,
+    machine: &mut Machine<P>,
+    states: &mut Vec<PlacedState>,
+    memory: &mut Vec<u32>,
+    test: &Test,
+    config: Config,
+    choices: &[Choice],
+) -> Result<Vec<Value>, NoMemory>
+    requires cores { CoresExist (length test.now.programs) choices.now }
+    requires told { IsTold test.now config machine.old states.old.items }
+    requires memory { HasMemory test.now machine.old memory.old.items }
+    ensures { IfOk result (λ steps. map view steps.items ≡ steps_json machine.old memory.old.items choices.now) }
+{
     let mut steps = Vec::new(alloc);
     for choice in choices {
         if machine.is_ended() {
             return Ok(steps);
         }
-        let step = tell_on(
-            alloc,
-            machine,
-            &mut states,
-            &mut memory,
-            test,
-            config,
-            *choice,
-        )?;
-        steps.push(step_to(alloc, machine, &memory, test, config, &step)?)?;
+        let step = tell_on(alloc, machine, states, memory, test, config, *choice)?;
+        steps.push(step_to(alloc, machine, memory, test, config, &step)?)?;
     }
     Ok(steps)
 }
@@ -192,11 +238,28 @@ fn last_by<P: Protocol>(
     ensures { IfOk result (λ value. view value ≡ last_from (new_machine (P.table protocol) config test.now) choices.now) }
 {
     let mut machine = Machine::new(alloc, protocol, test, config)?;
+    last_on(alloc, &mut machine, test, config, choices)
+}
+
+/// The last step from a new machine on, whose memory has the test's first words.
+fn last_on<P: Protocol>(
+    alloc: Global,
+    machine: &mut Machine<P>,
+    test: &Test,
+    config: Config,
+    choices: &[Choice],
+) -> Result<Value, NoMemory>
+    requires cores { CoresExist (length test.now.programs) choices.now }
+    requires traced { IsTraced test.now config machine.old }
+    requires each { length machine.old.state.flat.memory ≡ length test.now.locations }
+    ensures { IfOk result (λ value. view value
+        ≡ last_or (alone machine.old test.now.words) (steps_json machine.old test.now.words choices.now)) }
+{
     let mut memory = words_of(alloc, test)?;
-    let last = tell_last(alloc, &mut machine, &mut memory, test, config, choices)?;
+    let last = tell_last(alloc, machine, &mut memory, test, config, choices)?;
     match last {
-        Some(step) => step_to(alloc, &machine, &memory, test, config, &step),
-        None => alone(alloc, &machine, &memory, test, config),
+        Some(step) => step_to(alloc, machine, &memory, test, config, &step),
+        None => alone(alloc, machine, &memory, test, config),
     }
 }
 

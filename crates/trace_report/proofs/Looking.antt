@@ -1,5 +1,5 @@
 -- What is looked up of a core on a machine.
-use Rattle.std.proofs.Common.{◌≡◌, ◌∙◌, ℕ, zero, suc, ◌+◌, ◌<◌, List, [], ◌∷◌, ◌++◌, length, take, Option, Some, None, option_map, slice_get, slice_index_or, refl, sym, ap, arith, length-append}
+use Rattle.std.proofs.Common.{◌≡◌, ◌∙◌, ℕ, zero, suc, ◌+◌, ◌-◌, ◌<◌, List, [], ◌∷◌, ◌++◌, length, take, Option, Some, None, option_map, slice_get, slice_index_or, refl, sym, ap, arith, length-append}
 use Rattle.std.specs.Option.{option_and_then, unwrap_or}
 use Rattle.tso_model.specs.Actions.{action_of}
 use Rattle.tso_model.specs.Thread.{value_in}
@@ -88,3 +88,10 @@ pub all-pending : (m : Running) (core n : ℕ) (done : List Entry) → n ≡ len
     → done ≡ take (length done) (core_of m.state.flat core).pending → done ≡ (core_of m.state.flat core).pending
 all-pending m core n done many none so_far =
     so_far ∙ (ap (λ k. take k (core_of m.state.flat core).pending) (sym many) ∙ read-all n (core_of m.state.flat core).pending (none ∙ pending-of m core n))
+
+pub one-pending-fewer : (m : Running) (core n : ℕ) (done after : List Entry) (x : Entry) → n ≡ length done → Some x ≡ pending_at m core n → after ≡ done ++ x ∷ []
+    → length (core_of m.state.flat core).pending - length after < length (core_of m.state.flat core).pending - length done
+one-pending-fewer m core n done after x many found pushed =
+    let l = within n (core_of m.state.flat core).pending x (found ∙ pending-of m core n) in
+    let size : length after ≡ length done + 1 = ap length pushed ∙ length-append done (x ∷ []) in
+    omega (arith, l, many, size)

@@ -238,13 +238,16 @@ fn entries_since(
     ensures { IfOk result (λ entries. entries.items ≡ drop committed commits.now ++ drop waited pending.now) }
 {
     let mut entries = Vec::new(alloc);
-    for at in committed..commits.len() {
-        entries.push(commits[at])?;
-    }
-    for at in waited..pending.len() {
-        entries.push(pending[at])?;
-    }
+    entries.extend_from_slice(after(commits, committed))?;
+    entries.extend_from_slice(after(pending, waited))?;
     Ok(entries)
+}
+
+/// The entries after the first so many.
+fn after(entries: &[Entry], count: usize) -> &[Entry]
+    ensures { result.now ≡ drop count entries.now }
+{
+    &entries[count.min(entries.len())..]
 }
 
 /// The register that a step at this place of its core's program moves a value to, and the value that it has then.

@@ -7,7 +7,7 @@ ghost use Rattle.scheduler.specs.Printed.{printed_choice};
 ghost use Rattle.order_builder.specs.PrintedOrder.{HasLocation};
 ghost use Rattle.trace_report.specs.Shown.{shown};
 ghost use Rattle.protocol_tables.specs.PrintedTable.{line};
-ghost use Rattle.trace_report.specs.Lines.{line_name, entries_text, moved_text, access_text, outcome_text};
+ghost use Rattle.trace_report.specs.Lines.{line_name, entries_text, moved_text, access_text, outcome_name, outcome_text};
 ghost use Rattle.trace_report.specs.Lines.{request_text, flush_text, write_back_text, changes_text};
 ghost use Rattle.trace_report.specs.Lines.{printed_move, printed_request, printed_change};
 ghost use Rattle.trace_report.specs.Lines.{store_text, later_stores, stores_text, buffer_text, done_text, bus_text, left_text};
@@ -29,8 +29,7 @@ use tso_model::{Choice, Core, Entry, Loc, NoMemory, Outcome, Stall, Test};
 pub fn write_start(text: &mut String) -> Result<(), NoMemory>
     ensures { OnOk result (string_bytes text.new ≡ string_bytes text.old ++ line (codes "Trace")) }
 {
-    text.push_str("Trace\n")?;
-    Ok(())
+    write_word(text, "Trace\n")
 }
 
 /// Writes the last line of a trace of so many steps, `Endtrace 6`.
@@ -62,8 +61,7 @@ pub fn write_step(
     write_done(text, alloc, test, step)?;
     write_bus(text, test, words, step)?;
     write_left(text, test, words, step)?;
-    text.push('\n')?;
-    Ok(())
+    write_word(text, "\n")
 }
 
 /// Writes the line of a step with this number that stalled, `5 0d stalled Empty`: nothing else is told of it.
@@ -78,8 +76,7 @@ pub fn write_stall(
     ensures { OnOk result (string_bytes text.new ≡ string_bytes text.old ++ stall_line number choice stall) }
 {
     write_outcome(text, number, choice, Outcome::Stalled(stall))?;
-    text.push('\n')?;
-    Ok(())
+    write_word(text, "\n")
 }
 
 /// `5 0d committed`.
@@ -94,17 +91,30 @@ fn write_outcome(
     write_number(text, number)?;
     text.push(' ')?;
     write_choice(text, choice)?;
+    text.push(' ')?;
+    write_outcome_name(text, outcome)
+}
+
+/// `committed`, or `stalled Full`.
+fn write_outcome_name(text: &mut String, outcome: Outcome) -> Result<(), NoMemory>
+    ensures { OnOk result (string_bytes text.new ≡ string_bytes text.old ++ outcome_name outcome) }
+{
     match outcome {
-        Outcome::Committed => text.push_str(" committed")?,
-        Outcome::Buffered => text.push_str(" buffered")?,
-        Outcome::Moved => text.push_str(" moved")?,
-        Outcome::Asked => text.push_str(" asked")?,
+        Outcome::Committed => write_word(text, "committed"),
+        Outcome::Buffered => write_word(text, "buffered"),
+        Outcome::Moved => write_word(text, "moved"),
+        Outcome::Asked => write_word(text, "asked"),
         Outcome::Stalled(stall) => {
-            text.push_str(" stalled ")?;
-            text.push_str(stall_name(stall))?;
+            text.push_str("stalled ")?;
+            write_word(text, stall_name(stall))
         }
     }
-    Ok(())
+}
+
+fn write_word(text: &mut String, word: &str) -> Result<(), NoMemory>
+    ensures { OnOk result (string_bytes text.new ≡ string_bytes text.old ++ word.now) }
+{
+    Ok(text.push_str(word)?)
 }
 
 /// `0d`.
@@ -114,14 +124,13 @@ fn write_choice(text: &mut String, choice: Choice) -> Result<(), NoMemory>
     match choice {
         Choice::Step(core) => {
             write_number(text, usize::from(core.0))?;
-            text.push('s')?;
+            write_word(text, "s")
         }
         Choice::Drain(core) => {
             write_number(text, usize::from(core.0))?;
-            text.push('d')?;
+            write_word(text, "d")
         }
     }
-    Ok(())
 }
 
 /// A number, in decimal. It goes past `write!`, which would take longer for it than the rest of a short line does.
@@ -134,8 +143,7 @@ fn write_number(text: &mut String, number: usize) -> Result<(), NoMemory>
         return Ok(());
     }
     let mut digits = Buffer::new();
-    text.push_str(digits.format(number))?;
-    Ok(())
+    write_word(text, digits.format(number))
 }
 
 /// What the choice did to the order and the registers, and by its access.
@@ -350,12 +358,20 @@ fn write_buffer(
 {
     let core = core.0;
     write!(text, " P{core}[")?;
-    if let Some((first, later)) = stores.split_first() {
-        write_store(text, test, first)?;
-        write_later(text, test, later)?;
-    }
-    text.push(']')?;
-    Ok(())
+    write_stores(text, test, stores)?;
+    write_word(text, "]")
+}
+
+/// `x=1 y=2`
+fn write_stores(text: &mut String, test: &Test, stores: &[Entry]) -> Result<(), NoMemory>
+    requires { All (IsAt test.now) stores.now }
+    ensures { OnOk result (string_bytes text.new ≡ string_bytes text.old ++ stores_text test.now stores.now) }
+{
+    let Some((first, later)) = stores.split_first() else {
+        return Ok(());
+    };
+    write_store(text, test, first)?;
+    write_later(text, test, later)
 }
 
 fn write_later(text: &mut String, test: &Test, stores: &[Entry]) -> Result<(), NoMemory>

@@ -1,6 +1,6 @@
 -- What the search keeps from step to step: whatever a choice leads to from a state that was gone through is covered by a
 -- state that is kept. Nothing else shows that no end is missed.
-use Rattle.std.specs.Prelude.{ℕ, ◌≡◌, ◌≤◌, ◌++◌, Bool, List, length, map, Some, slice_get, ◌⊎◌, All, zero, suc}
+use Rattle.std.specs.Prelude.{ℕ, ◌≡◌, ◌≤◌, ◌++◌, Bool, List, [], length, map, Some, slice_get, ◌⊎◌, All, zero, suc}
 use Rattle.tso_model.specs.Litmus.{Litmus}
 use Rattle.tso_model.specs.FlatMachine.{State, start, after_choice, step, drain}
 use Rattle.tso_model.specs.declared.choice.Choice.{Choice}
@@ -12,7 +12,7 @@ use Rattle.flat_machine.specs.declared.snapshot.Snapshot.{Snapshot}
 use Rattle.explorer.specs.declared.link.Turn.{Turn}
 use Rattle.explorer.specs.declared.link.Turn.TheVariants.{Made, Exchanged}
 use Rattle.explorer.specs.declared.link.Link.{Link}
-use Rattle.explorer.specs.Settled.{LeadsBy, LeadsTo}
+use Rattle.explorer.specs.Settled.{LeadsBy, LeadsTo, IsSettled}
 
 -- no snapshot was taken away, and those that are new came last
 abbrev pub Grows : List Snapshot → List Snapshot → Type 0
@@ -21,6 +21,14 @@ Grows old new = (more : List Snapshot) × (new ≡ old ++ more)
 -- each has a core for each program
 abbrev pub HaveCores : Litmus → List Snapshot → Type 0
 HaveCores t snapshots = All (λ s. length s.cores.items ≡ length t.programs) snapshots
+
+-- choices that need not wait lead from the beginning of the test to a state that is the kept one once its dead registers are
+-- forgotten; nothing was exchanged
+pub record IsFirst (depth : ℕ) (t : Litmus) (hidden : List (List Bool)) (choices : List Choice) (exchanges : List (ℕ × ℕ)) (kept : State) : Type 0 where
+  pub last : State
+  pub settled : IsSettled depth t (start t) last [] choices
+  pub none : exchanges ≡ []
+  pub kept_is : kept ≡ forgotten t hidden last
 
 -- choices lead to a state that is the kept one once its dead registers are forgotten and then cores that are alike exchanged
 pub record LeadTo (depth : ℕ) (t : Litmus) (hidden : List (List Bool)) (state : State) (choices : List Choice) (exchanges : List (ℕ × ℕ)) (kept : State) : Type 0 where

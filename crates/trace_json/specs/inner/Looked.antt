@@ -1,10 +1,20 @@
--- A machine that is shown: it has a word for each location that its test names.
-use Rattle.std.specs.Prelude.{ℕ, ◌≡◌, length, List, Option, Some, None}
+-- A machine that is shown: it has a word for each location that its test names; and the members of its value, as the code puts
+-- them together.
+use Rattle.std.specs.Prelude.{ℕ, ◌≡◌, ◌/◌, length, List, Option, Some, None, option_map, codes}
 use Rattle.tso_model.specs.Litmus.{Litmus}
+use Rattle.tso_model.specs.FlatMachine.{chosen}
+use Rattle.scheduler.specs.Printed.{printed_choice}
 use Rattle.machine_core.specs.Configuration.{Configuration}
 use Rattle.machine_core.specs.Running.{Running, configuration_of}
-use Rattle.serde_json.specs.Data.{Data}
+use Rattle.serde_json.specs.Data.{Data, string, array, object, Members, no_members, member}
+use Rattle.serde_json.specs.View.{items_of}
+use Rattle.machine_core.specs.Looking.{bus_holder_of}
+use Rattle.machine_core.specs.declared.looking.BusHolder.{BusHolder}
+use Rattle.tso_report.specs.Json.{count, memory_value}
 use Rattle.trace_report.specs.Shown.{Shown}
+use Rattle.trace_report.specs.Lines.{line_name, transient_name}
+use Rattle.trace_json.specs.Values.{counts, text_or_null}
+use Rattle.trace_json.specs.MachineJson.{bus_json, cores_json, kept_words, words_in_line}
 use Rattle.trace_json.specs.TraceJson.{alone, step_to}
 
 -- the machine runs this test, is configured so, and has a word for each location
@@ -17,6 +27,32 @@ pub record IsShown (t : Litmus) (c : Configuration) (m : Running) : Type 0 where
 pub record HasMemory (t : Litmus) (m : Running) (own : List ℕ) : Type 0 where
   pub each : length m.state.flat.memory ≡ length t.locations
   pub own_each : length own ≡ length t.locations
+
+-- the members of a machine's value
+abbrev pub machine_members : Running → List ℕ → Members
+machine_members m memory =
+    member (codes "bus") (bus_json m (bus_holder_of m))
+    (member (codes "cores") (array (items_of (cores_json m 0 (length m.test.programs))))
+    (member (codes "memory") (memory_value m.test memory)
+    (member (codes "seen") (memory_value m.test m.state.flat.memory) no_members)))
+
+-- those of its holder's
+abbrev pub holder_members : Litmus → ℕ → List ℕ → BusHolder → Members
+holder_members t words seen h =
+    member (codes "choice") (string (printed_choice h.choice))
+    (member (codes "core") (count (chosen h.choice))
+    (member (codes "line") (string (line_name t words (h.loc.0 / words)))
+    (member (codes "state") (text_or_null (option_map transient_name h.transient))
+    (member (codes "words") (counts (kept_words h.transient (words_in_line words seen (h.loc.0 / words)))) no_members))))
+
+-- those of a copy's, by the names of its line and of what that is in, and the words of the line's locations
+abbrev pub copy_members : List ℕ → List ℕ → List ℕ → Members
+copy_members line state words =
+    member (codes "line") (string line) (member (codes "state") (string state) (member (codes "words") (counts words) no_members))
+
+-- a trace from its parts: the machine before the first choice, and the steps
+abbrev pub trace_with : Data → Data → Data
+trace_with start steps = object (member (codes "start") start (member (codes "steps") steps no_members))
 
 -- what is told last of a machine whose memory has these words: the step to it, or where there is none the machine
 abbrev pub told_last : Option Shown → Running → List ℕ → Data

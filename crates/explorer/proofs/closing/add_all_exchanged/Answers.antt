@@ -1,14 +1,14 @@
-use Rattle.std.proofs.Common.{◌≡◌, ◌<◌, length, map, slice_index_or, arith, subst, ap, sym, ◌∙◌}
+use Rattle.std.proofs.Common.{◌≡◌, ◌<◌, length, map, slice_get, Some, slice_index_or, arith, subst, ap, sym, ◌∙◌}
 use Rattle.std.proofs.lemmas.Option.{slice_get-get_or}
 use Rattle.std.proofs.lemmas.Bool.{both_ways}
 use Rattle.tso_model.specs.Runs.{has_ended}
 use Rattle.eager_laws.specs.Closed.{IsIn}
 use Rattle.eager_laws.specs.Exchanged.{exchanged}
 use Rattle.flat_machine.specs.State.{state_of}
-use Rattle.explorer.proofs.Completing.{exchanged-more}
+use Rattle.explorer.proofs.Completing.{exchanged-none, exchanged-more}
 use Rattle.explorer.proofs.Finals.{cores-at}
 use Rattle.explorer.proofs.Linking.{get-within, get-one}
-use Rattle.explorer.proofs.Searching.{grows-on, get-grown}
+use Rattle.explorer.proofs.Searching.{grows-none, grows-on, grown-within, get-grown}
 use Rattle.explorer.proofs.closing.add_all_exchanged.Goals as goal
 
 pub loop-at-preserved : goal.loop-at-preserved
@@ -38,3 +38,26 @@ pub returns-then-not-has_ended-clause-exchanged : goal.returns-then-not-has_ende
 returns-then-not-has_ended-clause-exchanged c = λ s at ended.
     let same : s ≡ c.index.result.now = get-one c.args.found.now.snapshots.keys c.args.from s c.index.result.now at c.index.ensures in
     absurd (both_ways _ (ap (λ z. has_ended c.args.plan.now.test.now (state_of z)) same ∙ sym c.has_ended.ensures ∙ c.if-not-has_ended.true) ended)
+
+pub returns-then-not-has_ended-clause-grows : goal.returns-then-not-has_ended-clause-grows
+returns-then-not-has_ended-clause-grows c = grows-none _
+
+pub loop-at-init : goal.loop-at-init
+loop-at-init c = record {
+  grows = grows-none _;
+  cores = c.requires.cores;
+  linked = c.requires.linked;
+  room = c.requires.room;
+  exchanged = λ s at. exchanged-none c.args.plan.now.alike.items c.args.found.now.snapshots.keys (state_of s);
+}
+
+pub add_exchanged-requires-clause-from : goal.add_exchanged-requires-clause-from
+add_exchanged-requires-clause-from c = grown-within _ _ c.args.from c.loop-at.invariant.grows c.requires.from
+
+pub add_exchanged-requires-clause-pair : goal.add_exchanged-requires-clause-pair
+add_exchanged-requires-clause-pair c =
+    let l : c.loop-at.at < length c.args.plan.now.alike.items = let a = c.loop-at-test.true in let b = c.loop-at.auto.at-end in let d = c.len-at-end.ensures in omega (arith, a, b, d) in (
+      c.loop-at.at,
+      subst (λ z. slice_get c.args.plan.now.alike.items c.loop-at.at ≡ Some z) (sym c.index-in-loop-at.ensures)
+          (slice_get-get_or c.args.plan.now.alike.items c.loop-at.at c.index-in-loop-at.result.now l),
+    )

@@ -1,10 +1,11 @@
-use Rattle.std.proofs.Common.{◌∷◌, ◌++◌, [], ap, ◌∙◌, arith}
+use Rattle.std.proofs.Common.{◌∷◌, ◌++◌, [], map, ap, sym, ◌∙◌, subst, arith}
+use Rattle.eager_laws.specs.Closed.{IsIn}
 use Rattle.eager_laws.specs.Exchanged.{exchanged}
 use Rattle.flat_machine.specs.State.{state_of}
 use Rattle.flat_machine.proofs.Choosing.{on-ok}
 use Rattle.explorer.proofs.Completing.{one-exchange}
 use Rattle.explorer.proofs.Finals.{cores-at}
-use Rattle.explorer.proofs.Linking.{linked-forgotten}
+use Rattle.explorer.proofs.Linking.{linked-forgotten, get-one}
 use Rattle.explorer.proofs.closing.add_exchanged.Goals as goal
 
 pub exchange-requires-clause-first : goal.exchange-requires-clause-first
@@ -39,3 +40,13 @@ returns-clause-linked c =
     c.args.found.now.snapshots.keys c.args.found.now.links.items c.requires.linked c.args.from c.index.result.now c.index.ensures)
     c.clear.ensures.items (c.in_ok-push.ensures.items ∙ ap (λ z. z ++ c.args.pair ∷ []) c.clear-2.ensures.items)
     (c.exchange.ensures.value ∙ ap (exchanged c.args.pair) c.in_ok-overwrite.ensures.value))) c.keep.ensures.linked
+
+pub returns-clause-grows : goal.returns-clause-grows
+returns-clause-grows c = c.keep.ensures.grows
+
+pub returns-clause-among : goal.returns-clause-among
+returns-clause-among c =
+    on-ok c.keep.result (λ m s at.
+    subst (λ z. IsIn (map state_of c.keep.new.found.snapshots.keys) z)
+    (c.exchange.ensures.value ∙ ap (exchanged c.args.pair)
+    (c.in_ok-overwrite.ensures.value ∙ sym (ap state_of (get-one c.args.found.now.snapshots.keys c.args.from s c.index.result.now at c.index.ensures)))) m) c.keep.ensures.among

@@ -1,7 +1,7 @@
 use Rattle.std.proofs.Common.{◌<◌, ◌≤◌, length, arith}
-use Rattle.explorer.proofs.Completing.{all-exchanged, all-exchanged-more}
+use Rattle.explorer.proofs.Completing.{all-exchanged, all-exchanged-none, all-exchanged-more}
 use Rattle.explorer.proofs.Counting.{more-states}
-use Rattle.explorer.proofs.Searching.{grows-on}
+use Rattle.explorer.proofs.Searching.{grows-none, grows-on}
 use Rattle.explorer.proofs.closing.close.Goals as goal
 use Rattle.explorer.proofs.closing.close.Goals.{else-loop-at-test, then-loop-at-test+then-at-len}
 
@@ -32,3 +32,13 @@ returns-clause-exchanged c =
       | then-loop-at-test+then-at-len w ↦ let l = w.if-at-len.true in let n = w.len.ensures.len in omega (arith, l, n)
     ] in
     all-exchanged c.args.plan.now.test.now c.args.plan.now.alike.items c.loop-at.found.snapshots.keys c.loop-at.at all c.loop-at.invariant.exchanged
+
+pub loop-at-init : goal.loop-at-init
+loop-at-init c = record {
+  grows = grows-none _;
+  cores = c.requires.cores;
+  linked = c.requires.linked;
+  room = c.in_ok-reached.ensures.cores;
+  exchanged = all-exchanged-none c.args.plan.now.test.now c.args.plan.now.alike.items c.args.found.now.snapshots.keys;
+  within = c.requires.within;
+}

@@ -63,3 +63,18 @@ returns-clause-once c =
       cores = c.in_ok-close.ensures.cores;
       exchanged = c.in_ok-close.ensures.exchanged;
     }) c.in_ok-final_states.ensures).once
+
+pub close-requires-clause-cores : goal.close-requires-clause-cores
+close-requires-clause-cores c = c.in_ok-found.ensures.searched.cores
+
+pub close-requires-clause-linked : goal.close-requires-clause-linked
+close-requires-clause-linked c = c.in_ok-found.ensures.searched.linked
+
+pub close-requires-clause-within : goal.close-requires-clause-within
+close-requires-clause-within c = c.in_ok-found.ensures.within
+
+pub final_states-requires-clause-cores : goal.final_states-requires-clause-cores
+final_states-requires-clause-cores c = c.in_ok-close.ensures.cores
+
+pub final_states-requires-clause-linked : goal.final_states-requires-clause-linked
+final_states-requires-clause-linked c = c.in_ok-close.ensures.linked

@@ -35,3 +35,12 @@ arrange-requires c =
     pairs-within c.args.plan.now.test.now c.args.plan.now.hidden.now _ _
     (subst (AreAllAlike c.args.plan.now.test.now c.args.plan.now.hidden.now) (sym c.deref.ensures.value) c.requires.plan.alike)
     (c.forget.ensures.cores ∙ c.in_ok-settle.ensures.cores)
+
+pub returns-then-is_idle-clause-room : goal.returns-then-is_idle-clause-room
+returns-then-is_idle-clause-room c = c.requires.room
+
+pub returns-then-has_stalled-clause-room : goal.returns-then-has_stalled-clause-room
+returns-then-has_stalled-clause-room c = c.in_ok-outcome.ensures.cores
+
+pub returns-clause-room : goal.returns-clause-room
+returns-clause-room c = c.in_ok-arrange.ensures.cores ∙ (c.forget.ensures.cores ∙ c.in_ok-settle.ensures.cores)

@@ -6,7 +6,7 @@ use Rattle.flat_machine.specs.State.{state_of}
 use Rattle.flat_machine.specs.contracts.snapshot.SnapshotPartialEq.TheImpl as snapshot_eq
 use Rattle.explorer.proofs.Linking.{linked-new}
 use Rattle.explorer.proofs.Same.{snapshots-same}
-use Rattle.explorer.proofs.Searching.{among, cores-insert, grows-insert, in-list}
+use Rattle.explorer.proofs.Searching.{among, cores-insert, grows-none, grows-insert, in-list}
 use Rattle.explorer.proofs.search.keep.Goals as goal
 
 pub returns-then-contains-clause-among : goal.returns-then-contains-clause-among
@@ -45,3 +45,21 @@ returns-in_ok-push-clause-linked c = λ depth t hidden s h at leads.
           ∙ ap (λ z. map Made c.args.reached.now.choices.items ++ map Exchanged z) c.deref-2.ensures.value;
       lead = subst (λ z. LeadTo depth t hidden (state_of s) c.args.reached.now.choices.items c.args.reached.now.exchanges.items z) (sym c.in_ok-state.ensures.value) leads;
     })
+
+pub returns-then-contains-clause-grows : goal.returns-then-contains-clause-grows
+returns-then-contains-clause-grows c = grows-none _
+
+pub returns-then-contains-clause-cores : goal.returns-then-contains-clause-cores
+returns-then-contains-clause-cores c = λ t h q. h
+
+pub returns-then-contains-clause-linked : goal.returns-then-contains-clause-linked
+returns-then-contains-clause-linked c = λ depth t hidden s h at leads. h
+
+pub returns-in_ok-push-clause-grows : goal.returns-in_ok-push-clause-grows
+returns-in_ok-push-clause-grows c =
+    let g = grows-insert (snapshot_eq.eq-value).it c.args.found.now.snapshots.keys c.in_ok-state.state in
+    (g.0, c.in_ok-added.ensures.keys ∙ g.1)
+
+pub returns-else-added-clause-cores : goal.returns-else-added-clause-cores
+returns-else-added-clause-cores c = λ t h q.
+    rw c.in_ok-added.ensures.keys (cores-insert (snapshot_eq.eq-value).it t c.args.found.now.snapshots.keys c.in_ok-state.state h (c.in_ok-state.ensures.cores ∙ q))

@@ -1,6 +1,6 @@
 use Rattle.std.proofs.Common.{◌∙◌, length, take, sym, ap}
 use Rattle.trace_json.specs.MachineJson.{copies_in}
-use Rattle.trace_json.proofs.Looking.{next-copy, all-copies}
+use Rattle.trace_json.proofs.Looking.{next-copy, all-copies, one-copy-fewer}
 use Rattle.trace_json.proofs.copies.copies_in.Goals as goal
 
 pub loop-copy-preserved : goal.loop-copy-preserved
@@ -13,3 +13,8 @@ loop-copy-preserved g c =
 pub returns : goal.returns
 returns g c =
     all-copies c.args.machine.now c.args.core.0 c.args.set c.len.result c.loop-copy.copies.items (c.len.ensures ∙ c.loop-copy.copies.ok.0) c.in_default.ensures c.loop-copy.invariant
+
+pub loop-copy-smaller : goal.loop-copy-smaller
+loop-copy-smaller g c =
+    one-copy-fewer c.args.machine.now c.args.core.0 c.args.set c.len.result c.loop-copy.copies.items c.push.new.self.items c.in-Some.copy
+    (c.len.ensures ∙ c.loop-copy.copies.ok.0) c.in-Some.ensures c.in_ok-push.ensures.items

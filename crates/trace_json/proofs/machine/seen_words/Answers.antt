@@ -1,5 +1,5 @@
-use Rattle.std.proofs.Common.{◌∙◌, ◌<◌, ◌∷◌, ◌++◌, [], length, take, ap, sym, arith}
-use Rattle.std.proofs.lemmas.List.{take_more}
+use Rattle.std.proofs.Common.{◌∙◌, ◌<◌, ◌≤◌, ◌∷◌, ◌++◌, [], length, take, ap, sym, arith}
+use Rattle.std.proofs.lemmas.List.{take_more, take_all}
 use Rattle.std.proofs.lemmas.Option.{unwrap_or-slice_get}
 use Rattle.std.specs.Option.{unwrap_or}
 use Rattle.trace_json.proofs.machine.seen_words.Goals as goal
@@ -11,3 +11,11 @@ loop-loc-preserved g c =
     let there : loc < length memory = omega arith in
     let word = c.unwrap_or.ensures ∙ (ap (λ o. unwrap_or o 0) c.seen.ensures ∙ unwrap_or-slice_get memory loc 0) in
     c.in_ok-push.ensures.items ∙ (ap (λ l. l ++ c.unwrap_or.result ∷ []) c.loop-loc.invariant ∙ (ap (λ x. take loc memory ++ x ∷ []) word ∙ sym (take_more memory loc 0 there)))
+
+pub returns-clause-words : goal.returns-clause-words
+returns-clause-words g c =
+    let past : length c.args.machine.now.state.flat.memory ≤ c.loop-loc.loc = omega arith in
+    c.loop-loc.invariant ∙ take_all c.loop-loc.loc c.args.machine.now.state.flat.memory past
+
+pub returns-clause-each : goal.returns-clause-each
+returns-clause-each g c = ap length (returns-clause-words g c) ∙ c.requires

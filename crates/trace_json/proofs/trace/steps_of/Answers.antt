@@ -1,12 +1,8 @@
-use Rattle.std.proofs.Common.{◌∙◌, ap, sym, subst, map}
-use Rattle.std.proofs.lemmas.List.{drop_more}
-use Rattle.serde_json.specs.View.{view}
+use Rattle.std.proofs.Common.{◌∙◌, ap, sym, subst}
 use Rattle.snoop_bus.specs.Geometry.{IsLineSize}
-use Rattle.trace_report.specs.Shown.{shown}
 use Rattle.trace_report.specs.inner.Told.{IsLookedAt}
 use Rattle.trace_report.proofs.Whole.{looked-at}
-use Rattle.trace_json.specs.TraceJson.{step_to, steps_json}
-use Rattle.trace_json.proofs.Tracing.{one-pushed, core-there, all-made, none-left}
+use Rattle.trace_json.specs.TraceJson.{steps_json}
 use Rattle.trace_json.proofs.trace.steps_of.Goals as goal
 
 pub states_of-requires : goal.states_of-requires
@@ -14,31 +10,5 @@ states_of-requires g c =
     subst (λ n. IsLookedAt c.args.test.now n c.args.machine.now) (sym c.words.ensures.value)
     (looked-at c.args.test.now c.args.config c.args.machine.now c.requires.traced (subst IsLineSize c.words.ensures.value c.words.ensures.within))
 
-pub loop-choice-preserved : goal.loop-choice-preserved
-loop-choice-preserved g c =
-    let i = c.loop-choice.invariant in
-    let next = drop_more c.args.choices.now c.loop-choice.choice-index _ c.loop-choice-test.true in
-    record {
-      cores = (core-there c.args.test.now _ _ _ next i.cores).1;
-      told = c.in_ok-step.ensures.told;
-      memory = c.in_ok-step.ensures.memory;
-      made = one-pushed c.loop-choice.machine c.tell_on.new.machine c.loop-choice.memory.items c.tell_on.new.memory.items c.loop-choice.steps.items c.push.new.self.items
-          c.in_ok-step_to.field-0 _ _ _ (steps_json c.args.machine.now c.args.test.now.words c.args.choices.now) (shown c.in_ok-step.step)
-          next i.told.machine.whole (sym c.if-is_ended.false ∙ c.is_ended.ensures) c.in_ok-step.ensures.after c.in_ok-step.ensures.own c.in_ok-step.ensures.step
-          (c.in_ok-step_to.ensures ∙ ap (λ w. step_to (shown c.in_ok-step.step) c.tell_on.new.machine w) c.deref.ensures.value) c.in_ok-push.ensures.items i.made;
-    }
-
-pub tell_on-requires-clause-core : goal.tell_on-requires-clause-core
-tell_on-requires-clause-core g c =
-    (core-there c.args.test.now _ _ _ (drop_more c.args.choices.now c.loop-choice.choice-index _ c.loop-choice-test.true) c.loop-choice.invariant.cores).0
-
-pub returns-then-is_ended : goal.returns-then-is_ended
-returns-then-is_ended g c =
-    let i = c.loop-choice.invariant in
-    all-made c.loop-choice.machine c.loop-choice.memory.items (map view c.loop-choice.steps.items) _ (steps_json c.args.machine.now c.args.test.now.words c.args.choices.now)
-    i.told.machine.whole (sym c.if-is_ended.true ∙ c.is_ended.ensures) i.made
-
 pub returns : goal.returns
-returns g c =
-    none-left c.loop-choice.machine c.loop-choice.memory.items (map view c.loop-choice.steps.items) c.args.choices.now c.loop-choice.choice-index
-    (steps_json c.args.machine.now c.args.test.now.words c.args.choices.now) c.loop-choice-test.false c.loop-choice.invariant.made
+returns g c = c.in_ok-steps.ensures ∙ ap (λ w. steps_json c.args.machine.now w c.args.choices.now) c.in_ok-memory.ensures.words

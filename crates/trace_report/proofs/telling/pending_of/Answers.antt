@@ -1,6 +1,6 @@
 use Rattle.std.proofs.Common.{length, take, sym, ap, ◌∙◌}
 use Rattle.tso_model.specs.FlatMachine.{core_of}
-use Rattle.trace_report.proofs.Looking.{next-pending, all-pending}
+use Rattle.trace_report.proofs.Looking.{next-pending, all-pending, one-pending-fewer}
 use Rattle.trace_report.proofs.telling.pending_of.Goals as goal
 
 pub loop-store-preserved : goal.loop-store-preserved
@@ -13,3 +13,8 @@ loop-store-preserved g c =
 pub returns : goal.returns
 returns g c =
     all-pending c.args.machine.now c.args.core.0 c.len.result c.loop-store.stores.items (c.len.ensures ∙ c.loop-store.stores.ok.0) c.in_default.ensures c.loop-store.invariant
+
+pub loop-store-smaller : goal.loop-store-smaller
+loop-store-smaller g c =
+    one-pending-fewer c.args.machine.now c.args.core.0 c.len.result c.loop-store.stores.items c.push.new.self.items c.in-Some.store
+    (c.len.ensures ∙ c.loop-store.stores.ok.0) c.in-Some.ensures c.in_ok-push.ensures.items

@@ -92,3 +92,20 @@ pub returns-clause-known : goal.returns-clause-known
 returns-clause-known g c =
     subst (IsKnown c.args.test.now c.args.config.shape.words) (sym (returns-clause-step g c))
     (step-known c.args.test.now c.args.config c.args.machine.now c.args.choice c.know_test.ensures c.requires.told.machine (subst IsLineSize c.words.ensures.value c.words.ensures.within))
+
+-- ---- what the machine's own clauses say
+
+pub returns-in-Stalled-clause-after : goal.returns-in-Stalled-clause-after
+returns-in-Stalled-clause-after g c = c.in_ok-outcome.ensures.after
+
+pub returns-in-Stalled-clause-answer : goal.returns-in-Stalled-clause-answer
+returns-in-Stalled-clause-answer g c = c.in_ok-outcome.ensures.answer
+
+pub returns-clause-after : goal.returns-clause-after
+returns-clause-after g c = c.in_ok-outcome.ensures.after
+
+pub returns-clause-answer : goal.returns-clause-answer
+returns-clause-answer g c = c.in_ok-outcome.ensures.answer
+
+pub moved_in-requires : goal.moved_in-requires
+moved_in-requires g c = c.requires.core

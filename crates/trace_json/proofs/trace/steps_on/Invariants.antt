@@ -5,12 +5,12 @@ use Rattle.trace_report.specs.Told.{IsTold}
 use Rattle.trace_json.specs.TraceJson.{steps_json}
 use Rattle.trace_json.specs.inner.Looked.{HasMemory}
 use Rattle.trace_json.proofs.Tracing.{Made}
-use Rattle.trace_json.proofs.trace.steps_of.Given as goal
+use Rattle.trace_json.proofs.trace.steps_on.Given as goal
 
 abbrev pub invariant-loop-choice : goal.invariant-loop-choice
 invariant-loop-choice g l = record {
   cores : CoresExist (length l.test.programs) (drop l.choice-index l.choices);
   told : IsTold l.test l.config l.machine l.states.items;
   memory : HasMemory l.test l.machine l.memory.items;
-  made : Made l.machine l.memory.items (map view l.steps.items) (drop l.choice-index l.choices) (steps_json l.initial.machine l.test.words l.initial.choices);
+  made : Made l.machine l.memory.items (map view l.steps.items) (drop l.choice-index l.choices) (steps_json l.initial.machine l.initial.memory.items l.initial.choices);
 }

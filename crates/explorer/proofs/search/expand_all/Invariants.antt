@@ -4,7 +4,7 @@ use Rattle.eager_laws.specs.Closed.{IsCovered, IsExpanded}
 use Rattle.flat_machine.specs.State.{state_of}
 use Rattle.explorer.specs.inner.Settled.{HaveCores, AreLinked}
 use Rattle.flat_machine.specs.declared.snapshot.Snapshot.{Snapshot}
-use Rattle.explorer.proofs.search.search.Given as goal
+use Rattle.explorer.proofs.search.expand_all.Given as goal
 
 abbrev pub invariant-loop-at : goal.invariant-loop-at
 invariant-loop-at l = record {

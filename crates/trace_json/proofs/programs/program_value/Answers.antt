@@ -1,0 +1,18 @@
+use Rattle.std.proofs.Common.{◌+◌, ◌∙◌, map, drop, ap}
+use Rattle.std.proofs.lemmas.List.{drop_more}
+use Rattle.serde_json.specs.Data.{string}
+use Rattle.trace_json.specs.Programs.{instruction_text}
+use Rattle.trace_json.proofs.Listed.{listed, view-text}
+use Rattle.trace_json.proofs.programs.program_value.Goals as goal
+
+pub loop-instr-preserved : goal.loop-instr-preserved
+loop-instr-preserved c =
+    let xs = c.args.program.now in
+    let i = c.loop-instr.instr-index in
+    let text = instruction_text c.args.test.now in
+    listed c.loop-instr.texts.items c.push.new.self.items _ _ (map string (map text (drop (i + 1) xs))) (map string (map text (drop i xs))) (map string (map text xs))
+    c.in_ok-push.ensures.items (view-text c.in_ok-instruction_text.field-0 ∙ ap string c.in_ok-instruction_text.ensures)
+    (ap (λ l. map string (map text l)) (drop_more xs i _ c.loop-instr-test.true)) c.loop-instr.invariant
+
+pub instruction_text-requires : goal.instruction_text-requires
+instruction_text-requires c = c.requires c.loop-instr.instr-index _ c.loop-instr-test.true

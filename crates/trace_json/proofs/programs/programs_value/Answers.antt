@@ -1,0 +1,14 @@
+use Rattle.std.proofs.Common.{◌+◌, ◌<◌, ◌∙◌, [], length, map, drop, ap, arith}
+use Rattle.std.proofs.lemmas.List.{drop_more}
+use Rattle.trace_json.specs.Programs.{program_value}
+use Rattle.trace_json.proofs.Listed.{listed}
+use Rattle.trace_json.proofs.programs.programs_value.Goals as goal
+
+pub loop-core-preserved : goal.loop-core-preserved
+loop-core-preserved c =
+    let xs = c.args.test.now.programs in
+    let i = c.loop-core.core in
+    let value = program_value c.args.test.now in
+    let within : i < length xs = omega arith in
+    listed c.loop-core.programs.items c.push.new.self.items _ _ (map value (drop (i + 1) xs)) (map value (drop i xs)) (map value xs)
+    c.in_ok-push.ensures.items (c.in_ok-program_value.ensures ∙ ap value c.program.ensures.value) (ap (map value) (drop_more xs i [] within)) c.loop-core.invariant

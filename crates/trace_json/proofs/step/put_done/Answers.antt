@@ -1,0 +1,6 @@
+use Rattle.std.proofs.Common.{All, sym, subst}
+use Rattle.order_builder.specs.PrintedOrder.{HasLocation}
+use Rattle.trace_json.proofs.step.put_done.Goals as goal
+
+pub order_value-requires : goal.order_value-requires
+order_value-requires c = subst (All (HasLocation c.args.test.now)) (sym c.deref.ensures.value) c.requires.known

@@ -1,0 +1,12 @@
+use Rattle.std.proofs.Common.{◌+◌, map, drop, ap}
+use Rattle.std.proofs.lemmas.List.{drop_more}
+use Rattle.tso_report.specs.Json.{count}
+use Rattle.trace_json.proofs.Listed.{listed}
+use Rattle.trace_json.proofs.texts.counts.Goals as goal
+
+pub loop-number-preserved : goal.loop-number-preserved
+loop-number-preserved c =
+    let xs = c.args.numbers.now in
+    let i = c.loop-number.number-index in
+    listed c.loop-number.values.items c.push.new.self.items _ _ (map count (drop (i + 1) xs)) (map count (drop i xs)) (map count xs)
+    c.in_ok-push.ensures.items c.from.ensures (ap (map count) (drop_more xs i _ c.loop-number-test.true)) c.loop-number.invariant
