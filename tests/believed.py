@@ -181,7 +181,7 @@ PROMISES = {
     "headline": ([TOP_LEVEL], None, ()),
     "axioms": ([("tso_model.specs.Axioms", "IsTsoExecution")], None, ()),
     "state": ([("tso_model.specs.Axioms", "IsTsoExecution"), ("tso_model.specs.FinalState", "final_words"),
-               ("tso_model.specs.FinalState", "final_registers"), ("tso_cli.specs.Simulation", "verdict")], None, ()),
+               ("tso_model.specs.FinalState", "final_registers"), ("simulator.specs.Simulation", "verdict")], None, ()),
 }
 
 
@@ -258,13 +258,13 @@ def promises():
 
 def topic(module):
     crate = module.split(".")[0]
-    if crate in ("litmus_reader", "litmus_tokens"):
+    if crate in ("litmus_reader", "litmus_cells", "litmus_tokens"):
         return "grammar and refusals of tests"
     if crate in ("scheduler", "order_builder", "decimals"):
         return "choices and orders as texts"
     if crate in ("snoop_bus", "cache_set", "machine_core", "protocol_tables"):
         return "caches"
-    if crate in ("tso_cli", "command_line", "page_exports"):
+    if crate in ("tso_cli", "commands", "simulator", "sweeper", "tso_io", "command_line", "page_exports"):
         return "commands"
     if crate in ("tso_report", "outcome_report"):
         return "printed text"

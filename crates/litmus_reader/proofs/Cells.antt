@@ -10,12 +10,13 @@ use Rattle.litmus_tokens.specs.declared.token.Token.{Token}
 use Rattle.litmus_tokens.specs.Pieces.{Piece}
 use Rattle.litmus_tokens.specs.inner.Pieces.{piece_of, pieces}
 use Rattle.litmus_tokens.specs.Front.{is_symbol}
-use Rattle.litmus_reader.specs.declared.fault.Fault.{Fault}
-use Rattle.litmus_reader.specs.declared.fault.ReadError.{ReadError}
-use Rattle.litmus_reader.specs.declared.fault.ReadError.TheVariants as errors
-use Rattle.litmus_reader.specs.declared.cell.CoreInstr.{CoreInstr}
-use Rattle.litmus_reader.specs.inner.Faults.{Fails}
-use Rattle.litmus_reader.specs.inner.Cells.{cell_in, cells_in}
+use Rattle.litmus_cells.specs.declared.fault.Fault.{Fault}
+use Rattle.litmus_cells.specs.declared.fault.ReadError.{ReadError}
+use Rattle.litmus_cells.specs.declared.fault.ReadError.TheVariants as errors
+use Rattle.litmus_cells.specs.declared.cell.CoreInstr.{CoreInstr}
+use Rattle.litmus_cells.specs.inner.Faults.{Fails}
+use Rattle.litmus_cells.specs.inner.Cells.{cell_in}
+use Rattle.litmus_reader.specs.inner.Cells.{cells_in}
 use Rattle.litmus_reader.proofs.Maps.{chosen, slice_split-map, position_none}
 use Rattle.litmus_reader.specs.RefusedTable.{cells_of}
 

@@ -4,10 +4,10 @@ use Rattle.tso_model.specs.Condition.{Claim}
 use Rattle.litmus_tokens.specs.declared.token.Symbol.{Symbol}
 use Rattle.litmus_tokens.specs.Pieces.{Piece}
 use Rattle.litmus_tokens.specs.inner.Front.{symbol_at}
-use Rattle.litmus_reader.specs.declared.fault.Fault.{Fault}
-use Rattle.litmus_reader.specs.declared.fault.ReadError.{ReadError}
-use Rattle.litmus_reader.specs.declared.fault.ReadError.TheVariants as errors
-use Rattle.litmus_reader.specs.inner.Faults.{◌>>=◌, Fails}
+use Rattle.litmus_cells.specs.declared.fault.Fault.{Fault}
+use Rattle.litmus_cells.specs.declared.fault.ReadError.{ReadError}
+use Rattle.litmus_cells.specs.declared.fault.ReadError.TheVariants as errors
+use Rattle.litmus_cells.specs.inner.Faults.{◌>>=◌, Fails}
 use Rattle.litmus_reader.specs.inner.Conditions.{Claimed, claimed, Proposition, joined_to, chain, chain_of}
 
 -- the total is what has been read and then what the rest gives, in some number of steps that is enough

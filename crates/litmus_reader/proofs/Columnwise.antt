@@ -8,16 +8,16 @@ use Rattle.std.proofs.lemmas.List.Elements.{All-nil, All-cons, All-head, All-tai
 use Rattle.tso_model.specs.declared.instruction.Instr.{Instr}
 use Rattle.litmus_tokens.specs.declared.token.Stop.{Stop}
 use Rattle.litmus_tokens.specs.Pieces.{Piece}
-use Rattle.litmus_reader.specs.declared.cell.CoreInstr.{CoreInstr}
-use Rattle.litmus_reader.specs.declared.fault.Why.{Why}
-use Rattle.litmus_reader.specs.declared.fault.Fault.{Fault}
-use Rattle.litmus_reader.specs.inner.Cells.{of_core}
+use Rattle.litmus_cells.specs.declared.cell.CoreInstr.{CoreInstr}
+use Rattle.litmus_cells.specs.declared.fault.Why.{Why}
+use Rattle.litmus_cells.specs.declared.fault.Fault.{Fault}
+use Rattle.litmus_cells.specs.inner.Cells.{of_core}
 use Rattle.litmus_reader.specs.inner.Reading.{program_of, programs_from}
-use Rattle.litmus_reader.specs.GrammarNames.{numbered}
+use Rattle.litmus_cells.specs.GrammarNames.{numbered}
 use Rattle.litmus_reader.specs.GrammarTable.{in_rows, column, location_in, instr_with, ValueFits, AreWithin, in_field}
 use Rattle.litmus_reader.specs.RefusedTable.{AreSpelled, none, more, add_cells, IsCellFault, IsRowFault}
 use Rattle.litmus_reader.specs.RefusedTable as refused
-use Rattle.litmus_reader.specs.Written.{Shape}
+use Rattle.litmus_cells.specs.Shapes.{Shape}
 use Rattle.litmus_reader.proofs.Placed.{Placed, placed, placed_from, placed_in, locations_of, instrs_with, ValuesFit, EntriesWithin}
 use Rattle.litmus_reader.proofs.PlacedFaults.{IsEntryFault, IsEntriesFault}
 use Rattle.litmus_reader.proofs.PlacedFaults as read

@@ -8,10 +8,10 @@ use Rattle.litmus_tokens.specs.declared.token.Symbol.TheVariants.{OpenRound, Clo
 use Rattle.litmus_tokens.specs.Terms.{Term, symbol}
 use Rattle.litmus_tokens.specs.Pieces.{Piece}
 use Rattle.litmus_tokens.specs.Front.{is_symbol_term}
-use Rattle.litmus_reader.specs.declared.fault.Why.{Why}
-use Rattle.litmus_reader.specs.declared.fault.Fault.{Fault}
+use Rattle.litmus_cells.specs.declared.fault.Why.{Why}
+use Rattle.litmus_cells.specs.declared.fault.Fault.{Fault}
 use Rattle.litmus_reader.specs.Grammar.{terms}
-use Rattle.litmus_reader.specs.GrammarNames.{numbered}
+use Rattle.litmus_cells.specs.GrammarNames.{numbered}
 use Rattle.litmus_reader.specs.GrammarConditions.{IsAtom, says_setting, one, more, IsConjunction, IsProposition, IsUnit, locations_in, atoms_of, IsWithin, IsQuantifier, IsCondition, condition, is_negation}
 use Rattle.litmus_reader.specs.Misfits.{begins_with}
 use Rattle.litmus_reader.specs.RefusedConditions as refused
@@ -22,7 +22,8 @@ use Rattle.litmus_reader.proofs.GrammarPhrases.{joining_either, numbered_both, f
 use Rattle.litmus_reader.proofs.GrammarTest.{terms_append}
 use Rattle.litmus_reader.proofs.RefusedKinds.{symbol_slot}
 use Rattle.litmus_reader.proofs.RefusedOpens.{no_unit_there}
-use Rattle.litmus_reader.specs.Places.{fault, remaining_of}
+use Rattle.litmus_cells.specs.Places.{fault}
+use Rattle.litmus_reader.specs.Places.{remaining_of}
 use Rattle.litmus_reader.specs.Written.{Phrase, atom, either}
 
 -- ---- tests

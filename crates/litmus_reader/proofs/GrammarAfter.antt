@@ -13,11 +13,13 @@ use Rattle.litmus_tokens.specs.Terms.{Term, number, name, symbol}
 use Rattle.litmus_tokens.specs.Pieces.{Piece}
 use Rattle.litmus_tokens.specs.Front.{is_symbol}
 use Rattle.litmus_tokens.specs.inner.Front.{symbol_at, name_then, name_at, number_then, number_at}
-use Rattle.litmus_reader.specs.declared.fault.Fault.{Fault}
+use Rattle.litmus_cells.specs.declared.fault.Fault.{Fault}
 use Rattle.litmus_reader.specs.declared.fault.Part.{Part}
-use Rattle.litmus_reader.specs.declared.cell.CoreInstr.{CoreInstr}
-use Rattle.litmus_reader.specs.inner.Faults.{◌>>=◌, or_unfit}
-use Rattle.litmus_reader.specs.inner.Settings.{if_location, location_at, if_register, register_at, value_at, register_setting, square_setting, plain_setting, setting_at}
+use Rattle.litmus_cells.specs.declared.cell.CoreInstr.{CoreInstr}
+use Rattle.litmus_cells.specs.inner.Faults.{◌>>=◌}
+use Rattle.litmus_reader.specs.inner.Faults.{or_unfit}
+use Rattle.litmus_cells.specs.inner.Names.{if_location, location_at, if_register, register_at}
+use Rattle.litmus_reader.specs.inner.Settings.{value_at, register_setting, square_setting, plain_setting, setting_at}
 use Rattle.litmus_reader.specs.inner.Initial.{before_initial, Initial, initial, judged, item_in, step_in, items_within, items_at, initial_at, ends_item}
 use Rattle.litmus_reader.specs.inner.Columns.{if_core, core_at, separator_at, columns, columns_at, in_columns}
 use Rattle.litmus_reader.specs.inner.Rows.{Rows, row_at, row_in, rows_within, rows_at}

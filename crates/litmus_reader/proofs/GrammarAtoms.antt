@@ -15,23 +15,25 @@ use Rattle.litmus_tokens.specs.Terms.{Term, number, name, symbol}
 use Rattle.litmus_tokens.specs.Pieces.{Piece}
 use Rattle.litmus_tokens.specs.Front.{is_symbol}
 use Rattle.litmus_tokens.specs.inner.Front.{symbol_at, name_at}
-use Rattle.litmus_reader.specs.declared.fault.Why.TheVariants.{TooLarge, NoSuchCore}
-use Rattle.litmus_reader.specs.inner.Faults.{there}
+use Rattle.litmus_cells.specs.declared.fault.Why.TheVariants.{TooLarge, NoSuchCore}
+use Rattle.litmus_cells.specs.inner.Faults.{there}
 use Rattle.litmus_reader.specs.inner.Keywords.{if_word, word_after}
-use Rattle.litmus_reader.specs.inner.Locations.{located}
-use Rattle.litmus_reader.specs.inner.Settings.{setting_at, or_bad_number, word_at, core_of}
+use Rattle.litmus_cells.specs.inner.Locations.{located}
+use Rattle.litmus_cells.specs.inner.Numbers.{or_bad_number, word_at}
+use Rattle.litmus_reader.specs.inner.Settings.{setting_at, core_of}
 use Rattle.litmus_reader.specs.inner.Conditions.{claim_in, Claimed, claimed, one_more, truth_at, truth_atom, setting_atom, atom_at, negation_at, in_condition}
 use Rattle.litmus_reader.specs.Grammar.{terms}
 use Rattle.litmus_reader.specs.GrammarItems.{IsSetting, sets_register, sets_location, sets_in_squares}
 use Rattle.litmus_reader.specs.GrammarInitial.{names_in, is_allowed}
-use Rattle.litmus_reader.specs.GrammarNames.{numbered, number_of, with_name, location}
+use Rattle.litmus_cells.specs.GrammarNames.{numbered, number_of, with_name, location}
 use Rattle.litmus_reader.specs.GrammarConditions.{IsAtom, says_true, says_false, says_setting, PhraseFits, claim_by, IsWithin}
 use Rattle.litmus_reader.proofs.GrammarTokens.{chosen, there_is, there_some, some_is, ok_is, ok_pair, bind_ok, opened, name_takes}
 use Rattle.litmus_reader.proofs.GrammarItems.{setting_found, setting_taken}
 use Rattle.litmus_reader.proofs.GrammarPhrases.{Finds, Taken, Takes, Anything}
 use Rattle.litmus_reader.proofs.GrammarNames.{with_name_by, place_below, place_none, known_with, number_with}
 use Rattle.litmus_reader.proofs.Readings.{Begins, given_by, ReadsPhrase}
-use Rattle.litmus_reader.specs.Places.{fault, remaining_of}
+use Rattle.litmus_cells.specs.Places.{fault}
+use Rattle.litmus_reader.specs.Places.{remaining_of}
 use Rattle.litmus_reader.specs.Written.{Setting, of_register, of_location, truth, atom}
 
 -- ---- atoms

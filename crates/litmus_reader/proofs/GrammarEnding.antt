@@ -12,13 +12,14 @@ use Rattle.litmus_tokens.specs.Terms.{Term, number, name, symbol}
 use Rattle.litmus_tokens.specs.Pieces.{Piece, pieces_of}
 use Rattle.litmus_tokens.specs.Front.{is_symbol}
 use Rattle.litmus_tokens.specs.inner.Front.{symbol_at, name_then, name_at}
-use Rattle.litmus_reader.specs.inner.Faults.{◌>>=◌, there, or_unfit}
+use Rattle.litmus_cells.specs.inner.Faults.{◌>>=◌, there}
+use Rattle.litmus_reader.specs.inner.Faults.{or_unfit}
 use Rattle.litmus_reader.specs.inner.Keywords.{word_after, if_word}
 use Rattle.litmus_reader.specs.inner.Observed.{square_end, brackets_end, brackets_tokens, ending_tokens, in_observed}
 use Rattle.litmus_reader.specs.inner.Conditions.{Conditioned, condition_at}
 use Rattle.litmus_reader.specs.inner.Reading.{end_at, ending_at, tail_at}
 use Rattle.litmus_reader.specs.Grammar.{terms}
-use Rattle.litmus_reader.specs.GrammarNames.{numbered}
+use Rattle.litmus_cells.specs.GrammarNames.{numbered}
 use Rattle.litmus_reader.specs.GrammarText.{ClosesBrackets}
 use Rattle.litmus_reader.specs.GrammarConditions.{condition, says_exists, says_forall, says_not_exists}
 use Rattle.litmus_reader.specs.GrammarEnding.{MayAsk, nothing, a_condition, IsEnding, at_once, after_locations, names_asked, condition_of, IsAskedWithin}

@@ -8,7 +8,7 @@ use Rattle.litmus_tokens.specs.Pieces.{Piece}
 use Rattle.litmus_tokens.specs.Front.{is_symbol}
 use Rattle.litmus_tokens.specs.inner.Front.{symbol_at}
 use Rattle.litmus_reader.specs.declared.fault.Part.{Part}
-use Rattle.litmus_reader.specs.inner.Faults.{◌>>=◌}
+use Rattle.litmus_cells.specs.inner.Faults.{◌>>=◌}
 use Rattle.litmus_reader.specs.inner.Settings.{setting_at}
 use Rattle.litmus_reader.specs.inner.Initial.{Initial, initial, judged, item_in, step_in, items_within, items_at, before_initial, opened_at, initial_at, ends_item}
 use Rattle.litmus_reader.specs.Grammar.{terms}

@@ -7,16 +7,16 @@ use Rattle.std.proofs.lemmas.List.{length-append, map-append}
 use Rattle.std.proofs.lemmas.List.Folds.{list_any-append, list_all-append}
 use Rattle.tso_model.specs.declared.register.Reg.{Reg}
 use Rattle.tso_model.specs.declared.instruction.Loc.{Loc}
-use Rattle.litmus_reader.specs.declared.fault.Why.TheVariants.{TwiceInit}
-use Rattle.litmus_reader.specs.inner.Locations.{located}
-use Rattle.litmus_reader.specs.inner.Settings.{or_bad_number, word_at}
+use Rattle.litmus_cells.specs.declared.fault.Why.TheVariants.{TwiceInit}
+use Rattle.litmus_cells.specs.inner.Locations.{located}
+use Rattle.litmus_cells.specs.inner.Numbers.{or_bad_number, word_at}
 use Rattle.litmus_reader.specs.inner.Initial.{Given, given, Initial, initial, gives, judged}
 use Rattle.litmus_reader.specs.GrammarInitial.{given_value, same_place, each_once, names_in, Fits}
 use Rattle.litmus_reader.proofs.Maps.{list_any_map}
 use Rattle.litmus_reader.proofs.GrammarNames.{place_below, place_none}
 use Rattle.litmus_reader.proofs.GrammarTokens.{chosen, ok_is, bind_ok}
-use Rattle.litmus_reader.specs.Places.{fault}
-use Rattle.litmus_reader.specs.GrammarNames.{number_of, with_name, location}
+use Rattle.litmus_cells.specs.Places.{fault}
+use Rattle.litmus_cells.specs.GrammarNames.{number_of, with_name, location}
 use Rattle.litmus_reader.specs.Written.{Setting, of_register, of_location}
 
 -- ---- what settings give

@@ -12,18 +12,18 @@ use Rattle.tso_model.specs.Thread.{with_value}
 use Rattle.tso_model.specs.declared.register.Reg.{Reg}
 use Rattle.tso_model.specs.declared.register.Reg.TheVariants.{Eax, Ebx, Ecx, Edx, Esi, Edi}
 use Rattle.decimals.specs.Decimals.{decimal_value}
-use Rattle.litmus_reader.specs.declared.fault.Fault.{Fault}
-use Rattle.litmus_reader.specs.declared.fault.Why.TheVariants.{NoSuchCore}
-use Rattle.litmus_reader.specs.inner.Faults.{◌>>=◌}
+use Rattle.litmus_cells.specs.declared.fault.Fault.{Fault}
+use Rattle.litmus_cells.specs.declared.fault.Why.TheVariants.{NoSuchCore}
+use Rattle.litmus_cells.specs.inner.Faults.{◌>>=◌}
 use Rattle.litmus_reader.specs.inner.Settings.{core_of}
 use Rattle.litmus_reader.specs.inner.Initial.{Given, Initial, no_registers, with_register, registers_with, words_of}
 use Rattle.litmus_reader.specs.GrammarInitial.{same_place, each_once, names_in, Fits, has_core, value_in, names_register, first_words, first_registers_of, first_registers}
 use Rattle.litmus_reader.proofs.GrammarTokens.{bind_ok}
-use Rattle.litmus_reader.specs.GrammarNames.{numbered, with_name}
+use Rattle.litmus_cells.specs.GrammarNames.{numbered, with_name}
 use Rattle.litmus_reader.proofs.GrammarNames.{same_bytes}
 use Rattle.litmus_reader.proofs.GrammarInitialJudged.{words_in, settings_of_registers, unplaced, Holds, names_in-append, a_word_each, location_given, once_apart}
 use Rattle.litmus_reader.proofs.Readings.{Says}
-use Rattle.litmus_reader.specs.Places.{fault}
+use Rattle.litmus_cells.specs.Places.{fault}
 use Rattle.litmus_reader.specs.Written.{Setting, of_register, of_location}
 
 -- ---- first words and registers

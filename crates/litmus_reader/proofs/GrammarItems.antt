@@ -7,8 +7,10 @@ use Rattle.litmus_tokens.specs.Pieces.{Piece}
 use Rattle.litmus_tokens.specs.Front.{is_symbol}
 use Rattle.litmus_tokens.specs.inner.Front.{symbol_at, name_at, number_at}
 use Rattle.litmus_reader.specs.declared.fault.Part.{Part}
-use Rattle.litmus_reader.specs.inner.Faults.{there, or_unfit}
-use Rattle.litmus_reader.specs.inner.Settings.{location_at, register_at, value_at, register_setting, square_setting, plain_setting, setting_at}
+use Rattle.litmus_cells.specs.inner.Faults.{there}
+use Rattle.litmus_reader.specs.inner.Faults.{or_unfit}
+use Rattle.litmus_cells.specs.inner.Names.{location_at, register_at}
+use Rattle.litmus_reader.specs.inner.Settings.{value_at, register_setting, square_setting, plain_setting, setting_at}
 use Rattle.litmus_reader.specs.Grammar.{terms}
 use Rattle.litmus_reader.specs.GrammarItems.{IsSetting, sets_register, sets_location, sets_in_squares}
 use Rattle.litmus_reader.proofs.GrammarTokens.{there_is, ok_pair, bind_ok, or_unfit_ok, opened, number_takes, symbol_takes}

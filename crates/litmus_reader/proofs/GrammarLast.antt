@@ -10,9 +10,10 @@ use Rattle.litmus_tokens.specs.declared.token.Symbol.{Symbol}
 use Rattle.litmus_tokens.specs.declared.token.Symbol.TheVariants.{OpenRound, CloseRound, And, Or, Tilde}
 use Rattle.litmus_tokens.specs.Pieces.{Piece}
 use Rattle.litmus_tokens.specs.inner.Front.{symbol_at, name_at}
-use Rattle.litmus_reader.specs.declared.fault.Fault.{Fault}
+use Rattle.litmus_cells.specs.declared.fault.Fault.{Fault}
 use Rattle.tso_model.specs.Limits.{most_open}
-use Rattle.litmus_reader.specs.inner.Faults.{◌>>=◌, or_unfit}
+use Rattle.litmus_cells.specs.inner.Faults.{◌>>=◌}
+use Rattle.litmus_reader.specs.inner.Faults.{or_unfit}
 use Rattle.litmus_reader.specs.inner.Keywords.{if_word, word_after}
 use Rattle.litmus_reader.specs.inner.Settings.{setting_at}
 use Rattle.litmus_reader.specs.inner.Conditions as reading

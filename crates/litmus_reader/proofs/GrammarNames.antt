@@ -4,7 +4,7 @@ use Rattle.std.specs.List.{list_any, position_or_len}
 use Rattle.std.specs.Str.{bytes_eq}
 use Rattle.std.proofs.lemmas.Slice.Eq.{bytes_eq-Decides}
 use Rattle.std.proofs.lemmas.List.{length-append}
-use Rattle.litmus_reader.specs.GrammarNames.{numbered, number_of, with_name}
+use Rattle.litmus_cells.specs.GrammarNames.{numbered, number_of, with_name}
 
 abbrev pub Known : List (List ℕ) → List ℕ → Type 0
 Known names x = list_any (bytes_eq x) names ≡ true

@@ -11,11 +11,11 @@ use Rattle.litmus_tokens.specs.Terms.{Term, symbol}
 use Rattle.litmus_tokens.specs.Pieces.{Piece}
 use Rattle.litmus_tokens.specs.Front.{is_symbol, is_symbol_term}
 use Rattle.litmus_tokens.specs.inner.Front.{symbol_at}
-use Rattle.litmus_reader.specs.inner.Faults.{◌>>=◌}
+use Rattle.litmus_cells.specs.inner.Faults.{◌>>=◌}
 use Rattle.litmus_reader.specs.inner.Conditions as reading
 use Rattle.litmus_reader.specs.inner.Conditions.{claim_in, Claimed, claimed, one_more, truth_at, truth_atom, setting_atom, atom_at, Proposition, joined_to, chain, chain_of, conjunction, disjunction, negation_at, opens_unit, negated, bracketed, unit_by, unit_at, proposition_at}
 use Rattle.litmus_reader.specs.Grammar.{terms}
-use Rattle.litmus_reader.specs.GrammarNames.{numbered}
+use Rattle.litmus_cells.specs.GrammarNames.{numbered}
 use Rattle.litmus_reader.specs.GrammarInitial.{names_in, is_allowed}
 use Rattle.litmus_reader.specs.GrammarConditions.{AreJoined, one, more, IsConjunction, IsProposition, settings_in, locations_in, atoms_of, PhraseFits, claim_by, IsWithin}
 use Rattle.litmus_reader.proofs.Keeps.{ok_is as keeps_ok, some_is as keeps_some}

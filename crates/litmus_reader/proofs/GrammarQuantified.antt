@@ -10,7 +10,8 @@ use Rattle.litmus_tokens.specs.Pieces.{Piece}
 use Rattle.litmus_tokens.specs.Front.{is_symbol, is_symbol_term}
 use Rattle.litmus_tokens.specs.inner.Front.{symbol_at, name_at}
 use Rattle.tso_model.specs.Limits.{most_open}
-use Rattle.litmus_reader.specs.inner.Faults.{there, or_unfit}
+use Rattle.litmus_cells.specs.inner.Faults.{there}
+use Rattle.litmus_reader.specs.inner.Faults.{or_unfit}
 use Rattle.litmus_reader.specs.inner.Keywords.{word_after}
 use Rattle.litmus_reader.specs.inner.Conditions.{Conditioned, conditioned, with_claim, quantified, not_exists, condition_at, proposition_at, in_condition}
 use Rattle.litmus_reader.specs.Grammar.{terms}

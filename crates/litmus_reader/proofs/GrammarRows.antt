@@ -12,8 +12,8 @@ use Rattle.litmus_tokens.specs.Pieces.{Piece}
 use Rattle.litmus_tokens.specs.Front.{is_symbol_term, is_symbol}
 use Rattle.litmus_tokens.specs.inner.Front.{name_at}
 use Rattle.tso_model.specs.declared.register.Reg.{Reg}
-use Rattle.litmus_reader.specs.declared.fault.Why.TheVariants.{Unclosed}
-use Rattle.litmus_reader.specs.inner.Forms.{spelled_in}
+use Rattle.litmus_cells.specs.declared.fault.Why.TheVariants.{Unclosed}
+use Rattle.litmus_cells.specs.inner.Forms.{spelled_in}
 use Rattle.litmus_reader.specs.inner.Rows.{row_at}
 use Rattle.litmus_reader.specs.Grammar.{terms}
 use Rattle.litmus_reader.specs.GrammarCells.{IsConstant, plain, with_dollar, IsMemory, in_squares, IsRegister, named, IsMnemonic, spelled, separated, IsExchange, memory_first, register_first, IsCell, stores_constant, stores_register, loads, sets_constant, sets_register, fences, exchanges, locks_exchange, locks_add, moves}
@@ -21,8 +21,9 @@ use Rattle.litmus_reader.specs.GrammarRows.{IsField, empty, full, AreFields, las
 use Rattle.litmus_reader.proofs.GrammarTokens.{chosen, ok_pair, symbol_is, spelled_so}
 use Rattle.litmus_reader.proofs.GrammarCells.{cell_again, cell_takes}
 use Rattle.litmus_reader.proofs.Readings.{Begins, ReadsRow, IsReadAs, AreReadAs}
-use Rattle.litmus_reader.specs.Places.{fault, at_stop, remaining_of}
-use Rattle.litmus_reader.specs.Written.{Shape}
+use Rattle.litmus_cells.specs.Places.{fault}
+use Rattle.litmus_reader.specs.Places.{at_stop, remaining_of}
+use Rattle.litmus_cells.specs.Shapes.{Shape}
 use Rattle.litmus_reader.specs.RefusedTable.{cells_of}
 
 -- ---- cells have no `|` and no `;`

@@ -10,14 +10,14 @@ use Rattle.litmus_tokens.specs.declared.token.Symbol.TheVariants.{Semicolon, Bar
 use Rattle.litmus_tokens.specs.Terms.{Term, symbol}
 use Rattle.litmus_tokens.specs.Pieces.{Piece}
 use Rattle.litmus_tokens.specs.Front.{is_symbol}
-use Rattle.litmus_reader.specs.declared.fault.Why.TheVariants.{WrongCells}
-use Rattle.litmus_reader.specs.declared.cell.CoreInstr.{CoreInstr}
-use Rattle.litmus_reader.specs.inner.Faults.{◌>>=◌}
+use Rattle.litmus_cells.specs.declared.fault.Why.TheVariants.{WrongCells}
+use Rattle.litmus_cells.specs.declared.cell.CoreInstr.{CoreInstr}
+use Rattle.litmus_cells.specs.inner.Faults.{◌>>=◌}
 use Rattle.litmus_reader.specs.inner.Cells.{cells_in}
 use Rattle.litmus_reader.specs.inner.Rows.{row_at, counted, row_in, Rows, rows, rows_within, rows_at}
 use Rattle.litmus_reader.specs.Grammar.{terms}
 use Rattle.litmus_reader.specs.GrammarCells.{IsMnemonic, spelled, separated, IsExchange, memory_first, register_first, IsCell, stores_constant, stores_register, loads, sets_constant, sets_register, fences, exchanges, locks_exchange, locks_add, moves}
-use Rattle.litmus_reader.specs.GrammarNames.{numbered}
+use Rattle.litmus_cells.specs.GrammarNames.{numbered}
 use Rattle.litmus_reader.specs.GrammarRows as grammar
 use Rattle.litmus_reader.specs.GrammarRows.{IsField, empty, full, AreFields, IsRow, row}
 use Rattle.litmus_reader.specs.GrammarTable.{AreRows, none, more, ends_rows}
@@ -26,8 +26,9 @@ use Rattle.litmus_reader.proofs.GrammarTokens.{chosen, ok_is, bind_ok}
 use Rattle.litmus_reader.proofs.GrammarRows.{row_again, row_takes}
 use Rattle.litmus_reader.proofs.GrammarTableEntries.{names_of, instrs_of, Read, read_of, within_first, within_none, cells_found, CellsTaken, cells_taken}
 use Rattle.litmus_reader.proofs.Readings.{AreReadAs, rows_by, ReadsPlaced, SpellsRows, ends_table}
-use Rattle.litmus_reader.specs.Places.{fault, remaining_of}
-use Rattle.litmus_reader.specs.Written.{Shape}
+use Rattle.litmus_cells.specs.Places.{fault}
+use Rattle.litmus_reader.specs.Places.{remaining_of}
+use Rattle.litmus_cells.specs.Shapes.{Shape}
 use Rattle.litmus_reader.specs.RefusedTable.{cells_of}
 
 -- ---- a row begins with a cell, a `|` or a `;`

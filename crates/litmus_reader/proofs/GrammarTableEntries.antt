@@ -9,15 +9,16 @@ use Rattle.tso_model.specs.declared.instruction.Loc.{Loc}
 use Rattle.tso_model.specs.declared.instruction.Instr.{Instr}
 use Rattle.tso_model.specs.declared.instruction.Instr.TheVariants.{StoreImm, StoreReg, Load, SetImm, SetReg, Fence, Xchg, Xadd}
 use Rattle.litmus_tokens.specs.Pieces.{Piece}
-use Rattle.litmus_reader.specs.declared.fault.Why.TheVariants.{TooLarge}
-use Rattle.litmus_reader.specs.declared.fault.Fault.{Fault}
-use Rattle.litmus_reader.specs.declared.cell.CoreInstr.{CoreInstr}
-use Rattle.litmus_reader.specs.inner.Faults.{◌>>=◌}
-use Rattle.litmus_reader.specs.inner.Locations.{located}
-use Rattle.litmus_reader.specs.inner.Settings.{word_at}
-use Rattle.litmus_reader.specs.inner.Forms.{spelled_in}
-use Rattle.litmus_reader.specs.inner.Cells.{instr_of, count_of, or_bad_instruction, cell_in, cells_in, of_core}
-use Rattle.litmus_reader.specs.GrammarNames.{numbered, number_of, with_name, location}
+use Rattle.litmus_cells.specs.declared.fault.Why.TheVariants.{TooLarge}
+use Rattle.litmus_cells.specs.declared.fault.Fault.{Fault}
+use Rattle.litmus_cells.specs.declared.cell.CoreInstr.{CoreInstr}
+use Rattle.litmus_cells.specs.inner.Faults.{◌>>=◌}
+use Rattle.litmus_cells.specs.inner.Locations.{located}
+use Rattle.litmus_cells.specs.inner.Numbers.{word_at}
+use Rattle.litmus_cells.specs.inner.Forms.{spelled_in}
+use Rattle.litmus_cells.specs.inner.Cells.{instr_of, count_of, or_bad_instruction, cell_in, of_core}
+use Rattle.litmus_reader.specs.inner.Cells.{cells_in}
+use Rattle.litmus_cells.specs.GrammarNames.{numbered, number_of, with_name, location}
 use Rattle.litmus_reader.specs.GrammarTable.{location_in, instr_with, ValueFits}
 use Rattle.litmus_reader.proofs.Placed.{Placed, placed, placed_from, locations_of, instrs_with, ValuesFit, EntriesWithin}
 use Rattle.litmus_reader.proofs.GrammarTokens.{chosen, ok_is, ok_pair, bind_ok}
@@ -25,8 +26,8 @@ use Rattle.litmus_reader.proofs.GrammarNames.{place_below, known_with, number_wi
 use Rattle.litmus_reader.proofs.GrammarAtoms.{word_is, word_ok, located_ok, room_with}
 use Rattle.litmus_reader.proofs.GrammarShapes.{entries_known, instrs_stay}
 use Rattle.litmus_reader.proofs.Readings.{AreReadAs}
-use Rattle.litmus_reader.specs.Places.{fault}
-use Rattle.litmus_reader.specs.Written.{Shape, store_imm, store_reg, load, set_imm, set_reg, fence, xchg, xadd}
+use Rattle.litmus_cells.specs.Places.{fault}
+use Rattle.litmus_cells.specs.Shapes.{Shape, store_imm, store_reg, load, set_imm, set_reg, fence, xchg, xadd}
 
 -- ---- entries so far
 

@@ -16,7 +16,7 @@ use Rattle.litmus_reader.specs.inner.Columns.{columns_at}
 use Rattle.litmus_reader.specs.inner.Rows.{Rows, Table, table, table_at, rows_at}
 use Rattle.litmus_reader.specs.inner.Reading.{programs_from, test_of, tail_at, body_of, reading_of}
 use Rattle.litmus_reader.specs.Grammar.{terms, Passes}
-use Rattle.litmus_reader.specs.GrammarNames.{numbered, with_name}
+use Rattle.litmus_cells.specs.GrammarNames.{numbered, with_name}
 use Rattle.litmus_reader.specs.GrammarText.{IsHeaderLine, AreInformationLines}
 use Rattle.litmus_reader.specs.GrammarInitial.{IsInitialState, Fits, has_cores, names_in, first_words, first_registers}
 use Rattle.litmus_reader.specs.GrammarColumns.{IsHeaderRow}
@@ -32,7 +32,8 @@ use Rattle.litmus_reader.proofs.GrammarNames.{numbered_append, with_name_by}
 use Rattle.litmus_reader.proofs.GrammarShapes.{entries_known, instrs_stay}
 use Rattle.litmus_reader.proofs.GrammarEnding.{Closes, Closed, Given, given, tail_again, tail_takes}
 use Rattle.litmus_reader.proofs.Readings.{Reads, Begins, Says, rows_by, ReadsPlaced, SpellsRows, AreLast, ends_table}
-use Rattle.litmus_reader.specs.Written.{Shape, Setting, WrittenCondition, Written}
+use Rattle.litmus_cells.specs.Shapes.{Shape}
+use Rattle.litmus_reader.specs.Written.{Setting, WrittenCondition, Written}
 
 -- ---- lists
 

@@ -8,9 +8,10 @@ use Rattle.litmus_tokens.specs.Terms.{Term, number, name, symbol, spelling_of, s
 use Rattle.litmus_tokens.specs.Pieces.{Piece}
 use Rattle.litmus_tokens.specs.Front.{is_symbol_term, is_symbol}
 use Rattle.litmus_tokens.specs.inner.Front.{symbol_at, name_then, name_at, number_then, number_at}
-use Rattle.litmus_reader.specs.declared.fault.Fault.{Fault}
+use Rattle.litmus_cells.specs.declared.fault.Fault.{Fault}
 use Rattle.litmus_reader.specs.declared.fault.Part.{Part}
-use Rattle.litmus_reader.specs.inner.Faults.{◌>>=◌, there, or_unfit}
+use Rattle.litmus_cells.specs.inner.Faults.{◌>>=◌, there}
+use Rattle.litmus_reader.specs.inner.Faults.{or_unfit}
 use Rattle.litmus_reader.specs.Grammar.{terms}
 
 -- which way a test went

@@ -1,7 +1,7 @@
 -- All information lines, one after the other.
 use Rattle.std.proofs.Common.{◌≡◌, ℕ, zero, suc, ◌<◌, true, false, List, length, None, Result, Ok, Err, refl, arith}
 use Rattle.litmus_tokens.specs.Gap.{gap_end}
-use Rattle.litmus_reader.specs.declared.fault.Fault.{Fault}
+use Rattle.litmus_cells.specs.declared.fault.Fault.{Fault}
 use Rattle.litmus_reader.specs.inner.Header.{from_gap}
 use Rattle.litmus_reader.specs.inner.Information.{information_end, begins_initial, braces_within, braces_at}
 

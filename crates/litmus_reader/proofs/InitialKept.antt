@@ -8,11 +8,12 @@ use Rattle.litmus_tokens.specs.declared.token.Stop.{Stop}
 use Rattle.litmus_tokens.specs.declared.token.Symbol.TheVariants.{OpenCurly, CloseCurly, Semicolon}
 use Rattle.litmus_tokens.specs.Pieces.{Piece}
 use Rattle.litmus_tokens.specs.inner.Front.{symbol_at}
-use Rattle.litmus_reader.specs.declared.fault.Fault.{Fault}
+use Rattle.litmus_cells.specs.declared.fault.Fault.{Fault}
 use Rattle.litmus_reader.specs.declared.fault.Part.{Part}
 use Rattle.litmus_reader.specs.inner.Faults.{or_unfit}
-use Rattle.litmus_reader.specs.inner.Locations.{located}
-use Rattle.litmus_reader.specs.inner.Settings.{setting_at, word_at, core_of}
+use Rattle.litmus_cells.specs.inner.Locations.{located}
+use Rattle.litmus_cells.specs.inner.Numbers.{word_at}
+use Rattle.litmus_reader.specs.inner.Settings.{setting_at, core_of}
 use Rattle.litmus_reader.specs.inner.Initial.{before_initial, Given, Initial, initial, gives, judged, item_in, step_in, items_within, items_at, initial_at, with_register, registers_with, registers_of, words_of, ends_item}
 use Rattle.litmus_reader.proofs.Keeps.{Any, ok_any, some_any, bind_keeps, there_keeps, cond_keeps, core_keeps}
 use Rattle.litmus_reader.proofs.Named.{NamedSetting, setting_named}

@@ -5,12 +5,13 @@ use Rattle.litmus_tokens.specs.declared.token.Symbol.{Symbol}
 use Rattle.litmus_tokens.specs.declared.token.Symbol.TheVariants.{CloseCurly}
 use Rattle.litmus_tokens.specs.Pieces.{Piece}
 use Rattle.litmus_tokens.specs.inner.Front.{symbol_at, name_at, number_at}
-use Rattle.litmus_reader.specs.declared.fault.Fault.{Fault}
+use Rattle.litmus_cells.specs.declared.fault.Fault.{Fault}
 use Rattle.litmus_reader.specs.declared.fault.Part.{Part}
-use Rattle.litmus_reader.specs.declared.fault.ReadError.{ReadError}
-use Rattle.litmus_reader.specs.declared.fault.ReadError.TheVariants as errors
-use Rattle.litmus_reader.specs.inner.Faults.{◌>>=◌, Fails}
-use Rattle.litmus_reader.specs.inner.Settings.{location_at, plain_setting, setting_at}
+use Rattle.litmus_cells.specs.declared.fault.ReadError.{ReadError}
+use Rattle.litmus_cells.specs.declared.fault.ReadError.TheVariants as errors
+use Rattle.litmus_cells.specs.inner.Faults.{◌>>=◌, Fails}
+use Rattle.litmus_cells.specs.inner.Names.{location_at}
+use Rattle.litmus_reader.specs.inner.Settings.{plain_setting, setting_at}
 use Rattle.litmus_reader.specs.inner.Initial.{Initial, initial, item_in, step_in, items_within, items_at, opened_at, initial_at}
 use Rattle.litmus_reader.specs.Places.{unfit, remaining_of, in_initial}
 

@@ -3,9 +3,10 @@ use Rattle.std.proofs.Common.{◌≡◌, ◌<◌, ℕ, ltb, Bool, true, false, c
 use Rattle.std.proofs.lemmas.Bool.{ltb-true}
 use Rattle.decimals.specs.Decimals.{decimal_value}
 use Rattle.litmus_tokens.specs.Pieces.{Piece}
-use Rattle.litmus_reader.specs.declared.fault.Fault.{Fault}
+use Rattle.litmus_cells.specs.declared.fault.Fault.{Fault}
 use Rattle.litmus_reader.specs.declared.fault.Part.{Part}
-use Rattle.litmus_reader.specs.inner.Faults.{◌>>=◌, or_unfit, there}
+use Rattle.litmus_cells.specs.inner.Faults.{◌>>=◌, there}
+use Rattle.litmus_reader.specs.inner.Faults.{or_unfit}
 use Rattle.litmus_reader.specs.inner.Settings.{core_of}
 
 pub bind_keeps : {A B : Type 0} (R : A → Type 0) (Q : B → Type 0) (r : Result A Fault) (f : A → Result B Fault)

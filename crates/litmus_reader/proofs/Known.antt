@@ -8,11 +8,11 @@ use Rattle.std.proofs.lemmas.List.Elements.{All-append}
 use Rattle.tso_model.specs.Litmus.{are_distinct}
 use Rattle.tso_model.specs.Names.{is_among}
 use Rattle.tso_model.specs.declared.instruction.Loc.{Loc}
-use Rattle.litmus_reader.specs.declared.fault.Fault.{Fault}
-use Rattle.litmus_reader.specs.inner.Locations.{located}
+use Rattle.litmus_cells.specs.declared.fault.Fault.{Fault}
+use Rattle.litmus_cells.specs.inner.Locations.{located}
 use Rattle.litmus_reader.proofs.Keeps.{cond_keeps}
 use Rattle.litmus_reader.proofs.Named.{IsLocation}
-use Rattle.litmus_reader.specs.GrammarNames.{number_of, location}
+use Rattle.litmus_cells.specs.GrammarNames.{number_of, location}
 
 -- names that the locations of a test may have
 pub record AreNames (names : List (List ℕ)) : Type 0 where

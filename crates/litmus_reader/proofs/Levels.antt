@@ -7,15 +7,16 @@ use Rattle.litmus_tokens.specs.declared.token.Symbol.TheVariants.{OpenRound, Clo
 use Rattle.litmus_tokens.specs.Terms.{Term, symbol}
 use Rattle.litmus_tokens.specs.Front.{is_symbol_term}
 use Rattle.litmus_tokens.specs.Pieces.{Piece}
-use Rattle.litmus_reader.specs.declared.fault.Why.TheVariants.{BadNumber, NoSuchCore, TooLarge, BadCondition}
-use Rattle.litmus_reader.specs.declared.fault.Fault.{Fault}
+use Rattle.litmus_cells.specs.declared.fault.Why.TheVariants.{BadNumber, NoSuchCore, TooLarge, BadCondition}
+use Rattle.litmus_cells.specs.declared.fault.Fault.{Fault}
 use Rattle.litmus_reader.specs.Grammar.{terms}
-use Rattle.litmus_reader.specs.GrammarNames.{numbered}
+use Rattle.litmus_cells.specs.GrammarNames.{numbered}
 use Rattle.litmus_reader.specs.GrammarItems.{IsSetting}
 use Rattle.litmus_reader.specs.GrammarInitial.{given_value, has_core}
 use Rattle.litmus_reader.specs.GrammarConditions.{IsAtom, AreJoined, IsConjunction, IsProposition, IsUnit, locations_in, atoms_of, PhraseFits, IsWithin, is_negation}
 use Rattle.litmus_reader.specs.Misfits.{Misfits, begins_with}
-use Rattle.litmus_reader.specs.Places.{fault, remaining_of, unfit, part_of}
+use Rattle.litmus_cells.specs.Places.{fault}
+use Rattle.litmus_reader.specs.Places.{remaining_of, unfit, part_of}
 use Rattle.litmus_reader.specs.Written.{Setting, Phrase, both, either}
 use Rattle.litmus_reader.specs.RefusedConditions.{begins_unit}
 

@@ -1,7 +1,6 @@
 pub mod Maps
 pub mod Lines
 pub mod Informed
-pub mod Names
 pub mod ItemSteps
 pub mod Listed
 pub mod ColumnSteps

@@ -7,13 +7,14 @@ use Rattle.std.specs.Cmp.Lexicographic.{nat_list_eq_equiv}
 use Rattle.tso_model.specs.Registers.{index_of}
 use Rattle.std.proofs.lemmas.List.{nil_from_length, length-drop, map_push}
 use Rattle.tso_model.specs.declared.register.Reg.{Reg}
-use Rattle.litmus_reader.specs.declared.fault.Why.TheVariants.{TwiceInit}
-use Rattle.litmus_reader.specs.declared.fault.Fault.{Fault}
+use Rattle.litmus_cells.specs.declared.fault.Why.TheVariants.{TwiceInit}
+use Rattle.litmus_cells.specs.declared.fault.Fault.{Fault}
 use Rattle.litmus_reader.specs.declared.initial.RegisterWord.{RegisterWord}
-use Rattle.litmus_reader.specs.inner.Settings.{word_at, core_of}
+use Rattle.litmus_cells.specs.inner.Numbers.{word_at}
+use Rattle.litmus_reader.specs.inner.Settings.{core_of}
 use Rattle.litmus_reader.specs.inner.Initial.{Given, given_of, named_by_key, named_by_word, initial, gives, judged, with_register, registers_with}
 use Rattle.litmus_reader.proofs.Maps.{list_any_map}
-use Rattle.litmus_reader.specs.Places.{fault}
+use Rattle.litmus_cells.specs.Places.{fault}
 use Rattle.litmus_reader.specs.Written.{of_register}
 
 abbrev pub Registers : Type 0

@@ -1,10 +1,9 @@
 -- Searches and cuts of a list, seen through a map.
-use Rattle.std.proofs.Common.{◌≡◌, ℕ, ◌+◌, Bool, true, false, cond, ltb, not, ◌||◌, List, [], ◌∷◌, ◌++◌, length, map, Some, None, refl, sym, ap, ◌∙◌, ◌⊎◌, inl, inr, arith}
+use Rattle.std.proofs.Common.{◌≡◌, ℕ, ◌+◌, Bool, true, false, cond, ltb, not, ◌||◌, List, [], ◌∷◌, length, map, Some, None, refl, sym, ap, ◌⊎◌, inl, inr, arith}
 use Rattle.std.specs.Prelude.{position}
 use Rattle.std.specs.List.{position_or_len, prefix_len, list_any, slice_split, onto_first}
 use Rattle.std.proofs.lemmas.Bool.{ltb-false}
 use Rattle.std.proofs.lemmas.List.Sums.{prefix_len-le-length}
-use Rattle.std.proofs.lemmas.List.{map-append}
 
 -- which way a test went
 pub chosen : {A : Type 0} (b : Bool) (x y z : A) → cond b x y ≡ z → ((b ≡ true) × (x ≡ z)) ⊎ ((b ≡ false) × (y ≡ z))
@@ -15,29 +14,11 @@ pub prefix_len-map : {X Y : Type 0} (p : Y → Bool) (f : X → Y) (xs : List X)
 prefix_len-map p f [] = refl
 prefix_len-map p f (x ∷ xs) = ap (λ (n : ℕ). cond (p (f x)) (1 + n) 0) (prefix_len-map p f xs)
 
-pub position_or_len-map : {X Y : Type 0} (p : Y → Bool) (f : X → Y) (xs : List X) → position_or_len p (map f xs) ≡ position_or_len (λ x. p (f x)) xs
-position_or_len-map p f xs = prefix_len-map (λ y. not (p y)) f xs
-
 pub list_any_map : {X Y : Type 0} (p : Y → Bool) (f : X → Y) (xs : List X) → list_any p (map f xs) ≡ list_any (λ x. p (f x)) xs
 list_any_map p f [] = refl
 list_any_map p f (x ∷ xs) = ap (λ b. p (f x) || b) (list_any_map p f xs)
 
--- putting an item after the others where it is new
-pub with-map : {X Y : Type 0} (p : Y → Bool) (f : X → Y) (xs : List X) (x : X) →
-    map f (cond (list_any (λ x. p (f x)) xs) xs (xs ++ x ∷ [])) ≡ cond (list_any p (map f xs)) (map f xs) (map f xs ++ f x ∷ [])
-with-map p f xs x = ap (map f) (ap (λ b. cond b xs (xs ++ x ∷ [])) (sym (list_any_map p f xs))) ∙ by_test (list_any p (map f xs))
-  where
-    by_test : (b : Bool) → map f (cond b xs (xs ++ x ∷ [])) ≡ cond b (map f xs) (map f xs ++ f x ∷ [])
-    by_test true = refl
-    by_test false = map-append f xs (x ∷ [])
-
--- the place that a search finds, and the length where it finds none
-pub position_found : {X : Type 0} (p : X → Bool) (xs : List X) (n : ℕ) → Some n ≡ position p xs → n ≡ position_or_len p xs
-position_found p xs n at = elim (chosen (ltb (position_or_len p xs) (length xs)) (Some (position_or_len p xs)) None (Some n) (sym at)) [
-  | inl hit ↦ cc
-  | inr miss ↦ absurd cc
-]
-
+-- the length where a search finds no place
 pub position_none : {X : Type 0} (p : X → Bool) (xs : List X) → None ≡ position p xs → length xs ≡ position_or_len p xs
 position_none p xs at = elim (chosen (ltb (position_or_len p xs) (length xs)) (Some (position_or_len p xs)) None None (sym at)) [
   | inl hit ↦ absurd cc

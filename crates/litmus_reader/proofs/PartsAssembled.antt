@@ -1,11 +1,11 @@
 -- The lists of a test's parts, one item more at a time.
-use Rattle.std.proofs.Common.{◌≡◌, ℕ, zero, suc, ◌+◌, ◌<◌, List, [], ◌∷◌, ◌++◌, length, take, get_or, All, refl, sym, ap, subst, ◌∙◌, add-one, arith}
-use Rattle.std.proofs.lemmas.List.{get_or-map, map-append}
+use Rattle.std.proofs.Common.{◌≡◌, ◌==◌, ℕ, zero, suc, ◌+◌, ◌<◌, ◌≤◌, Bool, true, false, cond, List, [], ◌∷◌, ◌++◌, length, take, drop, get_or, All, refl, sym, ap, subst, ◌∙◌, add-one, drop-cons, append_assoc, arith}
+use Rattle.std.proofs.lemmas.List.{get_or-map, map-append, append-nil, nil_from_length, length-drop}
 use Rattle.std.proofs.Math.Seq.{take-suc}
 use denote.Ref.{Bor}
 use Rattle.tso_model.specs.declared.instruction.Instr.{Instr}
-use Rattle.litmus_reader.specs.declared.cell.CoreInstr.{CoreInstr}
-use Rattle.litmus_reader.specs.Locations.{texts}
+use Rattle.litmus_cells.specs.declared.cell.CoreInstr.{CoreInstr}
+use Rattle.litmus_cells.specs.Locations.{texts}
 use Rattle.litmus_reader.specs.inner.Reading.{program_of, programs_from}
 
 programs_from-suc : (core n : ℕ) (instrs : List CoreInstr) → programs_from core (suc n) instrs ≡ programs_from core n instrs ++ program_of instrs (core + n) ∷ []
@@ -28,3 +28,26 @@ text_at P names i d lt each = subst P (get_or-map (λ (x : Bor (List ℕ)). x.no
     length-texts : (xs : List (Bor (List ℕ))) → length (texts xs) ≡ length xs
     length-texts [] = refl
     length-texts (x ∷ xs) = ap suc (length-texts xs)
+
+-- the program of the instructions from this one on
+program_at : (core i : ℕ) (instrs : List CoreInstr) (d : CoreInstr) (b : Bool) → i < length instrs → ((get_or instrs i d).core == core) ≡ b
+    → program_of (drop i instrs) core ≡ cond b ((get_or instrs i d).instr ∷ program_of (drop (i + 1) instrs) core) (program_of (drop (i + 1) instrs) core)
+program_at core i instrs d true lt is = rw (add-one, drop-cons instrs i d, is) refl
+program_at core i instrs d false lt is = rw (add-one, drop-cons instrs i d, is) refl
+
+pub program_more : (core i : ℕ) (instrs : List CoreInstr) (d : CoreInstr) (program whole : List Instr) → i < length instrs → ((get_or instrs i d).core == core) ≡ true
+    → program ++ program_of (drop i instrs) core ≡ whole → program ++ (get_or instrs i d).instr ∷ [] ++ program_of (drop (i + 1) instrs) core ≡ whole
+program_more core i instrs d program whole lt is so_far =
+    append_assoc program ((get_or instrs i d).instr ∷ []) (program_of (drop (i + 1) instrs) core)
+    ∙ ap (λ (l : List Instr). program ++ l) (sym (program_at core i instrs d true lt is)) ∙ so_far
+
+pub program_same : (core i : ℕ) (instrs : List CoreInstr) (d : CoreInstr) (program whole : List Instr) → i < length instrs → ((get_or instrs i d).core == core) ≡ false
+    → program ++ program_of (drop i instrs) core ≡ whole → program ++ program_of (drop (i + 1) instrs) core ≡ whole
+program_same core i instrs d program whole lt is so_far = ap (λ (l : List Instr). program ++ l) (sym (program_at core i instrs d false lt is)) ∙ so_far
+
+pub program_whole : (core i : ℕ) (instrs : List CoreInstr) (program whole : List Instr) → length instrs ≤ i
+    → program ++ program_of (drop i instrs) core ≡ whole → program ≡ whole
+program_whole core i instrs program whole past so_far =
+    let nothing : drop i instrs ≡ [] = nil_from_length (drop i instrs) (omega (arith, length-drop i instrs)) in
+    let done : program ++ program_of (drop i instrs) core ≡ program = rw nothing (append-nil program) in
+    sym done ∙ so_far

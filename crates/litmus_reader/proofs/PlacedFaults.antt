@@ -5,15 +5,16 @@ use Rattle.litmus_tokens.specs.declared.token.Stop.{Stop}
 use Rattle.litmus_tokens.specs.declared.token.Symbol.TheVariants.{Semicolon}
 use Rattle.litmus_tokens.specs.Pieces.{Piece}
 use Rattle.litmus_tokens.specs.Front.{is_symbol}
-use Rattle.litmus_reader.specs.declared.fault.Why.{Why}
-use Rattle.litmus_reader.specs.declared.fault.Why.TheVariants.{Unclosed, WrongCells, BadInstruction, BadNumber, TooLarge}
-use Rattle.litmus_reader.specs.declared.fault.Fault.{Fault}
+use Rattle.litmus_cells.specs.declared.fault.Why.{Why}
+use Rattle.litmus_cells.specs.declared.fault.Why.TheVariants.{Unclosed, WrongCells, BadInstruction, BadNumber, TooLarge}
+use Rattle.litmus_cells.specs.declared.fault.Fault.{Fault}
 use Rattle.litmus_reader.specs.Grammar.{terms}
 use Rattle.litmus_reader.specs.GrammarCells.{IsCell}
 use Rattle.litmus_reader.specs.GrammarTable.{ValueFits}
 use Rattle.litmus_reader.specs.RefusedTable.{AreSpelled, cells_of, row_of}
-use Rattle.litmus_reader.specs.Places.{fault, at_stop, remaining_of}
-use Rattle.litmus_reader.specs.Written.{Shape}
+use Rattle.litmus_cells.specs.Places.{fault}
+use Rattle.litmus_reader.specs.Places.{at_stop, remaining_of}
+use Rattle.litmus_cells.specs.Shapes.{Shape}
 use Rattle.litmus_reader.proofs.Placed.{Placed, placed, placed_from, EntriesWithin}
 
 -- after these entries, with a cell of this core that isn't empty

@@ -2,20 +2,21 @@
 use Rattle.std.specs.Prelude.{◌≡◌, List, ◌++◌, Result, Ok, ℕ, true, [], ◌∷◌, length, IsTrue, Option, Some, None, ◌+◌, Bool, ◌||◌}
 use Rattle.litmus_tokens.specs.Terms.{Term}
 use Rattle.litmus_tokens.specs.Pieces.{Piece}
-use Rattle.litmus_reader.specs.declared.fault.Fault.{Fault}
+use Rattle.litmus_cells.specs.declared.fault.Fault.{Fault}
 use Rattle.litmus_reader.specs.inner.Initial.{Initial, words_of, registers_of}
-use Rattle.litmus_reader.specs.GrammarNames.{numbered}
+use Rattle.litmus_cells.specs.GrammarNames.{numbered}
 use Rattle.litmus_tokens.specs.declared.token.Stop.{Stop}
 use Rattle.litmus_reader.specs.inner.Rows.{row_at, Rows, rows}
 use Rattle.litmus_reader.specs.Grammar.{terms}
-use Rattle.litmus_reader.specs.inner.Forms.{spelled_in}
+use Rattle.litmus_cells.specs.inner.Forms.{spelled_in}
 use Rattle.litmus_reader.specs.inner.Conditions.{Claimed, claimed, Proposition, Conditioned, conditioned, with_claim}
 use Rattle.tso_model.specs.declared.condition.Quantifier.{Quantifier}
 use Rattle.litmus_reader.specs.GrammarTable.{AreRows, ends_rows, ends_rows_term}
 use Rattle.litmus_reader.proofs.Placed.{Placed, placed_in, instrs_with, locations_of, EntriesWithin}
 use Rattle.litmus_reader.specs.GrammarConditions.{IsCondition, IsWithin, locations_in, atoms_of, claim_by}
 use Rattle.litmus_reader.specs.GrammarInitial.{has_cores, names_in, first_words, first_registers}
-use Rattle.litmus_reader.specs.Written.{Setting, Shape, Phrase}
+use Rattle.litmus_cells.specs.Shapes.{Shape}
+use Rattle.litmus_reader.specs.Written.{Setting, Phrase}
 use Rattle.litmus_reader.specs.RefusedTable.{cells_of}
 use Rattle.litmus_tokens.specs.Front.{is_symbol_term}
 use Rattle.litmus_tokens.specs.declared.token.Symbol.TheVariants.{Tilde}

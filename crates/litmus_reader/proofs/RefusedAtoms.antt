@@ -8,15 +8,15 @@ use Rattle.decimals.specs.Decimals.{decimal_value}
 use Rattle.litmus_tokens.specs.Terms.{Term, name}
 use Rattle.litmus_tokens.specs.Pieces.{Piece}
 use Rattle.litmus_tokens.specs.inner.Front.{name_at}
-use Rattle.litmus_reader.specs.declared.fault.Why.TheVariants.{BadNumber, NoSuchCore, TooLarge}
-use Rattle.litmus_reader.specs.declared.fault.Fault.{Fault}
-use Rattle.litmus_reader.specs.inner.Faults.{there}
+use Rattle.litmus_cells.specs.declared.fault.Why.TheVariants.{BadNumber, NoSuchCore, TooLarge}
+use Rattle.litmus_cells.specs.declared.fault.Fault.{Fault}
+use Rattle.litmus_cells.specs.inner.Faults.{there}
 use Rattle.litmus_reader.specs.inner.Keywords.{word_after}
-use Rattle.litmus_reader.specs.inner.Locations.{located}
+use Rattle.litmus_cells.specs.inner.Locations.{located}
 use Rattle.litmus_reader.specs.inner.Settings.{setting_at}
 use Rattle.litmus_reader.specs.inner.Conditions.{claim_in, one_more, truth_at, truth_atom, setting_atom, atom_at, in_condition}
 use Rattle.litmus_reader.specs.Grammar.{terms}
-use Rattle.litmus_reader.specs.GrammarNames.{numbered, number_of, with_name, location}
+use Rattle.litmus_cells.specs.GrammarNames.{numbered, number_of, with_name, location}
 use Rattle.litmus_reader.specs.GrammarInitial.{given_value, has_core}
 use Rattle.litmus_reader.specs.GrammarConditions.{IsAtom, says_true, says_false, says_setting, PhraseFits, IsWithin}
 use Rattle.litmus_reader.specs.Misfits.{begins_with, is_word}
@@ -26,7 +26,8 @@ use Rattle.litmus_reader.proofs.GrammarItems.{setting_found, setting_taken}
 use Rattle.litmus_reader.proofs.GrammarAtoms.{SettingFits, atom_fits, fits_atom, word_is, setting_plain, claim_taken, truth_taken, atom_found}
 use Rattle.litmus_reader.proofs.RefusedMisfits.{err_is, bind_err, fails, Follows, setting_follows}
 use Rattle.litmus_reader.proofs.RefusedEnding.{word_missing, word_differs}
-use Rattle.litmus_reader.specs.Places.{fault, remaining_of, unfit}
+use Rattle.litmus_cells.specs.Places.{fault}
+use Rattle.litmus_reader.specs.Places.{remaining_of, unfit}
 use Rattle.litmus_reader.specs.Written.{Setting, of_register, of_location, Phrase, truth, atom}
 use Rattle.litmus_reader.proofs.Slots.{misfit, setting_slots}
 use Rattle.litmus_reader.proofs.RefusedKinds.{AtomMisses, atom_misses, atom_misfits}

@@ -7,8 +7,8 @@ use Rattle.tso_model.specs.Names.{is_test_name, is_printable, last_byte}
 use Rattle.litmus_tokens.specs.declared.token.Stop.{Stop}
 use Rattle.litmus_tokens.specs.declared.token.Stop.TheVariants as stops
 use Rattle.litmus_tokens.specs.Gap.{is_space, opens_comment, closes_comment, gap_end}
-use Rattle.litmus_reader.specs.declared.fault.Why.TheVariants.{NoHeader, Unclosed, BadToken, TooLarge}
-use Rattle.litmus_reader.specs.declared.fault.Fault.{Fault}
+use Rattle.litmus_cells.specs.declared.fault.Why.TheVariants.{NoHeader, Unclosed, BadToken, TooLarge}
+use Rattle.litmus_cells.specs.declared.fault.Fault.{Fault}
 use Rattle.litmus_reader.specs.inner.Header.{judged, header_at}
 use Rattle.litmus_reader.specs.inner.Information.{quotation_end, closed_quotation, key_value, key_line_end, information_end, begins_initial, braces_within, braces_at}
 use Rattle.litmus_reader.specs.inner.Observed.{square_by, square_within, square_end}
@@ -20,7 +20,7 @@ use Rattle.litmus_reader.proofs.GrammarGaps.{gap_within}
 use Rattle.litmus_reader.proofs.GrammarRuns.{both}
 use Rattle.litmus_reader.proofs.GrammarInformation.{no_braces, information_takes, information_again, information_shorter}
 use Rattle.litmus_reader.proofs.RefusedMisfits.{err_is}
-use Rattle.litmus_reader.specs.Places.{fault}
+use Rattle.litmus_cells.specs.Places.{fault}
 
 -- ---- gaps
 

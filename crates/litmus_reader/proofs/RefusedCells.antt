@@ -5,13 +5,14 @@ use Rattle.tso_model.specs.declared.instruction.Loc.{Loc}
 use Rattle.tso_model.specs.declared.instruction.Instr.{Instr}
 use Rattle.tso_model.specs.declared.instruction.Instr.TheVariants.{StoreImm, StoreReg, Load, Xchg, Xadd}
 use Rattle.litmus_tokens.specs.Pieces.{Piece}
-use Rattle.litmus_reader.specs.declared.fault.Why.{Why}
-use Rattle.litmus_reader.specs.declared.fault.Why.TheVariants.{BadInstruction, BadNumber, TooLarge}
-use Rattle.litmus_reader.specs.declared.fault.Fault.{Fault}
-use Rattle.litmus_reader.specs.inner.Faults.{◌>>=◌}
-use Rattle.litmus_reader.specs.inner.Locations.{located}
-use Rattle.litmus_reader.specs.inner.Forms.{spelled_in}
-use Rattle.litmus_reader.specs.inner.Cells.{instr_of, count_of, cell_in, cells_in, of_core}
+use Rattle.litmus_cells.specs.declared.fault.Why.{Why}
+use Rattle.litmus_cells.specs.declared.fault.Why.TheVariants.{BadInstruction, BadNumber, TooLarge}
+use Rattle.litmus_cells.specs.declared.fault.Fault.{Fault}
+use Rattle.litmus_cells.specs.inner.Faults.{◌>>=◌}
+use Rattle.litmus_cells.specs.inner.Locations.{located}
+use Rattle.litmus_cells.specs.inner.Forms.{spelled_in}
+use Rattle.litmus_cells.specs.inner.Cells.{instr_of, count_of, cell_in, of_core}
+use Rattle.litmus_reader.specs.inner.Cells.{cells_in}
 use Rattle.litmus_reader.specs.Grammar.{terms}
 use Rattle.litmus_reader.specs.GrammarRows.{empty, full}
 use Rattle.litmus_reader.specs.GrammarTable.{ValueFits}
@@ -25,9 +26,9 @@ use Rattle.litmus_reader.proofs.GrammarRows.{field_read}
 use Rattle.litmus_reader.proofs.GrammarTableEntries.{names_of, instrs_of, Read, within_first, cell_found, cell_taken}
 use Rattle.litmus_reader.proofs.RefusedMisfits.{err_is, bind_err}
 use Rattle.litmus_reader.proofs.Readings.{AreReadAs}
-use Rattle.litmus_reader.specs.Places.{fault}
-use Rattle.litmus_reader.specs.GrammarNames.{number_of, with_name, location}
-use Rattle.litmus_reader.specs.Written.{Shape, store_imm, store_reg, load, set_imm, set_reg, fence, xchg, xadd}
+use Rattle.litmus_cells.specs.Places.{fault}
+use Rattle.litmus_cells.specs.GrammarNames.{number_of, with_name, location}
+use Rattle.litmus_cells.specs.Shapes.{Shape, store_imm, store_reg, load, set_imm, set_reg, fence, xchg, xadd}
 
 -- ---- an instruction
 

@@ -9,8 +9,8 @@ use Rattle.litmus_tokens.specs.Terms.{Term, number, name, symbol}
 use Rattle.litmus_tokens.specs.Pieces.{Piece}
 use Rattle.litmus_tokens.specs.Front.{is_symbol_term, is_symbol}
 use Rattle.litmus_tokens.specs.inner.Front.{symbol_at, name_at}
-use Rattle.litmus_reader.specs.declared.fault.Why.TheVariants.{TooLarge}
-use Rattle.litmus_reader.specs.declared.fault.Fault.{Fault}
+use Rattle.litmus_cells.specs.declared.fault.Why.TheVariants.{TooLarge}
+use Rattle.litmus_cells.specs.declared.fault.Fault.{Fault}
 use Rattle.litmus_reader.specs.declared.fault.Part.{Part}
 use Rattle.litmus_reader.specs.inner.Faults.{or_unfit}
 use Rattle.litmus_reader.specs.inner.Columns.{core_at, separator_at, columns, in_columns}
@@ -18,7 +18,8 @@ use Rattle.litmus_reader.specs.Misfits.{ends_column, is_word, begins_with}
 use Rattle.litmus_reader.specs.RefusedTable.{IsColumnsFault, no_name, one_too_many, no_end, further}
 use Rattle.litmus_reader.proofs.GrammarTokens.{symbol_is}
 use Rattle.litmus_reader.proofs.RefusedMisfits.{err_is}
-use Rattle.litmus_reader.specs.Places.{fault, remaining_of, unfit}
+use Rattle.litmus_cells.specs.Places.{fault}
+use Rattle.litmus_reader.specs.Places.{remaining_of, unfit}
 use Rattle.litmus_reader.specs.GrammarColumns.{core_name}
 use Rattle.litmus_reader.specs.Grammar.{terms}
 

@@ -12,13 +12,14 @@ use Rattle.litmus_tokens.specs.Terms.{Term, symbol}
 use Rattle.litmus_tokens.specs.Pieces.{Piece}
 use Rattle.litmus_tokens.specs.Front.{is_symbol}
 use Rattle.litmus_tokens.specs.inner.Front.{symbol_at}
-use Rattle.litmus_reader.specs.declared.fault.Why.TheVariants.{NoSuchCore, TwiceInit}
-use Rattle.litmus_reader.specs.declared.fault.Fault.{Fault}
+use Rattle.litmus_cells.specs.declared.fault.Why.TheVariants.{NoSuchCore, TwiceInit}
+use Rattle.litmus_cells.specs.declared.fault.Fault.{Fault}
 use Rattle.litmus_reader.specs.declared.fault.Part.{Part}
-use Rattle.litmus_reader.specs.declared.fault.ReadError.TheVariants as errors
-use Rattle.litmus_reader.specs.inner.Faults.{◌>>=◌}
-use Rattle.litmus_reader.specs.inner.Settings.{setting_at, word_at, core_of}
-use Rattle.litmus_reader.specs.inner.Locations.{located}
+use Rattle.litmus_cells.specs.declared.fault.ReadError.TheVariants as errors
+use Rattle.litmus_cells.specs.inner.Faults.{◌>>=◌}
+use Rattle.litmus_cells.specs.inner.Numbers.{word_at}
+use Rattle.litmus_reader.specs.inner.Settings.{setting_at, core_of}
+use Rattle.litmus_cells.specs.inner.Locations.{located}
 use Rattle.litmus_reader.specs.inner.Initial.{Given, given, Initial, initial, gives, judged, item_in, step_in, items_within, items_at, initial_at, no_registers, with_register, registers_with, registers_of, ends_item}
 use Rattle.litmus_reader.specs.Grammar.{terms}
 use Rattle.litmus_reader.specs.GrammarItems.{IsSetting}
@@ -39,7 +40,8 @@ use Rattle.litmus_reader.proofs.RefusedMisfits.{err_is}
 use Rattle.litmus_reader.proofs.RefusedPasses.{same_place}
 use Rattle.litmus_reader.proofs.RefusedInitial.{ItemsThen, at_once, after_empty, after_item, ended_found, curly_step, item_step, shorter_by}
 use Rattle.litmus_reader.proofs.Readings.{AreLast}
-use Rattle.litmus_reader.specs.Places.{fault, remaining_of, unfit, in_initial}
+use Rattle.litmus_cells.specs.Places.{fault}
+use Rattle.litmus_reader.specs.Places.{remaining_of, unfit, in_initial}
 use Rattle.litmus_reader.specs.Written.{Setting, of_register, of_location}
 
 -- ---- an item that is taken in

@@ -10,13 +10,13 @@ use Rattle.litmus_tokens.specs.Terms.{Term, symbol}
 use Rattle.litmus_tokens.specs.Pieces.{Piece}
 use Rattle.litmus_tokens.specs.Front.{is_symbol}
 use Rattle.litmus_tokens.specs.inner.Front.{symbol_at}
-use Rattle.litmus_reader.specs.declared.fault.Why.{Why}
-use Rattle.litmus_reader.specs.declared.fault.Why.TheVariants.{BadNumber, TwiceInit, TooLarge}
-use Rattle.litmus_reader.specs.declared.fault.Fault.{Fault}
+use Rattle.litmus_cells.specs.declared.fault.Why.{Why}
+use Rattle.litmus_cells.specs.declared.fault.Why.TheVariants.{BadNumber, TwiceInit, TooLarge}
+use Rattle.litmus_cells.specs.declared.fault.Fault.{Fault}
 use Rattle.litmus_reader.specs.declared.fault.Part.{Part}
-use Rattle.litmus_reader.specs.declared.fault.ReadError.TheVariants as errors
-use Rattle.litmus_reader.specs.inner.Faults.{◌>>=◌}
-use Rattle.litmus_reader.specs.inner.Locations.{located}
+use Rattle.litmus_cells.specs.declared.fault.ReadError.TheVariants as errors
+use Rattle.litmus_cells.specs.inner.Faults.{◌>>=◌}
+use Rattle.litmus_cells.specs.inner.Locations.{located}
 use Rattle.litmus_reader.specs.inner.Settings.{setting_at}
 use Rattle.litmus_reader.specs.inner.Initial.{Initial, initial, gives, judged, item_in, step_in, items_at, initial_at, ends_item}
 use Rattle.litmus_reader.specs.Grammar.{terms}
@@ -38,8 +38,9 @@ use Rattle.litmus_reader.proofs.GrammarTest.{terms_append, taken_terms}
 use Rattle.litmus_reader.proofs.RefusedMisfits.{err_is, bind_err, fails, Follows, setting_follows}
 use Rattle.litmus_reader.proofs.RefusedPasses.{same_place as same_tokens}
 use Rattle.litmus_reader.proofs.Readings.{AreLast}
-use Rattle.litmus_reader.specs.Places.{fault, remaining_of, unfit, in_initial}
-use Rattle.litmus_reader.specs.GrammarNames.{number_of}
+use Rattle.litmus_cells.specs.Places.{fault}
+use Rattle.litmus_reader.specs.Places.{remaining_of, unfit, in_initial}
+use Rattle.litmus_cells.specs.GrammarNames.{number_of}
 use Rattle.litmus_reader.specs.Written.{Setting, of_register, of_location}
 use Rattle.litmus_reader.proofs.Slots.{misfit, setting_slots}
 use Rattle.litmus_reader.proofs.RefusedKinds.{item_misses, item_misfits}

@@ -11,9 +11,9 @@ use Rattle.litmus_tokens.specs.Pieces.{Piece}
 use Rattle.litmus_tokens.specs.Front.{is_symbol_term, is_symbol}
 use Rattle.litmus_tokens.specs.inner.Front.{symbol_at, name_at}
 use Rattle.tso_model.specs.Limits.{most_open}
-use Rattle.litmus_reader.specs.declared.fault.Why.TheVariants.{BadToken, Unclosed, Trailing}
-use Rattle.litmus_reader.specs.declared.fault.Fault.{Fault}
-use Rattle.litmus_reader.specs.inner.Faults.{◌>>=◌}
+use Rattle.litmus_cells.specs.declared.fault.Why.TheVariants.{BadToken, Unclosed, Trailing}
+use Rattle.litmus_cells.specs.declared.fault.Fault.{Fault}
+use Rattle.litmus_cells.specs.inner.Faults.{◌>>=◌}
 use Rattle.litmus_reader.specs.inner.Keywords.{word_after}
 use Rattle.litmus_reader.specs.inner.Conditions.{Claimed, Conditioned, conditioned, with_claim, quantified, not_exists, condition_at, unit_at, proposition_at, in_condition}
 use Rattle.litmus_reader.specs.inner.Reading.{end_at, ending_at}
@@ -39,7 +39,8 @@ use Rattle.litmus_reader.proofs.RefusedEnding.{word_missing, word_differs}
 use Rattle.litmus_reader.proofs.RefusedUnits.{within_taken, proposition_refuses, proposition_refused, proposition_ends, symbol_missing}
 use Rattle.litmus_reader.proofs.RefusedOpens.{unit_refuses, unit_refused}
 use Rattle.litmus_reader.proofs.Readings.{AreLast, condition_by}
-use Rattle.litmus_reader.specs.Places.{fault, unfit, part_of}
+use Rattle.litmus_cells.specs.Places.{fault}
+use Rattle.litmus_reader.specs.Places.{unfit, part_of}
 use Rattle.litmus_reader.specs.Written.{Phrase, WrittenCondition}
 use Rattle.litmus_reader.specs.Misfits.{begins_with, is_word}
 

@@ -11,10 +11,12 @@ use Rattle.litmus_tokens.specs.Terms.{Term, number, name, symbol}
 use Rattle.litmus_tokens.specs.Pieces.{Piece}
 use Rattle.litmus_tokens.specs.Front.{is_symbol_term, is_symbol}
 use Rattle.litmus_tokens.specs.inner.Front.{symbol_at, name_then, name_at, number_then, number_at}
-use Rattle.litmus_reader.specs.declared.fault.Fault.{Fault}
+use Rattle.litmus_cells.specs.declared.fault.Fault.{Fault}
 use Rattle.litmus_reader.specs.declared.fault.Part.{Part}
-use Rattle.litmus_reader.specs.inner.Faults.{◌>>=◌, or_unfit, there}
-use Rattle.litmus_reader.specs.inner.Settings.{if_location, location_at, if_register, register_at, value_at, register_setting, square_setting, plain_setting, setting_at}
+use Rattle.litmus_cells.specs.inner.Faults.{◌>>=◌, there}
+use Rattle.litmus_reader.specs.inner.Faults.{or_unfit}
+use Rattle.litmus_cells.specs.inner.Names.{if_location, location_at, if_register, register_at}
+use Rattle.litmus_reader.specs.inner.Settings.{value_at, register_setting, square_setting, plain_setting, setting_at}
 use Rattle.litmus_reader.specs.Places.{unfit}
 use Rattle.litmus_reader.specs.Written.{Setting, of_register, of_location}
 use Rattle.litmus_reader.proofs.Slots.{Slot, is_number, is_location, is_register, misfit, value_slots, setting_slots_of, setting_slots}

@@ -9,8 +9,8 @@ use Rattle.litmus_tokens.specs.Terms.{Term, number, name, symbol}
 use Rattle.litmus_tokens.specs.Pieces.{Piece}
 use Rattle.litmus_tokens.specs.Front.{is_symbol_term, is_symbol}
 use Rattle.litmus_tokens.specs.inner.Front.{symbol_at, name_at}
-use Rattle.litmus_reader.specs.declared.fault.Why.TheVariants.{TooLarge}
-use Rattle.litmus_reader.specs.declared.fault.Fault.{Fault}
+use Rattle.litmus_cells.specs.declared.fault.Why.TheVariants.{TooLarge}
+use Rattle.litmus_cells.specs.declared.fault.Fault.{Fault}
 use Rattle.litmus_reader.specs.inner.Keywords.{word_after}
 use Rattle.litmus_reader.specs.inner.Conditions.{Claimed, claimed, atom_at, Proposition, disjunction, negation_at, opens_unit, negated, bracketed, unit_by, unit_at, in_condition}
 use Rattle.litmus_reader.specs.Grammar.{terms}
@@ -28,7 +28,8 @@ use Rattle.litmus_reader.proofs.RefusedPasses.{same_place}
 use Rattle.litmus_reader.proofs.RefusedAtoms.{atom_refuses, atom_refused}
 use Rattle.litmus_reader.proofs.RefusedUnits.{Refuses, Refused, within_taken, proposition_refuses, proposition_refused, proposition_ends, symbol_missing}
 use Rattle.litmus_reader.proofs.Readings.{given_by}
-use Rattle.litmus_reader.specs.Places.{fault, remaining_of, unfit}
+use Rattle.litmus_cells.specs.Places.{fault}
+use Rattle.litmus_reader.specs.Places.{remaining_of, unfit}
 use Rattle.litmus_reader.specs.Misfits.{begins_with}
 use Rattle.litmus_reader.specs.Written.{Phrase}
 

@@ -19,7 +19,8 @@ use Rattle.litmus_reader.proofs.GrammarColumns.{header_row_again, header_row_tak
 use Rattle.litmus_reader.proofs.GrammarTable.{rows_again, rows_take, ends_is}
 use Rattle.litmus_reader.proofs.GrammarTest.{terms_append, same_length, same_end, passed}
 use Rattle.litmus_reader.proofs.Readings.{AreLast, Says, rows_by}
-use Rattle.litmus_reader.specs.Written.{Setting, Shape}
+use Rattle.litmus_cells.specs.Shapes.{Shape}
+use Rattle.litmus_reader.specs.Written.{Setting}
 
 -- ---- places
 

@@ -7,13 +7,13 @@ use Rattle.litmus_tokens.specs.declared.token.Symbol.TheVariants.{Semicolon}
 use Rattle.litmus_tokens.specs.Terms.{Term}
 use Rattle.litmus_tokens.specs.Pieces.{Piece}
 use Rattle.litmus_tokens.specs.Front.{is_symbol}
-use Rattle.litmus_reader.specs.declared.fault.Why.TheVariants.{Unclosed, WrongCells}
-use Rattle.litmus_reader.specs.declared.fault.Fault.{Fault}
-use Rattle.litmus_reader.specs.declared.fault.ReadError.TheVariants as errors
+use Rattle.litmus_cells.specs.declared.fault.Why.TheVariants.{Unclosed, WrongCells}
+use Rattle.litmus_cells.specs.declared.fault.Fault.{Fault}
+use Rattle.litmus_cells.specs.declared.fault.ReadError.TheVariants as errors
 use Rattle.litmus_reader.specs.inner.Cells.{cells_in}
 use Rattle.litmus_reader.specs.inner.Rows.{row_at, row_in, Rows, rows_at}
 use Rattle.litmus_reader.specs.Grammar.{terms}
-use Rattle.litmus_reader.specs.GrammarNames.{numbered}
+use Rattle.litmus_cells.specs.GrammarNames.{numbered}
 use Rattle.litmus_reader.specs.GrammarTable.{AreRows, none as no_rows, more as more_rows, ends_rows}
 use Rattle.litmus_reader.proofs.Placed.{Placed, placed_from, placed_in, EntriesWithin}
 use Rattle.litmus_reader.specs.RefusedTable.{IsRowsFault, in_row, row_of, cells_of}
@@ -32,8 +32,9 @@ use Rattle.litmus_reader.proofs.RefusedMisfits.{err_is}
 use Rattle.litmus_reader.proofs.RefusedPasses.{same_place}
 use Rattle.litmus_reader.proofs.RefusedCells.{cells_refuse, cells_refused}
 use Rattle.litmus_reader.proofs.Readings.{AreLast, ends_table}
-use Rattle.litmus_reader.specs.Places.{fault, at_stop, remaining_of}
-use Rattle.litmus_reader.specs.Written.{Shape}
+use Rattle.litmus_cells.specs.Places.{fault}
+use Rattle.litmus_reader.specs.Places.{at_stop, remaining_of}
+use Rattle.litmus_cells.specs.Shapes.{Shape}
 
 -- ---- one row
 

@@ -7,10 +7,10 @@ use Rattle.litmus_tokens.specs.declared.token.Symbol.TheVariants.{OpenCurly}
 use Rattle.litmus_tokens.specs.Terms.{symbols, symbol_of, term_at, symbol}
 use Rattle.litmus_tokens.specs.Gap.{is_space, gap_end}
 use Rattle.litmus_tokens.specs.Pieces.{Piece, piece_at, pieces_within, pieces_of}
-use Rattle.litmus_reader.specs.declared.fault.Why.TheVariants.{TooLarge}
-use Rattle.litmus_reader.specs.declared.fault.Fault.{Fault}
+use Rattle.litmus_cells.specs.declared.fault.Why.TheVariants.{TooLarge}
+use Rattle.litmus_cells.specs.declared.fault.Fault.{Fault}
 use Rattle.litmus_reader.specs.Limits.{longest_text}
-use Rattle.litmus_reader.specs.inner.Faults.{◌>>=◌}
+use Rattle.litmus_cells.specs.inner.Faults.{◌>>=◌}
 use Rattle.litmus_reader.specs.inner.Header.{sized, header_at}
 use Rattle.litmus_reader.specs.inner.Information.{braces_at}
 use Rattle.litmus_reader.specs.inner.Initial.{initial_at, registers_of}
@@ -19,7 +19,7 @@ use Rattle.litmus_reader.specs.inner.Rows.{Rows, Table, table, table_at, rows_at
 use Rattle.litmus_reader.specs.inner.Reading.{test_of, tail_at, body_of, reading_of}
 use Rattle.litmus_reader.specs.GrammarText.{AreInformationLines, none, more, IsHeaderLine}
 use Rattle.litmus_reader.specs.GrammarInitial.{Fits, names_in, first_registers}
-use Rattle.litmus_reader.specs.GrammarNames.{numbered}
+use Rattle.litmus_cells.specs.GrammarNames.{numbered}
 use Rattle.litmus_reader.proofs.Placed.{placed_in, locations_of}
 use Rattle.litmus_reader.proofs.Columnwise.{named-same}
 use Rattle.litmus_reader.specs.RefusedInitial.{IsInitialFault, IsCoreFault}
@@ -39,7 +39,7 @@ use Rattle.litmus_reader.proofs.RefusedRows.{rows_refuse, rows_refused}
 use Rattle.litmus_reader.proofs.RefusedEnding.{ending_refuses, ending_refused}
 use Rattle.litmus_reader.proofs.RefusedLast.{last_refuses, last_refused}
 use Rattle.litmus_reader.proofs.Readings.{rows_by}
-use Rattle.litmus_reader.specs.Places.{fault}
+use Rattle.litmus_cells.specs.Places.{fault}
 use Rattle.litmus_reader.specs.Written.{Written}
 
 -- ---- from the `{` on

@@ -8,13 +8,13 @@ use Rattle.litmus_tokens.specs.Terms.{Term, symbol}
 use Rattle.litmus_tokens.specs.Pieces.{Piece}
 use Rattle.litmus_tokens.specs.Front.{is_symbol_term, is_symbol}
 use Rattle.litmus_tokens.specs.inner.Front.{symbol_at}
-use Rattle.litmus_reader.specs.declared.fault.Fault.{Fault}
-use Rattle.litmus_reader.specs.declared.fault.ReadError.TheVariants as errors
-use Rattle.litmus_reader.specs.inner.Faults.{◌>>=◌}
+use Rattle.litmus_cells.specs.declared.fault.Fault.{Fault}
+use Rattle.litmus_cells.specs.declared.fault.ReadError.TheVariants as errors
+use Rattle.litmus_cells.specs.inner.Faults.{◌>>=◌}
 use Rattle.litmus_reader.specs.inner.Conditions as reading
 use Rattle.litmus_reader.specs.inner.Conditions.{Claimed, claimed, atom_at, Proposition, joined_to, chain, chain_of, conjunction, disjunction, negation_at, opens_unit, negated, bracketed, unit_by, unit_at, proposition_at}
 use Rattle.litmus_reader.specs.Grammar.{terms}
-use Rattle.litmus_reader.specs.GrammarNames.{numbered}
+use Rattle.litmus_cells.specs.GrammarNames.{numbered}
 use Rattle.litmus_reader.specs.GrammarConditions.{AreJoined, IsConjunction, IsUnit, locations_in, atoms_of, IsWithin}
 use Rattle.litmus_reader.proofs.Levels.{IsJoinedFault, first, later, IsPropositionFault}
 use Rattle.litmus_reader.proofs.Chains.{ChainAfter, chain_start, chain_end, chain_go_on, chain_fails, chain_never_starts}

@@ -9,10 +9,11 @@ use Rattle.litmus_tokens.specs.declared.token.Token.{Token}
 use Rattle.litmus_tokens.specs.Pieces.{Piece}
 use Rattle.litmus_tokens.specs.inner.Pieces.{piece_of, pieces}
 use Rattle.litmus_tokens.specs.Front.{is_symbol}
-use Rattle.litmus_reader.specs.declared.fault.Why.TheVariants.{Unclosed}
+use Rattle.litmus_cells.specs.declared.fault.Why.TheVariants.{Unclosed}
 use Rattle.litmus_reader.specs.inner.Rows.{row_at}
 use Rattle.litmus_reader.proofs.Maps.{chosen, prefix_len-map}
-use Rattle.litmus_reader.specs.Places.{fault, at_stop, remaining_of}
+use Rattle.litmus_cells.specs.Places.{fault}
+use Rattle.litmus_reader.specs.Places.{at_stop, remaining_of}
 
 at-pieces : (tokens : List Token) → position_or_len (is_symbol Semicolon) (pieces tokens) ≡ position_or_len (λ t. is_symbol Semicolon (piece_of t)) tokens
 at-pieces tokens = prefix_len-map (λ p. not (is_symbol Semicolon p)) piece_of tokens

@@ -6,9 +6,9 @@ use Rattle.litmus_tokens.specs.declared.token.Token.{Token}
 use Rattle.litmus_tokens.specs.Pieces.{Piece}
 use Rattle.litmus_tokens.specs.inner.Pieces.{piece_of, pieces}
 use Rattle.litmus_reader.specs.declared.fault.Part.{Part}
-use Rattle.litmus_reader.specs.declared.fault.ReadError.{ReadError}
+use Rattle.litmus_cells.specs.declared.fault.ReadError.{ReadError}
 use Rattle.litmus_reader.specs.Places.{in_initial}
-use Rattle.litmus_reader.specs.inner.Faults.{Fails}
+use Rattle.litmus_cells.specs.inner.Faults.{Fails}
 use Rattle.litmus_reader.specs.inner.Initial.{Initial, section_in}
 use Rattle.litmus_reader.specs.inner.Sections.{tokens_in, stop_of, item_ends, IsSection}
 use Rattle.litmus_reader.proofs.ItemSteps.{ReadItems, ItemsAfter}

@@ -12,13 +12,14 @@ use Rattle.litmus_tokens.specs.Front.{is_symbol}
 use Rattle.litmus_tokens.specs.inner.Front.{symbol_at, name_at}
 use Rattle.tso_model.specs.Limits.{most_cores}
 use Rattle.litmus_reader.specs.GrammarColumns.{core_name}
-use Rattle.litmus_reader.specs.declared.fault.Fault.{Fault}
-use Rattle.litmus_reader.specs.declared.fault.Why.TheVariants.{TooLarge, Unclosed}
+use Rattle.litmus_cells.specs.declared.fault.Fault.{Fault}
+use Rattle.litmus_cells.specs.declared.fault.Why.TheVariants.{TooLarge, Unclosed}
 use Rattle.litmus_reader.specs.inner.Columns.{in_columns, if_core, core_at, separator_at, columns, columns_at}
 use Rattle.litmus_reader.specs.inner.Faults.{or_unfit}
 use Rattle.litmus_reader.specs.inner.Rows.{row_at}
 use Rattle.litmus_reader.specs.inner.Sections.{is_one_of, LastOr, Through, IsSection, tokens_in, stop_of, row_ends, item_ends}
-use Rattle.litmus_reader.specs.Places.{fault, at_stop, remaining_of, in_initial}
+use Rattle.litmus_cells.specs.Places.{fault}
+use Rattle.litmus_reader.specs.Places.{at_stop, remaining_of, in_initial}
 use Rattle.litmus_reader.proofs.GrammarTokens.{symbol_is}
 use Rattle.litmus_reader.proofs.Cuts.{Section, Cut, CutAfter, AtEnd, AlikeOption, Alike, Apart, Ends, bind_alike, there_alike, cond_alike, or_unfit_alike, remaining_cut, symbol_cut, symbol_end, name_cut}
 

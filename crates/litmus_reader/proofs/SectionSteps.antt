@@ -9,12 +9,13 @@ use Rattle.litmus_tokens.specs.Terms.{Term, number, name, symbol}
 use Rattle.litmus_tokens.specs.Pieces.{Piece, piece_at}
 use Rattle.litmus_tokens.specs.Front.{is_symbol}
 use Rattle.litmus_tokens.specs.inner.Front.{symbol_at, name_then, name_at}
-use Rattle.litmus_reader.specs.inner.Faults.{there}
+use Rattle.litmus_cells.specs.inner.Faults.{there}
 use Rattle.litmus_reader.specs.inner.Keywords.{if_word, word_after, is_word}
-use Rattle.litmus_reader.specs.declared.fault.Why.{Why}
-use Rattle.litmus_reader.specs.declared.fault.Why.TheVariants.{BadToken}
+use Rattle.litmus_cells.specs.declared.fault.Why.{Why}
+use Rattle.litmus_cells.specs.declared.fault.Why.TheVariants.{BadToken}
 use Rattle.litmus_reader.specs.GrammarTable.{ends_rows_term, ends_rows}
-use Rattle.litmus_reader.specs.Places.{fault, at_stop, remaining_of}
+use Rattle.litmus_cells.specs.Places.{fault}
+use Rattle.litmus_reader.specs.Places.{at_stop, remaining_of}
 use Rattle.litmus_reader.specs.inner.Sections.{tokens_in, stop_of, is_one_of, Through, IsSection, opened}
 use Rattle.litmus_reader.proofs.Lexed.{first_again, none_again}
 

@@ -10,7 +10,8 @@ use Rattle.tso_model.specs.declared.register.Reg.{Reg}
 use Rattle.tso_model.specs.declared.register.Reg.TheVariants.{Eax, Ebx, Ecx, Edx, Esi, Edi}
 use Rattle.tso_model.specs.declared.instruction.Instr.{Instr}
 use Rattle.decimals.specs.Decimals.{decimal_value}
-use Rattle.litmus_reader.specs.Written.{Written, Setting, of_register, of_location, Shape, store_imm, store_reg, load, set_imm, set_reg, fence, xchg, xadd}
+use Rattle.litmus_cells.specs.Shapes.{Shape, store_imm, store_reg, load, set_imm, set_reg, fence, xchg, xadd}
+use Rattle.litmus_reader.specs.Written.{Written, Setting, of_register, of_location}
 use Rattle.litmus_reader.specs.GrammarInitial.{given_value, first_registers_of}
 use Rattle.litmus_reader.proofs.GrammarInitialSaid.{first_word, first_register}
 use Rattle.litmus_reader.specs.GrammarTable.{in_field, in_rows, column, instr_with, ValueFits}

@@ -12,14 +12,16 @@ use Rattle.tso_model.specs.declared.instruction.Instr.{Instr}
 use Rattle.tso_model.specs.declared.instruction.Instr.TheVariants.{StoreImm, StoreReg, Load, SetImm, SetReg, Fence, Xchg, Xadd}
 use Rattle.litmus_tokens.specs.declared.token.Stop.{Stop}
 use Rattle.litmus_tokens.specs.Pieces.{Piece}
-use Rattle.litmus_reader.specs.declared.fault.Fault.{Fault}
-use Rattle.litmus_reader.specs.declared.cell.CoreInstr.{CoreInstr}
-use Rattle.litmus_reader.specs.inner.Faults.{◌>>=◌, or_unfit}
-use Rattle.litmus_reader.specs.inner.Locations.{located}
-use Rattle.litmus_reader.specs.inner.Settings.{word_at}
-use Rattle.litmus_reader.specs.inner.Forms.{spelled_in}
+use Rattle.litmus_cells.specs.declared.fault.Fault.{Fault}
+use Rattle.litmus_cells.specs.declared.cell.CoreInstr.{CoreInstr}
+use Rattle.litmus_cells.specs.inner.Faults.{◌>>=◌}
+use Rattle.litmus_reader.specs.inner.Faults.{or_unfit}
+use Rattle.litmus_cells.specs.inner.Locations.{located}
+use Rattle.litmus_cells.specs.inner.Numbers.{word_at}
+use Rattle.litmus_cells.specs.inner.Forms.{spelled_in}
 use Rattle.litmus_reader.specs.inner.Columns.{core_at, separator_at, columns, in_columns}
-use Rattle.litmus_reader.specs.inner.Cells.{instr_of, count_of, or_bad_instruction, cell_in, cells_in, of_core}
+use Rattle.litmus_cells.specs.inner.Cells.{instr_of, count_of, or_bad_instruction, cell_in, of_core}
+use Rattle.litmus_reader.specs.inner.Cells.{cells_in}
 use Rattle.litmus_reader.specs.inner.Rows.{row_at, counted, row_in, Rows, rows_within, rows_at, Table, table_at}
 use Rattle.litmus_reader.proofs.Keeps.{Any, ok_any, bind_keeps, cond_keeps}
 use Rattle.litmus_reader.proofs.Named.{NamedShape, IfNamed, spelled_named}
@@ -27,7 +29,7 @@ use Rattle.litmus_reader.specs.inner.Initial.{Given, registers_of}
 use Rattle.litmus_reader.proofs.InitialKept.{HasLength, all_registers_keep}
 use Rattle.litmus_reader.proofs.Known.{AreNames, Grown, same_names, LocatesIn, located_keeps, All-one}
 use Rattle.litmus_reader.specs.Places.{remaining_of}
-use Rattle.litmus_reader.specs.Written.{Shape, store_imm, store_reg, load, set_imm, set_reg, fence, xchg, xadd}
+use Rattle.litmus_cells.specs.Shapes.{Shape, store_imm, store_reg, load, set_imm, set_reg, fence, xchg, xadd}
 use Rattle.litmus_reader.specs.GrammarTable.{ends_rows}
 use Rattle.litmus_reader.specs.RefusedTable.{cells_of}
 use Rattle.litmus_reader.specs.inner.Reading.{program_of, programs_from}

@@ -15,8 +15,8 @@ use Rattle.tso_model.specs.Names.{is_name, is_location_name, is_register_word, i
 use Rattle.litmus_tokens.specs.declared.token.Stop.{Stop}
 use Rattle.litmus_tokens.specs.Pieces.{Piece, pieces_of}
 use Rattle.litmus_tokens.specs.Gap.{gap_end}
-use Rattle.litmus_reader.specs.declared.fault.Fault.{Fault}
-use Rattle.litmus_reader.specs.declared.cell.CoreInstr.{CoreInstr}
+use Rattle.litmus_cells.specs.declared.fault.Fault.{Fault}
+use Rattle.litmus_cells.specs.declared.cell.CoreInstr.{CoreInstr}
 use Rattle.litmus_reader.specs.inner.Header.{sized, from_gap, judged, header_at}
 use Rattle.litmus_reader.specs.inner.Information.{braces_at}
 use Rattle.litmus_reader.specs.inner.Initial.{Initial, Given, initial_at}

@@ -9,7 +9,7 @@ use Rattle.litmus_tokens.specs.Terms.{Term, name, symbol}
 use Rattle.tso_model.specs.Limits.{most_atoms, most_locations, most_open}
 use Rattle.tso_model.specs.declared.condition.Quantifier.{Quantifier}
 use Rattle.tso_model.specs.declared.condition.Quantifier.TheVariants.{Exists, NotExists, Forall}
-use Rattle.litmus_reader.specs.GrammarNames.{numbered, number_of}
+use Rattle.litmus_cells.specs.GrammarNames.{numbered, number_of}
 use Rattle.litmus_reader.specs.GrammarItems.{IsSetting}
 use Rattle.litmus_reader.specs.GrammarInitial.{names_in, is_allowed}
 use Rattle.litmus_reader.specs.Written.{Setting, of_register, of_location, Phrase, truth, atom, negation, both, either}

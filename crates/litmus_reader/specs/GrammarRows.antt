@@ -3,7 +3,7 @@ use Rattle.std.specs.Prelude.{◌≡◌, ℕ, List, [], ◌∷◌, ◌++◌, len
 use Rattle.litmus_tokens.specs.declared.token.Symbol.TheVariants.{Semicolon, Bar}
 use Rattle.litmus_tokens.specs.Terms.{Term, symbol}
 use Rattle.litmus_reader.specs.GrammarCells.{IsCell}
-use Rattle.litmus_reader.specs.Written.{Shape}
+use Rattle.litmus_cells.specs.Shapes.{Shape}
 
 -- a cell: nothing, or an instruction
 pub data IsField : List Term → Option Shape → Type 0 where

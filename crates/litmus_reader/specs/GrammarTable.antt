@@ -7,11 +7,11 @@ use Rattle.tso_model.specs.Limits.{most_instructions, most_locations}
 use Rattle.litmus_tokens.specs.declared.token.Symbol.TheVariants.{Tilde}
 use Rattle.litmus_tokens.specs.Terms.{Term, name}
 use Rattle.litmus_tokens.specs.Front.{is_symbol}
-use Rattle.litmus_reader.specs.GrammarNames.{numbered, location, number_of}
+use Rattle.litmus_cells.specs.GrammarNames.{numbered, location, number_of}
 use Rattle.litmus_reader.specs.GrammarRows.{IsRow}
 use Rattle.std.specs.Str.{bytes_eq}
 use Rattle.litmus_tokens.specs.Pieces.{Piece}
-use Rattle.litmus_reader.specs.Written.{Shape, store_imm, store_reg, load, set_imm, set_reg, fence, xchg, xadd}
+use Rattle.litmus_cells.specs.Shapes.{Shape, store_imm, store_reg, load, set_imm, set_reg, fence, xchg, xadd}
 use Rattle.std.specs.List.{flat_map}
 
 -- rows one after the other

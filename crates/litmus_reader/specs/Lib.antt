@@ -1,13 +1,11 @@
 pub mod Limits
 pub mod Written
 pub mod Places
-pub mod Why
 pub mod Reading
 pub mod Grammar
 pub mod GrammarCells
 pub mod GrammarItems
 pub mod GrammarColumns
-pub mod GrammarNames
 pub mod GrammarConditions
 pub mod GrammarRows
 pub mod GrammarInitial
@@ -24,5 +22,4 @@ pub mod RefusedEnding
 pub mod Refusals
 pub mod Spelling
 pub mod inner
-pub mod Locations
 pub mod Returned

@@ -1,17 +1,13 @@
--- Refusals at places, and how each part of a text refuses a token that doesn't fit. A place is how many bytes of the text stand from
--- there on.
+-- How each part of a text refuses a token that doesn't fit, at its place: how many bytes of the text stand from there on.
 use Rattle.std.specs.Prelude.{ℕ, List, [], ◌∷◌, ◌-◌, length, drop}
 use Rattle.litmus_tokens.specs.declared.token.Stop.{Stop}
 use Rattle.litmus_tokens.specs.declared.token.Stop.TheVariants as stops
 use Rattle.litmus_tokens.specs.Pieces.{Piece}
-use Rattle.litmus_reader.specs.declared.fault.Why.{Why}
-use Rattle.litmus_reader.specs.declared.fault.Why.TheVariants.{BadToken, Unclosed, BadInit}
-use Rattle.litmus_reader.specs.declared.fault.Fault.{Fault}
+use Rattle.litmus_cells.specs.declared.fault.Why.{Why}
+use Rattle.litmus_cells.specs.declared.fault.Why.TheVariants.{BadToken, Unclosed, BadInit}
+use Rattle.litmus_cells.specs.declared.fault.Fault.{Fault}
+use Rattle.litmus_cells.specs.Places.{fault}
 use Rattle.litmus_reader.specs.declared.fault.Part.{Part}
-
--- a refusal, at the place from which so many bytes of the text stand
-abbrev pub fault : Why → ℕ → Fault
-fault why remaining = record { why = why; remaining = remaining }
 
 -- where the tokens run out: the lexical fault that ended them, or at the end of the text this one
 abbrev pub at_stop : Fault → Stop → Fault

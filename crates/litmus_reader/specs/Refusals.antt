@@ -2,8 +2,8 @@
 use Rattle.std.specs.Prelude.{◌≤◌, ◌<◌, ℕ, List, length, IsTrue}
 use Rattle.litmus_tokens.specs.declared.token.Stop.{Stop}
 use Rattle.litmus_tokens.specs.Pieces.{Piece, pieces_of}
-use Rattle.litmus_reader.specs.declared.fault.Why.TheVariants.{TooLarge}
-use Rattle.litmus_reader.specs.declared.fault.Fault.{Fault}
+use Rattle.litmus_cells.specs.declared.fault.Why.TheVariants.{TooLarge}
+use Rattle.litmus_cells.specs.declared.fault.Fault.{Fault}
 use Rattle.litmus_reader.specs.Limits.{longest_text}
 use Rattle.litmus_reader.specs.Grammar.{Passes}
 use Rattle.litmus_reader.specs.GrammarText.{IsHeaderLine, AreInformationLines}
@@ -14,7 +14,7 @@ use Rattle.litmus_reader.specs.RefusedBytes.{IsHeaderFault, PassesInformation, I
 use Rattle.litmus_reader.specs.RefusedInitial.{IsInitialFault, IsCoreFault}
 use Rattle.litmus_reader.specs.RefusedTable.{IsColumnsFault, IsRowsFault}
 use Rattle.litmus_reader.specs.RefusedEnding.{IsEndingFault}
-use Rattle.litmus_reader.specs.Places.{fault}
+use Rattle.litmus_cells.specs.Places.{fault}
 use Rattle.litmus_reader.specs.Written.{Written}
 
 -- from the `{` of the initial state on; of what is written only that counts which has been read

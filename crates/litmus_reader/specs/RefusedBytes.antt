@@ -6,10 +6,10 @@ use Rattle.tso_model.specs.Limits.{longest_test_name}
 use Rattle.tso_model.specs.Names.{is_printable, is_test_name}
 use Rattle.litmus_tokens.specs.declared.token.Stop.TheVariants as stops
 use Rattle.litmus_tokens.specs.Gap.{gap_end}
-use Rattle.litmus_reader.specs.declared.fault.Why.TheVariants.{NoHeader, Unclosed, BadToken, TooLarge}
-use Rattle.litmus_reader.specs.declared.fault.Fault.{Fault}
+use Rattle.litmus_cells.specs.declared.fault.Why.TheVariants.{NoHeader, Unclosed, BadToken, TooLarge}
+use Rattle.litmus_cells.specs.declared.fault.Fault.{Fault}
 use Rattle.litmus_reader.specs.GrammarText.{IsAfterGap, first_line, name_in, is_quoted, IsInformation}
-use Rattle.litmus_reader.specs.Places.{fault}
+use Rattle.litmus_cells.specs.Places.{fault}
 
 -- after white space and comments a comment begins at this place that doesn't end
 abbrev pub IsUnclosed : List ℕ → ℕ → Type 0

@@ -7,18 +7,19 @@ use Rattle.litmus_tokens.specs.Terms.{Term, symbol}
 use Rattle.litmus_tokens.specs.Front.{is_symbol_term}
 use Rattle.litmus_tokens.specs.Pieces.{Piece}
 use Rattle.tso_model.specs.Limits.{most_open}
-use Rattle.litmus_reader.specs.declared.fault.Why.TheVariants.{BadNumber, NoSuchCore, TooLarge, BadCondition}
-use Rattle.litmus_reader.specs.declared.fault.Fault.{Fault}
+use Rattle.litmus_cells.specs.declared.fault.Why.TheVariants.{BadNumber, NoSuchCore, TooLarge, BadCondition}
+use Rattle.litmus_cells.specs.declared.fault.Fault.{Fault}
 use Rattle.litmus_reader.specs.Grammar.{terms}
-use Rattle.litmus_reader.specs.GrammarNames.{numbered, Names}
+use Rattle.litmus_cells.specs.GrammarNames.{numbered, Names}
 use Rattle.litmus_reader.specs.GrammarInitial.{given_value, has_core}
 use Rattle.litmus_reader.specs.GrammarConditions.{IsAtom, IsProposition, IsUnit, locations_in}
 use Rattle.litmus_reader.specs.GrammarConditions.{atoms_of, PhraseFits, IsWithin, IsQuantifier}
 use Rattle.litmus_reader.specs.GrammarConditions.{IsCondition, is_negation}
 use Rattle.litmus_reader.specs.Misfits.{Misfits, begins_with, is_word}
-use Rattle.litmus_reader.specs.Places.{fault, remaining_of, unfit, part_of}
+use Rattle.litmus_cells.specs.Places.{fault}
+use Rattle.litmus_reader.specs.Places.{remaining_of, unfit, part_of}
 use Rattle.litmus_reader.specs.Written.{Setting, Phrase, atom}
-use Rattle.litmus_reader.specs.declared.fault.Why.{Why}
+use Rattle.litmus_cells.specs.declared.fault.Why.{Why}
 
 -- `~`, `not` or `(`
 abbrev pub begins_unit : Term → Bool

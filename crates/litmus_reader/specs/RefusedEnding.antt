@@ -6,8 +6,8 @@ use Rattle.litmus_tokens.specs.declared.token.Symbol.TheVariants.{OpenSquare, Ti
 use Rattle.litmus_tokens.specs.Terms.{Term, name, symbol}
 use Rattle.litmus_tokens.specs.Front.{is_symbol_term}
 use Rattle.litmus_tokens.specs.Pieces.{Piece, pieces_of}
-use Rattle.litmus_reader.specs.declared.fault.Why.TheVariants.{BadToken, Trailing}
-use Rattle.litmus_reader.specs.declared.fault.Fault.{Fault}
+use Rattle.litmus_cells.specs.declared.fault.Why.TheVariants.{BadToken, Trailing}
+use Rattle.litmus_cells.specs.declared.fault.Fault.{Fault}
 use Rattle.litmus_reader.specs.Grammar.{terms}
 use Rattle.litmus_reader.specs.GrammarText.{ClosesBrackets}
 use Rattle.litmus_reader.specs.GrammarEnding.{MayAsk, IsAskedWithin}
@@ -16,7 +16,7 @@ use Rattle.litmus_reader.specs.RefusedBytes.{IsBracketsFault}
 use Rattle.litmus_reader.specs.RefusedConditions.{IsConditionFault, joins}
 use Rattle.litmus_reader.specs.Places.{unfit, part_of, from_place}
 use Rattle.litmus_reader.specs.Written.{WrittenCondition}
-use Rattle.litmus_reader.specs.GrammarNames.{Names}
+use Rattle.litmus_cells.specs.GrammarNames.{Names}
 
 -- whether a condition begins with this token
 abbrev pub begins_asking : Term → Bool

@@ -6,15 +6,16 @@ use Rattle.litmus_tokens.specs.declared.token.Stop.{Stop}
 use Rattle.litmus_tokens.specs.declared.token.Symbol.TheVariants.{OpenCurly, Semicolon}
 use Rattle.litmus_tokens.specs.Terms.{Term, symbol}
 use Rattle.litmus_tokens.specs.Pieces.{Piece}
-use Rattle.litmus_reader.specs.declared.fault.Why.{Why}
-use Rattle.litmus_reader.specs.declared.fault.Why.TheVariants.{BadNumber, TwiceInit, TooLarge, NoSuchCore}
-use Rattle.litmus_reader.specs.declared.fault.Fault.{Fault}
+use Rattle.litmus_cells.specs.declared.fault.Why.{Why}
+use Rattle.litmus_cells.specs.declared.fault.Why.TheVariants.{BadNumber, TwiceInit, TooLarge, NoSuchCore}
+use Rattle.litmus_cells.specs.declared.fault.Fault.{Fault}
 use Rattle.litmus_reader.specs.declared.fault.Part.{Part}
 use Rattle.litmus_reader.specs.Grammar.{terms}
 use Rattle.litmus_reader.specs.GrammarItems.{IsSetting}
 use Rattle.litmus_reader.specs.GrammarInitial.{IsInitialItem, Fits, given_value, same_place, names_in, has_core, has_cores}
 use Rattle.litmus_reader.specs.Misfits.{Misfits, ends_setting}
-use Rattle.litmus_reader.specs.Places.{fault, remaining_of, unfit, in_initial}
+use Rattle.litmus_cells.specs.Places.{fault}
+use Rattle.litmus_reader.specs.Places.{remaining_of, unfit, in_initial}
 use Rattle.litmus_reader.specs.Written.{Setting, of_location}
 
 -- items, each with its `;` after it

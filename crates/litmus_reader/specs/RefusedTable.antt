@@ -8,18 +8,19 @@ use Rattle.litmus_tokens.specs.declared.token.Symbol.TheVariants.{Semicolon, Bar
 use Rattle.litmus_tokens.specs.Terms.{name, symbol}
 use Rattle.litmus_tokens.specs.Pieces.{Piece}
 use Rattle.litmus_tokens.specs.Front.{is_symbol}
-use Rattle.litmus_reader.specs.declared.fault.Why.{Why}
-use Rattle.litmus_reader.specs.declared.fault.Why.TheVariants.{Unclosed, BadHeaderRow, WrongCells, BadInstruction, BadNumber, TooLarge}
-use Rattle.litmus_reader.specs.declared.fault.Fault.{Fault}
+use Rattle.litmus_cells.specs.declared.fault.Why.{Why}
+use Rattle.litmus_cells.specs.declared.fault.Why.TheVariants.{Unclosed, BadHeaderRow, WrongCells, BadInstruction, BadNumber, TooLarge}
+use Rattle.litmus_cells.specs.declared.fault.Fault.{Fault}
 use Rattle.litmus_reader.specs.Grammar.{terms}
 use Rattle.litmus_reader.specs.GrammarCells.{IsCell}
 use Rattle.litmus_reader.specs.GrammarRows.{IsField}
 use Rattle.litmus_reader.specs.GrammarTable.{AreRows, AreWithin, ValueFits, ends_rows}
 use Rattle.litmus_reader.specs.Misfits.{is_word, begins_with, ends_column}
-use Rattle.litmus_reader.specs.Places.{fault, at_stop, remaining_of, unfit, part_of}
+use Rattle.litmus_cells.specs.Places.{fault}
+use Rattle.litmus_reader.specs.Places.{at_stop, remaining_of, unfit, part_of}
 use Rattle.litmus_reader.specs.GrammarColumns.{core_name}
-use Rattle.litmus_reader.specs.Written.{Shape}
-use Rattle.litmus_reader.specs.GrammarNames.{Names}
+use Rattle.litmus_cells.specs.Shapes.{Shape}
+use Rattle.litmus_cells.specs.GrammarNames.{Names}
 
 abbrev pub cells_of : List Piece → List (List Piece)
 cells_of row = slice_split (is_symbol Bar) row

@@ -2,7 +2,7 @@
 use Rattle.std.specs.Prelude.{◌≡◌, ◌⊎◌, ℕ, List}
 use Rattle.tso_model.specs.Litmus.{Litmus}
 use Rattle.litmus_tokens.specs.Line.{line_of}
-use Rattle.litmus_reader.specs.declared.fault.Fault.{Fault}
+use Rattle.litmus_cells.specs.declared.fault.Fault.{Fault}
 use Rattle.litmus_reader.specs.declared.fault.TextFault.{TextFault}
 use Rattle.litmus_reader.specs.GrammarTest.{IsText, KeepsLimits, test_written}
 use Rattle.litmus_reader.specs.Refusals.{IsFault}

@@ -2,20 +2,12 @@
 use Rattle.std.specs.Prelude.{ℕ, List, Option, Bool}
 use Rattle.tso_model.specs.declared.register.Reg.{Reg}
 use Rattle.tso_model.specs.declared.condition.Quantifier.{Quantifier}
+use Rattle.litmus_cells.specs.Shapes.{Shape}
 
 -- A register's or a location's value, of any size. The core is its digits, without leading zeros.
 pub data Setting : Type 0 where
   of_register : (core : List ℕ) → (reg : Reg) → (value : ℕ) → Setting
   of_location : (name : List ℕ) → (value : ℕ) → Setting
-
--- an instruction with the name of its location; a number of any size
-pub data Shape : Type 0 where
-  store_imm : (name : List ℕ) → (value : ℕ) → Shape
-  store_reg xchg xadd : (name : List ℕ) → (reg : Reg) → Shape
-  load : (reg : Reg) → (name : List ℕ) → Shape
-  set_imm : (reg : Reg) → (value : ℕ) → Shape
-  set_reg : (reg other : Reg) → Shape
-  fence : Shape
 
 -- a proposition as it is spelled: a location is its name, a core its digits, and a number of any size
 pub data Phrase : Type 0 where

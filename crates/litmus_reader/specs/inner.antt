@@ -3,15 +3,12 @@ pub mod Cells
 pub mod Columns
 pub mod Conditions
 pub mod Faults
-pub mod Forms
 pub mod Header
 pub mod Information
 pub mod Initial
 pub mod Settings
 pub mod Keywords
-pub mod Locations
 pub mod Observed
-pub mod Arguments
 pub mod Reading
 pub mod Returned
 pub mod Rows

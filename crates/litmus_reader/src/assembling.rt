@@ -3,13 +3,13 @@
 ghost use Rattle.std.specs.Prelude.{◌≡◌, IfOk, All, map, replicate, string_bytes};
 ghost use Rattle.std.specs.Str.{IsUtf8};
 ghost use Rattle.tso_model.specs.Names as names;
-ghost use Rattle.litmus_reader.specs.Locations.{texts};
+ghost use Rattle.litmus_cells.specs.Locations.{texts};
 ghost use Rattle.litmus_reader.specs.inner.Initial as initial;
 ghost use Rattle.litmus_reader.specs.inner.Reading as spec;
 ghost use Rattle.litmus_reader.specs.Returned.{AreParts, asked_of};
 
-use crate::cell::CoreInstr;
 use crate::row::Table;
+use litmus_cells::CoreInstr;
 use std::alloc::{AllocError, Global};
 use tso_model::{Cond, Instr, NoMemory, TestParts};
 
@@ -47,14 +47,17 @@ fn words_of(alloc: Global, mut words: Vec<u32>, count: usize) -> Result<Vec<u32>
     Ok(words)
 }
 
-fn program_of(alloc: Global, instrs: &[CoreInstr], core: usize) -> Result<Vec<Instr>, AllocError>
+#[tactic(auto, using(crate::proofs::PartsAssembled::program_more, crate::proofs::PartsAssembled::program_same))]
+fn program_of(alloc: Global, instrs: &[CoreInstr], core: usize) -> Result<Vec<Instr>, NoMemory>
     ensures { IfOk result (λ v. v.items ≡ spec.program_of instrs.now core) }
 {
-    instrs
-        .iter()
-        .filter(|i| i.core == core)
-        .map(|i| i.instr)
-        .collect(alloc)
+    let mut program = Vec::new(alloc);
+    for i in instrs {
+        if i.core == core {
+            program.push(i.instr)?;
+        }
+    }
+    Ok(program)
 }
 
 #[tactic(auto, using(crate::proofs::PartsAssembled::programs_next, std::proofs::lemmas::List::map_push))]

@@ -8,7 +8,8 @@ ghost use Rattle.litmus_tokens.specs.inner.Pieces.{pieces};
 ghost use Rattle.litmus_tokens.specs.inner.Mapped.{mapped};
 ghost use Rattle.litmus_reader.specs.inner.Columns as spec;
 
-use crate::fault::{Fault, Part, Why, at_stop, remaining_of};
+use crate::fault::{Part, at_stop, remaining_of};
+use litmus_cells::{Fault, Why};
 use litmus_tokens::{Stop, Symbol, Token, after_symbol, name_at};
 use tso_model::limits::MAX_CORES;
 

@@ -11,8 +11,9 @@ ghost use Rattle.litmus_reader.specs.inner.Header as header;
 ghost use Rattle.litmus_tokens.specs.inner.Mapped.{mapped};
 ghost use Rattle.litmus_reader.specs.GrammarText as grammar;
 
-use crate::fault::{Fault, Why, at_stop};
+use crate::fault::at_stop;
 use crate::limits::{MAX_TEST_NAME, MAX_TEXT};
+use litmus_cells::{Fault, Why};
 use litmus_tokens::after_gap;
 use tso_model::names::is_test_name;
 

@@ -8,8 +8,8 @@ ghost use Rattle.litmus_tokens.specs.inner.Mapped.{mapped};
 ghost use Rattle.litmus_reader.specs.inner.Information as spec;
 ghost use Rattle.litmus_reader.specs.GrammarText as grammar;
 
-use crate::fault::{Fault, Why};
 use crate::header::{first_line, past_gap};
+use litmus_cells::{Fault, Why};
 
 /// What stands after the next quotation mark.
 #[tactic(auto, unfolding(crate::specs::inner::Information::quotation_end))]

@@ -5,8 +5,8 @@ ghost use Rattle.litmus_tokens.specs.inner.Pieces.{pieces};
 ghost use Rattle.std.specs.Prelude.{◌≡◌, ◌≤◌, ◌<◌, ◌++◌, ◌∷◌, [], false, length, map, replicate, IfOk, OnOk};
 ghost use Rattle.std.specs.List.{list_any};
 ghost use Rattle.tso_model.specs.Limits.{most_cores};
-ghost use Rattle.litmus_reader.specs.inner.Faults.{Gives};
-ghost use Rattle.litmus_reader.specs.Locations.{texts};
+ghost use Rattle.litmus_cells.specs.inner.Faults.{Gives};
+ghost use Rattle.litmus_cells.specs.Locations.{texts};
 ghost use Rattle.litmus_reader.specs.inner.Settings.{setting_of};
 ghost use Rattle.litmus_reader.specs.inner.Initial as spec;
 ghost use Rattle.litmus_reader.specs.inner.Initial.{given_of, KnowsGiven};
@@ -14,11 +14,11 @@ ghost use Rattle.litmus_reader.specs.inner.Returned.{GivesJudged, GivesItem, Giv
 ghost use Rattle.litmus_reader.specs.inner.Sections.{tokens_in, stop_of};
 ghost use Rattle.litmus_reader.specs.Places as places;
 
-use crate::fault::{Fault, Part, ReadError, Why, at_stop, remaining_of};
-use crate::location::located;
+use crate::fault::{Part, at_stop, remaining_of};
 use crate::section::{after_opening, read_item_tokens};
-use crate::setting::{SpelledSetting, core_of, setting_at, word_at};
+use crate::setting::{SpelledSetting, core_of, setting_at};
 use indexmap::IndexSet;
+use litmus_cells::{Fault, ReadError, Why, located, word_at};
 use litmus_tokens::{Stop, Symbol, Token, is_symbol};
 use std::alloc::Global;
 use tso_model::{NoMemory, Reg};

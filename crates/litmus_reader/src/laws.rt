@@ -3,7 +3,7 @@
 
 ghost use Rattle.std.specs.Prelude.{◌≡◌, ℕ, List, Ok, Err};
 ghost use Rattle.tso_model.specs.Litmus.{Litmus, IsTest};
-ghost use Rattle.litmus_reader.specs.declared.fault.Fault.{Fault};
+ghost use Rattle.litmus_cells.specs.declared.fault.Fault.{Fault};
 ghost use Rattle.litmus_reader.specs.declared.fault.TextFault.{TextFault};
 ghost use Rattle.litmus_reader.specs.inner.Reading.{reading_of};
 ghost use Rattle.litmus_reader.specs.Refusals.{IsFault};

@@ -6,29 +6,27 @@
 //! it found and the tokens after it, or the first fault.
 #![tactic(auto)]
 
-mod argument;
 mod assembling;
 mod cell;
 mod columns;
 mod condition;
 mod fault;
-mod form;
 mod header;
 mod information;
 mod initial;
 mod keyword;
 pub mod laws;
 mod limits;
-mod location;
 mod observed;
 mod reader;
 mod row;
 mod section;
 mod setting;
 
-pub use fault::{Fault, ReadError, TextFault, Why};
+pub use fault::TextFault;
 pub use header::header_at;
 pub use information::braces_at;
 pub use laws::texts_are_decided;
 pub use limits::{MAX_OPEN, MAX_TEST_NAME, MAX_TEXT, limits_are_as_defined};
+pub use litmus_cells::{Fault, ReadError, Why};
 pub use reader::{read_test, refusal_for, test_or_fault};

@@ -11,9 +11,9 @@ ghost use Rattle.litmus_reader.specs.inner.Observed as spec;
 ghost use Rattle.litmus_reader.specs.inner.Sections.{tokens_in, stop_of};
 ghost use Rattle.litmus_reader.specs.Places as places;
 
-use crate::fault::{Fault, Why};
 use crate::header::past_gap;
 use crate::section::after_opening;
+use litmus_cells::{Fault, Why};
 use litmus_tokens::{Lexeme, Symbol, token_at};
 
 /// What stands after the next `]`, comments passed over; without it, `Unclosed` at `remaining`.

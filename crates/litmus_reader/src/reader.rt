@@ -1,36 +1,37 @@
 //! Whole texts: the parts of a test one after the other, and the first fault. Parts are read in the order of the text, so
 //! that what is refused is the first thing at fault in it.
 
-ghost use Rattle.std.specs.Prelude.{◌≡◌, ◌≢◌, ◌≤◌, Ok, Err, IfOk, IfErr, MatchResult, IsTrue};
+ghost use Rattle.std.specs.Prelude.{◌≡◌, ◌≢◌, ◌≤◌, [], Ok, Err, IfOk, IfErr, MatchResult, IsTrue};
 ghost use Rattle.std.specs.Option.{option_map};
 ghost use Rattle.std.specs.Str.{IsUtf8};
 ghost use Rattle.tso_model.specs.Limits.{most_cores};
 ghost use Rattle.tso_model.specs.Litmus.{Litmus, IsTest};
-ghost use Rattle.litmus_reader.specs.declared.fault.Fault.{Fault};
+ghost use Rattle.litmus_cells.specs.declared.fault.Fault.{Fault};
 ghost use Rattle.litmus_reader.specs.declared.fault.TextFault.{TextFault};
 ghost use Rattle.litmus_reader.specs.Refusals.{IsFault};
 ghost use Rattle.tso_model.specs.Condition.{condition_of};
 ghost use Rattle.tso_model.specs.LitmusParts.{litmus_of};
 ghost use Rattle.litmus_tokens.specs.inner.Pieces.{pieces};
-ghost use Rattle.litmus_reader.specs.inner.Faults.{Gives};
+ghost use Rattle.litmus_cells.specs.inner.Faults.{Gives};
 ghost use Rattle.litmus_tokens.specs.inner.Mapped.{mapped};
-ghost use Rattle.litmus_reader.specs.Locations.{texts};
+ghost use Rattle.litmus_cells.specs.Locations.{texts};
 ghost use Rattle.litmus_reader.specs.inner.Reading as spec;
 ghost use Rattle.litmus_reader.specs.Reading.{refusal};
 ghost use Rattle.litmus_reader.specs.inner.Sections.{tokens_in, stop_of};
-ghost use Rattle.litmus_reader.specs.inner.Returned.{GivesEnding, IsUnlessMemory};
+ghost use Rattle.litmus_reader.specs.inner.Returned.{GivesEnding, IsUnlessMemory, so_far, table_read};
 ghost use Rattle.litmus_reader.specs.Spelling.{SpellsTest, IsRefused};
 
 use crate::assembling::parts_of;
 use crate::condition::condition_at;
-use crate::fault::{Fault, ReadError, TextFault, Why};
+use crate::fault::TextFault;
 use crate::header::{header_at, sized};
 use crate::information::braces_at;
-use crate::initial::read_initial;
+use crate::initial::{Initial, read_initial};
 use crate::laws::{texts_are_read_as_they_are_spelled, texts_are_refused_as_they_are_read};
 use crate::observed::after_observed;
-use crate::row::read_table;
+use crate::row::{Table, read_table};
 use indexmap::IndexSet;
+use litmus_cells::{Fault, ReadError, Why};
 use litmus_tokens::{Stop, Token, line_of, tokens_of};
 use std::alloc::Global;
 use tso_model::{Cond, NoMemory, Test, TestParts};
@@ -93,18 +94,66 @@ fn tail_at<'a>(
     ending_at(alloc, tokens.stop, cores, names, &tokens.items)
 }
 
+/// What stands after the table, and with it the parts of the test whose first words and table these are.
+fn parts_after<'a>(
+    alloc: Global,
+    name: &[u8],
+    text: &'a [u8],
+    names: &mut IndexSet<&'a [u8]>,
+    words: Vec<u32>,
+    table: Table,
+    rest: &'a [u8],
+) -> Result<TestParts, ReadError>
+    requires name { IsUtf8 name.now }
+    requires cores { table.cores ≤ most_cores }
+    requires names { spec.NamesAreText text.now (stop_of rest.now) (table_read table names.old.keys rest.now) }
+    ensures { Gives (λ parts. litmus_of parts) result (spec.with_ending name.now text.now (stop_of rest.now) words.items (table_read table names.old.keys rest.now)) }
+{
+    let cond = tail_at(alloc, text, table.cores, names, rest)?;
+    let parts = parts_of(alloc, name, names.as_slice(), words, table, cond)?;
+    Ok(parts)
+}
+
+/// The table, what stands after it, and with them the parts of the test that begins with this initial state.
+fn parts_with<'a>(
+    alloc: Global,
+    name: &[u8],
+    text: &'a [u8],
+    names: &mut IndexSet<&'a [u8]>,
+    initial: Initial<'a>,
+    rest: &'a [u8],
+) -> Result<TestParts, ReadError>
+    requires name { IsUtf8 name.now }
+    requires names { spec.NamesStayText text.now (stop_of rest.now) (so_far names.old.keys initial) (tokens_in rest.now) }
+    ensures { Gives (λ parts. litmus_of parts) result (spec.with_table name.now text.now (stop_of rest.now) (so_far names.old.keys initial.entry) (tokens_in rest.now)) }
+{
+    let (table, rest) = read_table(alloc, &initial.registers, names, rest)?;
+    parts_after(alloc, name, text, names, initial.words, table, rest)
+}
+
 /// The initial state, the table and what stands after it.
-#[tactic(auto, using(crate::proofs::Within::names_are_text), unfolding(crate::specs::inner::Reading::body_of))]
-fn body_of<'a>(alloc: Global, name: &[u8], text: &'a [u8]) -> Result<TestParts, ReadError>
+#[tactic(auto, unfolding(crate::specs::inner::Reading::body_of))]
+fn body_with<'a>(
+    alloc: Global,
+    name: &[u8],
+    text: &'a [u8],
+    names: &mut IndexSet<&'a [u8]>,
+) -> Result<TestParts, ReadError>
+    requires name { IsUtf8 name.now }
+    requires names { texts names.old.keys ≡ [] }
+    ensures { Gives (λ parts. litmus_of parts) result (spec.body_of name.now text.now (stop_of text.now) (tokens_in text.now)) }
+{
+    let (initial, rest) = read_initial(alloc, names, text)?;
+    parts_with(alloc, name, text, names, initial, rest)
+}
+
+/// The test without its header and its information lines.
+fn body_of(alloc: Global, name: &[u8], text: &[u8]) -> Result<TestParts, ReadError>
     requires { IsUtf8 name.now }
     ensures { Gives (λ parts. litmus_of parts) result (spec.body_of name.now text.now (stop_of text.now) (tokens_in text.now)) }
 {
     let mut names = IndexSet::new(alloc);
-    let (initial, rest) = read_initial(alloc, &mut names, text)?;
-    let (table, rest) = read_table(alloc, &initial.registers, &mut names, rest)?;
-    let cond = tail_at(alloc, text, table.cores, &mut names, rest)?;
-    let parts = parts_of(alloc, name, names.as_slice(), initial.words, table, cond)?;
-    Ok(parts)
+    body_with(alloc, name, text, &mut names)
 }
 
 /// The parts of the test that the text spells.

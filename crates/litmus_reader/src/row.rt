@@ -6,21 +6,23 @@ ghost use Rattle.tso_model.specs.Limits.{most_cores};
 ghost use Rattle.litmus_tokens.specs.inner.Pieces.{pieces};
 ghost use Rattle.litmus_tokens.specs.inner.Terms.{term_of};
 ghost use Rattle.litmus_tokens.specs.inner.Mapped.{mapped};
-ghost use Rattle.litmus_reader.specs.Locations.{texts};
+ghost use Rattle.litmus_cells.specs.Locations.{texts};
 ghost use Rattle.litmus_reader.specs.inner.Initial.{given_of};
 ghost use Rattle.litmus_reader.specs.inner.Rows as spec;
 ghost use Rattle.litmus_reader.specs.inner.Sections.{tokens_in, stop_of};
-ghost use Rattle.litmus_reader.specs.inner.Returned.{GivesCells, GivesTable};
+ghost use Rattle.litmus_cells.specs.inner.Returned.{GivesCells};
+ghost use Rattle.litmus_reader.specs.inner.Returned.{GivesTable};
 ghost use Rattle.litmus_reader.specs.Places.{remaining_of};
 ghost use Rattle.litmus_reader.specs.RefusedTable as refused;
 ghost use Rattle.litmus_reader.specs.GrammarTable as grammar;
 
-use crate::cell::{CoreInstr, argument_of, read_cells};
+use crate::cell::{argument_of, read_cells};
 use crate::columns::columns_at;
-use crate::fault::{Fault, ReadError, Why, at_stop, remaining_of};
+use crate::fault::{at_stop, remaining_of};
 use crate::initial::{RegisterWord, registers_of};
 use crate::section::read_row_tokens;
 use indexmap::IndexSet;
+use litmus_cells::{CoreInstr, Fault, ReadError, Why};
 use litmus_tokens::{Lexeme, Stop, Symbol, Token, is_symbol, token_at};
 use std::alloc::Global;
 

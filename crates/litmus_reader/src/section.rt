@@ -9,7 +9,8 @@ ghost use Rattle.litmus_reader.specs.inner.Sections.{IsSection, item_ends, row_e
 ghost use Rattle.litmus_tokens.specs.inner.Mapped.{mapped};
 ghost use Rattle.litmus_reader.specs.Places as places;
 
-use crate::fault::{Fault, Why, at_stop};
+use crate::fault::at_stop;
+use litmus_cells::{Fault, Why};
 use litmus_tokens::{Stop, Symbol, Token, is_symbol, token_at};
 use tso_model::NoMemory;
 

@@ -1,8 +1,7 @@
 //! Values of registers and locations, as the initial state and conditions spell them: one reading for both, so that both
 //! refuse alike.
 
-ghost use Rattle.std.specs.Prelude.{◌≡◌, ◌<◌, ◌≤◌, length, None, IfSome, IfOk};
-ghost use Rattle.std.specs.Option.{option_map};
+ghost use Rattle.std.specs.Prelude.{◌≡◌, ◌<◌, ◌≤◌, length, IfOk};
 ghost use Rattle.tso_model.specs.Limits.{most_cores};
 ghost use Rattle.decimals.specs.Decimals.{decimal_value};
 ghost use Rattle.litmus_tokens.specs.inner.Pieces.{pieces};
@@ -10,9 +9,9 @@ ghost use Rattle.litmus_tokens.specs.inner.Mapped.{mapped};
 ghost use Rattle.litmus_reader.specs.inner.Settings as spec;
 ghost use Rattle.litmus_reader.specs.inner.Settings.{setting_of};
 
-use crate::fault::{Fault, Part, Why};
-use litmus_tokens::{Symbol, Token, after_symbol, name_at, number_at, word};
-use tso_model::names::is_location_name;
+use crate::fault::Part;
+use litmus_cells::{Fault, Why, location_at, register_at};
+use litmus_tokens::{Symbol, Token, after_symbol, number_at, word};
 use tso_model::{Core, Reg};
 
 /// A value of a register or a location, as the initial state and conditions spell it. Cores and
@@ -21,31 +20,6 @@ use tso_model::{Core, Reg};
 pub enum SpelledSetting<'a> {
     Register(&'a [u8], Reg, &'a [u8]),
     Location(&'a [u8], &'a [u8]),
-}
-
-/// The name of a location at the front, and the tokens after it.
-#[tactic(auto, unfolding(crate::specs::inner::Settings::location_at))]
-pub fn location_at<'a, 'b>(tokens: &'b [Token<'a>]) -> Option<(&'a [u8], &'b [Token<'a>])>
-    ensures value { option_map (λ x. (x.0.now, pieces x.1.now)) result ≡ spec.location_at (pieces tokens.now) }
-    ensures shorter { IfSome result (λ x. length x.1.now < length tokens.now) }
-{
-    let (name, rest) = name_at(tokens)?;
-    if is_location_name(name) {
-        Some((name, rest))
-    } else {
-        None
-    }
-}
-
-/// The register whose name is at the front, and the tokens after it.
-#[tactic(auto, unfolding(crate::specs::inner::Settings::register_at))]
-pub fn register_at<'a, 'b>(tokens: &'b [Token<'a>]) -> Option<(Reg, &'b [Token<'a>])>
-    ensures value { option_map (λ x. (x.0, pieces x.1.now)) result ≡ spec.register_at (pieces tokens.now) }
-    ensures shorter { IfSome result (λ x. length x.1.now < length tokens.now) }
-{
-    let (name, rest) = name_at(tokens)?;
-    let reg = Reg::from_name(name)?;
-    Some((reg, rest))
 }
 
 /// `=v`: the digits of the value, and the tokens after them.
@@ -121,19 +95,6 @@ pub fn setting_at<'a, 'b>(
         return square_setting(part, rest);
     }
     plain_setting(part, tokens)
-}
-
-/// The number that digits say; `BadNumber` at `remaining` where a word has no room for it.
-pub fn word_at(remaining: usize, digits: &[u8]) -> Result<u32, Fault>
-    ensures { result ≡ spec.word_at remaining (decimal_value digits.now) }
-{
-    match word(digits) {
-        Some(value) => Ok(value),
-        None => Err(Fault {
-            why: Why::BadNumber,
-            remaining,
-        }),
-    }
 }
 
 /// A core of the test; `NoSuchCore` at `remaining` for any other, of whatever size.

@@ -14,13 +14,13 @@ use Rattle.tso_cli.specs.Headline.{Headline}
 use Rattle.tso_cli.specs.Answers.{IsAnswer}
 use Rattle.tso_cli.specs.Step.{IsStepAnswer}
 use Rattle.tso_cli.specs.Hints.{IsTold}
-use Rattle.tso_cli.specs.declared.answer.Status.{Status}
+use Rattle.commands.specs.declared.answer.Status.{Status}
 use Rattle.page_exports.specs.declared.question.Numbers.{Numbers}
 use Rattle.page_exports.specs.declared.question.Question.{Question}
 use Rattle.tso_model.specs.declared.choice.Bus.TheVariants as buses
 use Rattle.protocol_tables.specs.declared.kind.ProtocolKind.TheVariants as kinds
 use Rattle.command_line.specs.declared.settings.Settings.TheVariants as settings
-use Rattle.tso_cli.specs.declared.answer.Status.TheVariants as statuses
+use Rattle.commands.specs.declared.answer.Status.TheVariants as statuses
 use Rattle.page_exports.specs.declared.question.Question.TheVariants as questions
 
 abbrev pub kind_number : ProtocolKind → ℕ

@@ -7,8 +7,8 @@ use Rattle.protocol_tables.specs.declared.kind.ProtocolKind.{ProtocolKind}
 use Rattle.machine_core.specs.Configuration.{Configuration, IsConfigurationWithinLimits}
 use Rattle.tso_report.specs.Shown.{Shown}
 use Rattle.tso_cli.specs.Fitting.{FitsTest, shown_under, EndedRunsFit, ChoicesAreCounted}
-use Rattle.tso_cli.specs.RunTexts.{report_in, unfinished_in}
-use Rattle.tso_cli.specs.Runs.{run_under}
+use Rattle.commands.specs.RunTexts.{report_in, unfinished_in}
+use Rattle.simulator.specs.Runs.{run_under}
 use Rattle.printed_laws.specs.OfRuns.{PrintedRunsAreTold}
 use Rattle.printed_laws.specs.Telling.{ReportsTellTheirRuns, UnfinishedRunsAreTold}
 

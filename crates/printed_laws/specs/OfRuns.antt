@@ -5,9 +5,9 @@ use Rattle.tso_model.specs.declared.choice.Choice.{Choice}
 use Rattle.scheduler.specs.Limits.{most_choices}
 use Rattle.protocol_tables.specs.declared.kind.ProtocolKind.{ProtocolKind}
 use Rattle.machine_core.specs.Configuration.{Configuration, IsConfigurationWithinLimits}
-use Rattle.tso_cli.specs.Answers.{text_under}
+use Rattle.commands.specs.Answers.{text_under}
 use Rattle.tso_cli.specs.Fitting.{shown_under}
-use Rattle.tso_cli.specs.Runs.{run_under, AnswersFit}
+use Rattle.simulator.specs.Runs.{run_under, AnswersFit}
 
 -- two runs leave the same to be printed: both ended, and the same is shown of them, or neither did, and both used as many
 -- choices, of which as many stalled

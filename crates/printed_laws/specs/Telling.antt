@@ -7,8 +7,8 @@ use Rattle.machine_core.specs.Configuration.{Configuration, IsConfigurationWithi
 use Rattle.tso_report.specs.Shown.{Shown}
 use Rattle.tso_report.specs.Tally.{RunCounts, runs_in}
 use Rattle.command_line.specs.Plan.{Plan, IsPlanWithinLimits as IsPlan}
-use Rattle.tso_cli.specs.RunTexts.{report_in, unfinished_in}
-use Rattle.tso_cli.specs.Sweep.{sweep_lines}
+use Rattle.commands.specs.RunTexts.{report_in, unfinished_in}
+use Rattle.commands.specs.Sweep.{sweep_lines}
 use Rattle.tso_cli.specs.Fitting.{FitsTest, CountsFitTest}
 
 -- of runs that ended: the order, the registers, the memory, the verdict, and all counts

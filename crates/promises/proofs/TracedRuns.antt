@@ -12,11 +12,11 @@ use Rattle.protocol_tables.specs.declared.kind.ProtocolKind.{ProtocolKind}
 use Rattle.machine_core.specs.Configuration.{Configuration}
 use Rattle.command_line.specs.declared.settings.Settings.TheVariants as settings
 use Rattle.tso_cli.specs.Headline.{Headline}
-use Rattle.tso_cli.specs.Lines.{choices_refusal}
-use Rattle.tso_cli.specs.Dividing.{parts_of}
+use Rattle.commands.specs.Lines.{choices_refusal}
+use Rattle.commands.specs.Dividing.{parts_of}
 use Rattle.tso_cli.specs.SplitRun.{split_run}
 use Rattle.tso_cli.specs.TraceHeadline.{PrintsTrace, PrintsTracedObject, PrintsEachTrace}
-use Rattle.tso_cli.specs.declared.answer.Answer.{Answer}
+use Rattle.commands.specs.declared.answer.Answer.{Answer}
 
 -- of every test and list of choices that the input spells
 abbrev pub OfEach : List ℕ → (Litmus → List Choice → Type 0) → Type 0

@@ -4,8 +4,8 @@
 #![tactic(auto)]
 
 pub mod accesses;
+pub mod answers;
 pub mod buffers;
-pub mod commands;
 pub mod judging;
 pub mod limits;
 pub mod machines;

@@ -22,9 +22,9 @@ ghost use Rattle.command_line.specs.Search.{Search};
 ghost use Rattle.command_line.specs.declared.settings.Settings.{Settings};
 ghost use Rattle.tso_cli.specs.Answers.{IsAnswer};
 ghost use Rattle.tso_cli.specs.OneText.{ShowTheSameStates};
-ghost use Rattle.tso_cli.specs.Dividing.{parts_of, IsJoinable};
+ghost use Rattle.commands.specs.Dividing.{parts_of, IsJoinable};
 ghost use Rattle.tso_cli.specs.Revisited.{AreRevisited};
-ghost use Rattle.tso_cli.specs.declared.answer.Status.TheVariants.{Good};
+ghost use Rattle.commands.specs.declared.answer.Status.TheVariants.{Good};
 
 use eager_laws::dead_registers_change_nothing;
 use explorer::{Exploration, ExploreFault, explore};

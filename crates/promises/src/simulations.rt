@@ -3,7 +3,7 @@
 ghost use Rattle.std.specs.Prelude.{◌≡◌, ◌*◌, IfOk, length};
 ghost use Rattle.tso_model.specs.Runs.{CoresExist};
 ghost use Rattle.tso_laws.specs.Counting.{instructions, longest};
-ghost use Rattle.tso_cli.specs.Simulation.{IsCounted, HasAllOrder, HasRounds, HasEnded};
+ghost use Rattle.simulator.specs.Simulation.{IsCounted, HasAllOrder, HasRounds, HasEnded};
 
 use machine_core::{Bus, Choice, Config};
 use protocol_tables::ProtocolKind;

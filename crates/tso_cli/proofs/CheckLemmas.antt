@@ -1,8 +1,7 @@
 -- What `check` answers, and what that means.
 use Rattle.std.proofs.Common.{◌≡◌, ◌≢◌, ℕ, false, ◌<◌, ◌≤◌, ◌^◌, List, [], length, get_or, Some, slice_get, slice_index_or, All, refl, sym, ap, subst, arith}
-use Rattle.std.proofs.lemmas.Option.{get_or_from_slice_get, slice_get-get_or, slice_get_within}
+use Rattle.std.proofs.lemmas.Option.{slice_get-get_or}
 use Rattle.tso_model.specs.Litmus.{Litmus, IsTest}
-use Rattle.tso_model.specs.ProgramEntries.{made}
 use Rattle.tso_model.specs.Axioms.{IsWhole, IsTsoExecution}
 use Rattle.tso_model.specs.Standing.{StandsIn}
 use Rattle.tso_model.specs.Runs.{Run}
@@ -12,53 +11,23 @@ use Rattle.tso_model.specs.declared.execution.Kind.{Kind}
 use Rattle.tso_model.specs.declared.execution.Kind.TheVariants.{R, W, F, LR, LW}
 use Rattle.tso_laws.specs.Entries.{FitsTest}
 use Rattle.tso_laws.specs.EndedRuns.{IsExecution}
-use Rattle.order_builder.specs.PrintedOrder.{HasLocation, HasWord, IsLocationFor}
+use Rattle.order_builder.specs.PrintedOrder.{HasWord}
 use Rattle.order_builder.specs.Spelling.{HasAccess, IsEntryFor, IsOrderFor, SpellsOrder, HasFault}
 use Rattle.order_builder.specs.declared.fault.OrderFault.{OrderFault}
 use Rattle.axiom_checker.specs.FirstBreach.{IsFirstBreach}
 use Rattle.axiom_checker.specs.declared.breach.Breach.{Breach}
-use Rattle.axiom_checker.specs.declared.breach.Breach.TheVariants.{Extra, Twice, Missing, WrongValue, ProgramOrder, NotAdjacent, ReadValue, NoMemory}
 use Rattle.protocol_tables.specs.declared.kind.ProtocolKind.{ProtocolKind}
 use Rattle.snoop_bus.specs.Geometry.{IsShapeWithinLimits}
 use Rattle.machine_core.specs.Configuration.{Configuration}
 use Rattle.tso_report.specs.Report.{report}
 use Rattle.tso_report.specs.Shown.{Shown}
-use Rattle.tso_cli.specs.Simulation.{shown_of}
-use Rattle.tso_cli.specs.Answers.{IsCheckAnswer, IsJudgement, refused, judged, valid, invalid}
-use Rattle.tso_cli.specs.CheckLines.{valid_line, invalid_line}
-use Rattle.tso_cli.specs.inner.CheckLines.{CanBeNamed}
+use Rattle.simulator.specs.Simulation.{shown_of}
+use Rattle.commands.specs.Answers.{IsCheckAnswer, IsJudgement, refused, judged, valid, invalid}
+use Rattle.commands.specs.CheckLines.{valid_line, invalid_line}
 use Rattle.tso_cli.specs.Judgement.{JudgesOrder, JudgesEachOrder}
 use Rattle.tso_cli.specs.RunHeadline.{PrintsExecution}
-use Rattle.tso_cli.specs.declared.answer.Status.{Status}
-use Rattle.tso_cli.specs.declared.answer.Status.TheVariants.{Good}
-
--- ---- what a breach names can be printed
-
-in-order : (t : Litmus) (order : List Entry) (at : ℕ) (x : Entry) → All (HasLocation t) order → slice_get order at ≡ Some x → HasLocation t x
-in-order t order at x all stands =
-    subst (HasLocation t) (get_or_from_slice_get order at x x stands) (all at x (slice_get_within order at x stands))
-
-location : (t : Litmus) (kind : Kind) (loc : ℕ) → (kind ≢ F → loc < length t.locations) → IsLocationFor t kind loc
-location t R loc known = known (λ e. absurd cc)
-location t W loc known = known (λ e. absurd cc)
-location t F loc known = tt
-location t LR loc known = known (λ e. absurd cc)
-location t LW loc known = known (λ e. absurd cc)
-
-pub named : (t : Litmus) (order : List Entry) (b : Breach) → ((e : Entry) → StandsIn (made t order) e → FitsTest t e)
-    → All (HasLocation t) order → (b ≢ NoMemory → IsFirstBreach t order b) → CanBeNamed t b
-named t order (Extra x) fits all is = let first = (is (λ e. absurd cc)).1 in in-order t order first.0 x all first.1.stands
-named t order (Twice x) fits all is = let first = (is (λ e. absurd cc)).1 in in-order t order first.0 x all first.1.stands
-named t order (Missing core place kind loc) fits all is =
-    let first = (is (λ e. absurd cc)).1 in
-    location t kind loc.0 (fits _ (first.0, first.2.stands)).location
-named t order (WrongValue x due) fits all is = let first = (is (λ e. absurd cc)).2 in in-order t order first.0 x all first.1.stands
-named t order (ProgramOrder x y) fits all is =
-    let both = (is (λ e. absurd cc)).1 in
-    (in-order t order both.0 x all both.2.stands, in-order t order both.1 y all both.3.stands)
-named t order (NotAdjacent x) fits all is = let first = (is (λ e. absurd cc)).2 in in-order t order first.0 x all first.1.stands
-named t order (ReadValue x due) fits all is = let first = (is (λ e. absurd cc)).3 in in-order t order first.0 x all first.1.stands
-named t order NoMemory fits all is = tt
+use Rattle.commands.specs.declared.answer.Status.{Status}
+use Rattle.commands.specs.declared.answer.Status.TheVariants.{Good}
 
 -- ---- what an answer means
 

@@ -9,11 +9,11 @@ use Rattle.order_builder.specs.PrintedOrder.{HasLocation}
 use Rattle.order_builder.specs.Spelling.{IsOrderFor}
 use Rattle.protocol_tables.specs.Tables.{table_of}
 use Rattle.tso_cli.specs.Fitting.{EndedRunsFit, ChoicesAreCounted}
-use Rattle.tso_cli.specs.Runs.{run_under}
-use Rattle.tso_cli.proofs.CountLemmas.{counts-each}
+use Rattle.simulator.specs.Runs.{run_under}
+use Rattle.simulator.proofs.CountLemmas.{counts-each}
 use Rattle.tso_cli.proofs.HeadlineLemmas.{Runs}
 use Rattle.tso_cli.proofs.Rechecked.{registers_each, choices-few, small-run}
-use Rattle.tso_cli.proofs.SimulationLemmas.{RunLaws}
+use Rattle.simulator.proofs.SimulationLemmas.{RunLaws}
 
 -- what a law of order texts says
 abbrev pub OrdersCanBePrinted : Type 0

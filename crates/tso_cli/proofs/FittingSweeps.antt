@@ -19,12 +19,12 @@ use Rattle.machine_core.specs.Configuration.{Configuration}
 use Rattle.tso_report.specs.declared.named.Named.{Named}
 use Rattle.tso_report.specs.declared.named.Named.TheVariants.{Register, Location}
 use Rattle.tso_report.specs.Tally.{RunCounts, looked_at, shown_value, values_in, count_of, with_state, with_verdict, ended_in, runs_in}
-use Rattle.tso_cli.specs.Runs.{AnswersFit}
-use Rattle.tso_cli.specs.Simulation.{verdict}
-use Rattle.tso_cli.specs.Sweep.{choices_of, seeded_run, with_one_run, counts_from}
+use Rattle.simulator.specs.Runs.{AnswersFit}
+use Rattle.simulator.specs.Simulation.{verdict}
+use Rattle.sweeper.specs.Counting.{choices_of, seeded_run, with_one_run, counts_from}
 use Rattle.tso_cli.proofs.HeadlineLemmas.{Runs}
-use Rattle.tso_cli.proofs.StateLemmas.{Ascend, ascend-none, sum-with}
-use Rattle.tso_cli.proofs.SweepLemmas.{ascend-run, runs-with}
+use Rattle.sweeper.proofs.StateLemmas.{Ascend, ascend-none, sum-with}
+use Rattle.sweeper.proofs.RunsCounted.{ascend-run, runs-with}
 use Rattle.tso_cli.specs.Fitting.{IsStateOf}
 use Rattle.tso_cli.specs.Fitting.{SweptCountsFit}
 

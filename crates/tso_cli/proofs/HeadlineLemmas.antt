@@ -19,28 +19,29 @@ use Rattle.snoop_bus.specs.Geometry.{IsShapeWithinLimits as IsShape}
 use Rattle.machine_core.specs.Configuration.{Configuration, IsConfigurationWithinLimits}
 use Rattle.tso_report.specs.Report.{head, report}
 use Rattle.tso_report.specs.Shown.{Shown}
-use Rattle.tso_cli.specs.Answers.{run_text, IsRunAnswer, IsAnswerTo, IsInputAnswer, IsAnswer, too_large, refused, answered, ran}
+use Rattle.tso_cli.specs.Answers.{IsAnswerTo, IsInputAnswer, IsAnswer, too_large, refused, answered}
+use Rattle.commands.specs.Answers.{run_text, IsRunAnswer, refused, ran}
 use Rattle.command_line.specs.Limits.{IsWithinLimits}
-use Rattle.tso_cli.specs.Dividing.{parts_of}
+use Rattle.commands.specs.Dividing.{parts_of}
 use Rattle.command_line.specs.Plan.{Plan}
 use Rattle.tso_cli.specs.RunHeadline.{PrintsExecution, PrintsEachRun, HeadlineOfRuns}
-use Rattle.tso_cli.specs.Trace.{ending_text, traced_in, IsTooLong, IsTraceAnswer, refused, too_long, traced}
+use Rattle.commands.specs.Trace.{ending_text, traced_in, IsTooLong, IsTraceAnswer, refused, too_long, traced}
 use Rattle.tso_cli.specs.TraceHeadline.{PrintsTraceIn, PrintsEachTrace, HeadlineOfTraces}
 use Rattle.tso_cli.specs.SweepHeadline.{PrintsSweep, HeadlineOfSweeps}
 use Rattle.tso_cli.specs.Headline.{HeadlineOf, InputHeadline, Headline}
-use Rattle.tso_cli.specs.Runs.{run_by, run_under, AnswersFitBy, AnswersFit, counts_under}
-use Rattle.tso_cli.specs.Lines.{unfinished_line}
-use Rattle.tso_cli.specs.RunTexts.{report_in, unfinished_in}
-use Rattle.tso_cli.specs.Simulation.{shown_of}
+use Rattle.simulator.specs.Runs.{run_by, run_under, AnswersFitBy, AnswersFit, counts_under}
+use Rattle.commands.specs.Lines.{unfinished_line}
+use Rattle.commands.specs.RunTexts.{report_in, unfinished_in}
+use Rattle.simulator.specs.Simulation.{shown_of}
 use Rattle.command_line.specs.declared.settings.Settings.{Settings}
 use Rattle.command_line.specs.declared.settings.Settings.TheVariants as settings
-use Rattle.tso_cli.specs.declared.answer.Status.{Status}
+use Rattle.commands.specs.declared.answer.Status.{Status}
 use Rattle.tso_cli.proofs.CheckLemmas.{check-means, run-spells}
 use Rattle.tso_cli.specs.inner.ReadOneWay.{AreReadOneWay}
 use Rattle.tso_cli.proofs.OneAnswer.{short_rest}
 use Rattle.tso_cli.proofs.OutcomesLemmas.{Searches, outcomes-mean}
 use Rattle.tso_cli.proofs.SweepLemmas.{sweep-means}
-use Rattle.tso_cli.proofs.TraceLengths.{never-both}
+use Rattle.commands.proofs.TraceLengths.{never-both}
 use Rattle.tso_cli.proofs.WitnessLemmas.{Reaching, witness-means}
 
 -- the order spells itself in what is written

@@ -3,7 +3,7 @@ use Rattle.std.proofs.Common.{◌≡◌, ◌==◌, ℕ, zero, suc, Bool, true, f
 use Rattle.std.specs.List.{starts_with}
 use Rattle.std.proofs.lemmas.Bool.Decides.{Decides-eqb}
 use Rattle.std.proofs.lemmas.Slice.Eq.{starts_is}
-use Rattle.tso_cli.specs.Dividing.{after_feed, after_end, after_divider, parts_at, with_byte, parts_from, parts_of, joined, HasNoDivider, EndsInFeed}
+use Rattle.commands.specs.Dividing.{after_feed, after_end, after_divider, parts_at, with_byte, parts_from, parts_of, joined, HasNoDivider, EndsInFeed}
 
 -- whether a line begins after the text
 abbrev line_begins : Bool → List ℕ → Bool

@@ -19,26 +19,28 @@ use Rattle.tso_report.specs.inner.JsonFrame.{other_members}
 use Rattle.tso_report.specs.Tally.{RunCounts, tally_text}
 use Rattle.command_line.specs.Plan.{Plan}
 use Rattle.command_line.specs.declared.settings.Settings.TheVariants as settings
-use Rattle.tso_cli.specs.Dividing.{parts_of, EndsInFeed}
-use Rattle.tso_cli.specs.Lines.{input_refusal, test_refusal, choices_refusal, unfinished_line}
-use Rattle.tso_cli.specs.RunTexts.{report_in, unfinished_in}
-use Rattle.tso_cli.specs.Runs.{run_under, counts_under}
-use Rattle.tso_cli.specs.Simulation.{shown_of, verdict}
-use Rattle.tso_cli.specs.Sweep.{choices_of, seeded_run, with_one_run, counts_from, sweep_counts, sweep_status, IsSweepAnswer}
-use Rattle.tso_cli.specs.Answers.{run_text, run_status, text_under, status_under, IsRunAnswer, IsAnswerTo, IsInputAnswer, IsAnswer, too_large, refused, answered, ran}
+use Rattle.commands.specs.Dividing.{parts_of, EndsInFeed}
+use Rattle.commands.specs.Lines.{input_refusal, test_refusal, choices_refusal, unfinished_line}
+use Rattle.commands.specs.RunTexts.{report_in, unfinished_in}
+use Rattle.simulator.specs.Runs.{run_under, counts_under}
+use Rattle.simulator.specs.Simulation.{shown_of, verdict}
+use Rattle.commands.specs.Sweep.{sweep_status, IsSweepAnswer}
+use Rattle.sweeper.specs.Counting.{choices_of, seeded_run, with_one_run, counts_from, sweep_counts}
+use Rattle.tso_cli.specs.Answers.{IsAnswerTo, IsInputAnswer, IsAnswer, too_large, refused, answered}
+use Rattle.commands.specs.Answers.{run_text, run_status, text_under, status_under, IsRunAnswer, refused, ran}
 use Rattle.tso_cli.specs.Machines.{AreAtomicAtOneDepth, DifferInLines, DifferInMembers, ReportsDiffer, RunsAnswerAlike, TracesDiffer, TracesAnswerAlike, SweepsAnswerAlike, TracesDifferIn}
-use Rattle.tso_cli.specs.Trace.{ending_text, traced_text, IsTraceAnswer, refused, traced, object_text, traced_in, FitsForm, IsTooLong, too_long}
+use Rattle.commands.specs.Trace.{ending_text, traced_text, IsTraceAnswer, refused, traced, object_text, traced_in, FitsForm, IsTooLong, too_long}
 use Rattle.trace_report.specs.Lines.{trace_text}
 use Rattle.trace_report.specs.Shown.{Shown as Step}
 use Rattle.trace_report.specs.Steps.{trace_under}
 use Rattle.trace_json.specs.TracedRun.{json_ended, json_unended}
 use Rattle.tso_cli.specs.inner.ReadOneWay.{AreReadOneWay}
 use Rattle.command_line.specs.declared.settings.Settings.{Settings}
-use Rattle.tso_cli.specs.declared.answer.Status.{Status}
-use Rattle.tso_cli.specs.declared.answer.Status.TheVariants.{Good, Refused, Unended}
-use Rattle.tso_cli.proofs.BusLemmas.{atomic-run}
-use Rattle.tso_cli.proofs.CountLemmas.{counts-each}
-use Rattle.tso_cli.proofs.TraceLengths.{never-both, one-word}
+use Rattle.commands.specs.declared.answer.Status.{Status}
+use Rattle.commands.specs.declared.answer.Status.TheVariants.{Good, Refused, Unended}
+use Rattle.simulator.proofs.BusLemmas.{atomic-run}
+use Rattle.simulator.proofs.CountLemmas.{counts-each}
+use Rattle.commands.proofs.TraceLengths.{never-both, one-word}
 
 -- ---- a report as one text with two places
 

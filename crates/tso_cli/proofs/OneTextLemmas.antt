@@ -26,12 +26,12 @@ use Rattle.machine_core.specs.Configuration.{Configuration}
 use Rattle.tso_report.specs.Report.{head}
 use Rattle.tso_report.specs.Tally.{observation, state_lines, sweep_line, ended_in, run_counts}
 use Rattle.command_line.specs.Plan.{Plan}
-use Rattle.tso_cli.specs.Limits.{longest_input}
-use Rattle.tso_cli.specs.Dividing.{Parts, parts_of}
-use Rattle.tso_cli.specs.Lines.{test_refusal, choices_refusal}
-use Rattle.tso_cli.specs.CheckLines.{order_refusal, invalid_line}
-use Rattle.tso_cli.specs.Simulation.{verdict}
-use Rattle.tso_cli.specs.Sweep.{sweep_lines}
+use Rattle.tso_io.specs.Limits.{longest_input}
+use Rattle.commands.specs.Dividing.{Parts, parts_of}
+use Rattle.commands.specs.Lines.{test_refusal, choices_refusal}
+use Rattle.commands.specs.CheckLines.{order_refusal, invalid_line}
+use Rattle.simulator.specs.Simulation.{verdict}
+use Rattle.commands.specs.Sweep.{sweep_lines}
 use Rattle.tso_cli.specs.RunHeadline.{PrintsExecution, PrintsEachRun, HeadlineOfRuns}
 use Rattle.tso_cli.specs.SweepHeadline.{seeded_order, values_after, has_values, has_truth, seeds_from, seeds_with, PrintsSweep, HeadlineOfSweeps}
 use Rattle.tso_cli.specs.SplitRun.{split_run}
@@ -41,13 +41,13 @@ use Rattle.tso_cli.specs.OneText.{ShowOneExecution, AreOneRun, AreOneTrace, AreO
 use Rattle.tso_cli.specs.TraceHeadline.{PrintsEachTrace, HeadlineOfTraces, PrintsTrace, PrintsTracedObject, PrintsTraceIn}
 use Rattle.trace_report.specs.Lines.{trace_text}
 use Rattle.trace_report.specs.Steps.{trace_under}
-use Rattle.tso_cli.specs.Trace.{FitsForm, IsTooLong}
+use Rattle.commands.specs.Trace.{FitsForm, IsTooLong}
 use Rattle.tso_cli.specs.inner.ReadOneWay.{AreReadOneWay}
 use Rattle.command_line.specs.declared.settings.Settings.{Settings}
 use Rattle.command_line.specs.declared.settings.Settings.TheVariants as settings
 use Rattle.tso_cli.proofs.OneAnswer.{short_rest}
 use Rattle.tso_cli.proofs.SameStates.{one-list}
-use Rattle.tso_cli.proofs.TraceLengths.{too-long-or-not, one-word}
+use Rattle.commands.proofs.TraceLengths.{too-long-or-not, one-word}
 
 -- each text and each order is one or the other
 pub record AreDecided : Type 0 where

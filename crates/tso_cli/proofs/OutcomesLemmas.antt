@@ -1,100 +1,29 @@
--- What a search answers, and what that means.
-use Rattle.std.proofs.Common.{◌≡◌, ◌∙◌, ◌≤◌, ℕ, zero, suc, Bool, List, [], ◌∷◌, Some, map, length, All, Contains, slice_get, refl, sym, ap, subst, arith}
-use Rattle.std.specs.List.{AllByRecursion}
+-- What the answer of a search means.
+use Rattle.std.proofs.Common.{◌≡◌, ◌∙◌, ◌≤◌, ℕ, zero, suc, Bool, List, [], map, length, Contains, refl, ap, subst, arith}
 use Rattle.std.proofs.lemmas.List.{append-nil}
-use Rattle.std.proofs.lemmas.List.Elements.{All-weaker, All-contains, All-from_recursion}
-use Rattle.std.proofs.lemmas.Option.{slice_get_within, get_or_from_slice_get}
+use Rattle.std.proofs.lemmas.List.Elements.{All-weaker, All-contains}
 use Rattle.tso_model.specs.Limits.{most_depth}
 use Rattle.tso_model.specs.Litmus.{Litmus, IsTest}
 use Rattle.tso_model.specs.Axioms.{IsTsoExecution}
 use Rattle.tso_model.specs.FinalState.{final_words, final_registers}
 use Rattle.tso_model.specs.declared.execution.Entry.{Entry}
-use Rattle.outcome_laws.specs.Outcomes.{IsEnd, LeadToEnd, IsSequentiallyConsistent, EndsAreWhatTsoAllows, ChoicesToAnEndAreCounted}
-use Rattle.explorer.specs.FinalStates.{AreReached, HaveEveryEnd}
-use Rattle.explorer.specs.declared.final_states.FinalState.{FinalState}
+use Rattle.outcome_laws.specs.Outcomes.{IsEnd, IsSequentiallyConsistent, EndsAreWhatTsoAllows, ChoicesToAnEndAreCounted}
 use Rattle.scheduler.specs.Grammar.{SpellsChoices}
 use Rattle.scheduler.specs.Printed.{printed_choices}
 use Rattle.tso_report.specs.Tally.{values_in}
-use Rattle.outcome_report.specs.Outcomes.{Outcome, outcome_of, shown_values}
-use Rattle.outcome_report.specs.Hidden.{AreNotShown}
-use Rattle.outcome_report.specs.Printed.{PrintsOutcomes}
+use Rattle.outcome_report.specs.Outcomes.{Outcome, shown_values}
 use Rattle.command_line.specs.Search.{Search}
-use Rattle.tso_cli.specs.Outcomes.{AreAllOutcomes, IsOutcomesAnswer, found, too_many}
+use Rattle.commands.specs.Outcomes.{AreAllOutcomes, IsOutcomesAnswer, found, too_many}
 use Rattle.tso_cli.specs.OutcomesHeadline.{AreExactly, HeadlineOfOutcomes, all, too_many}
 use Rattle.tso_cli.specs.SweepHeadline.{values_after}
-use Rattle.tso_cli.specs.inner.Searched.{ShowEveryEnd}
-use Rattle.tso_cli.specs.declared.answer.Status.{Status}
-use Rattle.tso_cli.specs.declared.answer.Status.TheVariants.{Good}
+use Rattle.commands.specs.declared.answer.Status.{Status}
+use Rattle.commands.proofs.FoundOutcomes.{Leads, made-of}
 use Rattle.tso_cli.proofs.WitnessLemmas.{Reaching, work-within}
 
 -- what the crates below say of the ends of runs, and of the choices that lead there
 pub record Searches : Type 0 where
   pub ends : EndsAreWhatTsoAllows
   pub counted : ChoicesToAnEndAreCounted
-
--- the choices of an outcome lead to its state
-abbrev pub Leads : Litmus → ℕ → Outcome → Type 0
-Leads t depth o = LeadToEnd t depth o.choices o.registers o.memory
-
--- ---- from what the search says
-
-map-place : {X Y : Type 0} (f : X → Y) (xs : List X) (i : ℕ) (x : X) → slice_get xs i ≡ Some x → slice_get (map f xs) i ≡ Some (f x)
-map-place f [] i x q = absurd (let none : ⊥ = cc in none)
-map-place f (y ∷ xs) zero x q = let same : y ≡ x = cc in ap (λ z. Some (f z)) same
-map-place f (y ∷ xs) (suc i) x q = map-place f xs i x q
-
--- what differs in registers alone that no value shows looks like it
-ends-are-shown : (t : Litmus) (depth : ℕ) (hidden : List (List Bool)) (finals : List FinalState) → HaveEveryEnd t depth hidden finals → AreNotShown t hidden → ShowEveryEnd t depth finals
-ends-are-shown t depth hidden finals every unseen registers memory end =
-    let have = every registers memory end in
-    let f = have.final in
-    let values : FinalState → List ℕ = λ g. shown_values t (outcome_of g) in
-    let place = map-place values finals have.at f have.stands in
-    subst (λ v. Contains (map values finals) v) (unseen f.registers.items registers f.memory.items have.registers_are ∙ ap (λ m. values_in t registers m) have.memory_is)
-    (have.at, slice_get_within (map values finals) have.at (values f) place, get_or_from_slice_get (map values finals) have.at (values f) (values f) place)
-
-each-leads : (t : Litmus) (depth : ℕ) (finals : List FinalState) → AreReached t depth finals → AllByRecursion (Leads t depth) (map outcome_of finals)
-each-leads t depth [] reached = tt
-each-leads t depth (f ∷ fs) reached = (reached 0 f refl, each-leads t depth fs (λ i g stands. reached (suc i) g stands))
-
-all-lead : (t : Litmus) (depth : ℕ) (finals : List FinalState) (outcomes : List Outcome) → AreReached t depth finals
-    → All (Contains (map outcome_of finals)) outcomes → All (Leads t depth) outcomes
-all-lead t depth finals outcomes reached among =
-    let each : All (Leads t depth) (map outcome_of finals) = All-from_recursion (Leads t depth) (map outcome_of finals) (each-leads t depth finals reached) in
-    All-weaker (Contains (map outcome_of finals)) (Leads t depth) (λ o is. All-contains (Leads t depth) (map outcome_of finals) o each is) outcomes among
-
--- where the search went by this depth and these registers
-pub search-shows : (t : Litmus) (depth asked : ℕ) (hidden unseen : List (List Bool)) (finals given : List FinalState) → HaveEveryEnd t depth hidden finals → AreNotShown t unseen
-    → depth ≡ asked → hidden ≡ unseen → given ≡ finals → ShowEveryEnd t asked given
-search-shows t depth asked hidden unseen finals given every not p q r =
-    subst (λ z. ShowEveryEnd t asked z) (sym r)
-    (ends-are-shown t asked unseen finals (subst (λ z. HaveEveryEnd t z unseen finals) p (subst (λ z. HaveEveryEnd t depth z finals) q every)) not)
-
--- what a list has that is made by a function is made of an element
-pub made-of : {X Y : Type 0} (f : X → Y) (xs : List X) (y : Y) → Contains (map f xs) y → (x : X) × Contains xs x × (f x ≡ y)
-made-of f [] y (i, small, is) = absurd (omega arith)
-made-of f (x ∷ xs) y (zero, small, is) = (x, (0, omega arith, refl), is)
-made-of f (x ∷ xs) y (suc i, small, is) =
-    let further = made-of f xs y (i, omega arith, is) in
-    (further.0, (suc further.1.0, omega (arith, further.1.1), further.1.2), further.2)
-
-no-end-missing : (t : Litmus) (depth : ℕ) (finals : List FinalState) (outcomes : List Outcome) → ShowEveryEnd t depth finals
-    → All (λ f. Contains (map (shown_values t) outcomes) (shown_values t (outcome_of f))) finals
-    → (registers : List (List ℕ)) (memory : List ℕ) → IsEnd t depth registers memory → Contains (map (shown_values t) outcomes) (values_in t registers memory)
-no-end-missing t depth finals outcomes every shown registers memory end =
-    let made = made-of (λ f. shown_values t (outcome_of f)) finals (values_in t registers memory) (every registers memory end) in
-    subst (λ v. Contains (map (shown_values t) outcomes) v) made.2
-    (All-contains (λ f. Contains (map (shown_values t) outcomes) (shown_values t (outcome_of f))) finals made.0 shown made.1)
-
-pub search-answers : (t : Litmus) (s : Search) (json : Bool) (finals : List FinalState) (out : List ℕ) → AreReached t s.depth finals → ShowEveryEnd t s.depth finals
-    → PrintsOutcomes t s.depth json finals out → IsOutcomesAnswer t s json out Good
-search-answers t s json finals out reached every prints =
-    subst (λ text. IsOutcomesAnswer t s json text Good) (sym prints.text)
-    (found prints.outcomes (record {
-      ascending = prints.printed.ascending;
-      reached = all-lead t s.depth finals prints.outcomes reached prints.printed.found;
-      complete = no-end-missing t s.depth finals prints.outcomes every prints.printed.complete;
-    }))
 
 -- ---- what the answer means
 

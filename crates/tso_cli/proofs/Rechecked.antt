@@ -28,17 +28,18 @@ use Rattle.machine_core.specs.Configuration.{Configuration, IsConfigurationWithi
 use Rattle.tso_report.specs.Report.{report}
 use Rattle.tso_report.specs.Shown.{Shown}
 use Rattle.tso_report.specs.Limits.{longest_report, IsSmall}
-use Rattle.tso_cli.specs.Dividing.{Parts, parts_of, joined}
-use Rattle.tso_cli.specs.CheckLines.{valid_line}
-use Rattle.tso_cli.specs.Runs.{run_by, run_under, AnswersFit, counts_under}
-use Rattle.tso_cli.specs.Simulation.{shown_of}
-use Rattle.tso_cli.specs.Answers.{run_text, run_status, IsRunAnswer, IsCheckAnswer, IsInputAnswer, too_large, refused, answered, ran}
+use Rattle.commands.specs.Dividing.{Parts, parts_of, joined}
+use Rattle.commands.specs.CheckLines.{valid_line}
+use Rattle.simulator.specs.Runs.{run_by, run_under, AnswersFit, counts_under}
+use Rattle.simulator.specs.Simulation.{shown_of}
+use Rattle.tso_cli.specs.Answers.{IsInputAnswer, too_large, refused, answered}
+use Rattle.commands.specs.Answers.{run_text, run_status, IsRunAnswer, IsCheckAnswer, refused, ran}
 use Rattle.command_line.specs.declared.settings.Settings.TheVariants as settings
-use Rattle.tso_cli.specs.declared.answer.Status.{Status}
-use Rattle.tso_cli.specs.declared.answer.Status.TheVariants.{Good, Unended}
-use Rattle.tso_cli.proofs.BusLemmas.{attempts_in, length-in, run-is}
-use Rattle.tso_cli.proofs.SimulationLemmas.{RunLaws}
-use Rattle.tso_cli.proofs.CountLemmas.{counts-each, counts-few}
+use Rattle.commands.specs.declared.answer.Status.{Status}
+use Rattle.commands.specs.declared.answer.Status.TheVariants.{Good, Unended}
+use Rattle.simulator.proofs.BusLemmas.{attempts_in, length-in, run-is}
+use Rattle.simulator.proofs.SimulationLemmas.{RunLaws}
+use Rattle.simulator.proofs.CountLemmas.{counts-each, counts-few}
 use Rattle.tso_cli.proofs.CheckLemmas.{order-for, valid-answer}
 use Rattle.tso_cli.specs.inner.ReadOneWay.{AreReadOneWay}
 use Rattle.tso_cli.proofs.HeadlineLemmas.{Runs, report-spells}

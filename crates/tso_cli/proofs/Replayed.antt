@@ -19,16 +19,17 @@ use Rattle.order_builder.specs.Spelling.{SpellsOrder}
 use Rattle.protocol_tables.specs.Tables.{table_of}
 use Rattle.protocol_tables.specs.declared.kind.ProtocolKind.{ProtocolKind}
 use Rattle.machine_core.specs.Configuration.{Configuration, IsConfigurationWithinLimits}
-use Rattle.tso_cli.specs.Dividing.{Parts, parts_of, joined}
-use Rattle.tso_cli.specs.Runs.{run_under, counts_under}
-use Rattle.tso_cli.specs.RunTexts.{report_in}
-use Rattle.tso_cli.specs.Simulation.{shown_of}
-use Rattle.tso_cli.specs.Witness.{witness_line, IsWitness, IsWitnessAnswer, ReportsOrder, reached, too_small, invalid, refused, judged}
-use Rattle.tso_cli.specs.Answers.{IsRunAnswer, IsInputAnswer, too_large, refused, answered, ran}
+use Rattle.commands.specs.Dividing.{Parts, parts_of, joined}
+use Rattle.simulator.specs.Runs.{run_under, counts_under}
+use Rattle.commands.specs.RunTexts.{report_in}
+use Rattle.simulator.specs.Simulation.{shown_of}
+use Rattle.commands.specs.Witness.{witness_line, IsWitness, IsWitnessAnswer, ReportsOrder, reached, too_small, invalid, refused, judged}
+use Rattle.tso_cli.specs.Answers.{IsInputAnswer, too_large, refused, answered}
+use Rattle.commands.specs.Answers.{IsRunAnswer, refused, ran}
 use Rattle.command_line.specs.declared.settings.Settings.TheVariants as settings
-use Rattle.tso_cli.specs.declared.answer.Status.{Status}
-use Rattle.tso_cli.specs.declared.answer.Status.TheVariants.{Good}
-use Rattle.tso_cli.proofs.BusLemmas.{atomic-run}
+use Rattle.commands.specs.declared.answer.Status.{Status}
+use Rattle.commands.specs.declared.answer.Status.TheVariants.{Good}
+use Rattle.simulator.proofs.BusLemmas.{atomic-run}
 use Rattle.tso_cli.specs.inner.ReadOneWay.{AreReadOneWay}
 use Rattle.tso_cli.proofs.WitnessLemmas.{Reaching, choices-few, line-spells}
 

@@ -15,16 +15,17 @@ use Rattle.outcome_report.specs.Laws.{OutcomesOfTheSameValuesAreAlike}
 use Rattle.command_line.specs.Search.{Search}
 use Rattle.tso_cli.specs.Answers.{IsInputAnswer, too_large, refused, answered}
 use Rattle.tso_cli.specs.OneText.{ShowTheSameStates}
-use Rattle.tso_cli.specs.Outcomes.{AreAllOutcomes, IsOutcomesAnswer, found, too_many}
-use Rattle.tso_cli.specs.Dividing.{parts_of, joined}
+use Rattle.commands.specs.Outcomes.{AreAllOutcomes, IsOutcomesAnswer, found, too_many}
+use Rattle.commands.specs.Dividing.{parts_of, joined}
 use Rattle.tso_cli.specs.Revisited.{IsRevisited, AreRevisited}
-use Rattle.tso_cli.specs.Runs.{counts_under}
-use Rattle.tso_cli.specs.Simulation.{shown_of}
+use Rattle.simulator.specs.Runs.{counts_under}
+use Rattle.simulator.specs.Simulation.{shown_of}
 use Rattle.command_line.specs.declared.settings.Settings.TheVariants as settings
-use Rattle.tso_cli.specs.declared.answer.Status.{Status}
-use Rattle.tso_cli.specs.declared.answer.Status.TheVariants.{Good}
+use Rattle.commands.specs.declared.answer.Status.{Status}
+use Rattle.commands.specs.declared.answer.Status.TheVariants.{Good}
 use Rattle.tso_cli.specs.inner.ReadOneWay.{AreReadOneWay}
-use Rattle.tso_cli.proofs.OutcomesLemmas.{Searches, Leads, made-of, end-of, few-to-end, choices-spell}
+use Rattle.commands.proofs.FoundOutcomes.{Leads, made-of}
+use Rattle.tso_cli.proofs.OutcomesLemmas.{Searches, end-of, few-to-end, choices-spell}
 use Rattle.tso_cli.proofs.Replayed.{choices-short, replayed-joined}
 use Rattle.tso_cli.proofs.WitnessLemmas.{Reaching}
 

@@ -15,7 +15,7 @@ use Rattle.std.proofs.lemmas.Map.Views.{IsSome-lookup_from_Contains}
 use Rattle.std.proofs.lemmas.Option.{get_or_from_slice_get, slice_get_within}
 use Rattle.std.proofs.lemmas.Slice.Eq.{bytes_eq-Decides}
 use Rattle.tso_report.specs.Tally.{count_of}
-use Rattle.tso_cli.proofs.StateLemmas.{States, Ascend, all-map, same-values}
+use Rattle.sweeper.proofs.StateLemmas.{States, Ascend, all-map, same-values}
 
 abbrev R : List ℕ → List ℕ → Ordering
 R = slice_cmp nat_cmp

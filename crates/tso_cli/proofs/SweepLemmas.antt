@@ -1,10 +1,9 @@
 -- What is counted of a sweep, and what that means: the final states of TSO executions.
-use Rattle.std.proofs.Common.{◌≡◌, ◌<◌, ◌≤◌, ◌⊎◌, inl, inr, ◌==◌, ◌&&◌, ◌+◌, ℕ, zero, suc, Bool, true, false, not, cond, List, ◌++◌, Option, Some, None, IfSome, is_none, All, Contains, refl, sym, ap, subst, ◌∙◌, arith}
-use Rattle.std.proofs.lemmas.Bool.Decides.{nat_tests}
+use Rattle.std.proofs.Common.{◌≡◌, ◌<◌, ◌≤◌, ◌⊎◌, inl, inr, ◌+◌, ℕ, zero, suc, Bool, true, false, not, cond, List, Option, Some, None, IfSome, is_none, All, Contains, refl, sym, ap, subst, ◌∙◌, arith}
 use Rattle.std.proofs.lemmas.Slice.Eq.{bytes_eq-Decides}
-use Rattle.std.specs.Prelude.{bytes_eq, sum}
+use Rattle.std.specs.Prelude.{bytes_eq}
 use Rattle.std.specs.Option.{option_map}
-use Rattle.std.specs.Map.{keys_of, values_of}
+use Rattle.std.specs.Map.{keys_of}
 use Rattle.tso_model.specs.FlatMachine.{registers_in}
 use Rattle.tso_model.specs.Litmus.{Litmus}
 use Rattle.tso_model.specs.Axioms.{IsTsoExecution}
@@ -18,46 +17,21 @@ use Rattle.tso_model.specs.declared.execution.Entry.{Entry}
 use Rattle.tso_laws.specs.EndedRuns.{IsExecution}
 use Rattle.protocol_tables.specs.declared.kind.ProtocolKind.{ProtocolKind}
 use Rattle.machine_core.specs.Configuration.{Configuration}
-use Rattle.tso_report.specs.Report.{head}
-use Rattle.tso_report.specs.Tally.{RunCounts, with_state, with_verdict, values_in, count_of, runs_in, state_line, tally_text}
+use Rattle.tso_report.specs.Tally.{RunCounts, with_state, with_verdict, values_in, count_of, runs_in, state_line}
 use Rattle.command_line.specs.Plan.{Plan}
-use Rattle.tso_cli.specs.Runs.{run_under, AnswersFit}
-use Rattle.tso_cli.specs.Simulation.{verdict}
-use Rattle.tso_cli.specs.Sweep.{choices_of, seeded_run, with_one_run, counts_from, sweep_counts, sweep_lines, AnswersFitFrom, IsSweepAnswer}
+use Rattle.simulator.specs.Runs.{run_under, AnswersFit}
+use Rattle.simulator.specs.Simulation.{verdict}
+use Rattle.commands.specs.Sweep.{IsSweepAnswer}
+use Rattle.sweeper.specs.Counting.{choices_of, seeded_run, with_one_run, counts_from, sweep_counts}
 use Rattle.tso_cli.specs.SweepHeadline.{values_after, has_values, has_truth, seeds_from, HasPart, PrintsSweep}
-use Rattle.tso_cli.specs.declared.answer.Status.{Status}
+use Rattle.commands.specs.declared.answer.Status.{Status}
 use Rattle.tso_cli.proofs.SweptLines.{each-line}
-use Rattle.tso_cli.proofs.StateLemmas.{States, Ascend, EachGiven, count-with, ascend-with, ascend-none, given-with, sum-with, each-counted, counted-there}
+use Rattle.sweeper.proofs.StateLemmas.{States, Ascend, EachGiven, count-with, ascend-none, each-counted, counted-there}
+use Rattle.sweeper.proofs.RunsCounted.{values-left, one, states-judged, unfinished-judged, held-judged, failed-judged, ascend-run, given-run, runs-with}
 
 -- the order of a run that ended
 abbrev order_in : Run → Option (List Entry)
 order_in r = cond r.ended (Some r.commits) None
-
-abbrev values-left : Litmus → Run → List ℕ
-values-left t r = values_in t (registers_in r.state) r.state.memory
-
-abbrev one : Bool → ℕ
-one b = cond b 1 0
-
--- ---- a verdict leaves the states, and the runs that didn't end
-
-states-judged : (o : Option Bool) (c : RunCounts) → (with_verdict o c).states ≡ c.states
-states-judged None c = refl
-states-judged (Some true) c = refl
-states-judged (Some false) c = refl
-
-unfinished-judged : (o : Option Bool) (c : RunCounts) → (with_verdict o c).unfinished ≡ c.unfinished
-unfinished-judged None c = refl
-unfinished-judged (Some true) c = refl
-unfinished-judged (Some false) c = refl
-
-held-judged : (b : Bool) (c : RunCounts) → (with_verdict (Some b) c).held ≡ c.held + one b
-held-judged true c = refl
-held-judged false c = omega arith
-
-failed-judged : (b : Bool) (c : RunCounts) → (with_verdict (Some b) c).failed ≡ c.failed + one (not b)
-failed-judged true c = omega arith
-failed-judged false c = refl
 
 -- ---- one more run
 
@@ -74,33 +48,6 @@ states-with t r c v law = by_end r.ended law
         ∙ count-with v (values-left t r) c.states
         ∙ ap (λ (w : List ℕ). count_of v c.states + one (bytes_eq v w)) (ap (λ (g : List (List ℕ)). values_in t g r.state.memory) e.registers ∙ ap (λ (m : List ℕ). values_in t (final_registers t r.commits) m) e.memory)
     by_end false law = omega arith
-
-pub ascend-run : (t : Litmus) (r : Run) (c : RunCounts) → Ascend c.states → Ascend (with_one_run t r c).states
-ascend-run t r c s = by_end r.ended
-  where
-    by_end : (b : Bool) → Ascend (cond b (with_verdict (verdict t (registers_in r.state) r.state.memory) (with_state (values-left t r) c)) (record c { unfinished = c.unfinished + 1 })).states
-    by_end true = subst Ascend (sym (states-judged (verdict t (registers_in r.state) r.state.memory) (with_state (values-left t r) c))) (ascend-with (values-left t r) c.states s)
-    by_end false = s
-
-given-run : (t : Litmus) (r : Run) (c : RunCounts) → EachGiven c.states → EachGiven (with_one_run t r c).states
-given-run t r c s = by_end r.ended
-  where
-    by_end : (b : Bool) → EachGiven (cond b (with_verdict (verdict t (registers_in r.state) r.state.memory) (with_state (values-left t r) c)) (record c { unfinished = c.unfinished + 1 })).states
-    by_end true = subst EachGiven (sym (states-judged (verdict t (registers_in r.state) r.state.memory) (with_state (values-left t r) c))) (given-with (values-left t r) c.states s)
-    by_end false = s
-
-pub runs-with : (t : Litmus) (r : Run) (c : RunCounts) → Ascend c.states → runs_in (with_one_run t r c) ≡ runs_in c + 1
-runs-with t r c s = by_end r.ended
-  where
-    by_end : (b : Bool) → runs_in (cond b (with_verdict (verdict t (registers_in r.state) r.state.memory) (with_state (values-left t r) c)) (record c { unfinished = c.unfinished + 1 })) ≡ runs_in c + 1
-    by_end true =
-        let o = verdict t (registers_in r.state) r.state.memory in
-        let d = with_state (values-left t r) c in
-        let states : sum (values_of (with_verdict o d).states) ≡ sum (values_of c.states) + 1 =
-        ap (λ (s : States). sum (values_of s)) (states-judged o d) ∙ sum-with (values-left t r) c.states s in
-        let unfinished : (with_verdict o d).unfinished ≡ c.unfinished = unfinished-judged o d in
-        omega arith
-    by_end false = omega arith
 
 unfinished-with : (t : Litmus) (r : Run) (c : RunCounts) → (with_one_run t r c).unfinished ≡ c.unfinished + one (is_none (order_in r))
 unfinished-with t r c = by_end r.ended
@@ -141,35 +88,6 @@ failed-with t r c k is law = by_end r.ended law
         ap (λ (o : Option Condition). (with_verdict (option_map (λ (k : Condition). truth-left k r) o) (with_state (values-left t r) c)).failed) is
         ∙ failed-judged (truth-left k r) (with_state (values-left t r) c) ∙ ap (λ (b : Bool). c.failed + one (not b)) (same-truth t k r (law refl))
     by_end false law = omega arith
-
--- the text that is put together is that of the sweep
-pub lines-of : (t u : Litmus) (kind : ProtocolKind) (c : Configuration) (plan : Plan) (counts : RunCounts) (out first told : List ℕ) (from count : ℕ)
-    → out ≡ first ++ told → first ≡ head t kind c → told ≡ tally_text u counts from count → u ≡ t → counts ≡ sweep_counts t kind c plan → from ≡ plan.from → count ≡ plan.length
-    → out ≡ sweep_lines t kind c plan (sweep_counts t kind c plan)
-lines-of t u kind c plan counts out first told from count joined is_first is_told test same is_from is_count =
-    joined ∙ ap (λ (a : List ℕ). a ++ told) is_first
-    ∙ ap (λ (b : List ℕ). head t kind c ++ b)
-    (is_told ∙ ap (λ (v : Litmus). tally_text v counts from count) test ∙ ap (λ (k : RunCounts). tally_text t k from count) same
-    ∙ ap (λ (n : ℕ). tally_text t (sweep_counts t kind c plan) n count) is_from ∙ ap (λ (n : ℕ). tally_text t (sweep_counts t kind c plan) plan.from n) is_count)
-
--- whether all runs ended so far
-pub ended-with : (t : Litmus) (r : Run) (c : RunCounts) (b : Bool) → b ≡ (c.unfinished == 0) → (b && r.ended) ≡ ((with_one_run t r c).unfinished == 0)
-ended-with t r c b is = by_end r.ended
-  where
-    by_end : (e : Bool) → (b && e) ≡ ((cond e (with_verdict (verdict t (registers_in r.state) r.state.memory) (with_state (values-left t r) c)) (record c { unfinished = c.unfinished + 1 })).unfinished == 0)
-    by_end true = kept b ∙ is ∙ ap (λ (n : ℕ). n == 0) (sym (unfinished-judged (verdict t (registers_in r.state) r.state.memory) (with_state (values-left t r) c)))
-      where
-        kept : (b : Bool) → (b && true) ≡ b
-        kept true = refl
-        kept false = refl
-    by_end false = lost b ∙ sym (some c.unfinished)
-      where
-        lost : (b : Bool) → (b && false) ≡ false
-        lost true = refl
-        lost false = refl
-
-        some : (n : ℕ) → (n + 1 == 0) ≡ false
-        some n = grind (arith, nat_tests)
 
 -- ---- all runs of a sweep
 
@@ -276,17 +194,6 @@ among t order_of states from n seeds counts below = by_end (order_of (from + n))
         ap (λ (o : Option (List Entry)). has_values t v o) e ∙ (bytes_eq-Decides v v).1 refl in
         let some : 0 < seeds_from (λ seed. has_values t v (order_of seed)) from seeds = seeds-some (λ seed. has_values t v (order_of seed)) from n seeds below has in
         counted-there v states (subst (λ (k : ℕ). 0 < k) (sym (counts v)) some)
-
--- the answers fit for one more seed
-pub fit-more : (t : Litmus) (kind : ProtocolKind) (c : Configuration) (count from seeds length seed : ℕ) → AnswersFitFrom t kind c count from seeds
-    → length ≡ count → seed ≡ from + seeds → AnswersFit t kind c (choices_of t length seed) → AnswersFitFrom t kind c count from (seeds + 1)
-fit-more t kind c count from seeds length seed before same_length same_seed last = λ n l. by_place n (le-cases n seeds (omega arith))
-  where
-    by_place : (n : ℕ) → (n < seeds) ⊎ (n ≡ seeds) → AnswersFit t kind c (choices_of t count (from + n))
-    by_place n (inl below) = before n below
-    by_place n (inr is) =
-        subst (λ (k : ℕ). AnswersFit t kind c (choices_of t count (from + k))) (sym is)
-        (subst (λ (k : ℕ). AnswersFit t kind c (choices_of t count k)) same_seed (subst (λ (k : ℕ). AnswersFit t kind c (choices_of t k seed)) same_length last))
 
 where-there-is : (o : Option Condition) (P : Condition → Type 0) → ((k : Condition) → o ≡ Some k → P k) → IfSome o P
 where-there-is None P f = tt

@@ -7,8 +7,8 @@ use Rattle.tso_report.specs.Report.{head}
 use Rattle.tso_report.specs.Tally.{RunCounts, state_line, state_lines, sweep_line, ended_in, observation}
 use Rattle.command_line.specs.Plan.{Plan}
 use Rattle.tso_cli.specs.SweepHeadline.{HasPart}
-use Rattle.tso_cli.specs.Sweep.{sweep_lines}
-use Rattle.tso_cli.proofs.StateLemmas.{States}
+use Rattle.commands.specs.Sweep.{sweep_lines}
+use Rattle.sweeper.proofs.StateLemmas.{States}
 
 after : (first text line : List ℕ) → HasPart text line → HasPart (first ++ text) line
 after first text line has = (first ++ has.0, has.1, ap (λ (x : List ℕ). first ++ x) has.2 ∙ sym (append_assoc first has.0 (line ++ has.1)))

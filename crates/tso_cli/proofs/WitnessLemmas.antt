@@ -20,12 +20,12 @@ use Rattle.scheduler.specs.Printed.{printed_choices}
 use Rattle.scheduler.specs.Words.{is_space}
 use Rattle.tso_cli.specs.Judgement.{WitnessesOrder, WitnessesEachOrder, reached, unreached, broken}
 use Rattle.command_line.specs.Limits.{IsDepth}
-use Rattle.tso_cli.specs.Simulation.{IsEndingOf, drains}
-use Rattle.tso_cli.specs.Witness.{witness_line, IsWitness, IsWitnessAnswer, HasEndedWith, reached, too_small, invalid, refused, judged}
-use Rattle.tso_cli.specs.declared.simulation.Ending.{Ending}
-use Rattle.tso_cli.specs.declared.simulation.Ending.TheVariants.{Ended, Unfinished}
-use Rattle.tso_cli.specs.declared.answer.Status.{Status}
-use Rattle.tso_cli.specs.declared.answer.Status.TheVariants.{Good}
+use Rattle.simulator.specs.Simulation.{IsEndingOf, drains}
+use Rattle.commands.specs.Witness.{witness_line, IsWitness, IsWitnessAnswer, HasEndedWith, reached, too_small, invalid, refused, judged}
+use Rattle.simulator.specs.declared.simulation.Ending.{Ending}
+use Rattle.simulator.specs.declared.simulation.Ending.TheVariants.{Ended, Unfinished}
+use Rattle.commands.specs.declared.answer.Status.{Status}
+use Rattle.commands.specs.declared.answer.Status.TheVariants.{Good}
 use Rattle.tso_cli.proofs.CheckLemmas.{IsReal}
 use Rattle.tso_cli.specs.inner.ReadOneWay.{AreReadOneWay}
 

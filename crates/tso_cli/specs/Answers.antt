@@ -1,74 +1,25 @@
 -- The answer to an input: what is written, and the status. Everything that the program promises is said of this; that each
 -- answer meets the headline is a law of it.
-use Rattle.std.specs.Prelude.{ℕ, ◌+◌, ◌<◌, ◌≤◌, ◌≡◌, Bool, if◌then◌else◌, List, length, Option, IfSome}
+use Rattle.std.specs.Prelude.{ℕ, ◌+◌, ◌<◌, ◌≤◌, ◌≡◌, List, length, Option, IfSome}
 use Rattle.tso_model.specs.Litmus.{Litmus}
-use Rattle.tso_model.specs.Axioms.{IsTsoExecution}
-use Rattle.tso_model.specs.Runs.{Run}
-use Rattle.tso_model.specs.declared.execution.Entry.{Entry}
-use Rattle.tso_model.specs.declared.choice.Choice.{Choice}
 use Rattle.litmus_reader.specs.Spelling.{SpellsTest, IsRefused as IsRefusedTest}
 use Rattle.litmus_reader.specs.declared.fault.TextFault.{TextFault}
-use Rattle.scheduler.specs.Grammar.{SpellsChoices}
-use Rattle.scheduler.specs.Refusals.{IsRefusedAsChoices}
-use Rattle.scheduler.specs.declared.fault.ChoiceFault.{ChoiceFault}
-use Rattle.order_builder.specs.Spelling.{SpellsOrder, HasFault}
-use Rattle.order_builder.specs.declared.fault.OrderFault.{OrderFault}
-use Rattle.axiom_checker.specs.FirstBreach.{IsFirstBreach}
-use Rattle.axiom_checker.specs.declared.breach.Breach.{Breach}
 use Rattle.protocol_tables.specs.Names.{protocol_name}
 use Rattle.protocol_tables.specs.Tables.{table_of}
 use Rattle.protocol_tables.specs.PrintedTable.{printed_table}
 use Rattle.protocol_tables.specs.declared.kind.ProtocolKind.{ProtocolKind}
-use Rattle.machine_core.specs.Configuration.{Configuration}
-use Rattle.machine_core.specs.declared.counts.Counts.{Counts}
-use Rattle.tso_cli.specs.Limits.{longest_input}
-use Rattle.tso_cli.specs.Dividing.{parts_of}
-use Rattle.tso_cli.specs.Lines.{input_refusal, test_refusal, choices_refusal}
-use Rattle.tso_cli.specs.RunTexts.{report_in, unfinished_in}
-use Rattle.tso_cli.specs.Runs.{run_under, counts_under, AnswersFit}
-use Rattle.tso_cli.specs.Trace.{IsTraceAnswer}
-use Rattle.tso_cli.specs.Sweep.{IsSweepAnswer}
-use Rattle.tso_cli.specs.Outcomes.{IsOutcomesAnswer}
-use Rattle.tso_cli.specs.CheckLines.{order_refusal, valid_line, invalid_line}
-use Rattle.tso_cli.specs.Witness.{IsWitnessAnswer}
-use Rattle.tso_cli.specs.Simulation.{shown_of}
+use Rattle.tso_io.specs.Limits.{longest_input}
+use Rattle.commands.specs.Dividing.{parts_of}
+use Rattle.commands.specs.Lines.{input_refusal, test_refusal}
+use Rattle.commands.specs.Trace.{IsTraceAnswer}
+use Rattle.commands.specs.Sweep.{IsSweepAnswer}
+use Rattle.commands.specs.Outcomes.{IsOutcomesAnswer}
+use Rattle.commands.specs.Witness.{IsWitnessAnswer}
 use Rattle.command_line.specs.declared.settings.Settings.{Settings}
-use Rattle.tso_cli.specs.declared.answer.Status.{Status}
-use Rattle.tso_cli.specs.declared.answer.Status.TheVariants.{Good, Refused, Unended, Invalid}
+use Rattle.commands.specs.declared.answer.Status.{Status}
+use Rattle.commands.specs.declared.answer.Status.TheVariants.{Good, Refused}
+use Rattle.commands.specs.Answers.{IsCheckAnswer, IsRunAnswer}
 use Rattle.command_line.specs.declared.settings.Settings.TheVariants as settings
-
--- what is written of a run with these counts: the report where it ended, else how far it came
-abbrev pub run_text : Litmus → ProtocolKind → Configuration → Bool → List Counts → Run → List ℕ
-run_text t kind c json counts r = if r.ended then report_in json t kind c (shown_of t counts r) else unfinished_in json r.used r.stalled
-
-abbrev pub run_status : Run → Status
-run_status r = if r.ended then Good else Unended
-
--- the same of a test's run under choices
-abbrev pub text_under : Litmus → ProtocolKind → Configuration → Bool → List Choice → List ℕ
-text_under t kind c json choices = run_text t kind c json (counts_under t kind c choices) (run_under t kind c choices)
-
-abbrev pub status_under : Litmus → ProtocolKind → Configuration → List Choice → Status
-status_under t kind c choices = run_status (run_under t kind c choices)
-
--- the answer of `run` to a test and the text of its choices, plain or as JSON; a refusal is the same line either way;
--- along a run the caches answered as caches may
-pub data IsRunAnswer (t : Litmus) (kind : ProtocolKind) (c : Configuration) (json : Bool) (text : List ℕ) : List ℕ → Status → Type 0 where
-  refused : (fault : ChoiceFault) → IsRefusedAsChoices (length t.programs) text fault
-      → IsRunAnswer t kind c json text (choices_refusal fault) Refused
-  ran : (choices : List Choice) → SpellsChoices (length t.programs) text choices → AnswersFit t kind c choices
-      → IsRunAnswer t kind c json text (text_under t kind c json choices) (status_under t kind c choices)
-
--- the answer of `check` to a test and an order of it
-pub data IsJudgement (t : Litmus) (order : List Entry) : List ℕ → Status → Type 0 where
-  valid : IsTsoExecution t order → IsJudgement t order valid_line Good
-  invalid : (breach : Breach) → IsFirstBreach t order breach → IsJudgement t order (invalid_line t breach) Invalid
-
--- the answer of `check` to a test and the text of an order
-pub data IsCheckAnswer (t : Litmus) (text : List ℕ) : List ℕ → Status → Type 0 where
-  refused : (fault : OrderFault) → HasFault t text fault → IsCheckAnswer t text (order_refusal fault) Refused
-  judged : (order : List Entry) (out : List ℕ) (status : Status) → SpellsOrder t text order → IsJudgement t order out status
-      → IsCheckAnswer t text out status
 
 -- the answer of `tables`
 pub record IsTableAnswer (kind : ProtocolKind) (out : List ℕ) (status : Status) : Type 0 where

@@ -10,9 +10,9 @@ use Rattle.tso_report.specs.Shown.{Shown, IsOf}
 use Rattle.tso_report.specs.Limits.{IsSmall}
 use Rattle.tso_report.specs.Tally.{RunCounts, looked_at, ended_in, runs_in}
 use Rattle.command_line.specs.Plan.{Plan, most_seeds}
-use Rattle.tso_cli.specs.Runs.{run_under, counts_under, AnswersFit}
-use Rattle.tso_cli.specs.Simulation.{shown_of}
-use Rattle.tso_cli.specs.Sweep.{sweep_counts, SweepAnswersFit}
+use Rattle.simulator.specs.Runs.{run_under, counts_under, AnswersFit}
+use Rattle.simulator.specs.Simulation.{shown_of}
+use Rattle.sweeper.specs.Counting.{sweep_counts, SweepAnswersFit}
 
 -- a run of this test: its parts are as many as the test has, and each is one that a run of the test can leave
 pub record FitsTest (t : Litmus) (s : Shown) : Type 0 where

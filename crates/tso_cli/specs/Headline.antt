@@ -9,9 +9,9 @@ use Rattle.protocol_tables.specs.PrintedTable.{printed_table}
 use Rattle.protocol_tables.specs.declared.kind.ProtocolKind.{ProtocolKind}
 use Rattle.command_line.specs.declared.settings.Settings.{Settings}
 use Rattle.command_line.specs.declared.settings.Settings.TheVariants as settings
-use Rattle.tso_cli.specs.Limits.{longest_input}
-use Rattle.tso_cli.specs.Dividing.{Parts, parts_of}
-use Rattle.tso_cli.specs.Lines.{input_refusal, test_refusal}
+use Rattle.tso_io.specs.Limits.{longest_input}
+use Rattle.commands.specs.Dividing.{Parts, parts_of}
+use Rattle.commands.specs.Lines.{input_refusal, test_refusal}
 use Rattle.tso_cli.specs.RunHeadline.{HeadlineOfRuns}
 use Rattle.tso_cli.specs.TraceHeadline.{HeadlineOfTraces}
 use Rattle.tso_cli.specs.SweepHeadline.{HeadlineOfSweeps}

@@ -4,8 +4,8 @@ use Rattle.std.specs.Prelude.{◌≡◌, ◌⊎◌, Bool, true, false, not, ℕ,
 use Rattle.hints.specs.Hint.{IsHint}
 use Rattle.command_line.specs.declared.settings.Settings.{Settings}
 use Rattle.command_line.specs.declared.settings.Settings.TheVariants as settings
-use Rattle.tso_cli.specs.declared.answer.Status.{Status}
-use Rattle.tso_cli.specs.declared.answer.Status.TheVariants.{Good, Refused, Unended, Invalid}
+use Rattle.commands.specs.declared.answer.Status.{Status}
+use Rattle.commands.specs.declared.answer.Status.TheVariants.{Good, Refused, Unended, Invalid}
 
 -- whether an answer of status 0 may mislead: final states in lines that people read may; JSON, a verdict and choices don't
 abbrev pub may_mislead : Settings → Bool

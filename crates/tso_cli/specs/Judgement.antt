@@ -13,8 +13,8 @@ use Rattle.order_builder.specs.Spelling.{SpellsOrder, HasFault}
 use Rattle.order_builder.specs.declared.fault.OrderFault.{OrderFault}
 use Rattle.axiom_checker.specs.FirstBreach.{IsFirstBreach}
 use Rattle.axiom_checker.specs.declared.breach.Breach.{Breach}
-use Rattle.tso_cli.specs.Lines.{depth_line}
-use Rattle.tso_cli.specs.CheckLines.{order_refusal, valid_line, invalid_line}
+use Rattle.commands.specs.Lines.{depth_line}
+use Rattle.commands.specs.CheckLines.{order_refusal, valid_line, invalid_line}
 
 -- what is written of an order is `Check valid` exactly where it is a TSO execution of the test, else its first breach
 pub record JudgesOrder (t : Litmus) (order : List Entry) (out : List ℕ) : Type 0 where

@@ -1,16 +1,5 @@
 pub mod Streams
-pub mod Dividing
-pub mod Limits
-pub mod Runs
-pub mod Simulation
-pub mod Lines
-pub mod RunTexts
-pub mod Trace
-pub mod Sweep
-pub mod Outcomes
 pub mod Fitting
-pub mod CheckLines
-pub mod Witness
 pub mod Answers
 pub mod Step
 pub mod SplitRun

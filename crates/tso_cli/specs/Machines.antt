@@ -15,9 +15,9 @@ use Rattle.trace_report.specs.Shown.{Shown as Step}
 use Rattle.tso_report.specs.Json.{cache_value, machine_value, json_report}
 use Rattle.tso_report.specs.JsonFrame.{OtherMembers, json_with}
 use Rattle.trace_json.specs.TracedRun.{json_ended, json_unended}
-use Rattle.tso_cli.specs.Dividing.{EndsInFeed}
-use Rattle.tso_cli.specs.declared.answer.Status.{Status}
-use Rattle.tso_cli.specs.declared.answer.Status.TheVariants.{Good, Refused}
+use Rattle.commands.specs.Dividing.{EndsInFeed}
+use Rattle.commands.specs.declared.answer.Status.{Status}
+use Rattle.commands.specs.declared.answer.Status.TheVariants.{Good, Refused}
 
 -- both are on the atomic bus, and their store buffers have one depth; their caches may have any shape
 pub record AreAtomicAtOneDepth (c d : Configuration) : Type 0 where

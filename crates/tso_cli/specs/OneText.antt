@@ -17,7 +17,7 @@ use Rattle.trace_json.specs.TracedRun.{json_ended}
 use Rattle.outcome_report.specs.Outcomes.{Outcome}
 use Rattle.outcome_report.specs.Printed.{outcomes_in}
 use Rattle.outcome_report.specs.Laws.{AreAlike}
-use Rattle.tso_cli.specs.RunTexts.{report_in}
+use Rattle.commands.specs.RunTexts.{report_in}
 use Rattle.command_line.specs.declared.settings.Settings.{Settings}
 use Rattle.command_line.specs.declared.settings.Settings.TheVariants as settings
 

@@ -12,7 +12,7 @@ use Rattle.scheduler.specs.Printed.{printed_choices}
 use Rattle.outcome_report.specs.Outcomes.{Outcome, shown_values}
 use Rattle.outcome_report.specs.Printed.{outcomes_in, unfinished_search_in}
 use Rattle.command_line.specs.Search.{Search}
-use Rattle.tso_cli.specs.Outcomes.{AreAllOutcomes}
+use Rattle.commands.specs.Outcomes.{AreAllOutcomes}
 use Rattle.tso_cli.specs.SweepHeadline.{values_after}
 
 -- the printed values are exactly those that the final states of such orders have

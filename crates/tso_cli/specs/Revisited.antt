@@ -11,10 +11,10 @@ use Rattle.outcome_report.specs.Outcomes.{Outcome, shown_values}
 use Rattle.outcome_report.specs.Printed.{outcomes_in}
 use Rattle.command_line.specs.declared.settings.Settings.TheVariants as settings
 use Rattle.tso_cli.specs.Answers.{IsAnswer}
-use Rattle.tso_cli.specs.Dividing.{joined}
-use Rattle.tso_cli.specs.RunTexts.{report_in}
-use Rattle.tso_cli.specs.declared.answer.Status.{Status}
-use Rattle.tso_cli.specs.declared.answer.Status.TheVariants.{Good}
+use Rattle.commands.specs.Dividing.{joined}
+use Rattle.commands.specs.RunTexts.{report_in}
+use Rattle.commands.specs.declared.answer.Status.{Status}
+use Rattle.commands.specs.declared.answer.Status.TheVariants.{Good}
 
 -- what is written is the report of a run that ended with these values; none of its choices stalled, and none was left over
 pub record ReportsValues (t : Litmus) (kind : ProtocolKind) (c : Configuration) (json : Bool) (values out : List ℕ) : Type 0 where

@@ -15,9 +15,9 @@ use Rattle.order_builder.specs.Spelling.{SpellsOrder}
 use Rattle.protocol_tables.specs.declared.kind.ProtocolKind.{ProtocolKind}
 use Rattle.machine_core.specs.Configuration.{Configuration}
 use Rattle.tso_report.specs.Shown.{Shown}
-use Rattle.tso_cli.specs.Lines.{choices_refusal}
-use Rattle.tso_cli.specs.RunTexts.{report_in, unfinished_in}
-use Rattle.tso_cli.specs.Simulation.{verdict}
+use Rattle.commands.specs.Lines.{choices_refusal}
+use Rattle.commands.specs.RunTexts.{report_in, unfinished_in}
+use Rattle.simulator.specs.Simulation.{verdict}
 use Rattle.tso_cli.specs.SplitRun.{split_run}
 
 -- what was printed is the report of a run, plain or as JSON: its order is a TSO execution of the test, and at depth 0, where no

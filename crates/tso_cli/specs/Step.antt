@@ -8,13 +8,14 @@ use Rattle.protocol_tables.specs.declared.kind.ProtocolKind.{ProtocolKind}
 use Rattle.machine_core.specs.Configuration.{Configuration}
 use Rattle.trace_json.specs.TracedRun.{json_last_step}
 use Rattle.command_line.specs.declared.settings.Settings.TheVariants as settings
-use Rattle.tso_cli.specs.Answers.{IsInputAnswer, status_under}
-use Rattle.tso_cli.specs.Limits.{longest_input}
-use Rattle.tso_cli.specs.Dividing.{parts_of}
-use Rattle.tso_cli.specs.Runs.{run_under, AnswersFit}
-use Rattle.tso_cli.specs.Trace.{FitsForm}
-use Rattle.tso_cli.specs.declared.answer.Status.{Status}
-use Rattle.tso_cli.specs.declared.answer.Status.TheVariants.{Refused}
+use Rattle.tso_cli.specs.Answers.{IsInputAnswer}
+use Rattle.commands.specs.Answers.{status_under}
+use Rattle.tso_io.specs.Limits.{longest_input}
+use Rattle.commands.specs.Dividing.{parts_of}
+use Rattle.simulator.specs.Runs.{run_under, AnswersFit}
+use Rattle.commands.specs.Trace.{FitsForm}
+use Rattle.commands.specs.declared.answer.Status.{Status}
+use Rattle.commands.specs.declared.answer.Status.TheVariants.{Refused}
 
 -- the answer to an input on a machine of this protocol and configuration: a refusal is that of `trace --json`, and of the run that it
 -- traces the last step is told, with the run's status

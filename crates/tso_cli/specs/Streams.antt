@@ -1,18 +1,9 @@
 -- What a call does to a reader and a writer: which bytes are taken, which are appended. A writer that fails has taken a
 -- beginning of the answer, and never something else.
-use Rattle.std.specs.Prelude.{ℕ, ◌≤◌, List, length, take, Option}
-use Rattle.std.specs.Io.KnownBytes.{Appends, Consumes}
-use Rattle.tso_cli.specs.declared.answer.Status.{Status}
-
--- ---- which bytes were taken
-
--- a beginning of these bytes was appended
-abbrev pub AppendsBeginning : Option (List ℕ) → Option (List ℕ) → List ℕ → Type 0
-AppendsBeginning old new bytes = (n : ℕ) × Appends old new (take n bytes)
-
--- at most so many bytes were taken
-abbrev pub ConsumesAtMost : Option (List ℕ) → Option (List ℕ) → ℕ → Type 0
-ConsumesAtMost old new most = (bytes : List ℕ) × Consumes old new bytes × (length bytes ≤ most)
+use Rattle.std.specs.Prelude.{ℕ, List, Option}
+use Rattle.std.specs.Io.KnownBytes.{Appends}
+use Rattle.commands.specs.declared.answer.Status.{Status}
+use Rattle.tso_io.specs.Streams.{AppendsBeginning}
 
 -- bytes of which this holds were appended to the writer's contents
 abbrev pub Writes : {A : Type 0} → (A → Option (List ℕ)) → A → A → (List ℕ → Type 0) → Type 0

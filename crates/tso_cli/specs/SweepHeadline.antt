@@ -16,7 +16,8 @@ use Rattle.machine_core.specs.Configuration.{Configuration}
 use Rattle.tso_report.specs.Tally.{RunCounts, runs_in, values_in, Ascend, state_line}
 use Rattle.command_line.specs.Plan.{Plan}
 use Rattle.tso_cli.specs.SplitRun.{split_run}
-use Rattle.tso_cli.specs.Sweep.{choices_of, sweep_lines}
+use Rattle.commands.specs.Sweep.{sweep_lines}
+use Rattle.sweeper.specs.Counting.{choices_of}
 
 -- the order that a run commits under the choices of a seed of the plan, where they end the test
 abbrev pub seeded_order : Litmus → (List Choice → Run) → Plan → ℕ → Option (List Entry)

@@ -16,10 +16,10 @@ use Rattle.tso_report.specs.Report.{head}
 use Rattle.trace_report.specs.Lines.{trace_text}
 use Rattle.trace_report.specs.Steps.{trace_under}
 use Rattle.trace_json.specs.TracedRun.{most_steps, json_ended, json_unended}
-use Rattle.tso_cli.specs.Lines.{choices_refusal, unfinished_line}
+use Rattle.commands.specs.Lines.{choices_refusal, unfinished_line}
 use Rattle.tso_cli.specs.RunHeadline.{PrintsExecution}
 use Rattle.tso_cli.specs.SplitRun.{split_run}
-use Rattle.tso_cli.specs.Trace.{FitsForm, IsTooLong}
+use Rattle.commands.specs.Trace.{FitsForm, IsTooLong}
 
 -- the trace of the choices stands between the first two lines and a rest: where the run ends, the two lines and the rest are the
 -- report of an execution, as `run` prints it; where it doesn't, the rest is the line that says how far it came

@@ -3,18 +3,19 @@
 
 ghost use Rattle.std.specs.Prelude.{◌≡◌, ◌+◌, ◌-◌, ◌^◌, ◌<◌, ◌≤◌, ◌↔◌, ◌⊎◌, IfOk, Err, string_bytes};
 ghost use Rattle.std.specs.Io.KnownBytes.{Keeps};
-ghost use Rattle.tso_cli.specs.Streams.{Writes, WritesAnswer, WritesBeginning, ConsumesAtMost};
-ghost use Rattle.tso_cli.specs.inner.Streams.{CountsReadFaults};
+ghost use Rattle.tso_cli.specs.Streams.{Writes, WritesAnswer, WritesBeginning};
+ghost use Rattle.tso_io.specs.Streams.{ConsumesAtMost};
+ghost use Rattle.tso_io.specs.inner.Streams.{CountsReadFaults};
 ghost use Rattle.tso_cli.specs.Answers.{IsAnswer, most_read};
 ghost use Rattle.tso_cli.specs.Headline.{Headline};
 ghost use Rattle.command_line.specs.Limits.{HasDepth};
 
-use crate::answer::{Answer, Status, answer_to};
-use crate::counted::Counted;
-use crate::streams::{READ_LIMIT, RunFault, read_input, write_output};
+use crate::answering::answer_to;
 use command_line::Settings;
+use commands::{Answer, Status};
 use std::alloc::Global;
 use std::io::{Read, Write};
+use tso_io::{Counted, READ_LIMIT, RunFault, read_input, write_output};
 
 /// Reads an input, and writes the answer to it under these settings and nothing else. The answer is
 /// made whole before its first byte is written. At most one byte more than [`MAX_INPUT`] is read, and

@@ -4,8 +4,8 @@
 ghost use Rattle.std.specs.Prelude.{◌≡◌, IfOk, string_bytes};
 ghost use Rattle.tso_cli.specs.Hints.{IsTold, IsToldOfGood, IsHintOrNothing, may_mislead};
 
-use crate::answer::{Answer, Status};
 use command_line::Settings;
+use commands::{Answer, Status};
 use hints::{Cause, hint_of};
 use std::alloc::Global;
 use tso_model::NoMemory;

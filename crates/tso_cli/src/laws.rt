@@ -5,20 +5,17 @@ ghost use Rattle.std.specs.Prelude.{◌≡◌, ◌<◌, ◌≤◌, ◌^◌, ℕ,
 ghost use Rattle.tso_model.specs.Limits.{most_depth};
 ghost use Rattle.tso_model.specs.Litmus.{Litmus, IsTest};
 ghost use Rattle.tso_model.specs.Axioms.{IsTsoExecution};
-ghost use Rattle.tso_model.specs.SequentialConsistency.{KeepsAllOrder};
 ghost use Rattle.tso_model.specs.Runs.{Run, run};
 ghost use Rattle.tso_model.specs.declared.choice.Bus.TheVariants.{Atomic};
 ghost use Rattle.tso_model.specs.declared.choice.Choice.{Choice};
 ghost use Rattle.tso_model.specs.declared.execution.Entry.{Entry};
 ghost use Rattle.tso_laws.specs.Along.{choices_along, LeadTo};
 ghost use Rattle.tso_laws.specs.Depth.{needed};
-ghost use Rattle.tso_laws.specs.EndedRuns.{IsExecution};
-ghost use Rattle.tso_laws.specs.Words.{HoldsWords};
-ghost use Rattle.protocol_tables.specs.Tables.{Table};
 ghost use Rattle.protocol_tables.specs.declared.kind.ProtocolKind.{ProtocolKind};
 ghost use Rattle.machine_core.specs.Configuration.{Configuration};
-ghost use Rattle.tso_cli.specs.Answers.{IsCheckAnswer, IsAnswer};
-ghost use Rattle.tso_cli.specs.CheckLines.{valid_line};
+ghost use Rattle.tso_cli.specs.Answers.{IsAnswer};
+ghost use Rattle.commands.specs.Answers.{IsCheckAnswer};
+ghost use Rattle.commands.specs.CheckLines.{valid_line};
 ghost use Rattle.tso_cli.specs.Fitting.{ChoicesAreCounted, EndedRunsFit, SweptCountsFit};
 ghost use Rattle.tso_cli.specs.Headline.{Headline};
 ghost use Rattle.tso_cli.specs.RunHeadline.{PrintsExecution};
@@ -27,14 +24,12 @@ ghost use Rattle.command_line.specs.Limits.{IsWithinLimits};
 ghost use Rattle.tso_cli.specs.OneText.{GivesOneAnswer, ShowTheSameStates};
 ghost use Rattle.tso_cli.specs.Revisited.{AreRevisited};
 ghost use Rattle.command_line.specs.Search.{Search};
-ghost use Rattle.tso_cli.specs.Dividing.{parts_of, joined, IsJoinable};
-ghost use Rattle.tso_cli.specs.Runs.{run_by, AnswersFitBy};
-ghost use Rattle.tso_cli.specs.inner.Runs.{EndsBy};
-ghost use Rattle.tso_cli.specs.Simulation.{IsEndingOf};
-ghost use Rattle.tso_cli.specs.Witness.{witness_line, IsWitness, IsEndingAlong, HasEndedWith, ReportsOrder};
-ghost use Rattle.tso_cli.specs.declared.simulation.Ending.{Ending};
-ghost use Rattle.tso_cli.specs.declared.answer.Status.{Status};
-ghost use Rattle.tso_cli.specs.declared.answer.Status.TheVariants.{Good};
+ghost use Rattle.commands.specs.Dividing.{parts_of, joined, IsJoinable};
+ghost use Rattle.simulator.specs.Simulation.{IsEndingOf};
+ghost use Rattle.commands.specs.Witness.{witness_line, IsWitness, IsEndingAlong, HasEndedWith, ReportsOrder};
+ghost use Rattle.simulator.specs.declared.simulation.Ending.{Ending};
+ghost use Rattle.commands.specs.declared.answer.Status.{Status};
+ghost use Rattle.commands.specs.declared.answer.Status.TheVariants.{Good};
 ghost use Rattle.command_line.specs.declared.settings.Settings.{Settings};
 
 use axiom_checker::laws::{first_breach_is_one, first_breach_is_real};
@@ -43,40 +38,13 @@ use order_builder::laws::{order_can_be_printed, order_is_spelled_once};
 use outcome_laws::{choices_to_an_end_are_counted, ends_are_what_tso_allows};
 use outcome_report::laws::outcomes_of_the_same_values_are_alike;
 use scheduler::{printed_choices_are_spelled, texts_are_decided};
-use split_laws::{
-    atomic_runs_are_flat_runs, no_buffer_no_reordering_on_either_bus,
-    runs_on_either_bus_are_flat_runs, runs_on_either_bus_stop_where_they_end,
-};
+use simulator::ended_runs_of_machines_are_executions;
+use split_laws::{atomic_runs_are_flat_runs, runs_on_either_bus_stop_where_they_end};
 use tso_laws::{
-    ended_runs_are_executions, every_execution_is_reached, most_stores_are_depth_enough,
-    runs_are_counted, smaller_depths_never_reach, values_are_words,
-    whole_orders_have_each_entry_once,
+    every_execution_is_reached, most_stores_are_depth_enough, runs_are_counted,
+    smaller_depths_never_reach, whole_orders_have_each_entry_once,
 };
 use tso_report::laws::{report_spells_its_order, reports_are_short};
-
-/// What an ended run on either bus leaves: its order is a TSO execution of the test, its registers and
-/// memory are the final state of that order, and all values in them are words. At depth 0, where no
-/// core has a store buffer, the order keeps program order without exception. On the atomic bus the
-/// answers of all caches fit.
-pub fn ended_runs_of_machines_are_executions()
-    ensures executions { (table : Table) (c : Configuration) (t : Litmus) (choices : List Choice)
-        → IsTest t → AnswersFitBy table c t choices → EndsBy table c t choices → IsExecution t (run_by c.bus table c t choices) }
-    ensures words { (table : Table) (c : Configuration) (t : Litmus) (choices : List Choice)
-        → IsTest t → AnswersFitBy table c t choices → EndsBy table c t choices
-        → HoldsWords (run_by c.bus table c t choices).commits (run_by c.bus table c t choices).state }
-    ensures unbuffered { (table : Table) (c : Configuration) (t : Litmus) (choices : List Choice)
-        → c.depth ≡ 0 → IsTest t → AnswersFitBy table c t choices → EndsBy table c t choices
-        → KeepsAllOrder (run_by c.bus table c t choices).commits }
-    ensures atomic { (table : Table) (c : Configuration) (t : Litmus) (choices : List Choice)
-        → c.bus ≡ Atomic → AnswersFitBy table c t choices }
-{
-    atomic_runs_are_flat_runs();
-    runs_on_either_bus_are_flat_runs();
-    runs_on_either_bus_stop_where_they_end();
-    ended_runs_are_executions();
-    no_buffer_no_reordering_on_either_bus();
-    values_are_words();
-}
 
 /// The runs of a machine fit their test: what is shown of a run that ended, and what is counted of a sweep, is as many
 /// registers, words and counts as the test has, each one that a run can leave. Of the choices that a run was given each was

@@ -7,19 +7,19 @@ ghost use Rattle.scheduler.specs.Grammar.{SpellsChoices};
 ghost use Rattle.tso_cli.specs.Step.{IsStepAnswer};
 ghost use Rattle.tso_cli.specs.inner.Step.{IsLastStep, status_after};
 
-use crate::answer::{Answer, Status, refused_input, refused_test};
-use crate::dividing::parts_of;
-use crate::measuring::{Measured, measure, too_long};
-use crate::running::{cause_of, refused_choices};
-use crate::simulation::Ending;
-use crate::streams::MAX_INPUT;
+use commands::{
+    Answer, Measured, Status, cause_of, measure, parts_of, refused_choices, refused_input,
+    refused_test, refused_trace,
+};
 use hints::SecondPart;
 use litmus_reader::{ReadError, test_or_fault};
 use machine_core::{Choice, Config};
 use protocol_tables::ProtocolKind;
 use scheduler::{read_choices, spelled_cores_exist};
+use simulator::Ending;
 use std::alloc::Global;
 use trace_json::last_step_json;
+use tso_io::MAX_INPUT;
 use tso_model::{NoMemory, Test};
 
 /// Of the trace that `trace --json` prints of an input the last step alone, with the machine after it; where no choice is
@@ -76,7 +76,7 @@ fn last_answer(
     ensures { IfOk result (λ a. IsLastStep test.now protocol config text.now (string_bytes a.text) a.status) }
 {
     match measure(alloc, test, protocol, config, text, choices)? {
-        Measured::TooLong(word) => too_long(alloc, text, word),
+        Measured::TooLong(word) => refused_trace(alloc, text, word),
         Measured::Fits(driven) => {
             let step = last_step_json(alloc, test, protocol, config, choices)?;
             let status = status_after(&driven.ending);

@@ -1,7 +1,7 @@
 //! The tally of a sweep, over runs that one chooses by hand.
 
 ghost use Rattle.std.specs.Prelude.{◌≡◌};
-ghost use Rattle.tso_cli.specs.Simulation.{FitsEnding};
+ghost use Rattle.simulator.specs.Simulation.{FitsEnding};
 
 use crate::named::{MEMORY, test_of};
 use machine_core::{Bus, Config, Shape};

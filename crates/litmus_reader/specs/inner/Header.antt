@@ -6,10 +6,11 @@ use Rattle.tso_model.specs.Names.{is_test_name, is_printable}
 use Rattle.litmus_tokens.specs.declared.token.Stop.{Stop}
 use Rattle.litmus_tokens.specs.Gap.{gap_end}
 use Rattle.litmus_reader.specs.Limits.{longest_text}
-use Rattle.litmus_reader.specs.declared.fault.Why.TheVariants.{NoHeader, Unclosed, TooLarge}
-use Rattle.litmus_reader.specs.declared.fault.Fault.{Fault}
-use Rattle.litmus_reader.specs.inner.Faults.{◌>>=◌}
-use Rattle.litmus_reader.specs.Places.{fault, at_stop}
+use Rattle.litmus_cells.specs.declared.fault.Why.TheVariants.{NoHeader, Unclosed, TooLarge}
+use Rattle.litmus_cells.specs.declared.fault.Fault.{Fault}
+use Rattle.litmus_cells.specs.inner.Faults.{◌>>=◌}
+use Rattle.litmus_cells.specs.Places.{fault}
+use Rattle.litmus_reader.specs.Places.{at_stop}
 use Rattle.litmus_reader.specs.GrammarText.{first_line, name_in}
 
 -- the text, if it isn't too large; else the fault has line 1

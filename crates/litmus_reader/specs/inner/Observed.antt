@@ -5,12 +5,14 @@ use Rattle.litmus_tokens.specs.declared.token.Symbol.TheVariants.{OpenSquare}
 use Rattle.litmus_tokens.specs.Gap.{gap_end}
 use Rattle.litmus_tokens.specs.Pieces.{Piece, pieces_of}
 use Rattle.litmus_tokens.specs.inner.Front.{symbol_at}
-use Rattle.litmus_reader.specs.declared.fault.Why.TheVariants.{Unclosed, BadToken}
-use Rattle.litmus_reader.specs.declared.fault.Fault.{Fault}
-use Rattle.litmus_reader.specs.inner.Faults.{◌>>=◌, or_unfit, there}
+use Rattle.litmus_cells.specs.declared.fault.Why.TheVariants.{Unclosed, BadToken}
+use Rattle.litmus_cells.specs.declared.fault.Fault.{Fault}
+use Rattle.litmus_cells.specs.inner.Faults.{◌>>=◌, there}
+use Rattle.litmus_reader.specs.inner.Faults.{or_unfit}
 use Rattle.litmus_reader.specs.inner.Header.{from_gap}
 use Rattle.litmus_reader.specs.inner.Keywords.{word_after}
-use Rattle.litmus_reader.specs.Places.{fault, remaining_of, from_place, part_of}
+use Rattle.litmus_cells.specs.Places.{fault}
+use Rattle.litmus_reader.specs.Places.{remaining_of, from_place, part_of}
 use Rattle.litmus_reader.specs.declared.fault.Part.{Part}
 
 -- after the word, where a `[` has to be

@@ -7,35 +7,21 @@ use Rattle.tso_model.specs.declared.condition.Prop.{Prop}
 use Rattle.litmus_tokens.specs.declared.token.Token.{Token}
 use Rattle.litmus_tokens.specs.Pieces.{Piece}
 use Rattle.litmus_tokens.specs.inner.Pieces.{pieces}
-use Rattle.litmus_reader.specs.declared.cell.CoreInstr.{CoreInstr}
-use Rattle.litmus_reader.specs.declared.fault.Fault.{Fault}
-use Rattle.litmus_reader.specs.declared.fault.ReadError.{ReadError}
+use Rattle.litmus_cells.specs.declared.fault.Fault.{Fault}
+use Rattle.litmus_cells.specs.declared.fault.ReadError.{ReadError}
 use Rattle.litmus_reader.specs.declared.fault.TextFault.{TextFault}
 use Rattle.litmus_reader.specs.inner.Conditions.{claimed, Proposition, Conditioned, conditioned}
-use Rattle.litmus_reader.specs.inner.Faults.{Gives}
+use Rattle.litmus_cells.specs.inner.Faults.{Gives}
+use Rattle.litmus_cells.specs.inner.Returned.{GivesNamed}
 use Rattle.litmus_reader.specs.inner.Initial.{Initial, initial, given_of, judged}
-use Rattle.litmus_reader.specs.Locations.{texts}
+use Rattle.litmus_cells.specs.Locations.{texts}
 use Rattle.litmus_reader.specs.inner.Rows.{Table, table, rows}
 use Rattle.litmus_reader.specs.inner.Sections.{tokens_in}
 use Rattle.litmus_reader.specs.Written.{Setting}
 use Rattle.litmus_reader.specs.Returned.{asked_of}
-use Rattle.litmus_reader.specs.declared.fault.Why.TheVariants as why
+use Rattle.litmus_cells.specs.declared.fault.Why.TheVariants as why
 use Rattle.litmus_reader.specs.declared.initial.Initial as state
 use Rattle.litmus_reader.specs.declared.row.Table as code
-
--- what is found, and the names of locations with it
-abbrev pub GivesNamed : {X Y : Type 0} → (X → Y) → Result X ReadError → List (Bor (List ℕ)) → Result (Y × List (List ℕ)) Fault → Type 0
-GivesNamed view result names read = Gives (λ x. (view x, texts names)) result read
-
--- a reading of cells, after these instructions and names of locations
-abbrev pub ReadsCells : Type 0
-ReadsCells = List CoreInstr → List (List ℕ) → List Piece → Result (List CoreInstr × List (List ℕ)) Fault
-
--- The reading of these tokens, after some instructions and names of locations, gives those at the end.
-abbrev pub GivesCells : {X : Type 0} → ReadsCells → List CoreInstr → List (Bor (List ℕ)) → List Token → Result X ReadError
-    → List CoreInstr → List (Bor (List ℕ)) → Type 0
-GivesCells reading old names tokens result new names_new =
-    Gives (λ _. (new, texts names_new)) result (reading old (texts names) (pieces tokens))
 
 -- The reading of these tokens, after so many atoms and these names of locations, gives a claim, how many atoms there are at
 -- the end, the names, and what stands after the claim.
@@ -75,13 +61,16 @@ abbrev pub GivesInitial : Result (state.Initial × Bor (List ℕ)) ReadError →
     → Result (Initial × List Piece) Fault → Type 0
 GivesInitial result names read = Gives (λ x. (so_far names x.0, tokens_in x.1.now)) result read
 
+-- the header row and all rows, the names of locations, and what stands after the rows
+abbrev pub table_read : code.Table → List (Bor (List ℕ)) → List ℕ → Table
+table_read t names rest = table t.cores t.registers.items (rows t.instrs.items (texts names) (tokens_in rest))
+
 -- The reading of a text's tokens, after these names of locations, gives the header row and all rows, the names, and what stands
 -- after the rows.
 abbrev pub GivesTable : (List (List ℕ) → List Piece → Result Table Fault) → List (Bor (List ℕ)) → List ℕ
     → Result (code.Table × Bor (List ℕ)) ReadError → List (Bor (List ℕ)) → Type 0
 GivesTable reading names text result names_new =
-    Gives (λ x. table x.0.cores x.0.registers.items (rows x.0.instrs.items (texts names_new) (tokens_in x.1.now))) result
-    (reading (texts names) (tokens_in text))
+    Gives (λ x. table_read x.0 names_new x.1.now) result (reading (texts names) (tokens_in text))
 
 -- this refusal, unless memory ran out
 abbrev pub IsUnlessMemory : TextFault → TextFault → Type 0

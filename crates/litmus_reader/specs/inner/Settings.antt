@@ -1,39 +1,23 @@
 -- `c:REG=v`, `x=v` and `[x]=v`, as they stand in the initial state and in conditions.
-use Rattle.std.specs.Prelude.{ℕ, List, Option, Some, None, Result, Ok, Err, nat_lt, if◌then◌else◌}
-use Rattle.tso_model.specs.Names.{is_location_name}
-use Rattle.tso_model.specs.Registers.{register_named}
-use Rattle.tso_model.specs.declared.register.Reg.{Reg}
+use Rattle.std.specs.Prelude.{ℕ, List, Result, Ok, Err, nat_lt, if◌then◌else◌}
 use Rattle.litmus_tokens.specs.declared.token.Symbol.TheVariants.{Equals, Colon, OpenSquare, CloseSquare}
 use Rattle.decimals.specs.Decimals.{decimal_value}
-use Rattle.litmus_tokens.specs.Terms.{word_of}
 use Rattle.litmus_tokens.specs.Pieces.{Piece}
-use Rattle.litmus_tokens.specs.inner.Front.{symbol_at, name_at, number_at}
-use Rattle.litmus_reader.specs.declared.fault.Why.TheVariants.{BadNumber, NoSuchCore}
-use Rattle.litmus_reader.specs.declared.fault.Fault.{Fault}
+use Rattle.litmus_tokens.specs.inner.Front.{symbol_at, number_at}
+use Rattle.litmus_cells.specs.declared.fault.Why.TheVariants.{NoSuchCore}
+use Rattle.litmus_cells.specs.declared.fault.Fault.{Fault}
+use Rattle.litmus_cells.specs.inner.Names.{location_at, register_at}
 use Rattle.litmus_reader.specs.declared.fault.Part.{Part}
 use Rattle.litmus_reader.specs.declared.setting.SpelledSetting.{SpelledSetting}
-use Rattle.litmus_reader.specs.inner.Faults.{◌>>=◌, or_unfit, there}
-use Rattle.litmus_reader.specs.Places.{fault}
+use Rattle.litmus_cells.specs.inner.Faults.{◌>>=◌, there}
+use Rattle.litmus_reader.specs.inner.Faults.{or_unfit}
+use Rattle.litmus_cells.specs.Places.{fault}
 use Rattle.litmus_reader.specs.Written.{Setting, of_register, of_location}
 use Rattle.litmus_reader.specs.declared.setting.SpelledSetting.TheVariants as code
 
 abbrev pub setting_of : SpelledSetting → Setting
 setting_of (code.Register core reg value) = of_register core.now reg (decimal_value value.now)
 setting_of (code.Location name value) = of_location name.now (decimal_value value.now)
-
-abbrev pub if_location : List ℕ × List Piece → Option (List ℕ × List Piece)
-if_location found = if is_location_name found.0 then Some found else None
-
--- a name that a location may have, at the front
-unfoldable pub location_at : List Piece → Option (List ℕ × List Piece)
-location_at ps = there (name_at ps) if_location None
-
-abbrev pub if_register : List ℕ × List Piece → Option (Reg × List Piece)
-if_register found = there (register_named found.0) (λ reg. Some (reg, found.1)) None
-
--- a register's name at the front
-unfoldable pub register_at : List Piece → Option (Reg × List Piece)
-register_at ps = there (name_at ps) if_register None
 
 -- `=v`
 unfoldable pub value_at : Part → List Piece → Result (ℕ × List Piece) Fault
@@ -70,14 +54,6 @@ unfoldable pub setting_at : Part → List Piece → Result (Setting × List Piec
 setting_at part ps =
     there (number_at ps) (λ core. register_setting part core.0 core.1)
     (there (symbol_at OpenSquare ps) (square_setting part) (plain_setting part ps))
-
-abbrev pub or_bad_number : ℕ → Option ℕ → Result ℕ Fault
-or_bad_number remaining (Some n) = Ok n
-or_bad_number remaining None = Err (fault BadNumber remaining)
-
--- a number for which a word has room
-abbrev pub word_at : ℕ → ℕ → Result ℕ Fault
-word_at remaining n = or_bad_number remaining (word_of n)
 
 -- a core of the test; any other, of whatever size, is refused
 abbrev pub core_of : ℕ → ℕ → List ℕ → Result ℕ Fault

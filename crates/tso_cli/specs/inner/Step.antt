@@ -6,13 +6,13 @@ use Rattle.scheduler.specs.Grammar.{SpellsChoices}
 use Rattle.protocol_tables.specs.declared.kind.ProtocolKind.{ProtocolKind}
 use Rattle.machine_core.specs.Configuration.{Configuration}
 use Rattle.trace_json.specs.TracedRun.{json_last_step}
-use Rattle.tso_cli.specs.Answers.{status_under}
-use Rattle.tso_cli.specs.Runs.{run_under, AnswersFit}
-use Rattle.tso_cli.specs.Trace.{FitsForm, IsTraceAnswer}
-use Rattle.tso_cli.specs.declared.answer.Status.{Status}
-use Rattle.tso_cli.specs.declared.answer.Status.TheVariants.{Good, Refused, Unended}
-use Rattle.tso_cli.specs.declared.simulation.Ending.{Ending}
-use Rattle.tso_cli.specs.declared.simulation.Ending.TheVariants.{Ended, Unfinished}
+use Rattle.commands.specs.Answers.{status_under}
+use Rattle.simulator.specs.Runs.{run_under, AnswersFit}
+use Rattle.commands.specs.Trace.{FitsForm, IsTraceAnswer}
+use Rattle.commands.specs.declared.answer.Status.{Status}
+use Rattle.commands.specs.declared.answer.Status.TheVariants.{Good, Refused, Unended}
+use Rattle.simulator.specs.declared.simulation.Ending.{Ending}
+use Rattle.simulator.specs.declared.simulation.Ending.TheVariants.{Ended, Unfinished}
 
 -- the answer to a test and the text of choices
 pub data IsLastStep (t : Litmus) (kind : ProtocolKind) (c : Configuration) (text : List ℕ) : List ℕ → Status → Type 0 where

@@ -1,5 +1,5 @@
 use Rattle.std.proofs.Common.{◌≡◌, map, take, string_bytes}
-use Rattle.litmus_reader.specs.Locations.{texts}
+use Rattle.litmus_cells.specs.Locations.{texts}
 use Rattle.litmus_reader.proofs.assembling.strings_of.Given as goal
 
 abbrev pub invariant-loop-name : goal.invariant-loop-name

@@ -1,7 +1,7 @@
 use Rattle.std.proofs.Common.{ap, sym, ◌∙◌, ℕ, refl}
 use Rattle.std.proofs.lemmas.Result.{err_from_is_err_and}
 use Rattle.litmus_tokens.specs.inner.Pieces.{pieces}
-use Rattle.litmus_reader.specs.Locations.{texts}
+use Rattle.litmus_cells.specs.Locations.{texts}
 use Rattle.litmus_reader.specs.Places.{in_initial}
 use Rattle.litmus_reader.specs.inner.Returned.{so_far}
 use Rattle.litmus_reader.specs.inner.Sections.{tokens_in, stop_of}

@@ -1,5 +1,5 @@
 use Rattle.std.proofs.Common.{◌≡◌, length, map}
-use Rattle.litmus_reader.specs.Locations.{texts}
+use Rattle.litmus_cells.specs.Locations.{texts}
 use Rattle.litmus_reader.specs.Places.{in_initial}
 use Rattle.litmus_reader.specs.inner.Initial.{initial, given_of, items_at, KnowsGiven}
 use Rattle.litmus_reader.specs.inner.Sections.{tokens_in, stop_of}

@@ -1,5 +1,5 @@
 use Rattle.std.proofs.Common.{◌≡◌, length}
-use Rattle.litmus_reader.specs.Locations.{texts}
+use Rattle.litmus_cells.specs.Locations.{texts}
 use Rattle.litmus_reader.specs.inner.Rows.{rows_at}
 use Rattle.litmus_reader.specs.inner.Sections.{tokens_in, stop_of}
 use Rattle.litmus_reader.proofs.RowSteps.{RowsAfter}

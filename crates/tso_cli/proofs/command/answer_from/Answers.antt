@@ -1,4 +1,4 @@
-use Rattle.tso_cli.proofs.KnownLemmas.{input-is}
+use Rattle.tso_io.proofs.KnownLemmas.{input-is}
 use Rattle.tso_cli.proofs.CommandLemmas.{answer-read, headline-read}
 use Rattle.tso_cli.proofs.command.answer_from.Goals as goal
 

@@ -1,7 +1,7 @@
 use Rattle.tso_cli.proofs.CheckLemmas.{printed-is-valid}
-use Rattle.tso_cli.specs.Dividing.{parts_of}
+use Rattle.commands.specs.Dividing.{parts_of}
 use Rattle.tso_cli.proofs.HeadlineLemmas.{Runs}
-use Rattle.tso_cli.proofs.SimulationLemmas.{RunLaws}
+use Rattle.simulator.proofs.SimulationLemmas.{RunLaws}
 use Rattle.tso_cli.proofs.Rechecked.{rechecked}
 use Rattle.tso_cli.proofs.laws.printed_runs_are_valid.Goals as goal
 

@@ -1,13 +1,13 @@
 use Rattle.std.proofs.Common.{ℕ, Ok, ◌∙◌}
 use Rattle.scheduler.specs.declared.fault.ChoiceFault.TheVariants.{TooMany}
 use Rattle.trace_json.specs.TracedRun.{json_last_step}
-use Rattle.tso_cli.specs.declared.answer.Status.TheVariants.{Refused}
-use Rattle.tso_cli.specs.Answers.{status_under}
-use Rattle.tso_cli.specs.Lines.{choices_refusal}
-use Rattle.tso_cli.specs.Runs.{run_under}
-use Rattle.tso_cli.specs.Trace.{too_long}
+use Rattle.commands.specs.declared.answer.Status.TheVariants.{Refused}
+use Rattle.commands.specs.Answers.{status_under}
+use Rattle.commands.specs.Lines.{choices_refusal}
+use Rattle.simulator.specs.Runs.{run_under}
+use Rattle.commands.specs.Trace.{too_long}
 use Rattle.tso_cli.specs.inner.Step.{IsLastStep, refused, told}
-use Rattle.tso_cli.proofs.AnswerLemmas.{answer-is}
+use Rattle.commands.proofs.AnswerLemmas.{answer-is}
 use Rattle.tso_cli.proofs.StepLemmas.{status-is}
 use Rattle.tso_cli.proofs.stepping.last_answer.Goals as goal
 
@@ -16,7 +16,7 @@ returns-in-TooLong c =
     let is = rw c.in-TooLong.is at c.in_ok-word.ensures in
     let word = c.in-TooLong.word in
     let line = choices_refusal (TooMany word) in
-    answer-is (IsLastStep c.args.test.now c.args.protocol c.args.config c.args.text.now) c.too_long.result line Refused c.too_long.ensures
+    answer-is (IsLastStep c.args.test.now c.args.protocol c.args.config c.args.text.now) c.refused_trace.result line Refused c.refused_trace.ensures
     (refused line (too_long c.args.choices.now word c.requires.spelled is.long is.says))
 
 pub returns-in_ok-step-in-Fits : goal.returns-in_ok-step-in-Fits

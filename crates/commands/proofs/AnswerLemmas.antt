@@ -1,0 +1,20 @@
+-- From what an answer is to what it means.
+use Rattle.std.proofs.Common.{ℕ, List, Result, Ok, Err, IfOk, OnOk, string_bytes, subst, sym}
+use Rattle.commands.specs.inner.Answers.{Says}
+use Rattle.commands.specs.declared.answer.Answer.{Answer}
+use Rattle.commands.specs.declared.answer.Status.{Status}
+
+pub answer-is : {E : Type 0} (P : List ℕ → Status → Type 0) (r : Result Answer E) (out : List ℕ) (status : Status)
+    → IfOk r (λ a. Says a out status) → P out status → IfOk r (λ a. P (string_bytes a.text) a.status)
+answer-is P (Ok a) out status says p = subst (λ s. P (string_bytes a.text) s) (sym says.status) (subst (λ o. P o status) (sym says.text) p)
+answer-is P (Err e) out status says p = tt
+
+pub answer-means : {E : Type 0} (P Q : List ℕ → Status → Type 0) (r : Result Answer E) → ((out : List ℕ) (status : Status) → P out status → Q out status)
+    → IfOk r (λ a. P (string_bytes a.text) a.status) → IfOk r (λ a. Q (string_bytes a.text) a.status)
+answer-means P Q (Ok a) f p = f _ _ p
+answer-means P Q (Err e) f p = tt
+
+pub refusal-is : {E : Type 0} (P : List ℕ → Status → Type 0) (C : Type 0) (r : Result Answer E) (out : List ℕ) (status : Status)
+    → IfOk r (λ a. Says a out status) → OnOk r C → (C → P out status) → IfOk r (λ a. P (string_bytes a.text) a.status)
+refusal-is {E} P C (Ok a) out status says c p = answer-is {E = E} P (Ok a) out status says (p c)
+refusal-is {E} P C (Err e) out status says c p = tt

@@ -1,0 +1,9 @@
+pub mod AnswerLemmas
+pub mod DividingLemmas
+pub mod Lines
+pub mod TraceLemmas
+pub mod ToldLines
+pub mod TraceLengths
+pub mod NamedBreaches
+pub mod FoundOutcomes
+pub mod SweptText

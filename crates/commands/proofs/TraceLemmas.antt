@@ -1,0 +1,25 @@
+-- The text of a trace, put together of what was written.
+use Rattle.std.proofs.Common.{◌≡◌, ℕ, true, false, List, ◌++◌, refl, sym, ap, ◌∙◌, append_assoc}
+use Rattle.tso_model.specs.Litmus.{Litmus}
+use Rattle.tso_model.specs.Runs.{Run}
+use Rattle.machine_core.specs.declared.counts.Counts.{Counts}
+use Rattle.tso_report.specs.Shown.{Shown}
+use Rattle.tso_report.specs.Report.{body}
+use Rattle.commands.specs.Lines.{unfinished_line}
+use Rattle.simulator.specs.Simulation.{shown_of}
+use Rattle.commands.specs.Trace.{ending_text}
+
+-- three pieces, one after the other
+pub three-pieces : (head trace ending first second all : List ℕ) → first ≡ head → second ≡ first ++ trace → all ≡ second ++ ending
+    → all ≡ head ++ (trace ++ ending)
+three-pieces head trace ending first second all is_first is_second is =
+    is ∙ ap (λ (x : List ℕ). x ++ ending) (is_second ∙ ap (λ (x : List ℕ). x ++ trace) is_first) ∙ append_assoc head trace ending
+
+-- what is after the trace of a run that ended, and of one that didn't
+pub ended-text : (t : Litmus) (counts : List Counts) (r : Run) (s : Shown) → r.ended ≡ true → s ≡ shown_of t counts r → body t s ≡ ending_text t counts r
+ended-text t counts r s ended is = ap (λ (x : Shown). body t x) is ∙ sym (rw ended refl)
+
+pub unended-text : (t : Litmus) (counts : List Counts) (r : Run) (used stalled : ℕ) → r.ended ≡ false → used ≡ r.used → stalled ≡ r.stalled
+    → unfinished_line used stalled ≡ ending_text t counts r
+unended-text t counts r used stalled unended is also =
+    ap (λ (n : ℕ). unfinished_line n stalled) is ∙ ap (λ (n : ℕ). unfinished_line r.used n) also ∙ sym (rw unended refl)

@@ -1,0 +1,26 @@
+use Rattle.std.proofs.Common.{◌≢◌}
+use Rattle.axiom_checker.specs.declared.breach.Breach.TheVariants as breaches
+use Rattle.commands.specs.Answers.{IsJudgement, valid, invalid}
+use Rattle.commands.specs.CheckLines.{valid_line, invalid_line}
+use Rattle.commands.specs.declared.answer.Status.TheVariants.{Good, Invalid}
+use Rattle.commands.proofs.AnswerLemmas.{answer-is, refusal-is}
+use Rattle.commands.proofs.NamedBreaches.{named}
+use Rattle.commands.proofs.checking.judgement.Goals as goal
+
+pub invalid-requires : goal.invalid-requires
+invalid-requires c =
+    let t = c.args.test.now in
+    let order = c.args.execution.now.order.items in
+    named t order c.in-Err.breach (λ e. c.made_entries_fit_the_test.ensures t order e c.know_limits.ensures)
+    (c.order_can_be_printed.ensures t order c.requires) c.in-Err.ensures.first
+
+pub returns-in-Ok : goal.returns-in-Ok
+returns-in-Ok c =
+    answer-is (IsJudgement c.args.test.now c.args.execution.now.order.items) c.valid.result valid_line Good
+    c.valid.ensures (valid c.in-Ok.ensures.valid)
+
+pub returns-in-Err : goal.returns-in-Err
+returns-in-Err c =
+    refusal-is (IsJudgement c.args.test.now c.args.execution.now.order.items) (c.in-Err.breach ≢ breaches.NoMemory) c.invalid.result
+    (invalid_line c.args.test.now c.in-Err.breach) Invalid c.invalid.ensures.says c.invalid.ensures.real
+    (λ real. invalid c.in-Err.breach (c.in-Err.ensures.first real))

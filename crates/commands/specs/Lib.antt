@@ -1,0 +1,10 @@
+pub mod Lines
+pub mod RunTexts
+pub mod CheckLines
+pub mod Dividing
+pub mod Trace
+pub mod Sweep
+pub mod Outcomes
+pub mod Witness
+pub mod Answers
+pub mod inner

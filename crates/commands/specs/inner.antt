@@ -1,0 +1,6 @@
+-- Words of contracts inside the project.
+pub mod Answers
+pub mod CheckLines
+pub mod Dividing
+pub mod Searched
+pub mod Trace

@@ -1,0 +1,79 @@
+//! The answer of `outcomes`: every final state that the flat machine can reach, or that it can reach more states than may
+//! be kept. A list with a gap must never look like a whole one.
+
+ghost use Rattle.std.specs.Prelude.{IfOk, string_bytes};
+ghost use Rattle.explorer.specs.FinalStates.{AreReached, HasMoreStates};
+ghost use Rattle.commands.specs.Outcomes.{IsOutcomesAnswer};
+ghost use Rattle.commands.specs.inner.Searched.{ShowEveryEnd};
+
+use crate::answer::{Answer, Status};
+use command_line::SearchPlan;
+use explorer::{ExploreFault, FinalState, explore};
+use hints::Cause;
+use outcome_report::{hidden_registers, outcomes_report, unfinished_report};
+use std::alloc::Global;
+use tso_model::{NoMemory, Test};
+
+/// The answer of `outcomes` to a test: every final state that the machine can reach at the depth of
+/// the search, with choices that lead there; or that it can reach more states than may be kept. The
+/// search doesn't tell states apart by registers that are looked at nowhere.
+///
+/// Errors: out of memory only.
+pub fn outcomes_answer(
+    alloc: Global,
+    test: &Test,
+    search: SearchPlan,
+    json: bool,
+) -> Result<Answer, NoMemory>
+    ensures { IfOk result (λ a. IsOutcomesAnswer test.now search json (string_bytes a.text) a.status) }
+{
+    let hidden = hidden_registers(alloc, test)?;
+    match explore(
+        alloc,
+        test,
+        search.depth(),
+        search.states() as usize,
+        &hidden,
+    ) {
+        Ok(found) => found_answer(alloc, test, search, json, &found.final_states),
+        Err(ExploreFault::TooMany) => unfinished_answer(alloc, test, search, json),
+        Err(ExploreFault::NoMemory) => Err(NoMemory),
+    }
+}
+
+fn found_answer(
+    alloc: Global,
+    test: &Test,
+    search: SearchPlan,
+    json: bool,
+    finals: &[FinalState],
+) -> Result<Answer, NoMemory>
+    requires reached { AreReached test.now search.depth finals.now }
+    requires complete { ShowEveryEnd test.now search.depth finals.now }
+    ensures { IfOk result (λ a. IsOutcomesAnswer test.now search json (string_bytes a.text) a.status) }
+{
+    let text = outcomes_report(alloc, test, search.depth(), finals, json)?;
+    Ok(Answer {
+        text,
+        status: Status::Good,
+        cause: Cause::Nothing,
+    })
+}
+
+fn unfinished_answer(
+    alloc: Global,
+    test: &Test,
+    search: SearchPlan,
+    json: bool,
+) -> Result<Answer, NoMemory>
+    requires { HasMoreStates test.now search.depth search.states }
+    ensures { IfOk result (λ a. IsOutcomesAnswer test.now search json (string_bytes a.text) a.status) }
+{
+    let most = search.states();
+    let text = unfinished_report(alloc, test, most as usize, json)?;
+    Ok(Answer {
+        text,
+        status: Status::Unended,
+        cause: Cause::TooManyStates { most },
+    })
+}

@@ -1,0 +1,186 @@
+//! The answer of `trace`: what `run` answers, and with it what each choice did. Both are of one run, or the trace would
+//! explain another one.
+
+ghost use Rattle.std.specs.Prelude.{◌≡◌, true, false, IfOk, OnOk, length, string_bytes};
+ghost use Rattle.tso_model.specs.Runs.{CoresExist};
+ghost use Rattle.scheduler.specs.Grammar.{SpellsChoices};
+ghost use Rattle.commands.specs.Answers.{status_under};
+ghost use Rattle.simulator.specs.Runs.{run_under, counts_under, AnswersFit};
+ghost use Rattle.simulator.specs.Simulation.{IsEndingOf, FitsEnding, HasCounts};
+ghost use Rattle.commands.specs.Trace.{traced_in, IsTraceAnswer};
+ghost use Rattle.commands.specs.inner.Answers.{Says};
+
+use crate::answer::{Answer, Status};
+use crate::measuring::{Measured, measure, refused_trace};
+use crate::running::{cause_of, refused_choices};
+use crate::told_run::simulate_telling;
+use hints::{Cause, Stalls};
+use machine_core::{Choice, Config};
+use protocol_tables::ProtocolKind;
+use scheduler::{read_choices, spelled_cores_exist};
+use simulator::{Ending, SimFault, simulate_noting};
+use std::alloc::Global;
+use trace_json::{ended_json, unended_json};
+use tso_model::{NoMemory, Test};
+use tso_report::{head_text, write_body};
+
+/// The answer of `trace` to a test and the text of choices, plain or as JSON: what `run` answers, with what each choice did.
+/// As JSON it is refused where more choices are used than a trace may have steps.
+///
+/// Errors: out of memory only.
+pub fn trace_answer(
+    alloc: Global,
+    test: &Test,
+    protocol: ProtocolKind,
+    config: Config,
+    json: bool,
+    text: &[u8],
+) -> Result<Answer, NoMemory>
+    ensures { IfOk result (λ a. IsTraceAnswer test.now protocol config json text.now (string_bytes a.text) a.status) }
+{
+    spelled_cores_exist();
+    match read_choices(alloc, test.cores(), text) {
+        Ok(choices) => answer_under(alloc, test, protocol, config, json, text, &choices),
+        Err(fault) => refused_choices(alloc, test, text, fault),
+    }
+}
+
+/// The answer to the choices that the text spells, plain or as JSON.
+fn answer_under(
+    alloc: Global,
+    test: &Test,
+    protocol: ProtocolKind,
+    config: Config,
+    json: bool,
+    text: &[u8],
+    choices: &[Choice],
+) -> Result<Answer, NoMemory>
+    requires cores { CoresExist (length test.now.programs) choices.now }
+    requires spelled { SpellsChoices (length test.now.programs) text.now choices.now }
+    ensures { IfOk result (λ a. IsTraceAnswer test.now protocol config json text.now (string_bytes a.text) a.status) }
+{
+    if json {
+        object_answer(alloc, test, protocol, config, text, choices)
+    } else {
+        lines_answer(alloc, test, protocol, config, text, choices)
+    }
+}
+
+/// The answer as lines.
+fn lines_answer(
+    alloc: Global,
+    test: &Test,
+    protocol: ProtocolKind,
+    config: Config,
+    text: &[u8],
+    choices: &[Choice],
+) -> Result<Answer, NoMemory>
+    requires cores { CoresExist (length test.now.programs) choices.now }
+    requires spelled { SpellsChoices (length test.now.programs) text.now choices.now }
+    ensures { IfOk result (λ a. IsTraceAnswer test.now protocol config false text.now (string_bytes a.text) a.status) }
+{
+    let mut stalls = Stalls::none();
+    let answer = traced_under(alloc, test, protocol, config, choices, &mut stalls)?;
+    Ok(Answer {
+        text: answer.text,
+        status: answer.status,
+        cause: cause_of(answer.status, test, text, config, stalls),
+    })
+}
+
+/// The run is made once: its trace is written as its choices are made, and what stands after it is what the machine is
+/// left with.
+fn traced_under(
+    alloc: Global,
+    test: &Test,
+    protocol: ProtocolKind,
+    config: Config,
+    choices: &[Choice],
+    stalls: &mut Stalls,
+) -> Result<Answer, NoMemory>
+    requires { CoresExist (length test.now.programs) choices.now }
+    ensures says { IfOk result (λ a. Says a (traced_in false test.now protocol config choices.now) (status_under test.now protocol config choices.now)) }
+    ensures answers { OnOk result (AnswersFit test.now protocol config choices.now) }
+{
+    let mut text = head_text(alloc, test, protocol, config)?;
+    let ending = simulate_telling(&mut text, alloc, test, protocol, config, choices, stalls)?;
+    match ending {
+        Ending::Ended(run) => {
+            write_body(&mut text, test, &run)?;
+            Ok(Answer {
+                text,
+                status: Status::Good,
+                cause: Cause::Nothing,
+            })
+        }
+        Ending::Unfinished { used, stalled } => {
+            write!(text, "Unfinished used={used} stalled={stalled}\n")?;
+            Ok(Answer {
+                text,
+                status: Status::Unended,
+                cause: Cause::Nothing,
+            })
+        }
+    }
+}
+
+/// The answer as JSON.
+fn object_answer(
+    alloc: Global,
+    test: &Test,
+    protocol: ProtocolKind,
+    config: Config,
+    text: &[u8],
+    choices: &[Choice],
+) -> Result<Answer, NoMemory>
+    requires cores { CoresExist (length test.now.programs) choices.now }
+    requires spelled { SpellsChoices (length test.now.programs) text.now choices.now }
+    ensures { IfOk result (λ a. IsTraceAnswer test.now protocol config true text.now (string_bytes a.text) a.status) }
+{
+    match measure(alloc, test, protocol, config, text, choices)? {
+        Measured::TooLong(word) => refused_trace(alloc, text, word),
+        Measured::Fits(driven) => {
+            let answer = object_of(alloc, test, protocol, config, choices, &driven.ending)?;
+            Ok(Answer {
+                text: answer.text,
+                status: answer.status,
+                cause: cause_of(answer.status, test, text, config, driven.stalls),
+            })
+        }
+    }
+}
+
+/// The object of a run of these choices that left the test so.
+fn object_of(
+    alloc: Global,
+    test: &Test,
+    protocol: ProtocolKind,
+    config: Config,
+    choices: &[Choice],
+    ending: &Ending,
+) -> Result<Answer, NoMemory>
+    requires cores { CoresExist (length test.now.programs) choices.now }
+    requires ending { IsEndingOf test.now (run_under test.now protocol config choices.now) ending.now }
+    requires fits { FitsEnding test.now ending.now }
+    requires counts { HasCounts (counts_under test.now protocol config choices.now) ending.now }
+    ensures { IfOk result (λ a. Says a (traced_in true test.now protocol config choices.now) (status_under test.now protocol config choices.now)) }
+{
+    match ending {
+        Ending::Ended(run) => {
+            let text = ended_json(alloc, test, protocol, config, choices, run)?;
+            Ok(Answer {
+                text,
+                status: Status::Good,
+                cause: Cause::Nothing,
+            })
+        }
+        Ending::Unfinished { used, stalled } => {
+            let text = unended_json(alloc, test, protocol, config, choices, *used, *stalled)?;
+            Ok(Answer {
+                text,
+                status: Status::Unended,
+                cause: Cause::Nothing,
+            })
+        }
+    }
+}

@@ -1,0 +1,12 @@
+-- Instructions as they are written.
+use Rattle.std.specs.Prelude.{ℕ, List}
+use Rattle.tso_model.specs.declared.register.Reg.{Reg}
+
+-- an instruction with the name of its location; a number of any size
+pub data Shape : Type 0 where
+  store_imm : (name : List ℕ) → (value : ℕ) → Shape
+  store_reg xchg xadd : (name : List ℕ) → (reg : Reg) → Shape
+  load : (reg : Reg) → (name : List ℕ) → Shape
+  set_imm : (reg : Reg) → (value : ℕ) → Shape
+  set_reg : (reg other : Reg) → Shape
+  fence : Shape

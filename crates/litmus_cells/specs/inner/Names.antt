@@ -1,0 +1,22 @@
+-- Names of locations and registers, at the front of some tokens.
+use Rattle.std.specs.Prelude.{ℕ, List, Option, Some, None, if◌then◌else◌}
+use Rattle.tso_model.specs.Names.{is_location_name}
+use Rattle.tso_model.specs.Registers.{register_named}
+use Rattle.tso_model.specs.declared.register.Reg.{Reg}
+use Rattle.litmus_tokens.specs.Pieces.{Piece}
+use Rattle.litmus_tokens.specs.inner.Front.{name_at}
+use Rattle.litmus_cells.specs.inner.Faults.{there}
+
+abbrev pub if_location : List ℕ × List Piece → Option (List ℕ × List Piece)
+if_location found = if is_location_name found.0 then Some found else None
+
+-- a name that a location may have, at the front
+unfoldable pub location_at : List Piece → Option (List ℕ × List Piece)
+location_at ps = there (name_at ps) if_location None
+
+abbrev pub if_register : List ℕ × List Piece → Option (Reg × List Piece)
+if_register found = there (register_named found.0) (λ reg. Some (reg, found.1)) None
+
+-- a register's name at the front
+unfoldable pub register_at : List Piece → Option (Reg × List Piece)
+register_at ps = there (name_at ps) if_register None

@@ -1,0 +1,55 @@
+//! What an instruction works on, as a cell spells it: a register, a number after `$`, or a location in brackets.
+
+ghost use Rattle.std.specs.Prelude.{◌≡◌};
+ghost use Rattle.std.specs.Option.{option_map};
+ghost use Rattle.litmus_tokens.specs.inner.Pieces.{pieces};
+ghost use Rattle.litmus_cells.specs.inner.Arguments as spec;
+ghost use Rattle.litmus_cells.specs.inner.Arguments.{argument_of};
+
+use crate::names::{location_at, register_at};
+use litmus_tokens::{Symbol, Token, after_symbol, number_at};
+use tso_model::Reg;
+
+/// What an instruction works on. A number is its digits.
+#[derive(Clone, Copy)]
+pub enum Argument<'a> {
+    Location(&'a [u8]),
+    Register(Reg),
+    Number(&'a [u8]),
+}
+
+/// The operand at the front, and the tokens after it.
+#[tactic(auto, unfolding(crate::specs::inner::Arguments::argument_at))]
+pub fn argument_at<'a, 'b>(tokens: &'b [Token<'a>]) -> Option<(Argument<'a>, &'b [Token<'a>])>
+    ensures { option_map (λ x. (argument_of x.0, pieces x.1.now)) result ≡ spec.argument_at (pieces tokens.now) }
+{
+    if let Some((digits, rest)) = number_at(tokens) {
+        return Some((Argument::Number(digits), rest));
+    }
+    if let Some(rest) = after_symbol(Symbol::Dollar, tokens) {
+        let (digits, rest) = number_at(rest)?;
+        return Some((Argument::Number(digits), rest));
+    }
+    if let Some(rest) = after_symbol(Symbol::OpenSquare, tokens) {
+        let (name, rest) = location_at(rest)?;
+        let rest = after_symbol(Symbol::CloseSquare, rest)?;
+        return Some((Argument::Location(name), rest));
+    }
+    let (reg, rest) = register_at(tokens)?;
+    Some((Argument::Register(reg), rest))
+}
+
+/// Two operands with a comma between them, and nothing more.
+#[tactic(auto, unfolding(crate::specs::inner::Arguments::two_arguments))]
+pub fn two_arguments<'a>(tokens: &[Token<'a>]) -> Option<(Argument<'a>, Argument<'a>)>
+    ensures { option_map (λ x. (argument_of x.0, argument_of x.1)) result ≡ spec.two_arguments (pieces tokens.now) }
+{
+    let (first, rest) = argument_at(tokens)?;
+    let rest = after_symbol(Symbol::Comma, rest)?;
+    let (second, rest) = argument_at(rest)?;
+    if rest.is_empty() {
+        Some((first, second))
+    } else {
+        None
+    }
+}

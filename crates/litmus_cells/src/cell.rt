@@ -1,0 +1,105 @@
+//! A cell of a row, and the instruction that its form says. A cell that spells no instruction must be refused: one that was
+//! passed over would leave a shorter program, and another test.
+
+ghost use Rattle.std.specs.Prelude.{◌≡◌};
+ghost use Rattle.litmus_cells.specs.inner.Returned.{GivesNamed, GivesCells};
+ghost use Rattle.litmus_cells.specs.Locations.{texts};
+ghost use Rattle.litmus_cells.specs.inner.Forms.{shape_of};
+ghost use Rattle.litmus_cells.specs.inner.Cells as spec;
+
+use crate::fault::{Fault, ReadError, Why};
+use crate::form::{Form, form_of};
+use crate::location::located;
+use crate::numbers::word_at;
+use indexmap::IndexSet;
+use litmus_tokens::Token;
+use tso_model::Instr;
+use tso_model::limits::MAX_INSTRUCTIONS;
+
+/// An instruction and the core in whose column it stands.
+#[derive(Clone, Copy)]
+pub struct CoreInstr {
+    pub core: usize,
+    pub instr: Instr,
+}
+
+/// The instruction of a form, with its location's number.
+///
+/// `BadNumber` for a value over a word, `TooLarge` for a location too many, both at `remaining`.
+#[tactic(auto, unfolding(crate::specs::inner::Cells::instr_of))]
+fn instr_of<'a>(
+    names: &mut IndexSet<&'a [u8]>,
+    remaining: usize,
+    form: Form<'a>,
+) -> Result<Instr, ReadError>
+    ensures { GivesNamed (λ i. i) result names.new.keys (spec.instr_of remaining (texts names.old.keys) (shape_of form.entry)) }
+{
+    match form {
+        Form::StoreImm(name, digits) => {
+            let value = word_at(remaining, digits)?;
+            let loc = located(names, remaining, name)?;
+            Ok(Instr::StoreImm(loc, value))
+        }
+        Form::StoreReg(name, reg) => {
+            let loc = located(names, remaining, name)?;
+            Ok(Instr::StoreReg(loc, reg))
+        }
+        Form::Load(reg, name) => {
+            let loc = located(names, remaining, name)?;
+            Ok(Instr::Load(reg, loc))
+        }
+        Form::SetImm(reg, digits) => {
+            let value = word_at(remaining, digits)?;
+            Ok(Instr::SetImm(reg, value))
+        }
+        Form::SetReg(reg, other) => Ok(Instr::SetReg(reg, other)),
+        Form::Fence => Ok(Instr::Fence),
+        Form::Xchg(name, reg) => {
+            let loc = located(names, remaining, name)?;
+            Ok(Instr::Xchg(loc, reg))
+        }
+        Form::Xadd(name, reg) => {
+            let loc = located(names, remaining, name)?;
+            Ok(Instr::Xadd(loc, reg))
+        }
+    }
+}
+
+fn count_of(core: usize, instrs: &[CoreInstr]) -> usize
+    ensures { result ≡ spec.count_of core instrs.now }
+{
+    instrs.iter().filter(|i| i.core == core).count()
+}
+
+/// Reads a core's cell: its instruction goes after the others.
+///
+/// `BadInstruction`, then `BadNumber`, then `TooLarge`, at the cell's first token.
+#[tactic(auto, unfolding(crate::specs::inner::Cells::cell_in))]
+pub fn read_cell<'a>(
+    core: usize,
+    instrs: &mut Vec<CoreInstr>,
+    names: &mut IndexSet<&'a [u8]>,
+    cell: &[Token<'a>],
+) -> Result<(), ReadError>
+    ensures { GivesCells (spec.cell_in core) instrs.old.items names.old.keys cell.now result instrs.new.items names.new.keys }
+{
+    let Some(first) = cell.first() else {
+        return Ok(());
+    };
+    let remaining = first.remaining;
+    let Some(form) = form_of(cell) else {
+        return Err(ReadError::Fault(Fault {
+            why: Why::BadInstruction,
+            remaining,
+        }));
+    };
+    let instr = instr_of(names, remaining, form)?;
+    if count_of(core, instrs) >= MAX_INSTRUCTIONS {
+        return Err(ReadError::Fault(Fault {
+            why: Why::TooLarge,
+            remaining,
+        }));
+    }
+    instrs.push(CoreInstr { core, instr })?;
+    Ok(())
+}

@@ -1,0 +1,19 @@
+//! Cells of litmus tests: the instruction that a cell spells, or why and where its text is refused.
+//!
+//! A cell is its tokens. Its form is read first, with names and digits as they stand; then its number is judged, its location
+//! is numbered by first appearance, and last there has to be room for it in its core's program.
+#![tactic(auto)]
+
+mod argument;
+mod cell;
+mod fault;
+mod form;
+mod location;
+mod names;
+mod numbers;
+
+pub use cell::{CoreInstr, read_cell};
+pub use fault::{Fault, ReadError, Why};
+pub use location::located;
+pub use names::{location_at, register_at};
+pub use numbers::word_at;

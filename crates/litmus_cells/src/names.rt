@@ -1,0 +1,35 @@
+//! Names of locations and registers, at the front of some tokens.
+
+ghost use Rattle.std.specs.Prelude.{◌≡◌, ◌<◌, length, IfSome};
+ghost use Rattle.std.specs.Option.{option_map};
+ghost use Rattle.litmus_tokens.specs.inner.Pieces.{pieces};
+ghost use Rattle.litmus_cells.specs.inner.Names as spec;
+
+use litmus_tokens::{Token, name_at};
+use tso_model::Reg;
+use tso_model::names::is_location_name;
+
+/// The name of a location at the front, and the tokens after it.
+#[tactic(auto, unfolding(crate::specs::inner::Names::location_at))]
+pub fn location_at<'a, 'b>(tokens: &'b [Token<'a>]) -> Option<(&'a [u8], &'b [Token<'a>])>
+    ensures value { option_map (λ x. (x.0.now, pieces x.1.now)) result ≡ spec.location_at (pieces tokens.now) }
+    ensures shorter { IfSome result (λ x. length x.1.now < length tokens.now) }
+{
+    let (name, rest) = name_at(tokens)?;
+    if is_location_name(name) {
+        Some((name, rest))
+    } else {
+        None
+    }
+}
+
+/// The register whose name is at the front, and the tokens after it.
+#[tactic(auto, unfolding(crate::specs::inner::Names::register_at))]
+pub fn register_at<'a, 'b>(tokens: &'b [Token<'a>]) -> Option<(Reg, &'b [Token<'a>])>
+    ensures value { option_map (λ x. (x.0, pieces x.1.now)) result ≡ spec.register_at (pieces tokens.now) }
+    ensures shorter { IfSome result (λ x. length x.1.now < length tokens.now) }
+{
+    let (name, rest) = name_at(tokens)?;
+    let reg = Reg::from_name(name)?;
+    Some((reg, rest))
+}

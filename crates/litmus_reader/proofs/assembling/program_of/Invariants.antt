@@ -1,0 +1,6 @@
+use Rattle.std.proofs.Common.{◌≡◌, ◌++◌, drop}
+use Rattle.litmus_reader.specs.inner.Reading.{program_of}
+use Rattle.litmus_reader.proofs.assembling.program_of.Given as goal
+
+abbrev pub invariant-loop-i : goal.invariant-loop-i
+invariant-loop-i l = l.program.items ++ program_of (drop l.i-index l.instrs) l.core ≡ program_of l.instrs l.core

@@ -1,0 +1,5 @@
+pub mod SimulationLemmas
+pub mod BusLemmas
+pub mod DriveLemmas
+pub mod Endings
+pub mod CountLemmas

@@ -1,0 +1,11 @@
+//! A test's run under a list of choices, on a machine of any protocol and configuration, up to the first moment at which the
+//! test has ended; and that what an ended run leaves is a TSO execution of the test, with its final state.
+#![tactic(auto)]
+
+pub mod laws;
+pub mod simulation;
+
+pub use laws::ended_runs_of_machines_are_executions;
+pub use simulation::{
+    Ending, Progress, SimFault, drive_machine, ending_of, simulate, simulate_noting, verdict_of,
+};

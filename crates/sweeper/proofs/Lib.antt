@@ -1,0 +1,4 @@
+pub mod RunsCounted
+pub mod SweptRuns
+pub mod FlatSweeps
+pub mod StateLemmas

@@ -1,0 +1,8 @@
+//! The runs of a sweep, each under the choices of a seed of its own, and what is counted of them: of a run no more is kept than
+//! the values of its final state.
+#![tactic(auto)]
+
+pub mod counting;
+mod flat_sweep;
+
+pub use counting::{Swept, sweep};

@@ -1,0 +1,160 @@
+//! The answer to an input: its size first, then the test, then the second part. What comes first in the text is judged
+//! first, so that an input with several faults gets one refusal, and always the same.
+
+ghost use Rattle.std.specs.Prelude.{Some, IfOk, string_bytes};
+ghost use Rattle.tso_cli.specs.Answers.{IsTableAnswer, IsAnswerTo, IsInputAnswer, IsAnswer};
+ghost use Rattle.tso_cli.specs.Headline.{Headline};
+ghost use Rattle.command_line.specs.Limits.{HasDepth};
+
+use crate::hinting::may_mislead;
+use crate::laws::answers_meet_the_headline;
+use command_line::Settings;
+use commands::{
+    Answer, Status, check_answer, outcomes_answer, parts_of, refused_input, refused_test,
+    run_answer, sweep_answer, trace_answer, witness_answer,
+};
+use hints::{Cause, SecondPart};
+use litmus_reader::{ReadError, test_or_fault};
+use protocol_tables::{ProtocolKind, table_text};
+use std::alloc::Global;
+use tso_io::MAX_INPUT;
+use tso_model::{NoMemory, Test};
+
+/// The answer of a command to an input: its size is judged first, then the test that is its first part,
+/// then the second part; `tables` looks at none of it. The depth of a witness is 1 to 32.
+///
+/// Errors: out of memory only.
+pub fn answer_to(alloc: Global, settings: &Settings, input: &[u8]) -> Result<Answer, NoMemory>
+    requires { HasDepth settings.now }
+    ensures exact { IfOk result (λ a. IsAnswer settings.now (Some input.now) (string_bytes a.text) a.status) }
+    ensures headline { IfOk result (λ a. Headline settings.now (Some input.now) (string_bytes a.text)) }
+{
+    answers_meet_the_headline();
+    settings.know_limits();
+    exact_answer(alloc, settings, input)
+}
+
+fn exact_answer(alloc: Global, settings: &Settings, input: &[u8]) -> Result<Answer, NoMemory>
+    requires { HasDepth settings.now }
+    ensures { IfOk result (λ a. IsAnswer settings.now (Some input.now) (string_bytes a.text) a.status) }
+{
+    match settings {
+        Settings::Run { .. }
+        | Settings::Trace { .. }
+        | Settings::Sweep { .. }
+        | Settings::Outcomes { .. }
+        | Settings::Check
+        | Settings::Witness { .. } => judged_answer(alloc, settings, input),
+        Settings::Tables(kind) => table_answer(alloc, *kind),
+    }
+}
+
+fn judged_answer(alloc: Global, settings: &Settings, input: &[u8]) -> Result<Answer, NoMemory>
+    requires { HasDepth settings.now }
+    ensures { IfOk result (λ a. IsInputAnswer settings.now input.now (string_bytes a.text) a.status) }
+{
+    if input.len() > MAX_INPUT {
+        return refused_input(alloc);
+    }
+    let parts = parts_of(input);
+    match test_or_fault(alloc, parts.test) {
+        Ok(test) => told_answer(alloc, settings, &test, parts.test, parts.rest),
+        Err(ReadError::Fault(fault)) => refused_test(alloc, asked(settings), parts.test, fault),
+        Err(ReadError::NoMemory) => Err(NoMemory),
+    }
+}
+
+/// The answer to a test, which `spelling` spells, and to the second part; where that may mislead, with what is to be told
+/// of it.
+fn told_answer(
+    alloc: Global,
+    settings: &Settings,
+    test: &Test,
+    spelling: &[u8],
+    text: &[u8],
+) -> Result<Answer, NoMemory>
+    requires { HasDepth settings.now }
+    ensures { IfOk result (λ a. IsAnswerTo settings.now test.now text.now (string_bytes a.text) a.status) }
+{
+    let answer = answer_of(alloc, settings, test, text)?;
+    let cause = warning_of(alloc, settings, test, spelling, &answer)?;
+    Ok(Answer {
+        text: answer.text,
+        status: answer.status,
+        cause,
+    })
+}
+
+/// What is to be told of an answer; where it may mislead, before all else of a location that nothing but the test's
+/// condition names.
+fn warning_of(
+    alloc: Global,
+    settings: &Settings,
+    test: &Test,
+    spelling: &[u8],
+    answer: &Answer,
+) -> Result<Cause, NoMemory> {
+    match answer.status {
+        Status::Good if may_mislead(settings) => {
+            match Cause::of_unused_location(alloc, test, spelling)? {
+                Some(cause) => Ok(cause),
+                None => Ok(answer.cause),
+            }
+        }
+        _ => Ok(answer.cause),
+    }
+}
+
+fn answer_of(
+    alloc: Global,
+    settings: &Settings,
+    test: &Test,
+    text: &[u8],
+) -> Result<Answer, NoMemory>
+    requires { HasDepth settings.now }
+    ensures { IfOk result (λ a. IsAnswerTo settings.now test.now text.now (string_bytes a.text) a.status) }
+{
+    match settings {
+        Settings::Run {
+            protocol,
+            config,
+            json,
+        } => run_answer(alloc, test, *protocol, *config, *json, text),
+        Settings::Trace {
+            protocol,
+            config,
+            json,
+        } => trace_answer(alloc, test, *protocol, *config, *json, text),
+        Settings::Sweep {
+            protocol,
+            config,
+            plan,
+        } => sweep_answer(alloc, test, *protocol, *config, *plan),
+        Settings::Outcomes { search, json } => outcomes_answer(alloc, test, *search, *json),
+        Settings::Check => check_answer(alloc, test, text),
+        Settings::Witness { depth } => witness_answer(alloc, test, *depth, text),
+        Settings::Tables(kind) => table_answer(alloc, *kind),
+    }
+}
+
+/// The answer of `tables`.
+fn table_answer(alloc: Global, kind: ProtocolKind) -> Result<Answer, NoMemory>
+    ensures { IfOk result (λ a. IsTableAnswer kind (string_bytes a.text) a.status) }
+{
+    let text = table_text(alloc, kind)?;
+    Ok(Answer {
+        text,
+        status: Status::Good,
+        cause: Cause::Nothing,
+    })
+}
+
+/// What a command reads after the dividing line.
+fn asked(settings: &Settings) -> SecondPart {
+    match settings {
+        Settings::Run { .. } | Settings::Trace { .. } => SecondPart::Choices,
+        Settings::Check | Settings::Witness { .. } => SecondPart::Order,
+        Settings::Sweep { .. } | Settings::Outcomes { .. } | Settings::Tables(_) =>
+            SecondPart::Nothing,
+    }
+}

@@ -1,0 +1,11 @@
+use Rattle.std.proofs.Common.{arith, length-append, length-take, ℕ, ◌++◌, take}
+use Rattle.tso_io.proofs.KnownLemmas.{consumes-more}
+use Rattle.tso_io.proofs.streams.read_input.Goals as goal
+
+pub returns-in_err-extend_from_slice-in-Ok-clause-most :
+    goal.returns-in_err-extend_from_slice-in-Ok-clause-most
+returns-in_err-extend_from_slice-in-Ok-clause-most g c = (
+  c.loop-chunk.input.items ++ take c.in-Ok.n c.read.new.buf,
+  consumes-more _ _ _ _ _ c.loop-chunk.invariant.bytes c.in-Ok.ensures.bytes.0,
+  let b = c.in-Ok.ensures.bound in let m = c.min-room.ensures in let a = c.read.auto.buf in omega (arith, length-append {A = ℕ}, length-take {A = ℕ}),
+)
