@@ -1,6 +1,8 @@
--- One core more begins.
-use Rattle.std.proofs.Common.{◌≡◌, ℕ, ◌+◌, ◌<◌, zero, suc, List, [], ◌∷◌, ◌++◌, length, take, map, slice_index_or, refl, ap, sym, ◌∙◌, arith}
-use Rattle.tso_model.specs.FlatMachine.{CoreState, started}
+-- The cores begin one after the other, and are copied so.
+use Rattle.std.proofs.Common.{◌≡◌, ℕ, ◌+◌, ◌<◌, ◌≤◌, zero, suc, List, [], ◌∷◌, ◌++◌, length, take, map, slice_index_or, refl, ap, sym, ◌∙◌, arith}
+use Rattle.std.proofs.lemmas.List.{take_all}
+use Rattle.tso_model.specs.FlatMachine.{CoreState, State, started, start}
+use Rattle.tso_model.specs.Litmus.{Litmus}
 use Rattle.tso_model.specs.declared.instruction.Instr.{Instr}
 use Rattle.flat_machine.specs.State.{core_of_processor}
 use Rattle.flat_machine.specs.declared.snapshot.Processor.{Processor}
@@ -28,3 +30,18 @@ one-core-more ps rs old new y n h e q b =
     let z : 0 + n ≡ n = omega arith in
     ap (map core_of_processor) q ∙ map-last old y ∙ ap (λ w. w ++ core_of_processor y ∷ []) e ∙ ap (λ w. started 0 (take n ps) rs ++ w ∷ []) b
     ∙ ap (λ m. started 0 (take n ps) rs ++ beginning (slice_index_or rs m []) ∷ []) (sym z) ∙ started-more ps rs 0 n h ∙ (let w : suc n ≡ n + 1 = omega arith in ap (λ m. started 0 (take m ps) rs) w)
+
+abbrev pub state-with : List ℕ → List CoreState → State
+state-with memory cores = record { memory = memory; cores = cores }
+
+-- all cores have begun
+pub all-begun : (t : Litmus) (memory : List ℕ) (cores : List CoreState) (n : ℕ) → length t.programs ≤ n → memory ≡ t.words → cores ≡ started 0 (take n t.programs) t.registers
+    → state-with memory cores ≡ start t
+all-begun t memory cores n past words begun =
+    ap (λ m. state-with m cores) words ∙ ap (state-with t.words) (begun ∙ ap (λ l. started 0 l t.registers) (take_all n t.programs past))
+
+-- all cores are copied
+pub all-copied : (memory same : List ℕ) (cores : List Processor) (copies : List CoreState) (n : ℕ) → length cores ≤ n → same ≡ memory
+    → copies ≡ map core_of_processor (take n cores) → state-with same copies ≡ state-with memory (map core_of_processor cores)
+all-copied memory same cores copies n past words copied =
+    ap (λ m. state-with m copies) words ∙ ap (state-with memory) (copied ∙ ap (map core_of_processor) (take_all n cores past))

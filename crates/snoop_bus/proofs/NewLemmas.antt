@@ -15,7 +15,7 @@ use Rattle.snoop_bus.specs.Geometry.{Geometry}
 use Rattle.snoop_bus.specs.Lines.{Words, line_in, word_at, words_in, offset_of, line_of_words, lines_of_words}
 use Rattle.snoop_bus.specs.Coherent.{Coherent}
 use Rattle.snoop_bus.specs.Copies.{Sets, copy_in, copy_at, cache_of}
-use Rattle.snoop_bus.specs.inner.Copies.{ways_of}
+use Rattle.snoop_bus.specs.inner.Copies.{ways_of, AtHome}
 use Rattle.snoop_bus.specs.Bus.{current_words, AllCoherent, empty_caches}
 use Rattle.snoop_bus.specs.inner.Bus.{HasWholeLines, IsBus}
 use Rattle.snoop_bus.proofs.CurrentWords.{seen_is, all_coherent}
@@ -36,6 +36,18 @@ replicate-at (suc n) (suc i) x d = replicate-at n i x d
 length-replicate : {A : Type 0} (n : ℕ) (x : A) → length (replicate n x) ≡ n
 length-replicate zero x = refl
 length-replicate (suc n) x = ap suc (length-replicate n x)
+
+-- where all sets are empty, each line lies in its own set
+pub new-home : (sets : Sets) (n ways : ℕ) → 1 ≤ n → sets ≡ replicate n (contents [] ways) → (0 < length sets) × AtHome sets
+new-home sets n ways some is =
+    let as_many : length sets ≡ n = ap length is ∙ length-replicate n (contents [] ways) in
+    let there : 0 < length sets = omega arith in
+    (there, λ i line within other. by i line (replicate-at n i (contents [] ways) (contents [] 1)))
+  where
+    by : (i line : ℕ) → (slice_index_or (replicate n (contents [] ways)) i (contents [] 1) ≡ contents [] ways) ⊎ (slice_index_or (replicate n (contents [] ways)) i (contents [] 1) ≡ contents [] 1)
+        → copy_of (slice_index_or sets i (contents [] 1)) line ≡ None
+    by i line (inl same) = ap (λ s. copy_of (slice_index_or s i (contents [] 1)) line) is ∙ ap (λ s. copy_of s line) same
+    by i line (inr same) = ap (λ s. copy_of (slice_index_or s i (contents [] 1)) line) is ∙ ap (λ s. copy_of s line) same
 
 pub map-replicate : {A B : Type 0} (f : A → B) (n : ℕ) (x : A) → map f (replicate n x) ≡ replicate n (f x)
 map-replicate f zero x = refl

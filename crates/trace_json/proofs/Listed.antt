@@ -1,10 +1,10 @@
 -- Values in a list, made one after the other.
-use Rattle.std.proofs.Common.{◌≡◌, ◌∙◌, ℕ, suc, ◌+◌, ◌-◌, ◌<◌, List, [], ◌∷◌, ◌++◌, map, sym, ap, append_assoc, arith, rules, String, Global, string_bytes}
+use Rattle.std.proofs.Common.{◌≡◌, ◌∙◌, ℕ, suc, ◌+◌, ◌-◌, ◌<◌, List, [], ◌∷◌, ◌++◌, map, sym, ap, append_assoc, append-nil, arith, rules, String, Global, Vec, string_bytes}
 use Rattle.std.proofs.lemmas.List.{map-append}
 use Rattle.serde_json.specs.Data.{Data, array, string}
 use Rattle.serde_json.specs.View.{view, items_of}
 use Rattle.serde_json.specs.declared.value.Value.{Value, the_lemmas}
-use Rattle.serde_json.specs.declared.value.Value.TheVariants.{String as Text}
+use Rattle.serde_json.specs.declared.value.Value.TheVariants.{String as Text, Array}
 use Rattle.tso_model.specs.Litmus.{Litmus}
 use Rattle.tso_model.specs.FlatMachine.{core_of}
 use Rattle.tso_model.specs.declared.execution.Entry.{Entry}
@@ -20,12 +20,21 @@ use Rattle.trace_json.specs.inner.Looked.{IsShown}
 pub view-text : (t : String Global) → view (Text t) ≡ string (string_bytes t)
 view-text t = search (rules, the_lemmas)
 
+view-list : (values : Vec Value Global) → view (Array values) ≡ array (items_of (map view values.items))
+view-list values = search (rules, the_lemmas)
+
 pub listed : (values after : List Value) (v : Value) (first : Data) (rest all whole : List Data) → after ≡ values ++ v ∷ [] → view v ≡ first → all ≡ first ∷ rest
     → map view values ++ all ≡ whole → map view after ++ rest ≡ whole
 listed values after v first rest all whole pushed is next so_far =
     let more : map view after ≡ map view values ++ view v ∷ [] = ap (map view) pushed ∙ map-append view values (v ∷ []) in
     ap (λ l. l ++ rest) more ∙ (append_assoc (map view values) (view v ∷ []) rest
     ∙ (ap (λ d. map view values ++ d ∷ rest) is ∙ (sym (ap (λ l. map view values ++ l) next) ∙ so_far)))
+
+-- a list of values, once nothing is left to be made
+pub all-listed : (values : Vec Value Global) (rest whole : List Data) → rest ≡ [] → map view values.items ++ rest ≡ whole → view (Array values) ≡ array (items_of whole)
+all-listed values rest whole none so_far =
+    let same : map view values.items ≡ whole = sym (append-nil (map view values.items)) ∙ (sym (ap (λ l. map view values.items ++ l) none) ∙ so_far) in
+    view-list values ∙ ap (λ l. array (items_of l)) same
 
 pub one-set : (m : Running) (core set sets : ℕ) (values after : List Value) (v : Value) (whole : List Data) → set < sets → after ≡ values ++ v ∷ []
     → view v ≡ set_json m core set → map view values ++ sets_json m core set (sets - set) ≡ whole → map view after ++ sets_json m core (set + 1) (sets - (set + 1)) ≡ whole

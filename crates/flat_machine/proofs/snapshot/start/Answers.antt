@@ -1,5 +1,7 @@
-use Rattle.std.proofs.Common.{length, length-append, ◌∷◌, [], refl, ap, arith}
-use Rattle.flat_machine.proofs.Starting.{one-core-more}
+use Rattle.std.proofs.Common.{◌≡◌, ◌≤◌, ◌∙◌, length, length-append, map, ◌∷◌, [], refl, ap, arith}
+use Rattle.std.proofs.lemmas.List.{take_all}
+use Rattle.flat_machine.specs.State.{core_of_processor}
+use Rattle.flat_machine.proofs.Starting.{one-core-more, all-begun}
 use Rattle.flat_machine.proofs.snapshot.start.Goals as goal
 
 pub loop-core-preserved : goal.loop-core-preserved
@@ -11,3 +13,19 @@ loop-core-preserved c =
       cores = one-core-more c.args.test.now.programs c.args.test.now.registers c.loop-core.cores.items c.push-in-loop-core.new.self.items _ c.loop-core.core
           (omega arith) c.loop-core.invariant.cores e.items (let w = c.initial_registers.ensures in let q = c.new.ensures.items in rw (w, q) refl);
     }
+
+pub loop-core-init : goal.loop-core-init
+loop-core-init c =
+    let words = c.args.test.now.words in
+    let same : c.initial_words-word-items.result.now ≡ words = c.initial_words-word-items.ensures.value in
+    let past : length words ≤ c.loop-word.word-index = omega (arith, ap length same, c.loop-word-test.false) in
+    record {
+      memory = c.loop-word.invariant ∙ take_all c.loop-word.word-index words past;
+      cores = ap (map core_of_processor) c.new-cores.ensures.items;
+      count = ap length c.new-cores.ensures.items;
+    }
+
+pub returns-clause-value : goal.returns-clause-value
+returns-clause-value c =
+    let past : length c.args.test.now.programs ≤ c.loop-core.core = omega arith in
+    all-begun c.args.test.now c.loop-word.memory.items (map core_of_processor c.loop-core.cores.items) c.loop-core.core past c.loop-core.invariant.memory c.loop-core.invariant.cores

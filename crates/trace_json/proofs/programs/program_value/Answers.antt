@@ -1,8 +1,8 @@
 use Rattle.std.proofs.Common.{◌+◌, ◌∙◌, map, drop, ap}
-use Rattle.std.proofs.lemmas.List.{drop_more}
+use Rattle.std.proofs.lemmas.List.{drop_more, drop_all}
 use Rattle.serde_json.specs.Data.{string}
 use Rattle.trace_json.specs.Programs.{instruction_text}
-use Rattle.trace_json.proofs.Listed.{listed, view-text}
+use Rattle.trace_json.proofs.Listed.{listed, all-listed, view-text}
 use Rattle.trace_json.proofs.programs.program_value.Goals as goal
 
 pub loop-instr-preserved : goal.loop-instr-preserved
@@ -16,3 +16,11 @@ loop-instr-preserved c =
 
 pub instruction_text-requires : goal.instruction_text-requires
 instruction_text-requires c = c.requires c.loop-instr.instr-index _ c.loop-instr-test.true
+
+pub returns : goal.returns
+returns c =
+    let xs = c.args.program.now in
+    let i = c.loop-instr.instr-index in
+    let text = instruction_text c.args.test.now in
+    all-listed c.loop-instr.texts (map string (map text (drop i xs))) (map string (map text xs))
+    (ap (λ l. map string (map text l)) (drop_all i xs c.loop-instr-test.false)) c.loop-instr.invariant

@@ -1,10 +1,10 @@
-use Rattle.std.proofs.Common.{◌≡◌, ◌/◌, ◌<◌, Some, None, length, ap, ◌∙◌}
+use Rattle.std.proofs.Common.{◌≡◌, refl, ◌/◌, ◌<◌, Some, None, length, ap, ◌∙◌}
 use Rattle.snoop_bus.specs.Held.{counted}
 use Rattle.snoop_bus.specs.Asks.{request_for}
 use Rattle.snoop_bus.proofs.MissLemmas.{length-asked}
 use Rattle.snoop_bus.proofs.RowLemmas.{table_of-rows}
 use Rattle.snoop_bus.proofs.HolderLemmas.{free-held, not_here}
-use Rattle.snoop_bus.proofs.NewLemmas.{bus-kept}
+use Rattle.snoop_bus.proofs.NewLemmas.{bus-kept, same_cores}
 use Rattle.snoop_bus.proofs.CallLemmas.{bus_ready, loc_in}
 use Rattle.snoop_bus.proofs.AskCalls.{ask_done}
 use Rattle.snoop_bus.proofs.bus.SnoopBus.ask.Goals as goal
@@ -47,3 +47,11 @@ invariant_of-self g c =
     (ap length c.ask-held.ensures.memory ∙ length-asked (g.P.Protocol.table c.self.inside.protocol) (request_for c.args.write) c.line_of-line.result c.self.inside.hierarchy.caches.items c.self.inside.hierarchy.memory.items)
     c.ask-held.ensures.words c.ask-held.ensures.ways c.ask-held.ensures.awaited
     (rw c.ask-held.ensures.exact (record { loc_in = within; line_is = c.line_of-line.ensures.value })))
+
+pub returns-clause-coherent : goal.returns-clause-coherent
+returns-clause-coherent g c = (invariant_of-self g c).coherent
+
+pub returns-clause-machine : goal.returns-clause-machine
+returns-clause-machine g c =
+    rw (← c.self.view_is)
+    (record { rows = refl; shape = refl; cores = same_cores c.self.inside.hierarchy.caches.items c.ask-held.new.self.caches.items c.ask-held.ensures.ways; locations = refl })

@@ -1,8 +1,8 @@
-use Rattle.std.proofs.Common.{rules, false, ◌<◌, ◌/◌}
+use Rattle.std.proofs.Common.{rules, refl, false, ◌<◌, ◌/◌}
 use Rattle.snoop_bus.specs.Held.{counted}
 use Rattle.snoop_bus.proofs.CallLemmas.{bus_ready, free_or_hit, loc_in, load_done, load_refused}
 use Rattle.snoop_bus.proofs.UpgradeAsk.{free_load}
-use Rattle.snoop_bus.proofs.NewLemmas.{bus-kept}
+use Rattle.snoop_bus.proofs.NewLemmas.{bus-kept, same_cores}
 use Rattle.snoop_bus.proofs.bus.SnoopBus.load.Goals as goal
 
 pub load-requires-clause-ready : goal.load-requires-clause-ready
@@ -36,3 +36,11 @@ load-requires-clause-free g c =
     rw (c.target_of-target.ensures.value)
     (free_load (g.P.Protocol.table c.self.inside.protocol) c.self.inside.held c.self.inside.hierarchy.caches.items c.args.core.0 (c.args.loc.0 / c.self.inside.shape.words)
     (free_or_hit (g.P.Protocol.table c.self.inside.protocol) c.self.inside.shape c.self.inside.locations c.self.inside.hierarchy.caches.items c.self.inside.hierarchy.memory.items c.self.inside.held c.args.core.0 c.args.loc.0 false (rw (← c.self.view_is) at c.requires.free)))
+
+pub returns-clause-coherent : goal.returns-clause-coherent
+returns-clause-coherent g c = (invariant_of-self g c).coherent
+
+pub returns-clause-machine : goal.returns-clause-machine
+returns-clause-machine g c =
+    rw (← c.self.view_is)
+    (record { rows = refl; shape = refl; cores = same_cores c.self.inside.hierarchy.caches.items c.load.new.self.caches.items c.load.ensures.ways; locations = refl })

@@ -1,7 +1,7 @@
-use Rattle.std.proofs.Common.{rules, true, ◌<◌}
+use Rattle.std.proofs.Common.{rules, refl, true, ◌<◌}
 use Rattle.snoop_bus.specs.Held.{counted}
 use Rattle.snoop_bus.proofs.CallLemmas.{bus_ready, free_or_hit, loc_in, write_word, write_done, write_refused}
-use Rattle.snoop_bus.proofs.NewLemmas.{bus-written}
+use Rattle.snoop_bus.proofs.NewLemmas.{bus-written, same_cores}
 use Rattle.snoop_bus.proofs.bus.SnoopBus.update.Goals as goal
 
 pub update-requires-clause-ready : goal.update-requires-clause-ready
@@ -43,3 +43,11 @@ pub update-requires-clause-free : goal.update-requires-clause-free
 update-requires-clause-free g c =
     rw (c.target_of-target.ensures.value)
     (free_or_hit (g.P.Protocol.table c.self.inside.protocol) c.self.inside.shape c.self.inside.locations c.self.inside.hierarchy.caches.items c.self.inside.hierarchy.memory.items c.self.inside.held c.args.core.0 c.args.loc.0 true (rw (← c.self.view_is) at c.requires.free))
+
+pub returns-clause-coherent : goal.returns-clause-coherent
+returns-clause-coherent g c = (invariant_of-self g c).coherent
+
+pub returns-clause-machine : goal.returns-clause-machine
+returns-clause-machine g c =
+    rw (← c.self.view_is)
+    (record { rows = refl; shape = refl; cores = same_cores c.self.inside.hierarchy.caches.items c.update.new.self.caches.items c.update.ensures.ways; locations = refl })
