@@ -1,7 +1,10 @@
 -- A comment's end, and the gap after it.
-use Rattle.std.proofs.Common.{◌≡◌, ℕ, Bool, true, false, cond, eqb, ◌&&◌, List, [], ◌∷◌, length, Some, None, Err, refl, sym, ap, inl, inr, ◌⊎◌}
+use Rattle.std.proofs.Common.{◌≡◌, ℕ, ◌-◌, ◌<◌, ◌≤◌, Bool, true, false, cond, eqb, ◌&&◌, List, [], ◌∷◌, length, get_or, take, drop, take_all, Some, None, Err, refl, sym, ap, inl, inr, ◌⊎◌, arith}
+use Rattle.std.proofs.lemmas.Bool.{ne_eqb}
+use Rattle.std.proofs.lemmas.Bool.Decides.{eqb_tells}
+use Rattle.std.proofs.lemmas.List.{length-take, length-drop}
 use Rattle.litmus_tokens.specs.declared.token.Stop.TheVariants.{Unclosed}
-use Rattle.litmus_tokens.specs.Gap.{is_space, gap_end}
+use Rattle.litmus_tokens.specs.Gap.{is_space, closes_comment, gap_end}
 use Rattle.litmus_tokens.specs.inner.Gap.{comment_end}
 
 -- which way a test went
@@ -50,3 +53,36 @@ gap_over_unclosed bytes after inside first second whole solid more open_round st
     let bytes-is : bytes ≡ 40 ∷ 42 ∷ inside = cc in
     let solid' : is_space 40 ≡ false = rw (← open_round) solid in
     rw (bytes-is, solid') (gap_unclosed (length (40 ∷ 42 ∷ inside)) inside (sym ends))
+
+-- ---- the end of a comment, one byte after the other
+
+-- too few bytes are left
+pub comment_open : (rest : List ℕ) → length rest < 2 → comment_end rest ≡ None
+unfolding comment_end
+comment_open [] few = refl
+comment_open (b ∷ []) few = refl
+comment_open (b ∷ c ∷ bs) few = absurd (omega arith)
+
+-- it ends here
+pub comment_ends : (rest : List ℕ) (n : ℕ) → n ≡ length rest - 2 → 2 ≤ length rest → get_or rest 0 0 ≡ 42 → get_or rest 1 0 ≡ 41 → comment_end rest ≡ Some (take n (drop 2 rest))
+unfolding comment_end
+comment_ends [] n e many one two = absurd (omega arith)
+comment_ends (b ∷ []) n e many one two = absurd (omega arith)
+comment_ends (b ∷ c ∷ bs) n e many one two = rw (take_all n bs (omega arith), one, two) refl
+
+-- it doesn't end here
+pub comment_goes_on : (rest : List ℕ) (n : ℕ) → n ≡ length rest - 1 → 2 ≤ length rest → (get_or rest 0 0 ≡ 42 → get_or rest 1 0 ≡ 41 → ⊥) → comment_end (take n (drop 1 rest)) ≡ comment_end rest
+unfolding comment_end
+comment_goes_on [] n e many other = absurd (omega arith)
+comment_goes_on (b ∷ []) n e many other = absurd (omega arith)
+comment_goes_on (b ∷ c ∷ bs) n e many other = rw (take_all n (c ∷ bs) (omega arith), no_close b c other) refl
+  where
+    no_close : (b c : ℕ) → (b ≡ 42 → c ≡ 41 → ⊥) → closes_comment b c ≡ false
+    no_close b c other = elim (eqb_tells b 42) [
+      | inl one ↦ rw (one.0, ne_eqb c 41 (other one.1)) refl
+      | inr one ↦ rw one.0 refl
+    ]
+
+-- the bytes after this one are fewer
+pub rest-shorter : (rest : List ℕ) (n m : ℕ) → n ≡ length rest - 1 → length rest ≤ m → length (take n (drop 1 rest)) ≤ m
+rest-shorter rest n m e h = omega (arith, length-take n (drop 1 rest), length-drop 1 rest)

@@ -1,8 +1,8 @@
 -- Symbols by their spellings.
-use Rattle.std.proofs.Common.{◌≡◌, ℕ, Bool, true, false, List, [], ◌∷◌, ◌&&◌, Option, Some, None, nat_eq, eqb, if◌then◌else◌, refl, sym, ap, ◌∙◌, arith}
+use Rattle.std.proofs.Common.{◌≡◌, ℕ, Bool, true, false, List, [], ◌∷◌, length, ◌&&◌, Option, Some, None, nat_eq, eqb, if◌then◌else◌, refl, sym, ap, ◌∙◌, inl, inr, arith}
 use Rattle.std.specs.Str.{bytes_eq}
-use Rattle.std.proofs.lemmas.Bool.{eqb-true, eq-eqb}
-use Rattle.std.proofs.lemmas.Bool.Decides.{nat_tests, same_from_decides}
+use Rattle.std.proofs.lemmas.Bool.{eqb-true, eq-eqb, ne_eqb}
+use Rattle.std.proofs.lemmas.Bool.Decides.{nat_tests, same_from_decides, eqb_tells}
 use Rattle.std.proofs.lemmas.Slice.Eq.{bytes_eq-Decides}
 use Rattle.litmus_tokens.specs.declared.token.Symbol.{Symbol}
 use Rattle.litmus_tokens.specs.declared.token.Symbol.TheVariants.{Equals, Semicolon, Colon, OpenSquare, CloseSquare, OpenCurly, CloseCurly, Bar, Comma, Dollar, Tilde, OpenRound, CloseRound, And, Or}
@@ -138,3 +138,41 @@ pub symbol_by_bytes : (b : ℕ) (bs : List ℕ) → symbol_of (b ∷ bs) ≡ sin
 unfolding symbol_of symbols single
 symbol_by_bytes b bs =
     one_more b 61 bs Equals _ _ (one_more b 59 bs Semicolon _ _ (one_more b 58 bs Colon _ _ (one_more b 91 bs OpenSquare _ _ (one_more b 93 bs CloseSquare _ _ (one_more b 123 bs OpenCurly _ _ (one_more b 125 bs CloseCurly _ _ (one_more b 124 bs Bar _ _ (one_more b 44 bs Comma _ _ (one_more b 36 bs Dollar _ _ (one_more b 126 bs Tilde _ _ (one_more b 40 bs OpenRound _ _ (one_more b 41 bs CloseRound _ _ (last_two b bs)))))))))))))
+
+-- ---- looked for at the front of some bytes
+
+-- the first byte alone decides, or else the first two
+pub symbol_looked : (bytes rest : List ℕ) (b : ℕ) (found : Option Symbol) → bytes ≡ b ∷ rest → found ≡ single b → symbol_of bytes ≡ single_or b rest found
+symbol_looked bytes rest b found e is = ap symbol_of e ∙ symbol_by_bytes b rest ∙ ap (single_or b rest) (sym is)
+
+-- where there is no byte
+pub no_symbol : (bytes : List ℕ) → length bytes ≡ 0 → symbol_of bytes ≡ None
+unfolding symbol_of symbols
+no_symbol [] none = refl
+no_symbol (b ∷ bs) none = absurd (omega arith)
+
+-- where there is no second byte
+pub no_wedge : (b : ℕ) (rest : List ℕ) → length rest ≡ 0 → wedge_at b rest ≡ None
+unfolding wedge_at
+no_wedge b [] none = refl
+no_wedge b (c ∷ cs) none = absurd (omega arith)
+
+-- `/\`, and then `\/`
+pub wedge_and : (b c : ℕ) (rest past : List ℕ) → rest ≡ c ∷ past → b ≡ 47 → c ≡ 92 → wedge_at b rest ≡ Some (And, past)
+unfolding wedge_at
+wedge_and b c rest past e f g = rw (e, f, g) refl
+
+pub wedge_or : (b c : ℕ) (rest past : List ℕ) → rest ≡ c ∷ past → b ≡ 92 → c ≡ 47 → wedge_at b rest ≡ Some (Or, past)
+unfolding wedge_at
+wedge_or b c rest past e f g = rw (e, f, g) refl
+
+-- neither of the two
+pub no_wedges : (b c : ℕ) (rest past : List ℕ) → rest ≡ c ∷ past → (b ≡ 47 → c ≡ 92 → ⊥) → (b ≡ 92 → c ≡ 47 → ⊥) → wedge_at b rest ≡ None
+unfolding wedge_at
+no_wedges b c rest past e no_and no_or = rw (e, apart b c 47 92 no_and, apart b c 92 47 no_or) refl
+  where
+    apart : (b c m n : ℕ) → (b ≡ m → c ≡ n → ⊥) → (eqb b m && eqb c n) ≡ false
+    apart b c m n other = elim (eqb_tells b m) [
+      | inl one ↦ rw (one.0, ne_eqb c n (other one.1)) refl
+      | inr one ↦ rw one.0 refl
+    ]

@@ -17,17 +17,16 @@ fn is_space(byte: u8) -> bool
 }
 
 /// What stands after the first `*)`.
-#[tactic(auto, unfolding(crate::specs::inner::Gap::comment_end))]
 fn after_comment(bytes: &[u8]) -> Option<&[u8]>
     ensures value { option_map (λ x. x.now) result ≡ comment_end bytes.now }
     ensures shorter { IfSome result (λ x. length x.now < length bytes.now) }
 {
     let mut rest = bytes;
-    while let [_, after @ ..] = rest {
-        if let [b'*', b')', past @ ..] = rest {
+    while let [first, second, past @ ..] = rest {
+        if *first == b'*' && *second == b')' {
             return Some(past);
         }
-        rest = after;
+        rest = &rest[1..];
     }
     None
 }

@@ -96,7 +96,6 @@ fn single(byte: u8) -> Option<Symbol>
 }
 
 /// The symbol at the very front, and what stands after it.
-#[tactic(auto, using(crate::proofs::Symbols::symbol_by_bytes), unfolding(crate::specs::inner::SymbolSteps::wedge_at))]
 fn symbol_of(bytes: &[u8]) -> Option<(Symbol, &[u8])>
     ensures value { option_map (λ x. (x.0, x.1.now)) result ≡ terms.symbol_of bytes.now }
     ensures shorter { IfSome result (λ x. length x.1.now < length bytes.now) }
@@ -116,7 +115,6 @@ fn symbol_of(bytes: &[u8]) -> Option<(Symbol, &[u8])>
 }
 
 /// The token at the very front, and what stands after it.
-#[tactic(auto, using(crate::proofs::Pieces::begins_in_name), unfolding(crate::specs::Terms::term_at))]
 fn lexeme_at(bytes: &[u8]) -> Result<(Lexeme<'_>, &[u8]), Stop>
     ensures value { mapped (λ x. (term_of x.0, x.1.now)) result ≡ terms.term_at bytes.now }
     ensures shorter { IfOk result (λ x. length x.1.now < length bytes.now) }

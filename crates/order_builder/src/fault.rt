@@ -24,15 +24,17 @@ pub enum OrderFault {
 impl fmt::Display for OrderFault {
     fn fmt<W: fmt::Write>(&self, f: &mut fmt::Formatter<W>) -> fmt::Result {
         match self {
-            OrderFault::NoOrder => write!(f, "no line is `Order`"),
+            OrderFault::NoOrder => f.write_str("no line is `Order`"),
             OrderFault::BadLine(number) => {
                 write!(
                     f,
                     "line {number} is neither an entry nor the end of the order"
                 )
             }
-            OrderFault::BadCount => write!(f, "the order's end doesn't give the number of entries"),
-            OrderFault::NoMemory => write!(f, "out of memory"),
+            OrderFault::BadCount => f.write_str(
+                "the order's end doesn't give the number of entries",
+            ),
+            OrderFault::NoMemory => f.write_str("out of memory"),
         }
     }
 }

@@ -1,11 +1,14 @@
 -- The choices along an order, made one entry after the other.
-use Rattle.std.proofs.Common.{◌≡◌, ℕ, ◌+◌, ◌<◌, zero, suc, List, [], ◌∷◌, ◌++◌, length, take, refl, ap, ◌∙◌, add-one, append_assoc, arith}
+use Rattle.std.proofs.Common.{◌≡◌, ℕ, ◌+◌, ◌-◌, ◌<◌, ◌≤◌, zero, suc, List, [], ◌∷◌, ◌++◌, length, get_or, drop, replicate, refl, ap, sym, ◌∙◌, add-one, append_assoc, All}
+use Rattle.std.proofs.Math.ListN.{length-set}
+use Rattle.std.proofs.lemmas.List.{append-nil, drop_more, drop_all}
+use Rattle.std.proofs.lemmas.List.Elements.{All-get_or}
 use Rattle.tso_model.specs.FlatMachine.{step}
 use Rattle.tso_model.specs.Litmus.{Litmus}
 use Rattle.tso_model.specs.declared.execution.Entry.{Entry}
 use Rattle.tso_model.specs.declared.instruction.Instr.{Instr}
 use Rattle.tso_model.specs.declared.choice.Choice.{Choice}
-use Rattle.tso_laws.specs.Along.{steps, beginnings, choices_from, choices_along}
+use Rattle.tso_laws.specs.Along.{steps, beginnings, choices_for, places_after, last_steps, choices_from, choices_along}
 
 -- one step more goes last
 pub steps-more : (core n : ℕ) → steps core n ++ step core ∷ [] ≡ steps core (n + 1)
@@ -18,15 +21,6 @@ steps-more core n = rw add-one (go n)
 pub one-step-more : (old choices new : List Choice) (core n : ℕ) → choices ≡ old ++ steps core n → new ≡ choices ++ step core ∷ [] → new ≡ old ++ steps core (n + 1)
 one-step-more old choices new core n e f = f ∙ rw e (rw append_assoc (ap (λ (t : List Choice). old ++ t) (steps-more core n)))
 
--- one core more begins
-pub beginnings-more : (programs : List (List Instr)) (n : ℕ) → n < length programs → beginnings (take n programs) ++ 0 ∷ [] ≡ beginnings (take (n + 1) programs)
-beginnings-more programs n h = rw add-one (go programs n h)
-  where
-    go : (ps : List (List Instr)) (n : ℕ) → n < length ps → beginnings (take n ps) ++ 0 ∷ [] ≡ beginnings (take (suc n) ps)
-    go [] n h = absurd (let q : ⊥ = omega arith in q)
-    go (p ∷ ps) zero h = refl
-    go (p ∷ ps) (suc n) h = ap (λ t. 0 ∷ t) (go ps n (omega arith))
-
 -- before the first entry
 pub begun : (t : Litmus) (order : List Entry) (choices : List Choice) (places : List ℕ) → choices ≡ [] → places ≡ beginnings t.programs →
     choices ++ choices_from t places order ≡ choices_along t order
@@ -38,3 +32,46 @@ as-many programs places e = rw e (go programs)
     go : (ps : List (List Instr)) → length (beginnings ps) ≡ length ps
     go [] = refl
     go (p ∷ ps) = ap suc (go ps)
+
+-- each core at the beginning of its program
+pub all-begun : (programs : List (List Instr)) (n : ℕ) → n ≡ length programs → replicate n 0 ≡ beginnings programs
+all-begun programs n e = rw e (go programs)
+  where
+    go : (ps : List (List Instr)) → replicate (length ps) 0 ≡ beginnings ps
+    go [] = refl
+    go (p ∷ ps) = ap (λ t. 0 ∷ t) (go ps)
+
+-- an entry's core has a place
+pub core-in : (order : List Entry) (i m n : ℕ) (d : Entry) → All (λ x. x.core.0 < n) order → i < length order → m ≡ n → (get_or order i d).core.0 < m
+core-in order i m n d all h e = rw e (All-get_or (λ x. x.core.0 < n) order i d h all)
+
+-- one entry more is gone along
+pub entry-made : (t : Litmus) (order rest : List Entry) (x : Entry) (choices new whole : List Choice) (places after : List ℕ) → order ≡ x ∷ rest →
+    new ≡ choices ++ choices_for places x → after ≡ places_after places x → choices ++ choices_from t places order ≡ whole → new ++ choices_from t after rest ≡ whole
+entry-made t order rest x choices new whole places after next e f made =
+    ap (λ c. c ++ choices_from t after rest) e ∙ append_assoc choices (choices_for places x) (choices_from t after rest)
+    ∙ ap (λ p. choices ++ (choices_for places x ++ choices_from t p rest)) f ∙ (rw next at made)
+
+-- and there is still one place for each core
+pub as-many-after : (places after : List ℕ) (x : Entry) (n : ℕ) → after ≡ places_after places x → length places ≡ n → length after ≡ n
+as-many-after places after x n e h = ap length e ∙ length-set places x.core.0 _ ∙ h
+
+-- after the last entry
+pub all-made : (t : Litmus) (order : List Entry) (i : ℕ) (choices new whole : List Choice) (places seen : List ℕ) → length order ≤ i →
+    new ≡ choices ++ last_steps 0 t.programs seen → seen ≡ places → choices ++ choices_from t places (drop i order) ≡ whole → new ≡ whole
+all-made t order i choices new whole places seen le e f made =
+    e ∙ ap (λ p. choices ++ last_steps 0 t.programs p) f ∙ sym (ap (λ r. choices ++ choices_from t places r) (drop_all i order le)) ∙ made
+
+-- the steps of one core more
+pub last-more : (programs : List (List Instr)) (places : List ℕ) (i k n : ℕ) (p : List Instr) (choices new whole : List Choice) → i < length programs →
+    p ≡ get_or programs i [] → k ≡ i → n ≡ length p - get_or places k 0 → new ≡ choices ++ steps i n →
+    choices ++ last_steps i (drop i programs) places ≡ whole → new ++ last_steps (i + 1) (drop (i + 1) programs) places ≡ whole
+last-more programs places i k n p choices new whole h a b d e made =
+    let left : n ≡ length (get_or programs i []) - get_or places i 0 = d ∙ rw (a, b) refl in
+    ap (λ c. c ++ last_steps (i + 1) (drop (i + 1) programs) places) e ∙ append_assoc choices (steps i n) (last_steps (i + 1) (drop (i + 1) programs) places)
+    ∙ ap (λ m. choices ++ (steps i m ++ last_steps (i + 1) (drop (i + 1) programs) places)) left ∙ (rw (drop_more programs i [] h) at made)
+
+-- after the last core
+pub all-done : (programs : List (List Instr)) (places : List ℕ) (i : ℕ) (choices whole : List Choice) → length programs ≤ i →
+    choices ++ last_steps i (drop i programs) places ≡ whole → choices ≡ whole
+all-done programs places i choices whole le made = sym (ap (λ r. choices ++ last_steps i r places) (drop_all i programs le) ∙ append-nil choices) ∙ made

@@ -1,7 +1,7 @@
 -- One entry more at the front of those that are passed, in the counts of plain stores.
-use Rattle.std.proofs.Common.{◌≡◌, ◌≢◌, ℕ, ◌+◌, ◌-◌, ◌<◌, ◌≤◌, ◌==◌, ◌&&◌, nat_lt, zero, suc, Bool, true, false, if◌then◌else◌, List, [], ◌∷◌, length, get_or, take, drop, filter, sum, refl, ap, sym, ◌∙◌, ◌||◌, not, arith, drop-cons, subst, max, length-drop, All, ◌⊎◌, inl, inr}
+use Rattle.std.proofs.Common.{◌≡◌, ◌≢◌, ℕ, ◌+◌, ◌-◌, ◌<◌, ◌≤◌, ◌==◌, ◌&&◌, nat_lt, zero, suc, Bool, true, false, if◌then◌else◌, List, [], ◌∷◌, ◌++◌, length, get_or, take, replicate, drop, filter, sum, refl, ap, sym, ◌∙◌, ◌||◌, not, arith, drop-cons, subst, max, length-drop, All, ◌⊎◌, inl, inr}
 use Rattle.std.proofs.Math.ListN.{set, length-set}
-use Rattle.std.proofs.lemmas.List.{take-set-le, get_or-take, get_or-set_same, get_or-set_other, length-take, get_or_default, take_all}
+use Rattle.std.proofs.lemmas.List.{drop_all, length_push, length-replicate, take-set-le, get_or-take, get_or-set_same, get_or-set_other, length-take, get_or_default, take_all}
 use Rattle.std.proofs.Math.Seq.{take-set-lt}
 use Rattle.std.proofs.lemmas.List.Elements.{All-get_or}
 use Rattle.std.proofs.lemmas.List.Sums.{sum_by-set, get_or-le-sum_by}
@@ -22,6 +22,30 @@ passed-more xs i d h =
     let a : length xs - (i + 1) ≡ length xs - 1 - i = omega arith in
     let b : length xs - i ≡ suc (length xs - 1 - i) = omega arith in
     rw (a, b) (drop-cons xs (length xs - 1 - i) d (omega arith))
+
+-- one row more, and a fact of each row
+row-pushed : (P : List ℕ → Type 0) (rows : List (List ℕ)) (row : List ℕ) (i : ℕ) → i < length rows + 1 → (i < length rows → P (get_or rows i [])) → P row → P (get_or (rows ++ row ∷ []) i [])
+row-pushed P [] row zero m h k = k
+row-pushed P [] row (suc i) m h k = absurd (let q : ⊥ = omega arith in q)
+row-pushed P (r ∷ rs) row zero m h k = h (omega arith)
+row-pushed P (r ∷ rs) row (suc i) m h k = row-pushed P rs row i (omega arith) (λ l. h (omega arith)) k
+
+-- noughts add up to nothing
+no-sum : (n place : ℕ) → sum (take place (replicate n 0)) ≡ 0
+no-sum zero zero = refl
+no-sum zero (suc place) = refl
+no-sum (suc n) zero = refl
+no-sum (suc n) (suc place) = omega (arith, no-sum n place)
+
+-- where nothing is counted yet, one core more
+pub nothing-counted : (n : ℕ) (rows new : List (List ℕ)) → new ≡ rows ++ replicate 32 0 ∷ [] → HaveCounted n rows [] → HaveCounted (n + 1) new []
+nothing-counted n rows new e h =
+    let few : length rows ≡ n = h.cores_are in
+    rw e (record {
+      cores_are = omega (arith, length_push rows (replicate 32 0));
+      places_are = λ core k. row-pushed (λ row. length row ≡ 32) rows (replicate 32 0) core (omega arith) (λ l. h.places_are core (omega arith)) (length-replicate {A = ℕ} 32 0);
+      below = λ core place k m. row-pushed (λ row. sum (take place row) ≡ 0) rows (replicate 32 0) core (omega arith) (λ l. h.below core place (omega arith) m) (no-sum 32 place);
+    })
 
 few-step : (b : Bool) (y : Entry) (zs : List Entry) (n : ℕ) → length zs ≤ n → length (if b then y ∷ zs else zs) ≤ suc n
 few-step true y zs n h = omega arith
@@ -222,3 +246,13 @@ entry-fits cores order i d cs ps h = (
   All-get_or (λ x. x.core.0 < cores) order (length order - 1 - i) d (omega arith) cs,
   All-get_or (λ x. x.place < 32) order (length order - 1 - i) d (omega arith) ps,
 )
+
+-- before the first entry that is passed
+pub none-passed : (cores : ℕ) (rows : List (List ℕ)) (order : List Entry) → HaveCounted cores rows [] → Counted cores rows 0 order 0
+none-passed cores rows order h =
+    let none : drop (length order - 0) order ≡ [] = drop_all (length order - 0) order (omega arith) in
+    rw none (record { counted = h; most = refl })
+
+-- after the last one
+pub all-passed : (order : List Entry) (i most : ℕ) → length order ≤ i → most ≡ needed (drop (length order - i) order) → most ≡ needed order
+all-passed order i most le e = let none : length order - i ≡ 0 = omega arith in rw none at e

@@ -1,8 +1,8 @@
 -- How one item is read, case by case.
-use Rattle.std.proofs.Common.{◌≡◌, ◌≢◌, ℕ, ◌+◌, ◌-◌, ◌<◌, true, false, eqb, leb, min, List, [], ◌∷◌, ◌++◌, length, get_or, take, drop, Some, None, Result, Ok, Err, refl, ap, ◌∙◌, arith}
+use Rattle.std.proofs.Common.{◌≡◌, ◌≢◌, ℕ, ◌+◌, ◌-◌, ◌<◌, true, false, leb, min, List, [], ◌∷◌, ◌++◌, length, get_or, take, drop, Some, None, Result, Ok, Err, refl, ap, ◌∙◌, arith}
 use Rattle.std.specs.Str.{bytes_eq}
 use Rattle.std.specs.Prelude.{codes}
-use Rattle.std.proofs.lemmas.Bool.{le-leb, lt-leb}
+use Rattle.std.proofs.lemmas.Bool.{le-leb, lt-leb, ne_eqb}
 use Rattle.std.proofs.lemmas.List.{take_at, get_or_at, length-append}
 use Rattle.scheduler.specs.declared.fault.ChoiceFault.TheVariants.{BadWord, NoSuchCore, TooMany}
 use Rattle.scheduler.specs.declared.item.ChoiceKind.{ChoiceKind}
@@ -56,9 +56,9 @@ one_full cores room number word digits letter core action is has good capped the
     one_is cores room number word digits letter is ∙ rw (← has, good, core_in cores core digits capped there, none) refl
 
 pub one_there : (cores room number : ℕ) (word digits : List ℕ) (letter core : ℕ) (action : ChoiceKind) → word ≡ digits ++ letter ∷ [] → Some action ≡ kind_of letter → is_numeral digits ≡ true
-    → core ≡ min (decimal_value digits) cores → core ≢ cores → eqb room 0 ≡ false → one_of cores room number word ≡ Ok (One (choice_by action core))
+    → core ≡ min (decimal_value digits) cores → core ≢ cores → room ≢ 0 → one_of cores room number word ≡ Ok (One (choice_by action core))
 one_there cores room number word digits letter core action is has good capped there some =
-    one_is cores room number word digits letter is ∙ rw (← has, good, core_in cores core digits capped there, some) refl
+    one_is cores room number word digits letter is ∙ rw (← has, good, core_in cores core digits capped there, ne_eqb room 0 some) refl
 
 -- ---- the choices of a seed
 
@@ -104,8 +104,3 @@ pub item_seeded : (cores room number : ℕ) (word : List ℕ) (rest : List (List
     → item_of cores room number word rest ≡ r
 unfolding item_of
 item_seeded cores room number word rest r same is = rw same is
-
--- each way that a word is read, and the words after `seed`
-pub ruleset one_word = (one_none, one_bad_letter, one_bad_digits, one_no_core, one_full, one_there)
-
-pub ruleset seed_words = (seeded_none, seeded_short, after_two, seeded_bad_seed, seeded_bad_count, seeded_too_many, seeded_there)

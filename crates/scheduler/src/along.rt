@@ -28,11 +28,7 @@ pub fn choices_along(alloc: Global, test: &Test, order: &[Entry]) -> Result<Vec<
 fn beginnings(alloc: Global, test: &Test) -> Result<Vec<usize>, NoMemory>
     ensures { IfOk result (λ v. v.items ≡ Rattle.tso_laws.specs.Along.beginnings test.now.programs) }
 {
-    let mut places = Vec::new(alloc);
-    for _core in 0..test.cores() {
-        places.push(0)?;
-    }
-    Ok(places)
+    Ok(vec![in alloc; 0; usize::from(test.cores())]?)
 }
 
 /// Appends what an entry needs where the cores stand at these places, and moves its core on.

@@ -82,7 +82,6 @@ impl Seeded {
 impl Choices for Seeded {
     ghost coming = { λ s. map (choice_of_word s.cores) (drawn_words s.left s.generator) };
 
-    #[tactic(auto, unfolding(crate::specs::Seeds::drawn_words))]
     fn next(&mut self) -> Option<Choice> {
         if self.left == 0 {
             return None;

@@ -24,12 +24,13 @@ pub enum ChoiceFault {
 
 impl fmt::Display for ChoiceFault {
     fn fmt<W: fmt::Write>(&self, f: &mut fmt::Formatter<W>) -> fmt::Result {
-        match self {
-            ChoiceFault::BadWord(word) => write!(f, "word {word} is no choice"),
-            ChoiceFault::NoSuchCore(word) => write!(f, "word {word} names a core that isn't there"),
-            ChoiceFault::TooMany(word) => write!(f, "word {word} passes the limit of choices"),
-            ChoiceFault::NoMemory => write!(f, "out of memory"),
-        }
+        let (word, what) = match self {
+            ChoiceFault::BadWord(word) => (word, "is no choice"),
+            ChoiceFault::NoSuchCore(word) => (word, "names a core that isn't there"),
+            ChoiceFault::TooMany(word) => (word, "passes the limit of choices"),
+            ChoiceFault::NoMemory => return f.write_str("out of memory"),
+        };
+        write!(f, "word {word} {what}")
     }
 }
 
@@ -64,7 +65,7 @@ impl fmt::Display for WitnessFault {
     fn fmt<W: fmt::Write>(&self, f: &mut fmt::Formatter<W>) -> fmt::Result {
         match self {
             WitnessFault::Depth(needed) => write!(f, "the order needs a depth of {needed}"),
-            WitnessFault::NoMemory => write!(f, "out of memory"),
+            WitnessFault::NoMemory => f.write_str("out of memory"),
         }
     }
 }

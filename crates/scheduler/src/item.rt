@@ -92,7 +92,6 @@ pub struct ItemRead<'a> {
 }
 
 /// Reads a word that is to be digits and the letter of a step or a drain, where `room` choices more are allowed.
-#[tactic(auto, using(crate::proofs::Items::one_word))]
 #[inline(always)]
 pub fn read_one(cores: u8, room: usize, number: usize, word: &[u8]) -> Result<Choice, ChoiceFault>
     requires { 0 < cores }
@@ -137,7 +136,6 @@ fn seed_of(word: &[u8]) -> Option<u64>
 }
 
 /// Reads the two words after `seed`, whose own number is `number`, where `room` choices more are allowed.
-#[tactic(auto, using(crate::proofs::Items::seed_words))]
 pub fn read_seeded(room: usize, number: usize, text: &[u8]) -> Result<ItemRead<'_>, ChoiceFault>
     requires { number + length text.now < 2 ^ 64 }
     ensures item { IsItemRead (seeded_of room number (words_of text.now)) result }

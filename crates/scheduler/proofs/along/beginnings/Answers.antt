@@ -1,6 +1,6 @@
-use Rattle.std.proofs.Common.{◌∙◌, arith}
-use Rattle.scheduler.proofs.AlongLemmas.{beginnings-more}
+use Rattle.std.proofs.Common.{◌∙◌}
+use Rattle.scheduler.proofs.AlongLemmas.{all-begun}
 use Rattle.scheduler.proofs.along.beginnings.Goals as goal
 
-pub loop-core-preserved : goal.loop-core-preserved
-loop-core-preserved c = c.in_ok-push.ensures.items ∙ rw c.loop-core.invariant (beginnings-more c.args.test.now.programs c.loop-core._core (omega arith))
+pub returns : goal.returns
+returns c = c.in_ok-vec.ensures.items_if_clones_equal (λ y e. e) ∙ all-begun c.args.test.now.programs c.from.result (c.from.ensures ∙ c.cores.ensures.value)

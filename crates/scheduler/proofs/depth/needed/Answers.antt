@@ -1,5 +1,5 @@
 use Rattle.std.proofs.Common.{◌+◌, ◌<◌, get_or, arith, refl, ◌∙◌}
-use Rattle.scheduler.proofs.Counted.{sum-fits, count-fits, onward-load, onward-store, onward-other, entry-fits, greatest}
+use Rattle.scheduler.proofs.Counted.{sum-fits, count-fits, onward-load, onward-store, onward-other, entry-fits, greatest, none-passed, all-passed}
 use Rattle.tso_model.specs.declared.execution.Entry.{Entry}
 use Rattle.tso_model.specs.declared.execution.Kind.TheVariants.{R}
 use Rattle.scheduler.proofs.depth.needed.Goals.{in-R, in-W, in-F}
@@ -41,3 +41,31 @@ loop-passed-preserved c =
       | in-F w ↦ rw (w.stores-is, w.most-is) (onward-other law c.args.order.now c.loop-passed.passed none _ c.args.cores c.loop-passed.stores.items c.loop-passed.most
           c.loop-passed-test.true refl w.in-F.is c.loop-passed.invariant)
     ]
+
+pub index-requires : goal.index-requires
+index-requires c =
+    let at = entry-fits c.args.cores c.args.order.now c.loop-passed.passed none c.requires.cores c.requires.places c.loop-passed-test.true in
+    let rows = c.loop-passed.invariant.counted.cores_are in
+    omega (arith, at.0, rows)
+
+pub index_mut-requires : goal.index_mut-requires
+index_mut-requires c =
+    let at = entry-fits c.args.cores c.args.order.now c.loop-passed.passed none c.requires.cores c.requires.places c.loop-passed-test.true in
+    let rows = c.loop-passed.invariant.counted.cores_are in
+    omega (arith, at.0, rows)
+
+pub bounds-index_mut-place : goal.bounds-index_mut-place
+bounds-index_mut-place c =
+    let at = entry-fits c.args.cores c.args.order.now c.loop-passed.passed none c.requires.cores c.requires.places c.loop-passed-test.true in
+    omega (arith, at.1)
+
+pub bounds-index_mut-place-in-W : goal.bounds-index_mut-place-in-W
+bounds-index_mut-place-in-W c =
+    let at = entry-fits c.args.cores c.args.order.now c.loop-passed.passed none c.requires.cores c.requires.places c.loop-passed-test.true in
+    omega (arith, at.1)
+
+pub loop-passed-init : goal.loop-passed-init
+loop-passed-init c = none-passed c.args.cores c.in_ok-stores.stores.items c.args.order.now c.in_ok-stores.ensures
+
+pub returns : goal.returns
+returns c = all-passed c.args.order.now c.loop-passed.passed c.loop-passed.most c.loop-passed-test.false c.loop-passed.invariant.most
