@@ -27,16 +27,23 @@ pub fn argument_at<'a, 'b>(tokens: &'b [Token<'a>]) -> Option<(Argument<'a>, &'b
         return Some((Argument::Number(digits), rest));
     }
     if let Some(rest) = after_symbol(Symbol::Dollar, tokens) {
-        let (digits, rest) = number_at(rest)?;
-        return Some((Argument::Number(digits), rest));
+        if let Some((digits, rest)) = number_at(rest) {
+            return Some((Argument::Number(digits), rest));
+        }
+        return None;
     }
     if let Some(rest) = after_symbol(Symbol::OpenSquare, tokens) {
-        let (name, rest) = location_at(rest)?;
-        let rest = after_symbol(Symbol::CloseSquare, rest)?;
-        return Some((Argument::Location(name), rest));
+        if let Some((name, rest)) = location_at(rest)
+            && let Some(rest) = after_symbol(Symbol::CloseSquare, rest)
+        {
+            return Some((Argument::Location(name), rest));
+        }
+        return None;
     }
-    let (reg, rest) = register_at(tokens)?;
-    Some((Argument::Register(reg), rest))
+    if let Some((reg, rest)) = register_at(tokens) {
+        return Some((Argument::Register(reg), rest));
+    }
+    None
 }
 
 /// Two operands with a comma between them, and nothing more.
@@ -44,12 +51,11 @@ pub fn argument_at<'a, 'b>(tokens: &'b [Token<'a>]) -> Option<(Argument<'a>, &'b
 pub fn two_arguments<'a>(tokens: &[Token<'a>]) -> Option<(Argument<'a>, Argument<'a>)>
     ensures { option_map (λ x. (argument_of x.0, argument_of x.1)) result ≡ spec.two_arguments (pieces tokens.now) }
 {
-    let (first, rest) = argument_at(tokens)?;
-    let rest = after_symbol(Symbol::Comma, rest)?;
-    let (second, rest) = argument_at(rest)?;
-    if rest.is_empty() {
-        Some((first, second))
-    } else {
-        None
+    if let Some((first, rest)) = argument_at(tokens)
+        && let Some(rest) = after_symbol(Symbol::Comma, rest)
+        && let Some((second, [])) = argument_at(rest)
+    {
+        return Some((first, second));
     }
+    None
 }

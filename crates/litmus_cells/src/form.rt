@@ -69,14 +69,15 @@ fn xadd_of<'a>(first: Argument<'a>, second: Argument<'a>) -> Option<Form<'a>>
 fn locked_form<'a>(tokens: &[Token<'a>]) -> Option<Form<'a>>
     ensures { option_map shape_of result ≡ spec.locked_at (pieces tokens.now) }
 {
-    let (word, rest) = name_at(tokens)?;
-    if is_word(word, b"XCHG") {
-        let (first, second) = two_arguments(rest)?;
-        return xchg_of(first, second);
-    }
-    if is_word(word, b"XADD") {
-        let (first, second) = two_arguments(rest)?;
-        return xadd_of(first, second);
+    if let Some((word, rest)) = name_at(tokens)
+        && let Some((first, second)) = two_arguments(rest)
+    {
+        if is_word(word, b"XCHG") {
+            return xchg_of(first, second);
+        }
+        if is_word(word, b"XADD") {
+            return xadd_of(first, second);
+        }
     }
     None
 }
@@ -87,9 +88,8 @@ pub fn form_of<'a>(cell: &[Token<'a>]) -> Option<Form<'a>>
     ensures { option_map shape_of result ≡ spec.spelled_in (pieces cell.now) }
 {
     let (word, rest) = name_at(cell)?;
-    if is_word(word, b"MOV") {
-        let (first, second) = two_arguments(rest)?;
-        return mov_of(first, second);
+    if is_word(word, b"LOCK") {
+        return locked_form(rest);
     }
     if is_word(word, b"MFENCE") {
         return if rest.is_empty() {
@@ -98,12 +98,13 @@ pub fn form_of<'a>(cell: &[Token<'a>]) -> Option<Form<'a>>
             None
         };
     }
-    if is_word(word, b"XCHG") {
-        let (first, second) = two_arguments(rest)?;
-        return xchg_of(first, second);
-    }
-    if is_word(word, b"LOCK") {
-        return locked_form(rest);
+    if let Some((first, second)) = two_arguments(rest) {
+        if is_word(word, b"MOV") {
+            return mov_of(first, second);
+        }
+        if is_word(word, b"XCHG") {
+            return xchg_of(first, second);
+        }
     }
     None
 }

@@ -15,12 +15,12 @@ pub fn location_at<'a, 'b>(tokens: &'b [Token<'a>]) -> Option<(&'a [u8], &'b [To
     ensures value { option_map (λ x. (x.0.now, pieces x.1.now)) result ≡ spec.location_at (pieces tokens.now) }
     ensures shorter { IfSome result (λ x. length x.1.now < length tokens.now) }
 {
-    let (name, rest) = name_at(tokens)?;
-    if is_location_name(name) {
-        Some((name, rest))
-    } else {
-        None
+    if let Some((name, rest)) = name_at(tokens)
+        && is_location_name(name)
+    {
+        return Some((name, rest));
     }
+    None
 }
 
 /// The register whose name is at the front, and the tokens after it.
@@ -29,7 +29,10 @@ pub fn register_at<'a, 'b>(tokens: &'b [Token<'a>]) -> Option<(Reg, &'b [Token<'
     ensures value { option_map (λ x. (x.0, pieces x.1.now)) result ≡ spec.register_at (pieces tokens.now) }
     ensures shorter { IfSome result (λ x. length x.1.now < length tokens.now) }
 {
-    let (name, rest) = name_at(tokens)?;
-    let reg = Reg::from_name(name)?;
-    Some((reg, rest))
+    if let Some((name, rest)) = name_at(tokens)
+        && let Some(reg) = Reg::from_name(name)
+    {
+        return Some((reg, rest));
+    }
+    None
 }
