@@ -1,5 +1,5 @@
 -- How the programs' entry of an entry of the order is found, and which of the programs' entries came.
-use Rattle.std.proofs.Common.{◌≡◌, ◌<◌, ◌≤◌, ℕ, ◌+◌, ◌*◌, suc, zero, List, [], ◌∷◌, length, Option, Some, None, slice_get, slice_index_or, slice_set, Bool, true, false, arith, ap, sym, ◌∙◌, ◌⊎◌, inl, inr, subst, refl}
+use Rattle.std.proofs.Common.{◌≡◌, ◌<◌, ◌≤◌, ℕ, ◌+◌, ◌*◌, suc, zero, List, [], ◌∷◌, length, Option, Some, None, slice_get, slice_index, slice_index_or, slice_set, replicate, Bool, true, false, arith, ap, sym, ◌∙◌, ◌⊎◌, inl, inr, subst, refl}
 use Rattle.std.proofs.lemmas.Option.{slice_get_within, slice_get-get_or}
 use Rattle.std.proofs.lemmas.List.{get_or-set_same, get_or-set_other}
 use Rattle.std.specs.Option.{is_some}
@@ -7,7 +7,7 @@ use Rattle.tso_model.specs.Thread.{entry}
 use Rattle.basic_laws.specs.Ranks.{rank, part_of}
 use Rattle.tso_model.specs.ProgramEntries.{is_at}
 use Rattle.tso_model.specs.declared.execution.Entry.{Entry}
-use Rattle.axiom_checker.specs.First.{IsFirst, IsNowhere}
+use Rattle.axiom_checker.specs.First.{IsFirst, IsNowhere, NoneBefore}
 use Rattle.axiom_checker.specs.Entries.{same_action, same_but_value, IsExtra, IsTwice, IsStray, IsMissing}
 use Rattle.axiom_checker.specs.inner.Programs.{kept_in}
 use Rattle.axiom_checker.specs.inner.Slots.{slot_of, Ascends, IsIndex, HasCome, HasNotCome, slots_of_a_core}
@@ -234,3 +234,21 @@ pub index-step : (list : List Entry) (high : ℕ) → Ascends 0 high list → (s
     → ((k : ℕ) (e : Entry) → k < i + 1 → slice_get list k ≡ Some e → kept_in (slice_set slots n (Some i)) (slot_of e) ≡ Some k) × ((s k : ℕ) → kept_in (slice_set slots n (Some i)) s ≡ Some k → k < i + 1)
 index-step list high up slots i d n within is fits has only =
     index-more list high up slots i (slice_index_or list i d) n (slice_get-get_or list i d within) is (slot-bound list high up i d n (length slots) within is fits) has only
+
+-- the entry at this place came too
+pub came-too : (shape : List Entry) (came : List (Option ℕ)) (i : ℕ) → NoneBefore shape (HasNotCome came) i → (kept_in came i ≡ None → ⊥) → NoneBefore shape (HasNotCome came) (i + 1)
+came-too shape came i none here k y l f h = elim (same_or_below k i l) [
+  | inl q ↦ here (ap (λ n. kept_in came n) (sym q) ∙ h)
+  | inr b ↦ none k y b f h
+]
+
+-- what is there isn't missing
+pub not-none-there : (o : Option ℕ) → is_some o ≡ true → o ≡ None → ⊥
+not-none-there None h e = let z : ⊥ = cc in z
+not-none-there (Some v) h e = let z : ⊥ = cc in z
+
+-- a table that was just made
+pub zeros-are : (n k : ℕ) → slice_index (replicate n 0) k ≡ 0
+zeros-are zero k = refl
+zeros-are (suc n) zero = refl
+zeros-are (suc n) (suc k) = zeros-are n k

@@ -1,5 +1,5 @@
 -- The breach that is named of what the passes met is the first.
-use Rattle.std.proofs.Common.{◌≡◌, ◌<◌, ◌+◌, ◌*◌, ℕ, true, inl, List, length, Option, Some, None, IfSome, IsNone, refl, sym, subst, arith}
+use Rattle.std.proofs.Common.{◌≡◌, ◌<◌, ◌≤◌, ◌+◌, ◌*◌, ℕ, true, inl, List, [], ◌++◌, length, Option, Some, None, IfSome, IsNone, refl, sym, ap, ◌∙◌, subst, arith}
 use Rattle.tso_model.specs.Litmus.{Litmus, IsTest}
 use Rattle.basic_laws.specs.Ranks.{rank}
 use Rattle.basic_laws.proofs.Ranks.{is_write_kind}
@@ -13,6 +13,7 @@ use Rattle.axiom_checker.specs.inner.Slots.{Ascends, IsIndex, HasCome, HasNotCom
 use Rattle.axiom_checker.specs.AxiomBreaches.{Overtakes, IsLate, IsSeparated, IsWrongRead, due_at}
 use Rattle.axiom_checker.specs.inner.Passing.{IsMatched, HasMet, AreOfPrograms}
 use Rattle.axiom_checker.specs.FirstBreach.{IsFirstBreach}
+use Rattle.axiom_checker.specs.inner.FirstBreach.{TellsFirstBreach}
 use Rattle.axiom_checker.specs.declared.passing.Met.{Met}
 use Rattle.axiom_checker.specs.declared.breach.Breach.{Breach}
 use Rattle.axiom_checker.specs.declared.breach.Breach.TheVariants.{Extra, Twice, Missing, WrongValue, ProgramOrder, NotAdjacent, ReadValue, NoMemory}
@@ -61,7 +62,7 @@ module _ (t : Litmus) (order : List Entry) (met : Met) (matched : IsMatched t or
       names-none t order (made t order) refl matched.no_stray matched.no_missing (no-wrong-write w) (none-late l) (none-separated p)
       (all.no_wrong_read (whole w) (keeps-order order (none-late l)) (subst (λ o. IsNone o) (sym r) refl))
 
-pub of-programs : (t : Litmus) (order entries : List Entry) (cores words : ℕ) → IsTest t → IsMatched t order → entries ≡ made t order → cores ≡ length t.programs → words ≡ length t.locations
+pub of-programs : (t : Litmus) (order entries : List Entry) (cores words : ℕ) → IsTest t → IsMatched t order → entries ≡ made t order → length t.programs ≤ cores → words ≡ length t.locations
     → AreOfPrograms entries cores words order
 of-programs t order entries cores words valid matched is c w = record {
   made_by_one = λ k x f extra. matched.no_stray k x f (inl (subst (λ es. IsExtra es x) is extra));
@@ -76,7 +77,7 @@ of-programs t order entries cores words valid matched is c w = record {
       let q = m.same.loc in omega (arith, l, q, w);
 }
   where
-    below : (core rank other count cores : ℕ) → core * slots_of_a_core + rank < count * slots_of_a_core → core ≡ other → cores ≡ count → other < cores
+    below : (core rank other count cores : ℕ) → core * slots_of_a_core + rank < count * slots_of_a_core → core ≡ other → count ≤ cores → other < cores
     below core rank other count cores h e f = omega arith
 
 stray-first : (xs ys order : List Entry) → AreAlike xs ys → (x : Entry) → IsEarliest order (IsStray xs order) x → IsEarliest order (IsStray ys order) x
@@ -126,3 +127,14 @@ module _ (t : Litmus) (order shape : List Entry) (is : shape ≡ shape_from 0 t.
 
   pub made-index : IsIndex (made t order) slots
   made-index = index-alike shape (made t order) slots looks-alike index
+
+-- what the last step tells of the order as it is after the pass
+pub tells-met : (t : Litmus) (order now : List Entry) (met : Met) (breach : Option Breach) → now ≡ order → IsMatched t order → HasMet t order met
+    → (IsMatched t now → HasMet t now met → IfSome breach (IsFirstBreach t now)) → (IsMatched t now → HasMet t now met → IsNone breach → IsTsoExecution t now) → TellsFirstBreach t order breach
+tells-met t order now met breach same matched all found none =
+    subst (λ o. TellsFirstBreach t o breach) same
+    (let m = subst (λ o. IsMatched t o) (sym same) matched in let a = subst (λ o. HasMet t o met) (sym same) all in record { found = found m a; none = none m a })
+
+-- the words that the last pass begins with
+pub words-are : (now items begun first words : List ℕ) → now ≡ items → items ≡ begun ++ first → begun ≡ [] → first ≡ words → now ≡ words
+words-are now items begun first words a b c d = a ∙ b ∙ ap (λ xs. xs ++ first) c ∙ d

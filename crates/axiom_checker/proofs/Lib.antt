@@ -20,3 +20,5 @@ pub mod OwnWrites
 pub mod Following
 pub mod Meeting
 pub mod Judging
+pub mod Making
+pub mod Looks

@@ -4,7 +4,7 @@ use Rattle.std.specs.Option.{unwrap_or}
 use Rattle.std.proofs.lemmas.Option.{slice_get-get_or}
 use Rattle.std.proofs.lemmas.Bool.Decides.{leb_tells}
 use Rattle.tso_model.specs.Litmus.{Litmus, IsTest}
-use Rattle.tso_model.specs.ProgramOrder.{is_read, writes_to}
+use Rattle.tso_model.specs.ProgramOrder.{is_read, is_write, writes_to}
 use Rattle.tso_model.specs.ProgramEntries.{made}
 use Rattle.tso_model.specs.Axioms.{IsWhole, KeepsProgramOrder, last_value}
 use Rattle.tso_model.specs.ProgramOrder.{IsStorePart}
@@ -15,7 +15,7 @@ use Rattle.axiom_checker.specs.Entries.{IsWrongWrite, written_value}
 use Rattle.axiom_checker.specs.AxiomBreaches.{IsLate, IsSeparated, IsWrongRead, due_at}
 use Rattle.axiom_checker.specs.inner.Progress.{is_late}
 use Rattle.axiom_checker.specs.inner.Sources.{IsSource}
-use Rattle.axiom_checker.specs.inner.Passing.{HasMet, IsFirstWrongWrite, IsFirstWrongRead, NamesWrongWrite, NamesWrongRead, IsDueFrom, first_of, due_from}
+use Rattle.axiom_checker.specs.inner.Passing.{HasMet, IsFirstWrongWrite, IsFirstWrongRead, NamesWrongWrite, NamesWrongRead, IsDueFrom, AreOfPrograms, first_of, due_from}
 use Rattle.axiom_checker.proofs.Marking.{AreMarks, AreWords, of_core, past_loads, late-tells}
 use Rattle.axiom_checker.proofs.Following.{due-right}
 use Rattle.axiom_checker.specs.declared.passing.Met.{Met}
@@ -181,6 +181,13 @@ no-more-looks before n at looks after l m u last = elim (leb_tells n (at + 1)) [
   | inr p ↦ let q = p.1 in omega arith
 ]
 
+-- whether the order has entries
+pub none-there : (n len : ℕ) → len ≡ n → len ≡ 0 → n ≤ 0
+none-there n len is none = omega arith
+
+pub some-there : (n len : ℕ) → len ≡ n → len ≢ 0 → 0 < n
+some-there n len is some = omega arith
+
 same_or_below : (i n : ℕ) → i < n + 1 → (i ≡ n) ⊎ (i < n)
 same_or_below i n h = grind arith
 
@@ -198,3 +205,10 @@ late-here n at x l (Some a) b h = h
 
 pub late-within : (n at : ℕ) (x : Entry) → at < n → (found late now : Option (ℕ × Entry)) (b : Bool) → late ≡ (if b then Some (at, x) else None) → now ≡ first_of found late → IfSome found (λ a. a.0 < n) → IfSome now (λ a. a.0 < n)
 late-within n at x l found late now b late_is now_is h = subst (λ o. IfSome o (λ a. a.0 < n)) (sym (now_is ∙ ap (λ o. first_of found o) late_is)) (late-here n at x l found b h)
+
+-- the marks and the words have a place for the entry
+pub core-within : (made : List Entry) (cores words : ℕ) (order : List Entry) → AreOfPrograms made cores words order → (at : ℕ) (x : Entry) → slice_get order at ≡ Some x → (marks : ℕ) → marks ≡ cores → x.core.0 < marks
+core-within made cores words order ours at x here marks same = subst (λ n. x.core.0 < n) (sym same) (ours.of_a_core at x here)
+
+pub word-within : (made : List Entry) (cores words : ℕ) (order : List Entry) → AreOfPrograms made cores words order → (at : ℕ) (x : Entry) → slice_get order at ≡ Some x → (now : ℕ) → now ≡ words → is_write x ≡ true → x.loc.0 < now
+word-within made cores words order ours at x here now same write = subst (λ n. x.loc.0 < n) (sym same) (ours.to_a_word at x here write)

@@ -1,5 +1,5 @@
 -- The last write that an entry's own program has before it: where the walk over the programs finds it.
-use Rattle.std.proofs.Common.{◌≡◌, ◌<◌, ◌≤◌, ℕ, ◌+◌, suc, zero, List, [], ◌∷◌, ◌++◌, length, Option, Some, None, slice_get, slice_index_or, slice_set, true, ◌==◌, if◌then◌else◌, arith, ap, sym, ◌∙◌, ◌⊎◌, inl, inr, subst, refl}
+use Rattle.std.proofs.Common.{◌≡◌, ◌<◌, ◌≤◌, ℕ, ◌+◌, suc, zero, List, [], ◌∷◌, ◌++◌, length, get_or, Option, Some, None, slice_get, slice_index_or, slice_set, true, ◌==◌, if◌then◌else◌, arith, ap, sym, ◌∙◌, ◌⊎◌, inl, inr, subst, refl}
 use Rattle.std.proofs.lemmas.List.{get_or-set_same, get_or-set_other}
 use Rattle.std.proofs.lemmas.Option.{slice_get-get_or}
 use Rattle.tso_model.specs.ProgramOrder.{is_write, writes_to}
@@ -24,6 +24,19 @@ IsLatest entries at loc (Some w) =
 
 abbrev pub AreLatest : List Entry → ℕ → List (Option Entry) → Type 0
 AreLatest entries at latest = (loc : ℕ) → IsLatest entries at loc (kept_in latest loc)
+
+-- no place is before the first
+pub none-sooner : {X : Type 0} (k : ℕ) → k < 0 → X
+none-sooner k l = absurd (omega arith)
+
+-- at first there is none
+pub latest-none : (entries : List Entry) (loc : ℕ) (o : Option Entry) → o ≡ None → IsLatest entries 0 loc o
+latest-none entries loc o none = subst (λ o. IsLatest entries 0 loc o) (sym none) (λ k y l f w. none-sooner k l)
+
+-- there is a place for the location of a write of the programs
+pub known-here : (entries : List Entry) (at : ℕ) (d : Entry) → at < length entries → (now words : ℕ) → now ≡ words → ((k : ℕ) (e : Entry) → slice_get entries k ≡ Some e → is_write e ≡ true → e.loc.0 < words)
+    → is_write (get_or entries at d) ≡ true → (get_or entries at d).loc.0 < now
+known-here entries at d l now words same known write = let m = known at (get_or entries at d) (slice_get-get_or entries at d l) write in omega arith
 
 pub same_or_below : (i n : ℕ) → i < n + 1 → (i ≡ n) ⊎ (i < n)
 same_or_below i n h = grind arith

@@ -33,16 +33,16 @@ pub enum Breach {
 
 impl fmt::Display for Breach {
     fn fmt<W: fmt::Write>(&self, f: &mut fmt::Formatter<W>) -> fmt::Result {
-        match self {
-            Breach::Extra(_) => write!(f, "an entry that no program has"),
-            Breach::Twice(_) => write!(f, "an entry stands twice"),
-            Breach::Missing(..) => write!(f, "an entry is missing"),
-            Breach::WrongValue(..) => write!(f, "a write of another value than its program's"),
-            Breach::ProgramOrder(..) => write!(f, "two entries out of program order"),
-            Breach::NotAdjacent(_) => write!(f, "a locked instruction in two parts"),
-            Breach::ReadValue(..) => write!(f, "a read of another value than is due"),
-            Breach::NoMemory => write!(f, "out of memory"),
-        }
+        f.write_str(match self {
+            Breach::Extra(_) => "an entry that no program has",
+            Breach::Twice(_) => "an entry stands twice",
+            Breach::Missing(..) => "an entry is missing",
+            Breach::WrongValue(..) => "a write of another value than its program's",
+            Breach::ProgramOrder(..) => "two entries out of program order",
+            Breach::NotAdjacent(_) => "a locked instruction in two parts",
+            Breach::ReadValue(..) => "a read of another value than is due",
+            Breach::NoMemory => "out of memory",
+        })
     }
 }
 

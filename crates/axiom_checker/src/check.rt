@@ -22,6 +22,7 @@ use crate::sources::own_writes;
 use std::alloc::Global;
 use std::marker::Brand;
 use std::sync::ledger::{Blank, Ledger};
+use tso_model::limits::MAX_CORES;
 use tso_model::{Entry, Execution, NoMemory, Test, Watched};
 
 /// Whether the order is a TSO execution of the test: it holds each memory action of the programs
@@ -138,8 +139,8 @@ fn breach_of_all<L: Ledger>(
         slots,
         sources: &sources,
     };
-    let mut reached = vec![in alloc; 0u32; usize::from(test.cores())]?;
-    let mut settled = vec![in alloc; 0u32; usize::from(test.cores())]?;
+    let mut reached = [0u32; MAX_CORES];
+    let mut settled = [0u32; MAX_CORES];
     let mut words = Vec::new(alloc);
     words.extend_from_slice(test.initial_words())?;
     let met = pass(programs, &mut reached, &mut settled, &mut words, order);

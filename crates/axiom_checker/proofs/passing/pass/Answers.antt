@@ -2,8 +2,25 @@ use Rattle.std.proofs.Common.{◌<◌, length, slice_get, ap, sym, ◌∙◌, ar
 use Rattle.std.proofs.lemmas.List.{length-set}
 use Rattle.std.specs.Option.{unwrap_or}
 use Rattle.axiom_checker.proofs.Marking.{AreMarks, AreWords, of_core, past_loads, marks-none, all-reached, all-settled, words-written}
-use Rattle.axiom_checker.proofs.Meeting.{met-more, met-all, nothing-met, late-within, ahead, no-more-looks}
+use Rattle.axiom_checker.proofs.Meeting.{met-more, met-all, nothing-met, late-within, ahead, no-more-looks, none-there, some-there, core-within, word-within}
+use Rattle.axiom_checker.proofs.Looks.{no-looks}
 use Rattle.axiom_checker.proofs.passing.pass.Goals as goal
+
+pub returns-then-len-eq0-clause-met : goal.returns-then-len-eq0-clause-met
+returns-then-len-eq0-clause-met g c t v w m =
+    met-all t c.args.order.now.order 0 _ (none-there (length c.args.order.now.order) c.len.result c.len.ensures c.if-len-eq0.true) (nothing-met t c.args.order.now.order _ refl refl refl refl)
+
+pub returns-then-len-eq0-clause-within : goal.returns-then-len-eq0-clause-within
+returns-then-len-eq0-clause-within g c = tt
+
+pub returns-then-len-eq0-clause-same : goal.returns-then-len-eq0-clause-same
+returns-then-len-eq0-clause-same g c = refl
+
+pub returns-then-len-eq0-clause-looks : goal.returns-then-len-eq0-clause-looks
+returns-then-len-eq0-clause-looks g c = no-looks c.args.order.now.looks (length c.args.order.now.order)
+
+pub look-x-requires : goal.look-x-requires
+look-x-requires g c = some-there (length c.args.order.now.order) c.len.result c.len.ensures c.if-len-eq0.false
 
 pub loop-at-init : goal.loop-at-init
 loop-at-init g c =
@@ -21,6 +38,49 @@ loop-at-init g c =
       within = tt;
       met = λ t v w m. nothing-met t order _ refl refl refl refl;
     }
+
+pub entry_after-next-requires : goal.entry_after-next-requires
+entry_after-next-requires g c =
+    subst (λ n. c.loop-at.at < n) (c.len-at-end.ensures ∙ ap (λ s. length s.order) c.look-x.ensures.counted ∙ ap length (sym c.loop-at.invariant.order)) c.loop-at-test.true
+
+pub wrong_write-requires : goal.wrong_write-requires
+wrong_write-requires g c = c.requires.index
+
+pub late-requires-clause-reached : goal.late-requires-clause-reached
+late-requires-clause-reached g c =
+    let order = c.args.order.now.order in
+    let inside : c.loop-at.at < length order = subst (λ n. c.loop-at.at < n) (c.len-at-end.ensures ∙ ap (λ s. length s.order) c.look-x.ensures.counted) c.loop-at-test.true in
+    core-within c.args.programs.made.now _ _ order c.requires.of_programs c.loop-at.at c.loop-at.x (c.loop-at.invariant.here inside) (length c.loop-at.reached) c.loop-at.auto.reached
+
+pub late-requires-clause-settled : goal.late-requires-clause-settled
+late-requires-clause-settled g c =
+    let order = c.args.order.now.order in
+    let inside : c.loop-at.at < length order = subst (λ n. c.loop-at.at < n) (c.len-at-end.ensures ∙ ap (λ s. length s.order) c.look-x.ensures.counted) c.loop-at-test.true in
+    core-within c.args.programs.made.now _ _ order c.requires.of_programs c.loop-at.at c.loop-at.x (c.loop-at.invariant.here inside) (length c.loop-at.settled) (c.loop-at.auto.settled ∙ c.requires.settled)
+
+pub wrong_read-requires-clause-index : goal.wrong_read-requires-clause-index
+wrong_read-requires-clause-index g c = c.requires.index
+
+pub wrong_read-requires-clause-sources : goal.wrong_read-requires-clause-sources
+wrong_read-requires-clause-sources g c = c.requires.sources
+
+pub reach-requires : goal.reach-requires
+reach-requires g c =
+    let order = c.args.order.now.order in
+    let inside : c.loop-at.at < length order = subst (λ n. c.loop-at.at < n) (c.len-at-end.ensures ∙ ap (λ s. length s.order) c.look-x.ensures.counted) c.loop-at-test.true in
+    core-within c.args.programs.made.now _ _ order c.requires.of_programs c.loop-at.at c.loop-at.x (c.loop-at.invariant.here inside) (length c.loop-at.reached) c.loop-at.auto.reached
+
+pub settle-requires : goal.settle-requires
+settle-requires g c =
+    let order = c.args.order.now.order in
+    let inside : c.loop-at.at < length order = subst (λ n. c.loop-at.at < n) (c.len-at-end.ensures ∙ ap (λ s. length s.order) c.look-x.ensures.counted) c.loop-at-test.true in
+    core-within c.args.programs.made.now _ _ order c.requires.of_programs c.loop-at.at c.loop-at.x (c.loop-at.invariant.here inside) (length c.loop-at.settled) (c.loop-at.auto.settled ∙ c.requires.settled)
+
+pub write-requires : goal.write-requires
+write-requires g c =
+    let order = c.args.order.now.order in
+    let inside : c.loop-at.at < length order = subst (λ n. c.loop-at.at < n) (c.len-at-end.ensures ∙ ap (λ s. length s.order) c.look-x.ensures.counted) c.loop-at-test.true in
+    word-within c.args.programs.made.now _ _ order c.requires.of_programs c.loop-at.at c.loop-at.x (c.loop-at.invariant.here inside) (length c.loop-at.words) c.loop-at.auto.words
 
 pub loop-at-preserved : goal.loop-at-preserved
 loop-at-preserved g c =
@@ -67,3 +127,12 @@ returns-clause-met g c t v w m =
     met-all t c.args.order.now.order c.loop-at.at c.loop-at.met
     (let l = c.loop-at-test.false in let n = c.len-at-end.ensures in let o = ap (λ s. length s.order) c.look-x.ensures.counted in omega (arith, l, n, o))
     (c.loop-at.invariant.met t v w m)
+
+pub returns-clause-within : goal.returns-clause-within
+returns-clause-within g c = c.loop-at.invariant.within
+
+pub returns-clause-same : goal.returns-clause-same
+returns-clause-same g c = c.loop-at.invariant.order
+
+pub returns-clause-looks : goal.returns-clause-looks
+returns-clause-looks g c = c.loop-at.invariant.no_more

@@ -1,7 +1,23 @@
 use Rattle.std.proofs.Common.{◌+◌, length, length-append, ap, ◌∙◌, arith}
 use Rattle.std.proofs.lemmas.Option.{slice_get_within}
-use Rattle.axiom_checker.proofs.OwnWrites.{sources-step, latest-step}
+use Rattle.std.proofs.lemmas.Result.{IfOk-from_err}
+use Rattle.axiom_checker.specs.inner.Programs.{kept_in}
+use Rattle.axiom_checker.proofs.OwnWrites.{sources-step, latest-step, latest-none, none-sooner, known-here}
 use Rattle.axiom_checker.proofs.sources.find_sources.Goals as goal
+
+pub loop-e-init : goal.loop-e-init
+loop-e-init c = record {
+  latest = λ loc. latest-none c.args.made.now loc (kept_in c.args.latest.now loc) (c.requires.none_yet loc);
+  sources = λ k e l. none-sooner k l;
+  count = ap length c.new-sources.ensures.items;
+}
+
+pub returns-in_err-push : goal.returns-in_err-push
+returns-in_err-push c = IfOk-from_err c.from_residual.result _ c.from_residual.ensures.0
+
+pub note_write-requires : goal.note_write-requires
+note_write-requires c write =
+    known-here c.args.made.now c.loop-e.e-index _ c.loop-e-test.true (length c.loop-e.latest) (length c.args.latest.now) c.loop-e.auto.latest c.requires.known write
 
 pub loop-e-preserved : goal.loop-e-preserved
 loop-e-preserved c =

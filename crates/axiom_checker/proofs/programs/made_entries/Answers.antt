@@ -1,0 +1,50 @@
+use Rattle.std.proofs.Common.{◌<◌, ◌≤◌, ◌++◌, length, take, drop, ap, sym, ◌∙◌, subst, refl}
+use Rattle.std.proofs.lemmas.Result.{IfOk-from_err}
+use Rattle.axiom_checker.specs.inner.Programs.{made_reading}
+use Rattle.axiom_checker.proofs.Making.{made-all, made-more, reads-here, reads-behind}
+use Rattle.axiom_checker.proofs.programs.made_entries.Goals as goal
+
+pub loop-number-init : goal.loop-number-init
+loop-number-init c = record {
+  entries = ap (λ es. es ++ made_reading 0 c.args.test.now.programs c.args.test.now.registers c.args.reads.now) (sym c.new-entries.ensures.items);
+  enough = c.requires;
+}
+
+pub read_count-count-requires : goal.read_count-count-requires
+read_count-count-requires c = subst (λ n. c.loop-number.number < n) c.cores-number-end.ensures.value c.loop-number-test.true
+
+pub split_at-requires : goal.split_at-requires
+split_at-requires c =
+    reads-here c.loop-number.number c.args.test.now.programs c.args.test.now.registers (subst (λ n. c.loop-number.number < n) c.cores-number-end.ensures.value c.loop-number-test.true)
+    c.read_count-count.result (length c.loop-number.left.now) c.read_count-count.ensures c.loop-number.invariant.enough
+
+pub thread_entries-requires-clause-known : goal.thread_entries-requires-clause-known
+thread_entries-requires-clause-known c = subst (λ n. c.loop-number.number < n) c.cores-number-end.ensures.value c.loop-number-test.true
+
+pub thread_entries-requires-clause-reads : goal.thread_entries-requires-clause-reads
+thread_entries-requires-clause-reads c = c.split_at.ensures.front_len ∙ c.read_count-count.ensures
+
+pub returns-in_err-thread : goal.returns-in_err-thread
+returns-in_err-thread c = IfOk-from_err c.from_residual.result _ c.from_residual.ensures.0
+
+pub returns-in_err-extend_from_slice : goal.returns-in_err-extend_from_slice
+returns-in_err-extend_from_slice c = IfOk-from_err c.from_residual-in_err-extend_from_slice.result _ c.from_residual-in_err-extend_from_slice.ensures.0
+
+pub loop-number-preserved : goal.loop-number-preserved
+loop-number-preserved c =
+    let t = c.args.test.now in
+    let core = c.loop-number.number in
+    let within = subst (λ n. core < n) c.cores-number-end.ensures.value c.loop-number-test.true in
+    let count = c.read_count-count.ensures in
+    record {
+      entries = made-more core t.programs t.registers within c.loop-number.left.now c.split_at.result.0.now c.split_at.result.1.now
+          (c.split_at.ensures.front ∙ ap (λ n. take n c.loop-number.left.now) count) (c.split_at.ensures.back ∙ ap (λ n. drop n c.loop-number.left.now) count)
+          _ c.loop-number.entries.items c.in_ok-thread.thread.entries.items c.extend_from_slice.new.self.items c.in_ok-thread.ensures.entries
+          (c.in_ok-extend_from_slice.ensures.items ∙ ap (λ es. c.loop-number.entries.items ++ es) c.deref.ensures.value) c.loop-number.invariant.entries;
+      enough = reads-behind core t.programs t.registers within c.read_count-count.result (length c.loop-number.left.now) (length c.split_at.result.1.now) count c.split_at.ensures.back_len c.loop-number.invariant.enough;
+    }
+
+pub returns : goal.returns
+returns c =
+    made-all (λ ps. made_reading c.loop-number.number ps c.args.test.now.registers c.loop-number.left.now) c.args.test.now.programs c.loop-number.number refl (subst (λ n. n ≤ c.loop-number.number) c.cores-number-end.ensures.value c.loop-number-test.false)
+    _ c.loop-number.entries.items c.loop-number.invariant.entries
