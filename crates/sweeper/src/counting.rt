@@ -3,9 +3,13 @@
 
 ghost use Rattle.std.specs.Prelude.{◌≡◌, ◌<◌, ◌-◌, ◌^◌, ◌==◌, IfOk, OnOk, length};
 ghost use Rattle.tso_model.specs.Runs.{CoresExist};
-ghost use Rattle.machine_core.specs.Running.{restarted};
-ghost use Rattle.tso_report.specs.Tally.{runs_in};
+ghost use Rattle.protocol_tables.specs.Tables.{table_of};
+ghost use Rattle.protocol_tables.specs.declared.kind.ProtocolKind.{ProtocolKind};
+ghost use Rattle.machine_core.specs.Configuration.{Configuration};
+ghost use Rattle.machine_core.specs.Running.{new_machine, restarted};
+ghost use Rattle.tso_report.specs.Tally.{nothing_counted, runs_in, values_in, with_state, with_verdict};
 ghost use Rattle.simulator.specs.inner.Runs.{machine_run, AnswersFitOn};
+ghost use Rattle.simulator.specs.Simulation.{verdict};
 ghost use Rattle.sweeper.specs.Counting.{with_one_run, sweep_counts, SweepAnswersFit};
 ghost use Rattle.sweeper.specs.inner.Counting.{EachKindWith};
 
@@ -49,56 +53,107 @@ pub fn sweep<'a>(
     ensures ended { IfOk result (λ s. s.all_ended ≡ (s.tally.counts.unfinished == 0)) }
     ensures answers { OnOk result (SweepAnswersFit test.now protocol config plan) }
 {
+    let mut tally = Tally::new(alloc, test)?;
+    let all_ended = sweep_into(alloc, test, protocol, config, plan, &mut tally)?;
+    Ok(Swept { tally, all_ended })
+}
+
+/// Makes the runs of a plan, counts them in a tally that has counted nothing yet, and answers whether all ended.
+fn sweep_into(
+    alloc: Global,
+    test: &Test,
+    protocol: ProtocolKind,
+    config: Config,
+    plan: SweepPlan,
+    tally: &mut Tally<'_>,
+) -> Result<bool, NoMemory>
+    requires test { tally.old.test ≡ test.now }
+    requires nothing { tally.old.counts ≡ nothing_counted }
+
+    ensures test { OnOk result (tally.new.test ≡ test.now) }
+    ensures counts { OnOk result (tally.new.counts ≡ sweep_counts test.now protocol config plan) }
+    ensures ended { IfOk result (λ b. b ≡ (tally.new.counts.unfinished == 0)) }
+    ensures answers { OnOk result (SweepAnswersFit test.now protocol config plan) }
+{
     match config.bus() {
-        Bus::Atomic => sweep_flat(alloc, test, config, plan),
-        Bus::Split => sweep_split(alloc, test, protocol, config, plan),
+        Bus::Atomic => sweep_flat(alloc, test, config, plan, tally),
+        Bus::Split => sweep_split(alloc, test, protocol, config, plan, tally),
     }
 }
 
 /// The same by the machine with its caches: on a split bus a run goes by their answers.
-fn sweep_split<'a>(
+fn sweep_split(
     alloc: Global,
-    test: &'a Test,
+    test: &Test,
     protocol: ProtocolKind,
     config: Config,
     plan: SweepPlan,
-) -> Result<Swept<'a>, NoMemory>
-    ensures test { IfOk result (λ s. s.tally.test ≡ test.now) }
-    ensures counts { IfOk result (λ s. s.tally.counts ≡ sweep_counts test.now protocol config plan) }
-    ensures ended { IfOk result (λ s. s.all_ended ≡ (s.tally.counts.unfinished == 0)) }
+    tally: &mut Tally<'_>,
+) -> Result<bool, NoMemory>
+    requires test { tally.old.test ≡ test.now }
+    requires nothing { tally.old.counts ≡ nothing_counted }
+
+    ensures test { OnOk result (tally.new.test ≡ test.now) }
+    ensures counts { OnOk result (tally.new.counts ≡ sweep_counts test.now protocol config plan) }
+    ensures ended { IfOk result (λ b. b ≡ (tally.new.counts.unfinished == 0)) }
     ensures answers { OnOk result (SweepAnswersFit test.now protocol config plan) }
 {
     match protocol {
-        ProtocolKind::Msi => sweep_on(alloc, test, Msi, config, plan),
-        ProtocolKind::Mesi => sweep_on(alloc, test, Mesi, config, plan),
-        ProtocolKind::Moesi => sweep_on(alloc, test, Moesi, config, plan),
-        ProtocolKind::Mosi => sweep_on(alloc, test, Mosi, config, plan),
+        ProtocolKind::Msi => sweep_on(alloc, test, Msi, config, plan, tally),
+        ProtocolKind::Mesi => sweep_on(alloc, test, Mesi, config, plan, tally),
+        ProtocolKind::Moesi => sweep_on(alloc, test, Moesi, config, plan, tally),
+        ProtocolKind::Mosi => sweep_on(alloc, test, Mosi, config, plan, tally),
     }
 }
 
-/// Makes the runs on one machine, which goes back to the beginning of the test after each.
-fn sweep_on<'a, P: Protocol>(
+/// The same with this protocol.
+fn sweep_on<P: Protocol>(
     alloc: Global,
-    test: &'a Test,
+    test: &Test,
     protocol: P,
     config: Config,
     plan: SweepPlan,
-) -> Result<Swept<'a>, NoMemory>
-    ensures test { IfOk result (λ s. s.tally.test ≡ test.now) }
-    ensures counts { EachKindWith (P.table protocol) (λ kind. IfOk result (λ s. s.tally.counts ≡ sweep_counts test.now kind config plan)) }
-    ensures ended { IfOk result (λ s. s.all_ended ≡ (s.tally.counts.unfinished == 0)) }
+    tally: &mut Tally<'_>,
+) -> Result<bool, NoMemory>
+    requires test { tally.old.test ≡ test.now }
+    requires nothing { tally.old.counts ≡ nothing_counted }
+
+    ensures test { OnOk result (tally.new.test ≡ test.now) }
+    ensures counts { EachKindWith (P.table protocol) (λ kind. OnOk result (tally.new.counts ≡ sweep_counts test.now kind config plan)) }
+    ensures ended { IfOk result (λ b. b ≡ (tally.new.counts.unfinished == 0)) }
     ensures answers { EachKindWith (P.table protocol) (λ kind. OnOk result (SweepAnswersFit test.now kind config plan)) }
 {
-    let mut tally = Tally::new(alloc, test)?;
     let mut machine = Machine::new(alloc, protocol, test, config)?;
+    count_runs(alloc, test, &mut machine, plan, tally)
+}
+
+/// Makes the runs on this machine, which goes back to the beginning of the test after each, counts them, and answers whether all
+/// ended.
+fn count_runs<P: Protocol>(
+    alloc: Global,
+    test: &Test,
+    machine: &mut Machine<'_, P>,
+    plan: SweepPlan,
+    tally: &mut Tally<'_>,
+) -> Result<bool, NoMemory>
+    requires beginning { machine.old ≡ restarted machine.old }
+    requires machine { machine.old.test ≡ test.now }
+    requires tally { tally.old.test ≡ test.now }
+    requires nothing { tally.old.counts ≡ nothing_counted }
+
+    ensures test { OnOk result (tally.new.test ≡ test.now) }
+    ensures counts { OnOk result ((kind : ProtocolKind) (config : Configuration) → machine.old ≡ new_machine (table_of kind) config test.now → tally.new.counts ≡ sweep_counts test.now kind config plan) }
+    ensures ended { IfOk result (λ b. b ≡ (tally.new.counts.unfinished == 0)) }
+    ensures answers { OnOk result ((kind : ProtocolKind) (config : Configuration) → machine.old ≡ new_machine (table_of kind) config test.now → SweepAnswersFit test.now kind config plan) }
+{
     let mut all_ended = true;
     let length = plan.length() as usize;
     for at in 0..plan.seeds() {
         let choices = Seeded::new(test.cores(), plan.seed(at), length);
-        let ended = count_run(alloc, test, &mut machine, choices, &mut tally)?;
+        let ended = count_run(alloc, test, machine, choices, tally)?;
         all_ended = all_ended && ended;
     }
-    Ok(Swept { tally, all_ended })
+    Ok(all_ended)
 }
 
 /// Runs the test under these choices, counts the run, and answers whether it ended. The machine, which is at
@@ -134,7 +189,25 @@ fn count_run<P: Protocol, C: Choices>(
         return Ok(false);
     }
     let state = machine.end_run(alloc)?;
-    let holds = verdict_of(test, &state.registers, &state.memory);
-    tally.add_state(&state.registers, &state.memory, holds)?;
+    count_state(test, &state.registers, &state.memory, tally)?;
     Ok(true)
+}
+
+/// Counts a run that ended with these registers and this memory.
+pub(crate) fn count_state(
+    test: &Test,
+    registers: &[[u32; 6]],
+    memory: &[u32],
+    tally: &mut Tally<'_>,
+) -> Result<(), NoMemory>
+    requires tally { tally.old.test ≡ test.now }
+    requires cores { length registers.now ≡ length test.now.programs }
+    requires locations { length memory.now ≡ length test.now.locations }
+    requires room { runs_in tally.old.counts < 2 ^ 32 - 1 }
+
+    ensures counts { OnOk result (tally.new.counts ≡ with_verdict (verdict test.now registers.now memory.now) (with_state (values_in test.now registers.now memory.now) tally.old.counts)) }
+    ensures test { tally.new.test ≡ tally.old.test }
+{
+    let holds = verdict_of(test, registers, memory);
+    tally.add_state(registers, memory, holds)
 }

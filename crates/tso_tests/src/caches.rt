@@ -1,6 +1,6 @@
 //! One set of a cache: which line leaves, and what keeps its place, step by step as one counts by hand.
 
-use crate::named::MEMORY;
+use crate::named::{MEMORY, holds};
 use cache_set::{CacheSet, Line, Victim};
 use protocol_tables::State;
 use std::alloc::Global;
@@ -27,60 +27,51 @@ fn copy(state: State, word: u32) -> Line {
     }
 }
 
-fn has(rt: &impl Abort, set: &CacheSet, line: u8, state: State, word: u32) {
-    assert!(rt; set.look(line).copied() == Some(copy(state, word)));
+fn has(set: &CacheSet, line: u8, state: State, word: u32) -> bool {
+    set.look(line).copied() == Some(copy(state, word))
 }
 
-fn lacks(rt: &impl Abort, set: &CacheSet, line: u8) {
-    assert!(rt; set.look(line).is_none());
-}
-
-fn fill(rt: &impl Abort, set: &mut CacheSet, line: u8, content: Line) -> Option<Victim> {
-    assert!(rt; set.look(line).is_none());
-    assert!(rt; content.state != State::I);
-    set.fill(line, content.state, content.words)
-        .expect(rt, MEMORY)
-}
-
-fn victim_is(rt: &impl Abort, victim: Option<Victim>, wanted: Option<Victim>) {
-    assert!(rt; victim == wanted);
+/// Puts a line in that isn't there yet; for it this one leaves.
+fn fill(rt: &impl Abort, set: &mut CacheSet, line: u8, content: Line, victim: Option<Victim>) {
+    holds(rt, set.look(line).is_none());
+    holds(rt, content.state != State::I);
+    let left = set
+        .fill(line, content.state, content.words)
+        .expect(rt, MEMORY);
+    holds(rt, left == victim);
 }
 
 fn touch(rt: &impl Abort, set: &mut CacheSet, line: u8) {
-    assert!(rt; set.look(line).is_some());
+    holds(rt, set.look(line).is_some());
     set.touch(line);
 }
 
 fn write(rt: &impl Abort, set: &mut CacheSet, line: u8, word: u32) {
-    assert!(rt; set.look(line).is_some());
+    holds(rt, set.look(line).is_some());
     set.set_state(line, State::M);
     set.write_word(line, 0, word);
 }
 
 fn drop_line(rt: &impl Abort, set: &mut CacheSet, line: u8, content: Line) {
-    assert!(rt; set.look(line).is_some());
-    assert!(rt; set.drop_line(line) == content);
+    holds(rt, set.look(line).is_some());
+    holds(rt, set.drop_line(line) == content);
 }
 
 fn make(rt: &impl Abort, set: &mut CacheSet, call: Call) {
     match call {
-        Call::Fill(line, state, word) => victim_is(
-            rt,
-            fill(rt, set, line, copy(state, word)),
-            None,
-        ),
+        Call::Fill(line, state, word) => fill(rt, set, line, copy(state, word), None),
         Call::Replace(line, state, word, left, left_state, left_word) => {
             let victim = Victim {
                 line: left,
                 content: copy(left_state, left_word),
             };
-            victim_is(rt, fill(rt, set, line, copy(state, word)), Some(victim));
+            fill(rt, set, line, copy(state, word), Some(victim));
         }
         Call::Touch(line) => touch(rt, set, line),
         Call::Write(line, word) => write(rt, set, line, word),
         Call::Drop(line, state, word) => drop_line(rt, set, line, copy(state, word)),
-        Call::Has(line, state, word) => has(rt, set, line, state, word),
-        Call::Lacks(line) => lacks(rt, set, line),
+        Call::Has(line, state, word) => holds(rt, has(set, line, state, word)),
+        Call::Lacks(line) => holds(rt, set.look(line).is_none()),
     }
 }
 

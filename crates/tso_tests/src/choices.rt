@@ -1,5 +1,6 @@
 //! The words of seeds, against published ones: a seed must give the same run on every machine and in every version.
 
+use crate::named::holds;
 use rand_core::SeedableRng;
 use rand_core::utils::NextWord;
 use rand_pcg::Lcg64Xsh32;
@@ -45,7 +46,7 @@ fn are_the_same(rt: &impl Abort, alloc: Global, cores: u8, seeds: &[u8], choices
     assert!(rt; 0 < cores);
     let seeded = read_choices(alloc, cores, seeds).expect(rt, "choices");
     let listed = read_choices(alloc, cores, choices).expect(rt, "choices");
-    assert!(rt; seeded == listed);
+    holds(rt, seeded == listed);
 }
 
 #[test]

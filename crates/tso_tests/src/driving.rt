@@ -4,7 +4,7 @@ ghost use Rattle.snoop_bus.specs.Bus.{holder_of, IsFree};
 ghost use Rattle.tso_tests.specs.inner.Small.{IsSmall};
 
 use crate::calls::{Call, HIT};
-use crate::named::{MEMORY, P0};
+use crate::named::{MEMORY, P0, holds};
 use protocol_tables::{Mesi, Moesi, Mosi, Msi, Protocol, ProtocolKind, State};
 use snoop_bus::{Access, BusAction, Shape, SnoopBus, Stage};
 use std::alloc::Global;
@@ -30,13 +30,11 @@ fn are_there(rt: &impl Abort, core: Core, loc: Loc)
     ensures core { core.0 < 2 }
     ensures loc { loc.0 < 3 }
 {
-    assert!(rt; core.0 < 2);
-    assert!(rt; loc.0 < 3);
+    assert!(rt; core.0 < 2 && loc.0 < 3);
 }
 
 fn found(rt: &impl Abort, got: (u32, Access), word: u32, access: Access) {
-    assert!(rt; got.0 == word);
-    assert!(rt; got.1 == access);
+    holds(rt, got.0 == word && got.1 == access);
 }
 
 fn load<P: Protocol>(
@@ -72,7 +70,7 @@ fn store<P: Protocol>(
 {
     are_there(rt, core, loc);
     let got = bus.store(core, loc, value).expect(rt, MEMORY);
-    assert!(rt; got == access);
+    holds(rt, got == access);
 }
 
 fn swap<P: Protocol>(
@@ -120,7 +118,7 @@ fn ask_load<P: Protocol>(rt: &impl Abort, bus: &mut SnoopBus<P>, core: Core, loc
     ensures holds { holder_of bus.new ≡ Some result }
 {
     are_there(rt, core, loc);
-    assert!(rt; !bus.would_hit(core, loc, false));
+    holds(rt, !bus.would_hit(core, loc, false));
     bus.ask(core, loc, false);
     BusAction {
         core,
@@ -150,7 +148,7 @@ fn hit<P: Protocol>(rt: &impl Abort, bus: &mut SnoopBus<P>, core: Core, loc: Loc
     ensures holds { holder_of bus.new ≡ holder_of bus.old }
 {
     are_there(rt, core, loc);
-    assert!(rt; bus.would_hit(core, loc, false));
+    holds(rt, bus.would_hit(core, loc, false));
     let got = bus.load(core, loc).expect(rt, MEMORY);
     found(rt, got, word, HIT);
 }
@@ -168,7 +166,7 @@ fn complete_load<P: Protocol>(
     ensures free { IsFree bus.new }
 {
     let is_load = matches!(holder.stage, Stage::Load);
-    assert!(rt; is_load);
+    holds(rt, is_load);
     let got = bus
         .complete_load(holder.core, holder.loc)
         .expect(rt, MEMORY);
@@ -188,11 +186,11 @@ fn complete_store<P: Protocol>(
     ensures free { IsFree bus.new }
 {
     let is_write = matches!(holder.stage, Stage::Write);
-    assert!(rt; is_write);
+    holds(rt, is_write);
     let got = bus
         .complete_store(holder.core, holder.loc, value)
         .expect(rt, MEMORY);
-    assert!(rt; got == access);
+    holds(rt, got == access);
 }
 
 fn complete_read<P: Protocol>(
@@ -208,7 +206,7 @@ fn complete_read<P: Protocol>(
     ensures holds { holder_of bus.new ≡ Some result }
 {
     let is_write = matches!(holder.stage, Stage::Write);
-    assert!(rt; is_write);
+    holds(rt, is_write);
     let got = bus
         .complete_read(holder.core, holder.loc)
         .expect(rt, MEMORY);
@@ -232,46 +230,40 @@ fn complete_write<P: Protocol>(
     ensures free { IsFree bus.new }
 {
     let is_locked = matches!(holder.stage, Stage::Locked);
-    assert!(rt; is_locked);
+    holds(rt, is_locked);
     bus.complete_write(holder.core, holder.loc, value);
 }
 
-fn memory_has<P: Protocol>(rt: &impl Abort, bus: &SnoopBus<P>, loc: Loc, word: u32)
+fn memory_has<P: Protocol>(bus: &SnoopBus<P>, loc: Loc, word: u32) -> bool
     requires { IsSmall bus.now }
 {
-    assert!(rt; loc.0 < 3);
-    assert!(rt; bus.memory_word(loc) == word);
+    loc.0 < 3 && bus.memory_word(loc) == word
 }
 
-fn first_is<P: Protocol>(rt: &impl Abort, bus: &SnoopBus<P>, state: State, word: u32)
+fn first_is<P: Protocol>(bus: &SnoopBus<P>, state: State, word: u32) -> bool
     requires { IsSmall bus.now }
 {
     match bus.set_of(P0, 0).look(0) {
-        Some(copy) => {
-            assert!(rt; copy.state == state);
-            assert!(rt; copy.words[0] == word);
-        }
-        None => assert!(rt; false),
+        Some(copy) => copy.state == state && copy.words[0] == word,
+        None => false,
     }
 }
 
-fn nothing_hits<P: Protocol>(rt: &impl Abort, bus: &SnoopBus<P>, core: Core, loc: Loc)
+fn nothing_hits<P: Protocol>(bus: &SnoopBus<P>, core: Core, loc: Loc) -> bool
     requires { IsSmall bus.now }
 {
-    assert!(rt; core.0 < 2);
-    assert!(rt; !bus.would_hit(core, loc, false));
-    assert!(rt; !bus.would_hit(core, loc, true));
+    core.0 < 2 && !bus.would_hit(core, loc, false) && !bus.would_hit(core, loc, true)
 }
 
 /// A look at the bus, which may be held or not.
-fn look<P: Protocol>(rt: &impl Abort, bus: &SnoopBus<P>, call: Call)
+fn look<P: Protocol>(bus: &SnoopBus<P>, call: Call) -> bool
     requires { IsSmall bus.now }
 {
     match call {
-        Call::Memory(loc, word) => memory_has(rt, bus, loc, word),
-        Call::First(state, word) => first_is(rt, bus, state, word),
-        Call::NothingHits(core, loc) => nothing_hits(rt, bus, core, loc),
-        _ => assert!(rt; false),
+        Call::Memory(loc, word) => memory_has(bus, loc, word),
+        Call::First(state, word) => first_is(bus, state, word),
+        Call::NothingHits(core, loc) => nothing_hits(bus, core, loc),
+        _ => false,
     }
 }
 
@@ -290,7 +282,7 @@ fn begin<P: Protocol>(rt: &impl Abort, bus: &mut SnoopBus<P>, call: Call) -> Opt
         Call::Settle => bus.settle(),
         Call::AskLoad(core, loc) => return Some(ask_load(rt, bus, core, loc)),
         Call::AskWrite(core, loc) => return Some(ask_write(rt, bus, core, loc)),
-        _ => look(rt, bus, call),
+        _ => holds(rt, look(bus, call)),
     }
     None
 }
@@ -319,7 +311,7 @@ fn go_on<P: Protocol>(
             return Some(holder);
         }
         _ => {
-            look(rt, bus, call);
+            holds(rt, look(bus, call));
             return Some(holder);
         }
     }

@@ -1,9 +1,10 @@
 //! How many final states tests of the literature have, with ample memory, against the numbers that are published.
 
-use crate::named::{MEMORY, test_of};
+use crate::named::{MEMORY, holds, test_of};
 use explorer::{ExploreFault, explore};
 use std::alloc::Global;
 use std::process::Abort;
+use tso_model::Test;
 
 const SB: &[u8] = b"\
 X86 SB\n\
@@ -39,60 +40,82 @@ X86 same-register\n\
 
 /// How many states a search of a test keeps, and how many final states it finds, where nobody looks at
 /// these registers.
-fn searched(rt: &impl Abort, alloc: Global, text: &[u8], hidden: &[[bool; 6]]) -> (usize, usize) {
+fn sizes(
+    alloc: Global,
+    test: &Test,
+    depth: u8,
+    limit: usize,
+    hidden: &[[bool; 6]],
+) -> Result<(usize, usize), ExploreFault> {
+    let found = explore(alloc, test, depth, limit, hidden)?;
+    Ok((found.kept, found.final_states.len()))
+}
+
+/// The same of the test that a text spells.
+fn searched(
+    rt: &impl Abort,
+    alloc: Global,
+    text: &[u8],
+    depth: u8,
+    limit: usize,
+    hidden: &[[bool; 6]],
+) -> Result<(usize, usize), ExploreFault> {
     let test = test_of(rt, alloc, text);
-    let found = explore(alloc, &test, 32, 10_000, hidden).expect(rt, MEMORY);
-    (found.kept, found.final_states.len())
+    sizes(alloc, &test, depth, limit, hidden)
+}
+
+/// The same at the greatest depth, with ample memory.
+fn looked_at(rt: &impl Abort, alloc: Global, text: &[u8], hidden: &[[bool; 6]]) -> (usize, usize) {
+    searched(rt, alloc, text, 32, 10_000, hidden).expect(rt, MEMORY)
 }
 
 /// How many final states a test has at a depth, where a search may keep a thousand states.
 fn count(rt: &impl Abort, alloc: Global, text: &[u8], depth: u8) -> usize {
-    let test = test_of(rt, alloc, text);
-    let found = explore(alloc, &test, depth, 1000, &[]).expect(rt, MEMORY);
-    found.final_states.len()
+    searched(rt, alloc, text, depth, 1000, &[])
+        .expect(rt, MEMORY)
+        .1
 }
 
 /// Whether a search that may keep so many states of the first test finds that they are more.
 fn are_too_many(rt: &impl Abort, alloc: Global, limit: usize) -> bool {
-    let test = test_of(rt, alloc, SB);
-    matches!(
-        explore(alloc, &test, 32, limit, &[]),
-        Err(ExploreFault::TooMany)
-    )
+    searched(rt, alloc, SB, 32, limit, &[]) == Err(ExploreFault::TooMany)
 }
 
 #[test]
 fn tso_allows_as_many_final_states_as_are_published(rt: HostRuntime) {
-    assert!(rt; count(&rt, rt.alloc(), SB, 32) == 4);
-    assert!(rt; count(&rt, rt.alloc(), N6, 32) == 5);
-    assert!(rt; count(&rt, rt.alloc(), IRIW, 32) == 15);
+    holds(&rt, count(&rt, rt.alloc(), SB, 32) == 4);
+    holds(&rt, count(&rt, rt.alloc(), N6, 32) == 5);
+    holds(&rt, count(&rt, rt.alloc(), IRIW, 32) == 15);
 }
 
 #[test]
 fn sequential_consistency_allows_fewer(rt: HostRuntime) {
-    assert!(rt; count(&rt, rt.alloc(), SB, 0) == 3);
-    assert!(rt; count(&rt, rt.alloc(), N6, 0) == 4);
+    holds(&rt, count(&rt, rt.alloc(), SB, 0) == 3);
+    holds(&rt, count(&rt, rt.alloc(), N6, 0) == 4);
 }
 
 #[test]
 fn more_states_than_the_limit_are_too_many(rt: HostRuntime) {
-    assert!(rt; are_too_many(&rt, rt.alloc(), 0));
-    assert!(rt; are_too_many(&rt, rt.alloc(), 3));
-    assert!(rt; !are_too_many(&rt, rt.alloc(), 1000));
+    holds(&rt, are_too_many(&rt, rt.alloc(), 0));
+    holds(&rt, are_too_many(&rt, rt.alloc(), 3));
+    holds(&rt, !are_too_many(&rt, rt.alloc(), 1000));
 }
 
 #[test]
 fn registers_that_nobody_looks_at_tell_no_states_apart(rt: HostRuntime) {
-    let (kept, finals) = searched(&rt, rt.alloc(), SAME_REGISTER, &[]);
-    let (fewer, alike) = searched(&rt, rt.alloc(), SAME_REGISTER, &[[true; 6]; 2]);
-    assert!(rt; fewer < kept);
-    assert!(rt; alike < finals);
+    let (kept, finals) = looked_at(&rt, rt.alloc(), SAME_REGISTER, &[]);
+    let (fewer, alike) = looked_at(&rt, rt.alloc(), SAME_REGISTER, &[[true; 6]; 2]);
+    holds(&rt, fewer < kept);
+    holds(&rt, alike < finals);
 }
 
 #[test]
 fn a_register_that_is_looked_at_tells_states_apart(rt: HostRuntime) {
     let eax = [false, true, true, true, true, true];
-    assert!(rt; searched(&rt, rt.alloc(), SB, &[eax; 2]).1 == 4);
-    assert!(rt; searched(&rt, rt.alloc(), SB, &[eax, [true; 6]]).1 == 2);
-    assert!(rt; searched(&rt, rt.alloc(), SB, &[[true; 6]; 2]).1 == 1);
+    holds(&rt, looked_at(&rt, rt.alloc(), SB, &[eax; 2]).1 == 4);
+    holds(
+        &rt,
+        looked_at(&rt, rt.alloc(), SB, &[eax, [true; 6]]).1 == 2,
+    );
+    holds(&rt, looked_at(&rt, rt.alloc(), SB, &[[true; 6]; 2]).1 == 1);
 }

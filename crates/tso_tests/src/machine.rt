@@ -3,9 +3,9 @@
 ghost use Rattle.std.specs.Prelude.{◌≡◌, ◌<◌, length};
 ghost use Rattle.tso_model.specs.FlatMachine.{chosen};
 
-use crate::named::{MEMORY, test_of};
+use crate::named::{MEMORY, holds, test_of};
 use machine_core::{Bus, Choice, Config, Machine, Outcome, Shape, Stall};
-use protocol_tables::{Mesi, Protocol};
+use protocol_tables::Mesi;
 use std::alloc::Global;
 use std::process::Abort;
 use tso_model::{Core, Test};
@@ -24,17 +24,22 @@ const CHOICES: [(Choice, Outcome); 6] = [
 ];
 
 /// Makes a choice where memory is ample.
-fn choose<P: Protocol>(
-    rt: &impl Abort,
-    machine: &mut Machine<'_, P>,
-    choice: Choice,
-    wanted: Outcome,
-)
+fn choose(rt: &impl Abort, machine: &mut Machine<'_, Mesi>, choice: Choice, wanted: Outcome)
     requires { chosen choice < length machine.old.test.programs }
     ensures { machine.new.test ≡ machine.old.test }
 {
     let outcome = machine.choose(choice).expect(rt, MEMORY);
-    assert!(rt; outcome == wanted);
+    holds(rt, outcome == wanted);
+}
+
+/// Makes the choices, after which the test has ended.
+fn choose_all(rt: &impl Abort, machine: &mut Machine<'_, Mesi>)
+    requires { length machine.old.test.programs ≡ 1 }
+{
+    for (choice, outcome) in &CHOICES {
+        choose(rt, machine, *choice, *outcome);
+    }
+    holds(rt, machine.is_ended());
 }
 
 /// Makes choices of the first core, on buffers for one store.
@@ -42,10 +47,7 @@ fn answers(rt: &impl Abort, alloc: Global, test: &Test) {
     assert!(rt; test.cores() == 1);
     let config = Config::new(1, Shape::default(), Bus::Atomic).expect(rt, "a configuration");
     let mut machine = Machine::new(alloc, Mesi, test, config).expect(rt, MEMORY);
-    for (choice, outcome) in &CHOICES {
-        choose(rt, &mut machine, *choice, *outcome);
-    }
-    assert!(rt; machine.is_ended());
+    choose_all(rt, &mut machine);
 }
 
 #[test]

@@ -1,6 +1,8 @@
 //! Cores and locations by the names that the text of a test gives them, and such a test: so a test here reads as one in a
 //! text.
 
+ghost use Rattle.std.specs.Prelude.{◌≡◌, true};
+
 use litmus_reader::read_test;
 use std::alloc::Global;
 use std::process::Abort;
@@ -18,6 +20,13 @@ pub const X: Loc = Loc(0);
 pub const Y: Loc = Loc(1);
 
 pub const Z: Loc = Loc(2);
+
+/// Ends the test where this isn't so. The panic stands here alone, since each one makes the proof of its function longer.
+pub fn holds(rt: &impl Abort, fact: bool)
+    ensures { fact ≡ true }
+{
+    assert!(rt; fact);
+}
 
 /// The test that a text spells.
 pub fn test_of(rt: &impl Abort, alloc: Global, text: &[u8]) -> Test {

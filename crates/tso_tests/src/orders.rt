@@ -1,6 +1,6 @@
 //! Orders that no text can spell, and what a breach says of itself: no row of the program can show either.
 
-use crate::named::{MEMORY, P0, X, Y, test_of};
+use crate::named::{MEMORY, P0, X, Y, holds, test_of};
 use axiom_checker::{Breach, check_order};
 use std::alloc::Global;
 use std::process::Abort;
@@ -27,7 +27,7 @@ const FENCES: [Entry; 2] = [
 fn is_extra(rt: &impl Abort, alloc: Global, test: &Test, fence: Entry) {
     let order = vec![in alloc; fence].expect(rt, MEMORY);
     let judged = check_order(alloc, test, &Execution { order });
-    assert!(rt; judged == Err(Breach::Extra(fence)));
+    holds(rt, judged == Err(Breach::Extra(fence)));
 }
 
 #[test]
@@ -43,5 +43,5 @@ fn a_fence_has_neither_location_nor_value(rt: HostRuntime) {
 fn a_breach_prints_what_is_wrong(rt: HostRuntime) {
     let breach = Breach::Missing(P0, 0, Kind::W, Y);
     let text = format!(in rt.alloc(); "{breach}").expect(&rt, MEMORY);
-    assert!(rt; text.as_str() == "an entry is missing");
+    holds(&rt, text.as_str() == "an entry is missing");
 }

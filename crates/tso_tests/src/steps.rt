@@ -1,4 +1,5 @@
 //! The last step of a trace alone, as the page asks for it. The expected texts are written out by hand.
+use crate::named::holds;
 use machine_core::{Bus, Config, Shape};
 use protocol_tables::ProtocolKind;
 use std::alloc::Global;
@@ -27,8 +28,7 @@ fn answer(rt: &impl Abort, alloc: Global, input: &[u8]) -> Answer {
 }
 
 fn is_told(rt: &impl Abort, answer: &Answer, text: &str, status: Status) {
-    assert!(rt; answer.text.as_str() == text);
-    assert!(rt; answer.status == status);
+    holds(rt, answer.text.as_str() == text && answer.status == status);
 }
 
 #[test]

@@ -1,4 +1,5 @@
 //! The command over a reader and a writer that fail or give little at a time.
+use crate::named::holds;
 use machine_core::{Bus, Config, Shape};
 use protocol_tables::ProtocolKind;
 use std::alloc::Global;
@@ -37,14 +38,14 @@ Cache P1 hits=0 misses=2 upgrades=0 forwards=0 write_backs=0 flushes=0\n";
 /// A reader over bytes that gives so many a call, and whose call of one number fails. It would work
 /// at the next, so a call that comes again shows.
 #[derive(Drop)]
-struct Source<'a> {
-    left: &'a [u8],
+struct Source {
+    left: &'static [u8],
     most: usize,
     calls: u64,
     failing: u64,
 }
 
-impl Read for Source<'_> {
+impl Read for Source {
     fn read(&mut self, buf: &mut [u8]) -> io::Result<usize> {
         self.calls = self.calls.wrapping_add(1);
         if self.calls == self.failing {
@@ -92,7 +93,7 @@ impl Write for Sink {
 }
 
 /// A reader of the input that gives so many bytes a call, and whose call of this number fails.
-fn reader_of(most: usize, failing: u64) -> Source<'static> {
+fn reader_of(most: usize, failing: u64) -> Source {
     Source {
         left: INPUT,
         most,
@@ -123,7 +124,7 @@ struct Left {
     sink: Sink,
 }
 
-fn run(rt: &impl Abort, alloc: Global, source: Source<'_>, sink: Sink) -> Left {
+fn run(rt: &impl Abort, alloc: Global, source: Source, sink: Sink) -> Left {
     let config = Config::new(4, Shape::default(), Bus::Atomic).expect(rt, "a configuration");
     let settings = Settings::Run {
         protocol: ProtocolKind::Msi,
@@ -132,7 +133,7 @@ fn run(rt: &impl Abort, alloc: Global, source: Source<'_>, sink: Sink) -> Left {
     };
     let mut reader = Counted::new(source);
     let mut writer = Counted::new(sink);
-    assert!(rt; reader.failures() == 0 && writer.failures() == 0);
+    holds(rt, reader.failures() == 0 && writer.failures() == 0);
     let result = run_command(alloc, &mut reader, &mut writer, &settings);
     Left {
         result,
@@ -143,16 +144,14 @@ fn run(rt: &impl Abort, alloc: Global, source: Source<'_>, sink: Sink) -> Left {
     }
 }
 
-fn failures_are(rt: &impl Abort, left: &Left, reading: u32, writing: u32) {
-    assert!(rt; left.result == Err(RunFault::Device));
-    assert!(rt; left.read_failures == reading);
-    assert!(rt; left.write_failures == writing);
+fn failures_are(left: &Left, reading: u32, writing: u32) -> bool {
+    left.result == Err(RunFault::Device)
+        && left.read_failures == reading
+        && left.write_failures == writing
 }
 
-fn took(rt: &impl Abort, sink: &Sink, calls: u64, bytes: &[u8]) {
-    assert!(rt; sink.calls == calls);
-    assert!(rt; sink.taken.as_slice() == bytes);
-    assert!(rt; sink.flushes == 0);
+fn took(sink: &Sink, calls: u64, bytes: &[u8]) -> bool {
+    sink.calls == calls && sink.taken.as_slice() == bytes && sink.flushes == 0
 }
 
 #[test]
@@ -163,9 +162,9 @@ fn a_readers_fault_ends_the_command(rt: HostRuntime) {
         reader_of(64, 1),
         writer_of(rt.alloc(), 64, 0, 0),
     );
-    failures_are(&rt, &left, 1, 0);
-    assert!(rt; left.reads == 1);
-    took(&rt, &left.sink, 0, b"");
+    holds(&rt, failures_are(&left, 1, 0));
+    holds(&rt, left.reads == 1);
+    holds(&rt, took(&left.sink, 0, b""));
 }
 
 #[test]
@@ -176,8 +175,8 @@ fn a_writers_fault_leaves_a_beginning(rt: HostRuntime) {
         reader_of(64, 0),
         writer_of(rt.alloc(), 10, 2, 0),
     );
-    failures_are(&rt, &left, 0, 1);
-    took(&rt, &left.sink, 2, b"Test SB\nMa");
+    holds(&rt, failures_are(&left, 0, 1));
+    holds(&rt, took(&left.sink, 2, b"Test SB\nMa"));
 }
 
 #[test]
@@ -188,8 +187,8 @@ fn a_write_of_no_byte_is_a_fault(rt: HostRuntime) {
         reader_of(64, 0),
         writer_of(rt.alloc(), 64, 0, 1),
     );
-    failures_are(&rt, &left, 0, 1);
-    took(&rt, &left.sink, 1, b"");
+    holds(&rt, failures_are(&left, 0, 1));
+    holds(&rt, took(&left.sink, 1, b""));
 }
 
 #[test]
@@ -200,6 +199,6 @@ fn one_byte_a_call_is_enough(rt: HostRuntime) {
         reader_of(1, 0),
         writer_of(rt.alloc(), 1, 0, 0),
     );
-    assert!(rt; left.result == Ok(Status::Good));
-    took(&rt, &left.sink, REPORT.len() as u64, REPORT);
+    holds(&rt, left.result == Ok(Status::Good));
+    holds(&rt, took(&left.sink, REPORT.len() as u64, REPORT));
 }

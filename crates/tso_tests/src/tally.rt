@@ -3,7 +3,7 @@
 ghost use Rattle.std.specs.Prelude.{◌≡◌};
 ghost use Rattle.simulator.specs.Simulation.{FitsEnding};
 
-use crate::named::{MEMORY, test_of};
+use crate::named::{MEMORY, holds, test_of};
 use machine_core::{Bus, Config, Shape};
 use protocol_tables::ProtocolKind;
 use scheduler::{read_choices, spelled_cores_exist};
@@ -62,7 +62,7 @@ fn count(rt: &impl Abort, alloc: Global, tally: &mut Tally<'_>, test: &Test, cho
 fn says(rt: &impl Abort, alloc: Global, tally: &Tally<'_>) {
     assert!(rt; tally.count() == 3);
     let text = tally.text(alloc, 0, 6).expect(rt, MEMORY);
-    assert!(rt; text.as_str() == TEXT);
+    holds(rt, text.as_str() == TEXT);
 }
 
 fn counts(rt: &impl Abort, alloc: Global, test: &Test) {

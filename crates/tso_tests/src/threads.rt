@@ -1,6 +1,6 @@
 //! A thread's entries and registers, from the values that its reads returned, with ample memory.
 
-use crate::named::{MEMORY, P0, X, test_of};
+use crate::named::{MEMORY, P0, X, holds, test_of};
 use std::alloc::Global;
 use std::process::Abort;
 use tso_model::{Entry, Kind, Test, Thread, read_count, thread_entries};
@@ -31,8 +31,10 @@ fn thread(rt: &impl Abort, alloc: Global, test: &Test, read: u32) -> Thread {
 }
 
 fn is_as_counted(rt: &impl Abort, thread: &Thread) {
-    assert!(rt; thread.entries.as_slice() == ENTRIES.as_slice());
-    assert!(rt; thread.registers == REGISTERS);
+    holds(
+        rt,
+        thread.entries.as_slice() == ENTRIES.as_slice() && thread.registers == REGISTERS,
+    );
 }
 
 #[test]

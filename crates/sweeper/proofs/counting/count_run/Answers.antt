@@ -1,4 +1,4 @@
-use Rattle.std.proofs.Common.{◌≡◌, ℕ, List, true, false, ap, sym, subst, ◌∙◌, refl, arith}
+use Rattle.std.proofs.Common.{ℕ, List, ap, sym, subst, ◌∙◌, refl}
 use Rattle.tso_model.specs.Litmus.{Litmus}
 use Rattle.split_laws.specs.BusChoices.{IsPossibleOn}
 use Rattle.machine_core.specs.Running.{Running, table_in, configuration_of}
@@ -6,7 +6,7 @@ use Rattle.tso_report.specs.Tally.{RunCounts, with_state, with_verdict, values_i
 use Rattle.simulator.specs.inner.Runs.{machine_run}
 use Rattle.simulator.specs.Simulation.{verdict}
 use Rattle.sweeper.specs.Counting.{with_one_run}
-use Rattle.simulator.proofs.SimulationLemmas.{RunLaws, unfinished-is}
+use Rattle.simulator.proofs.SimulationLemmas.{RunLaws, from-new, unfinished-is}
 use Rattle.sweeper.proofs.SweptRuns.{goes-back, counted-ended, counted-unfinished}
 use Rattle.sweeper.proofs.counting.count_run.Goals as goal
 
@@ -26,8 +26,9 @@ returns-then-not-is_ended-clause-ended g c =
       atomic = record { atomic = c.atomic_runs_are_flat_runs.ensures.atomic; side_by_side = c.atomic_runs_are_flat_runs.ensures.together };
       stops = c.runs_on_either_bus_stop_where_they_end.ensures.stops;
     } in
-    sym (unfinished-is (table_in m) (configuration_of m) m.test m _ (g.C.Choices.coming c.args.choices) _ _ laws (c.requires.beginning, c.in_ok-drive_machine.ensures.drives)
-    (sym c.is_ended.ensures ∙ (let q : c.is_ended.result ≡ false = grind arith in q))).0
+    let drives = c.in_ok-drive_machine.ensures.drives in
+    sym (unfinished-is (table_in m) (configuration_of m) m.test m _ (g.C.Choices.coming c.args.choices) _ _ laws (c.requires.beginning, drives)
+    (sym c.is_ended.ensures ∙ c.if-not-is_ended.true)).0
 
 pub returns-then-not-is_ended-clause-counts : goal.returns-then-not-is_ended-clause-counts
 returns-then-not-is_ended-clause-counts g c =
@@ -36,7 +37,12 @@ returns-then-not-is_ended-clause-counts g c =
 
 pub returns-then-not-is_ended-clause-again : goal.returns-then-not-is_ended-clause-again
 returns-then-not-is_ended-clause-again g c =
-    c.restart.ensures ∙ goes-back c.args.machine.now _ (g.C.Choices.coming c.args.choices) _ _ c.in_ok-drive_machine.ensures.drives ∙ sym c.requires.beginning
+    c.restart.ensures ∙ goes-back c.args.machine.now _ _ _ _ c.in_ok-drive_machine.ensures.drives ∙ sym c.requires.beginning
+
+pub returns-then-not-is_ended-clause-answers : goal.returns-then-not-is_ended-clause-answers
+returns-then-not-is_ended-clause-answers g c =
+    let m = c.args.machine.now in
+    (from-new (table_in m) (configuration_of m) m.test m _ _ _ _ (c.requires.beginning, c.in_ok-drive_machine.ensures.drives)).answers
 
 pub returns-clause-ended : goal.returns-clause-ended
 returns-clause-ended g c =
@@ -46,8 +52,9 @@ returns-clause-ended g c =
       atomic = record { atomic = c.atomic_runs_are_flat_runs.ensures.atomic; side_by_side = c.atomic_runs_are_flat_runs.ensures.together };
       stops = c.runs_on_either_bus_stop_where_they_end.ensures.stops;
     } in
+    let drives = c.in_ok-drive_machine.ensures.drives in
     sym (counted-ended (table_in m) (configuration_of m) m.test m _ (g.C.Choices.coming c.args.choices) _ _ left.registers.items left.memory.items _ c.args.tally.now.counts laws
-    (c.requires.beginning, c.in_ok-drive_machine.ensures.drives) (sym c.is_ended.ensures ∙ (let q : c.is_ended.result ≡ true = grind arith in q))
+    (c.requires.beginning, drives) (sym c.is_ended.ensures ∙ c.if-not-is_ended.false)
     c.in_ok-state.ensures.registers c.in_ok-state.ensures.memory refl).0
 
 pub returns-clause-counts : goal.returns-clause-counts
@@ -55,23 +62,26 @@ returns-clause-counts g c =
     let m = c.args.machine.now in
     let t = c.args.test.now in
     let left = c.in_ok-state.state in
-    let run = machine_run m (g.C.Choices.coming c.args.choices) in
+    let cs = g.C.Choices.coming c.args.choices in
     let laws : RunLaws = record {
       atomic = record { atomic = c.atomic_runs_are_flat_runs.ensures.atomic; side_by_side = c.atomic_runs_are_flat_runs.ensures.together };
       stops = c.runs_on_either_bus_stop_where_they_end.ensures.stops;
     } in
-    let truth : c.verdict_of-holds.result ≡ verdict m.test left.registers.items left.memory.items =
-    c.verdict_of-holds.ensures ∙ ap (λ r. verdict t r c.deref-2.result.now) c.deref.ensures.value ∙ ap (λ w. verdict t left.registers.items w) c.deref-2.ensures.value
-    ∙ ap (λ (u : Litmus). verdict u left.registers.items left.memory.items) (sym c.requires.machine) in
-    let counted = counted-ended (table_in m) (configuration_of m) m.test m _ (g.C.Choices.coming c.args.choices) _ _ left.registers.items left.memory.items c.verdict_of-holds.result c.args.tally.now.counts laws
-    (c.requires.beginning, c.in_ok-drive_machine.ensures.drives) (sym c.is_ended.ensures ∙ (let q : c.is_ended.result ≡ true = grind arith in q))
-    c.in_ok-state.ensures.registers c.in_ok-state.ensures.memory truth in
-    let count : Litmus → List (List ℕ) → List ℕ → RunCounts = λ u r w. with_verdict c.verdict_of-holds.result (with_state (values_in u r w) c.args.tally.now.counts) in
-    c.in_ok-add_state.ensures.counts
-    ∙ ap (λ r. count c.args.tally.now.test r c.deref-4.result.now) c.deref-3.ensures.value ∙ ap (λ w. count c.args.tally.now.test left.registers.items w) c.deref-4.ensures.value
-    ∙ ap (λ (u : Litmus). count u left.registers.items left.memory.items) (c.requires.tally ∙ sym c.requires.machine)
-    ∙ counted.1 ∙ ap (λ (u : Litmus). with_one_run u run c.args.tally.now.counts) c.requires.machine
+    let drives = c.in_ok-drive_machine.ensures.drives in
+    let counted = counted-ended (table_in m) (configuration_of m) m.test m _ cs _ _ left.registers.items left.memory.items (verdict m.test left.registers.items left.memory.items) c.args.tally.now.counts laws
+    (c.requires.beginning, drives) (sym c.is_ended.ensures ∙ c.if-not-is_ended.false)
+    c.in_ok-state.ensures.registers c.in_ok-state.ensures.memory refl in
+    let count : Litmus → List (List ℕ) → List ℕ → RunCounts = λ u r w. with_verdict (verdict u r w) (with_state (values_in u r w) c.args.tally.now.counts) in
+    c.in_ok-count_state.ensures.counts
+    ∙ ap (λ r. count t r c.deref-2.result.now) c.deref.ensures.value ∙ ap (λ w. count t left.registers.items w) c.deref-2.ensures.value
+    ∙ ap (λ (u : Litmus). count u left.registers.items left.memory.items) (sym c.requires.machine)
+    ∙ counted.1 ∙ ap (λ (u : Litmus). with_one_run u (machine_run m cs) c.args.tally.now.counts) c.requires.machine
+
+pub returns-clause-answers : goal.returns-clause-answers
+returns-clause-answers g c =
+    let m = c.args.machine.now in
+    (from-new (table_in m) (configuration_of m) m.test m _ _ _ _ (c.requires.beginning, c.in_ok-drive_machine.ensures.drives)).answers
 
 pub returns-clause-again : goal.returns-clause-again
 returns-clause-again g c =
-    c.in_ok-state.ensures.restarted ∙ goes-back c.args.machine.now _ (g.C.Choices.coming c.args.choices) _ _ c.in_ok-drive_machine.ensures.drives ∙ sym c.requires.beginning
+    c.in_ok-state.ensures.restarted ∙ goes-back c.args.machine.now _ _ _ _ c.in_ok-drive_machine.ensures.drives ∙ sym c.requires.beginning

@@ -1,48 +1,49 @@
-use Rattle.std.proofs.Common.{◌≡◌, List, ℕ, false, true, map, ap, sym, ◌∙◌, refl}
-use Rattle.tso_model.specs.Litmus.{Litmus}
+use Rattle.std.proofs.Common.{◌≡◌, List, ℕ, map, ap, sym, ◌∙◌, refl}
 use Rattle.tso_model.specs.FlatMachine.{State}
 use Rattle.tso_model.specs.Runs.{Run, run, run_from}
+use Rattle.tso_model.specs.declared.choice.Choice.{Choice}
+use Rattle.scheduler.specs.Seeds.{seeded_choices}
 use Rattle.tso_report.specs.Tally.{RunCounts, with_state, with_verdict, values_in}
 use Rattle.flat_machine.specs.State.{state_of}
 use Rattle.simulator.specs.Simulation.{verdict}
+use Rattle.sweeper.specs.Counting.{choices_of}
 use Rattle.sweeper.proofs.FlatSweeps.{registers-left, counted}
 use Rattle.sweeper.proofs.SweptRuns.{counted-unfinished}
 use Rattle.sweeper.proofs.flat_sweep.count_run.Goals as goal
 
 pub returns-then-not-ended-clause-ended : goal.returns-then-not-ended-clause-ended
-returns-then-not-ended-clause-ended g c =
+returns-then-not-ended-clause-ended c =
     let t = c.args.test.now in
-    let choices = g.C.Choices.coming c.args.choices in
-    let stays : c.in_ok-ended.ended ≡ false = c.if-not-ended.true in
-    sym stays ∙ c.in_ok-ended.ensures.ended ∙ ap (λ (s : State). (run_from t c.args.depth s choices).ended) (c.in_ok-overwrite.ensures.value ∙ c.requires.first)
+    let drawn = c.new-choices.ensures.exact ∙ ap (λ (n : ℕ). seeded_choices n c.args.seed c.args.count) c.cores.ensures.value in
+    sym c.if-not-ended.true ∙ c.in_ok-ended.ensures.ended ∙ ap (λ (l : List Choice). (run_from t c.args.depth (state_of c.overwrite.new.state) l).ended) drawn
+    ∙ ap (λ (s : State). (run_from t c.args.depth s (choices_of t c.args.count c.args.seed)).ended) (c.in_ok-overwrite.ensures.value ∙ c.requires.first)
 
 pub returns-then-not-ended-clause-counts : goal.returns-then-not-ended-clause-counts
-returns-then-not-ended-clause-counts g c =
+returns-then-not-ended-clause-counts c =
+    let t = c.args.test.now in
     c.add_unfinished.ensures.counts
-    ∙ counted-unfinished c.args.test.now (run c.args.test.now c.args.depth (g.C.Choices.coming c.args.choices)) c.args.tally.now.counts (sym (returns-then-not-ended-clause-ended g c))
+    ∙ counted-unfinished t (run t c.args.depth (choices_of t c.args.count c.args.seed)) c.args.tally.now.counts (sym (returns-then-not-ended-clause-ended c))
 
 pub returns-clause-ended : goal.returns-clause-ended
-returns-clause-ended g c =
+returns-clause-ended c =
     let t = c.args.test.now in
-    let choices = g.C.Choices.coming c.args.choices in
-    let over : c.in_ok-ended.ended ≡ true = c.if-not-ended.false in
-    sym over ∙ c.in_ok-ended.ensures.ended ∙ ap (λ (s : State). (run_from t c.args.depth s choices).ended) (c.in_ok-overwrite.ensures.value ∙ c.requires.first)
+    let drawn = c.new-choices.ensures.exact ∙ ap (λ (n : ℕ). seeded_choices n c.args.seed c.args.count) c.cores.ensures.value in
+    sym c.if-not-ended.false ∙ c.in_ok-ended.ensures.ended ∙ ap (λ (l : List Choice). (run_from t c.args.depth (state_of c.overwrite.new.state) l).ended) drawn
+    ∙ ap (λ (s : State). (run_from t c.args.depth s (choices_of t c.args.count c.args.seed)).ended) (c.in_ok-overwrite.ensures.value ∙ c.requires.first)
 
 pub returns-clause-counts : goal.returns-clause-counts
-returns-clause-counts g c =
+returns-clause-counts c =
     let t = c.args.test.now in
-    let choices = g.C.Choices.coming c.args.choices in
-    let r : Run = run t c.args.depth choices in
+    let cs = choices_of t c.args.count c.args.seed in
+    let drawn = c.new-choices.ensures.exact ∙ ap (λ (n : ℕ). seeded_choices n c.args.seed c.args.count) c.cores.ensures.value in
+    let r : Run = run t c.args.depth cs in
     let left = c.drive.new.state in
     let registers : List (List ℕ) = c.write_registers.new.registers.items in
-    let holds = c.verdict_of-holds.result in
     let state : state_of left ≡ r.state =
-    c.in_ok-ended.ensures.state ∙ ap (λ (s : State). (run_from t c.args.depth s choices).state) (c.in_ok-overwrite.ensures.value ∙ c.requires.first) in
+    c.in_ok-ended.ensures.state ∙ ap (λ (l : List Choice). (run_from t c.args.depth (state_of c.overwrite.new.state) l).state) drawn
+    ∙ ap (λ (s : State). (run_from t c.args.depth s cs).state) (c.in_ok-overwrite.ensures.value ∙ c.requires.first) in
     let registers_are = registers-left left registers (c.in_ok-write_registers.ensures ∙ ap (map (λ p. p.registers)) c.deref.ensures.value) in
-    let truth : holds ≡ verdict t registers left.memory.items =
-    c.verdict_of-holds.ensures ∙ ap (λ g. verdict t g c.deref-3.result.now) c.deref-2.ensures.value ∙ ap (λ w. verdict t registers w) c.deref-3.ensures.value in
-    let count : Litmus → List (List ℕ) → List ℕ → RunCounts = λ u g w. with_verdict holds (with_state (values_in u g w) c.args.tally.now.counts) in
-    c.in_ok-add_state.ensures.counts
-    ∙ ap (λ g. count c.args.tally.now.test g c.deref-5.result.now) c.deref-4.ensures.value ∙ ap (λ w. count c.args.tally.now.test registers w) c.deref-5.ensures.value
-    ∙ ap (λ (u : Litmus). count u registers left.memory.items) c.requires.tally
-    ∙ counted t r (state_of left) registers left.memory.items holds c.args.tally.now.counts (returns-clause-ended g c) state registers_are refl truth
+    let count : List (List ℕ) → List ℕ → RunCounts = λ g w. with_verdict (verdict t g w) (with_state (values_in t g w) c.args.tally.now.counts) in
+    c.in_ok-count_state.ensures.counts
+    ∙ ap (λ g. count g c.deref-3.result.now) c.deref-2.ensures.value ∙ ap (λ w. count registers w) c.deref-3.ensures.value
+    ∙ counted t r (state_of left) registers left.memory.items (verdict t registers left.memory.items) c.args.tally.now.counts (returns-clause-ended c) state registers_are refl refl

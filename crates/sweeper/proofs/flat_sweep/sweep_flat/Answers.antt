@@ -1,65 +1,10 @@
-use Rattle.std.proofs.Common.{◌≡◌, ◌==◌, ◌&&◌, ◌+◌, ℕ, Bool, List, map, refl, ap, sym, subst, ◌∙◌, add-one, arith, rules}
-use Rattle.tso_model.specs.Runs.{Run, run}
-use Rattle.tso_model.specs.declared.choice.Choice.{Choice}
-use Rattle.scheduler.specs.Seeds.{choice_of_word, drawn_words, seeded_choices}
-use Rattle.tso_report.specs.Tally.{RunCounts, Ascend, runs_in}
-use Rattle.simulator.specs.Runs.{run_under}
-use Rattle.sweeper.specs.Counting.{choices_of, seeded_run, with_one_run, counts_from}
-use Rattle.sweeper.proofs.StateLemmas.{ascend-none}
-use Rattle.sweeper.proofs.RunsCounted.{ended-with, ascend-run, runs-with}
-use Rattle.sweeper.proofs.FlatSweeps.{run-is-of-all, answers-fit}
+use Rattle.std.proofs.Common.{sym}
+use Rattle.flat_machine.proofs.Choosing.{on-ok}
+use Rattle.sweeper.proofs.FlatSweeps.{answers-fit}
 use Rattle.sweeper.proofs.flat_sweep.sweep_flat.Goals as goal
-use Rattle.sweeper.proofs.flat_sweep.sweep_flat.Goals.{then-all_ended, else-all_ended}
-
-pub count_run-requires-clause-room : goal.count_run-requires-clause-room
-count_run-requires-clause-room c =
-    let so_far = c.loop-at.invariant.runs in
-    let within = c.seeds-at-end.ensures.within in
-    let here = c.loop-at-test.true in
-    let seeds = c.seeds-at-end.ensures.value in
-    omega arith
-
-pub loop-at-init : goal.loop-at-init
-loop-at-init c = record {
-  test = search rules;
-  cores = search rules;
-  counts = λ kind. search rules;
-  ascend = rw c.in_ok-tally.ensures ascend-none;
-  runs = rw c.in_ok-tally.ensures refl;
-  ended = search rules;
-}
-
-pub loop-at-preserved : goal.loop-at-preserved
-loop-at-preserved c =
-    let i = c.loop-at.invariant in
-    let t = c.args.test.now in
-    let config = c.args.config in
-    let before = c.loop-at.tally.counts in
-    let cs : List Choice = map (choice_of_word c.new-choices.result.cores) (drawn_words c.new-choices.result.left c.new-choices.result.generator) in
-    let r = run t c.depth.result cs in
-    let drawn : cs ≡ choices_of t c.args.plan.length (c.args.plan.from + c.loop-at.at) =
-    c.new-choices.ensures.exact ∙ ap (λ (n : ℕ). seeded_choices n c.seed.result c.length-length.result) c.cores.ensures.value
-    ∙ ap (λ (s : ℕ). choices_of t c.length-length.result s) c.seed.ensures ∙ ap (λ (n : ℕ). choices_of t n (c.args.plan.from + c.loop-at.at)) c.length-length.ensures in
-    let one : c.count_run.new.tally.counts ≡ with_one_run t r before = c.in_ok-ended.ensures.counts in
-    let joined : c.if-all_ended.all_ended ≡ (c.loop-at.all_ended && c.in_ok-ended.ended) = elim c.if-all_ended.branch [
-      | then-all_ended w ↦ w.all_ended-is ∙ ap (λ (b : Bool). b && c.in_ok-ended.ended) (sym w.if-all_ended.true)
-      | else-all_ended w ↦ w.all_ended-is ∙ w.if-all_ended.false ∙ ap (λ (b : Bool). b && c.in_ok-ended.ended) (sym w.if-all_ended.false)
-    ] in
-    record {
-      test = c.in_ok-ended.ensures.test ∙ i.test;
-      cores = c.in_ok-ended.ensures.cores;
-      counts = λ kind. rw add-one (one
-          ∙ ap (λ (r : Run). with_one_run t r before) (ap (λ (d : ℕ). run t d cs) c.depth.ensures.value ∙ run-is-of-all t kind config cs c.requires ∙ ap (λ (l : List Choice). run_under t kind config l) drawn)
-          ∙ ap (λ (k : RunCounts). with_one_run t (seeded_run t kind config c.args.plan.length (c.args.plan.from + c.loop-at.at)) k) (i.counts kind));
-      ascend = subst (λ (k : RunCounts). Ascend k.states) (sym one) (ascend-run t r before i.ascend);
-      runs = ap runs_in one ∙ runs-with t r before i.ascend ∙ ap (λ (n : ℕ). n + 1) i.runs;
-      ended = joined ∙ ap (λ (e : Bool). c.loop-at.all_ended && e) c.in_ok-ended.ensures.ended ∙ ended-with t r before c.loop-at.all_ended i.ended ∙ ap (λ (k : RunCounts). k.unfinished == 0) (sym one);
-    }
 
 pub returns-clause-counts : goal.returns-clause-counts
-returns-clause-counts c = λ kind.
-    let all : c.loop-at.at ≡ c.args.plan.seeds = omega (arith, c.loop-at-test.false, c.loop-at.auto.at-end, c.seeds-at-end.ensures.value) in
-    c.loop-at.invariant.counts kind ∙ ap (λ (n : ℕ). counts_from c.args.test.now kind c.args.config c.args.plan.length c.args.plan.from n) all
+returns-clause-counts c = on-ok c.count_runs.result (λ counts kind. counts kind c.args.config c.requires.bus (sym c.depth.ensures.value)) c.count_runs.ensures.counts
 
 pub returns-clause-answers : goal.returns-clause-answers
-returns-clause-answers c = λ kind n l. answers-fit c.args.test.now kind c.args.config _ c.requires
+returns-clause-answers c = on-ok c.count_runs.result (λ counts kind n l. answers-fit c.args.test.now kind c.args.config _ c.requires.bus) c.count_runs.ensures.counts
