@@ -160,6 +160,8 @@ def faults_told(judge):
 
 def in_threads(function, items, workers=None):
     """The function's answers for these items, in their order."""
+    # built before several threads ask for it at once
+    starts.library("many_starts")
     with concurrent.futures.ThreadPoolExecutor(workers or os.cpu_count()) as pool:
         return list(pool.map(function, items))
 
