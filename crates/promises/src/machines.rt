@@ -1,9 +1,10 @@
 //! When a machine answers a choice, and what it keeps where it doesn't: only a commit takes memory, and one that is refused
-//! changes nothing.
+//! changes nothing. And who would hit while a locked instruction has read and not yet written.
 
-ghost use Rattle.std.specs.Prelude.{◌≡◌, ◌≢◌, ◌<◌, true, false, Ok, OnErr, length};
+ghost use Rattle.std.specs.Prelude.{◌≡◌, ◌≢◌, ◌<◌, true, false, Ok, OnOk, OnErr, length};
 ghost use Rattle.tso_model.specs.FlatMachine.{chosen};
 ghost use Rattle.machine_core.specs.Running.{effect_by};
+ghost use Rattle.promises.specs.Locked.{OwnCoreAloneHits};
 
 use machine_core::{Choice, Machine, Outcome, Stall};
 use protocol_tables::Protocol;
@@ -42,6 +43,18 @@ pub fn what_is_not_made_changes_nothing<P: Protocol>(
     ensures state { OnErr result (machine.new.state ≡ machine.old.state) }
     ensures commits { OnErr result (machine.new.commits ≡ machine.old.commits) }
     ensures statistics { OnErr result (machine.new.statistics ≡ machine.old.statistics) }
+{
+    machine.choose(choice)
+}
+
+/// Where a choice leaves a locked instruction between its two parts, a load of its own core would hit at its location, and
+/// no access of another core at its line.
+pub fn between_locked_parts_its_core_alone_hits<P: Protocol>(
+    machine: &mut Machine<'_, P>,
+    choice: Choice,
+) -> Result<Outcome, NoMemory>
+    requires { chosen choice < length machine.old.test.programs }
+    ensures { OnOk result (OwnCoreAloneHits machine.new) }
 {
     machine.choose(choice)
 }

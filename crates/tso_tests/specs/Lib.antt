@@ -1,2 +1,1 @@
-pub mod Locked
 pub mod inner

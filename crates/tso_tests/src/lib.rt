@@ -16,7 +16,6 @@ mod choices;
 mod driving;
 #[cfg(test)]
 mod final_states;
-pub mod locked;
 #[cfg(test)]
 mod machine;
 #[cfg(test)]
