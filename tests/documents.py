@@ -12,8 +12,8 @@ PROGRAM there. The blocks of a document run one after the other in one new folde
 Blocks fenced as `sh` aren't run: they prove, test, or need a fresh checkout, a browser or a pager (`./test`, `./tso --prove`).
 
 Then come the links of all documents and the files that they name, the names of refusals among the messages, the letters of breaches (each
-beside its axiom's name), the page of what is proved (short cells; each definition with its file where it first has its name), and the
-tables of README.md (commands, options, limits, statuses) and of docs/INPUT.md (limits), against the program, its help, the manual page
+beside its axiom's name), the page of what is proved (short cells; each definition with its file where it first has its name), the names
+of definitions, the lists of files that a further protocol or command touches (docs/HACKING.md), and the tables of README.md (commands, options, limits, statuses) and of docs/INPUT.md (limits), against the program, its help, the manual page
 and the limits as plain numbers (tests/document_tables.py). The last line is 'N passed, M failed'.
 """
 import difflib
@@ -196,6 +196,71 @@ def faults_of_crates_files():
     return faults
 
 
+# A protocol and the commands by their names, as code, scripts and texts spell them. A change of these kinds touches each file that has them.
+PROTOCOL = re.compile(r"\bmosi\b", re.IGNORECASE)
+COMMANDS = [re.compile(r"\b[%s%s]%s\b" % (name[0], name[0].upper(), name[1:])) for name in ("trace", "sweep", "outcomes", "check", "witness")]
+# Such files need no line in a list: what documents tell, data, what is built or written by a script, and laws that name single commands.
+UNLISTED = ("CHANGELOG.md", "docs/", "examples/", "release/", "tests/data/", "view/module.js", "view/texts.js", "view/bench.js")
+
+
+def tracked_files():
+    """The files of the checkout that git knows, or, without it, those that stand in its folders."""
+    done = subprocess.run(["git", "-C", TOP, "ls-files"], capture_output=True, text=True, timeout=SECONDS)
+    if done.returncode == 0:
+        return done.stdout.splitlines()
+    return [short(path) for room in ROOMS for path in glob.glob(os.path.join(TOP, room, "**"), recursive=True) if os.path.isfile(path)]
+
+
+def listed_files(heading):
+    """The files that the tables of a section of docs/HACKING.md name, also those by their last names after a whole one."""
+    text = content(os.path.join(TOP, "docs", "HACKING.md"))
+    section = text[text.index("\n## %s\n" % heading) + 1:].split("\n## ")[0]
+    listed = []
+    for cell in re.findall(r"^\| ([^|]*) \|", section, re.MULTILINE):
+        folder = ""
+        for name in re.findall(r"`([^`]+)`", cell):
+            folder = os.path.dirname(name) or folder
+            listed += [name] if "/" in name else [name, os.path.join(folder, name)]
+    return listed
+
+
+def faults_of_list(heading, has_it):
+    """A section of docs/HACKING.md names each file for which this holds of its text, or a folder that it stands in."""
+    listed, faults = listed_files(heading), []
+    for name in tracked_files():
+        if name.startswith(UNLISTED) or any(name == told or name.startswith(told.rstrip("/") + "/") for told in listed):
+            continue
+        try:
+            text = content(os.path.join(TOP, name))
+        except (UnicodeDecodeError, OSError):
+            continue
+        if has_it(text):
+            faults.append("%s isn't in the list of '%s'" % (name, heading))
+    return faults
+
+
+def lists_the_commands(text):
+    """Whether a text names all but one of these commands or more, so that it goes by commands."""
+    return sum(bool(name.search(text)) for name in COMMANDS) >= len(COMMANDS) - 1
+
+
+def faults_of_defined_names():
+    """docs/DEFINITIONS.md names definitions with their file in brackets: they stand in a file of that name."""
+    faults = []
+    text = content(os.path.join(TOP, "docs", "DEFINITIONS.md"))
+    for names, crate, file in re.findall(r"((?:`[A-Za-z_]\w*`(?:, )?)+) \((?:(\w+), )?([A-Z]\w+)\)", text):
+        texts = [content(path) for path in glob.glob(os.path.join(TOP, "crates", crate or "*", "specs", "**", file + ".antt"), recursive=True)]
+        if not texts and file.endswith("Fault"):  # a refusal of a relation, not of a file
+            continue
+        for name in re.findall(r"`(\w+)`", names):
+            if os.path.isdir(os.path.join(TOP, "crates", name)):
+                continue
+            begins = re.compile(r"^(?:(?:pub )?(?:abbrev|unfoldable|record|data)(?: pub)? %s(?!\w)|use .*\b%s\b)" % (name, name), re.MULTILINE)
+            if not any(begins.search(text) for text in texts):
+                faults.append("no %s in a file %s" % (name, file))
+    return faults
+
+
 def faults_of_declared():
     """How many types and views of the code the definitions rest on, where a document says so."""
     done = subprocess.run([os.path.join(TOP, "tests", "declared.py")], capture_output=True, text=True, timeout=SECONDS)
@@ -254,6 +319,9 @@ def rows_of(program):
     yield "names of refusals", faults_of_names
     yield "scripts of tests/", faults_of_scripts
     yield "files of crates in docs/HACKING.md", faults_of_crates_files
+    yield "files that a further protocol touches", lambda: faults_of_list("A further protocol", PROTOCOL.search)
+    yield "files that a further command touches", lambda: faults_of_list("A further command or option", lists_the_commands)
+    yield "names in docs/DEFINITIONS.md", faults_of_defined_names
     yield "types that the headline rests on", faults_of_declared
     yield "what has to be believed", faults_of_believed
     yield "cells of docs/PROVED.md", faults_of_cells

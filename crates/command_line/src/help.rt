@@ -79,13 +79,14 @@ Example:\n\
 
 /// Of `tso outcomes`.
 pub const OUTCOMES: &str = "\
-Standard input is a test; what follows a line ==== isn't read. Printed is every final state that the\n\
-machine can reach at --depth, once, with choices under which run at that depth ends there, and in how\n\
-many of these states the condition's proposition is true and false. --depth is 32 here and 4 elsewhere:\n\
-no program has more than 32 stores, so at 32 these are all final states that TSO allows, and at 0 all\n\
-that sequential consistency allows. So Never is a proof here: no run of this machine makes the\n\
-proposition true, and at depth 32 no TSO execution does. If more than --states states of the machine\n\
-would have to be kept, only Unfinished is printed: no final state, and no Never.\n\
+Standard input is a test; what follows a line ==== isn't read. Printed are the values of what the\n\
+condition names (without one, of all locations) in every final state that the machine can reach at\n\
+--depth: each list of values once, with choices under which run at that depth ends there, and how many\n\
+of them make the condition's proposition true and false. --depth is 32 here and 4 elsewhere: no program\n\
+has more than 32 stores, so at 32 these are all values that TSO allows, and at 0 all that sequential\n\
+consistency allows. So Never is a proof here: no run of this machine makes the proposition true, and at\n\
+depth 32 no TSO execution does. If more than --states states of the machine would have to be kept, only\n\
+Unfinished is printed: no values, and no Never.\n\
 \n\
 Exit status: 0 all states are printed, 1 the test was refused, 2 the command line was, 3 --states was\n\
 too few, 5 memory, input or output failed.\n\

@@ -93,7 +93,7 @@ fn sweep_line<'a>(alloc: Global) -> Result<Command<'a>, AllocError> {
 }
 
 fn outcomes_line<'a>(alloc: Global) -> Result<Command<'a>, AllocError> {
-    let about = "Finds all final states of a test, with choices that lead to each";
+    let about = "Finds all final values of what the condition names, with choices that lead there";
     let options = search_options(alloc)?;
     command(alloc, "outcomes", about, help::OUTCOMES).args(options)
 }
