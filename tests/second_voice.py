@@ -4,10 +4,14 @@
     tests/second_voice.py PROGRAM [--inputs N] [--seed S] [--also PROGRAM]
     tests/second_voice.py --print NUMBER [--seed S]
 
-Each of N inputs, which are made from the seed S, has the same standard output and exit status from both, byte for byte, and
-standard error is as that status has it. They are tests, choices and orders in every spelling, valid and damaged, under every
-command and option. Each refusal, breach, stall, access, form and value of an option by its name has to come up among 3,000 of
-them; how often each did is printed.
+Each of N inputs, which are made from the seed S, has the same standard output and exit status from both, byte for byte. Standard
+error is as that status has it. The inputs are tests, choices and orders in every spelling, valid and damaged, under every command and
+option. Each refusal, breach, stall, access, form, member of JSON, limit and value of an option has to come up among 3,500 of them, by
+its name. How often each did is printed.
+
+The documents leave two things of `outcomes` open. The second program takes them from the answer, where they are right there: the choices
+beside a state end the test in it, in a run of its own, at that depth, none stalled and none left over; a search gives up only where more
+states can be reached than may be kept.
 
 With --print no program is asked: the command line of the input with this number is printed, then its standard input. The last
 line is 'N passed, M failed'.
@@ -20,9 +24,10 @@ sys.dont_write_bytecode = True
 import judging
 import made_inputs
 from made_inputs import must_come_up
-from reference import choices, commands, seen
+from reference import choices, commands, outcomes, reading, seen
+from reference.search import Search
 
-INPUTS, SEED = 3000, 1
+INPUTS, SEED = 3500, 1
 
 # So many inputs a process takes at once.
 AT_ONCE = 50
@@ -30,11 +35,28 @@ AT_ONCE = 50
 # The first words of PCG32 begun with 42 and the stream 54, as the demonstration of its reference implementation prints them.
 PUBLISHED = (0xA15C02B7, 0x7B47F409, 0xBA1D3330, 0x83D2F293, 0xBFA4784B, 0xCBED606E)
 
+# Choices beside the states of store buffering, and how they are spoiled: they end in another state, or nowhere, or there with a choice
+# that stalls or is left over, or aren't written as choices are printed.
+WAYS = ["0s 1s 0s 1d 1s 0d", "0s 1s 0s 1d 0d 1s", "0s 1s 1s 0d 1d 0s", "0s 1s 0d 1s 1d 0s"]
+SPOILED = {
+    "another state's": lambda ways: ways[1:] + ways[:1],
+    "one left over": lambda ways: [way + " 0s" for way in ways],
+    "one that stalls": lambda ways: ["0d " + way for way in ways],
+    "one too few": lambda ways: [way[:-3] for way in ways],
+    "none": lambda ways: [""] * len(ways),
+    "a seed": lambda ways: ["seed 1 1000"] * len(ways),
+    "a core that isn't there": lambda ways: ["2s " + way for way in ways],
+    "two blanks": lambda ways: [way.replace(" ", "  ", 1) for way in ways],
+    "a blank at the end": lambda ways: [way + " " for way in ways],
+    "a leading zero": lambda ways: ["0" + way for way in ways],
+    "a word that is no choice": lambda ways: ["way"] * len(ways),
+}
+
 
 def faults_of(program, made):
     """How the program's answer differs from the reference's; of outputs that are alike for long, also where they begin to differ."""
-    wanted = commands.answer(made.words, made.given)
     done = program.run(made.words, made.given)
+    wanted = commands.answer(made.words, made.given, done.stdout)
     unknown = wanted.status == commands.BAD_LINE and wanted.errors is None
     faults = judging.difference(done, wanted.status, wanted.output, done.stderr if unknown else wanted.errors)
     if unknown and not done.stderr:
@@ -73,6 +95,40 @@ def judge_names(counts, tally):
         tally.add("what came up", [(kind, ["never came up: " + name for name in missing])])
 
 
+def with_ways(answer, ways):
+    """An answer to `outcomes` with these choices beside its states, in place of those that are left open."""
+    for way in ways:
+        answer = answer.replace(outcomes.NO_WAY.encode(), way.encode(), 1)
+    return answer.replace(b"By \n", b"By\n")
+
+
+def is_taken_over(words, told):
+    return commands.answer(words, judging.STORE_BUFFERING, told).output == told
+
+
+def faults_of_told_ways(words):
+    """Whether the reference takes over the choices that README.md has beside the states of store buffering, and no spoiled ones."""
+    left_open = commands.answer(words, judging.STORE_BUFFERING).output
+    faults = [] if is_taken_over(words, with_ways(left_open, WAYS)) else ["the right choices aren't taken over"]
+    return faults + ["choices are taken over: " + name for name, spoil in SPOILED.items()
+                     if is_taken_over(words, with_ways(left_open, spoil(WAYS)))]
+
+
+def faults_of_told_limits(words, unfinished):
+    """Whether the reference takes it over that a search gave up, where more states can be reached than may be kept, and only there."""
+    states = len(Search(reading.read_test(judging.STORE_BUFFERING), 32).reached)
+    taken = [limit for limit in range(1, states + 3) if is_taken_over(words + ["--states", str(limit)], unfinished % limit)]
+    return [] if taken == list(range(1, states)) else ["of %d states it is taken over at the limits %s" % (states, taken)]
+
+
+def told_answers():
+    """The names of answers to `outcomes` that the reference is told, each with its faults."""
+    yield "choices that are told, text", faults_of_told_ways(["outcomes"])
+    yield "choices that are told, JSON", faults_of_told_ways(["outcomes", "--json"])
+    yield "limits that are told, text", faults_of_told_limits(["outcomes"], b"Unfinished states=%d\n")
+    yield "limits that are told, JSON", faults_of_told_limits(["outcomes", "--json"], b'{"test":"SB","unfinished":{"states":%d}}\n')
+
+
 def faults_of_generator():
     words = choices.generator(42, 54 << 1 | 1)
     return [] if tuple(next(words) for _ in PUBLISHED) == PUBLISHED else ["its words aren't the published ones"]
@@ -102,7 +158,7 @@ def main():
         print_input(given.seed, given.printed)
         return 0
     tally = judging.Tally()
-    tally.add("the reference", [("the generator PCG32", faults_of_generator())])
+    tally.add("the reference", [("the generator PCG32", faults_of_generator()), *told_answers()])
     counts = judge_inputs(judging.programs_in(given), given.seed, given.inputs, tally)
     print("%d inputs from the seed %d" % (given.inputs, given.seed), flush=True)
     if given.inputs >= INPUTS:

@@ -2,6 +2,7 @@
 
     spelling       white space, comments, letters and leading zeros of tests
     drafts         tests drawn at random, as parts and tokens
+    small_tests    tests small enough that a plain search goes through their every state
     faults         what damages a test in one known way
     fault_table    tests with a fault of each kind, and at each limit
     choice_texts   choices

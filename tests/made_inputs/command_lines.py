@@ -14,6 +14,7 @@ BAD_LINES = [line.split() for line in """
     sweep --help
     check --help
     witness --help
+    outcomes --help
     tables --help
     --depth 4 run
     run 4
@@ -62,6 +63,18 @@ BAD_LINES = [line.split() for line in """
     trace --seeds 5
     run --from 1
     run --length 1
+    outcomes --states 0
+    outcomes --states 10000001
+    outcomes --states many
+    outcomes --depth 33
+    outcomes --protocol msi
+    outcomes --bus split
+    outcomes --seeds 5
+    outcomes --json=true
+    outcomes --states 5 --states 5
+    outcomes SB
+    run --states 5
+    sweep --states 5
     check --depth 4
     check --bus split
     witness --protocol msi
@@ -83,14 +96,12 @@ def option(draw, name, value):
     return ["--%s=%s" % (name, text)] if draw.random() < 0.4 else ["--" + name, text]
 
 
-def machine_options(draw, depth=None, bus=None):
+def machine_options(draw, depth=None, bus=None, words=None):
     """Some of the machine's options, in any order; those that are given stand in it."""
     options = [option(draw, "protocol", draw.choice(PROTOCOLS))] if draw.random() < 0.8 else []
-    for name, values in (("sets", range(1, 9)), ("ways", (1,) + tuple(range(1, 9))), ("words", (1, 2, 4))):
-        if draw.random() < 0.6:
-            options.append(option(draw, name, draw.choice(values)))
-    for name, value, values in (("depth", depth, range(33)), ("bus", bus, BUSES)):
-        if value is not None or draw.random() < 0.7:
+    for name, value, values, share in (("sets", None, range(1, 9), 0.6), ("ways", None, (1,) + tuple(range(1, 9)), 0.6),
+                                       ("words", words, (1, 2, 4), 0.6), ("depth", depth, range(33), 0.7), ("bus", bus, BUSES, 0.7)):
+        if value is not None or draw.random() < share:
             options.append(option(draw, name, draw.choice(values) if value is None else value))
     return options
 
@@ -109,12 +120,25 @@ def run(draw, **fixed):
     return [command] + joined(draw, options)
 
 
+def trace_as_json(draw, **fixed):
+    return ["trace"] + joined(draw, machine_options(draw, **fixed) + [["--json"]])
+
+
 def sweep(draw, first, seeds, length, **fixed):
     """A plan's three numbers are None where nothing is said of them."""
     options = machine_options(draw, **fixed)
     plan = (("from", first), ("seeds", seeds), ("length", length))
     options += [option(draw, name, value) for name, value in plan if value is not None]
     return ["sweep"] + joined(draw, options)
+
+
+def outcomes(draw, depth=None, states=None):
+    """A search; of its limit nothing is said where it is None."""
+    options = [] if depth is None else [option(draw, "depth", depth)]
+    options += [] if states is None else [option(draw, "states", states)]
+    if draw.random() < 0.4:
+        options.append(["--json"])
+    return ["outcomes"] + joined(draw, options)
 
 
 def judge(draw, depth=None):
@@ -130,6 +154,6 @@ def tables(draw, turn):
     return ["tables"] + option(draw, "protocol", PROTOCOLS[turn % 4]) if turn % 5 else ["tables"]
 
 
-def any_with_a_test(draw):
-    """A command that reads a test, with some of its options."""
-    return draw.choice((run(draw), ["check"], judge(draw, 4), sweep(draw, 0, 3, 50)))
+def any_with_a_test(draw, searched=False):
+    """A command that reads a test, with some of its options; `outcomes` too where that is asked for."""
+    return draw.choice([run(draw), ["check"], judge(draw, 4), sweep(draw, 0, 3, 50)] + ([outcomes(draw, 32)] if searched else []))

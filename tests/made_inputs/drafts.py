@@ -17,7 +17,8 @@ TEST_NAMES = ("SB", "t", "n6", "MP+mfence+po", "a test in full", "\"quoted\"", "
               "N" * 64, "~", "1")
 
 # How many cores (0 stands for two), instructions and locations a test has at most.
-SIZES = ((1, 4, 2), (2, 3, 2), (2, 4, 3), (2, 6, 3), (3, 4, 3), (4, 4, 4), (4, 6, 8), (8, 3, 4), (2, 12, 6), (3, 8, 16), (0, 3, 2))
+SIZES = ((1, 4, 2), (2, 3, 2), (2, 4, 3), (2, 6, 3), (3, 4, 3), (4, 4, 4), (4, 6, 8), (6, 3, 4), (8, 3, 4), (2, 12, 6), (3, 8, 16),
+         (0, 3, 2))
 
 VALUES = (0, 1, 1, 1, 2, 2, 3, 5, 7, 255, 65536, 2**31, 2**32 - 1)
 
@@ -73,18 +74,23 @@ class Drafter:
         """The one of these forms whose turn it is in this round."""
         return forms[self.round % len(forms)]
 
-    def draft(self, size=None, kinds=None, names=None, full=False):
+    def draft(self, size=None, kinds=None, names=None, full=False, cores=None, alike=False, shape=None):
         """A test: `size` is the most cores, instructions and locations of it, and where it is full the most instructions are
-        reached; `kinds` are the kinds of its instructions."""
+        reached; `kinds` are the kinds of its instructions. It has as many `cores`, if they are given; where it is `alike` some have
+        the same program. A `shape` has for each core the kinds of its instructions, one after the other."""
         draw = self.draw
         most_cores, most_instructions, most_names = size or draw.choice(SIZES)
-        cores = 2 if most_cores == 0 else draw.randint(max(1, most_cores - 1), most_cores)
+        cores = len(shape or ()) or cores or (2 if most_cores == 0 else draw.randint(max(1, most_cores - 1), most_cores))
         pool = list(names or draw.sample(NAMES if draw.random() < 0.5 else PLAIN_NAMES, min(most_names, len(PLAIN_NAMES))))
         while len(pool) < most_names:
             pool.append("v%d" % len(pool))
-        kinds = kinds or self.kinds()
-        least = most_instructions if full else draw.choice((0, most_instructions // 2, most_instructions))
-        programs = [[self.cell(pool, kinds) for _ in range(draw.randint(least, most_instructions))] for _ in range(cores)]
+        if shape is None:
+            kinds = kinds or self.kinds()
+            least = most_instructions if full else draw.choice((0, most_instructions // 2, most_instructions))
+            shape = [[draw.choice(kinds) for _ in range(draw.randint(least, most_instructions))] for _ in range(cores)]
+        programs = [[self.cell(pool, kind) for kind in program] for program in shape]
+        if alike:
+            programs = [list(draw.choice(programs[:2])) for _ in programs]
         return Draft(self.header(), self.information(), self.initial(pool, cores), self.columns(cores), self.rows(programs),
                      self.brackets(pool), self.condition(pool, cores), pool)
 
@@ -150,9 +156,8 @@ class Drafter:
             rows.insert(self.draw.randint(0, len(rows)), [[] for _ in programs])
         return rows
 
-    def cell(self, pool, kinds):
+    def cell(self, pool, kind):
         draw, letters = self.draw, self.speller.letters
-        kind = draw.choice(kinds)
         memory = ["[", draw.choice(pool), "]"]
         register, other = letters(draw.choice(self.registers)), letters(draw.choice(self.registers))
         number = draw.choice(([], ["$"])) + [self.speller.number(draw.choice(self.values))]
@@ -201,12 +206,12 @@ class Drafter:
         inner = self.proposition(pool, cores, deep)
         return inner if deep == 0 else ["("] + inner + [")"]
 
-    def condition_on(self, test, registers, words):
-        """A condition on some of what a run of this test left; its registers are those that something loads into."""
+    def condition_on(self, test, registers, words, most):
+        """A condition on some of what a run of this test left; its registers are so many at most of those that something loads into."""
         draw = self.draw
         loaded = sorted({(core, instruction.register) for core, program in enumerate(test.programs) for instruction in program
                          if instruction.kind in (litmus.LOAD, litmus.EXCHANGE, litmus.ADD)})
-        places = draw.sample(loaded, min(len(loaded), draw.randint(1, 3)))
+        places = draw.sample(loaded, min(len(loaded), draw.randint(1, most)))
         atoms = [[self.speller.number(core), ":", self.speller.letters(REGISTERS[register]), "=", str(registers[core][register])]
                  for core, register in places]
         if test.locations and (not atoms or draw.random() < 0.3):

@@ -1,10 +1,14 @@
 """Inputs of each kind: a command line and what it reads."""
+import itertools
+
 from reference import litmus, machine
-from reference.choices import STEP, DRAIN, choices_of_seed
+from reference.choices import STEP, DRAIN, choices_of_seed, printed_choices
 from reference.machine import Configuration
 from reference.reading import Refused, read_test
+from reference.search import Search
+from reference.tracing import MOST_STEPS
 
-from . import choice_texts, command_lines, fault_table, order_texts
+from . import choice_texts, command_lines, fault_table, order_texts, small_tests
 from .drafts import PLAIN_NAMES, Drafter
 
 # Sizes of tests, as `Drafter.draft` takes them: the most cores (0 stands for two), instructions and locations.
@@ -14,6 +18,13 @@ SMALL = ((1, 2, 2), (2, 3, 2), (4, 2, 2))
 JUDGED = ((2, 4, 2), (2, 6, 3), (3, 5, 3))
 RACING = ((0, 2, 2), (0, 3, 2), (0, 4, 2), (3, 2, 2), (3, 3, 2))
 GREATEST = ((8, 32, 16), (4, 32, 8), (2, 32, 4))
+# Of tests whose every state is searched: the kinds of their instructions, and the number of cores with a size, in turn.
+SEARCHED_KINDS = (["store", "load"], ["store", "load"], ["store", "load", "fence"], ["store", "load", "exchange"],
+                  ["exchange", "add", "load"], ["store register", "store", "load", "set", "copy"], None)
+SEARCHED = ((2, (2, 4, 2)), (3, (3, 3, 2)), (4, (4, 3, 3)), (5, (5, 2, 3)), (6, (6, 2, 2)), (7, (7, 2, 2)), (8, (8, 2, 2)), (2, (2, 6, 3)),
+            (3, (3, 4, 3)), (1, (1, 8, 4)))
+# What stands between the stores and the loads of a core.
+BETWEEN = ([], [], [], ["fence"], ["exchange"], ["add"])
 
 DIVIDERS = ("====\n",) * 8 + ("====\r\n",)
 # Lines that divide an input, or look so; '?' stands for the choices.
@@ -35,25 +46,30 @@ class Maker:
     def __init__(self, draw, turn):
         self.draw, self.turn, self.name = draw, turn, None
 
-    def test(self, asked=0.4, **how):
-        """A test's text, which most often spells one, and that test or None. So often its condition asks for what a run leaves."""
+    def test(self, asked=0.4, most=3, few_states=False, bare=False, **how):
+        """A test's text, which most often spells one, and that test or None. So often its condition asks for what a run leaves, in so many
+        registers at most; a bare one has none."""
         drafter = Drafter(self.draw)
         draft = drafter.draft(**how)
-        if self.draw.random() < asked:
-            self.ask_what_a_run_leaves(drafter, draft)
+        if few_states:
+            small_tests.cut(self.draw, draft, lambda draft: test_of(draft.spelled(drafter.speller)))
+        if bare:
+            draft.condition = []
+        elif self.draw.random() < asked:
+            self.ask_what_a_run_leaves(drafter, draft, most)
         text = draft.spelled(drafter.speller)
         if not text.endswith(b"\n"):
             text += b"\n"
         return text, test_of(text)
 
-    def ask_what_a_run_leaves(self, drafter, draft):
+    def ask_what_a_run_leaves(self, drafter, draft, most):
         """Gives the draft a condition on the end of one of its runs."""
         draft.condition = []
         test = test_of(draft.spelled(drafter.speller))
         if test is not None:
             run = machine.run(test, Configuration(), self.seeded(test))
             if run.machine is not None:
-                draft.condition = drafter.condition_on(test, *run.state())
+                draft.condition = drafter.condition_on(test, *run.state(), most)
 
     def seeded(self, test):
         """Choices that nearly always end the test, drawn from some seed."""
@@ -62,6 +78,10 @@ class Maker:
     def joined(self, text, second):
         """An input of two parts."""
         return text + (self.draw.choice(DIVIDERS) + second).encode("latin-1")
+
+    def cores(self):
+        """Every fourth time how many cores a test has, one to eight in turn."""
+        return None if self.turn % 4 else self.turn // 4 % litmus.MOST_CORES + 1
 
     # Runs.
 
@@ -90,17 +110,65 @@ class Maker:
         text, test = self.test(size=self.draw.choice(SPLIT), kinds=kinds)
         return self.run_of(text, test, choice_texts.choices, bus="split")
 
+    def a_split_trace(self):
+        """The same as JSON, with lines of several words, of which the last one has fewer."""
+        text, test = self.test(size=(4, 5, 3), kinds=["store", "load", "load", "exchange", "add"])
+        words = command_lines.trace_as_json(self.draw, bus="split", words=self.draw.choice((2, 4)))
+        return words, text if test is None else self.joined(text, choice_texts.choices(self.draw, test))
+
     def a_great_run(self):
         """As many cores and instructions as there may be."""
         text, test = self.test(size=self.draw.choice(GREATEST))
         return self.run_of(text, test, choice_texts.seed_alone)
+
+    def a_long_trace(self):
+        """`trace --json` that uses as many choices as it may, or one more. They stall at first; the last ones end the test, as words or
+        of a seed, or stall too."""
+        text, test = self.test(size=(2, 3, 3))
+        words = command_lines.trace_as_json(self.draw, depth=4, bus="atomic")
+        if test is None:
+            return words, text
+        seed, over, form = self.draw.randrange(2**32), self.turn % 2, self.turn // 2 % 3
+        length = choice_texts.ending_length(test)
+        used = machine.run(test, Configuration(), choices_of_seed(seed, length, test.cores())).used
+        endings = ["seed %d %d" % (seed, length), printed_choices(itertools.islice(choices_of_seed(seed, length, test.cores()), used)), ""]
+        stalling = ["0d"] * (MOST_STEPS + over - (used if endings[form] else 0))
+        return words, self.joined(text, " ".join(stalling + [endings[form]]))
+
+    # Searches.
+
+    def a_search(self):
+        """`outcomes` of a test of few states, with one to eight cores and at every depth in turn."""
+        cores, size = SEARCHED[self.turn % len(SEARCHED)] if self.turn % 35 else (self.turn // 35 % 8 + 1, (1, 0, 2))
+        text, test = self.test(size=size, cores=cores, kinds=self.draw.choice(SEARCHED_KINDS), few_states=True,
+                               full=self.draw.random() < 0.8, alike=self.draw.random() < 0.25, asked=0.75, most=6, bare=self.turn % 12 == 7)
+        return self.a_search_of(text, test, self.turn % 33)
+
+    def a_shallow_search(self):
+        """`outcomes` of two or three cores that store and then load, with buffers that hold all of these stores or nearly."""
+        shape = [["store"] * self.draw.randint(1, 3) + self.draw.choice(BETWEEN) + ["load"] * self.draw.randint(1, 2)
+                 for _ in range(self.draw.choice((2, 2, 3)))]
+        text, test = self.test(size=(3, 5, self.draw.choice((2, 2, 3))), shape=shape, few_states=True, asked=0.9, most=6)
+        return self.a_search_of(text, test, self.draw.choice((0, 1, 1, 2, 2, 3)))
+
+    def a_search_of(self, text, test, depth):
+        """`outcomes` of this test, with its second part, which isn't looked at."""
+        words = command_lines.outcomes(self.draw, None if depth == 32 else depth, None if test is None else self.limit(test, depth))
+        return words, text if self.draw.random() < 0.7 else self.joined(text, "x y z\n====\n")
+
+    def limit(self, test, depth):
+        """How many states may be kept, None where nothing is said: now and then just as many as can be reached, or one less."""
+        form = self.turn // len(SEARCHED) % 6
+        if form < 2:
+            return max(1, len(Search(test, depth).reached) - form)
+        return (None, None, 10_000_000, self.draw.choice((1, 2, 5, 40)))[form - 2]
 
     # Texts with a fault.
 
     def a_faulty_test(self):
         text, fault = fault_table.faulty(self.draw, Drafter(self.draw), self.turn)
         self.name = "a test: " + fault
-        words = command_lines.any_with_a_test(self.draw)
+        words = command_lines.any_with_a_test(self.draw, searched=test_of(text) is None)
         second = self.draw.choice(("", "0s 1s 0d\n", "seed 1 100\n", "Order\nEndorder 0\n"))
         return words, text if self.draw.random() < 0.7 else self.joined(text + b"\n", second)
 
@@ -135,7 +203,7 @@ class Maker:
 
     def an_order(self):
         """An execution, and `witness` at every depth in its turn."""
-        text, test = self.test()
+        text, test = self.test(cores=self.cores())
         depth = self.turn % 32 + 1 if self.turn % 3 else None
         return (["check"], text) if test is None else self.judged(text, test, self.order_of(test), depth)
 
@@ -144,16 +212,28 @@ class Maker:
         text, test = self.test(size=(2, 7, 3), kinds=["store", "store", "load"])
         if test is None:
             return ["witness"], text
+        return self.judged(text, test, self.deepest(test), self.draw.choice((1, 1, 2, 3, 32)))
+
+    def deepest(self, test):
+        """The order of the run in which all steps are taken, as far as they can be, before any store is drained."""
         steps = [(core, STEP) for core in range(test.cores()) for _ in test.programs[core]]
         run = machine.run(test, Configuration(depth=32), steps + [(core, DRAIN) for core, _ in steps])
-        order = run.machine.order if run.machine is not None else []
-        return self.judged(text, test, order, self.draw.choice((1, 1, 2, 3, 32)))
+        return run.machine.order if run.machine is not None else []
+
+    def a_deepest_order(self):
+        """An execution in which a load passes as many stores as the turn says, up to all that a program can have before it; and
+        `witness` at about the depth that it needs."""
+        stores = self.turn % (litmus.MOST_INSTRUCTIONS - 1) + 1
+        text, test = self.test(size=(2, 1, 3), shape=[["store"] * stores + ["load"], ["store", "load"]])
+        if test is None:
+            return ["witness"], text
+        return self.judged(text, test, self.deepest(test), min(32, stores + self.draw.choice((-1, 0, 0, 1)) or 1))
 
     def a_broken_order(self):
         """An order that was changed, so that as a rule it breaks an axiom."""
         separated = order_texts.change_of(self.turn) is order_texts.separated
         kinds = ["exchange", "add", "load", "store"] if separated or self.draw.random() < 0.4 else None
-        text, test = self.test(size=self.draw.choice(JUDGED), kinds=kinds)
+        text, test = self.test(size=self.draw.choice(JUDGED), kinds=kinds, cores=self.cores())
         if test is None:
             return ["check"], text
         return self.judged(text, test, order_texts.mutated(self.draw, test, self.order_of(test), self.turn))
@@ -165,7 +245,7 @@ class Maker:
         kinds = self.draw.choice(("store load", "store load", "store load fence", "store load exchange", "")).split()
         names = self.draw.choice((PLAIN_NAMES[:1], PLAIN_NAMES[:2], None))
         full = self.draw.random() < 0.8
-        text, test = self.test(size=self.draw.choice(RACING), kinds=kinds, names=names, full=full, asked=0.7)
+        text, test = self.test(size=self.draw.choice(RACING), kinds=kinds, names=names, full=full, cores=self.cores(), asked=0.7)
         first, seeds, length = self.plan(80 if test is None else 8 * test.cores() * choice_texts.work_of(test))
         words = command_lines.sweep(self.draw, first, seeds, length, depth=self.turn % 33 if self.turn % 2 else None)
         return words, text if self.draw.random() < 0.7 else self.joined(text, "x y z\n====\n")
@@ -200,13 +280,14 @@ class Maker:
             given += self.draw.choice((b" ", b"\n")) * (litmus.LONGEST_INPUT + over - len(given))
         else:
             given = text + ODD_DIVIDERS[self.turn % len(ODD_DIVIDERS)].replace("?", choices).encode("latin-1")
-        return self.draw.choice((command_lines.run(self.draw), ["check"])), given
+        return self.draw.choice((command_lines.run(self.draw), ["check"], command_lines.outcomes(self.draw))), given
 
 
 # Of so many inputs in a row, how many there are of each kind.
 SHARES = (
     (Maker.a_run, 12), (Maker.a_crowded_run, 7), (Maker.a_shallow_run, 5), (Maker.a_split_run, 9), (Maker.a_great_run, 1),
+    (Maker.a_split_trace, 1), (Maker.a_long_trace, 1), (Maker.a_search, 10), (Maker.a_shallow_search, 8),
     (Maker.a_faulty_test, 36), (Maker.faulty_choices, 6), (Maker.a_faulty_order, 5),
-    (Maker.an_order, 4), (Maker.a_deep_order, 3), (Maker.a_broken_order, 9),
+    (Maker.an_order, 4), (Maker.a_deep_order, 3), (Maker.a_deepest_order, 2), (Maker.a_broken_order, 9),
     (Maker.a_sweep, 6), (Maker.a_bad_line, 4), (Maker.tables, 1), (Maker.a_divided_input, 2),
 )

@@ -1,5 +1,5 @@
 """What has to come up among inputs, by kind and name, so that an answer that is alike says something of it."""
-from reference import commands, litmus
+from reference import commands, litmus, tracing
 
 FAULTS_OF_TESTS = {
     "TooLarge": ("the text", "the test's name", "a ninth core", "a 17th location in the initial state",
@@ -39,10 +39,40 @@ LINES = ("no command", "--help", "--version", "help of a command", "unknown comm
          "option of another command", "unknown option", "option twice", "option without its value", "flag with a value",
          "value that is no number", "lines of three words") + tuple(
              "value out of range: " + name for name in
-             ("protocol", "depth", "sets", "ways", "words", "bus", "from", "seeds", "length"))
+             ("protocol", "depth", "sets", "ways", "words", "bus", "from", "seeds", "length", "states"))
 
 # A refusal is told by every command that reads an input, and each has its own further statuses.
-STATUSES = {"run": (0, 1, 3), "trace": (0, 1, 3), "sweep": (0, 1, 3), "check": (0, 1, 4), "witness": (0, 1, 4)}
+STATUSES = {"run": (0, 1, 3), "trace": (0, 1, 3), "sweep": (0, 1, 3), "outcomes": (0, 1, 3), "check": (0, 1, 4), "witness": (0, 1, 4)}
+
+# Commands beside whose answer with status 0 a hint may stand.
+HINTED = ("run", "trace", "sweep", "outcomes")
+
+AMOUNTS = ("none", "one", "several")
+
+# What `trace --json` has that `trace` and `run --json` haven't: each member, where it says something and where it says nothing.
+TRACES_AS_JSON = {
+    "choices used as JSON": ("1000, ended", "1000, unfinished", "1001, the last of a seed", "1001, the last a word of its own"),
+    "instruction as JSON": litmus.STORES + litmus.MOVES + litmus.LOCKED + (litmus.LOAD, litmus.FENCE),
+    "proposition as JSON": ("null", "truth", "register", "location", "not", "and", "or", "brackets around and", "brackets around or"),
+    "outcome of a step": ("committed", "buffered", "moved", "asked", "stalled"),
+    "bus as JSON": ("nobody", "held, and nothing is awaited", "IS_D", "IM_D", "SM_D"),
+    "words that the bus keeps": range(5),
+    "pending stores as JSON": AMOUNTS,
+    "copies of a set": AMOUNTS,
+    "state of a copy": ("M", "O", "E", "S", "SM_D"),
+    "words of a copy": range(1, 5),
+    "memory as JSON": ("what is meant", "older than what is meant"),
+}
+TRACES_AS_JSON.update(("part of a step: " + part, ("there", "not there")) for part in tracing.PARTS)
+
+OUTCOMES = {
+    "answer of outcomes": ("all states, text", "all states, JSON", "too many states, text", "too many states, JSON"),
+    "states that can be reached": ("fewer than may be kept", "as many as may be kept", "more than may be kept"),
+    "final states": AMOUNTS[1:],
+    "what a state names": ("registers", "locations", "registers and locations", "nothing"),
+    "choices beside a state": ("none", "some"),
+    "observation of outcomes": ["%s, %s" % (word, form) for word in ("Never", "Sometimes", "Always", "none") for form in ("text", "JSON")],
+}
 
 
 def names():
@@ -54,9 +84,10 @@ def names():
         "refusal of an order": ("NoOrder", "BadLine", "BadCount"),
         "refusal of an input": ("TooLarge",),
         "breach": ("C1 extra", "C1 twice", "C1 missing", "C2", "C3", "C4", "C5"),
-        "depth needed": ("more than there is", "no more than there is"),
+        "depth needed": ("more than there is", "as much as there is", "less than there is"),
+        "depth that an order needs": range(litmus.MOST_INSTRUCTIONS),
         "outcome": ("Committed", "Buffered", "Moved", "Asked"),
-        "hint beside status 0": ("a location that nothing uses", "never seen", "none"),
+        "hint beside status 0": ["never seen", "none"] + ["a location that nothing uses, of " + command for command in HINTED],
         "stall": ("Done", "Full", "Fence", "Lock", "Empty", "Bus"),
         "access": ("hits", "misses", "upgrades", "forwards", "write_backs", "flushes"),
         "found": ("M hits by a load", "O hits by a load", "E hits by a load", "S hits by a load", "M hits by a write",
@@ -81,15 +112,20 @@ def names():
         "command line": LINES,
         "option's form": ("space", "equals sign"),
     }
+    wanted.update(TRACES_AS_JSON)
+    wanted.update(OUTCOMES)
     wanted.update(("status of " + command, statuses) for command, statuses in STATUSES.items())
+    for command in STATUSES:
+        wanted["cores of " + command] = range(1, litmus.MOST_CORES + 1)
+        wanted["register in a program of " + command] = wanted["register in a condition of " + command] = litmus.REGISTERS
     wanted.update(("%s of %s" % (name, command), values_of(name, values))
                   for command, options in commands.OPTIONS.items() for name, values in options.items())
     return {kind: [str(name) for name in listed] for kind, listed in wanted.items()}
 
 
 def values_of(name, values):
-    """The values of an option; of those that a sweep's plan has, the ends of their range."""
-    if name in commands.SWEEP_OPTIONS:
+    """The values of an option; of great ranges their ends."""
+    if name in commands.GREAT_RANGES:
         return "least", "between", "greatest"
     if name == "words":
         return commands.WORDS

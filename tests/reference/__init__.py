@@ -12,9 +12,11 @@ it follows. tests/second_voice.py holds a built program against it.
     orders       order texts, entries
     axioms       what the programs make, and the first breach of an order
     witness      choices along an order, and the depth that it needs
+    search       every state that a test can be in
+    outcomes     final states with choices that lead there
     caches       the protocols, and the caches of all cores with their words
     machine      cores, store buffers, both buses, runs
-    tracing      what each choice of a run did
+    tracing      what each choice of a run did, and the machine after it
     printing     reports, JSON, sweeps, tables
     commands     command lines, the parts of an input, and the whole answer
     seen         what came up, by name

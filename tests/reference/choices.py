@@ -57,15 +57,19 @@ class Choices:
     def __init__(self, cores):
         self.cores, self.items, self.count = cores, [], 0
 
-    def word_of(self, place):
-        """The number of the word that begins the item of this choice, counted from 0."""
+    def item_of(self, place):
+        """The item of this choice, counted from 0, and the number of the word that begins it."""
         word = 1
         for item in self.items:
             size, words = (1, 1) if len(item) == 2 else (item[2], 3)
             if place < size:
-                return word
+                return item, word
             place, word = place - size, word + words
         raise IndexError(place)
+
+    def word_of(self, place):
+        """The number of the word that begins the item of this choice, counted from 0."""
+        return self.item_of(place)[1]
 
     def __iter__(self):
         for item in self.items:

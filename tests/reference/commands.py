@@ -3,7 +3,7 @@ input', and docs/MESSAGES.md, 'Command lines'."""
 import re
 import typing
 
-from . import axioms, hints, litmus, machine, printing, seen, tracing, witness
+from . import axioms, conditions, hints, litmus, machine, outcomes, printing, seen, tracing, witness
 from .choices import printed_choices, read_choices
 from .machine import Configuration
 from .orders import read_order
@@ -16,14 +16,20 @@ MACHINE_OPTIONS = {
     "words": range(1, 5), "bus": (machine.ATOMIC, machine.SPLIT),
 }
 SWEEP_OPTIONS = {"from": range(2**32), "seeds": range(1, 1001), "length": range(100_001)}
+SEARCH_OPTIONS = {"depth": range(33), "states": range(1, 10_000_001)}
 
 # The options of each command, and their values; `json` has none.
 OPTIONS = {
-    "run": dict(MACHINE_OPTIONS, json=None), "trace": dict(MACHINE_OPTIONS, json=None), "sweep": dict(MACHINE_OPTIONS, **SWEEP_OPTIONS), "check": {},
-    "witness": {"depth": range(1, 33)}, "tables": {"protocol": MACHINE_OPTIONS["protocol"]},
+    "run": dict(MACHINE_OPTIONS, json=None), "trace": dict(MACHINE_OPTIONS, json=None), "sweep": dict(MACHINE_OPTIONS, **SWEEP_OPTIONS),
+    "outcomes": dict(SEARCH_OPTIONS, json=None), "check": {}, "witness": {"depth": range(1, 33)},
+    "tables": {"protocol": MACHINE_OPTIONS["protocol"]},
 }
 DEFAULTS = {"protocol": "msi", "depth": 4, "sets": 1, "ways": 2, "words": 1, "bus": machine.ATOMIC, "json": False,
-            "from": 0, "seeds": 10, "length": 1000}
+            "from": 0, "seeds": 10, "length": 1000, "states": 1_000_000}
+OWN_DEFAULTS = {"outcomes": {"depth": 32}}
+
+# Options with so many values that their ends alone are told apart.
+GREAT_RANGES = tuple(SWEEP_OPTIONS) + ("states",)
 
 # `--words` is read as one of these, and then refused where it isn't one of its values.
 WORDS = (1, 2, 4)
@@ -49,7 +55,8 @@ def settings_of(words):
     """The command, and the value of each of its options; raises `BadLine`."""
     if not words:
         raise BadLine("no command")
-    command, rest, settings = words[0], list(words[1:]), dict(DEFAULTS)
+    command, rest = words[0], list(words[1:])
+    settings = dict(DEFAULTS, **OWN_DEFAULTS.get(command, {}))
     if command in ("--help", "--version"):
         raise BadLine(command)
     if command not in OPTIONS:
@@ -105,7 +112,7 @@ def note_options(command, settings):
     """Counts the values of a command that answered; of great ranges their ends alone."""
     for name, values in OPTIONS[command].items():
         value = settings[name]
-        if name in SWEEP_OPTIONS:
+        if name in GREAT_RANGES:
             value = "least" if value == values[0] else "greatest" if value == values[-1] else "between"
         seen.note("%s of %s" % (name, command), value)
 
@@ -116,8 +123,19 @@ def parts_of(given):
     return (given, b"") if found is None else (given[:found.start()], given[found.end():])
 
 
-def answer(words, given):
-    """The program's answer to this command line and this input."""
+def note_test(command, test):
+    """Counts how many cores a test has that a command answers, and the registers that its instructions and its condition name."""
+    seen.note("cores of " + command, test.cores())
+    for register in {number for program in test.programs for done in program for number in done.registers()}:
+        seen.note("register in a program of " + command, litmus.REGISTERS[register])
+    if test.proposition is not None:
+        for _, register in conditions.named_in(test.proposition)[0]:
+            seen.note("register in a condition of " + command, litmus.REGISTERS[register])
+
+
+def answer(words, given, told=b""):
+    """The program's answer to this command line and this input. What the documents leave open is taken from the answer that is told,
+    where it is right there."""
     try:
         command, settings = settings_of(words)
     except BadLine as line:
@@ -126,16 +144,17 @@ def answer(words, given):
         note_options(command, settings)
         return Answer(ENDED, printing.table(settings["protocol"]).encode(), b"")
     try:
-        test, status, output = answer_to_input(command, settings, given)
+        test, status, output = answer_to_input(command, settings, given, told.decode("latin-1"))
         note_options(command, settings)
+        note_test(command, test)
     except Refused as refused:
         test, status, output = None, REFUSED, refused.line + "\n"
     seen.note("status of " + command, status)
-    told = hints.beside(command, settings["json"], settings["depth"], test, output) if status == ENDED else None
-    return Answer(status, output.encode(), told)
+    errors = hints.beside(command, settings["json"], settings["depth"], test, output) if status == ENDED else None
+    return Answer(status, output.encode(), errors)
 
 
-def answer_to_input(command, settings, given):
+def answer_to_input(command, settings, given, told):
     """The test, status and output: the input's size is judged first, then its first part, then its second."""
     if len(given) > litmus.LONGEST_INPUT:
         seen.note("refusal of an input", "TooLarge")
@@ -144,6 +163,9 @@ def answer_to_input(command, settings, given):
     test = read_test(first)
     if command in ("check", "witness"):
         return (test,) + judged(test, command, settings["depth"], second)
+    if command == "outcomes":
+        output, ended = outcomes.answer(test, settings["depth"], settings["states"], settings["json"], told)
+        return test, ENDED if ended else UNFINISHED, output
     configuration = Configuration(*(settings[name] for name in Configuration._fields))
     if command == "sweep":
         output, ended = printing.sweep(test, configuration, settings["from"], settings["seeds"], settings["length"])
@@ -163,6 +185,7 @@ def traced(test, configuration, choices, with_json):
     made = tracing.TracedMachine(test, configuration, with_json)
     run = machine.run(test, configuration, choices, made)
     if with_json:
+        tracing.note_length(run, choices)
         if run.used > tracing.MOST_STEPS:
             raise Refused("Refused choices word %d TooMany" % choices.word_of(tracing.MOST_STEPS))
         more = tracing.members(test, made)
@@ -184,7 +207,8 @@ def judged(test, command, depth, text):
     if command == "check":
         return ENDED, "Check valid\n"
     needed = witness.needed(order)
-    seen.note("depth needed", "more than there is" if needed > depth else "no more than there is")
+    seen.note("depth that an order needs", needed)
+    seen.note("depth needed", "%s there is" % ("less than" if needed < depth else "as much as" if needed == depth else "more than"))
     if needed > depth:
         return INVALID, "Depth needed=%d\n" % needed
     return ENDED, printed_choices(witness.choices_along(test, order))

@@ -18,7 +18,7 @@ def beside(command, json, depth, test, output):
     if json or command not in ("run", "trace", "sweep", "outcomes"):
         return b""
     if test.unused is not None:
-        seen.note("hint beside status 0", "a location that nothing uses")
+        seen.note("hint beside status 0", "a location that nothing uses, of " + command)
         name, line = test.unused
         return (UNUSED % (line, name)).encode()
     found = NEVER_SEEN.search(output) if command == "sweep" else None

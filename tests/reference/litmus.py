@@ -36,6 +36,11 @@ class Instruction(typing.NamedTuple):
     register: typing.Optional[int] = None
     source: typing.Optional[int] = None
 
+    def registers(self):
+        """The registers that it names."""
+        source = self.source if self.kind in (STORE_REGISTER, SET_REGISTER) else None
+        return {self.register, source} - {None}
+
 
 @dataclasses.dataclass
 class Test:

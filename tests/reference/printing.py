@@ -78,37 +78,49 @@ def report_json(test, configuration, run, unused, more={}):
     }))
 
 
+class Looked:
+    """What is looked at of a test's final states: registers, core by core, and then locations by their numbers. It is what the
+    condition names; without one all locations."""
+
+    def __init__(self, test):
+        registers, locations = set(), range(len(test.locations))
+        if test.proposition is not None:
+            registers, locations = conditions.named_in(test.proposition)
+        self.registers, self.locations = sorted(registers), sorted(locations)
+        self.names = ["%d:%s" % (core, litmus.REGISTERS[register]) for core, register in self.registers]
+        self.names += [test.locations[location] for location in self.locations]
+
+    def values(self, registers, words):
+        """The values there of a final state."""
+        return tuple([registers[core][register] for core, register in self.registers] + [words[at] for at in self.locations])
+
+
 def sweep(test, configuration, first, seeds, length):
     """What a sweep prints, and whether all its runs ended."""
-    if test.proposition is None:
-        registers_named, locations_named = set(), range(len(test.locations))
-    else:
-        registers_named, locations_named = conditions.named_in(test.proposition)
-    registers_named, locations_named = sorted(registers_named), sorted(locations_named)
-    states, truths = collections.Counter(), collections.Counter()
+    looked, states, truths = Looked(test), collections.Counter(), collections.Counter()
     for seed in range(first, first + seeds):
         run = machine.run(test, configuration, choices_of_seed(seed, length, test.cores()))
         if run.machine is None:
             truths["unfinished"] += 1
             continue
-        registers, words = run.state()
-        states[tuple([registers[core][register] for core, register in registers_named]
-                     + [words[location] for location in locations_named])] += 1
-        truths[machine.holds(test, (registers, words))] += 1
+        states[looked.values(*run.state())] += 1
+        truths[machine.holds(test, run.state())] += 1
     ended = sum(states.values())
-    names = ["%d:%s" % (core, litmus.REGISTERS[register]) for core, register in registers_named]
-    names += [test.locations[location] for location in locations_named]
     lines = ["Sweep from=%d seeds=%d length=%d ended=%d unfinished=%d" % (first, seeds, length, ended, truths["unfinished"])]
-    lines += ["State %d%s" % (states[values], named(zip(names, values))) for values in sorted(states)]
+    lines += ["State %d%s" % (states[values], named(zip(looked.names, values))) for values in sorted(states)]
     if test.proposition is not None:
-        lines.append("Observation %s %s %d %d" % (test.name, observation(truths), truths[True], truths[False]))
+        lines.append(observation_line(test, truths))
+        seen.note("observation", observation(truths))
     return head(test, configuration) + "".join(line + "\n" for line in lines), ended == seeds
 
 
+def observation_line(test, truths):
+    return "Observation %s %s %d %d" % (test.name, observation(truths), truths[True], truths[False])
+
+
 def observation(truths):
-    word = "Never" if truths[True] == 0 else "Always" if truths[False] == 0 else "Sometimes"
-    seen.note("observation", word)
-    return word
+    """The word for how often the proposition was true and how often false."""
+    return "Never" if truths[True] == 0 else "Always" if truths[False] == 0 else "Sometimes"
 
 
 def table(name):

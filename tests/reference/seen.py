@@ -1,5 +1,6 @@
 """What came up while inputs were answered, counted by kind and name."""
 import collections
+import contextlib
 
 _counts = collections.Counter()
 
@@ -14,3 +15,19 @@ def taken():
     counts = collections.Counter(_counts)
     _counts.clear()
     return counts
+
+
+def amount(items):
+    """How many these are, as far as that is told apart."""
+    return ("none", "one", "several")[min(len(items), 2)]
+
+
+@contextlib.contextmanager
+def uncounted():
+    """What comes up within doesn't count."""
+    before = taken()
+    try:
+        yield
+    finally:
+        _counts.clear()
+        _counts.update(before)

@@ -5,6 +5,9 @@ from .choices import STEP
 from .machine import ASKED, BUFFERED, COMMITTED, MOVED, Machine
 from .orders import WRITE, Entry
 
+# Of a step as JSON the parts that don't always apply.
+PARTS = ("stall", "entries", "moved", "forwarded", "access", "transaction", "flush", "write_back", "states")
+
 OUTCOMES = {COMMITTED: "committed", BUFFERED: "buffered", MOVED: "moved", ASKED: "asked"}
 ACCESSES = {HIT: "hit", MISS: "miss", UPGRADE: "upgrade"}
 
@@ -124,12 +127,14 @@ class TracedMachine(Machine):
         memory = [word for line in self.caches.memory for word in line]
         cores = []
         for number, (core, sets) in enumerate(zip(self.cores, self.caches.sets)):
-            lines = [[{"line": self.line_names[copy.line], "state": states[number][copy.line], "words": self.words_of(copy.line, copy.words)}
-                      for copy in copies] for copies in sets]
+            lines = [[self.copy_value(copy, states[number][copy.line]) for copy in copies] for copies in sets]
             registers = dict(zip(litmus.REGISTERS, core.registers))
             cores.append({"buffer": self.buffer(number), "lines": lines, "place": core.place, "registers": registers})
         return {"bus": self.bus_value(), "cores": cores, "memory": dict(zip(test.locations, memory)),
                 "seen": dict(zip(test.locations, self.words_meant()))}
+
+    def copy_value(self, copy, state):
+        return {"line": self.line_names[copy.line], "state": state, "words": self.words_of(copy.line, copy.words)}
 
     def bus_value(self):
         if self.holder is None:
@@ -165,6 +170,7 @@ def instruction_text(test, done):
 def proposition_text(test, proposition):
     """A proposition with as few brackets as may be."""
     kind, *parts = proposition
+    seen.note("proposition as JSON", kind)
     if kind == "truth":
         return "true" if parts[0] else "false"
     if kind == "register":
@@ -181,10 +187,52 @@ def proposition_text(test, proposition):
 def in_brackets(test, proposition, kinds):
     """The text, in brackets where it is of one of these kinds."""
     text = proposition_text(test, proposition)
-    return "(%s)" % text if proposition[0] in kinds else text
+    if proposition[0] in kinds:
+        seen.note("proposition as JSON", "brackets around " + proposition[0])
+        return "(%s)" % text
+    return text
 
 
 def members(test, made):
     """What a trace adds to the members of `run --json`."""
     proposition = None if test.proposition is None else proposition_text(test, test.proposition)
+    note_members(test, made)
     return {"programs": programs(test), "proposition": proposition, "trace": {"start": made.start, "steps": made.steps}}
+
+
+def note_length(run, choices):
+    """Counts how many choices a run used, where that is at the limit of a trace as JSON."""
+    if run.used == MOST_STEPS:
+        seen.note("choices used as JSON", "1000, " + ("unfinished" if run.machine is None else "ended"))
+    if run.used > MOST_STEPS:
+        item, _ = choices.item_of(MOST_STEPS)
+        seen.note("choices used as JSON", "1001, the last of a seed" if item[0] == "seed" else "1001, the last a word of its own")
+
+
+def note_members(test, made):
+    """Counts what a trace as JSON has: the instructions, the parts of its steps, and what the machines have that differs."""
+    if test.proposition is None:
+        seen.note("proposition as JSON", "null")
+    for done in (done for program in test.programs for done in program):
+        seen.note("instruction as JSON", done.kind)
+    for step in made.steps:
+        seen.note("outcome of a step", step["outcome"])
+        for part in PARTS:
+            seen.note("part of a step: " + part, "there" if step[part] else "not there")
+        note_machine(step["after"])
+
+
+def note_machine(value):
+    """Counts who holds the bus and what it keeps, the copies, the buffers, and whether memory is older than the words that are meant."""
+    bus = value["bus"]
+    seen.note("bus as JSON", "nobody" if bus is None else bus["state"] or "held, and nothing is awaited")
+    if bus is not None:
+        seen.note("words that the bus keeps", len(bus["words"]))
+    for core in value["cores"]:
+        seen.note("pending stores as JSON", seen.amount(core["buffer"]))
+        for copies in core["lines"]:
+            seen.note("copies of a set", seen.amount(copies))
+            for copy in copies:
+                seen.note("state of a copy", copy["state"])
+                seen.note("words of a copy", len(copy["words"]))
+    seen.note("memory as JSON", "what is meant" if value["memory"] == value["seen"] else "older than what is meant")

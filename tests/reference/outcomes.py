@@ -1,0 +1,109 @@
+"""What `outcomes` prints: README.md, 'Can it happen at all?', docs/SCRIPTS.md, 'JSON', and docs/MESSAGES.md, 'Too many states'.
+
+Two things are left open there: which of the choices that lead to a state stand beside it, and from how many states on a search gives
+up. Both are taken from an answer that is told, where they are right; all else is said here.
+"""
+import json
+import re
+
+from . import machine, printing, seen
+from .choices import read_choices
+from .machine import Configuration
+from .reading import Refused
+from .search import Search
+
+# What stands beside a state where the choices that are told don't lead there.
+NO_WAY = "choices that lead there"
+
+PLAIN_CHOICES = re.compile(r"(?:[0-7][sd](?: [0-7][sd])*)?")
+
+
+def form_of(with_json):
+    return "JSON" if with_json else "text"
+
+
+def answer(test, depth, limit, with_json, told):
+    """What is printed, and whether the search came to its end. `told` is an answer in which it may have given up."""
+    search = Search(test, depth)
+    states = len(search.reached)
+    seen.note("states that can be reached", "%s may be kept" % (
+        "fewer than" if states < limit else "as many as" if states == limit else "more than"))
+    unfinished = unfinished_json(test, limit) if with_json else "Unfinished states=%d\n" % limit
+    if states > limit and told == unfinished:
+        seen.note("answer of outcomes", "too many states, " + form_of(with_json))
+        return unfinished, False
+    seen.note("answer of outcomes", "all states, " + form_of(with_json))
+    return Found(test, depth, search.ends()).printed(with_json, told), True
+
+
+def unfinished_json(test, limit):
+    return printing.as_json({"test": test.name, "unfinished": {"states": limit}})
+
+
+class Found:
+    """The final states of a test at a depth, as they are looked at, in ascending order, and the proposition's truth in each."""
+
+    def __init__(self, test, depth, ends):
+        self.test, self.depth, self.looked = test, depth, printing.Looked(test)
+        self.truths = {self.looked.values(*state): machine.holds(test, state) for state in ends}
+        self.states = sorted(self.truths)
+
+    def note_answer(self, ways, form):
+        named = ["registers"] * bool(self.looked.registers) + ["locations"] * bool(self.looked.locations)
+        seen.note("what a state names", " and ".join(named) or "nothing")
+        seen.note("final states", seen.amount(self.states))
+        for way in ways:
+            seen.note("choices beside a state", "some" if way else "none")
+        counts = self.observed()
+        seen.note("observation of outcomes", "%s, %s" % ("none" if counts is None else printing.observation(counts), form))
+
+    def printed(self, with_json, told):
+        ways = ways_in(told, with_json)
+        ways += [NO_WAY] * (len(self.states) - len(ways))
+        with seen.uncounted():
+            ways = [way if self.leads_to(values, way) else NO_WAY for values, way in zip(self.states, ways)]
+        self.note_answer(ways, form_of(with_json))
+        return printing.as_json(self.value(ways)) if with_json else self.text(ways)
+
+    def leads_to(self, values, way):
+        """Whether a run under these choices ends with these values, none of them stalled and none left over."""
+        if not PLAIN_CHOICES.fullmatch(way):
+            return False
+        try:
+            made = read_choices(way.encode(), self.test.cores())
+        except Refused:
+            return False
+        run = machine.run(self.test, Configuration(depth=self.depth), made)
+        all_used = run.machine is not None and run.stalled == 0 and run.used == made.count
+        return all_used and self.looked.values(*run.state()) == values
+
+    def observed(self):
+        """How many states make the proposition true, and how many false; None where the test has none."""
+        truths = list(self.truths.values())
+        return None if self.test.proposition is None else {truth: truths.count(truth) for truth in (True, False)}
+
+    def text(self, ways):
+        lines = ["Test " + self.test.name, "Outcomes depth=%d states=%d" % (self.depth, len(self.states))]
+        for values, way in zip(self.states, ways):
+            lines += ["State" + printing.named(zip(self.looked.names, values)), "By " + way if way else "By"]
+        if self.test.proposition is not None:
+            lines.append(printing.observation_line(self.test, self.observed()))
+        return "".join(line + "\n" for line in lines)
+
+    def value(self, ways):
+        counts = self.observed()
+        observed = None
+        if counts is not None:
+            observed = {"word": printing.observation(counts), "true": counts[True], "false": counts[False]}
+        states = [{"values": dict(zip(self.looked.names, values)), "choices": way} for values, way in zip(self.states, ways)]
+        return {"test": self.test.name, "depth": self.depth, "states": states, "observation": observed}
+
+
+def ways_in(told, with_json):
+    """The choices that stand beside the states of an answer, one after the other; none where it hasn't its form."""
+    if not with_json:
+        return re.findall(r"^By ?(.*)$", told, re.MULTILINE)
+    try:
+        return [str(state["choices"]) for state in json.loads(told)["states"]]
+    except (ValueError, LookupError, TypeError):
+        return []
