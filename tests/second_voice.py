@@ -13,6 +13,9 @@ The documents leave two things of `outcomes` open. The second program takes them
 beside a state end the test in it, in a run of its own, at that depth, none stalled and none left over; a search gives up only where more
 states can be reached than may be kept.
 
+The second program answers the rows of tests/data/rows/ too, with their output and their status. Of standard error it has what stands
+beside status 0, and beside `--words 3`. All other hints, `--help`, `--version` and the words on a refused command line aren't its own.
+
 With --print no program is asked: the command line of the input with this number is printed, then its standard input. The last
 line is 'N passed, M failed'.
 """
@@ -23,6 +26,7 @@ import sys
 sys.dont_write_bytecode = True
 import judging
 import made_inputs
+import rows
 from made_inputs import must_come_up
 from reference import choices, commands, outcomes, reading, seen
 from reference.search import Search
@@ -95,6 +99,32 @@ def judge_names(counts, tally):
         tally.add("what came up", [(kind, ["never came up: " + name for name in missing])])
 
 
+def faults_of_answer(row, given, status, output):
+    """How the reference answers a row's words and this input otherwise than with one of these statuses, and this output, if it has one."""
+    found = commands.answer(row.words, given, output or b"")
+    faults = [] if found.status in status else ["status %s, and not %s" % (found.status, " or ".join(map(str, status)))]
+    if output is not None:
+        faults += judging.lines_that_differ(output, found.output)
+    if found.errors is not None and isinstance(row.errors, bytes):
+        faults += judging.lines_that_differ(row.errors, found.errors)
+    return faults
+
+
+def faults_of_row(row):
+    if not row.value("beginnings"):
+        return faults_of_answer(row, row.given, (row.status,), row.output)
+    answers = (commands.ENDED, commands.UNFINISHED)
+    return [fault for given, refusal in row.beginnings()
+            for fault in faults_of_answer(row, given, (commands.REFUSED,) if refusal else answers, refusal)]
+
+
+def judge_rows(tally):
+    """Has the reference answer the rows."""
+    every = sorted(rows.all_rows().items())
+    found = judging.in_processes(lambda row: judging.faults_told(lambda: faults_of_row(row[1])), every)
+    return tally.add("rows", [(name, faults) for (name, _), faults in zip(every, found)])
+
+
 def with_ways(answer, ways):
     """An answer to `outcomes` with these choices beside its states, in place of those that are left open."""
     for way in ways:
@@ -159,6 +189,7 @@ def main():
         return 0
     tally = judging.Tally()
     tally.add("the reference", [("the generator PCG32", faults_of_generator()), *told_answers()])
+    print("%d rows" % judge_rows(tally), flush=True)
     counts = judge_inputs(judging.programs_in(given), given.seed, given.inputs, tally)
     print("%d inputs from the seed %d" % (given.inputs, given.seed), flush=True)
     if given.inputs >= INPUTS:
