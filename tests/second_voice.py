@@ -153,10 +153,10 @@ def faults_of_told_limits(words, unfinished):
 
 def told_answers():
     """The names of answers to `outcomes` that the reference is told, each with its faults."""
-    yield "choices that are told, text", faults_of_told_ways(["outcomes"])
-    yield "choices that are told, JSON", faults_of_told_ways(["outcomes", "--json"])
-    yield "limits that are told, text", faults_of_told_limits(["outcomes"], b"Unfinished states=%d\n")
-    yield "limits that are told, JSON", faults_of_told_limits(["outcomes", "--json"], b'{"test":"SB","unfinished":{"states":%d}}\n')
+    for form, words, unfinished in (("text", ["outcomes"], b"Unfinished states=%d\n"),
+                                    ("JSON", ["outcomes", "--json"], b'{"test":"SB","unfinished":{"states":%d}}\n')):
+        yield "choices that are told, " + form, judging.faults_told(lambda: faults_of_told_ways(words))
+        yield "limits that are told, " + form, judging.faults_told(lambda: faults_of_told_limits(words, unfinished))
 
 
 def faults_of_generator():
