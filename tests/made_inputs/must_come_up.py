@@ -69,6 +69,7 @@ OUTCOMES = {
     "answer of outcomes": ("all states, text", "all states, JSON", "too many states, text", "too many states, JSON"),
     "states that can be reached": ("fewer than may be kept", "as many as may be kept", "more than may be kept"),
     "final states": AMOUNTS[1:],
+    "cores that are alike": ("two or more", "none"),
     "what a state names": ("registers", "locations", "registers and locations", "nothing"),
     "choices beside a state": ("none", "some"),
     "observation of outcomes": ["%s, %s" % (word, form) for word in ("Never", "Sometimes", "Always", "none") for form in ("text", "JSON")],

@@ -52,10 +52,17 @@ class Found:
         named = ["registers"] * bool(self.looked.registers) + ["locations"] * bool(self.looked.locations)
         seen.note("what a state names", " and ".join(named) or "nothing")
         seen.note("final states", seen.amount(self.states))
+        seen.note("cores that are alike", "two or more" if self.has_alike_cores() else "none")
         for way in ways:
             seen.note("choices beside a state", "some" if way else "none")
         counts = self.observed()
         seen.note("observation of outcomes", "%s, %s" % ("none" if counts is None else printing.observation(counts), form))
+
+    def has_alike_cores(self):
+        """Whether two cores have the same program, of one instruction or more, the same first registers and the same ones looked at."""
+        cores = [(program, registers, [register for core, register in self.looked.registers if core == number])
+                 for number, (program, registers) in enumerate(zip(self.test.programs, self.test.registers)) if program]
+        return any(one in cores[at + 1:] for at, one in enumerate(cores))
 
     def printed(self, with_json, told):
         ways = ways_in(told, with_json)
