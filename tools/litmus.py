@@ -112,6 +112,15 @@ def claim_places(claim):
     return [place for part in (parts if kind == "not" else parts[0]) for place in claim_places(part)]
 
 
+def asked_values(claim):
+    """Values, by their places, without which a claim is false: those that stand in it alone or joined by "and"."""
+    if isinstance(claim, bool) or claim[0] not in ("is", "and"):
+        return {}
+    if claim[0] == "is":
+        return {claim[1]: claim[2]}
+    return {place: value for part in claim[1] for place, value in asked_values(part).items()}
+
+
 def holds(claim, values):
     """Whether a claim is true where places have these values; what isn't named is 0."""
     if isinstance(claim, bool):
