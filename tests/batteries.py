@@ -8,6 +8,9 @@
 - The verdict by the program's `outcomes`, by theory (tools/theory), by the plain search of all runs (flat_machine.py), and by the rule of
   such cycles: allowed exactly where some core's first access is a plain store, its last a plain load, with no fence or locked access
   between; and all final states by the program and by theory. All cycles of length 4 and 5 with locked accesses, all of length 6 without.
+- Cycles given by hand (cycle_meanings.py): all of two to four edges, and drawn ones of five and six, with and without locked accesses.
+  One that contradicts itself is refused. Of the others each candidate that makes the condition true has every edge, some candidate
+  does, and the verdict is that of the candidates that have the cycle.
 - The battery that ships, examples/cycles.list, has just the cycles of length 4 and 5 with locked accesses, with these verdicts.
 - Cycles of ten names have the gallery's states, up to names of cores, locations and registers, and stored values.
 - Theory has the gallery's verdict of each of its tests; and of those with few candidates it allows just the final states that
@@ -35,6 +38,7 @@ from tool_runs import TOP, TOOLS, Tally, gallery, script
 import answers
 import campaign_runs
 import cluster_runs
+import cycle_meanings
 import edges
 import flat_machine
 import gallery_shapes
@@ -190,7 +194,7 @@ def main():
     judge_imports(tally)
     judge_comparisons(tally)
     judge_program(program, tally)
-    for part in (gallery_shapes, hardware_runs, campaign_runs, cluster_runs):
+    for part in (cycle_meanings, gallery_shapes, hardware_runs, campaign_runs, cluster_runs):
         part.judge(program, tally)
     return tally.end()
 

@@ -20,7 +20,7 @@ FORM = re.compile(r"(?:(Rf|Fr|Co|Ws)([ei])|(Pod|Pos)([RW])([RW])|MFenced([ds]?)(
 
 
 class BadCycle(Exception):
-    """A text that names no edge, or edges that make no cycle."""
+    """A text that names no edge, or edges that make no cycle, or one that no test can ask for."""
 
 
 @dataclass(frozen=True)
@@ -65,7 +65,8 @@ def edge_named(word):
 
 
 def cycle_named(words):
-    """The cycle of these edges, turned so that its last edge leaves the core and its first access begins one."""
+    """The cycle of these edges, turned so that its last edge leaves the core and its first access begins one. BadCycle where a word is no
+    edge, two edges don't meet, or no sources of loads and orders of stores have all of the edges."""
     cycle = [edge_named(word) for word in words]
     for edge, after in zip(cycle, cycle[1:] + cycle[:1]):
         if edge.target != after.source or edge.locked[1] != after.locked[0]:
@@ -74,6 +75,8 @@ def cycle_named(words):
         raise BadCycle("a cycle has two edges or more that leave the core")
     if sum(edge.leaves_location for edge in cycle) == 1:
         raise BadCycle("one edge alone leaves its location, so the cycle can't come back")
+    if all(edge.is_communication() for edge in cycle):
+        raise BadCycle("edges of communication alone contradict themselves: a store would come before itself in coherence")
     return turned(cycle)
 
 
