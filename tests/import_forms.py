@@ -62,6 +62,8 @@ READ = [
     ("Intel's exchange", x86("XCHG EAX,[x]"), ["XCHG [x],EAX ;"]),
     ("Intel's locked addition", x86("LOCK XADD [x],EAX"), ["LOCK XADD [x],EAX ;"]),
     ("Intel's move", x86("MOV EBX,EAX"), ["MOV EBX,EAX ;"]),
+    ("a number first, which is no destination", x86("MOV $1,[x]"), ["MOV [x],$1 ;"]),
+    ("a number first, beside a register", x86("MOV $1,EBX"), ["MOV EBX,$1 ;"]),
     ("typed words", x86_64("movl $1,(x)", "uint32_t x=1; int y=2; int32_t z=3;"), ["{ x=1; y=2; z=3; }"]),
     ("a type alone", x86_64("movl $1,(x)", "int x; uint32_t 0:rax;"), ["{ x=0; }"]),
     ("words of 64 bits", x86_64("movq $1,(x)", "int64_t x=5; uint64_t y=6;"), ["{ x=5; y=6; }"]),
@@ -77,6 +79,13 @@ READ = [
 ]
 
 REFUSED = [
+    ("a register of Intel's beside AT&T's location", x86("MOV EAX,(x)"), 4, "which one it has isn't known"),
+    ("the same the other way round", x86("MOV (x),EAX"), 4, "which one it has isn't known"),
+    ("a register of AT&T's beside Intel's location", x86_64("movl %eax,[x]"), 4, "which one it has isn't known"),
+    ("the same the other way round", x86_64("movl [x],%eax"), 4, "which one it has isn't known"),
+    ("registers of both", x86_64("movl %eax,ebx"), 4, "which one it has isn't known"),
+    ("an exchange with signs of both", x86("XCHG EAX,(x)"), 4, "which one it has isn't known"),
+    ("two numbers", x86("MOV $1,$2"), 4, "such operands"),
     ("a negative first word", x86_64("movl $1,(x)", "x=-1;"), 2, "negative"),
     ("a negative constant", x86_64("movl $-1,(x)"), 4, "negative"),
     ("a negative number in the condition", x86_64("movl (x),%eax", condition="exists (0:rax=-1)"), 5, "negative"),
