@@ -4,11 +4,17 @@
     tests/hints.py PROGRAM [PART-OF-HINT] [--also PROGRAM]
 
 tests/rows.py says how a row is written; standard error is the hint, and empty where there must be none. Where standard error is closed,
-standard output and the status must be the same. The last line is 'N passed, M failed'.
+standard output and the status must be the same.
+
+Then the hints are followed, word by word as tests/cures.py has it: on tests in AT&T's order of operands, which are read in the end as
+the tests that tools/import makes of them (tests/at_and_t.py).
+
+The last line is 'N passed, M failed'.
 """
 import sys
 
 sys.dont_write_bytecode = True
+import at_and_t
 import judging
 import rows
 
@@ -25,7 +31,8 @@ def named(row):
 
 
 def works(_):
-    return [(named(row), lambda program, row=row: faults_of(program, row)) for row in rows.read("hints").values()]
+    held = [(named(row), lambda program, row=row: faults_of(program, row)) for row in rows.read("hints").values()]
+    return held + at_and_t.works()
 
 
 if __name__ == "__main__":

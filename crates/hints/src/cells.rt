@@ -1,6 +1,8 @@
 //! What is said of a cell that spells no instruction: which form was meant, where that can be seen, and what in it differs.
 
+use crate::operands::source_first;
 use crate::quotes::{token, up_to, without_end};
+use crate::tables::{Alike, said_of, said_of_front};
 use crate::words::{Piece, Words, around, listed, naming, plain};
 use litmus_tokens::{Lexeme, Symbol, Token, is_symbol, tokens_of};
 use std::alloc::Global;
@@ -8,6 +10,72 @@ use tso_model::names::is_location_name;
 use tso_model::{NoMemory, Reg};
 
 const NO_INSTRUCTION: &str = " is not one of MOV, MFENCE, XCHG, LOCK XADD";
+
+const NO_REGISTER: &str = " is none of EAX, EBX, ECX, EDX, ESI, EDI; a location is written [x]";
+
+const NO_LOCATION: &str = " names no location: [ ] has a location's name alone";
+
+/// By how its name begins, an instruction that isn't read without LOCK.
+static UNLOCKED: [Alike; 3] = [
+    Alike {
+        words: &["MFENCE"],
+        said: " stands alone in its cell",
+    },
+    Alike {
+        words: &["SFENCE", "LFENCE"],
+        said: " isn't read: it changes nothing between plain loads and stores, so leave it out",
+    },
+    Alike {
+        words: &["XADD"],
+        said: " isn't read without LOCK, which makes it one step: LOCK XADD [x],EAX",
+    },
+];
+
+/// By how its name begins, an instruction that isn't read after LOCK.
+static LOCKED: [Alike; 1] = [Alike {
+    words: &["MOV"],
+    said: " can't be locked: LOCK stands before XCHG or XADD alone",
+}];
+
+/// The name of an instruction with the size of its operands.
+static SIZED: [Alike; 5] = [
+    Alike {
+        words: &["MOVL", "MOVQ"],
+        said: ": write MOV, for words of 32 bits",
+    },
+    Alike {
+        words: &["XCHGL", "XCHGQ"],
+        said: ": write XCHG, for words of 32 bits",
+    },
+    Alike {
+        words: &["XADDL"],
+        said: ": write XADD, for words of 32 bits",
+    },
+    Alike {
+        words: &["XADDQ"],
+        said: " isn't read: a sum of 64 bits isn't one of 32",
+    },
+    Alike {
+        words: &["MOVB", "MOVW", "XCHGB", "XCHGW", "XADDB", "XADDW"],
+        said: " isn't read: words of 32 bits have no parts here",
+    },
+];
+
+/// The forms of an instruction.
+static FORMS: [Alike; 3] = [
+    Alike {
+        words: &["MOV"],
+        said: "MOV has the forms MOV [x],$1  MOV [x],EAX  MOV EAX,[x]  MOV EAX,$1  MOV EAX,EBX",
+    },
+    Alike {
+        words: &["XCHG"],
+        said: "XCHG has the forms XCHG [x],EAX  XCHG EAX,[x]",
+    },
+    Alike {
+        words: &["XADD"],
+        said: "LOCK XADD has the form LOCK XADD [x],EAX",
+    },
+];
 
 /// Of the cell at the front of a text.
 ///
@@ -26,53 +94,44 @@ pub fn bad_instruction<'a>(alloc: Global, rest: &'a [u8]) -> Result<Words<'a>, N
 }
 
 fn cell_words<'a>(cell: &'a [u8], tokens: &[Token<'a>]) -> Words<'a> {
-    match tokens.split_first() {
-        Some((first, rest)) => {
-            let name = name_of(first);
-            if name.eq_ignore_ascii_case(b"XADD") {
-                plain("XADD needs LOCK before it: LOCK XADD [x],EAX")
-            } else if name.eq_ignore_ascii_case(b"LOCK") {
-                locked_words(rest)
-            } else {
-                single_words(cell, name, rest)
-            }
-        }
-        None => naming(token(cell), NO_INSTRUCTION),
+    let otherwise = naming(token(cell), NO_INSTRUCTION);
+    let Some((name, operands)) = first_name(tokens) else {
+        return otherwise;
+    };
+    if !name.eq_ignore_ascii_case(b"LOCK") {
+        return instruction_words(cell, &UNLOCKED, name, operands, otherwise);
+    }
+    let otherwise = plain("LOCK stands before XCHG or XADD alone");
+    match first_name(operands) {
+        Some((name, operands)) => instruction_words(cell, &LOCKED, name, operands, otherwise),
+        None => otherwise,
     }
 }
 
-/// Of what stands after LOCK.
-fn locked_words<'a>(tokens: &[Token<'a>]) -> Words<'a> {
-    if let Some((first, rest)) = tokens.split_first() {
-        let name = name_of(first);
-        if name.eq_ignore_ascii_case(b"XADD") {
-            return operand_words("LOCK XADD has the form LOCK XADD [x],EAX", rest);
-        }
-        if name.eq_ignore_ascii_case(b"XCHG") {
-            return operand_words("XCHG has the forms XCHG [x],EAX  XCHG EAX,[x]", rest);
-        }
-    }
-    plain("LOCK stands before XCHG or XADD alone")
+/// The name that stands first, and what stands after it.
+fn first_name<'a, 'b>(tokens: &'b [Token<'a>]) -> Option<(&'a [u8], &'b [Token<'a>])> {
+    let (first, rest) = tokens.split_first()?;
+    Some((name_of(first), rest))
 }
 
-/// Of an instruction without LOCK, by its name and what stands after it.
-fn single_words<'a>(cell: &'a [u8], name: &[u8], tokens: &[Token<'a>]) -> Words<'a> {
-    if name.eq_ignore_ascii_case(b"MOV") {
-        operand_words(
-            "MOV has the forms MOV [x],$1  MOV [x],EAX  MOV EAX,[x]  MOV EAX,$1  MOV EAX,EBX",
-            tokens,
-        )
-    } else if name.eq_ignore_ascii_case(b"XCHG") {
-        operand_words("XCHG has the forms XCHG [x],EAX  XCHG EAX,[x]", tokens)
-    } else if name.eq_ignore_ascii_case(b"MFENCE") {
-        plain("MFENCE stands alone in its cell")
-    } else if name.eq_ignore_ascii_case(b"SFENCE") || name.eq_ignore_ascii_case(b"LFENCE") {
-        naming(
-            token(cell),
-            " isn't read: it changes nothing between plain loads and stores, so leave it out",
-        )
+/// Of an instruction, by its name and what stands after it; this table has names that aren't read.
+fn instruction_words<'a>(
+    cell: &'a [u8],
+    unread: &[Alike],
+    name: &'a [u8],
+    operands: &[Token<'a>],
+    otherwise: Words<'a>,
+) -> Words<'a> {
+    if let Some(said) = said_of_front(unread, name) {
+        naming(name, said)
+    } else if let Some(said) = source_first(operands) {
+        naming(cell, said)
+    } else if let Some(said) = said_of(&SIZED, name) {
+        naming(name, said)
+    } else if let Some(forms) = said_of(&FORMS, name) {
+        operand_words(forms, operands)
     } else {
-        naming(token(cell), NO_INSTRUCTION)
+        otherwise
     }
 }
 
@@ -116,12 +175,9 @@ fn misfit<'a>(in_brackets: bool, name: &'a [u8]) -> Option<Words<'a>> {
     if name.is_empty() {
         None
     } else if in_brackets && !is_location_name(name) {
-        Some(naming(name, " names no location: [ ] has a location's name alone"))
+        Some(naming(name, NO_LOCATION))
     } else if !in_brackets && Reg::from_name(name).is_none() {
-        Some(naming(
-            name,
-            " is none of EAX, EBX, ECX, EDX, ESI, EDI; a location is written [x]",
-        ))
+        Some(naming(name, NO_REGISTER))
     } else {
         None
     }

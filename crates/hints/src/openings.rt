@@ -5,6 +5,7 @@ use crate::cause::SecondPart;
 use crate::divider::missing_divider;
 use crate::faults::CONNECTIVES;
 use crate::numbers::GREATEST;
+use crate::operands::percent;
 use crate::place::Place;
 use crate::quotes::{begins_with_letter, is_bare, word};
 use crate::words::{Piece, Words, around, naming, plain, six};
@@ -21,7 +22,7 @@ pub fn no_header<'a>(place: Place<'a>) -> Words<'a> {
         plain("a byte order mark stands before X86: save the file without it")
     } else if word.starts_with(b"X86_64") {
         plain(
-            "X86_64 tests aren't read: begin with X86 and a name, and use EAX, EBX, ECX, EDX, ESI, EDI",
+            "X86_64 tests aren't read: tools/import turns them into X86 tests; by hand begin with X86 and a name, and use EAX, EBX, ECX, EDX, ESI, EDI",
         )
     } else if word == b"X86".as_slice() {
         plain("after X86 stands a space and then the test's name, in printable ASCII")
@@ -167,7 +168,7 @@ fn bad_byte<'a>(place: Place<'a>, byte: u8) -> Words<'a> {
             plain("*) ends no comment here: a comment ends at its first *), and has none within it")
         }
         b'/' if place.rest.starts_with(b"//") => plain("a comment is written (* .. *)"),
-        b'%' => plain("a register is written without %: EAX"),
+        b'%' => percent(place),
         b'&' | b'!' | b'/' | b'\\' | b'<' | b'>' => naming(place.token(), CONNECTIVES),
         b'!'..=b'~' => naming(place.token(), " begins nothing that a test has"),
         _ => around(
@@ -186,7 +187,10 @@ pub fn bad_init<'a>(place: Place<'a>) -> Words<'a> {
         return naming(place.with_last_byte(), ": numbers are decimal");
     }
     if is_type(last) {
-        return naming(last, ": locations have no types here: write x=0");
+        return naming(
+            last,
+            " is a type, and items have none here: leave it out, and the whole item where it has no value, which begins as 0",
+        );
     }
     if place.is_register() {
         return naming(token, " is none of EAX, EBX, ECX, EDX, ESI, EDI");
@@ -208,5 +212,6 @@ fn is_type(word: &[u8]) -> bool {
         || word == b"char".as_slice()
         || word == b"short".as_slice()
         || word == b"long".as_slice()
+        || word == b"unsigned".as_slice()
         || (word.ends_with(b"_t") && is_location_name(word))
 }

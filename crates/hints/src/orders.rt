@@ -1,7 +1,7 @@
 //! What is said of orders: the line at fault, and what an order's text needs there.
 
 use crate::printing::Where;
-use crate::quotes::{is_all_digits, is_choice, is_space, up_to, word};
+use crate::quotes::{after_byte, is_all_digits, is_choice, up_to, without_front, word};
 use crate::words::{Piece, Words, around, listed, naming, plain};
 use litmus_tokens::word as word_value;
 use order_builder::OrderFault;
@@ -49,9 +49,7 @@ fn no_order<'a>(text: &'a [u8]) -> Words<'a> {
 
 /// The first word of a text, or no bytes.
 pub fn first_word(text: &[u8]) -> &[u8] {
-    let spaces = text.iter().take_while(|byte| is_space(**byte)).count();
-    let (_, rest) = text.split_at(spaces.min(text.len()));
-    word(rest)
+    word(without_front(text))
 }
 
 /// A line without a carriage return at its end.
@@ -147,13 +145,6 @@ fn location_in(line: &[u8]) -> Option<&[u8]> {
         return None;
     }
     Some(up_to(access, b'='))
-}
-
-/// What stands after the first such byte.
-fn after_byte(text: &[u8], byte: u8) -> Option<&[u8]> {
-    let (_, rest) = text.split_at(up_to(text, byte).len().min(text.len()));
-    let (_, after) = rest.split_first()?;
-    Some(after)
 }
 
 /// Whether the line with which a text begins has a location that the test hasn't.

@@ -1,6 +1,9 @@
 //! The place of a fault in a text: a refusal has the line alone, and a hint names what stands there.
 
-use crate::quotes::{begins_with_letter, digits_and_letters, last_word, token};
+use crate::quotes::{
+    begins_with_letter, digits_and_letters, first_bytes, last_bytes, last_word, token, without_end,
+    without_front,
+};
 use litmus_tokens::line_of;
 
 /// A text in two: what stands before a place, and what stands from there on.
@@ -33,6 +36,23 @@ impl<'a> Place<'a> {
         }
     }
 
+    /// The cell of a row in which it is, or of another line what stands there between such ends.
+    pub fn cell(self) -> &'a [u8] {
+        let before = self
+            .before
+            .iter()
+            .rev()
+            .take_while(|byte| !ends_cell(**byte))
+            .count();
+        let after = self
+            .rest
+            .iter()
+            .take_while(|byte| !ends_cell(**byte))
+            .count();
+        let from_cell = last_bytes(self.text, self.rest.len().saturating_add(before));
+        without_end(without_front(first_bytes(from_cell, before.saturating_add(after))))
+    }
+
     /// The token that stands there.
     pub fn token(self) -> &'a [u8] {
         token(self.rest)
@@ -63,4 +83,8 @@ impl<'a> Place<'a> {
     pub fn is_register(self) -> bool {
         self.last_word() == b":".as_slice() && begins_with_letter(self.rest)
     }
+}
+
+fn ends_cell(byte: u8) -> bool {
+    matches!(byte, b'|' | b';' | b'}' | b'\n')
 }

@@ -73,6 +73,19 @@ pub fn up_to(text: &[u8], stop: u8) -> &[u8] {
     first_bytes(text, text.iter().take_while(|byte| **byte != stop).count())
 }
 
+/// What stands after the first such byte.
+pub fn after_byte(text: &[u8], byte: u8) -> Option<&[u8]> {
+    let (_, rest) = text.split_at(up_to(text, byte).len().min(text.len()));
+    let (_, after) = rest.split_first()?;
+    Some(after)
+}
+
+/// The bytes without white space at their front.
+pub fn without_front(bytes: &[u8]) -> &[u8] {
+    let spaces = bytes.iter().take_while(|byte| is_space(**byte)).count();
+    last_bytes(bytes, bytes.len().saturating_sub(spaces))
+}
+
 /// The bytes without white space at their end.
 pub fn without_end(bytes: &[u8]) -> &[u8] {
     let spaces = bytes

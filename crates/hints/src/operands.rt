@@ -1,0 +1,59 @@
+//! AT&T's order of operands, source first. Here the destination stands first, so a hint on one sign of that order alone would
+//! turn a load into a store: each such hint tells of the order.
+
+use crate::place::Place;
+use crate::quotes::after_byte;
+use crate::words::{Words, naming, plain};
+use litmus_tokens::{Symbol, Token, is_symbol};
+
+const SOURCE_FIRST: &str =
+    " is AT&T's order, source first; here the destination stands first, as in MOV EAX,[y]: tools/import turns it round";
+
+/// Signs of AT&T's order stand beside a register or a location as they are written here.
+const BOTH_ORDERS: &str =
+    " mixes AT&T's order, source first, with the order here, where the destination stands first, as in MOV EAX,[y], a load";
+
+const IN_REGISTER: &str =
+    " has an address in a register, which isn't read: a location stands by its name, as in [x]";
+
+/// Of two operands in AT&T's order, as far as their tokens tell, which have no `%`: a number with `$` stands first, or one
+/// of them stands in `( )`.
+pub fn source_first(operands: &[Token<'_>]) -> Option<&'static str> {
+    let comma = operands
+        .iter()
+        .position(|token| is_symbol(Symbol::Comma, token))?;
+    let (first, _) = operands.split_at(comma.min(operands.len()));
+    if has(Symbol::Dollar, first) {
+        Some(SOURCE_FIRST)
+    } else if has(Symbol::OpenRound, operands) {
+        Some(BOTH_ORDERS)
+    } else {
+        None
+    }
+}
+
+fn has(symbol: Symbol, tokens: &[Token<'_>]) -> bool {
+    tokens.iter().any(|token| is_symbol(symbol, token))
+}
+
+/// Of a `%` before a register: in a cell with two operands it is a sign of AT&T's order.
+pub fn percent<'a>(place: Place<'a>) -> Words<'a> {
+    let cell = place.cell();
+    if !cell.contains(&b',') {
+        plain("a register is written without %: EAX")
+    } else if cell.contains(&b'[') {
+        naming(cell, BOTH_ORDERS)
+    } else if has_address(cell) {
+        naming(cell, IN_REGISTER)
+    } else {
+        naming(cell, SOURCE_FIRST)
+    }
+}
+
+/// Whether `%` follows the first `(`.
+fn has_address(cell: &[u8]) -> bool {
+    match after_byte(cell, b'(') {
+        Some(operand) => operand.starts_with(b"%"),
+        None => false,
+    }
+}

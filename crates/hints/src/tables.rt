@@ -1,0 +1,41 @@
+//! What is said of words that an input may have, as tables: each entry has words that are alike, and what is said of one
+//! of them.
+
+use crate::quotes::first_bytes;
+
+/// Words that are alike, and what is said of one of them.
+pub struct Alike {
+    pub words: &'static [&'static str],
+    pub said: &'static str,
+}
+
+/// What a table says of a word, if that is one of its words. Capitals and small letters count as one.
+pub fn said_of(table: &[Alike], word: &[u8]) -> Option<&'static str> {
+    for alike in table {
+        if is_one_of(alike.words, word) {
+            return Some(alike.said);
+        }
+    }
+    None
+}
+
+/// What a table says of the first of its words with which a text begins. Capitals and small letters count as one.
+pub fn said_of_front(table: &[Alike], text: &[u8]) -> Option<&'static str> {
+    for alike in table {
+        if begins_with_one_of(alike.words, text) {
+            return Some(alike.said);
+        }
+    }
+    None
+}
+
+/// Whether a word is one of these.
+pub fn is_one_of(words: &[&str], word: &[u8]) -> bool {
+    words
+        .iter()
+        .any(|one| one.as_bytes().eq_ignore_ascii_case(word))
+}
+
+fn begins_with_one_of(words: &[&str], text: &[u8]) -> bool {
+    words.iter().any(|one| { first_bytes(text, one.len()).eq_ignore_ascii_case(one.as_bytes()) })
+}

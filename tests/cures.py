@@ -1,0 +1,175 @@
+"""What a user does on a hint, word by word: for each form of a hint the change that it names, where it names it.
+
+A hint of no such form names no change that a script could make.
+"""
+import re
+
+import judging
+import tool_runs
+import litmus
+
+# A user gives up after so many hints.
+MOST_HINTS = 200
+
+
+class Text:
+    """A test's lines as they are written, with the line that a hint is about."""
+
+    def __init__(self, text, number):
+        self.lines, self.at = text.split("\n"), number - 1
+
+    @property
+    def line(self):
+        return self.lines[self.at]
+
+    @line.setter
+    def line(self, line):
+        self.lines[self.at] = line
+
+    def text(self):
+        return "\n".join(self.lines)
+
+    def replace(self, old, new):
+        """Puts a word in the place of another where that stands first on the line."""
+        self.line = re.sub(r"(?<!\w)%s(?!\w)" % re.escape(old), lambda _: new, self.line, count=1)
+
+    def rows(self):
+        """The numbers of the lines between the row of cores and the condition."""
+        begin = next(at for at, line in enumerate(self.lines) if re.match(r"\s*P0\b", line))
+        for at in range(begin + 1, len(self.lines)):
+            if re.match(r"\s*(?:(?:~\s*exists|exists|forall|locations)\b|====)", self.lines[at]):
+                return
+            yield at
+
+    def column(self, core):
+        """The cells of a core."""
+        return [self.lines[at].split("|")[core] for at in self.rows() if self.lines[at].count("|") >= core]
+
+    def core_of(self, name):
+        """The core in whose cell a name stands first on the line."""
+        return next(core for core, cell in enumerate(self.line.split("|")) if re.search(r"\b%s\b" % re.escape(name), cell))
+
+    def words_of(self, core):
+        """All words of a core's cells, and of what else names its registers."""
+        named = re.findall(r"\b0*%d\s*:\s*(%%?\w+)" % core, self.text())
+        return re.findall(r"\w+", " ".join(self.column(core) + named))
+
+    def free_register(self, core):
+        """The first register that a core doesn't use, by none of its names."""
+        words = self.words_of(core)
+        used = {parent_of(word) for word in words} | {word.upper() for word in words}
+        return next(one for one in litmus.REGISTERS if one not in used and "r" + one[1:].lower() not in used)
+
+    def rename(self, core, name):
+        """Gives a register of a core, by whatever names it has there, one that is read: its own, or the first free one."""
+        names = names_of(name)
+        own = "E" + (parent_of(name) or name)[1:].upper()
+        new = own if own in litmus.REGISTERS else self.free_register(core)
+        form = re.compile(r"\b(%s)\b" % "|".join(names), re.I)
+        for at in self.rows():
+            cells = self.lines[at].split("|")
+            if core < len(cells):
+                cells[core] = form.sub(new, cells[core])
+            self.lines[at] = "|".join(cells)
+        form = re.compile(r"(\b0*%d\s*:\s*%%?)(%s)\b" % (core, "|".join(names)), re.I)
+        self.lines = form.sub(lambda found: found[1] + new, self.text()).split("\n")
+
+
+def parent_of(name):
+    """The register of 64 bits of which this names all or the half; None where it is none."""
+    found = re.fullmatch(r"(?:[er]([abcd]x|[sd]i)|(r(?:8|9|1[0-5]))d?)", name.lower())
+    return found and (found[2] or "r" + found[1])
+
+
+def names_of(name):
+    """The names of the register that has this one."""
+    parent = parent_of(name)
+    return [name] if parent is None else [parent, parent + "d"] if re.search(r"\d", parent) else [parent, "e" + parent[1:]]
+
+
+def is_register(name):
+    return parent_of(name) is not None or re.fullmatch(r"(?i)[abcd][lhx]|[sd]il?|[sb]p", name)
+
+
+# ---- the changes of words
+
+def write_decimal(text, number):
+    text.replace(number, str(int(number, 16)))
+
+
+def write_header(text, word):
+    text.replace(word, "X86")
+
+
+def leave_out_type(text, kind):
+    """Leaves a type out, or all of its item where that has no value."""
+    place = re.search(r"\b%s\b\s*" % kind, text.line)
+    rest = text.line[place.end():]
+    item = re.match(r"[^;}]*", rest)[0]
+    text.line = text.line[:place.start()] + (rest if "=" in item else rest[len(item):])
+
+
+def leave_out_percent(text):
+    text.line = text.line.replace("%", "", 1)
+
+
+# ---- the changes of cells
+
+def turn_round(text, cell):
+    """Puts a cell's destination first, as `MOV EAX,[y]` has it, and writes its operands so."""
+    cell = cell[:-2] if cell.endswith("..") else cell
+    at = text.line.index(cell)
+    end = at + re.match(r"[^|;]*", text.line[at:]).end()
+    name, first, second, rest = re.fullmatch(r"((?:lock\s+)?\w+)\s+([^,]*?)\s*,\s*(\S+)(.*)", text.line[at:end], re.I | re.S).groups()
+    first, second = (re.sub(r"\((\w+)\)", r"[\1]", operand.replace("%", "")) for operand in (first, second))
+    text.line = text.line[:at] + "%s %s,%s%s" % (name, second, first, rest) + text.line[end:]
+
+
+# ---- the changes of places
+
+def rename_register(text, name):
+    """On a line with the register of a core, or in the core's column. What is no register is a location, which is written `[x]`."""
+    found = re.search(r"\b(\d+)\s*:\s*%%?%s\b" % name, text.line)
+    if is_register(name):
+        text.rename(int(found[1]) if found else text.core_of(name), name)
+    else:
+        text.line = re.sub(r"[\[(]\s*%s\s*[\])]|\b%s\b" % (name, name), lambda _: "[%s]" % name, text.line, count=1)
+
+
+CURES = [
+    (r"X86_64 tests aren't read: .*; by hand begin with X86 and .*", lambda text: write_header(text, "X86_64")),
+    (r"'(.*)' is AT&T's order, source first; here the destination stands first, as in MOV EAX,\[y\]: .*", turn_round),
+    (r"a register is written without %: EAX", leave_out_percent),
+    (r"(\w+): write (\w+), for words of 32 bits", Text.replace),
+    (r"(\w+) is none of EAX, EBX, ECX, EDX, ESI, EDI\b.*", rename_register),
+    (r"(0[xX]\w+): numbers are decimal", write_decimal),
+    (r"(\w+) is a type, and items have none here: leave it out, and the whole item where it has no value, .*", leave_out_type),
+]
+
+
+def cured(text, hint):
+    """The text as a user leaves it who is told this hint; None where it names no change."""
+    told = re.fullmatch(r"hint: line (\d+): (.*)\n", hint)
+    if not told:
+        return None
+    for form, change in CURES:
+        found = re.fullmatch(form, told[2])
+        if found:
+            changed = Text(text, int(told[1]))
+            change(changed, *found.groups())
+            return changed.text()
+    return None
+
+
+def followed(program, text):
+    """What a text is where its hints are followed until it is read, or None where one names no change; and the hints."""
+    hints = []
+    for _ in range(MOST_HINTS):
+        done = program.run(["run"], text.encode())
+        if done.returncode != judging.REFUSED:
+            return text, hints
+        hints.append(done.stdout.decode().strip() + ", " + done.stderr.decode().strip())
+        text = cured(text, done.stderr.decode())
+        if text is None:
+            return None, hints
+    return None, hints
