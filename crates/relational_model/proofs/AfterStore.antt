@@ -41,7 +41,7 @@ same-rank t c s x y i j e q =
     let h = halves x.place (part_of x.kind) y.place (part_of y.kind) (small x.kind) (small y.kind) q in s.same x y i j e h.0 h.1
 
 -- after the load part in its program is after the store part, or that itself
-po-after : (t : Litmus) (c : Candidate) → Sound t c → (r w y : Entry) → IsIn (events t c) w → IsIn (events t c) y → ArePair r w
+pub po-after : (t : Litmus) (c : Candidate) → Sound t c → (r w y : Entry) → IsIn (events t c) w → IsIn (events t c) y → ArePair r w
     → (y ≡ w → ⊥) → is_before r y ≡ true → is_before w y ≡ true
 po-after t c s r w y j k p n b = go (next-rank r.place w.place (part_of r.kind) (rank y) (ap part_of p.read) p.place h.1)
   where

@@ -58,7 +58,7 @@ once-of-program core place (s ∷ p) registers values =
     (values_after (action_of s) values) x j).1 in
     omega arith)
 
-core-of-events : (core : ℕ) (ps : List (List Instr)) (registers reads : List (List ℕ)) (x : Entry)
+pub core-of-events : (core : ℕ) (ps : List (List Instr)) (registers reads : List (List ℕ)) (x : Entry)
     → IsIn (events_from core ps registers reads) x → core ≤ x.core.0
 core-of-events core [] registers reads x i = absurd (in-none x i)
 core-of-events core (p ∷ ps) registers reads x i =
@@ -85,7 +85,7 @@ once-events core (p ∷ ps) registers reads =
     let l : core + 1 ≤ x.core.0 = core-of-events (core + 1) ps registers reads x j in
     omega arith)
 
-same-events-from : (core : ℕ) (ps : List (List Instr)) (registers reads : List (List ℕ)) (x y : Entry)
+pub same-events-from : (core : ℕ) (ps : List (List Instr)) (registers reads : List (List ℕ)) (x y : Entry)
     → IsIn (events_from core ps registers reads) x
     → IsIn (events_from core ps registers reads) y → x.core.0 ≡ y.core.0 → x.place ≡ y.place → part_of x.kind ≡ part_of y.kind → x ≡ y
 same-events-from core [] registers reads x y i j c e k = absurd (in-none x i)

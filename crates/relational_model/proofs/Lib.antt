@@ -20,6 +20,8 @@ pub mod Pairs
 pub mod AfterStore
 pub mod Together
 pub mod Converse
+pub mod SequentialFacts
+pub mod SequentialOrders
 pub mod Independent
 pub mod Forbidden
 pub mod Unseen

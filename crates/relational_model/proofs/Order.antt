@@ -25,7 +25,7 @@ use Rattle.relational_model.proofs.Fences.{writes, source-writes, goes-acyclic, 
 
 -- ---- rows
 
-forward-never : (B : Entry → Entry → Type 0) (xs : List Entry) (x y : Entry) → GoesForward B xs → Precedes y x xs → B x y → ⊥
+pub forward-never : (B : Entry → Entry → Type 0) (xs : List Entry) (x y : Entry) → GoesForward B xs → Precedes y x xs → B x y → ⊥
 forward-never B [] x y h p b = p
 forward-never B (z ∷ zs) x y h (inl p) b = h.0 x p.1 (subst (B x) p.0 b)
 forward-never B (z ∷ zs) x y h (inr p) b = forward-never B zs x y h.1 p b

@@ -1,4 +1,4 @@
--- A finite acyclic relation extends to a total order: its events can be put in a row in which no edge goes back.
+-- Events can be put in a row in which no edge goes back, or some edges lead round: a finite acyclic relation extends to a total order.
 use Rattle.std.proofs.Common.{◌≡◌, suc, List, [], ◌∷◌, refl, ap, ◌∙◌, ◌⊎◌, inl, inr, subst, length}
 use Rattle.tso_model.specs.declared.execution.Entry.{Entry}
 use Rattle.relational_model.specs.Events.{IsIn, LeadsTo, at_once, onward, IsAcyclic}
@@ -130,31 +130,60 @@ placed Before d x once (y ∷ ys) twice h =
         out v (inl e) = in-later x (y ∷ ys) v (in-first y ys v e)
         out v (inr j) = after-out v (in-case x ys v (rest.outside v j))
 
+-- ---- a row, or a way round
+
+-- they stand in a row, and none is before itself
+pub record Ordered (Before : Entry → Entry → Type 0) (xs : List Entry) : Type 0 where
+  pub in_a_row : Row Before xs
+  pub never_itself : (x : Entry) → IsIn xs x → Before x x → ⊥
+
+pub record GoesRound (Before : Entry → Entry → Type 0) (xs : List Entry) : Type 0 where
+  pub event : Entry
+  pub round : LeadsTo xs Before event event
+
 -- the lemma
-pub in-a-row : (xs : List Entry) (Before : Entry → Entry → Type 0) → Decided Before → IsAcyclic xs Before → Row Before xs
-in-a-row [] Before d a = record { row = []; forward = tt; inside = λ y i. i; outside = λ y i. i; count = refl }
-in-a-row (x ∷ xs) Before d a = go (in-a-row xs (Past x Before) (past-decided x Before d) (λ y p. a y (unpast x xs Before y y p)))
+pub ordered-or-round : (xs : List Entry) (Before : Entry → Entry → Type 0) → Decided Before → GoesRound Before xs ⊎ Ordered Before xs
+ordered-or-round [] Before d =
+    inr (record { in_a_row = record { row = []; forward = tt; inside = λ y i. i; outside = λ y i. i; count = refl }; never_itself = λ x i b. in-none x i })
+ordered-or-round (x ∷ xs) Before d = go (ordered-or-round xs (Past x Before) (past-decided x Before d)) (d x x)
   where
     here : IsIn (x ∷ xs) x
     here = in-first x xs x refl
 
-    go : Row (Past x Before) xs → Row Before (x ∷ xs)
-    go r =
-        on (placed Before d x (λ b. a x (at_once x x here here b)) r.row
-        (λ y i b k. a x (onward x y x here b (at_once y x (in-later x xs y (r.outside y i)) here k))) r.forward)
+    over : (ys zs : List Entry) → ((y : Entry) → IsIn ys y → IsIn zs y) → (y : Entry) → IsIn (x ∷ ys) y → IsIn (x ∷ zs) y
+    over ys zs f y i = pick (in-case x ys y i)
       where
-        over : (ys zs : List Entry) → ((y : Entry) → IsIn ys y → IsIn zs y) → (y : Entry) → IsIn (x ∷ ys) y → IsIn (x ∷ zs) y
-        over ys zs f y i = pick (in-case x ys y i)
-          where
-            pick : (y ≡ x) ⊎ IsIn ys y → IsIn (x ∷ zs) y
-            pick (inl e) = in-first x zs y e
-            pick (inr j) = in-later x zs y (f y j)
+        pick : (y ≡ x) ⊎ IsIn ys y → IsIn (x ∷ zs) y
+        pick (inl e) = in-first x zs y e
+        pick (inr j) = in-later x zs y (f y j)
 
-        on : Row Before (x ∷ r.row) → Row Before (x ∷ xs)
-        on q = record {
-          row = q.row;
-          forward = q.forward;
-          inside = λ y i. q.inside y (over xs r.row r.inside y i);
-          outside = λ y i. over r.row xs r.outside y (q.outside y i);
-          count = q.count ∙ ap suc r.count;
-        }
+    more : (r : Row (Past x Before) xs) → Row Before (x ∷ r.row) → Row Before (x ∷ xs)
+    more r q = record {
+      row = q.row;
+      forward = q.forward;
+      inside = λ y i. q.inside y (over xs r.row r.inside y i);
+      outside = λ y i. over r.row xs r.outside y (q.outside y i);
+      count = q.count ∙ ap suc r.count;
+    }
+
+    selfless : (Before x x → ⊥) → ((y : Entry) → IsIn xs y → Past x Before y y → ⊥) → (y : Entry) → (y ≡ x) ⊎ IsIn xs y → Before y y → ⊥
+    selfless never rest y (inl e) b = never (subst (λ z. Before z z) e b)
+    selfless never rest y (inr i) b = rest y i (inl b)
+
+    go : GoesRound (Past x Before) xs ⊎ Ordered (Past x Before) xs → Before x x ⊎ (Before x x → ⊥)
+        → GoesRound Before (x ∷ xs) ⊎ Ordered Before (x ∷ xs)
+    go (inl g) b = inl (record { event = g.event; round = unpast x xs Before g.event g.event g.round })
+    go (inr o) (inl b) = inl (record { event = x; round = at_once x x here here b })
+    go (inr o) (inr never) = inr (record {
+      in_a_row =
+          more o.in_a_row
+          (placed Before d x never o.in_a_row.row (λ y i b k. o.never_itself y (o.in_a_row.outside y i) (inr (k, b))) o.in_a_row.forward);
+      never_itself = λ y i b. selfless never o.never_itself y (in-case x xs y i) b;
+    })
+
+pub in-a-row : (xs : List Entry) (Before : Entry → Entry → Type 0) → Decided Before → IsAcyclic xs Before → Row Before xs
+in-a-row xs Before d a = go (ordered-or-round xs Before d)
+  where
+    go : GoesRound Before xs ⊎ Ordered Before xs → Row Before xs
+    go (inl g) = absurd (a g.event g.round)
+    go (inr o) = o.in_a_row

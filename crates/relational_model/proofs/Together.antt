@@ -10,7 +10,7 @@ use Rattle.relational_model.proofs.Lists.{in-case, in-none, in-first, in-later, 
 use Rattle.basic_laws.specs.Ranks.{part_of}
 use Rattle.relational_model.proofs.Ranks.{rank-before}
 use Rattle.relational_model.proofs.KindFacts.{kept-with-locked}
-use Rattle.relational_model.proofs.Decisions.{Decision, both, either, carried, number, kinds, Goes, goes}
+use Rattle.relational_model.proofs.Decisions.{Decision, both, either, carried, number, kinds, Goes}
 use Rattle.relational_model.proofs.Sorting.{Decided}
 use Rattle.relational_model.proofs.Fences.{true-or}
 
@@ -35,13 +35,13 @@ pair r w = carried ((r.kind ≡ LR) × ((w.kind ≡ LW) × ((r.core.0 ≡ w.core
     (both (r.core.0 ≡ w.core.0) (r.place ≡ w.place) (number r.core.0 w.core.0) (number r.place w.place))))
 
 -- an edge to an event, or to the load part that stands directly before it
-abbrev pub Toward : List Entry → Candidate → Entry → Entry → Type 0
-Toward es c x y = Goes c x y ⊎ ((r : Entry) × (IsIn es r × (ArePair r y × Goes c x r)))
+abbrev pub Toward : List Entry → (Entry → Entry → Type 0) → Entry → Entry → Type 0
+Toward es Before x y = Before x y ⊎ ((r : Entry) × (IsIn es r × (ArePair r y × Before x r)))
 
-pub toward : (es : List Entry) (c : Candidate) → Decided (Toward es c)
-toward es c x y =
-    either (Goes c x y) _ (goes c x y)
-    (exists (λ r. ArePair r y × Goes c x r) (λ r. both (ArePair r y) (Goes c x r) (pair r y) (goes c x r)) es)
+pub toward : (es : List Entry) (Before : Entry → Entry → Type 0) → Decided Before → Decided (Toward es Before)
+toward es Before d x y =
+    either (Before x y) _ (d x y)
+    (exists (λ r. ArePair r y × Before x r) (λ r. both (ArePair r y) (Before x r) (pair r y) (d x r)) es)
 
 pub pair-goes : (c : Candidate) (r w : Entry) → ArePair r w → Goes c r w
 pair-goes c r w p =
@@ -52,13 +52,13 @@ pair-goes c r w p =
       kept-with-locked r w (true-or (is_locked r) (is_locked w) (inl (ap is_locked_kind p.read))),
     )
 
-pub way : (es ns : List Entry) (c : Candidate) → ((x : Entry) → IsIn ns x → IsIn es x) → (x z : Entry) → LeadsTo ns (Toward es c) x z
-    → LeadsTo es (Goes c) x z
-way es ns c f _ _ (at_once x z i j (inl g)) = at_once x z (f x i) (f z j) g
-way es ns c f _ _ (at_once x z i j (inr (r, (k, (p, g))))) = onward x r z (f x i) g (at_once r z k (f z j) (pair-goes c r z p))
-way es ns c f _ _ (onward x y z i (inl g) rest) = onward x y z (f x i) g (way es ns c f y z rest)
-way es ns c f _ _ (onward x y z i (inr (r, (k, (p, g)))) rest) =
-    onward x r z (f x i) g (onward r y z k (pair-goes c r y p) (way es ns c f y z rest))
+pub way : (es ns : List Entry) (Before : Entry → Entry → Type 0) → ((r w : Entry) → ArePair r w → Before r w)
+    → ((x : Entry) → IsIn ns x → IsIn es x) → (x z : Entry) → LeadsTo ns (Toward es Before) x z → LeadsTo es Before x z
+way es ns Before p f _ _ (at_once x z i j (inl g)) = at_once x z (f x i) (f z j) g
+way es ns Before p f _ _ (at_once x z i j (inr (r, (k, (q, g))))) = onward x r z (f x i) g (at_once r z k (f z j) (p r z q))
+way es ns Before p f _ _ (onward x y z i (inl g) rest) = onward x y z (f x i) g (way es ns Before p f y z rest)
+way es ns Before p f _ _ (onward x y z i (inr (r, (k, (q, g)))) rest) =
+    onward x r z (f x i) g (onward r y z k (p r y q) (way es ns Before p f y z rest))
 
 abbrev pub answer : {P : Type 0} → Decision P → Bool
 answer (inl p) = true

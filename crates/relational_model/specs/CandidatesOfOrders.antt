@@ -7,6 +7,7 @@ use Rattle.tso_model.specs.ProgramEntries.{made}
 use Rattle.tso_model.specs.Axioms.{counting, IsTsoExecution}
 use Rattle.tso_model.specs.FinalState.{final_words, final_registers}
 use Rattle.tso_model.specs.declared.execution.Entry.{Entry}
+use Rattle.outcome_laws.specs.Outcomes.{IsSequentiallyConsistent}
 use Rattle.relational_model.specs.Candidates.{Candidate, events, words_left, registers_left}
 
 abbrev pub last_in : List Entry → Option Entry
@@ -29,5 +30,12 @@ pub record LeaveTheSame (t : Litmus) (order : List Entry) (c : Candidate) : Type
 pub record IsOfAnExecution (t : Litmus) (c : Candidate) : Type 0 where
   pub order : List Entry
   pub execution : IsTsoExecution t order
+  pub candidate : IsCandidateOf t order c
+  pub state : LeaveTheSame t order c
+
+-- the candidate of a sequentially consistent order, which leaves the same memory and the same registers
+pub record IsOfASequentialExecution (t : Litmus) (c : Candidate) : Type 0 where
+  pub order : List Entry
+  pub consistent : IsSequentiallyConsistent t order
   pub candidate : IsCandidateOf t order c
   pub state : LeaveTheSame t order c

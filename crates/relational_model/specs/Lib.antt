@@ -2,6 +2,7 @@ pub mod Events
 pub mod Candidates
 pub mod Relations
 pub mod Model
+pub mod SequentialModel
 pub mod CandidatesOfOrders
 pub mod CandidatesOfRuns
 pub mod WorkedCandidates

@@ -1,4 +1,5 @@
-//! The relational model of x86-TSO, and that it allows exactly the TSO executions.
+//! The relational model of x86-TSO, and that it allows exactly the TSO executions; and that of sequential
+//! consistency, with the same law.
 //!
 //! Nothing here computes. Each public function has no code of its own, and its contract is a law on
 //! the definitions. The model stands in `specs/`: candidates, their relations, and the three
@@ -30,6 +31,12 @@ ghost use Rattle.relational_model.specs.WorkedCandidates.{buffering, buffering_c
 ghost use Rattle.relational_model.specs.WorkedCandidates.{independent, independent_candidate, opposite_registers};
 ghost use Rattle.relational_model.specs.WorkedCandidates.{unseen, unseen_candidate};
 
+pub mod sequential;
+
+pub use sequential::{
+    sequential_candidates_are_sequential_executions,
+    unbuffered_runs_have_exactly_the_sequential_candidates, worked_candidates_of_store_buffers,
+};
 use tso_laws::{
     ended_runs_are_executions, runs_reach_exactly_the_executions,
     whole_orders_have_each_entry_once, worked_orders,

@@ -1,0 +1,39 @@
+use Rattle.std.proofs.Common.{◌∙◌, sym, ap, subst}
+use Rattle.tso_model.specs.Runs.{run}
+use Rattle.tso_model.specs.FinalState.{final_words, final_registers}
+use Rattle.relational_model.specs.CandidatesOfOrders.{IsCandidateOf}
+use Rattle.relational_model.specs.CandidatesOfRuns.{IsCandidateOfRun}
+use Rattle.relational_model.proofs.Allowed.{Whole}
+use Rattle.relational_model.proofs.Found.{has-candidate}
+use Rattle.relational_model.proofs.Left.{leave-the-same}
+use Rattle.relational_model.proofs.SequentialFacts.{is-sequential}
+use Rattle.relational_model.proofs.SequentialOrders.{is-of-a-sequential-execution}
+use Rattle.relational_model.proofs.sequential.unbuffered_runs_have_exactly_the_sequential_candidates.Goals as goal
+
+pub returns-clause-sequential : goal.returns-clause-sequential
+returns-clause-sequential c = λ t choices test ended.
+    let k = c.whole_orders_have_each_entry_once.ensures in
+    let r = c.ended_runs_are_executions.ensures t 0 choices test ended in
+    let order = (run t 0 choices).commits in
+    let whole : Whole t order = record
+    { made = λ e i. k.made_by_the_programs t order e r.order.whole i; once = λ i j e p q. k.once t order i j e r.order.whole p q } in
+    let d = has-candidate t order whole in
+    let s = leave-the-same t order d.0 d.1 in
+    let of : IsCandidateOfRun t (run t 0 choices) d.0 = record
+    { order = d.1; memory = r.memory ∙ sym s.memory; registers = r.registers ∙ sym s.registers } in
+    (d.0, is-sequential t order d.0 whole r.order (c.no_buffer_no_reordering.ensures t choices test) d.1, of)
+
+pub returns-clause-reached : goal.returns-clause-reached
+returns-clause-reached c = λ t d test a.
+    let o = is-of-a-sequential-execution t d a in
+    let h = (c.unbuffered_runs_reach_exactly_the_sequentially_consistent.ensures t o.order test).1 o.consistent in
+    let r = c.ended_runs_are_executions.ensures t 0 h.choices test h.ended in (
+      h.choices,
+      h.cores,
+      h.ended,
+      record {
+        order = subst (λ es. IsCandidateOf t es d) (sym h.commits) o.candidate;
+        memory = r.memory ∙ (ap (final_words t) h.commits ∙ sym o.state.memory);
+        registers = r.registers ∙ (ap (final_registers t) h.commits ∙ sym o.state.registers);
+      },
+    )
