@@ -1,0 +1,51 @@
+use Rattle.std.proofs.Common.{◌≡◌, List, false, subst}
+use Rattle.tso_model.specs.Litmus.{Litmus}
+use Rattle.tso_model.specs.Condition.{Claim, truth_of}
+use Rattle.tso_model.specs.Axioms.{IsTsoExecution}
+use Rattle.tso_model.specs.FinalState.{final_words, final_registers}
+use Rattle.tso_model.specs.declared.execution.Entry.{Entry}
+use Rattle.relational_model.specs.Candidates.{Candidate, registers_left, words_left}
+use Rattle.relational_model.specs.CandidatesOfOrders.{IsCandidateOf, LeaveTheSame}
+use Rattle.refutation_laws.specs.Models.{IsAllowedBy, IsExecutionOf}
+use Rattle.refutation_laws.specs.declared.model.Model.{Model}
+use Rattle.refutation_laws.specs.declared.model.Model.TheVariants.{Tso, Sequential}
+use Rattle.refutation_laws.proofs.Soundness.{refuted-is-false}
+use Rattle.refutation_laws.proofs.laws.refuted_claims_are_false.Goals as goal
+
+of-the-order : (t : Litmus) (order : List Entry) (d : Candidate) (claim : Claim) → LeaveTheSame t order d
+    → truth_of (registers_left t d) (words_left t d) claim ≡ false
+    → truth_of (final_registers t order) (final_words t order) claim ≡ false
+of-the-order t order d claim s h =
+    subst (λ rs. truth_of rs (final_words t order) claim ≡ false) s.registers
+    (subst (λ ws. truth_of (registers_left t d) ws claim ≡ false) s.memory h)
+
+pub returns-clause-candidates : goal.returns-clause-candidates
+returns-clause-candidates c = λ model t claim nodes d names h allowed. refuted-is-false model t d allowed claim names nodes h
+
+-- a candidate of the execution, which the model allows
+record IsAllowedOf (model : Model) (t : Litmus) (order : List Entry) : Type 0 where
+  candidate : Candidate
+  allowed : IsAllowedBy model t candidate
+  state : LeaveTheSame t order candidate
+
+pub returns-clause-executions : goal.returns-clause-executions
+returns-clause-executions c = λ model t claim nodes order names h execution.
+    let d = found model t order execution in
+    of-the-order t order d.candidate claim d.state (refuted-is-false model t d.candidate d.allowed claim names nodes h)
+  where
+    of-tso : (t : Litmus) (order : List Entry) → IsTsoExecution t order → (d : Candidate) × IsCandidateOf t order d × LeaveTheSame t order d
+    of-tso t order e =
+        let d = c.executions_have_candidates.ensures t order e in
+        (d.0, d.1, c.candidates_of_executions_are_allowed.ensures.same_state t order d.0 e d.1)
+
+    found : (model : Model) (t : Litmus) (order : List Entry) → IsExecutionOf model t order → IsAllowedOf model t order
+    found Tso t order e =
+        let d = of-tso t order e in
+        record { candidate = d.0; allowed = c.candidates_of_executions_are_allowed.ensures.allowed t order d.0 e d.1; state = d.2 }
+    found Sequential t order e =
+        let d = of-tso t order e.execution in
+        record {
+          candidate = d.0;
+          allowed = c.sequential_candidates_are_sequential_executions.ensures.sequential t order d.0 e d.1;
+          state = d.2;
+        }
