@@ -1,35 +1,22 @@
--- The events of a test whose reads return what is given; and the writes that are then known: a write whose earlier reads are given
--- is among them, with its value.
-use Rattle.std.proofs.Common.{◌≡◌, ◌<◌, ◌≤◌, ℕ, zero, suc, ◌+◌, Bool, true, false, if◌then◌else◌, List, [], ◌∷◌, ◌++◌, length, Option, Some, None, slice_get, slice_index, slice_index_or, arith, refl, sym, ap, ◌∙◌, ◌⊎◌, inl, inr, subst}
-use Rattle.std.specs.Prelude.{map, slice_set}
+-- The events of a test whose reads return what is given; each event is there once, and so a known write has one value.
+use Rattle.std.proofs.Common.{◌≡◌, ℕ, zero, suc, ◌+◌, Bool, true, false, if◌then◌else◌, List, [], ◌∷◌, ◌++◌, Option, Some, None, slice_get, slice_index, slice_index_or, arith, refl, sym, ap, ◌∙◌, ◌⊎◌, inl, inr, subst}
 use Rattle.tso_model.specs.Litmus.{Litmus}
-use Rattle.tso_model.specs.Registers.{index_of}
 use Rattle.tso_model.specs.Actions.{action_of}
-use Rattle.tso_model.specs.Thread.{entry, value_in, value_of, updated, entries_by, registers_by, values_after, entries_of, registers_after}
-use Rattle.tso_model.specs.ProgramOrder.{is_before, is_read, is_write}
-use Rattle.tso_model.specs.declared.register.Reg.{Reg}
-use Rattle.tso_model.specs.declared.register.Reg.TheVariants.{Eax, Ebx, Ecx, Edx, Esi, Edi}
-use Rattle.tso_model.specs.declared.instruction.Loc.{Loc}
+use Rattle.tso_model.specs.Thread.{entry, value_in, value_of, updated, entries_by, registers_by, values_after, entries_of}
+use Rattle.tso_model.specs.ProgramOrder.{is_read, is_write}
 use Rattle.tso_model.specs.declared.instruction.Instr.{Instr}
-use Rattle.tso_model.specs.declared.action.Operand.{Operand}
-use Rattle.tso_model.specs.declared.action.Operand.TheVariants.{Number, Held}
-use Rattle.tso_model.specs.declared.action.Update.{Update}
-use Rattle.tso_model.specs.declared.action.Update.TheVariants.{Exchange, Add}
 use Rattle.tso_model.specs.declared.action.Action.{Action}
 use Rattle.tso_model.specs.declared.action.Action.TheVariants.{Store, Load, Move, Fence, Lock}
 use Rattle.tso_model.specs.declared.execution.Entry.{Entry}
-use Rattle.tso_model.specs.declared.execution.Kind.{Kind}
 use Rattle.tso_model.specs.declared.execution.Kind.TheVariants.{R, W, LR, LW}
-use Rattle.basic_laws.specs.Ranks.{rank, part_of}
-use Rattle.basic_laws.proofs.Basics.{part-small}
+use Rattle.basic_laws.specs.Ranks.{part_of}
 use Rattle.relational_model.specs.Events.{IsIn}
 use Rattle.relational_model.specs.Candidates.{events_from}
-use Rattle.relational_model.proofs.Lists.{in-case, in-none, in-first, in-later, in-append, in-left, in-right}
-use Rattle.relational_model.proofs.Ranks.{rank-before}
-use Rattle.relational_model.proofs.Same.{only, here-by, from-place}
+use Rattle.relational_model.proofs.Lists.{in-case, in-none, in-first, in-later, in-append}
+use Rattle.relational_model.proofs.Same.{only}
 use Rattle.relational_model.proofs.Events.{same-events-from}
 use Rattle.refutation_laws.specs.Known.{bare, same_event}
-use Rattle.refutation_laws.specs.Values.{known_in, known_operand, known_update, write_with, word_given, writes_by, left_by, writes_of, left_of, first_registers, writes_from, value_among}
+use Rattle.refutation_laws.specs.Values.{writes_from, value_among}
 use Rattle.refutation_laws.proofs.Standing.{same-bare}
 use Rattle.refutation_laws.proofs.Soundness.{bare-same}
 use Rattle.refutation_laws.proofs.Knowing.{Tells, Given, all-writes-in}
@@ -70,7 +57,7 @@ as-chosen val e x q h = subst (λ (y : Entry). y.value ≡ val (bare y)) (sym q)
 unread : (e x : Entry) → x ≡ e → is_read e ≡ false → is_read x ≡ true → ⊥
 unread e x q n r = let s : is_read x ≡ is_read e = ap is_read q in let z : ⊥ = cc in z
 
-unwritten : (e x : Entry) → x ≡ e → is_write e ≡ false → is_write x ≡ true → ⊥
+pub unwritten : (e x : Entry) → x ≡ e → is_write e ≡ false → is_write x ≡ true → ⊥
 unwritten e x q n r = let s : is_write x ≡ is_write e = ap is_write q in let z : ⊥ = cc in z
 
 by-chosen : (val : Entry → ℕ) (core place : ℕ) (a : Action) (regs vs : List ℕ) (x : Entry)
@@ -208,207 +195,3 @@ pub known-value : (t : Litmus) (given : Entry → Option ℕ) (w y : Entry) → 
     → value_among (writes_from given 0 t.programs t.registers) w ≡ Some y.value
 known-value t given w y h i =
     value-in (writes_from given 0 t.programs t.registers) w y h (λ x j e. one-write t given x y j i e) i
-
--- ---- registers that are all known
-
-abbrev pub all_of : List ℕ → List (Option ℕ)
-all_of ns = map (λ v. Some v) ns
-
-at-all : (ns : List ℕ) (i : ℕ) → i < length ns → slice_index_or (all_of ns) i None ≡ Some (slice_index ns i)
-at-all [] i l = absurd (omega arith)
-at-all (n ∷ ns) zero l = refl
-at-all (n ∷ ns) (suc i) l = at-all ns i (omega (arith, l))
-
-set-all : (ns : List ℕ) (i v : ℕ) → slice_set (all_of ns) i (Some v) ≡ all_of (slice_set ns i v)
-set-all [] i v = refl
-set-all (n ∷ ns) zero v = refl
-set-all (n ∷ ns) (suc i) v = ap (λ os. Some n ∷ os) (set-all ns i v)
-
-set-length : (ns : List ℕ) (i v : ℕ) → length (slice_set ns i v) ≡ length ns
-set-length [] i v = refl
-set-length (n ∷ ns) zero v = refl
-set-length (n ∷ ns) (suc i) v = ap suc (set-length ns i v)
-
-small : (reg : Reg) → index_of reg < 6
-small Eax = omega arith
-small Ebx = omega arith
-small Ecx = omega arith
-small Edx = omega arith
-small Esi = omega arith
-small Edi = omega arith
-
-pub in-all : (ns : List ℕ) (reg : Reg) → 6 ≤ length ns → known_in (all_of ns) reg ≡ Some (value_in ns reg)
-in-all ns reg six = at-all ns (index_of reg) (let s : index_of reg < 6 = small reg in omega (arith, s, six))
-
-operand-all : (ns : List ℕ) (operand : Operand) → 6 ≤ length ns → known_operand (all_of ns) operand ≡ Some (value_of ns operand)
-operand-all ns (Number value) six = refl
-operand-all ns (Held reg) six = in-all ns reg six
-
-update-all : (u : Update) (o p : Option ℕ) (word value : ℕ) → o ≡ Some word → p ≡ Some value → known_update u o p ≡ Some (updated u word value)
-update-all Exchange o p word value a b = b
-update-all Add o p word value a b = ap (λ w. known_update Add w p) a ∙ ap (λ v. known_update Add (Some word) v) b
-
--- each of these reads is given
-abbrev pub AllGiven : (Entry → Option ℕ) → List Entry → Type 0
-AllGiven given es = (x : Entry) → IsIn es x → is_read x ≡ true → given (bare x) ≡ Some x.value
-
-left-all : (given : Entry → Option ℕ) (core place : ℕ) (a : Action) (ns : List ℕ) (v : ℕ) → 6 ≤ length ns
-    → AllGiven given (entries_by core place a ns v) → left_by a (all_of ns) (word_given given core place a) ≡ all_of (registers_by a ns v)
-left-all given core place (Store loc operand) ns v six g = refl
-left-all given core place (Load reg loc) ns v six g =
-    ap (λ o. slice_set (all_of ns) (index_of reg) o) (g (entry core place R loc v) (0, refl) refl) ∙ set-all ns (index_of reg) v
-left-all given core place (Move reg operand) ns v six g =
-    ap (λ o. slice_set (all_of ns) (index_of reg) o) (operand-all ns operand six) ∙ set-all ns (index_of reg) (value_of ns operand)
-left-all given core place Fence ns v six g = refl
-left-all given core place (Lock loc reg update) ns v six g =
-    ap (λ o. slice_set (all_of ns) (index_of reg) o) (g (entry core place LR loc v) (0, refl) refl) ∙ set-all ns (index_of reg) v
-
-six-after : (a : Action) (ns : List ℕ) (v : ℕ) → length (registers_by a ns v) ≡ length ns
-six-after (Store loc operand) ns v = refl
-six-after (Load reg loc) ns v = set-length ns (index_of reg) v
-six-after (Move reg operand) ns v = set-length ns (index_of reg) (value_of ns operand)
-six-after Fence ns v = refl
-six-after (Lock loc reg update) ns v = set-length ns (index_of reg) v
-
-pub length-after : (p : List Instr) (ns values : List ℕ) → length (registers_after p ns values) ≡ length ns
-length-after [] ns values = refl
-length-after (i ∷ p) ns values =
-    length-after p (registers_by (action_of i) ns (slice_index values 0)) (values_after (action_of i) values)
-    ∙ six-after (action_of i) ns (slice_index values 0)
-
-pub left-all-of : (given : Entry → Option ℕ) (core place : ℕ) (p : List Instr) (ns values : List ℕ) → 6 ≤ length ns
-    → AllGiven given (entries_of core place p ns values) → left_of given core place p (all_of ns) ≡ all_of (registers_after p ns values)
-left-all-of given core place [] ns values six g = refl
-left-all-of given core place (i ∷ p) ns values six g =
-    ap (λ os. left_of given core (place + 1) p os)
-    (left-all given core place (action_of i) ns (slice_index values 0) six
-    (λ x j r. g x (in-left (entries_by core place (action_of i) ns (slice_index values 0)) _ x j) r))
-    ∙ left-all-of given core (place + 1) p (registers_by (action_of i) ns (slice_index values 0)) (values_after (action_of i) values)
-    (let e = six-after (action_of i) ns (slice_index values 0) in omega (arith, e, six))
-    (λ x j r. g x (in-right (entries_by core place (action_of i) ns (slice_index values 0)) _ x j) r)
-
--- ---- writes that are known
-
--- each read before y in its program is given
-abbrev pub EarlyGiven : (Entry → Option ℕ) → List Entry → Entry → Type 0
-EarlyGiven given es y = (x : Entry) → IsIn es x → is_read x ≡ true → is_before x y ≡ true → given (bare x) ≡ Some x.value
-
-written : (core place : ℕ) (kind : Kind) (loc : Loc) (o : Option ℕ) (v : ℕ) (y : Entry) → y ≡ entry core place kind loc v → o ≡ Some v
-    → IsIn (write_with core place kind loc o) y
-written core place kind loc o v y e q =
-    subst (λ p. IsIn (write_with core place kind loc p) y) (sym q) (in-first (entry core place kind loc v) [] y e)
-
-by-known : (given : Entry → Option ℕ) (core place : ℕ) (a : Action) (ns : List ℕ) (v : ℕ) (y : Entry) → 6 ≤ length ns
-    → IsIn (entries_by core place a ns v) y → is_write y ≡ true → EarlyGiven given (entries_by core place a ns v) y
-    → IsIn (writes_by core place a (all_of ns) (word_given given core place a)) y
-by-known given core place (Store loc operand) ns v y six i w g =
-    written core place W loc (known_operand (all_of ns) operand) (value_of ns operand) y
-    (only (entry core place W loc (value_of ns operand)) y i) (operand-all ns operand six)
-by-known given core place (Load reg loc) ns v y six i w g = absurd (unwritten (entry core place R loc v) y (only (entry core place R loc v) y i) refl w)
-by-known given core place (Move reg operand) ns v y six i w g = absurd (in-none y i)
-by-known given core place Fence ns v y six i w g = absurd (unwritten _ y (only _ y i) refl w)
-by-known given core place (Lock loc reg update) ns v y six i w g = go (in-case first (second ∷ []) y i)
-  where
-    first : Entry
-    first = entry core place LR loc v
-
-    second : Entry
-    second = entry core place LW loc (updated update v (value_in ns reg))
-
-    go : (y ≡ first) ⊎ IsIn (second ∷ []) y
-        → IsIn (write_with core place LW loc (known_update update (given (entry core place LR loc 0)) (known_in (all_of ns) reg))) y
-    go (inl q) = absurd (unwritten first y q refl w)
-    go (inr j) =
-        let q : y ≡ second = only second y j in
-        let l : rank first < rank second = omega arith in
-        let b : is_before first y ≡ true = subst (λ z. is_before first z ≡ true) (sym q) (rank-before first second refl l) in
-        written core place LW loc (known_update update (given (entry core place LR loc 0)) (known_in (all_of ns) reg))
-        (updated update v (value_in ns reg)) y q
-        (update-all update (given (entry core place LR loc 0)) (known_in (all_of ns) reg) v (value_in ns reg)
-        (g first (0, refl) refl b) (in-all ns reg six))
-
-earlier-place : (x y : Entry) (place : ℕ) → x.core.0 ≡ y.core.0 → x.place ≡ place → place + 1 ≤ y.place → is_before x y ≡ true
-earlier-place x y place c e l =
-    let s = part-small x.kind in
-    rank-before x y c (omega (arith, e, l, s))
-
-program-known : (given : Entry → Option ℕ) (core place : ℕ) (p : List Instr) (ns values : List ℕ) (y : Entry) → 6 ≤ length ns
-    → IsIn (entries_of core place p ns values) y → is_write y ≡ true → EarlyGiven given (entries_of core place p ns values) y
-    → IsIn (writes_of given core place p (all_of ns)) y
-program-known given core place [] ns values y six i w g = absurd (in-none y i)
-program-known given core place (s ∷ p) ns values y six i w g =
-    go (in-append first rest y i)
-    (λ j. program-known given core (place + 1) p (registers_by (action_of s) ns (slice_index values 0)) (values_after (action_of s) values) y
-    (let e = six-after (action_of s) ns (slice_index values 0) in omega (arith, e, six)) j w
-    (λ x k r b. g x (in-right first rest x k) r b))
-  where
-    first : List Entry
-    first = entries_by core place (action_of s) ns (slice_index values 0)
-
-    rest : List Entry
-    rest = entries_of core (place + 1) p (registers_by (action_of s) ns (slice_index values 0)) (values_after (action_of s) values)
-
-    before : (x : Entry) → IsIn first x → IsIn rest y → is_before x y ≡ true
-    before x j k =
-        let h = here-by core place (action_of s) ns (slice_index values 0) x j in
-        let m = from-place core (place + 1) p (registers_by (action_of s) ns (slice_index values 0)) (values_after (action_of s) values) y k in
-        earlier-place x y place (h.0 ∙ sym m.0) h.1 m.1
-
-    own : List Entry
-    own = writes_by core place (action_of s) (all_of ns) (word_given given core place (action_of s))
-
-    go : IsIn first y ⊎ IsIn rest y
-        → (IsIn rest y → IsIn (writes_of given core (place + 1) p (all_of (registers_by (action_of s) ns (slice_index values 0)))) y)
-        → IsIn (own ++ writes_of given core (place + 1) p (left_by (action_of s) (all_of ns) (word_given given core place (action_of s)))) y
-    go (inl j) more =
-        in-left own _ y
-        (by-known given core place (action_of s) ns (slice_index values 0) y six j w (λ x k r b. g x (in-left first rest x k) r b))
-    go (inr j) more =
-        in-right own _ y
-        (subst (λ os. IsIn (writes_of given core (place + 1) p os) y)
-        (sym (left-all given core place (action_of s) ns (slice_index values 0) six
-        (λ x k r. g x (in-left first rest x k) r (before x k j)))) (more j))
-
--- each of these cores has its six registers
-abbrev pub HaveSix : ℕ → ℕ → List (List ℕ) → Type 0
-HaveSix core count registers = (i : ℕ) → i < count → 6 ≤ length (slice_index_or registers (core + i) [])
-
-pub next-six : (core : ℕ) (p : List Instr) (ps : List (List Instr)) (registers : List (List ℕ)) → HaveSix core (length (p ∷ ps)) registers
-    → HaveSix (core + 1) (length ps) registers
-next-six core p ps registers h i l =
-    let z : core + suc i ≡ (core + 1) + i = omega arith in
-    subst (λ k. 6 ≤ length (slice_index_or registers k [])) z (h (suc i) (let m : i < length ps = l in omega (arith, m)))
-
-pub first-six : (core : ℕ) (p : List Instr) (ps : List (List Instr)) (registers : List (List ℕ)) → HaveSix core (length (p ∷ ps)) registers
-    → 6 ≤ length (slice_index_or registers core [])
-first-six core p ps registers h =
-    let z : core + 0 ≡ core = omega arith in
-    subst (λ k. 6 ≤ length (slice_index_or registers k [])) z (h 0 (omega arith))
-
-all-known : (given : Entry → Option ℕ) (core : ℕ) (ps : List (List Instr)) (registers reads : List (List ℕ)) (y : Entry)
-    → HaveSix core (length ps) registers → IsIn (events_from core ps registers reads) y → is_write y ≡ true
-    → EarlyGiven given (events_from core ps registers reads) y → IsIn (writes_from given core ps registers) y
-all-known given core [] registers reads y six i w g = absurd (in-none y i)
-all-known given core (p ∷ ps) registers reads y six i w g =
-    go (in-append first rest y i)
-    (λ j. all-known given (core + 1) ps registers reads y (next-six core p ps registers six) j w (λ x k r b. g x (in-right first rest x k) r b))
-  where
-    first : List Entry
-    first = entries_of core 0 p (slice_index_or registers core []) (slice_index_or reads core [])
-
-    rest : List Entry
-    rest = events_from (core + 1) ps registers reads
-
-    go : IsIn first y ⊎ IsIn rest y → (IsIn rest y → IsIn (writes_from given (core + 1) ps registers) y)
-        → IsIn (writes_of given core 0 p (first_registers registers core) ++ writes_from given (core + 1) ps registers) y
-    go (inl j) more =
-        in-left (writes_of given core 0 p (first_registers registers core)) _ y
-        (program-known given core 0 p (slice_index_or registers core []) (slice_index_or reads core []) y
-        (first-six core p ps registers six) j w (λ x k r b. g x (in-left first rest x k) r b))
-    go (inr j) more = in-right (writes_of given core 0 p (first_registers registers core)) _ y (more j)
-
--- a write of these events whose earlier reads are given is known, with its value
-pub known-write : (t : Litmus) (given : Entry → Option ℕ) (reads : List (List ℕ)) (y : Entry) → HaveSix 0 (length t.programs) t.registers
-    → IsIn (events_from 0 t.programs t.registers reads) y → is_write y ≡ true
-    → EarlyGiven given (events_from 0 t.programs t.registers reads) y → IsIn (writes_from given 0 t.programs t.registers) y
-known-write t given reads y six i w g = all-known given 0 t.programs t.registers reads y six i w g

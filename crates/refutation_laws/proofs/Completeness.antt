@@ -17,7 +17,7 @@ use Rattle.refutation_laws.proofs.Composing.{HasTrees, EachHasOne, has-tree}
 use Rattle.relational_model.proofs.Sorting.{Ordered}
 use Rattle.refutation_laws.proofs.Rows.{HasCycle, Edge, cycle-or-row}
 use Rattle.refutation_laws.proofs.Asking.{IsFull, Answer, all-asked}
-use Rattle.refutation_laws.proofs.Building.{HaveSix}
+use Rattle.refutation_laws.proofs.Determined.{HaveSix}
 use Rattle.refutation_laws.proofs.Settling.{is-event, IsOpen, own_candidate}
 use Rattle.refutation_laws.proofs.Allowing.{NoneBetween, is-allowed}
 use Rattle.refutation_laws.proofs.Exactness.{claim-exact}

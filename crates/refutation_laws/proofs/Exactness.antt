@@ -20,7 +20,7 @@ use Rattle.refutation_laws.specs.declared.model.Model.{Model}
 use Rattle.refutation_laws.proofs.Tests.{from-not, any-in, picked-of}
 use Rattle.refutation_laws.proofs.Standing.{Of, of-event}
 use Rattle.refutation_laws.proofs.ClaimFacts.{words-at, ends, Empty, Last}
-use Rattle.refutation_laws.proofs.Building.{all_of, in-all, AllGiven, left-all-of, length-after, HaveSix, next-six, first-six}
+use Rattle.refutation_laws.proofs.Determined.{all_of, in-all, AllGiven, left-all-of, length-after, HaveSix, next-six, first-six}
 use Rattle.refutation_laws.proofs.Settling.{IsOpen, given_after, rounds, own_reads, own_events, own_candidate, own-in, writes-row, all-given, all-known-values}
 use Rattle.refutation_laws.proofs.Allowing.{write-in, co-known}
 

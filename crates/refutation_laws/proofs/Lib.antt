@@ -10,6 +10,7 @@ pub mod Composing
 pub mod Rows
 pub mod Asking
 pub mod Building
+pub mod Determined
 pub mod Settling
 pub mod Allowing
 pub mod Exactness

@@ -29,7 +29,8 @@ use Rattle.refutation_laws.proofs.Tests.{and-of, or-first, or-second, any-in}
 use Rattle.refutation_laws.proofs.Relating.{edge-by, of-bare}
 use Rattle.refutation_laws.proofs.Rows.{edge-forward, ordered-acyclic, Edge, edge-decided}
 use Rattle.refutation_laws.proofs.Asking.{IsPossible, ArePossible, IsFull}
-use Rattle.refutation_laws.proofs.Building.{or_zero, reads_given, events_given, returns-chosen, one-event, same-place, known-value, HaveSix, EarlyGiven, AllGiven, known-write}
+use Rattle.refutation_laws.proofs.Building.{or_zero, reads_given, events_given, returns-chosen, one-event, same-place, known-value}
+use Rattle.refutation_laws.proofs.Determined.{HaveSix, EarlyGiven, AllGiven, known-write}
 
 -- ---- the source of a read
 

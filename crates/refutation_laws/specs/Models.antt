@@ -11,7 +11,7 @@ use Rattle.tso_model.specs.Runs.{run, CoresExist}
 use Rattle.tso_model.specs.declared.choice.Choice.{Choice}
 use Rattle.tso_model.specs.declared.execution.Entry.{Entry}
 use Rattle.tso_laws.specs.EndedRuns.{End}
-use Rattle.outcome_laws.specs.Outcomes.{IsSequentiallyConsistent}
+use Rattle.outcome_laws.specs.Outcomes.{IsAllowedByTso, IsSequentiallyConsistent, IsAllowedSequentially}
 use Rattle.relational_model.specs.Candidates.{Candidate, registers_left, words_left}
 use Rattle.relational_model.specs.Model.{IsAllowed}
 use Rattle.relational_model.specs.SequentialModel.{IsSequential}
@@ -28,6 +28,11 @@ IsAllowedBy Sequential t c = IsSequential t c
 abbrev pub IsExecutionOf : Model → Litmus → List Entry → Type 0
 IsExecutionOf Tso t order = IsTsoExecution t order
 IsExecutionOf Sequential t order = IsSequentiallyConsistent t order
+
+-- the final state of one of them
+abbrev pub IsFinalStateOf : Model → Litmus → List (List ℕ) → List ℕ → Type 0
+IsFinalStateOf Tso t registers memory = IsAllowedByTso t registers memory
+IsFinalStateOf Sequential t registers memory = IsAllowedSequentially t registers memory
 
 -- the depth at which the flat machine's runs are these executions
 abbrev pub depth_of : Model → ℕ

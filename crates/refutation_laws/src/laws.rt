@@ -23,7 +23,7 @@ ghost use Rattle.refutation_laws.specs.Edges.{relates, is_edge};
 ghost use Rattle.refutation_laws.specs.Values.{can_be, register_at_end, words_at_end};
 ghost use Rattle.refutation_laws.specs.Refutations.{Node, refutes, asked};
 ghost use Rattle.refutation_laws.specs.Shown.{first_of, value_known};
-ghost use Rattle.refutation_laws.specs.Models.{IsAllowedBy, IsExecutionOf, IsRefuted, HasCandidate, HasExecution, HasRun};
+ghost use Rattle.refutation_laws.specs.Models.{IsAllowedBy, IsExecutionOf, IsFinalStateOf, IsRefuted, HasCandidate, HasExecution, HasRun};
 ghost use Rattle.refutation_laws.specs.Agreement.{Agrees};
 ghost use Rattle.refutation_laws.specs.declared.model.Model.{Model};
 ghost use Rattle.refutation_laws.specs.declared.model.Model.TheVariants.{Tso, Sequential};
@@ -37,7 +37,8 @@ use relational_model::{
 };
 
 /// A proposition that is refuted, and whose names exist in the test, is false in the state that each
-/// candidate leaves that the model allows, and in the final state of each execution of the model.
+/// candidate leaves that the model allows, and in the final state of each execution of the model; so it
+/// is in each final state that the model allows.
 pub fn refuted_claims_are_false()
     ensures candidates { (model : Model) (t : Litmus) (claim : Claim) (nodes : List Node) (c : Candidate)
         → NamesExist (length t.programs) (length t.words) claim → refutes model t claim nodes ≡ true → IsAllowedBy model t c
@@ -45,6 +46,9 @@ pub fn refuted_claims_are_false()
     ensures executions { (model : Model) (t : Litmus) (claim : Claim) (nodes : List Node) (order : List Entry)
         → NamesExist (length t.programs) (length t.words) claim → refutes model t claim nodes ≡ true → IsExecutionOf model t order
         → truth_of (final_registers t order) (final_words t order) claim ≡ false }
+    ensures states { (model : Model) (t : Litmus) (claim : Claim) (nodes : List Node) (registers : List (List ℕ)) (memory : List ℕ)
+        → NamesExist (length t.programs) (length t.words) claim → refutes model t claim nodes ≡ true
+        → IsFinalStateOf model t registers memory → truth_of registers memory claim ≡ false }
 {
     executions_have_candidates();
     candidates_of_executions_are_allowed();

@@ -1,12 +1,13 @@
-use Rattle.std.proofs.Common.{◌≡◌, List, false, subst}
+use Rattle.std.proofs.Common.{◌≡◌, ℕ, List, true, false, length, subst}
 use Rattle.tso_model.specs.Litmus.{Litmus}
-use Rattle.tso_model.specs.Condition.{Claim, truth_of}
+use Rattle.tso_model.specs.Condition.{Claim, truth_of, NamesExist}
 use Rattle.tso_model.specs.Axioms.{IsTsoExecution}
 use Rattle.tso_model.specs.FinalState.{final_words, final_registers}
 use Rattle.tso_model.specs.declared.execution.Entry.{Entry}
 use Rattle.relational_model.specs.Candidates.{Candidate, registers_left, words_left}
 use Rattle.relational_model.specs.CandidatesOfOrders.{IsCandidateOf, LeaveTheSame}
-use Rattle.refutation_laws.specs.Models.{IsAllowedBy, IsExecutionOf}
+use Rattle.refutation_laws.specs.Models.{IsAllowedBy, IsExecutionOf, IsFinalStateOf}
+use Rattle.refutation_laws.specs.Refutations.{Node, refutes}
 use Rattle.refutation_laws.specs.declared.model.Model.{Model}
 use Rattle.refutation_laws.specs.declared.model.Model.TheVariants.{Tso, Sequential}
 use Rattle.refutation_laws.proofs.Soundness.{refuted-is-false}
@@ -49,3 +50,22 @@ returns-clause-executions c = λ model t claim nodes order names h execution.
           allowed = c.sequential_candidates_are_sequential_executions.ensures.sequential t order d.0 e d.1;
           state = d.2;
         }
+
+of-the-state : (t : Litmus) (order : List Entry) (registers : List (List ℕ)) (memory : List ℕ) (claim : Claim)
+    → final_registers t order ≡ registers → final_words t order ≡ memory
+    → truth_of (final_registers t order) (final_words t order) claim ≡ false → truth_of registers memory claim ≡ false
+of-the-state t order registers memory claim rs ws h =
+    subst (λ ms. truth_of registers ms claim ≡ false) ws (subst (λ ns. truth_of ns (final_words t order) claim ≡ false) rs h)
+
+pub returns-clause-states : goal.returns-clause-states
+returns-clause-states c = λ model t claim nodes registers memory names h s. by model t claim nodes registers memory names h s
+  where
+    by : (model : Model) (t : Litmus) (claim : Claim) (nodes : List Node) (registers : List (List ℕ)) (memory : List ℕ)
+        → NamesExist (length t.programs) (length t.words) claim → refutes model t claim nodes ≡ true
+        → IsFinalStateOf model t registers memory → truth_of registers memory claim ≡ false
+    by Tso t claim nodes registers memory names h s =
+        of-the-state t s.order registers memory claim s.registers_are s.memory_is
+        (returns-clause-executions c Tso t claim nodes s.order names h s.execution)
+    by Sequential t claim nodes registers memory names h s =
+        of-the-state t s.order registers memory claim s.registers_are s.memory_is
+        (returns-clause-executions c Sequential t claim nodes s.order names h s.consistent)
