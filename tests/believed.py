@@ -8,10 +8,10 @@
     tests/believed.py --arrange            moves these definitions by tests/move_definitions.py
 
 PROMISE is run (on the atomic bus, plain), run-whole (the split bus and JSON too), trace and trace-whole (likewise), sweep, outcomes, check,
-witness, headline, axioms, state (the axioms, final state and verdict), answers, reach, page, models or laws (what the contracts name of all functions that README.md and
-docs/PROVED.md name and that are no methods; what a contract cites through another name of a whole file, as `spec.reading_of`, is
-the code's own way said as a definition, and a word of the inside). A line counts where it is neither blank, a comment nor an
-import. tests/declared.py lists the types of the code that the headline names.
+witness, headline, axioms, state (the axioms, final state and verdict), answers, reach, page, models, why or laws (what the contracts name
+of all functions that README.md and docs/PROVED.md name and that are no methods; what a contract cites through another name of a whole
+file, as `spec.reading_of`, is the code's own way said as a definition, and a word of the inside). A line counts where it is neither
+blank, a comment nor an import. tests/declared.py lists the types of the code that the headline names.
 
 --arrange gives each definition its folder: specs/ of its crate for what a promise reaches, specs/inner/ for the rest. The last line
 is 'N passed, M failed', M being how many definitions don't stand so.
@@ -219,9 +219,14 @@ LAWS = {
     "page": (("page_exports", "page_answer"),),
     "models": (
         ("relational_model", "executions_have_candidates candidates_of_executions_are_allowed allowed_candidates_are_executions"
-         " runs_have_exactly_the_allowed_candidates worked_candidates"),
+         " runs_have_exactly_the_allowed_candidates worked_candidates sequential_candidates_are_sequential_executions"
+         " unbuffered_runs_have_exactly_the_sequential_candidates worked_candidates_of_store_buffers"),
         ("abstract_machine", "runs_of_the_abstract_machine_are_executions executions_are_runs_of_the_abstract_machine"
          " bounded_buffers_lose_nothing worked_runs_of_the_abstract_machine"),
+    ),
+    "why": (
+        ("refutation_laws", "refuted_claims_are_false no_run_makes_a_refuted_claim_true refuted_questions_are_answered"
+         " claims_are_refuted_or_met known_values_are_right edges_have_relations worked_refutations"),
     ),
 }
 
@@ -314,7 +319,8 @@ PROMISED = {
     "sweep": "`sweep` on the atomic bus", "outcomes": "`outcomes`, plain",
     "check": "`check`", "witness": "`witness`", "headline": "the headline, all commands", "axioms": "`IsTsoExecution`",
     "state": "axioms, final state and verdict", "answers": "the answers' laws, `exact` among them", "reach": "what runs reach",
-    "page": "the page's answers", "models": "the published models", "laws": "all that is named here and in the README",
+    "page": "the page's answers", "models": "the published models", "why": "refutations",
+    "laws": "all that is named here and in the README",
 }
 
 
