@@ -8,3 +8,4 @@ pub mod Members
 pub mod Showing
 pub mod Alike
 pub mod Hiding
+mod Staying

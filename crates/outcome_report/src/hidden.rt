@@ -2,7 +2,7 @@
 //! tell them apart; a register that is looked at must not be among them.
 
 ghost use Rattle.std.specs.Prelude.{◌≡◌, ◌<◌, IfOk, length};
-ghost use Rattle.outcome_report.specs.Hidden.{AreNotShown};
+ghost use Rattle.outcome_report.specs.Hidden.{IsHidden, AreNotShown, AreAllNotLookedAt};
 ghost use Rattle.outcome_report.specs.inner.Hidden.{IsNotHidden};
 ghost use Rattle.tso_model.specs.declared.instruction.Core.{Core};
 ghost use Rattle.tso_model.specs.declared.register.Reg.{Reg};
@@ -12,11 +12,13 @@ use std::alloc::Global;
 use tso_model::{NoMemory, Test};
 use tso_report::named::{Named, looked_at};
 
-/// What is named is looked at: a register of a core isn't hidden then.
+/// What is named is looked at: a register of a core isn't hidden then, and every other one stays hidden that was.
 fn show(hidden: &mut [[bool; 6]], named: Named)
     requires { (core : Core) (reg : Reg) → named ≡ Named.Register core reg → core.0 < length hidden.old }
     ensures shown { IsNotHidden hidden.new named }
     ensures others { (other : Named) → IsNotHidden hidden.old other → IsNotHidden hidden.new other }
+    ensures hidden { (core : Core) (reg : Reg) → (named ≡ Named.Register core reg → ⊥)
+        → IsHidden hidden.old core.0 reg → IsHidden hidden.new core.0 reg }
     ensures count { length hidden.new ≡ length hidden.old }
 {
     match named {
@@ -25,11 +27,12 @@ fn show(hidden: &mut [[bool; 6]], named: Named)
     }
 }
 
-/// Of each core which registers no printed value shows, in the order of `Reg::ALL`.
+/// Of each core which registers no printed value shows, in the order of `Reg::ALL`: all that aren't looked at.
 ///
 /// Errors: out of memory only.
 pub fn hidden_registers(alloc: Global, test: &Test) -> Result<Vec<[bool; 6]>, NoMemory>
-    ensures { IfOk result (λ hidden. AreNotShown test.now hidden.items) }
+    ensures not_shown { IfOk result (λ hidden. AreNotShown test.now hidden.items) }
+    ensures all { IfOk result (λ hidden. AreAllNotLookedAt test.now hidden.items) }
 {
     let names = looked_at(alloc, test)?;
     let mut hidden = Vec::new(alloc);

@@ -49,7 +49,7 @@ values-are-words registers memory [] are words = All-nil IsWord
 values-are-words registers memory (named ∷ names) are words =
     All-cons IsWord (shown_value registers memory named) (map (shown_value registers memory) names) (value-is-word registers memory named are words) (values-are-words registers memory names are words)
 
-is-state : (t : Litmus) (registers : List (List ℕ)) (memory : List ℕ) → All AreRegisters registers → All IsWord memory → IsStateOf t (values_in t registers memory)
+pub is-state : (t : Litmus) (registers : List (List ℕ)) (memory : List ℕ) → All AreRegisters registers → All IsWord memory → IsStateOf t (values_in t registers memory)
 is-state t registers memory are words = record {
   each = length-map (looked_at t) (shown_value registers memory);
   words = values-are-words registers memory (looked_at t) are words;

@@ -13,6 +13,7 @@ pub mod MachineLemmas
 mod SameStates
 mod SweptLines
 pub mod OneTextLemmas
+mod OneSearchLemmas
 pub mod FittingRuns
 pub mod FittingSweeps
 pub mod StepLemmas

@@ -284,7 +284,7 @@ one-witnessed t depth text out other law decided test short p q = by_text (decid
 
 -- ---- of whole inputs
 
-sizes : (n m : ℕ) → (n ≤ m) ⊎ (m < n)
+pub sizes : (n m : ℕ) → (n ≤ m) ⊎ (m < n)
 sizes n m = grind arith
 
 parts-one : (s : Settings) (Same : List ℕ → List ℕ → Type 0) (parts : Parts) (out other : List ℕ) → AreReadOneWay → AreDecided → ((a b : List ℕ) → a ≡ b → Same a b)

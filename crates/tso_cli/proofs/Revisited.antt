@@ -51,7 +51,7 @@ states-found search json input _ _ good (answered t out status small spelled is)
 
 -- ---- the same states
 
-each-there : (t : Litmus) (depth : ℕ) (outcomes others : List Outcome) → AreAllOutcomes t depth outcomes → AreAllOutcomes t depth others
+pub each-there : (t : Litmus) (depth : ℕ) (outcomes others : List Outcome) → AreAllOutcomes t depth outcomes → AreAllOutcomes t depth others
     → (values : List ℕ) → Contains (map (shown_values t) outcomes) values → Contains (map (shown_values t) others) values
 each-there t depth outcomes others are more values has =
     let made = made-of (shown_values t) outcomes values has in
@@ -107,6 +107,7 @@ revisited kind c search json told input out texts reaching searches atomic depth
     let f = states-found search told input out Good refl is in
     record {
       t = f.t;
+      spelled = f.spelled;
       outcomes = f.outcomes;
       printed = f.is ∙ ap (λ d. outcomes_in told f.t d f.outcomes) depth;
       each = All-weaker (Leads f.t search.depth) (IsRevisited kind c json (parts_of input).test f.t)

@@ -10,6 +10,7 @@ pub mod OutcomesHeadline
 pub mod Judgement
 pub mod Headline
 pub mod OneText
+pub mod OneSearch
 pub mod Revisited
 pub mod Machines
 pub mod Hints

@@ -2,6 +2,7 @@
 -- to come up.
 use Rattle.std.specs.Prelude.{◌≡◌, ℕ, Bool, List, All, Some}
 use Rattle.tso_model.specs.Litmus.{Litmus}
+use Rattle.litmus_reader.specs.Spelling.{SpellsTest}
 use Rattle.scheduler.specs.Printed.{printed_choices}
 use Rattle.protocol_tables.specs.declared.kind.ProtocolKind.{ProtocolKind}
 use Rattle.machine_core.specs.Configuration.{Configuration}
@@ -31,9 +32,10 @@ IsRevisited kind c json test t o =
     → IsAnswer (settings.Run kind c json) (Some (joined test (printed_choices o.choices))) answer status
     → ReportsValues t kind c json (shown_values t o) answer × (status ≡ Good)
 
--- so it is with each state that was printed
+-- so it is with each state of the given test that was printed
 pub record AreRevisited (kind : ProtocolKind) (c : Configuration) (json told : Bool) (test out : List ℕ) : Type 0 where
   pub t : Litmus
+  pub spelled : SpellsTest test t
   pub outcomes : List Outcome
   pub printed : out ≡ outcomes_in told t c.depth outcomes
   pub each : All (IsRevisited kind c json test t) outcomes

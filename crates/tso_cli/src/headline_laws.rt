@@ -4,7 +4,10 @@ ghost use Rattle.std.specs.Prelude.{◌≡◌, ℕ, Bool, List};
 ghost use Rattle.protocol_tables.specs.declared.kind.ProtocolKind.{ProtocolKind};
 ghost use Rattle.machine_core.specs.Configuration.{Configuration};
 ghost use Rattle.command_line.specs.Plan.{Plan};
+ghost use Rattle.command_line.specs.Search.{Search};
+ghost use Rattle.commands.specs.Dividing.{parts_of};
 ghost use Rattle.tso_cli.specs.Headline.{InputHeadline};
+ghost use Rattle.tso_cli.specs.OneSearch.{AreOneSearch};
 ghost use Rattle.tso_cli.specs.OneText.{AreOneRun, AreOneTrace, AreOneWitness};
 ghost use Rattle.command_line.specs.declared.settings.Settings.{Settings};
 
@@ -12,11 +15,13 @@ use crate::laws::texts_are_read_one_way;
 use axiom_checker::laws::each_order_is_judged;
 use litmus_reader::laws::texts_are_decided;
 use order_builder::laws::order_is_spelled_once;
+use outcome_report::laws::outcomes_of_the_same_values_are_alike;
 
 /// The headline leaves one text for each input of `check` and of `sweep`, of `run` and `trace` where no run
 /// ends, and of `witness` where it finds no choices. Of a run that ended it leaves open how many choices were used,
 /// stalled and left over, and the counts of the caches, and nothing else; of choices that lead to an
-/// order, which they are.
+/// order, which they are. Of `outcomes` it leaves open which choices lead to each state, and, where the machine can reach more
+/// states than may be kept, whether any are shown; lines and JSON of one test show the same states.
 pub fn headlines_leave_one_text()
     ensures runs { (kind : ProtocolKind) (c : Configuration) (json : Bool) (input out other : List ℕ)
         → InputHeadline (Settings.Run kind c json) input out → InputHeadline (Settings.Run kind c json) input other
@@ -30,9 +35,13 @@ pub fn headlines_leave_one_text()
         → InputHeadline Settings.Check input out → InputHeadline Settings.Check input other → out ≡ other }
     ensures witnesses { (depth : ℕ) (input out other : List ℕ)
         → InputHeadline (Settings.Witness depth) input out → InputHeadline (Settings.Witness depth) input other → AreOneWitness depth out other }
+    ensures outcomes { (search : Search) (json again : Bool) (input out other : List ℕ)
+        → InputHeadline (Settings.Outcomes search json) input out → InputHeadline (Settings.Outcomes search again) input other
+        → AreOneSearch (parts_of input).test search json again out other }
 {
     texts_are_read_one_way();
     texts_are_decided();
     order_is_spelled_once();
     each_order_is_judged();
+    outcomes_of_the_same_values_are_alike();
 }

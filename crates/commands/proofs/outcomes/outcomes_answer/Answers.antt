@@ -11,4 +11,4 @@ found_answer-requires-clause-reached c =
 pub found_answer-requires-clause-complete : goal.found_answer-requires-clause-complete
 found_answer-requires-clause-complete c =
     search-shows c.args.test.now c.depth.result c.args.search.depth c.deref.result.now c.in_ok-hidden.hidden.items c.in-Ok.found.final_states.items c.deref-in-Ok.result.now
-    c.in-Ok.ensures.complete c.in_ok-hidden.ensures c.depth.ensures.value c.deref.ensures.value c.deref-in-Ok.ensures.value
+    c.in-Ok.ensures.complete c.in_ok-hidden.ensures.not_shown c.depth.ensures.value c.deref.ensures.value c.deref-in-Ok.ensures.value

@@ -1,7 +1,10 @@
-use Rattle.std.proofs.Common.{◌≡◌, ◌∙◌, ◌<◌, ℕ, Some, slice_get, length, inl, inr, ap, sym, subst, arith}
+use Rattle.std.proofs.Common.{◌≡◌, ◌∙◌, ◌<◌, ℕ, [], ◌∷◌, Some, slice_get, length, inl, inr, ap, sym, subst, arith}
+use Rattle.std.proofs.lemmas.List.{length-append}
 use Rattle.tso_report.specs.declared.named.Named.{Named}
+use Rattle.outcome_report.specs.Hidden.{IsHidden}
 use Rattle.outcome_report.specs.inner.Hidden.{IsNotHidden}
 use Rattle.outcome_report.proofs.Hiding.{core-known, whole, get-or, get-within, lt-or, not-shown}
+use Rattle.outcome_report.proofs.Staying.{AreAllHidden, all_six, six-hidden, one-row-more, got, unnamed}
 use Rattle.outcome_report.proofs.hidden.hidden_registers.Goals as goal
 
 pub show-requires : goal.show-requires
@@ -13,9 +16,21 @@ show-requires c = λ core reg is.
 
 pub loop-named-init : goal.loop-named-init
 loop-named-init c = record {
-  count = let a = c.loop-core.invariant in let b = c.loop-core-test.false in let l = c.loop-core.auto._core-end in let n = c.cores-core-end.ensures.value in omega (arith, a, b, l, n);
+  count = let a = c.loop-core.invariant.count in let b = c.loop-core-test.false in let l = c.loop-core.auto._core-end in let n = c.cores-core-end.ensures.value in omega (arith, a, b, l, n);
   shown = λ j n l. absurd (let z : ⊥ = omega (arith, l) in z);
+  unnamed = λ core reg l none.
+      c.loop-core.invariant.all core reg
+      (let a = c.loop-core.invariant.count in let b = c.loop-core-test.false in let d = c.loop-core.auto._core-end in let n = c.cores-core-end.ensures.value in omega (arith, a, b, d, n, l));
 }
+
+pub loop-core-preserved : goal.loop-core-preserved
+loop-core-preserved c =
+    let is = c.in_ok-push.ensures.items in
+    let size = length-append c.loop-core.hidden.items (all_six ∷ []) in
+    record {
+      count = (let n = c.loop-core.invariant.count in let m = ap length is in omega (arith, n, m, size));
+      all = subst AreAllHidden (sym is) (one-row-more c.loop-core.hidden.items all_six c.loop-core.invariant.all six-hidden);
+    }
 
 pub loop-named-preserved : goal.loop-named-preserved
 loop-named-preserved c =
@@ -29,12 +44,20 @@ loop-named-preserved c =
             let q : j ≡ c.loop-named.named-index = omega (arith, l, m) in
             subst (IsNotHidden c.show.new.hidden) (get-or c.deref-named-items.result.now c.loop-named.named-index _ n (subst (λ z. slice_get c.deref-named-items.result.now z ≡ Some n) q at)) c.show.ensures.shown
       ]);
+      unnamed = λ core reg l none.
+          subst (λ z. IsHidden z core reg) (sym same)
+          (c.show.ensures.hidden (record { 0 = core }) reg (λ is. none c.loop-named.named-index _ (got _ c.loop-named.named-index _ c.loop-named-test.true) is)
+          (subst (λ z. IsHidden z core reg) (sym c.deref_mut.ensures.value) (c.loop-named.invariant.unnamed core reg l none)));
     }
 
-pub returns : goal.returns
-returns c =
+pub returns-clause-not_shown : goal.returns-clause-not_shown
+returns-clause-not_shown c =
     not-shown c.args.test.now c.loop-named.hidden.items c.in_ok-names.names.items c.in_ok-names.ensures.list (λ j n at.
     let l = get-within c.in_ok-names.names.items j n at in
     let m = c.loop-named-test.false in
     let a = ap length c.deref-named-items.ensures.value in
     c.loop-named.invariant.shown j n (omega (arith, l, m, a)) (subst (λ z. slice_get z j ≡ Some n) (sym c.deref-named-items.ensures.value) at))
+
+pub returns-clause-all : goal.returns-clause-all
+returns-clause-all c = λ core reg l not_looked.
+    c.loop-named.invariant.unnamed core reg l (unnamed c.args.test.now _ core reg (c.deref-named-items.ensures.value ∙ c.in_ok-names.ensures.list) not_looked)

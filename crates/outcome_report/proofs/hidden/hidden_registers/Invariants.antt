@@ -1,13 +1,22 @@
 use Rattle.std.proofs.Common.{◌≡◌, ◌<◌, ℕ, Some, slice_get, length}
 use Rattle.tso_report.specs.declared.named.Named.{Named}
+use Rattle.tso_model.specs.declared.register.Reg.{Reg}
+use Rattle.tso_report.specs.Tally.{register_of}
+use Rattle.outcome_report.specs.Hidden.{IsHidden}
 use Rattle.outcome_report.specs.inner.Hidden.{IsNotHidden}
+use Rattle.outcome_report.proofs.Staying.{AreAllHidden}
 use Rattle.outcome_report.proofs.hidden.hidden_registers.Given as goal
 
 abbrev pub invariant-loop-core : goal.invariant-loop-core
-invariant-loop-core l = length l.hidden.items ≡ l._core
+invariant-loop-core l = record {
+  count : length l.hidden.items ≡ l._core;
+  all : AreAllHidden l.hidden.items;
+}
 
 abbrev pub invariant-loop-named : goal.invariant-loop-named
 invariant-loop-named l = record {
   count : length l.hidden.items ≡ length l.test.programs;
   shown : (j : ℕ) (n : Named) → j < l.named-index → slice_get l.named-items j ≡ Some n → IsNotHidden l.hidden.items n;
+  unnamed : (core : ℕ) (reg : Reg) → core < length l.test.programs
+      → ((j : ℕ) (n : Named) → slice_get l.named-items j ≡ Some n → n ≡ register_of core reg → ⊥) → IsHidden l.hidden.items core reg;
 }

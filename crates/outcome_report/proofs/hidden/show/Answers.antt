@@ -1,10 +1,18 @@
-use Rattle.std.proofs.Common.{[], sym, subst}
+use Rattle.std.proofs.Common.{[], sym, subst, ◌∙◌}
 use Rattle.outcome_report.specs.inner.Hidden.{IsNotHidden}
 use Rattle.outcome_report.proofs.Hiding.{shows}
+use Rattle.outcome_report.proofs.Staying.{stays}
 use Rattle.outcome_report.proofs.hidden.show.Goals as goal
 
 pub returns-in-Register : goal.returns-in-Register
 returns-in-Register c =
     let w = shows c.args.hidden.now c.from.result c.index.result [] c.in-Register.core c.in-Register.reg c.from.ensures c.index.ensures.place
     (c.requires c.in-Register.core c.in-Register.reg c.in-Register.is) in
-    record { shown = subst (IsNotHidden _) (sym c.in-Register.is) w.shown; others = w.others; count = w.count }
+    record {
+      shown = subst (IsNotHidden _) (sym c.in-Register.is) w.shown;
+      others = w.others;
+      hidden = λ core reg differ.
+          stays c.args.hidden.now c.from.result c.index.result [] c.in-Register.core core c.in-Register.reg reg c.from.ensures c.index.ensures.place
+          (c.requires c.in-Register.core c.in-Register.reg c.in-Register.is) (λ same. differ (c.in-Register.is ∙ same));
+      count = w.count;
+    }

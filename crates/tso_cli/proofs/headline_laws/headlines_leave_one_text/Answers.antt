@@ -1,4 +1,5 @@
 use Rattle.tso_cli.proofs.OneTextLemmas.{AreDecided, runs-one, traces-one, sweeps-one, checks-one, witnesses-one}
+use Rattle.tso_cli.proofs.OneSearchLemmas.{searches-one}
 use Rattle.tso_cli.proofs.headline_laws.headlines_leave_one_text.Goals as goal
 
 pub returns : goal.returns
@@ -15,4 +16,6 @@ returns c =
       sweeps = λ kind config plan input out other. sweeps-one kind config plan input out other law decided;
       witnesses = λ depth input out other. witnesses-one depth input out other law decided;
       checks = λ input out other. checks-one input out other law decided;
+      outcomes = λ search json again input out other.
+          searches-one search json again input out other law decided c.outcomes_of_the_same_values_are_alike.ensures;
     }
