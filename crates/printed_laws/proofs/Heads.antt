@@ -56,7 +56,7 @@ line-small words (inl e) = omega (arith, e)
 line-small words (inr (inl e)) = omega (arith, e)
 line-small words (inr (inr e)) = omega (arith, e)
 
-printable-name : (name : List ℕ) → is_test_name name ≡ true → list_all is_printable name ≡ true
+pub printable-name : (name : List ℕ) → is_test_name name ≡ true → list_all is_printable name ≡ true
 printable-name [] is = absurd cc
 printable-name (c ∷ cs) is =
     let whole = and_parts _ _ is in

@@ -100,7 +100,7 @@ machine-depth kind c = by_bus c.bus
 
 -- ---- memory
 
-one-more : (k : List ℕ) (w : ℕ) (ms : Members) → IsWord w → MembersHaveNumbers (members_outline ms) → MembersHaveNumbers (members_outline (put k (count w) ms))
+pub one-more : (k : List ℕ) (w : ℕ) (ms : Members) → IsWord w → MembersHaveNumbers (members_outline ms) → MembersHaveNumbers (members_outline (put k (count w) ms))
 one-more k w no_members is all = (IsNumber-decimal w (omega (arith, is)), tt)
 one-more k w (member l d ms) is all = by_order (slice_cmp nat_cmp k l) (one-more k w ms is all.1)
   where
@@ -110,7 +110,7 @@ one-more k w (member l d ms) is all = by_order (slice_cmp nat_cmp k l) (one-more
     by_order Equal further = (IsNumber-decimal w (omega (arith, is)), all.1)
     by_order Greater further = (all.0, further)
 
-no-deeper : (k : List ℕ) (w : ℕ) (ms : Members) → members_depth (members_outline ms) ≤ 0 → members_depth (members_outline (put k (count w) ms)) ≤ 0
+pub no-deeper : (k : List ℕ) (w : ℕ) (ms : Members) → members_depth (members_outline ms) ≤ 0 → members_depth (members_outline (put k (count w) ms)) ≤ 0
 no-deeper k w no_members flat = omega arith
 no-deeper k w (member l d ms) flat = by_order (slice_cmp nat_cmp k l) (no-deeper k w ms (omega (arith, flat)))
   where

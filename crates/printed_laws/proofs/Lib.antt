@@ -11,3 +11,10 @@ pub mod JsonMemory
 pub mod JsonReports
 pub mod PrintedRuns
 pub mod Machines
+pub mod Digits
+pub mod Words
+pub mod Meaning
+pub mod Keys
+pub mod OutcomeLines
+pub mod OutcomeObjects
+pub mod StatesFit

@@ -42,7 +42,7 @@ values-stop t (named ∷ names) [] rest stops = stops
 values-stop t (Register core reg ∷ names) (value ∷ values) rest stops = refl
 values-stop t (Location loc ∷ names) (value ∷ values) rest stops = refl
 
-values-cut : (t : Litmus) (names : List Named) (xs ys rest other : List ℕ) → length xs ≡ length names → length ys ≡ length names → All IsWord xs → All IsWord ys
+pub values-cut : (t : Litmus) (names : List Named) (xs ys rest other : List ℕ) → length xs ≡ length names → length ys ≡ length names → All IsWord xs → All IsWord ys
     → Stops rest → Stops other → printed_values t names xs ++ rest ≡ printed_values t names ys ++ other → (xs ≡ ys) × (rest ≡ other)
 values-cut t [] [] [] rest other m n p q stops stops' e = (refl, e)
 values-cut t [] (x ∷ xs) ys rest other m n p q stops stops' e = absurd (omega (arith, m))
@@ -65,7 +65,7 @@ state-flat : (count values more rest : List ℕ) → ((codes "State " ++ (count 
 state-flat count values more rest = simp append_assoc
 
 -- the text doesn't begin as the line of a state does
-abbrev NoState : List ℕ → Type 0
+abbrev pub NoState : List ℕ → Type 0
 NoState rest = get_or rest 0 0 ≡ 83 → ⊥
 
 same-state : (a b : List ℕ × ℕ) → a.0 ≡ b.0 → a.1 ≡ b.1 → a ≡ b
@@ -141,7 +141,7 @@ observed-flat : (name word held failed : List ℕ) → codes "Observation " ++ (
     ≡ codes "Observation " ++ (name ++ (codes " " ++ (word ++ (codes " " ++ (held ++ (codes " " ++ (failed ++ 10 ∷ [])))))))
 observed-flat name word held failed = simp append_assoc
 
-observed-told : (name : List ℕ) (h f h' f' : ℕ) → h < 2 ^ 64 → f < 2 ^ 64 → h' < 2 ^ 64 → f' < 2 ^ 64 → observed_line name h f ≡ observed_line name h' f' → (h ≡ h') × (f ≡ f')
+pub observed-told : (name : List ℕ) (h f h' f' : ℕ) → h < 2 ^ 64 → f < 2 ^ 64 → h' < 2 ^ 64 → f' < 2 ^ 64 → observed_line name h f ≡ observed_line name h' f' → (h ≡ h') × (f ≡ f')
 observed-told name h f h' f' p q p' q' e =
     let at_failed = λ (failed : ℕ). codes " " ++ (decimal failed ++ 10 ∷ []) in
     let at_held = λ (held failed : ℕ). codes " " ++ (decimal held ++ at_failed failed) in

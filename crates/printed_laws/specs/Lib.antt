@@ -1,2 +1,4 @@
 pub mod Telling
 pub mod OfRuns
+pub mod Outcomes
+pub mod Observed

@@ -1,8 +1,8 @@
 //! What is printed tells what it shows: no form of an answer loses a part of it, and none prints two things alike.
 //!
 //! Nothing here computes. Each public function has no code of its own, and its contract is a law on the definitions of what
-//! `run` and `sweep` print. What the laws say stands in `specs/`: of what may be shown and counted, and of the runs of a
-//! machine.
+//! `run`, `sweep` and `outcomes` print. What the laws say stands in `specs/`: of what may be shown and counted, of the runs of a
+//! machine, and of final states and what is observed of them.
 #![tactic(auto)]
 
 ghost use Rattle.std.specs.Prelude.{true, false};
@@ -10,7 +10,13 @@ ghost use Rattle.printed_laws.specs.OfRuns.{PrintedRunsAreTold};
 ghost use Rattle.printed_laws.specs.Telling.{ReportsTellTheirMachines, ReportsTellTheirRuns};
 ghost use Rattle.printed_laws.specs.Telling.{SweepsTellTheirCounts, SweepsTellTheirMachines, UnfinishedRunsAreTold};
 
+pub mod outcomes;
+
 use order_builder::laws::{order_is_spelled_once, printed_order_is_spelled};
+pub use outcomes::{
+    outcomes_tell_their_states, outcomes_tell_their_tests, printed_states_fit_their_test,
+    words_mean_what_they_say,
+};
 use tso_cli::laws::runs_fit_their_tests;
 use tso_report::laws::{report_spells_its_order, reports_are_short};
 

@@ -1,0 +1,172 @@
+-- The word that is printed of a condition is that of its counts.
+use Rattle.std.proofs.Common.{◌≡◌, ◌∙◌, ℕ, ◌<◌, ◌==◌, Bool, true, false, not, cond, List, [], ◌∷◌, ◌++◌, length, get_or, Option, Some, None, refl, sym, ap, subst, eqb-true, arith}
+use Rattle.std.specs.Prelude.{codes}
+use Rattle.std.specs.Fmt.{decimal}
+use Rattle.std.specs.List.{list_all}
+use Rattle.std.proofs.lemmas.List.{append_assoc, append_cancel_left}
+use Rattle.json.specs.Print.{escape, escape_byte}
+use Rattle.serde_json.specs.Data.{Data, string, object, no_members, member}
+use Rattle.serde_json.specs.Written.{compact_text}
+use Rattle.tso_model.specs.Litmus.{Litmus}
+use Rattle.tso_model.specs.Condition.{Condition}
+use Rattle.tso_report.specs.Report.{line, test_line}
+use Rattle.tso_report.specs.Json.{count}
+use Rattle.tso_report.specs.Tally.{frequency}
+use Rattle.outcome_report.specs.Outcomes.{Outcome, outcomes_line, outcome_lines, outcomes_text, observation_line, unfinished_line, held_in, failed_in}
+use Rattle.outcome_report.specs.OutcomesJson.{states_value, observed_value, observation_value, unfinished_json}
+use Rattle.outcome_report.specs.Printed.{outcomes_in, unfinished_search_in}
+use Rattle.printed_laws.specs.Observed.{EndsInWord, HasWordInObject, PrintsWord}
+use Rattle.printed_laws.proofs.Cutting.{Stops, run-cut}
+use Rattle.printed_laws.proofs.Digits.{all-digits, is_no_space, number-no-space, both-no-space, last-cut, space-there}
+use Rattle.std.specs.Char.{is_ascii_digit}
+
+-- ---- lines
+
+frequency-no-space : (held failed : ℕ) → list_all is_no_space (frequency held failed) ≡ true
+frequency-no-space held failed = by (held == 0) (failed == 0)
+  where
+    by : (never always : Bool) → list_all is_no_space (cond never (codes "Never") (cond always (codes "Always") (codes "Sometimes"))) ≡ true
+    by true always = refl
+    by false true = refl
+    by false false = refl
+
+-- the last words of a line: what stands before, the word, and two numbers
+grouped : (front word held failed : List ℕ) → front ++ (codes " " ++ (word ++ (codes " " ++ (held ++ (codes " " ++ line failed)))))
+    ≡ ((front ++ 32 ∷ word) ++ 32 ∷ held) ++ 32 ∷ (failed ++ 10 ∷ [])
+grouped front word held failed = simp append_assoc
+
+line-flat : (test first states name word held failed : List ℕ)
+    → test ++ (first ++ (states ++ (codes "Observation " ++ (name ++ line (codes " " ++ (word ++ (codes " " ++ (held ++ (codes " " ++ failed)))))))))
+    ≡ (test ++ (first ++ (states ++ (codes "Observation " ++ name)))) ++ (codes " " ++ (word ++ (codes " " ++ (held ++ (codes " " ++ line failed)))))
+line-flat test first states name word held failed = simp append_assoc
+
+last-word : (front other word again : List ℕ) (h f k g : ℕ) → list_all is_no_space word ≡ true → list_all is_no_space again ≡ true
+    → front ++ (codes " " ++ (word ++ (codes " " ++ (decimal h ++ (codes " " ++ line (decimal f))))))
+    ≡ other ++ (codes " " ++ (again ++ (codes " " ++ (decimal k ++ (codes " " ++ line (decimal g)))))) → word ≡ again
+last-word front other word again h f k g p q e =
+    let flat = sym (grouped front word (decimal h) (decimal f)) ∙ (e ∙ grouped other again (decimal k) (decimal g)) in
+    let failed = last-cut _ _ _ _ (both-no-space (decimal f) (10 ∷ []) (number-no-space f) refl) (both-no-space (decimal g) (10 ∷ []) (number-no-space g) refl) flat in
+    let held = last-cut _ _ _ _ (number-no-space h) (number-no-space k) failed.0 in
+    (last-cut _ _ _ _ p q held.0).1
+
+in-lines : (t : Litmus) (condition : Condition) (depth : ℕ) (outcomes : List Outcome) (word : List ℕ) → list_all is_no_space word ≡ true
+    → EndsInWord word (test_line t ++ (outcomes_line depth (length outcomes) ++ (outcome_lines t outcomes ++ observation_line t.name (Some condition) outcomes)))
+    → frequency (held_in condition.claim outcomes) (failed_in condition.claim outcomes) ≡ word
+in-lines t condition depth outcomes word plain says =
+    let h = held_in condition.claim outcomes in
+    let f = failed_in condition.claim outcomes in
+    let flat = line-flat (test_line t) (outcomes_line depth (length outcomes)) (outcome_lines t outcomes) t.name (frequency h f) (decimal h) (decimal f) in
+    last-word (test_line t ++ (outcomes_line depth (length outcomes) ++ (outcome_lines t outcomes ++ (codes "Observation " ++ t.name)))) says.front (frequency h f) word h f says.held says.failed
+    (frequency-no-space h f) plain (sym flat ∙ says.text)
+
+-- the line of a search that met its limit has one space
+unfinished-flat : (limit : List ℕ) → codes "Unfinished states=" ++ line limit ≡ codes "Unfinished" ++ 32 ∷ (codes "states=" ++ (limit ++ 10 ∷ []))
+unfinished-flat limit = refl
+
+no-word : (limit : ℕ) (word : List ℕ) → EndsInWord word (unfinished_line limit) → ⊥
+no-word limit word says =
+    let flat = says.text ∙ grouped says.front word (decimal says.held) (decimal says.failed) in
+    let rest : list_all is_no_space (codes "states=" ++ (decimal limit ++ 10 ∷ [])) ≡ true =
+    both-no-space (codes "states=") (decimal limit ++ 10 ∷ []) refl (both-no-space (decimal limit) (10 ∷ []) (number-no-space limit) refl) in
+    let cut = last-cut (codes "Unfinished") _ _ _ rest (both-no-space (decimal says.failed) (10 ∷ []) (number-no-space says.failed) refl) flat in
+    let all : list_all is_no_space (codes "Unfinished") ≡ true = refl in
+    space-there (says.front ++ 32 ∷ word) (decimal says.held) (subst (λ (l : List ℕ). list_all is_no_space l ≡ true) cut.0 all)
+
+-- ---- JSON
+
+frequency-plain : (held failed : ℕ) → escape (frequency held failed) ≡ frequency held failed
+unfolding escape_byte
+frequency-plain held failed = by (held == 0) (failed == 0)
+  where
+    by : (never always : Bool) → escape (cond never (codes "Never") (cond always (codes "Always") (codes "Sometimes"))) ≡ cond never (codes "Never") (cond always (codes "Always") (codes "Sometimes"))
+    by true always = refl
+    by false true = refl
+    by false false = refl
+
+observed-text : (held failed : ℕ)
+    → compact_text (observed_value held failed) ≡ codes "{\"false\":" ++ (decimal failed ++ (codes ",\"true\":" ++ (decimal held ++ (codes ",\"word\":\"" ++ (frequency held failed ++ codes "\"}")))))
+unfolding escape_byte
+observed-text held failed =
+    let before : List ℕ → List ℕ = λ rest. codes "{\"false\":" ++ (decimal failed ++ (codes ",\"true\":" ++ (decimal held ++ (codes ",\"word\":\"" ++ rest)))) in
+    ap before (append_assoc (escape (frequency held failed)) (34 ∷ []) (125 ∷ [])) ∙ ap (λ (word : List ℕ). before (word ++ codes "\"}")) (frequency-plain held failed)
+
+object-flat : (depth failed held word states name : List ℕ)
+    → line (codes "{\"depth\":" ++ (depth ++ (codes ",\"observation\":" ++ ((codes "{\"false\":" ++ (failed ++ (codes ",\"true\":" ++ (held ++ (codes ",\"word\":\"" ++ (word ++ codes "\"}"))))))
+    ++ (codes ",\"states\":" ++ (states ++ (codes ",\"test\":" ++ (name ++ codes "}"))))))))
+    ≡ codes "{\"depth\":" ++ (depth ++ (codes ",\"observation\":{\"false\":" ++ (failed ++ (codes ",\"true\":" ++ (held ++ (codes ",\"word\":\"" ++ (word
+    ++ (34 ∷ (codes "}" ++ (codes ",\"states\":" ++ (states ++ (codes ",\"test\":" ++ (name ++ codes "}\n")))))))))))))
+object-flat depth failed held word states name = simp append_assoc
+
+-- the object, where the test has a condition
+abbrev object_value : Litmus → Condition → ℕ → List Outcome → Data
+object_value t condition depth outcomes =
+    object (member (codes "depth") (count depth)
+    (member (codes "observation") (observation_value (Some condition) outcomes)
+    (member (codes "states") (states_value t outcomes)
+    (member (codes "test") (string t.name) no_members))))
+
+object-text : (t : Litmus) (condition : Condition) (depth : ℕ) (outcomes : List Outcome)
+    → line (compact_text (object_value t condition depth outcomes))
+    ≡ line (codes "{\"depth\":" ++ (decimal depth ++ (codes ",\"observation\":" ++ (compact_text (observed_value (held_in condition.claim outcomes) (failed_in condition.claim outcomes))
+    ++ (codes ",\"states\":" ++ (compact_text (states_value t outcomes) ++ (codes ",\"test\":" ++ (compact_text (string t.name) ++ codes "}"))))))))
+unfolding escape_byte
+object-text t condition depth outcomes = refl
+
+-- the word of an object stands before a quotation mark, and has none
+abbrev pub is_unquoted : ℕ → Bool
+is_unquoted b = not (b == 34)
+
+same-word : (depth other failed other_failed held other_held : ℕ) (word again back rest : List ℕ) → list_all is_unquoted word ≡ true → list_all is_unquoted again ≡ true
+    → codes "{\"depth\":" ++ (decimal depth ++ (codes ",\"observation\":{\"false\":" ++ (decimal failed ++ (codes ",\"true\":" ++ (decimal held ++ (codes ",\"word\":\"" ++ (word ++ 34 ∷ back)))))))
+    ≡ codes "{\"depth\":" ++ (decimal other ++ (codes ",\"observation\":{\"false\":" ++ (decimal other_failed ++ (codes ",\"true\":" ++ (decimal other_held ++ (codes ",\"word\":\"" ++ (again ++ 34 ∷ rest)))))))
+    → word ≡ again
+same-word depth other failed other_failed held other_held word again back rest p q e =
+    let cut = λ (front : List ℕ) (m n : ℕ) (xs ys : List ℕ) (stops : Stops xs) (stops' : Stops ys) (same : front ++ (decimal m ++ xs) ≡ front ++ (decimal n ++ ys)).
+    (run-cut is_ascii_digit (decimal m) (decimal n) xs ys (all-digits m) (all-digits n) stops stops' (append_cancel_left front _ _ same)).1 in
+    let after_depth = cut (codes "{\"depth\":") depth other _ _ refl refl e in
+    let after_failed = cut (codes ",\"observation\":{\"false\":") failed other_failed _ _ refl refl after_depth in
+    let after_held = cut (codes ",\"true\":") held other_held _ _ refl refl after_failed in
+    let words = append_cancel_left (codes ",\"word\":\"") (word ++ 34 ∷ back) (again ++ 34 ∷ rest) after_held in
+    (run-cut is_unquoted word again (34 ∷ back) (34 ∷ rest) p q refl refl words).0
+
+frequency-unquoted : (held failed : ℕ) → list_all is_unquoted (frequency held failed) ≡ true
+frequency-unquoted held failed = by (held == 0) (failed == 0)
+  where
+    by : (never always : Bool) → list_all is_unquoted (cond never (codes "Never") (cond always (codes "Always") (codes "Sometimes"))) ≡ true
+    by true always = refl
+    by false true = refl
+    by false false = refl
+
+in-object : (t : Litmus) (condition : Condition) (depth : ℕ) (outcomes : List Outcome) (word : List ℕ) → list_all is_unquoted word ≡ true
+    → HasWordInObject word (line (compact_text (object_value t condition depth outcomes))) → frequency (held_in condition.claim outcomes) (failed_in condition.claim outcomes) ≡ word
+in-object t condition depth outcomes word plain says =
+    let h = held_in condition.claim outcomes in
+    let f = failed_in condition.claim outcomes in
+    let flat = object-text t condition depth outcomes
+    ∙ ap (λ (l : List ℕ). line (codes "{\"depth\":" ++ (decimal depth ++ (codes ",\"observation\":" ++ (l ++ (codes ",\"states\":" ++ (compact_text (states_value t outcomes) ++ (codes ",\"test\":" ++ (compact_text (string t.name) ++ codes "}"))))))))) (observed-text h f)
+    ∙ object-flat (decimal depth) (decimal f) (decimal h) (frequency h f) (compact_text (states_value t outcomes)) (compact_text (string t.name)) in
+    same-word depth says.depth f says.failed h says.held (frequency h f) word _ _ (frequency-unquoted h f) plain (sym flat ∙ says.text)
+
+third-byte : (t : Litmus) (limit : ℕ) → get_or (unfinished_json t limit) 2 0 ≡ 116
+unfolding escape_byte
+third-byte t limit = refl
+
+no-word-in-object : (t : Litmus) (limit : ℕ) (word : List ℕ) → HasWordInObject word (unfinished_json t limit) → ⊥
+no-word-in-object t limit word says = omega (arith, sym (third-byte t limit) ∙ ap (λ (l : List ℕ). get_or l 2 0) says.text)
+
+-- ---- either form
+
+pub word-is : (json : Bool) (t : Litmus) (condition : Condition) (depth : ℕ) (outcomes : List Outcome) (word : List ℕ) → t.condition ≡ Some condition
+    → list_all is_no_space word ≡ true → list_all is_unquoted word ≡ true
+    → PrintsWord json word (outcomes_in json t depth outcomes) → frequency (held_in condition.claim outcomes) (failed_in condition.claim outcomes) ≡ word
+word-is false t condition depth outcomes word is plain unquoted says =
+    in-lines t condition depth outcomes word plain
+    (subst (λ c. EndsInWord word (test_line t ++ (outcomes_line depth (length outcomes) ++ (outcome_lines t outcomes ++ observation_line t.name c outcomes)))) is says)
+word-is true t condition depth outcomes word is plain unquoted says =
+    in-object t condition depth outcomes word unquoted
+    (subst (λ c. HasWordInObject word (line (compact_text (object (member (codes "depth") (count depth) (member (codes "observation") (observation_value c outcomes)
+    (member (codes "states") (states_value t outcomes) (member (codes "test") (string t.name) no_members)))))))) is says)
+
+pub word-isnt : (json : Bool) (t : Litmus) (limit : ℕ) (word : List ℕ) → PrintsWord json word (unfinished_search_in json t limit) → ⊥
+word-isnt false t limit word says = no-word limit word says
+word-isnt true t limit word says = no-word-in-object t limit word says
