@@ -1,2 +1,4 @@
 mod TracedRuns
 mod ExactSearches
+mod LinesAgain
+mod NoMore

@@ -11,6 +11,7 @@ pub mod limits;
 pub mod machines;
 pub mod orders;
 pub mod readings;
+pub mod searched;
 pub mod searches;
 pub mod sets;
 pub mod simulations;

@@ -1,0 +1,99 @@
+-- The two lines of each state stand in the text of `outcomes`.
+use Rattle.std.proofs.Common.{◌≡◌, ◌∙◌, ◌<◌, ℕ, Bool, false, List, [], ◌∷◌, ◌++◌, length, All, IfOk, Ok, Err, Result, Some, None, Option, refl, sym, ap, subst}
+use Rattle.std.specs.Prelude.{codes}
+use Rattle.std.specs.Fmt.{decimal}
+use Rattle.std.specs.List.{AllByRecursion}
+use Rattle.std.proofs.lemmas.List.{append_assoc}
+use Rattle.std.proofs.lemmas.List.Elements.{All-from_recursion, recursion_from_All}
+use Rattle.tso_model.specs.Litmus.{Litmus, IsTest}
+use Rattle.tso_model.specs.declared.choice.Choice.{Choice}
+use Rattle.tso_model.specs.declared.choice.Choice.TheVariants.{Step, Drain}
+use Rattle.scheduler.specs.Printed.{printed_choice, printed_after, printed_choices}
+use Rattle.protocol_tables.specs.declared.kind.ProtocolKind.{ProtocolKind}
+use Rattle.machine_core.specs.Configuration.{Configuration}
+use Rattle.tso_report.specs.Report.{line, test_line}
+use Rattle.outcome_report.specs.Outcomes.{Outcome, shown_values, outcomes_line, state_line, by_line, outcome_lines, outcomes_text, observation_line}
+use Rattle.tso_cli.specs.Revisited.{IsRevisited, AreRevisited}
+use Rattle.tso_cli.specs.SweepHeadline.{HasPart}
+use Rattle.promises.specs.Searched.{line_by, IsRunAgain, LinesAreRunAgain}
+
+-- ---- `By`
+
+with-some : (xs ys : List ℕ) (y : ℕ) → line_by (xs ++ y ∷ ys) ≡ codes "By " ++ line (xs ++ y ∷ ys)
+with-some [] ys y = refl
+with-some (x ∷ xs) ys y = refl
+
+line-is : (choices : List Choice) → by_line choices ≡ line_by (printed_choices choices)
+line-is [] = refl
+line-is (Step core ∷ rest) =
+    let text : (decimal core.0 ++ codes "s") ++ printed_after rest ≡ decimal core.0 ++ 115 ∷ printed_after rest = append_assoc (decimal core.0) (codes "s") (printed_after rest) in
+    ap (λ (l : List ℕ). codes "By " ++ line l) text ∙ sym (with-some (decimal core.0) (printed_after rest) 115) ∙ ap line_by (sym text)
+line-is (Drain core ∷ rest) =
+    let text : (decimal core.0 ++ codes "d") ++ printed_after rest ≡ decimal core.0 ++ 100 ∷ printed_after rest = append_assoc (decimal core.0) (codes "d") (printed_after rest) in
+    ap (λ (l : List ℕ). codes "By " ++ line l) text ∙ sym (with-some (decimal core.0) (printed_after rest) 100) ∙ ap line_by (sym text)
+
+-- ---- both lines
+
+abbrev both_lines : Litmus → Outcome → List ℕ
+both_lines t o = state_line t (shown_values t o) ++ by_line o.choices
+
+regrouped : (front state by more back : List ℕ) → front ++ ((state ++ (by ++ more)) ++ back) ≡ front ++ ((state ++ by) ++ (more ++ back))
+regrouped front state by more back = simp append_assoc
+
+one-further : (front state by more back : List ℕ) → front ++ ((state ++ (by ++ more)) ++ back) ≡ (front ++ (state ++ by)) ++ (more ++ back)
+one-further front state by more back = simp append_assoc
+
+lines-stand : (t : Litmus) (front : List ℕ) (outcomes : List Outcome) (back : List ℕ)
+    → AllByRecursion (λ o. HasPart (front ++ (outcome_lines t outcomes ++ back)) (both_lines t o)) outcomes
+lines-stand t front [] back = tt
+lines-stand t front (o ∷ rest) back =
+    let state = state_line t (shown_values t o) in
+    let by = by_line o.choices in
+    let more = outcome_lines t rest in (
+      (front, more ++ back, regrouped front state by more back),
+      subst (λ (text : List ℕ). AllByRecursion (λ p. HasPart text (both_lines t p)) rest) (sym (one-further front state by more back)) (lines-stand t (front ++ (state ++ by)) rest back),
+    )
+
+all-stand : (t : Litmus) (depth : ℕ) (outcomes : List Outcome) → AllByRecursion (λ o. HasPart (outcomes_text t depth outcomes) (both_lines t o)) outcomes
+all-stand t depth outcomes =
+    let first = test_line t in
+    let second = outcomes_line depth (length outcomes) in
+    let last = observation_line t.name t.condition outcomes in
+    subst (λ (text : List ℕ). AllByRecursion (λ o. HasPart text (both_lines t o)) outcomes) (append_assoc first second (outcome_lines t outcomes ++ last))
+    (lines-stand t (first ++ second) outcomes last)
+
+-- ---- each is run again
+
+module _ (kind : ProtocolKind) (c : Configuration) (json : Bool) (test : List ℕ) (t : Litmus) (out : List ℕ) where
+  again : (outcomes : List Outcome) → AllByRecursion (λ o. HasPart out (both_lines t o)) outcomes → AllByRecursion (IsRevisited kind c json test t) outcomes
+      → AllByRecursion (λ o. IsRunAgain kind c json t test out (printed_choices o.choices)) outcomes
+  again [] stand revisited = tt
+  again (o ∷ rest) stand revisited = (
+    λ answer status answered.
+        let report = revisited.0 answer status answered in
+        let values = report.0.values_are in (
+          record {
+            shown = report.0.shown;
+            printed = report.0.printed;
+            lines = subst (λ (l : List ℕ). HasPart out (state_line t l ++ line_by (printed_choices o.choices))) (sym values)
+                (subst (λ (l : List ℕ). HasPart out (state_line t (shown_values t o) ++ l)) (line-is o.choices) stand.0);
+            stalled = report.0.stalled;
+            unused = report.0.unused;
+          },
+          report.1,
+        ),
+    again rest stand.1 revisited.1,
+  )
+
+pub lines-again : (kind : ProtocolKind) (c : Configuration) (json : Bool) (test out : List ℕ) → AreRevisited kind c json false test out → LinesAreRunAgain kind c json test out
+lines-again kind c json test out r =
+    let t = r.t in
+    let stand = subst (λ (text : List ℕ). AllByRecursion (λ o. HasPart text (both_lines t o)) r.outcomes) (sym r.printed) (all-stand t c.depth r.outcomes) in
+    record {
+      t = t;
+      spelled = r.spelled;
+      outcomes = r.outcomes;
+      text = r.printed;
+      each = All-from_recursion (λ o. IsRunAgain kind c json t test out (printed_choices o.choices)) r.outcomes
+          (again kind c json test t out r.outcomes stand (recursion_from_All (IsRevisited kind c json test t) r.outcomes r.each));
+    }

@@ -1,0 +1,81 @@
+//! Final states, once more: what needs no deeper buffers is found, registers that nobody looks at are hidden, and each line `By` of
+//! a text leads to the line above it.
+
+ghost use Rattle.std.specs.Prelude.{◌≡◌, ◌<◌, ℕ, Bool, true, false, IfOk, List, length, Some, None};
+ghost use Rattle.tso_model.specs.Condition.{Condition};
+ghost use Rattle.tso_model.specs.declared.choice.Bus.TheVariants.{Atomic};
+ghost use Rattle.tso_model.specs.declared.register.Reg.{Reg};
+ghost use Rattle.outcome_laws.specs.Outcomes.{IsAllowed};
+ghost use Rattle.explorer.specs.FinalStates.{AreWhat};
+ghost use Rattle.protocol_tables.specs.declared.kind.ProtocolKind.{ProtocolKind};
+ghost use Rattle.machine_core.specs.Configuration.{Configuration};
+ghost use Rattle.tso_report.specs.Tally.{names_register};
+ghost use Rattle.outcome_report.specs.Hidden.{IsHidden};
+ghost use Rattle.command_line.specs.Limits.{IsWithinLimits};
+ghost use Rattle.command_line.specs.Search.{Search};
+ghost use Rattle.command_line.specs.declared.settings.Settings.{Settings};
+ghost use Rattle.commands.specs.Dividing.{parts_of, IsJoinable};
+ghost use Rattle.commands.specs.declared.answer.Status.{Status};
+ghost use Rattle.commands.specs.declared.answer.Status.TheVariants.{Good};
+ghost use Rattle.tso_cli.specs.Answers.{IsAnswer};
+ghost use Rattle.tso_cli.specs.OneSearch.{AreOneSearch};
+ghost use Rattle.promises.specs.Searched.{LinesAreRunAgain};
+
+use explorer::{Exploration, ExploreFault, explore};
+use outcome_laws::ends_are_what_tso_allows;
+use outcome_report::hidden_registers;
+use std::alloc::Global;
+use tso_cli::headline_laws::headlines_leave_one_text;
+use tso_cli::laws::{answers_meet_the_headline, searches_reach_their_states};
+use tso_model::{NoMemory, Test};
+
+/// With store buffers a search finds the final states of the TSO executions that need no deeper ones, but for registers that nobody
+/// looks at.
+pub fn a_search_finds_what_needs_no_more(
+    alloc: Global,
+    test: &Test,
+    depth: u8,
+    limit: usize,
+    hidden: &[[bool; 6]],
+) -> Result<Exploration, ExploreFault>
+    ensures { IfOk result (λ x. 0 < depth → AreWhat (IsAllowed test.now depth) hidden.now x.final_states.items) }
+{
+    ends_are_what_tso_allows();
+    test.know_limits();
+    explore(alloc, test, depth, limit, hidden)
+}
+
+/// A register that no atom of the condition names is hidden; without a condition each register is.
+pub fn what_nobody_looks_at_is_hidden(
+    alloc: Global,
+    test: &Test,
+) -> Result<Vec<[bool; 6]>, NoMemory>
+    ensures unnamed { IfOk result (λ hidden. (c : Condition) (core : ℕ) (reg : Reg) → test.now.condition ≡ Some c
+        → core < length test.now.programs → names_register c.claim core reg ≡ false → IsHidden hidden.items core reg) }
+    ensures without { IfOk result (λ hidden. (core : ℕ) (reg : Reg) → test.now.condition ≡ None
+        → core < length test.now.programs → IsHidden hidden.items core reg) }
+{
+    hidden_registers(alloc, test)
+}
+
+/// What stands behind `By` in the text of `outcomes`, handed to `run` at the same depth on the atomic bus with the same test, ends
+/// with the values of the line above.
+pub fn each_line_by_leads_to_the_line_above()
+    ensures { (kind : ProtocolKind) (c : Configuration) (search : Search) (json : Bool) (input out : List ℕ)
+        → c.bus ≡ Atomic → search.depth ≡ c.depth → IsWithinLimits (Settings.Run kind c json) → IsJoinable (parts_of input).test
+        → IsAnswer (Settings.Outcomes search false) (Some input) out Good → LinesAreRunAgain kind c json (parts_of input).test out }
+{
+    searches_reach_their_states();
+}
+
+/// Lines and JSON of one input show one search: the same states and the same counts, of the test that was given.
+pub fn both_forms_show_one_search()
+    ensures { (search : Search) (input out object : List ℕ) (status again : Status)
+        → IsWithinLimits (Settings.Outcomes search false) → IsWithinLimits (Settings.Outcomes search true)
+        → IsAnswer (Settings.Outcomes search false) (Some input) out status
+        → IsAnswer (Settings.Outcomes search true) (Some input) object again
+        → AreOneSearch (parts_of input).test search false true out object }
+{
+    answers_meet_the_headline();
+    headlines_leave_one_text();
+}
