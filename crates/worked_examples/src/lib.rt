@@ -13,6 +13,7 @@ pub mod limits;
 pub mod names;
 pub mod order;
 pub mod outcomes;
+pub mod searches;
 pub mod sets;
 pub mod split_outcomes;
 pub mod tables;
@@ -29,6 +30,7 @@ pub use limits::{numbers_of_machines, numbers_of_tests, numbers_of_texts};
 pub use names::{worked_location_names, worked_register_names, worked_test_names};
 pub use order::{worked_due_values, worked_kinds_of_entries, worked_pairs, worked_program_order};
 pub use outcomes::{worked_outcomes, worked_stalls};
+pub use searches::worked_reachable_states;
 pub use sets::{worked_fills, worked_set_calls};
 pub use split_outcomes::{worked_split_outcomes, worked_split_stalls};
 pub use tables::{

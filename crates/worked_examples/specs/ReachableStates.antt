@@ -1,0 +1,10 @@
+-- Two cores that store to a location each.
+use Rattle.std.specs.Prelude.{[], ◌∷◌}
+use Rattle.tso_model.specs.Litmus.{Litmus}
+use Rattle.tso_model.specs.declared.instruction.Instr.TheVariants.{StoreImm}
+use Rattle.worked_examples.specs.Written.{loc_x, loc_y}
+use Rattle.worked_examples.specs.inner.SharedBus.{shared}
+
+-- MOV [x],$7 | MOV [y],$8
+abbrev pub two_stores : Litmus
+two_stores = shared (StoreImm loc_x 7 ∷ []) (StoreImm loc_y 8 ∷ [])
