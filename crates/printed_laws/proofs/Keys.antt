@@ -1,19 +1,17 @@
 -- The keys of what is looked at differ: a register's has a colon, behind its core's number, and no location's name has one.
-use Rattle.std.proofs.Common.{◌≡◌, ◌≢◌, ◌∙◌, ℕ, zero, suc, ◌+◌, ◌^◌, ◌<◌, ◌≤◌, Bool, true, false, not, cond, ◌&&◌, ◌||◌, List, [], ◌∷◌, ◌++◌, map, filter, length, slice_index_or, refl, sym, ap, subst, eq-eqb, arith}
+use Rattle.std.proofs.Common.{◌≡◌, ◌≢◌, ◌∙◌, ℕ, zero, suc, ◌+◌, ◌^◌, ◌<◌, Bool, true, false, not, cond, ◌&&◌, ◌||◌, List, [], ◌∷◌, ◌++◌, map, filter, length, slice_index_or, refl, sym, ap, subst, eq-eqb, arith}
 use Rattle.std.specs.Prelude.{codes}
 use Rattle.std.specs.Fmt.{decimal}
 use Rattle.std.specs.Str.{bytes_eq}
-use Rattle.std.specs.List.{AllByRecursion, list_any, list_all}
+use Rattle.std.specs.List.{AllByRecursion, list_all}
 use Rattle.std.proofs.lemmas.Bool.{and_parts, and_from}
 use Rattle.std.proofs.lemmas.List.{append_assoc, length-append, map-append}
 use Rattle.std.proofs.lemmas.List.Folds.{list_any-append}
 use Rattle.std.proofs.lemmas.Slice.Eq.{bytes_eq-Decides}
 use Rattle.tso_model.specs.Litmus.{Litmus, IsTest, are_distinct}
-use Rattle.tso_model.specs.Names.{is_among, is_name, is_location_name, begins_name, continues_name, is_register_word, is_keyword}
-use Rattle.tso_model.specs.Registers.{name_of}
-use Rattle.tso_report.specs.declared.named.Named.{Named}
+use Rattle.tso_model.specs.Names.{is_among, is_name, is_location_name, continues_name}
 use Rattle.tso_report.specs.Report.{all_registers}
-use Rattle.tso_report.specs.Tally.{looked_at, is_looked_at, register_of, location, named_registers, named_locations}
+use Rattle.tso_report.specs.Tally.{looked_at, is_looked_at, register_of, named_registers, named_locations}
 use Rattle.outcome_report.specs.OutcomesJson.{key_of}
 use Rattle.printed_laws.proofs.Cutting.{number-cut}
 

@@ -1,27 +1,22 @@
 -- What the word of a condition means: for each end of the machine's runs, and for each execution.
-use Rattle.std.proofs.Common.{◌≡◌, ◌∙◌, ◌⊎◌, inl, inr, ◌<◌, ◌≤◌, ◌+◌, ◌==◌, ◌↔◌, ℕ, zero, suc, Bool, true, false, not, cond, List, [], ◌∷◌, ◌++◌, map, length, get_or, Contains, Option, Some, refl, sym, ap, subst, eqb-true, arith}
+use Rattle.std.proofs.Common.{◌≡◌, ◌∙◌, ◌<◌, ◌+◌, ◌==◌, ℕ, zero, suc, Bool, true, false, not, cond, List, [], ◌∷◌, map, length, get_or, Contains, Some, refl, sym, ap, subst, eqb-true, arith}
 use Rattle.std.specs.Prelude.{codes, count_by}
 use Rattle.std.specs.List.{list_all}
 use Rattle.std.proofs.lemmas.List.Elements.{All-contains}
 use Rattle.std.proofs.lemmas.List.Sums.{sum_by-cons}
 use Rattle.tso_model.specs.Litmus.{Litmus, IsTest}
-use Rattle.tso_model.specs.Limits.{most_depth}
 use Rattle.tso_model.specs.Condition.{Claim, Condition, truth_of}
-use Rattle.tso_model.specs.Axioms.{IsTsoExecution}
 use Rattle.tso_model.specs.FinalState.{final_words, final_registers}
 use Rattle.tso_model.specs.FlatMachine.{registers_in}
-use Rattle.tso_model.specs.Runs.{run, CoresExist}
-use Rattle.tso_model.specs.declared.choice.Choice.{Choice}
-use Rattle.tso_model.specs.declared.execution.Entry.{Entry}
-use Rattle.tso_laws.specs.Depth.{needed}
-use Rattle.outcome_laws.specs.Outcomes.{IsEnd, IsSequentiallyConsistent, EndsAreWhatTsoAllows}
+use Rattle.tso_model.specs.Runs.{run}
+use Rattle.outcome_laws.specs.Outcomes.{IsEnd, EndsAreWhatTsoAllows}
 use Rattle.litmus_reader.specs.Spelling.{SpellsTest}
 use Rattle.tso_report.specs.Tally.{values_in, frequency}
 use Rattle.outcome_report.specs.Outcomes.{Outcome, shown_values, held_in, failed_in}
 use Rattle.outcome_report.specs.Laws.{TruthIsShown}
 use Rattle.commands.specs.Dividing.{parts_of}
 use Rattle.commands.proofs.FoundOutcomes.{Leads, made-of}
-use Rattle.tso_cli.specs.OutcomesHeadline.{AreExactly, PrintsAllOutcomes, HeadlineOfOutcomes, all, too_many}
+use Rattle.tso_cli.specs.OutcomesHeadline.{PrintsAllOutcomes, HeadlineOfOutcomes, all, too_many}
 use Rattle.tso_cli.specs.SweepHeadline.{values_after}
 use Rattle.printed_laws.specs.Observed.{PrintsWord, IsSoEverywhere, IsSoSomewhere, IsSoNowhere, IsAlwaysSo, IsSometimesSo, WordMeans}
 use Rattle.printed_laws.proofs.Digits.{is_no_space}

@@ -1,6 +1,6 @@
 -- The lines of `outcomes` tell the states, and in how many the condition's proposition is true and false.
-use Rattle.std.proofs.Common.{◌≡◌, ◌∙◌, ℕ, ◌+◌, ◌^◌, ◌<◌, ◌≤◌, ◌==◌, Bool, true, false, not, List, [], ◌∷◌, ◌++◌, map, drop, length, get_or, All, Option, Some, None, refl, sym, ap, subst, arith}
-use Rattle.std.specs.Prelude.{codes, count_by}
+use Rattle.std.proofs.Common.{◌≡◌, ◌∙◌, ℕ, ◌^◌, ◌<◌, ◌==◌, Bool, true, false, not, List, [], ◌∷◌, ◌++◌, map, drop, length, get_or, All, Option, Some, None, refl, sym, ap, subst, arith}
+use Rattle.std.specs.Prelude.{codes}
 use Rattle.std.specs.Option.{ForSome}
 use Rattle.std.specs.Fmt.{decimal}
 use Rattle.std.specs.List.{list_all}
@@ -11,7 +11,7 @@ use Rattle.std.proofs.lemmas.List.{append_assoc, append_cancel_left}
 use Rattle.std.proofs.lemmas.List.Elements.{All-head, All-tail}
 use Rattle.std.proofs.lemmas.List.Folds.{list_all-append}
 use Rattle.std.proofs.lemmas.List.Sums.{count_by-le-length}
-use Rattle.tso_model.specs.Litmus.{Litmus, IsTest}
+use Rattle.tso_model.specs.Litmus.{Litmus}
 use Rattle.tso_model.specs.Names.{is_printable}
 use Rattle.tso_model.specs.Condition.{Condition, truth_of}
 use Rattle.tso_model.specs.declared.choice.Choice.{Choice}
@@ -19,9 +19,9 @@ use Rattle.tso_model.specs.declared.choice.Choice.TheVariants.{Step, Drain}
 use Rattle.scheduler.specs.Printed.{printed_choice, printed_after, printed_choices}
 use Rattle.tso_report.specs.Report.{line, test_line}
 use Rattle.tso_report.specs.Tally.{looked_at, printed_values}
-use Rattle.outcome_report.specs.Outcomes.{Outcome, shown_values, held_in, failed_in, outcomes_line, state_line, by_line, outcome_lines, observation_line}
+use Rattle.outcome_report.specs.Outcomes.{Outcome, shown_values, held_in, failed_in, outcomes_line, outcome_lines, observation_line}
 use Rattle.tso_cli.specs.Fitting.{IsStateOf}
-use Rattle.printed_laws.specs.Outcomes.{OutcomesFit, OutcomesTellTheirStates, OutcomesTellTheirTests}
+use Rattle.printed_laws.specs.Outcomes.{OutcomesTellTheirStates, OutcomesTellTheirTests}
 use Rattle.printed_laws.proofs.Cutting.{run-cut, next-cut}
 use Rattle.printed_laws.proofs.Heads.{printable-name}
 use Rattle.printed_laws.proofs.Sweeps.{NoState, values-cut, observed-told}

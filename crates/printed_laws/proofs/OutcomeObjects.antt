@@ -1,5 +1,5 @@
 -- The JSON object of `outcomes` tells the states, and in how many the condition's proposition is true and false.
-use Rattle.std.proofs.Common.{◌≡◌, ◌∙◌, ℕ, suc, ◌^◌, ◌<◌, ◌≤◌, Bool, true, false, List, [], ◌∷◌, ◌++◌, map, length, All, Option, Some, None, refl, sym, ap, arith}
+use Rattle.std.proofs.Common.{◌≡◌, ◌∙◌, ℕ, ◌^◌, ◌<◌, ◌≤◌, true, false, List, [], ◌∷◌, ◌++◌, map, length, All, Option, Some, None, refl, sym, ap, arith}
 use Rattle.std.proofs.lemmas.Fmt.{decimal_injective}
 use Rattle.std.proofs.lemmas.List.{append_cancel_right, length-map}
 use Rattle.std.proofs.lemmas.List.Elements.{All-head, All-tail}
@@ -7,21 +7,19 @@ use Rattle.json.specs.Json as json
 use Rattle.json.specs.Json.{max_depth}
 use Rattle.json.specs.Tree.{depth as depth_of, items_depth, members_depth, HasNumbers, ItemsHaveNumbers, MembersHaveNumbers}
 use Rattle.json.proofs.Printed.Decimals.{IsNumber-decimal}
-use Rattle.serde_json.specs.Data.{object, Members}
 use Rattle.serde_json.specs.View.{items_of}
 use Rattle.serde_json.specs.Written.{outline, items_outline, members_outline, compact_text}
 use Rattle.tso_model.specs.Litmus.{Litmus, IsTest}
 use Rattle.tso_model.specs.Condition.{Condition}
 use Rattle.tso_model.specs.Registers.{IsWord}
-use Rattle.scheduler.specs.Printed.{printed_choices}
 use Rattle.tso_report.specs.declared.named.Named.{Named}
 use Rattle.tso_report.specs.Json.{memory_members}
 use Rattle.tso_report.specs.Tally.{looked_at}
-use Rattle.outcome_report.specs.Outcomes.{Outcome, shown_values, held_in, failed_in}
+use Rattle.outcome_report.specs.Outcomes.{Outcome, shown_values}
 use Rattle.outcome_report.specs.OutcomesJson.{key_of, value_members, state_value, observation_value, outcomes_value}
 use Rattle.tso_cli.specs.Fitting.{IsStateOf}
 use Rattle.printed_laws.specs.Outcomes.{OutcomesFit, OutcomesTellTheirStates, OutcomesTellTheirTests}
-use Rattle.printed_laws.proofs.JsonTexts.{value-told, members_in, items_in, text_in, value_at, text_at, first_item, more_items, has_item}
+use Rattle.printed_laws.proofs.JsonTexts.{value-told, members_in, items_in, value_at, text_at, first_item, more_items, has_item}
 use Rattle.printed_laws.proofs.JsonNumbers.{one-more, no-deeper}
 use Rattle.printed_laws.proofs.JsonMemory.{memory-told}
 use Rattle.printed_laws.proofs.Keys.{keys-distinct}

@@ -1,5 +1,5 @@
 -- The states that are printed of a search are states of its test.
-use Rattle.std.proofs.Common.{◌≡◌, ℕ, List, map, All, ap, subst}
+use Rattle.std.proofs.Common.{ℕ, List, All, subst}
 use Rattle.std.proofs.lemmas.List.Elements.{All-weaker, All-map}
 use Rattle.tso_model.specs.Litmus.{Litmus, IsTest}
 use Rattle.tso_model.specs.Registers.{IsWord, AreRegisters}
@@ -7,7 +7,6 @@ use Rattle.tso_model.specs.Runs.{run}
 use Rattle.tso_model.specs.declared.choice.Choice.{Choice}
 use Rattle.tso_laws.specs.Words.{HoldsWords}
 use Rattle.outcome_report.specs.Outcomes.{Outcome, shown_values}
-use Rattle.commands.specs.Outcomes.{AreAllOutcomes}
 use Rattle.commands.proofs.FoundOutcomes.{Leads}
 use Rattle.tso_cli.specs.Fitting.{IsStateOf}
 use Rattle.tso_cli.proofs.FittingSweeps.{is-state}

@@ -1,5 +1,5 @@
 -- The word that is printed of a condition is that of its counts.
-use Rattle.std.proofs.Common.{◌≡◌, ◌∙◌, ℕ, ◌<◌, ◌==◌, Bool, true, false, not, cond, List, [], ◌∷◌, ◌++◌, length, get_or, Option, Some, None, refl, sym, ap, subst, eqb-true, arith}
+use Rattle.std.proofs.Common.{◌≡◌, ◌∙◌, ℕ, ◌==◌, Bool, true, false, not, cond, List, [], ◌∷◌, ◌++◌, length, get_or, Some, refl, sym, ap, subst, arith}
 use Rattle.std.specs.Prelude.{codes}
 use Rattle.std.specs.Fmt.{decimal}
 use Rattle.std.specs.List.{list_all}
@@ -12,7 +12,7 @@ use Rattle.tso_model.specs.Condition.{Condition}
 use Rattle.tso_report.specs.Report.{line, test_line}
 use Rattle.tso_report.specs.Json.{count}
 use Rattle.tso_report.specs.Tally.{frequency}
-use Rattle.outcome_report.specs.Outcomes.{Outcome, outcomes_line, outcome_lines, outcomes_text, observation_line, unfinished_line, held_in, failed_in}
+use Rattle.outcome_report.specs.Outcomes.{Outcome, outcomes_line, outcome_lines, observation_line, unfinished_line, held_in, failed_in}
 use Rattle.outcome_report.specs.OutcomesJson.{states_value, observed_value, observation_value, unfinished_json}
 use Rattle.outcome_report.specs.Printed.{outcomes_in, unfinished_search_in}
 use Rattle.printed_laws.specs.Observed.{EndsInWord, HasWordInObject, PrintsWord}
