@@ -1,6 +1,6 @@
 -- What the numbers of the page ask for, and what answers them: the same settings and answers as those of the program, so
 -- that its promises hold of the page.
-use Rattle.std.specs.Prelude.{ℕ, ◌≡◌, ◌<◌, ◌≤◌, ◌⊎◌, true, List, Some}
+use Rattle.std.specs.Prelude.{ℕ, ◌≡◌, ◌<◌, ◌≤◌, ◌⊎◌, true, List, Some, length, take}
 use Rattle.tso_model.specs.declared.choice.Bus.{Bus}
 use Rattle.snoop_bus.specs.Geometry.{geometry, IsShapeWithinLimits}
 use Rattle.protocol_tables.specs.declared.kind.ProtocolKind.{ProtocolKind}
@@ -17,6 +17,7 @@ use Rattle.tso_cli.specs.Hints.{IsTold}
 use Rattle.commands.specs.declared.answer.Status.{Status}
 use Rattle.page_exports.specs.declared.question.Numbers.{Numbers}
 use Rattle.page_exports.specs.declared.question.Question.{Question}
+use Rattle.page_exports.specs.declared.Told.{Told}
 use Rattle.tso_model.specs.declared.choice.Bus.TheVariants as buses
 use Rattle.protocol_tables.specs.declared.kind.ProtocolKind.TheVariants as kinds
 use Rattle.command_line.specs.declared.settings.Settings.TheVariants as settings
@@ -109,3 +110,20 @@ pub record AnswersAsked (a : Numbers) (input out hint : List ℕ) (number : ℕ)
   pub question : Question
   pub asked : AsksFor a question
   pub answers : Answers question input out hint number
+
+-- what is told of an answer to the question and of the hint beside it is how long they are, and that they stand at the start of
+-- these rooms, where it says so
+pub record TellsOf (question : Question) (input room hint_room : List ℕ) (told : Told) : Type 0 where
+  pub out : List ℕ
+  pub hint : List ℕ
+  pub answers : Answers question input out hint told.status
+  pub length_is : length out ≡ told.length
+  pub hint_length_is : length hint ≡ told.hint_length
+  pub stands : told.is_whole ≡ true → take told.length room ≡ out
+  pub hint_stands : told.is_whole ≡ true → take told.hint_length hint_room ≡ hint
+
+-- the numbers ask a question, and this is told of an answer to it
+pub record TellsOfAsked (a : Numbers) (input room hint_room : List ℕ) (told : Told) : Type 0 where
+  pub question : Question
+  pub asked : AsksFor a question
+  pub tells : TellsOf question input room hint_room told

@@ -4,9 +4,10 @@
 
 ghost use Rattle.std.specs.Prelude.{◌≡◌, ◌≢◌, ◌<◌, ◌⊎◌, ◌↔◌, true, false, take, length, string_bytes, IfOk};
 ghost use Rattle.command_line.specs.Limits.{HasDepth};
-ghost use Rattle.page_exports.specs.Questions.{AnswersAsked, Answers, IsAnswerTo, IsCommandAnswer, IsAskable, number_of};
+ghost use Rattle.page_exports.specs.Questions.{AnswersAsked, IsAnswerTo, IsCommandAnswer, IsAskable, TellsOf, TellsOfAsked};
 ghost use Rattle.page_exports.specs.inner.Questions.{HasDepthFor};
 
+mod laws;
 mod question;
 
 pub use question::Numbers;
@@ -41,8 +42,9 @@ pub struct Told {
 /// were made before it.
 ///
 /// `told` has the status [`NOTHING_ASKED`] where the numbers ask for nothing that there is, [`NO_MEMORY`] where memory
-/// was refused, and else the command's own; it isn't whole where there is no answer, and where a room is shorter than
-/// the length that is told: a call with that much room answers.
+/// was refused, and else the command's own. Where there is an answer, its length and that of its hint are told, whether
+/// they fit or not. It isn't whole where there is no answer, and where a room is shorter than the length that is told: a
+/// call with that much room answers.
 #[unsafe(no_mangle)]
 pub extern "C" fn page_answer(
     alloc: Global,
@@ -54,6 +56,8 @@ pub extern "C" fn page_answer(
 )
     ensures answered { told.new.is_whole ≡ true → AnswersAsked asked.now input.now (take told.new.length output.new)
         (take told.new.hint_length hint_output.new) told.new.status }
+    ensures lengths { told.new.status ≢ 2 → told.new.status ≢ 5
+        → TellsOfAsked asked.now input.now output.new hint_output.new told.new }
     ensures refused { (told.new.status ≡ 2) ↔ ¬ (IsAskable asked.now) }
     ensures whole { told.new.is_whole ≡ false → (told.new.status ≡ 2) ⊎ (told.new.status ≡ 5)
         ⊎ (length output.old < told.new.length) ⊎ (length hint_output.old < told.new.hint_length) }
@@ -113,8 +117,7 @@ fn told_of(
     hint_output: &mut [u8],
 ) -> Result<Told, NoMemory>
     requires { HasDepthFor question.now }
-    ensures answers { IfOk result (λ t. t.is_whole ≡ true
-        → Answers question.now input.now (take t.length output.new) (take t.hint_length hint_output.new) t.status) }
+    ensures tells { IfOk result (TellsOf question.now input.now output.new hint_output.new) }
     ensures command { IfOk result (λ t. t.status ≢ 2) }
     ensures whole { IfOk result (λ t. t.is_whole ≡ false
         → (length output.old < t.length) ⊎ (length hint_output.old < t.hint_length)) }
