@@ -1,5 +1,5 @@
 -- A text spells a test or is refused.
-use Rattle.std.proofs.Common.{◌≡◌, ◌≢◌, ℕ, List, Some, Result, Ok, Err, IfErr, MatchResult, refl, sym, ap, ◌∙◌, ◌⊎◌, inl, inr}
+use Rattle.std.proofs.Common.{◌≡◌, ◌≢◌, ℕ, List, Some, Result, Ok, Err, IfOk, IfErr, MatchResult, refl, sym, ap, ◌∙◌, ◌⊎◌, inl, inr}
 use Rattle.tso_model.specs.Litmus.{Litmus}
 use Rattle.litmus_tokens.specs.Line.{line_of}
 use Rattle.litmus_cells.specs.declared.fault.Why.{Why}
@@ -56,6 +56,13 @@ pub read_only : (result : Result Litmus ReadError) (t : Litmus) (read : Result L
 read_only (Ok test) t read is gives = same_test test t (sym gives ∙ is)
 read_only (Err errors.NoMemory) t read is gives = refl
 read_only (Err (errors.Fault f)) t read is gives = absurd (let never = sym gives ∙ is in cc)
+
+-- what is returned where a test is spelled or a fault is there
+pub read_by : (text : List ℕ) (result : Result Litmus ReadError) → ((t : Litmus) → SpellsTest text t → reading_of text ≡ Ok t) → Refuses text
+    → IfOk result (λ test. SpellsTest text test) → ((f : Fault) → result ≡ Err (errors.Fault f) → IsFault text f) → Gives (λ test. test) result (reading_of text)
+read_by text (Ok test) again refuses found fault = again test found
+read_by text (Err errors.NoMemory) again refuses found fault = tt
+read_by text (Err (errors.Fault f)) again refuses found fault = refuses f (fault f refl)
 
 pub decided : (text : List ℕ) → ((t : Litmus) → SpellsTest text t → reading_of text ≡ Ok t) → ((t : Litmus) → reading_of text ≡ Ok t → SpellsTest text t) → Refuses text → Refused text → IsDecided text
 decided text again takes refuses refused = record {

@@ -167,7 +167,7 @@ fn read_parts(alloc: Global, text: &[u8]) -> Result<TestParts, ReadError>
     body_of(alloc, name, rest)
 }
 
-/// The test that a text spells.
+/// What [`test_or_fault`] answers, with the line of what is at fault.
 ///
 /// Out of memory aside, a text that spells no test is refused for the first thing in it that is at
 /// fault, with that place's line, and no other text is refused.
@@ -184,11 +184,10 @@ pub fn read_test(alloc: Global, text: &[u8]) -> Result<Test, TextFault>
 {
     texts_are_read_as_they_are_spelled();
     texts_are_refused_as_they_are_read();
-    with_line(text, read_whole(alloc, text))
+    with_line(text, test_or_fault(alloc, text))
 }
 
-/// The test that a text spells, or what is at fault in it, with its place: what [`read_test`] refuses the
-/// text for, on the line of that place.
+/// The test that a text spells, or the first thing in it that is at fault, with its place.
 ///
 /// Out of memory aside, a text that spells no test is refused, and no other text is.
 pub fn test_or_fault(alloc: Global, text: &[u8]) -> Result<Test, ReadError>

@@ -48,8 +48,7 @@ impl From<NoMemory> for SimFault {
 }
 
 /// Runs a test under a list of choices, up to the first moment at which it has ended, on a machine of
-/// this protocol and configuration. On the atomic bus neither the protocol nor the shape of the caches
-/// has a part in the answer but in the counts. On a split bus an access that hits needs no bus.
+/// this protocol and configuration: what [`simulate_noting`] answers.
 ///
 /// Errors: out of memory only.
 pub fn simulate(
@@ -58,6 +57,33 @@ pub fn simulate(
     protocol: ProtocolKind,
     config: Config,
     choices: &[Choice],
+) -> Result<Ending, SimFault>
+    requires { CoresExist (length test.now.programs) choices.now }
+    ensures ending { IfOk result (IsEndingOf test.now (run_under test.now protocol config choices.now)) }
+    ensures fits { IfOk result (FitsEnding test.now) }
+    ensures answers { OnOk result (AnswersFit test.now protocol config choices.now) }
+    ensures counts { IfOk result (HasCounts (counts_under test.now protocol config choices.now)) }
+    ensures counting { config.bus ≡ Bus.Atomic → IfOk result (IsCounted test.now config.depth) }
+    ensures unbuffered { config.depth ≡ 0 → IfOk result HasAllOrder }
+    ensures fair { config.bus ≡ Bus.Atomic → HasRounds test.now (2 * longest test.now.programs) choices.now → IfOk result HasEnded }
+    ensures fair_on_either_bus { HasRounds test.now (3 * instructions test.now.programs) choices.now → IfOk result HasEnded }
+{
+    simulate_noting(alloc, test, protocol, config, choices, &mut Stalls::none())
+}
+
+/// Runs a test under a list of choices, up to the first moment at which it has ended, on a machine of
+/// this protocol and configuration. On the atomic bus neither the protocol nor the shape of the caches
+/// has a part in the answer but in the counts. On a split bus an access that hits needs no bus. Which choices
+/// stalled is noted for a hint.
+///
+/// Errors: out of memory only.
+pub fn simulate_noting(
+    alloc: Global,
+    test: &Test,
+    protocol: ProtocolKind,
+    config: Config,
+    choices: &[Choice],
+    stalls: &mut Stalls,
 ) -> Result<Ending, SimFault>
     requires { CoresExist (length test.now.programs) choices.now }
 
@@ -88,25 +114,6 @@ pub fn simulate(
     atomic_runs_are_flat_runs();
     ended_runs_of_machines_are_executions();
     test.know_limits();
-    let mut stalls = Stalls::none();
-    simulate_noting(alloc, test, protocol, config, choices, &mut stalls)
-}
-
-/// What [`simulate`] answers; which choices stalled is noted for a hint.
-pub fn simulate_noting(
-    alloc: Global,
-    test: &Test,
-    protocol: ProtocolKind,
-    config: Config,
-    choices: &[Choice],
-    stalls: &mut Stalls,
-) -> Result<Ending, SimFault>
-    requires { CoresExist (length test.now.programs) choices.now }
-    ensures ending { IfOk result (IsEndingOf test.now (run_under test.now protocol config choices.now)) }
-    ensures fits { IfOk result (FitsEnding test.now) }
-    ensures answers { OnOk result (AnswersFit test.now protocol config choices.now) }
-    ensures counts { IfOk result (HasCounts (counts_under test.now protocol config choices.now)) }
-{
     run_with(alloc, test, protocol, config, Listed::new(choices), stalls)
 }
 

@@ -17,14 +17,9 @@ use std::alloc::Global;
 use std::io::{Read, Write};
 use tso_io::{Counted, READ_LIMIT, RunFault, read_input, write_output};
 
-/// Reads an input, and writes the answer to it under these settings and nothing else. The answer is
-/// made whole before its first byte is written. At most one byte more than [`MAX_INPUT`] is read, and
-/// none for `tables`; no call of the reader or the writer is tried again, and the writer isn't
-/// flushed. The depth of a witness is 1 to 32, as `settings_of` has it.
+/// The status of what [`answer_command`] answers.
 ///
-/// `Device` exactly where a call of the reader or the writer failed: of the reader, and nothing was
-/// written; of the writer, and a beginning of the answer was taken. `NoMemory` where the allocator
-/// refused a growth, and nothing was written.
+/// Errors: as those of [`answer_command`].
 pub fn run_command<R: Read, W: Write>(
     alloc: Global,
     reader: &mut Counted<R>,
@@ -34,24 +29,21 @@ pub fn run_command<R: Read, W: Write>(
     requires depth { HasDepth settings.now }
     requires reader { reader.old.1 < 2 ^ 32 - 1 }
     requires writer { writer.old.1 < 2 ^ 32 - 1 }
-
-    // What is written is the answer to the bytes that the reader has, with its status.
     ensures exact { IfOk result (WritesAnswer W.contents writer.old.0 writer.new.0 (IsAnswer settings.now (R.remaining reader.old.0))) }
     ensures headline { IfOk result (λ _. Writes W.contents writer.old.0 writer.new.0 (Headline settings.now (R.remaining reader.old.0))) }
-
-    // Faults come from the devices, and are told.
     ensures device { (result ≡ Err RunFault.Device) ↔ ((reader.old.1 < reader.new.1) ⊎ (writer.old.1 < writer.new.1)) }
-    // At most one call fails; that none is made after it can't be said here.
     ensures once { reader.new.1 + writer.new.1 ≤ reader.old.1 + writer.old.1 + 1 }
     ensures no_memory { result ≡ Err RunFault.NoMemory → Keeps (W.contents writer.old.0) (W.contents writer.new.0) }
     ensures reader_fault { reader.old.1 < reader.new.1 → Keeps (W.contents writer.old.0) (W.contents writer.new.0) }
     ensures writer_fault { writer.old.1 < writer.new.1
         → WritesBeginning W.contents writer.old.0 writer.new.0 (IsAnswer settings.now (R.remaining reader.old.0)) }
-
     ensures most { ConsumesAtMost (R.remaining reader.old.0) (R.remaining reader.new.0) (most_read settings.now) }
 {
-    let answered = answer_command(alloc, reader, writer, settings)?;
-    Ok(answered.answer.status)
+    Ok(
+        answer_command(alloc, reader, writer, settings)?
+            .answer
+            .status,
+    )
 }
 
 /// What a command read, and its answer, which is written. A hint is made of both.
@@ -61,9 +53,14 @@ pub struct Answered {
     pub answer: Answer,
 }
 
-/// Does what [`run_command`] does, and answers what was read and what was written too.
+/// Reads an input, and writes the answer to it under these settings and nothing else; what was read and what was
+/// written is answered. The answer is made whole before its first byte is written. At most one byte more than
+/// [`MAX_INPUT`] is read, and none for `tables`; no call of the reader or the writer is tried again, and the writer
+/// isn't flushed. The depth of a witness is 1 to 32, as `settings_of` has it.
 ///
-/// Errors: as those of [`run_command`].
+/// `Device` exactly where a call of the reader or the writer failed: of the reader, and nothing was
+/// written; of the writer, and a beginning of the answer was taken. `NoMemory` where the allocator
+/// refused a growth, and nothing was written.
 pub fn answer_command<R: Read, W: Write>(
     alloc: Global,
     reader: &mut Counted<R>,
