@@ -1,11 +1,11 @@
 -- What a choice of the flat machine commits, against the access that it makes.
-use Rattle.std.proofs.Common.{◌≡◌, ◌↔◌, ◌||◌, ℕ, zero, suc, Bool, true, false, if◌then◌else◌, List, [], ◌∷◌, filter, length, Option, Some, None, slice_get, nat_lt, ◌/◌, refl, sym, ap, ◌∙◌, ◌⊎◌, inl, inr, subst}
+use Rattle.std.proofs.Common.{◌≡◌, ◌↔◌, ◌||◌, ℕ, zero, suc, Bool, true, false, if◌then◌else◌, List, [], ◌∷◌, filter, length, Option, Some, None, slice_get, nat_lt, ◌/◌, refl, sym, ap, ◌⊎◌, inl, inr, subst}
 use Rattle.std.specs.List.{list_any}
 use Rattle.tso_model.specs.Litmus.{Litmus}
 use Rattle.tso_model.specs.Actions.{action_of}
-use Rattle.tso_model.specs.Thread.{entry, value_in, updated}
+use Rattle.tso_model.specs.Thread.{entry}
 use Rattle.tso_model.specs.ProgramOrder.{writes_to}
-use Rattle.tso_model.specs.FlatMachine.{CoreState, State, Effect, stored, effect_by, step_of, core_of, chosen, effect_of, is_none_pending}
+use Rattle.tso_model.specs.FlatMachine.{CoreState, State, Effect, stored, effect_by, step_of, core_of, chosen}
 use Rattle.tso_model.specs.MemoryAccess.{MemoryAccess, NoAccess, Reads, Writes, Locks, store_access, load_access, locked_access, access_by, step_access, drain_access, next_of, access_of}
 use Rattle.tso_model.specs.declared.register.Reg.{Reg}
 use Rattle.tso_model.specs.declared.instruction.Loc.{Loc}
@@ -19,7 +19,7 @@ use Rattle.tso_model.specs.declared.choice.Choice.TheVariants.{Step, Drain}
 use Rattle.split_laws.specs.inner.Pending.{IsStoreOf, PendingIsOwn}
 use Rattle.snoop_bus.specs.Rows.{table_of_rows}
 use Rattle.machine_core.specs.declared.accesses.CacheUse.TheVariants.{Unused, Forwarded}
-use Rattle.machine_core.specs.Caches.{Caches, Used, not_through, load_by, write_by, load_after, use_of, hits_by}
+use Rattle.machine_core.specs.Caches.{Caches, Used, not_through, load_by, load_after, use_of, hits_by}
 use Rattle.basic_laws.proofs.WithPending.{drain_with, fenced_with, locked_with}
 use Rattle.bus_laws.specs.Uses.{IsUseFor, IsHitUse, use_at}
 use Rattle.bus_laws.proofs.Told.{load-told, write-told}

@@ -1,5 +1,5 @@
 -- Which two states stand together: no two dirty ones.
-use Rattle.std.proofs.Common.{◌≡◌, ◌≢◌, ◌<◌, ℕ, Bool, true, false, Option, None, List, length, refl, sym, ap, ◌∙◌, ◌⊎◌, inl, inr}
+use Rattle.std.proofs.Common.{◌≡◌, ◌≢◌, ℕ, true, false, None, List, length, ap, inl, inr}
 use Rattle.protocol_tables.specs.Laws.{is_dirty}
 use Rattle.protocol_tables.specs.declared.state.State.{State}
 use Rattle.protocol_tables.specs.declared.state.State.TheVariants.{I, S, E, O, M}
@@ -10,7 +10,7 @@ use Rattle.snoop_bus.specs.Bus.{AllCoherent}
 use Rattle.basic_laws.proofs.Basics.{lt-or}
 use Rattle.bus_laws.specs.Owners.{IsOwner}
 
-apart : (s t : State) → may_share s t ≡ true → is_dirty s ≡ true → is_dirty t ≡ true → ⊥
+pub apart : (s t : State) → may_share s t ≡ true → is_dirty s ≡ true → is_dirty t ≡ true → ⊥
 apart I t h a b = let z : ⊥ = cc in z
 apart S t h a b = let z : ⊥ = cc in z
 apart E t h a b = let z : ⊥ = cc in z

@@ -1,3 +1,8 @@
 pub mod Told
 pub mod Dirty
 pub mod Counted
+pub mod Victims
+pub mod Snooped
+pub mod Unowned
+pub mod Stale
+pub mod Called

@@ -1,6 +1,7 @@
 pub mod Hits
 pub mod Owners
 pub mod Uses
+pub mod inner
 pub use Rattle.snoop_bus.specs.Accesses
 pub use Rattle.snoop_bus.specs.inner.Accesses as InnerAccesses
 pub use Rattle.snoop_bus.specs.Bus

@@ -27,7 +27,7 @@ use Rattle.machine_core.specs.Caches.{Caches, Used, not_through, load_by, write_
 use Rattle.machine_core.specs.declared.accesses.CacheUse.TheVariants.{Unused}
 use Rattle.bus_laws.specs.Uses.{IsUseFor}
 use Rattle.trace_report.specs.TraceLaws.{KeepsNoCopyInI}
-use Rattle.trace_report.proofs.Victims.{no_set, absent-remove, AllNeat, found-valid, all-requested, all-used, all-filled, own-kept}
+use Rattle.bus_laws.proofs.Victims.{no_set, absent-remove, AllNeat, found-valid, all-requested, all-used, all-filled, own-kept}
 use Rattle.trace_report.proofs.VictimsLeave.{wrote_in, HasGone, filled-gone, modified, IsWithin, NeatAfter, GoneBy, use-neat, use-gone, use-rows}
 use Rattle.trace_report.proofs.UsesOnBus.{StaysHeld, UsesOn, made, unused, begun, ended}
 
@@ -94,7 +94,7 @@ asks-neat lines c core (Reads loc) h = asked-neat lines (table_of_rows c.rows) G
 asks-neat lines c core (Writes loc) h = asked-neat lines (table_of_rows c.rows) GetM core (loc.0 / c.shape.words) _ c.contents h
 asks-neat lines c core (Locks loc) h = asked-neat lines (table_of_rows c.rows) GetM core (loc.0 / c.shape.words) _ c.contents h
 
-asks-quiet : (c : Caches) (core : ℕ) (what : MemoryAccess) → wrote_in (asking_by c core what).how ≡ false
+pub asks-quiet : (c : Caches) (core : ℕ) (what : MemoryAccess) → wrote_in (asking_by c core what).how ≡ false
 asks-quiet c core NoAccess = refl
 asks-quiet c core (Reads loc) = refl
 asks-quiet c core (Writes loc) = refl
@@ -182,11 +182,11 @@ used-absent k other core line state found caches there none = elim (decide k cor
     new = at_line line (used line state) (sets_of caches core)
 
 -- what is awaited, and the shape of the caches, are as before; what wasn't there isn't there; and nothing is written back
-record IsStill (c : Caches) (u : Used) : Type 0 where
+pub record IsStill (c : Caches) (u : Used) : Type 0 where
   shape : u.caches.shape ≡ c.shape
   awaited : u.caches.awaited ≡ c.awaited
   absent : (k line : ℕ) → tag_at k line c.contents ≡ None → tag_at k line u.caches.contents ≡ None
-  clean : wrote_in u.how ≡ false
+  pub clean : wrote_in u.how ≡ false
 
 none-still : (c : Caches) → IsStill c (not_through Unused c)
 none-still c = record { shape = refl; awaited = refl; absent = λ k line none. none; clean = refl }
@@ -238,7 +238,7 @@ write-still c core loc hit = by_tag (tag_at core line c.contents) refl hit
     by_tag (Some state) q hit = in_place state (t.written state) q refl hit
 
 -- an access that needs no bus
-use-still : (c : Caches) (core : ℕ) (what : MemoryAccess) (u : Used) → IsUseFor c core what u → needs_bus what (hits_by c core what) ≡ false → IsStill c u
+pub use-still : (c : Caches) (core : ℕ) (what : MemoryAccess) (u : Used) → IsUseFor c core what u → needs_bus what (hits_by c core what) ≡ false → IsStill c u
 use-still c core NoAccess u (inl is) free = subst (IsStill c) (sym is) (none-still c)
 use-still c core NoAccess u (inr is) free = subst (IsStill c) (sym is) (record { shape = refl; awaited = refl; absent = λ k line none. none; clean = refl })
 use-still c core (Reads loc) u is free = subst (IsStill c) (sym is) (load-still c core loc.0 (not-hit (hits_by c core (Reads loc)) free))

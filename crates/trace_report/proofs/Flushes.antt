@@ -148,7 +148,7 @@ drain-nothing : (s : CoreState) (q : List Entry) → AsksNothing (drain_with s q
 drain-nothing s [] = λ r w. refl
 drain-nothing s (p ∷ ps) = λ r w. refl
 
-flat-nothing : (t : Litmus) (depth : ℕ) (state : State) (a : Choice) → AsksNothing (effect_of t depth state a).outcome
+pub flat-nothing : (t : Litmus) (depth : ℕ) (state : State) (a : Choice) → AsksNothing (effect_of t depth state a).outcome
 flat-nothing t depth state (Step core) = step-nothing depth core.0 state.memory (next_of t state core.0) (core_of state core.0)
 flat-nothing t depth state (Drain core) = drain-nothing (core_of state core.0) (core_of state core.0).pending
 

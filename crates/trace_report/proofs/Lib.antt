@@ -12,7 +12,6 @@ pub mod RunsTold
 pub mod LaidIn
 pub mod AccessesTold
 pub mod Flushes
-pub mod Victims
 pub mod VictimsLeave
 pub mod UsesOnBus
 pub mod Awaiting
@@ -20,3 +19,6 @@ pub mod LinesLeft
 pub mod FlushesTold
 pub mod VictimsTold
 pub mod WriteBacksTold
+pub mod CoresTold
+pub mod OthersSee
+pub mod VictimIs

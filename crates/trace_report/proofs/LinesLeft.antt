@@ -50,9 +50,9 @@ found core (b ∷ bs) (a ∷ afters) h = by_number (number_of b.state == number_
 
 -- ---- among the lines of two machines
 
-record LeavesLine (m n : Running) (core line : ℕ) : Type 0 where
-  was : number_of (line_state m core line) ≢ 0
-  is : number_of (line_state n core line) ≡ 0
+pub record LeavesLine (m n : Running) (core line : ℕ) : Type 0 where
+  pub was : number_of (line_state m core line) ≢ 0
+  pub is : number_of (line_state n core line) ≡ 0
 
 line-there : (m n : Running) (core from count line : ℕ) (xs ys : List PlacedState) → from ≤ line → line < from + count → LeavesLine m n core line
     → HasLeft core (line_states m core from count ++ xs) (line_states n core from count ++ ys)

@@ -39,7 +39,7 @@ use Rattle.trace_report.proofs.Whole.{form-of, same-fields, same-test, unchanged
 abbrev Moves : Option Instr → Outcome → Type 0
 Moves i o = ((registers : List ℕ) → moved_at i registers ≡ None) ⊎ (o ≡ Moved)
 
-abbrev MovesBy : Litmus → ℕ → Choice → Outcome → Type 0
+abbrev pub MovesBy : Litmus → ℕ → Choice → Outcome → Type 0
 MovesBy t place choice o = ((registers : List ℕ) → moved_from t place choice registers ≡ None) ⊎ (o ≡ Moved)
 
 step-moves : (depth core : ℕ) (memory : List ℕ) (i : Option Instr) (s : CoreState) → Moves i (step_of depth memory core i s).outcome
@@ -114,7 +114,7 @@ split-moves t depth state a (HeldBetween e) = go (same_choice (Step e.core) a.ch
         (flat-moves t depth (as_read state e) (Step e.core))
     go false q = begins-moves t depth state a (HeldBetween e)
 
-effect-moves : (bus : Bus) (t : Litmus) (depth : ℕ) (state : BusState) (a : Attempt)
+pub effect-moves : (bus : Bus) (t : Litmus) (depth : ℕ) (state : BusState) (a : Attempt)
     → MovesBy t (core_of state.flat (chosen a.choice)).place a.choice (effect_on bus t depth state a).effect.outcome
 effect-moves Atomic t depth state a = flat-moves t depth state.flat a.choice
 effect-moves Split t depth state a = split-moves t depth state.flat a state.holder

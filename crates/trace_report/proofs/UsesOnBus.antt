@@ -44,7 +44,7 @@ UsesBy t d state c a holder f =
     UsesOn c a (access_of t d state) (access_of t d (applied state (chosen a) f.effect)) holder f.holder
     (used_between (is_awaited holder) (is_awaited f.holder) c (chosen a) (access_of t d state a) (core_of state (chosen a)).pending f.effect.commits)
 
-own-stores : (state : State) → AllStores state → PendingIsOwn state
+pub own-stores : (state : State) → AllStores state → PendingIsOwn state
 own-stores state stores core place e q = let s = each-at (IsStore core) (core_of state core).pending place e (stores core) q in record { kind = s.kind; mine = s.mine }
 
 -- where nothing changes

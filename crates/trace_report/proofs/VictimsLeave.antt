@@ -13,7 +13,7 @@ use Rattle.machine_core.specs.declared.accesses.CacheUse.{CacheUse}
 use Rattle.machine_core.specs.declared.accesses.CacheUse.TheVariants.{Unused, Forwarded, Through}
 use Rattle.bus_laws.specs.Uses.{IsUseFor}
 use Rattle.trace_report.specs.TraceLaws.{KeepsNoCopyInI}
-use Rattle.trace_report.proofs.Victims.{AllNeat, found-valid, all-requested, all-used, all-filled, own-kept, sets-leave}
+use Rattle.bus_laws.proofs.Victims.{AllNeat, found-valid, all-requested, all-used, all-filled, own-kept, sets-leave}
 
 -- whether a dirty line is written back as the caches are used
 abbrev pub wrote_in : CacheUse → Bool

@@ -35,14 +35,14 @@ use Rattle.trace_report.proofs.FlushesTold.{IsSound, sound-first, sound-after}
 use Rattle.trace_report.proofs.LinesLeft.{present, left-found}
 use Rattle.trace_report.proofs.Places.{AccessKnown, access-known, stores-first}
 use Rattle.trace_report.proofs.UsesOnBus.{UsesOn, choice-uses}
-use Rattle.trace_report.proofs.Victims.{IsNeat, none-neat, no-sets, no_set, AllNeat}
+use Rattle.bus_laws.proofs.Victims.{IsNeat, none-neat, no-sets, no_set, AllNeat}
 use Rattle.trace_report.proofs.VictimsLeave.{wrote_in, IsWithin}
 use Rattle.trace_report.proofs.Whole.{words-kept, stores-kept}
 
 -- ---- the lines of a test
 
 -- the line of a location is among those of the test
-line-below : (count words loc : ℕ) → 0 < words → loc < count → loc / words < div_ceil count words
+pub line-below : (count words loc : ℕ) → 0 < words → loc < count → loc / words < div_ceil count words
 line-below count words loc some within = elim (lt-or (div_ceil count words) (loc / words)) [
   | inl l ↦ l
   | inr past ↦
@@ -62,24 +62,24 @@ within-lines t words (Locks loc) some h = line-below (length t.locations) words 
 
 -- a machine of a run, whose test is within the limits, whose lines have a word at least, and whose protocol keeps no copy in I
 pub record IsKept (m : Running) : Type 0 where
-  sound : IsSound m
+  pub sound : IsSound m
   test : IsTest m.test
   known : AreStoresKnown m.test m.state.flat
   words : 0 < m.statistics.caches.shape.words
-  cores : length m.statistics.counts ≡ length m.test.programs
+  pub cores : length m.statistics.counts ≡ length m.test.programs
   keeps : KeepsNoCopyInI (table_of_rows m.statistics.caches.rows)
-  neat : AllNeat (lines_of m) m.statistics.caches.contents
-  may : HolderMayMake (access_of m.test m.depth m.state.flat) m.state.holder m.statistics.caches
+  pub neat : AllNeat (lines_of m) m.statistics.caches.contents
+  pub may : HolderMayMake (access_of m.test m.depth m.state.flat) m.state.holder m.statistics.caches
 
 -- what a choice has to do with the caches
-abbrev UsesOf : Running → Choice → Type 0
+abbrev pub UsesOf : Running → Choice → Type 0
 UsesOf m c =
     UsesOn m.statistics.caches c (access_of m.test m.depth m.state.flat) (access_of m.test m.depth (machine_after m c).state.flat) m.state.holder (machine_after m c).state.holder (use_by m c)
 
-uses-of : (m : Running) (c : Choice) → IsKept m → UsesOf m c
+pub uses-of : (m : Running) (c : Choice) → IsKept m → UsesOf m c
 uses-of m c k = choice-uses m.bus m.test m.depth m.state m.statistics.caches c k.sound.live.holding k.sound.stores
 
-lines-kept : (m : Running) (c : Choice) → lines_of (machine_after m c) ≡ lines_of m
+pub lines-kept : (m : Running) (c : Choice) → lines_of (machine_after m c) ≡ lines_of m
 lines-kept m c = ap (λ n. div_ceil (length m.test.locations) n) (words-kept m c)
 
 pub kept-after : (m : Running) (c : Choice) → IsKept m → IsKept (machine_after m c)
@@ -100,6 +100,11 @@ kept-after m c k =
       neat = subst (λ n. AllNeat n (use_by m c).caches.contents) (sym (lines-kept m c)) (neat-after caches c before after m.state.holder next (use_by m c) (lines_of m) uses within k.keeps k.may k.neat);
       may = may-after caches c before after m.state.holder next (use_by m c) (lines_of m) uses k.keeps k.may k.neat;
     }
+
+-- the rows of the protocol's table stay
+pub rows-kept : (m : Running) (c : Choice) → IsKept m → (machine_after m c).statistics.caches.rows ≡ m.statistics.caches.rows
+rows-kept m c k =
+    rows-after m.statistics.caches c (access_of m.test m.depth m.state.flat) (access_of m.test m.depth (machine_after m c).state.flat) m.state.holder (machine_after m c).state.holder (use_by m c) (uses-of m c k)
 
 -- the caches are empty at the beginning
 empty-sets : {A : Type 0} (P : ℕ → protocol.State → Type 0) (f : A → TagSet) (x : A) (count i : ℕ) → IsNeat P (f x) → IsNeat P (slice_index_or (map f (replicate count x)) i no_set)

@@ -6,3 +6,4 @@ pub mod Shown
 pub mod Steps
 pub mod Told
 pub mod Stalls
+pub mod StepLaws

@@ -1,8 +1,10 @@
 //! What a trace says of its run: its entries are the run's order, its changes lead from state to state, its accesses are
-//! those that were counted. Each law is the contract of a function that does nothing: who calls it knows it.
+//! those that were counted, and each step tells what becomes of its core and of the other caches. Each law is the contract
+//! of a function that does nothing: who calls it knows it.
 
 ghost use Rattle.trace_report.specs.TraceLaws.{TracesTellTheirRuns, ChangesLeadFromStatesToStates, AccessesAreTold};
 ghost use Rattle.trace_report.specs.TraceLaws.{ProtocolsKeepNoCopyInI};
+ghost use Rattle.trace_report.specs.StepLaws.{StepsAreTold};
 
 use split_laws::atomic_runs_are_flat_runs;
 
@@ -28,4 +30,10 @@ pub fn changes_lead_from_states_to_states()
 pub fn accesses_are_told()
     ensures counts { AccessesAreTold }
     ensures protocols { ProtocolsKeepNoCopyInI }
+{}
+
+/// A step tells the register that its core moved a value to and the stores that are then pending; the word of a
+/// stall is its reason; and the request and the line that it tells are those by which the other cores' copies change.
+pub fn steps_are_told()
+    ensures { StepsAreTold }
 {}

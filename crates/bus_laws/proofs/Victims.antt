@@ -45,7 +45,7 @@ absent-remove line k (e ∷ es) h = elim (eqb_tells k e.0) [
       elim (eqb_tells line e.0) [ inl q ↦ rw q.0 later | inr q ↦ rw (q.0, p.0) (absent-remove line k es later) ]
 ]
 
-gone-remove : (line : ℕ) (es : List (ℕ × State)) → Once es → lookup (nat_eq line) (remove_entry (nat_eq line) es) ≡ None
+pub gone-remove : (line : ℕ) (es : List (ℕ × State)) → Once es → lookup (nat_eq line) (remove_entry (nat_eq line) es) ≡ None
 gone-remove line [] h = refl
 gone-remove line (e ∷ es) h = elim (eqb_tells line e.0) [
   | inl p ↦ rw p.0 (subst (λ k. lookup (nat_eq k) es ≡ None) (sym p.1) h.0)

@@ -1,0 +1,226 @@
+-- A line of memory that changes has no dirty copy then: the one that was sent or written back was the only one.
+use Rattle.std.proofs.Common.{◌≡◌, ◌≢◌, ◌∙◌, ℕ, suc, Bool, true, false, if◌then◌else◌, List, [], ◌∷◌, length, slice_set, Option, Some, None, option_map, inl, inr, refl, sym, ap, subst, get_or-set_same, get_or-set_other}
+use Rattle.std.proofs.lemmas.List.{get_or_past}
+use Rattle.basic_laws.proofs.Basics.{decide, lt-or}
+use Rattle.protocol_tables.specs.Laws.{is_dirty}
+use Rattle.protocol_tables.specs.Tables.{Table, table_of}
+use Rattle.protocol_tables.specs.declared.kind.ProtocolKind.{ProtocolKind}
+use Rattle.protocol_tables.specs.declared.kind.ProtocolKind.TheVariants.{Msi, Mesi, Moesi, Mosi}
+use Rattle.protocol_tables.specs.declared.state.State.{State}
+use Rattle.protocol_tables.specs.declared.state.State.TheVariants.{I, S, E, O, M}
+use Rattle.protocol_tables.specs.declared.state.Snoop.{Snoop}
+use Rattle.cache_set.specs.declared.Line.{Line}
+use Rattle.cache_set.specs.declared.Victim.{Victim}
+use Rattle.snoop_bus.specs.Rows.{table_of_rows, rows_of}
+use Rattle.snoop_bus.specs.Lines.{Words, line_in}
+use Rattle.snoop_bus.specs.Coherent.{state_of, may_share}
+use Rattle.snoop_bus.specs.Tags.{leaving, filled}
+use Rattle.snoop_bus.specs.CacheContents.{TagSets, tags_at, tag_in, at_line, sets_of, requested, filled_by}
+use Rattle.snoop_bus.specs.Copies.{Sets, copy_at, copy_in, tags_of}
+use Rattle.snoop_bus.specs.MemoryAfter.{written_back, flushed, sent_of, first_of_two, sent_words}
+use Rattle.snoop_bus.specs.Asks.{tag_at, or_invalid}
+use Rattle.snoop_bus.proofs.StateLemmas.{tag_at-copy}
+use Rattle.bus_laws.proofs.Victims.{AreNeat, AllNeat, sets-leave}
+use Rattle.bus_laws.proofs.Snooped.{left_of, requested-here, own-alone}
+use Rattle.bus_laws.proofs.Dirty.{apart}
+
+-- ---- the tables
+
+-- the table of a protocol, as a bus has it
+abbrev pub kept_table : ProtocolKind → Table
+kept_table kind = table_of_rows (rows_of (table_of kind))
+
+written_if_dirty : (kind : ProtocolKind) (s : State) → (kept_table kind).evicts_dirty s ≡ is_dirty s
+written_if_dirty Msi I = refl
+written_if_dirty Msi S = refl
+written_if_dirty Msi E = refl
+written_if_dirty Msi O = refl
+written_if_dirty Msi M = refl
+written_if_dirty Mesi I = refl
+written_if_dirty Mesi S = refl
+written_if_dirty Mesi E = refl
+written_if_dirty Mesi O = refl
+written_if_dirty Mesi M = refl
+written_if_dirty Moesi I = refl
+written_if_dirty Moesi S = refl
+written_if_dirty Moesi E = refl
+written_if_dirty Moesi O = refl
+written_if_dirty Moesi M = refl
+written_if_dirty Mosi I = refl
+written_if_dirty Mosi S = refl
+written_if_dirty Mosi E = refl
+written_if_dirty Mosi O = refl
+written_if_dirty Mosi M = refl
+
+-- a load fills in a clean state
+filled_clean : (kind : ProtocolKind) (shared : Bool) → is_dirty ((kept_table kind).filled shared) ≡ false
+filled_clean Msi true = refl
+filled_clean Msi false = refl
+filled_clean Mesi true = refl
+filled_clean Mesi false = refl
+filled_clean Moesi true = refl
+filled_clean Moesi false = refl
+filled_clean Mosi true = refl
+filled_clean Mosi false = refl
+
+-- a copy in M alone is sent to memory
+sent_in_m : (kind : ProtocolKind) (s : State) → ((kept_table kind).on_get_s s).to_memory ≡ true → s ≡ M
+sent_in_m Msi I h = absurd (let z : ⊥ = cc in z)
+sent_in_m Msi S h = absurd (let z : ⊥ = cc in z)
+sent_in_m Msi E h = absurd (let z : ⊥ = cc in z)
+sent_in_m Msi O h = absurd (let z : ⊥ = cc in z)
+sent_in_m Msi M h = refl
+sent_in_m Mesi I h = absurd (let z : ⊥ = cc in z)
+sent_in_m Mesi S h = absurd (let z : ⊥ = cc in z)
+sent_in_m Mesi E h = absurd (let z : ⊥ = cc in z)
+sent_in_m Mesi O h = absurd (let z : ⊥ = cc in z)
+sent_in_m Mesi M h = refl
+sent_in_m Moesi I h = absurd (let z : ⊥ = cc in z)
+sent_in_m Moesi S h = absurd (let z : ⊥ = cc in z)
+sent_in_m Moesi E h = absurd (let z : ⊥ = cc in z)
+sent_in_m Moesi O h = absurd (let z : ⊥ = cc in z)
+sent_in_m Moesi M h = absurd (let z : ⊥ = cc in z)
+sent_in_m Mosi I h = absurd (let z : ⊥ = cc in z)
+sent_in_m Mosi S h = absurd (let z : ⊥ = cc in z)
+sent_in_m Mosi E h = absurd (let z : ⊥ = cc in z)
+sent_in_m Mosi O h = absurd (let z : ⊥ = cc in z)
+sent_in_m Mosi M h = absurd (let z : ⊥ = cc in z)
+
+sent_clean : (kind : ProtocolKind) → ((kept_table kind).on_get_s M).to_memory ≡ true → is_dirty ((kept_table kind).on_get_s M).next ≡ false
+sent_clean Msi h = refl
+sent_clean Mesi h = refl
+sent_clean Moesi h = absurd (let z : ⊥ = cc in z)
+sent_clean Mosi h = absurd (let z : ⊥ = cc in z)
+
+absent_clean : (kind : ProtocolKind) → is_dirty ((kept_table kind).on_get_s I).next ≡ false
+absent_clean Msi = refl
+absent_clean Mesi = refl
+absent_clean Moesi = refl
+absent_clean Mosi = refl
+
+-- beside a copy in M there is none
+beside_m : (s : State) → may_share M s ≡ true → s ≡ I
+beside_m I h = refl
+beside_m S h = absurd (let z : ⊥ = cc in z)
+beside_m E h = absurd (let z : ⊥ = cc in z)
+beside_m O h = absurd (let z : ⊥ = cc in z)
+beside_m M h = absurd (let z : ⊥ = cc in z)
+
+-- what is so of a protocol's table: dirty copies are written back, a load fills in a clean one, and a copy that is sent to memory
+-- is in M and clean afterwards
+pub record SettlesMemory (t : Table) : Type 0 where
+  pub written : (s : State) → t.evicts_dirty s ≡ is_dirty s
+  pub filled : (shared : Bool) → is_dirty (t.filled shared) ≡ false
+  pub sent : (s : State) → (t.on_get_s s).to_memory ≡ true → s ≡ M
+  pub clean : (t.on_get_s M).to_memory ≡ true → is_dirty (t.on_get_s M).next ≡ false
+  pub absent : is_dirty (t.on_get_s I).next ≡ false
+
+pub settles : (kind : ProtocolKind) → SettlesMemory (kept_table kind)
+settles kind =
+    record { written = written_if_dirty kind; filled = filled_clean kind; sent = sent_in_m kind; clean = sent_clean kind; absent = absent_clean kind }
+
+left-clean : (t : Table) (o : Option State) → SettlesMemory t → or_invalid o ≡ I → is_dirty (left_of t.on_get_s o) ≡ false
+left-clean t None h q = refl
+left-clean t (Some s) h q = subst (λ x. is_dirty (t.on_get_s x).next ≡ false) (sym q) h.absent
+
+-- ---- the states of copies
+
+-- a core's copy of a line is dirty
+abbrev pub IsDirtyAt : ℕ → ℕ → List TagSets → Type 0
+IsDirtyAt core line caches = is_dirty (or_invalid (tag_at core line caches)) ≡ true
+
+pub never : (b : Bool) → b ≡ true → b ≡ false → ⊥
+never b dirty clean = let z : ⊥ = cc in z
+
+pub not_absent : (o : Option State) → o ≡ None → is_dirty (or_invalid o) ≡ true → ⊥
+not_absent o q h = never (is_dirty (or_invalid o)) h (ap (λ x. is_dirty (or_invalid x)) q)
+
+-- where a line comes in and a dirty one leaves, that one has no dirty copy then
+pub victim-unowned : (lines core line : ℕ) (state : State) (caches : List TagSets) (victim : ℕ × State) (i : ℕ) → AllNeat lines caches
+    → ((other : ℕ) → other ≢ core → may_share victim.1 (or_invalid (tag_at other victim.0 caches)) ≡ true)
+    → tag_at core line caches ≡ None → leaving (tags_at (sets_of caches core) line) ≡ Some victim → is_dirty victim.1 ≡ true
+    → IsDirtyAt i victim.0 (filled_by core line state caches) → ⊥
+victim-unowned lines core line state caches victim i neat alone none leaves dirty found = elim (decide i core) [
+  | inl q ↦ own (subst (λ k. IsDirtyAt k victim.0 (filled_by core line state caches)) q found)
+  | inr n ↦ apart victim.1 (or_invalid (tag_at i victim.0 caches)) (alone i n) dirty
+      (subst (λ sets. is_dirty (or_invalid (tag_in sets victim.0)) ≡ true) (own-alone core (at_line line (filled line state)) caches i n) found)
+]
+  where
+    own : IsDirtyAt core victim.0 (filled_by core line state caches) → ⊥
+    own h = elim (lt-or (length caches) core) [
+      | inl l ↦ not_absent (tag_in (at_line line (filled line state) (sets_of caches core)) victim.0)
+          (sets-leave lines line state (sets_of caches core) victim (neat core) none leaves).after
+          (subst (λ sets. is_dirty (or_invalid (tag_in sets victim.0)) ≡ true) (get_or-set_same caches core (at_line line (filled line state) (sets_of caches core)) [] l) h)
+      | inr past ↦
+          let nothing : leaving (tags_at (sets_of caches core) line) ≡ None = ap (λ (sets : TagSets). leaving (tags_at sets line)) (get_or_past caches core [] past) in
+          let z : ⊥ = cc in z
+    ]
+
+-- the line that leaves is another than the one that comes in
+pub victim-other : (lines core line : ℕ) (caches : List TagSets) (victim : ℕ × State) → AllNeat lines caches
+    → tag_at core line caches ≡ None → leaving (tags_at (sets_of caches core) line) ≡ Some victim → victim.0 ≢ line
+victim-other lines core line caches victim neat none leaves same =
+    let there = (sets-leave lines line I (sets_of caches core) victim (neat core) none leaves).before in
+    let z : None ≡ Some victim.1 = sym none ∙ subst (λ k. tag_in (sets_of caches core) k ≡ Some victim.1) same there in
+    let y : ⊥ = cc in y
+
+-- where another core's copy is sent to memory on GetS, no other is dirty then
+pub sent-unowned : (t : Table) (lines core line : ℕ) (caches : List TagSets) (sender : ℕ) (state : State) (i : ℕ) → SettlesMemory t → AreNeat lines (sets_of caches i)
+    → (i ≢ sender → may_share state (or_invalid (tag_at i line caches)) ≡ true)
+    → tag_at sender line caches ≡ Some state → (t.on_get_s state).to_memory ≡ true → i ≢ core
+    → IsDirtyAt i line (requested t.on_get_s core line caches) → ⊥
+sent-unowned t lines core line caches sender state i h neat alone there sent n found =
+    never _ (subst (λ s. is_dirty s ≡ true) (requested-here lines t.on_get_s core line caches i neat n) found) (elim (decide i sender) [
+      | inl q ↦ ap (λ o. is_dirty (left_of t.on_get_s o)) (ap (λ k. tag_at k line caches) q ∙ there) ∙ clean
+      | inr apart ↦ left-clean t (tag_at i line caches) h (beside_m _ (subst (λ s. may_share s (or_invalid (tag_at i line caches)) ≡ true) (h.sent state sent) (alone apart)))
+    ])
+  where
+    clean : is_dirty (t.on_get_s state).next ≡ false
+    clean = subst (λ x. (t.on_get_s x).to_memory ≡ true → is_dirty (t.on_get_s x).next ≡ false) (sym (h.sent state sent)) h.clean sent
+
+-- ---- memory
+
+pub back-stale : (t : Table) (v : Option Victim) (memory : List Words) (k : ℕ) → ((w : Victim) → v ≡ Some w → t.evicts_dirty w.content.state ≡ true → k ≢ w.line)
+    → line_in (written_back t v memory) k ≡ line_in memory k
+back-stale t None memory k h = refl
+back-stale t (Some w) memory k h = by_test (t.evicts_dirty w.content.state) refl
+  where
+    by_test : (b : Bool) → t.evicts_dirty w.content.state ≡ b → line_in (if b then slice_set memory w.line w.content.words else memory) k ≡ line_in memory k
+    by_test true q = get_or-set_other memory w.line k w.content.words [] (h w refl q)
+    by_test false q = refl
+
+pub sent-stale : (line : ℕ) (o : Option Words) (memory : List Words) (k : ℕ) → ((w : Words) → o ≡ Some w → k ≢ line) → line_in (flushed line o memory) k ≡ line_in memory k
+sent-stale line None memory k h = refl
+sent-stale line (Some w) memory k h = get_or-set_other memory line k w [] (h w refl)
+
+-- whose words are sent
+pub record IsSent (on : State → Snoop) (line : ℕ) (caches : List Sets) : Type 0 where
+  pub sender : ℕ
+  pub copy : Line
+  pub there : copy_at caches sender line ≡ Some copy
+  pub sent : (on copy.state).to_memory ≡ true
+
+pub sender-of : (on : State → Snoop) (line : ℕ) (caches : List Sets) (w : Words) → sent_words on line caches ≡ Some w → IsSent on line caches
+sender-of on line [] w h = absurd (let z : ⊥ = cc in z)
+sender-of on line (sets ∷ caches) w h = by_copy (copy_in sets line) refl (sender-of on line caches w) h
+  where
+    later : IsSent on line caches → IsSent on line (sets ∷ caches)
+    later s = record { sender = suc s.sender; copy = s.copy; there = s.there; sent = s.sent }
+
+    by_test : (copy : Line) (b : Bool) → (on copy.state).to_memory ≡ b → copy_in sets line ≡ Some copy → (sent_words on line caches ≡ Some w → IsSent on line caches)
+        → first_of_two (if b then Some copy.words else None) (sent_words on line caches) ≡ Some w → IsSent on line (sets ∷ caches)
+    by_test copy true q is rest h = record { sender = 0; copy = copy; there = is; sent = q }
+    by_test copy false q is rest h = later (rest h)
+
+    by_copy : (o : Option Line) → copy_in sets line ≡ o → (sent_words on line caches ≡ Some w → IsSent on line caches)
+        → first_of_two (sent_of on o) (sent_words on line caches) ≡ Some w → IsSent on line (sets ∷ caches)
+    by_copy None is rest h = later (rest h)
+    by_copy (Some copy) is rest h = by_test copy (on copy.state).to_memory refl is rest h
+
+-- ---- states and copies
+pub state-of : (caches : List Sets) (core line : ℕ) → or_invalid (tag_at core line (tags_of caches)) ≡ state_of (copy_at caches core line)
+state-of caches core line = ap or_invalid (tag_at-copy caches core line) ∙ by_copy (copy_at caches core line)
+  where
+    by_copy : (o : Option Line) → or_invalid (option_map (λ (copy : Line). copy.state) o) ≡ state_of o
+    by_copy None = refl
+    by_copy (Some copy) = refl

@@ -1,0 +1,297 @@
+-- What a step tells of its core: the register that was moved, the pending stores, and why it stalled.
+use Rattle.std.proofs.Common.{arith, ◌≡◌, ◌≢◌, ◌∙◌, ◌⊎◌, ◌≤◌, ◌+◌, ◌==◌, ℕ, zero, suc, Bool, true, false, nat_lt, if◌then◌else◌, List, [], ◌∷◌, ◌++◌, length, take, drop, slice_index, slice_set, Option, Some, None, inl, inr, refl, sym, ap, subst, length-append, get_or-set_same}
+use Rattle.std.proofs.lemmas.List.{get_or_past}
+use Rattle.std.proofs.lemmas.Bool.Decides.{nat_tests}
+use Rattle.std.proofs.Math.ListN.{length-set}
+use Rattle.basic_laws.proofs.Basics.{lt-or}
+use Rattle.tso_model.specs.Litmus.{Litmus}
+use Rattle.tso_model.specs.Actions.{action_of}
+use Rattle.tso_model.specs.Thread.{value_of}
+use Rattle.tso_model.specs.Registers.{index_of}
+use Rattle.tso_model.specs.FlatMachine.{CoreState, State, Effect, idle, is_none_pending, stalled, stored, effect_by, step_of, effect_of, core_of, chosen, applied, after_choice}
+use Rattle.tso_model.specs.MemoryAccess.{MemoryAccess, NoAccess, Reads, Writes, Locks, access_of, next_of}
+use Rattle.tso_model.specs.SplitMachine.{Holder, Free, HeldBy, HeldBetween, Attempt, same_choice, needs_bus, acts, asks, begins, completes, as_read, writes_last, split_effect}
+use Rattle.tso_model.specs.EitherBus.{BusState, effect_on}
+use Rattle.tso_model.specs.declared.choice.Bus.{Bus}
+use Rattle.tso_model.specs.declared.choice.Bus.TheVariants.{Atomic, Split}
+use Rattle.tso_model.specs.declared.instruction.Core.{Core}
+use Rattle.tso_model.specs.declared.instruction.Instr.{Instr}
+use Rattle.tso_model.specs.declared.action.Action.{Action}
+use Rattle.tso_model.specs.declared.action.Action.TheVariants.{Store, Load, Move, Fence, Lock}
+use Rattle.tso_model.specs.declared.execution.Entry.{Entry}
+use Rattle.tso_model.specs.declared.choice.Choice.{Choice}
+use Rattle.tso_model.specs.declared.choice.Choice.TheVariants.{Step, Drain}
+use Rattle.tso_model.specs.declared.choice.Outcome.{Outcome}
+use Rattle.tso_model.specs.declared.choice.Outcome.TheVariants.{Committed, Buffered, Moved, Stalled}
+use Rattle.tso_model.specs.declared.choice.Stall.{Stall}
+use Rattle.tso_model.specs.declared.choice.Stall.TheVariants as stall
+use Rattle.split_laws.proofs.Following.{same-is}
+use Rattle.machine_core.specs.Running.{Running, machine_after, attempt_on, effect_by as effect_made}
+use Rattle.trace_report.specs.Lines.{stall_name}
+use Rattle.trace_report.specs.Steps.{moved_by, moved_at, moved_from, buffer_if_changed}
+use Rattle.trace_report.specs.Steps as steps
+use Rattle.trace_report.specs.declared.step.Moved as move
+use Rattle.trace_report.specs.StepLaws.{with_moved, with_buffer, CoresAreTold, IsWordOfStall, done, full, fence, lock, empty, IsHeldByOther, IsWordOfStallOn, flat, bus, StallsAreTold}
+use Rattle.trace_report.proofs.Effects.{Form, still, grown, shrunk}
+use Rattle.trace_report.proofs.Stalls.{MovesBy, effect-moves}
+use Rattle.trace_report.proofs.Whole.{form-of}
+
+-- ---- the core after its choice
+
+-- it is as the effect leaves it, if there is such a core
+core-after : (state : State) (core : ℕ) (f : Effect) → (core_of (applied state core f) core ≡ f.after) ⊎ ((core_of (applied state core f) core ≡ idle) × (core_of state core ≡ idle))
+core-after state core f = elim (lt-or (length state.cores) core) [
+  | inl l ↦ inl (get_or-set_same state.cores core f.after idle l)
+  | inr past ↦ inr (get_or_past (slice_set state.cores core f.after) core idle (subst (λ n. n ≤ core) (sym (length-set state.cores core f.after)) past), get_or_past state.cores core idle past)
+]
+
+-- ---- the register
+
+-- what is written into a register is what it holds then, or there is no such register
+kept-value : (registers : List ℕ) (n value : ℕ) → slice_set registers n (slice_index (slice_set registers n value) n) ≡ slice_set registers n value
+kept-value [] n value = refl
+kept-value (r ∷ rs) zero value = refl
+kept-value (r ∷ rs) (suc n) value = ap (λ l. r ∷ l) (kept-value rs n value)
+
+-- of a core with this state before it
+abbrev MovesTo : (List ℕ → Option move.Moved) → CoreState → Effect → Type 0
+MovesTo told s f = f.outcome ≡ Moved → f.after.registers ≡ with_moved (told f.after.registers) s.registers
+
+abbrev MovesToBy : Litmus → State → Choice → Effect → Type 0
+MovesToBy t state a f = MovesTo (moved_from t (core_of state (chosen a)).place a) (core_of state (chosen a)) f
+
+not-when : (s : CoreState) (why : Stall) (f : Effect) (b : Bool) → (f.outcome ≡ Moved → ⊥) → (if b then f else stalled why s).outcome ≡ Moved → ⊥
+not-when s why f true h q = h q
+not-when s why f false h q = let z : ⊥ = cc in z
+
+not-stored : (depth : ℕ) (s : CoreState) (e : Entry) → (stored depth s e).outcome ≡ Moved → ⊥
+not-stored zero s e q = let z : ⊥ = cc in z
+not-stored (suc n) s e q = not-when s stall.Full _ (nat_lt (length s.pending) (suc n)) (λ z. (let y : ⊥ = cc in y)) q
+
+step-moves-to : (depth core : ℕ) (memory : List ℕ) (i : Option Instr) (s : CoreState) → MovesTo (moved_at i) s (step_of depth memory core i s)
+step-moves-to depth core memory None s = λ q. absurd (let z : ⊥ = cc in z)
+step-moves-to depth core memory (Some x) s = by_action (action_of x)
+  where
+    by_action : (a : Action) → MovesTo (moved_by a) s (effect_by depth memory core a s)
+    by_action (Store loc operand) = λ q. absurd (not-stored depth s _ q)
+    by_action (Load reg loc) = λ q. absurd (let z : ⊥ = cc in z)
+    by_action (Move reg operand) = λ q. sym (kept-value s.registers (index_of reg) (value_of s.registers operand))
+    by_action Fence = λ q. absurd (not-when s stall.Fence _ (is_none_pending s.pending) (λ z. (let y : ⊥ = cc in y)) q)
+    by_action (Lock loc reg update) = λ q. absurd (not-when s stall.Lock _ (is_none_pending s.pending) (λ z. (let y : ⊥ = cc in y)) q)
+
+flat-moves-to : (t : Litmus) (depth : ℕ) (state : State) (a : Choice) → MovesToBy t state a (effect_of t depth state a)
+flat-moves-to t depth state (Step core) = step-moves-to depth core.0 state.memory (next_of t state core.0) (core_of state core.0)
+flat-moves-to t depth state (Drain core) = λ q. absurd (by_room (is_none_pending (core_of state core.0).pending) q)
+  where
+    by_room : (b : Bool) → (if b then stalled stall.Empty (core_of state core.0)
+        else record { outcome = Committed; after = record { place = (core_of state core.0).place; registers = (core_of state core.0).registers; pending = drop 1 (core_of state core.0).pending }; commits = take 1 (core_of state core.0).pending }).outcome ≡ Moved → ⊥
+    by_room true q = let z : ⊥ = cc in z
+    by_room false q = let z : ⊥ = cc in z
+
+not-asks : (s : CoreState) (a : Choice) (holder : Holder) → (asks s a holder).effect.outcome ≡ Moved → ⊥
+not-asks s a Free q = let z : ⊥ = cc in z
+not-asks s a (HeldBy other) q = let z : ⊥ = cc in z
+not-asks s a (HeldBetween e) q = let z : ⊥ = cc in z
+
+begins-moves-to : (t : Litmus) (depth : ℕ) (state : State) (a : Attempt) (holder : Holder) → MovesToBy t state a.choice (begins t depth state a holder).effect
+begins-moves-to t depth state a holder = go (needs_bus (access_of t depth state a.choice) a.hits)
+  where
+    go : (b : Bool) → MovesToBy t state a.choice (if b then asks (core_of state (chosen a.choice)) a.choice holder else acts (effect_of t depth state a.choice) holder).effect
+    go true = λ q. absurd (not-asks (core_of state (chosen a.choice)) a.choice holder q)
+    go false = flat-moves-to t depth state a.choice
+
+completes-moves-to : (t : Litmus) (depth : ℕ) (state : State) (a : Choice) (what : MemoryAccess) → MovesToBy t state a (completes t depth state a what).effect
+completes-moves-to t depth state a NoAccess = flat-moves-to t depth state a
+completes-moves-to t depth state a (Reads loc) = flat-moves-to t depth state a
+completes-moves-to t depth state a (Writes loc) = flat-moves-to t depth state a
+completes-moves-to t depth state a (Locks loc) = λ q. absurd (let z : ⊥ = cc in z)
+
+split-moves-to : (t : Litmus) (depth : ℕ) (state : State) (a : Attempt) (holder : Holder) → MovesToBy t state a.choice (split_effect t depth state a holder).effect
+split-moves-to t depth state a Free = begins-moves-to t depth state a Free
+split-moves-to t depth state a (HeldBy choice) = go (same_choice choice a.choice) refl
+  where
+    go : (b : Bool) → same_choice choice a.choice ≡ b
+        → MovesToBy t state a.choice (if b then completes t depth state choice (access_of t depth state choice) else begins t depth state a (HeldBy choice)).effect
+    go true q = subst (λ c. MovesToBy t state c (completes t depth state choice (access_of t depth state choice)).effect) (same-is choice a.choice q)
+        (completes-moves-to t depth state choice (access_of t depth state choice))
+    go false q = begins-moves-to t depth state a (HeldBy choice)
+split-moves-to t depth state a (HeldBetween e) = go (same_choice (Step e.core) a.choice) refl
+  where
+    go : (b : Bool) → same_choice (Step e.core) a.choice ≡ b → MovesToBy t state a.choice (if b then writes_last t depth state e else begins t depth state a (HeldBetween e)).effect
+    go true q = subst (λ c. MovesToBy t state c (writes_last t depth state e).effect) (same-is (Step e.core) a.choice q) (flat-moves-to t depth (as_read state e) (Step e.core))
+    go false q = begins-moves-to t depth state a (HeldBetween e)
+
+moves-to : (bus : Bus) (t : Litmus) (depth : ℕ) (state : BusState) (a : Attempt) → MovesToBy t state.flat a.choice (effect_on bus t depth state a).effect
+moves-to Atomic t depth state a = flat-moves-to t depth state.flat a.choice
+moves-to Split t depth state a = split-moves-to t depth state.flat a state.holder
+
+-- where there is no such core, nothing is there to be moved
+no-core : (t : Litmus) (a : Choice) (s r : CoreState) (n : ℕ) → s ≡ idle → r ≡ idle → r.registers ≡ with_moved (moved_from t n a r.registers) s.registers
+no-core t a s r n one two = ap (λ (c : CoreState). c.registers) two ∙ (sym (nothing (moved_from t n a r.registers)) ∙ sym (ap (λ (c : CoreState). with_moved (moved_from t n a r.registers) c.registers) one))
+  where
+    nothing : (o : Option move.Moved) → with_moved o [] ≡ []
+    nothing None = refl
+    nothing (Some m) = refl
+
+moved-told : (m : Running) (choice : Choice) → (effect_made m choice).effect.outcome ≡ Moved
+    → (core_of (machine_after m choice).state.flat (chosen choice)).registers
+    ≡ with_moved (moved_from m.test (core_of m.state.flat (chosen choice)).place choice (core_of (machine_after m choice).state.flat (chosen choice)).registers) (core_of m.state.flat (chosen choice)).registers
+moved-told m choice q = elim (core-after m.state.flat (chosen choice) (effect_made m choice).effect) [
+  | inl is ↦ subst (λ (c : CoreState). c.registers ≡ with_moved (moved_from m.test (core_of m.state.flat (chosen choice)).place choice c.registers) (core_of m.state.flat (chosen choice)).registers) (sym is)
+      (moves-to m.bus m.test m.depth m.state (attempt_on m choice) q)
+  | inr none ↦ no-core m.test choice (core_of m.state.flat (chosen choice)) _ (core_of m.state.flat (chosen choice)).place none.1 none.0
+]
+
+unmoved-told : (t : Litmus) (place : ℕ) (choice : Choice) (o : Outcome) (registers : List ℕ) → o ≢ Moved → MovesBy t place choice o → moved_from t place choice registers ≡ None
+unmoved-told t place choice o registers n (inl none) = none registers
+unmoved-told t place choice o registers n (inr is) = absurd (n is)
+
+-- ---- the pending stores
+
+-- as many as before are the same as before
+same-many : (choice : Choice) (s : CoreState) (f : Effect) → Form choice s f → length f.after.pending ≡ length s.pending → f.after.pending ≡ s.pending
+same-many choice s f (still same waited quiet) q = same
+same-many choice s f (grown e more is none) q =
+    let longer : length f.after.pending ≡ length s.pending + 1 = ap length more ∙ length-append s.pending (e ∷ []) in absurd (let z : ⊥ = omega arith in z)
+same-many choice s f (shrunk core e less is drain) q =
+    let longer : length s.pending ≡ suc (length f.after.pending) = ap length less in absurd (let z : ⊥ = omega arith in z)
+
+told-stores : (before after : List Entry) → (length after ≡ length before → after ≡ before) → after ≡ with_buffer (buffer_if_changed (length before) after) before
+told-stores before after h = by_test (length after == length before) refl
+  where
+    by_test : (b : Bool) → (length after == length before) ≡ b → after ≡ with_buffer (if b then None else Some after) before
+    by_test true q = h (grind (arith, nat_tests))
+    by_test false q = refl
+
+buffer-told : (m : Running) (choice : Choice) → (core_of (machine_after m choice).state.flat (chosen choice)).pending
+    ≡ with_buffer (buffer_if_changed (length (core_of m.state.flat (chosen choice)).pending) (core_of (machine_after m choice).state.flat (chosen choice)).pending) (core_of m.state.flat (chosen choice)).pending
+buffer-told m choice = told-stores (core_of m.state.flat (chosen choice)).pending (core_of (machine_after m choice).state.flat (chosen choice)).pending (elim (core-after m.state.flat (chosen choice) (effect_made m choice).effect) [
+  | inl is ↦ λ q. ap (λ (c : CoreState). c.pending) is ∙ same-many choice (core_of m.state.flat (chosen choice)) (effect_made m choice).effect (form-of m choice) (sym (ap (λ (c : CoreState). length c.pending) is) ∙ q)
+  | inr none ↦ λ q. ap (λ (c : CoreState). c.pending) (none.0 ∙ sym none.1)
+])
+
+pub cores-told : (m : Running) (choice : Choice) → CoresAreTold m choice
+unfolding steps.step_of
+cores-told m choice = record {
+  moved = moved-told m choice;
+  unmoved = λ n. unmoved-told m.test (core_of m.state.flat (chosen choice)).place choice (effect_made m choice).effect.outcome _ n (effect-moves m.bus m.test m.depth m.state (attempt_on m choice));
+  buffer = buffer-told m choice;
+  flat = λ atomic. subst (λ b. applied m.state.flat (chosen choice) (effect_on b m.test m.depth m.state (attempt_on m choice)).effect ≡ after_choice m.test m.depth m.state.flat choice) (sym atomic) refl;
+}
+
+-- ---- stalls
+
+same-reason : (one two : Stall) → Stalled one ≡ Stalled two → one ≡ two
+same-reason one two q = cc
+
+-- a stall of this reason, where that one is told
+told-as : (t : Litmus) (depth : ℕ) (state : State) (a : Choice) (is why : Stall) → Stalled is ≡ Stalled why → IsWordOfStall t depth state (stall_name is) a → IsWordOfStall t depth state (stall_name why) a
+told-as t depth state a is why q h = subst (λ w. IsWordOfStall t depth state (stall_name w) a) (same-reason is why q) h
+
+not-empty : (q : List Entry) → is_none_pending q ≡ false → q ≢ []
+not-empty [] h e = let z : ⊥ = cc in z
+not-empty (p ∷ ps) h e = let z : ⊥ = cc in z
+
+is-empty : (q : List Entry) → is_none_pending q ≡ true → q ≡ []
+is-empty [] h = refl
+is-empty (p ∷ ps) h = absurd (let z : ⊥ = cc in z)
+
+stored-full : (depth : ℕ) (s : CoreState) (e : Entry) (why : Stall) → (stored depth s e).outcome ≡ Stalled why → (Stalled stall.Full ≡ Stalled why) × (depth ≤ length s.pending)
+stored-full zero s e why q = absurd (let z : ⊥ = cc in z)
+stored-full (suc n) s e why q = by_room (nat_lt (length s.pending) (suc n)) refl q
+  where
+    by_room : (b : Bool) → nat_lt (length s.pending) (suc n) ≡ b → (if b
+        then record { outcome = Buffered; after = record { place = s.place + 1; registers = s.registers; pending = s.pending ++ e ∷ [] }; commits = [] }
+        else stalled stall.Full s).outcome ≡ Stalled why → (Stalled stall.Full ≡ Stalled why) × (suc n ≤ length s.pending)
+    by_room true is q = absurd (let z : ⊥ = cc in z)
+    by_room false is q = (q, grind (arith, nat_tests))
+
+-- an effect that isn't a stall, or a stall for this reason where something is pending
+waits-for : (s : CoreState) (is why : Stall) (f : Effect) (b : Bool) → (f.outcome ≡ Stalled why → ⊥) → (if b then f else stalled is s).outcome ≡ Stalled why → (Stalled is ≡ Stalled why) × (b ≡ false)
+waits-for s is why f true h q = absurd (h q)
+waits-for s is why f false h q = (q, refl)
+
+step-word : (t : Litmus) (depth : ℕ) (state : State) (core : Core) (memory : List ℕ) (why : Stall) (i : Option Instr) → next_of t state core.0 ≡ i
+    → (step_of depth memory core.0 i (core_of state core.0)).outcome ≡ Stalled why → IsWordOfStall t depth state (stall_name why) (Step core)
+step-word t depth state core memory why None next q = told-as t depth state (Step core) stall.Done why q (done core next)
+step-word t depth state core memory why (Some x) next q = by_action (action_of x) refl q
+  where
+    s : CoreState
+    s = core_of state core.0
+
+    by_action : (a : Action) → action_of x ≡ a → (effect_by depth memory core.0 a s).outcome ≡ Stalled why → IsWordOfStall t depth state (stall_name why) (Step core)
+    by_action (Store loc operand) is h = let r = stored-full depth s _ why h in told-as t depth state (Step core) stall.Full why r.0 (full core x loc operand next is r.1)
+    by_action (Load reg loc) is h = absurd (let z : ⊥ = cc in z)
+    by_action (Move reg operand) is h = absurd (let z : ⊥ = cc in z)
+    by_action Fence is h =
+        let r = waits-for s stall.Fence why _ (is_none_pending s.pending) (λ z. (let y : ⊥ = cc in y)) h in
+        told-as t depth state (Step core) stall.Fence why r.0 (fence core x next is (not-empty s.pending r.1))
+    by_action (Lock loc reg update) is h =
+        let r = waits-for s stall.Lock why _ (is_none_pending s.pending) (λ z. (let y : ⊥ = cc in y)) h in
+        told-as t depth state (Step core) stall.Lock why r.0 (lock core x loc reg update next is (not-empty s.pending r.1))
+
+flat-word : (t : Litmus) (depth : ℕ) (state : State) (a : Choice) (why : Stall) → (effect_of t depth state a).outcome ≡ Stalled why → IsWordOfStall t depth state (stall_name why) a
+flat-word t depth state (Step core) why q = step-word t depth state core state.memory why (next_of t state core.0) refl q
+flat-word t depth state (Drain core) why q = by_room (is_none_pending (core_of state core.0).pending) refl q
+  where
+    by_room : (b : Bool) → is_none_pending (core_of state core.0).pending ≡ b → (if b then stalled stall.Empty (core_of state core.0)
+        else record { outcome = Committed; after = record { place = (core_of state core.0).place; registers = (core_of state core.0).registers; pending = drop 1 (core_of state core.0).pending }; commits = take 1 (core_of state core.0).pending }).outcome ≡ Stalled why
+        → IsWordOfStall t depth state (stall_name why) (Drain core)
+    by_room true is h = told-as t depth state (Drain core) stall.Empty why h (empty core (is-empty (core_of state core.0).pending is))
+    by_room false is h = absurd (let z : ⊥ = cc in z)
+
+-- on a split bus
+data WordBy (t : Litmus) (depth : ℕ) (state : State) (a : Attempt) (holder : Holder) (why : Stall) : Type 0 where
+  alone : IsWordOfStall t depth state (stall_name why) a.choice → WordBy t depth state a holder why
+  waits : Stalled stall.Bus ≡ Stalled why → IsHeldByOther holder a.choice → needs_bus (access_of t depth state a.choice) a.hits ≡ true → WordBy t depth state a holder why
+
+begins-word : (t : Litmus) (depth : ℕ) (state : State) (a : Attempt) (holder : Holder) (why : Stall) → (holder ≡ Free) ⊎ IsHeldByOther holder a.choice
+    → (begins t depth state a holder).effect.outcome ≡ Stalled why → WordBy t depth state a holder why
+begins-word t depth state a holder why other q = go (needs_bus (access_of t depth state a.choice) a.hits) refl q
+  where
+    by_holder : (h : Holder) → (h ≡ Free) ⊎ IsHeldByOther h a.choice → needs_bus (access_of t depth state a.choice) a.hits ≡ true
+        → (asks (core_of state (chosen a.choice)) a.choice h).effect.outcome ≡ Stalled why → WordBy t depth state a h why
+    by_holder Free o is z = absurd (let y : ⊥ = cc in y)
+    by_holder (HeldBy choice) (inl free) is z = absurd (let y : ⊥ = cc in y)
+    by_holder (HeldBy choice) (inr o) is z = waits z o is
+    by_holder (HeldBetween e) (inl free) is z = absurd (let y : ⊥ = cc in y)
+    by_holder (HeldBetween e) (inr o) is z = waits z o is
+
+    go : (b : Bool) → needs_bus (access_of t depth state a.choice) a.hits ≡ b
+        → (if b then asks (core_of state (chosen a.choice)) a.choice holder else acts (effect_of t depth state a.choice) holder).effect.outcome ≡ Stalled why → WordBy t depth state a holder why
+    go true is z = by_holder holder other is z
+    go false is z = alone (flat-word t depth state a.choice why z)
+
+completes-word : (t : Litmus) (depth : ℕ) (state : State) (a : Choice) (what : MemoryAccess) (why : Stall) → (completes t depth state a what).effect.outcome ≡ Stalled why → IsWordOfStall t depth state (stall_name why) a
+completes-word t depth state a NoAccess why q = flat-word t depth state a why q
+completes-word t depth state a (Reads loc) why q = flat-word t depth state a why q
+completes-word t depth state a (Writes loc) why q = flat-word t depth state a why q
+completes-word t depth state a (Locks loc) why q = absurd (let z : ⊥ = cc in z)
+
+split-word : (t : Litmus) (depth : ℕ) (state : State) (a : Attempt) (holder : Holder) (why : Stall) → (split_effect t depth state a holder).effect.outcome ≡ Stalled why → WordBy t depth state a holder why
+split-word t depth state a Free why q = begins-word t depth state a Free why (inl refl) q
+split-word t depth state a (HeldBy choice) why q = go (same_choice choice a.choice) refl q
+  where
+    go : (b : Bool) → same_choice choice a.choice ≡ b
+        → (if b then completes t depth state choice (access_of t depth state choice) else begins t depth state a (HeldBy choice)).effect.outcome ≡ Stalled why → WordBy t depth state a (HeldBy choice) why
+    go true is z = alone (subst (λ c. IsWordOfStall t depth state (stall_name why) c) (same-is choice a.choice is) (completes-word t depth state choice (access_of t depth state choice) why z))
+    go false is z = begins-word t depth state a (HeldBy choice) why (inr is) z
+split-word t depth state a (HeldBetween e) why q = go (same_choice (Step e.core) a.choice) refl q
+  where
+    go : (b : Bool) → same_choice (Step e.core) a.choice ≡ b
+        → (if b then writes_last t depth state e else begins t depth state a (HeldBetween e)).effect.outcome ≡ Stalled why → WordBy t depth state a (HeldBetween e) why
+    go true is z = alone (subst (λ c. IsWordOfStall t depth state (stall_name why) c) (same-is (Step e.core) a.choice is)
+        (step-word t depth state e.core (as_read state e).memory why (next_of t state e.core.0) refl z))
+    go false is z = begins-word t depth state a (HeldBetween e) why (inr is) z
+
+pub stalls-told : (m : Running) (choice : Choice) → StallsAreTold m choice
+unfolding steps.step_of
+stalls-told m choice why q = by_bus m.bus refl q
+  where
+    by_bus : (b : Bus) → m.bus ≡ b → (effect_on b m.test m.depth m.state (attempt_on m choice)).effect.outcome ≡ Stalled why → IsWordOfStallOn m choice (stall_name why)
+    by_bus Atomic is z = flat (stall_name why) (flat-word m.test m.depth m.state.flat choice why z)
+    by_bus Split is z = by_word (split-word m.test m.depth m.state.flat (attempt_on m choice) m.state.holder why z)
+      where
+        by_word : WordBy m.test m.depth m.state.flat (attempt_on m choice) m.state.holder why → IsWordOfStallOn m choice (stall_name why)
+        by_word (alone h) = flat (stall_name why) h
+        by_word (waits r other needs) = subst (λ w. IsWordOfStallOn m choice (stall_name w)) (same-reason stall.Bus why r) (bus is other needs)

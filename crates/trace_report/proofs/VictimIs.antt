@@ -1,0 +1,410 @@
+-- The line that a step tells as written back is the one that gave way in its set.
+use Rattle.std.proofs.Common.{arith, ◌≡◌, ◌≢◌, ◌∙◌, ◌⊎◌, ◌+◌, ◌-◌, ◌<◌, ◌≤◌, ◌/◌, ◌%◌, ◌==◌, ◌&&◌, ℕ, zero, suc, Bool, true, false, if◌then◌else◌, List, [], ◌∷◌, ◌++◌, length, take, slice_get, slice_set, slice_index_or, Option, Some, None, nat_eq, inl, inr, refl, sym, ap, subst, get_or-set_same, get_or-set_other}
+use Rattle.std.specs.Map.{lookup}
+use Rattle.std.proofs.lemmas.Bool.{eq-eqb}
+use Rattle.std.proofs.lemmas.Bool.Decides.{eqb_tells, nat_tests}
+use Rattle.std.proofs.lemmas.List.{get_or_past}
+use Rattle.std.proofs.Math.ListN.{length-set}
+use Rattle.basic_laws.proofs.Basics.{decide, lt-or}
+use Rattle.tso_model.specs.Litmus.{Litmus, IsTest}
+use Rattle.tso_model.specs.FlatMachine.{chosen}
+use Rattle.tso_model.specs.MemoryAccess.{MemoryAccess, NoAccess, Reads, Writes, Locks, access_of}
+use Rattle.tso_model.specs.SplitMachine.{Holder, Free, HeldBy}
+use Rattle.tso_model.specs.declared.instruction.Loc.{Loc}
+use Rattle.tso_model.specs.declared.choice.Choice.{Choice}
+use Rattle.protocol_tables.specs.Tables.{Table}
+use Rattle.protocol_tables.specs.declared.requests.Transient.{Transient}
+use Rattle.protocol_tables.specs.declared.requests.Transient.TheVariants.{IsD, ImD, SmD}
+use Rattle.protocol_tables.specs.declared.state.State as protocol
+use Rattle.protocol_tables.specs.declared.state.State.TheVariants as tag
+use Rattle.snoop_bus.specs.Rows.{table_of_rows}
+use Rattle.snoop_bus.specs.Tags.{TagSet, tag_of, leaving, filled}
+use Rattle.snoop_bus.specs.CacheContents.{TagSets, tags_at, tag_in, at_line, sets_of, is_held, dirty_in, writes_back, filled_by, loaded_in, written_in, write_in}
+use Rattle.snoop_bus.specs.Asks.{Awaited, tag_at, completed, completed_in}
+use Rattle.machine_core.specs.Configuration.{Configuration}
+use Rattle.machine_core.specs.Caches.{Caches, Used, through, load_by, write_by, completion_by, completing_by, at_access}
+use Rattle.machine_core.specs.Looking.{bus_holder, bus_holder_as, bus_holder_of}
+use Rattle.machine_core.specs.Running.{Running, new_machine, use_by, machine_after}
+use Rattle.machine_core.specs.declared.accesses.CacheUse.{CacheUse}
+use Rattle.machine_core.specs.declared.accesses.CacheUse.TheVariants.{Unused, Forwarded, Through}
+use Rattle.bus_laws.specs.Uses.{IsUseFor}
+use Rattle.bus_laws.proofs.Victims.{no_set, found-valid, own-kept}
+use Rattle.trace_report.specs.Steps.{state_with, awaited_at, line_state, line_states, placed, lines_of, states_of, number_of, change_of, changes_in, is_absent, left_by, wrote_back_by}
+use Rattle.trace_report.specs.Steps as steps
+use Rattle.trace_report.specs.StepLaws.{WriteBacksAreTold, KeepsWays, after_choices}
+use Rattle.trace_report.specs.TraceLaws.{KeepsNoCopyInI}
+use Rattle.trace_report.specs.declared.step.StateChange.{StateChange}
+use Rattle.trace_report.specs.declared.states.PlacedState.{PlacedState}
+use Rattle.trace_report.proofs.Awaiting.{MayComplete, MayMake, HolderMayMake, asks-quiet, use-still}
+use Rattle.trace_report.proofs.LaidIn.{grid, grid-is}
+use Rattle.trace_report.proofs.LinesLeft.{LeavesLine}
+use Rattle.trace_report.proofs.UsesOnBus.{UsesOn, made, unused, begun, ended}
+use Rattle.trace_report.proofs.VictimsLeave.{wrote_in}
+use Rattle.trace_report.proofs.VictimsTold.{IsKept, uses-of, kept-first, kept-after, lines-kept}
+
+-- there is one
+abbrev Has : {A : Type 0} → Option A → Type 0
+Has {A} o = (x : A) × (o ≡ Some x)
+
+-- ---- the line that is found among the changes left the core's cache
+
+both-true : (a b : Bool) → (a && b) ≡ true → (a ≡ true) × (b ≡ true)
+both-true true b h = (refl, h)
+both-true false b h = absurd (let z : ⊥ = cc in z)
+
+line-sound : (m n : Running) (core k from count line : ℕ) (xs ys : List PlacedState) → (left_by core (changes_in xs ys) ≡ Some line → LeavesLine m n core line)
+    → left_by core (changes_in (line_states m k from count ++ xs) (line_states n k from count ++ ys)) ≡ Some line → LeavesLine m n core line
+line-sound m n core k from zero line xs ys rest h = rest h
+line-sound m n core k from (suc count) line xs ys rest h =
+    by_number (number_of (line_state m k from) == number_of (line_state n k from)) refl h (line-sound m n core k (from + 1) count line xs ys rest)
+  where
+    change : StateChange
+    change = record { core = record { 0 = k }; line = from; before = line_state m k from; after = line_state n k from }
+
+    later : List StateChange
+    later = changes_in (line_states m k (from + 1) count ++ xs) (line_states n k (from + 1) count ++ ys)
+
+    by_test : (b : Bool) → ((k == core) && is_absent (line_state n k from)) ≡ b → (number_of (line_state m k from) == number_of (line_state n k from)) ≡ false
+        → (if b then Some from else left_by core later) ≡ Some line → (left_by core later ≡ Some line → LeavesLine m n core line) → LeavesLine m n core line
+    by_test false q differ found rest = rest found
+    by_test true q differ found rest =
+        let parts = both-true (k == core) (is_absent (line_state n k from)) q in
+        let here : k ≡ core = grind (arith, nat_tests, parts.0) in
+        let line_is : from ≡ line = cc in
+        let gone : number_of (line_state n k from) ≡ 0 = grind (arith, nat_tests, parts.1) in
+        let was : number_of (line_state m k from) ≢ 0 = λ z. (let y : ⊥ = grind (arith, nat_tests, differ, gone, z) in y) in
+        subst (λ c. LeavesLine m n c line) here (subst (λ l. LeavesLine m n k l) line_is (record { was = was; is = gone }))
+
+    by_number : (b : Bool) → (number_of (line_state m k from) == number_of (line_state n k from)) ≡ b
+        → left_by core ((if b then [] else change ∷ []) ++ later) ≡ Some line → (left_by core later ≡ Some line → LeavesLine m n core line) → LeavesLine m n core line
+    by_number true q found rest = rest found
+    by_number false q found rest = by_test ((k == core) && is_absent (line_state n k from)) refl q found rest
+
+grid-sound : (m n : Running) (core lines from count line : ℕ) → left_by core (changes_in (grid m lines from count) (grid n lines from count)) ≡ Some line → LeavesLine m n core line
+grid-sound m n core lines from zero line h = absurd (let z : ⊥ = cc in z)
+grid-sound m n core lines from (suc count) line h =
+    line-sound m n core from 0 lines line (grid m lines (from + 1) count) (grid n lines (from + 1) count) (grid-sound m n core lines (from + 1) count line) h
+
+left-sound : (m n : Running) (core line : ℕ) → n.test ≡ m.test → lines_of n ≡ lines_of m → left_by core (changes_in (states_of m) (states_of n)) ≡ Some line → LeavesLine m n core line
+left-sound m n core line test lines h =
+    let cores = length m.test.programs in
+    let second : states_of n ≡ grid n (lines_of m) 0 cores =
+    grid-is n 0 (length n.test.programs) ∙ (ap (λ (t : Litmus). grid n (lines_of n) 0 (length t.programs)) test ∙ ap (λ k. grid n k 0 cores) lines) in
+    grid-sound m n core (lines_of m) 0 cores line (subst (λ b. left_by core (changes_in b (grid n (lines_of m) 0 cores)) ≡ Some line) (grid-is m 0 cores) (subst (λ a. left_by core (changes_in (states_of m) a) ≡ Some line) second h))
+
+-- ---- an access that writes back fills a line in
+
+record Fills (c : Caches) (core : ℕ) (what : MemoryAccess) (u : Used) : Type 0 where
+  came : ℕ
+  state : protocol.State
+  accessed : at_access None (λ loc write. Some (loc.0 / c.shape.words)) what ≡ Some came
+  absent : tag_at core came c.contents ≡ None
+  own : sets_of u.caches.contents core ≡ sets_of (filled_by core came state c.contents) core
+  writes : writes_back (table_of_rows c.rows) core came c.contents ≡ true
+
+abbrev FillsIf : Caches → ℕ → MemoryAccess → Used → Type 0
+FillsIf c core what u = wrote_in u.how ≡ true → Fills c core what u
+
+load-fills : (c : Caches) (core : ℕ) (loc : Loc) → FillsIf c core (Reads loc) (load_by c core loc.0)
+load-fills c core loc = by_tag (tag_in (sets_of c.contents core) line) refl
+  where
+    line : ℕ
+    line = loc.0 / c.shape.words
+
+    t : Table
+    t = table_of_rows c.rows
+
+    by_tag : (o : Option protocol.State) → tag_in (sets_of c.contents core) line ≡ o → FillsIf c core (Reads loc) (through c c.awaited (loaded_in t core line c.contents o))
+    by_tag (Some s) q dirty = absurd (let z : ⊥ = cc in z)
+    by_tag None q dirty = record { came = line; state = t.filled (is_held line c.contents); accessed = refl; absent = q; own = own-kept core _ _; writes = dirty }
+
+write-fills : (c : Caches) (core : ℕ) (loc : Loc) (what : MemoryAccess) → at_access None (λ at write. Some (at.0 / c.shape.words)) what ≡ Some (loc.0 / c.shape.words) → FillsIf c core what (write_by c core loc.0)
+write-fills c core loc what at = by_tag (tag_in (sets_of c.contents core) line) refl
+  where
+    line : ℕ
+    line = loc.0 / c.shape.words
+
+    t : Table
+    t = table_of_rows c.rows
+
+    in_place : (o : Option protocol.State) → FillsIf c core what (through c c.awaited (written_in t core line c.contents o))
+    in_place None dirty = absurd (let z : ⊥ = cc in z)
+    in_place (Some next) dirty = absurd (let z : ⊥ = cc in z)
+
+    by_tag : (o : Option protocol.State) → tag_in (sets_of c.contents core) line ≡ o → FillsIf c core what (through c c.awaited (write_in t core line c.contents o))
+    by_tag (Some s) q dirty = in_place (t.written s) dirty
+    by_tag None q dirty = record { came = line; state = tag.M; accessed = at; absent = q; own = own-kept core _ _; writes = dirty }
+
+use-fills : (c : Caches) (core : ℕ) (what : MemoryAccess) (u : Used) → IsUseFor c core what u → FillsIf c core what u
+use-fills c core NoAccess u (inl is) = subst (FillsIf c core NoAccess) (sym is) (λ dirty. absurd (let z : ⊥ = cc in z))
+use-fills c core NoAccess u (inr is) = subst (FillsIf c core NoAccess) (sym is) (λ dirty. absurd (let z : ⊥ = cc in z))
+use-fills c core (Reads loc) u is = subst (FillsIf c core (Reads loc)) (sym is) (load-fills c core loc)
+use-fills c core (Writes loc) u is = subst (FillsIf c core (Writes loc)) (sym is) (write-fills c core loc (Writes loc) refl)
+use-fills c core (Locks loc) u is = subst (FillsIf c core (Locks loc)) (sym is) (write-fills c core loc (Locks loc) refl)
+
+completion-fills : (c : Caches) (core : ℕ) (loc : Loc) (what : MemoryAccess) → at_access None (λ at write. Some (at.0 / c.shape.words)) what ≡ Some (loc.0 / c.shape.words)
+    → MayComplete c.awaited core (loc.0 / c.shape.words) c.contents → FillsIf c core what (completion_by c core loc.0)
+completion-fills c core loc what at = by_awaited c.awaited
+  where
+    line : ℕ
+    line = loc.0 / c.shape.words
+
+    t : Table
+    t = table_of_rows c.rows
+
+    by_transient : (x : Awaited) (y : Transient) → (y ≢ SmD → tag_at core line c.contents ≡ None) → FillsIf c core what (through c None (completed_in t core line y x.state x.flushed c.contents))
+    by_transient x IsD absent dirty = record { came = line; state = x.state; accessed = at; absent = absent (λ z. (let y : ⊥ = cc in y)); own = refl; writes = dirty }
+    by_transient x ImD absent dirty = record { came = line; state = x.state; accessed = at; absent = absent (λ z. (let y : ⊥ = cc in y)); own = refl; writes = dirty }
+    by_transient x SmD absent dirty = absurd (let z : ⊥ = cc in z)
+
+    by_awaited : (w : Option Awaited) → MayComplete w core line c.contents → FillsIf c core what (through c None (completed t core line w c.contents))
+    by_awaited None may = λ dirty. absurd (let z : ⊥ = cc in z)
+    by_awaited (Some x) may = by_transient x x.transient may.absent
+
+completes-fills : (c : Caches) (core : ℕ) (what : MemoryAccess) → MayMake c core what → FillsIf c core what (completing_by c core what)
+completes-fills c core NoAccess may = λ dirty. absurd (let z : ⊥ = cc in z)
+completes-fills c core (Reads loc) may = completion-fills c core loc (Reads loc) refl may
+completes-fills c core (Writes loc) may = completion-fills c core loc (Writes loc) refl may
+completes-fills c core (Locks loc) may = completion-fills c core loc (Locks loc) refl may
+
+-- and nobody but this choice holds the bus before it
+record FillsAlone (c : Caches) (a : Choice) (what : MemoryAccess) (holder : Holder) (u : Used) : Type 0 where
+  fills : Fills c (chosen a) what u
+  alone : (holder ≡ Free) ⊎ (holder ≡ HeldBy a)
+
+fills-alone : (c : Caches) (a : Choice) (before after : Choice → MemoryAccess) (holder next : Holder) (u : Used) → UsesOn c a before after holder next u → HolderMayMake before holder c → wrote_in u.how ≡ true
+    → FillsAlone c a (before a) holder u
+fills-alone c a before after holder next u (made it (inl free) stays) may dirty = record { fills = use-fills c (chosen a) (before a) u it dirty; alone = inl free.0 }
+fills-alone c a before after holder next u (made it (inr free) stays) may dirty = let clean = (use-still c (chosen a) (before a) u it free).clean in absurd (let z : ⊥ = cc in z)
+fills-alone c a before after holder next u (unused is stays) may dirty = let z : false ≡ true = subst (λ (x : Used). wrote_in x.how ≡ true) is dirty in absurd (let y : ⊥ = cc in y)
+fills-alone c a before after holder next u (begun is held same) may dirty =
+    let z : false ≡ true = sym (asks-quiet c (chosen a) (before a)) ∙ subst (λ (x : Used). wrote_in x.how ≡ true) is dirty in absurd (let y : ⊥ = cc in y)
+fills-alone c a before after holder next u (ended is held rest) may dirty = record {
+  fills = subst (FillsIf c (chosen a) (before a)) (sym is) (completes-fills c (chosen a) (before a) (subst (λ x. HolderMayMake before x c) held may)) dirty;
+  alone = inr held;
+}
+
+-- ---- what is awaited, of another line than the one that comes in
+
+beside-awaited : (m : Running) (choice : Choice) (holder : Holder) (words core came line : ℕ) → (holder ≡ Free) ⊎ (holder ≡ HeldBy choice)
+    → at_access None (λ loc write. Some (loc.0 / words)) (access_of m.test m.depth m.state.flat choice) ≡ Some came → line ≢ came
+    → awaited_at (bus_holder_as m.test m.depth m.state.flat m.statistics.caches.awaited holder) words core line ≡ None
+beside-awaited m choice holder words core came line (inl free) at n = ap (λ h. awaited_at (bus_holder_as m.test m.depth m.state.flat m.statistics.caches.awaited h) words core line) free
+beside-awaited m choice holder words core came line (inr held) at n =
+    ap (λ h. awaited_at (bus_holder_as m.test m.depth m.state.flat m.statistics.caches.awaited h) words core line) held ∙ by_access (access_of m.test m.depth m.state.flat choice) at
+  where
+    by_tests : (a b : Bool) (x : Option Transient) → b ≡ false → (if a && b then x else None) ≡ None
+    by_tests true b x q = ap (λ c. if c then x else None) q
+    by_tests false b x q = refl
+
+    other : (loc : ℕ) → Some (loc / words) ≡ Some came → (loc / words == line) ≡ false
+    other loc at = by_test (loc / words == line) refl
+      where
+        is : loc / words ≡ came
+        is = cc
+
+        by_test : (b : Bool) → (loc / words == line) ≡ b → (loc / words == line) ≡ false
+        by_test true q = absurd (n (sym (grind (arith, nat_tests, q)) ∙ is))
+        by_test false q = q
+
+    by_access : (what : MemoryAccess) → at_access None (λ loc write. Some (loc.0 / words)) what ≡ Some came
+        → awaited_at (at_access None (λ loc write. Some (bus_holder choice loc m.statistics.caches.awaited)) what) words core line ≡ None
+    by_access NoAccess at = absurd (let z : ⊥ = cc in z)
+    by_access (Reads loc) at = by_tests (chosen choice == core) (loc.0 / words == line) _ (other loc.0 at)
+    by_access (Writes loc) at = by_tests (chosen choice == core) (loc.0 / words == line) _ (other loc.0 at)
+    by_access (Locks loc) at = by_tests (chosen choice == core) (loc.0 / words == line) _ (other loc.0 at)
+
+-- ---- the line that is lost was the last
+
+lost-last : (n line : ℕ) (s : protocol.State) (es : List (ℕ × protocol.State)) → length es ≤ suc n → lookup (nat_eq line) es ≡ Some s → lookup (nat_eq line) (take n es) ≡ None → slice_get es n ≡ Some (line, s)
+lost-last n line s [] size there gone = absurd (let z : ⊥ = cc in z)
+lost-last zero line s (e ∷ []) size there gone = elim (eqb_tells line e.0) [
+  | inl p ↦ let is : Some e.1 ≡ Some s = rw p.0 at there in (let state : e.1 ≡ s = cc in ap (λ k. Some (k, e.1)) (sym p.1) ∙ ap (λ x. Some (line, x)) state)
+  | inr p ↦ let none : None ≡ Some s = rw p.0 at there in absurd (let z : ⊥ = cc in z)
+]
+lost-last zero line s (e ∷ (f ∷ es)) size there gone = absurd (omega (arith, size))
+lost-last (suc n) line s (e ∷ es) size there gone = elim (eqb_tells line e.0) [
+  | inl p ↦ let found : Some e.1 ≡ None = rw p.0 at gone in absurd (let z : ⊥ = cc in z)
+  | inr p ↦
+      let later : lookup (nat_eq line) es ≡ Some s = rw p.0 at there in
+      let lost : lookup (nat_eq line) (take n es) ≡ None = rw p.0 at gone in
+      lost-last n line s es (omega (arith, size)) later lost
+]
+
+set-last : (line came : ℕ) (s state : protocol.State) (set : TagSet) → length set.tags ≤ set.ways → nat_eq line came ≡ false → tag_of set line ≡ Some s → tag_of (filled came state set) line ≡ None
+    → leaving set ≡ Some (line, s)
+set-last line came s state set size apart there gone = by_ways set.ways size gone
+  where
+    by_ways : (ways : ℕ) → length set.tags ≤ ways → lookup (nat_eq line) (take ways ((came, state) ∷ set.tags)) ≡ None → slice_get set.tags (ways - 1) ≡ Some (line, s)
+    by_ways zero size gone = absurd (no_tags set.tags (omega (arith, size)) there)
+      where
+        no_tags : (es : List (ℕ × protocol.State)) → length es ≡ 0 → lookup (nat_eq line) es ≡ Some s → ⊥
+        no_tags [] q there = let z : ⊥ = cc in z
+        no_tags (e ∷ es) q there = let z : ⊥ = omega (arith, q) in z
+    by_ways (suc n) size gone =
+        let lost : lookup (nat_eq line) (take n set.tags) ≡ None = rw apart at gone in
+        let place : suc n - 1 ≡ n = omega arith in
+        subst (λ k. slice_get set.tags k ≡ Some (line, s)) (sym place) (lost-last n line s set.tags size there lost)
+
+-- among the sets of a cache
+sets-last : (line came : ℕ) (s state : protocol.State) (sets : TagSets) → length (tags_at sets came).tags ≤ (tags_at sets came).ways → nat_eq line came ≡ false → tag_in sets line ≡ Some s
+    → tag_in (at_line came (filled came state) sets) line ≡ None → leaving (tags_at sets came) ≡ Some (line, s)
+sets-last line came s state sets size apart there gone = elim (decide (line % length sets) place) [
+  | inl q ↦
+      let here : tag_of (tags_at sets came) line ≡ Some s = subst (λ k. tag_of (slice_index_or sets k no_set) line ≡ Some s) q there in
+      elim (lt-or (length sets) place) [
+        | inl l ↦ set-last line came s state (tags_at sets came) size apart here
+            (subst (λ set. tag_of set line ≡ None) (get_or-set_same sets place new no_set l) (subst (λ k. tag_of (slice_index_or (slice_set sets place new) k no_set) line ≡ None) q moved))
+        | inr past ↦ let none : None ≡ Some s = subst (λ set. tag_of set line ≡ Some s) (get_or_past sets place no_set past) here in absurd (let z : ⊥ = cc in z)
+      ]
+  | inr n ↦
+      let same : Some s ≡ None = sym there ∙ subst (λ set. tag_of set line ≡ None) (get_or-set_other sets place (line % length sets) new no_set n) moved in
+      absurd (let z : ⊥ = cc in z)
+]
+  where
+    place : ℕ
+    place = came % length sets
+
+    new : TagSet
+    new = filled came state (tags_at sets came)
+
+    moved : tag_of (slice_index_or (slice_set sets place new) (line % length sets) no_set) line ≡ None
+    moved = subst (λ n. tag_of (slice_index_or (slice_set sets place new) (line % n) no_set) line ≡ None) (length-set sets place new) gone
+
+-- ---- the choice
+
+-- a line in I has no copy, where no copy is in I; and a line in another state has one where nothing is awaited
+absent-copy : (x : Option Transient) (o : Option protocol.State) → o ≢ Some tag.I → number_of (state_with x o) ≡ 0 → o ≡ None
+absent-copy x None n h = refl
+absent-copy (Some IsD) (Some s) n h = absurd (let z : ⊥ = omega (arith, h) in z)
+absent-copy (Some ImD) (Some s) n h = absurd (let z : ⊥ = omega (arith, h) in z)
+absent-copy (Some SmD) (Some s) n h = absurd (let z : ⊥ = omega (arith, h) in z)
+absent-copy None (Some tag.I) n h = absurd (n refl)
+absent-copy None (Some tag.S) n h = absurd (let z : ⊥ = omega (arith, h) in z)
+absent-copy None (Some tag.E) n h = absurd (let z : ⊥ = omega (arith, h) in z)
+absent-copy None (Some tag.O) n h = absurd (let z : ⊥ = omega (arith, h) in z)
+absent-copy None (Some tag.M) n h = absurd (let z : ⊥ = omega (arith, h) in z)
+
+present-copy : (o : Option protocol.State) → number_of (state_with None o) ≢ 0 → Has o
+present-copy None n = absurd (n refl)
+present-copy (Some s) n = (s, refl)
+
+wrote-parts : (how : CacheUse) (core line : ℕ) (changes : List StateChange) → wrote_back_by how core changes ≡ Some line → (wrote_in how ≡ true) × (left_by core changes ≡ Some line)
+wrote-parts Unused core line changes h = absurd (let z : ⊥ = cc in z)
+wrote-parts Forwarded core line changes h = absurd (let z : ⊥ = cc in z)
+wrote-parts (Through a) core line changes h = by_test a.wrote_back refl h
+  where
+    by_test : (b : Bool) → a.wrote_back ≡ b → (if b then left_by core changes else None) ≡ Some line → (a.wrote_back ≡ true) × (left_by core changes ≡ Some line)
+    by_test true q h = (q, h)
+    by_test false q h = absurd (let z : ⊥ = cc in z)
+
+dirty-some : (t : Table) (o : Option (ℕ × protocol.State)) → dirty_in t o ≡ true → Has o
+dirty-some t None h = absurd (let z : ⊥ = cc in z)
+dirty-some t (Some v) h = (v, refl)
+
+-- a line that comes into a set in which another gives way is there
+came-in : (came : ℕ) (state : protocol.State) (set : TagSet) (v : ℕ × protocol.State) → length set.tags ≤ set.ways → leaving set ≡ Some v → tag_of (filled came state set) came ≡ Some state
+came-in came state set v size leaves = by_ways set.ways size
+  where
+    some_tags : (es : List (ℕ × protocol.State)) (n : ℕ) → slice_get es n ≡ Some v → length es ≢ 0
+    some_tags [] n h q = let z : ⊥ = cc in z
+    some_tags (e ∷ es) n h q = let z : ⊥ = omega (arith, q) in z
+
+    by_ways : (ways : ℕ) → length set.tags ≤ ways → lookup (nat_eq came) (take ways ((came, state) ∷ set.tags)) ≡ Some state
+    by_ways zero size = absurd (some_tags set.tags (set.ways - 1) leaves (omega (arith, size)))
+    by_ways (suc n) size = rw (eq-eqb came came refl) refl
+
+came-there : (came : ℕ) (state : protocol.State) (sets : TagSets) (v : ℕ × protocol.State) → length (tags_at sets came).tags ≤ (tags_at sets came).ways → leaving (tags_at sets came) ≡ Some v
+    → tag_in (at_line came (filled came state) sets) came ≡ Some state
+came-there came state sets v size leaves =
+    subst (λ n. tag_of (slice_index_or (slice_set sets place new) (came % n) no_set) came ≡ Some state) (sym (length-set sets place new)) (elim (lt-or (length sets) place) [
+      | inl l ↦ subst (λ set. tag_of set came ≡ Some state) (sym (get_or-set_same sets place new no_set l)) (came-in came state (tags_at sets came) v size leaves)
+      | inr past ↦ let none : leaving no_set ≡ Some v = subst (λ set. leaving set ≡ Some v) (get_or_past sets place no_set past) leaves in absurd (let z : ⊥ = cc in z)
+    ])
+  where
+    place : ℕ
+    place = came % length sets
+
+    new : TagSet
+    new = filled came state (tags_at sets came)
+
+gave-way : (m : Running) (choice : Choice) → IsKept m → chosen choice < length m.statistics.counts → KeepsWays m (chosen choice) → WriteBacksAreTold m choice
+unfolding steps.step_of
+gave-way m choice kept within ways line told = record {
+  came = f.came;
+  state = there.0;
+  accessed = f.accessed;
+  absent = f.absent;
+  last = last;
+  dirty = subst (λ o. dirty_in (table_of_rows caches.rows) o ≡ true) last f.writes;
+}
+  where
+    core : ℕ
+    core = chosen choice
+
+    caches : Caches
+    caches = m.statistics.caches
+
+    next : Running
+    next = machine_after m choice
+
+    parts : (wrote_in (use_by m choice).how ≡ true) × (left_by core (changes_in (states_of m) (states_of next)) ≡ Some line)
+    parts = wrote-parts (use_by m choice).how core line (changes_in (states_of m) (states_of next)) told
+
+    left : LeavesLine m next core line
+    left = left-sound m next core line refl (lines-kept m choice) parts.1
+
+    alone : FillsAlone caches choice (access_of m.test m.depth m.state.flat choice) m.state.holder (use_by m choice)
+    alone = fills-alone caches choice (access_of m.test m.depth m.state.flat) (access_of m.test m.depth next.state.flat) m.state.holder next.state.holder (use_by m choice) (uses-of m choice kept) kept.may parts.0
+
+    f : Fills caches core (access_of m.test m.depth m.state.flat choice) (use_by m choice)
+    f = alone.fills
+
+    sets : TagSets
+    sets = sets_of caches.contents core
+
+    own : sets_of next.statistics.caches.contents core ≡ at_line f.came (filled f.came f.state) sets
+    own = f.own ∙ get_or-set_same caches.contents core (at_line f.came (filled f.came f.state) sets) [] (subst (λ n. core < n) kept.sound.size within)
+
+    gives : Has (leaving (tags_at sets f.came))
+    gives = dirty-some (table_of_rows caches.rows) (leaving (tags_at sets f.came)) f.writes
+
+    gone : tag_in (at_line f.came (filled f.came f.state) sets) line ≡ None
+    gone = subst (λ s. tag_in s line ≡ None) own (absent-copy (awaited_at (bus_holder_of next) next.statistics.caches.shape.words core line) (tag_at core line next.statistics.caches.contents)
+        (λ q. found-valid (lines_of next) line tag.I (sets_of next.statistics.caches.contents core) ((kept-after m choice kept).neat core) q refl) left.is)
+
+    apart : line ≢ f.came
+    apart same =
+        let here : tag_in (at_line f.came (filled f.came f.state) sets) line ≡ Some f.state =
+        subst (λ k. tag_in (at_line f.came (filled f.came f.state) sets) k ≡ Some f.state) (sym same) (came-there f.came f.state sets gives.0 (ways f.came) gives.1) in
+        let z : None ≡ Some f.state = sym gone ∙ here in
+        let y : ⊥ = cc in y
+
+    there : Has (tag_in sets line)
+    there = present-copy (tag_in sets line) (subst (λ x. number_of (state_with x (tag_in sets line)) ≢ 0)
+        (beside-awaited m choice m.state.holder caches.shape.words core f.came line alone.alone f.accessed apart) left.was)
+
+    beside : (nat_eq line f.came ≡ true) × (line ≡ f.came) ⊎ (nat_eq line f.came ≡ false) × (line ≢ f.came) → nat_eq line f.came ≡ false
+    beside (inl p) = absurd (apart p.1)
+    beside (inr p) = p.0
+
+    last : leaving (tags_at sets f.came) ≡ Some (line, there.0)
+    last = sets-last line f.came there.0 f.state sets (ways f.came) (beside (eqb_tells line f.came)) there.1 gone
+
+-- ---- along the choices
+
+kept-along : (m : Running) (choices : List Choice) → IsKept m → IsKept (after_choices m choices)
+kept-along m [] k = k
+kept-along m (c ∷ cs) k = kept-along (machine_after m c) cs (kept-after m c k)
+
+same-test : (m : Running) (choices : List Choice) → (after_choices m choices).test ≡ m.test
+same-test m [] = refl
+same-test m (c ∷ cs) = same-test (machine_after m c) cs
+
+pub write-backs-told : (table : Table) (c : Configuration) (t : Litmus) (choices : List Choice) (choice : Choice) → IsTest t → 0 < c.shape.words → KeepsNoCopyInI table → chosen choice < length t.programs
+    → KeepsWays (after_choices (new_machine table c t) choices) (chosen choice) → WriteBacksAreTold (after_choices (new_machine table c t) choices) choice
+write-backs-told table c t choices choice test words keeps within ways =
+    let kept = kept-along (new_machine table c t) choices (kept-first table c t test words keeps) in
+    let core : chosen choice < length (after_choices (new_machine table c t) choices).statistics.counts =
+    subst (λ n. chosen choice < n) (sym (kept.cores ∙ ap (λ (x : Litmus). length x.programs) (same-test (new_machine table c t) choices))) within in
+    gave-way (after_choices (new_machine table c t) choices) choice kept core ways
