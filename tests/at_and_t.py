@@ -1,16 +1,22 @@
 """Tests in AT&T's order of operands for tests/hints.py, made from a seed: each is followed, hint by hint, to what the program reads.
 
-What is read in the end has to be what tools/import makes of the text: no hint leads to another program.
+What is read in the end has to be what tools/import makes of the text: no hint leads to another program. Of instructions that it refuses
+nothing is read.
 """
 import random
 
 import tool_runs
 import litmus
 from cures import followed
+from import_forms import x86
 
 importing = tool_runs.script("import")
 
 SEED, COUNT = 1, 200
+
+# Instructions that tools/import refuses.
+REFUSED = ("movl $1,(%rsi)", "movl %eax,(%rsi)", "movl $-1,(x)", "movb $1,(x)", "lock xaddq %rax,(x)", "xaddl %eax,(x)", "xchgl %eax,%ebx",
+           "MOV EAX,(x)", "MOV (x),EAX", "movl %eax,[x]", "movl [x],%eax")
 
 # The registers of 64 bits, each with its part of 32 bits.
 REGISTERS = {"rax": "eax", "rbx": "ebx", "rcx": "ecx", "rdx": "edx", "rsi": "esi", "rdi": "edi", "r8": "r8d", "r9": "r9d", "r15": "r15d"}
@@ -125,7 +131,14 @@ def faults_of(program, text):
     return ["is read as another test:"] + read.split("\n") + ["where tools/import makes of it"] + wanted.text().split("\n") + hints
 
 
+def faults_of_refused(program, text):
+    read, hints = followed(program, text)
+    return [] if read is None else ["is read, where tools/import refuses it:"] + read.split("\n") + hints
+
+
 def works():
     """Names of the texts, each with a function of a program's faults."""
-    return [("the hints on an AT&T text, %d" % number, lambda program, text=text: faults_of(program, text))
+    made = [("the hints on an AT&T text, %d" % number, lambda program, text=text: faults_of(program, text))
             for number, text in enumerate(texts())]
+    return made + [("the hints on %s, which can't be imported" % cell, lambda program, cell=cell: faults_of_refused(program, x86(cell)))
+                   for cell in REFUSED]

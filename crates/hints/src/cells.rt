@@ -1,10 +1,11 @@
 //! What is said of a cell that spells no instruction: which form was meant, where that can be seen, and what in it differs.
 
+use crate::instructions::{FORMS, LOCKED, SIZED, SIZES, STRAIGHT, UNLOCKED};
 use crate::operands::source_first;
-use crate::quotes::{token, up_to, without_end};
+use crate::quotes::{token, up_to};
 use crate::tables::{Alike, said_of, said_of_front};
 use crate::words::{Piece, Words, around, listed, naming, plain};
-use litmus_tokens::{Lexeme, Symbol, Token, is_symbol, tokens_of};
+use litmus_tokens::{Lexeme, Symbol, Token, after_symbol, is_symbol, tokens_of};
 use std::alloc::Global;
 use tso_model::names::is_location_name;
 use tso_model::{NoMemory, Reg};
@@ -13,79 +14,18 @@ const NO_INSTRUCTION: &str = " is not one of MOV, MFENCE, XCHG, LOCK XADD";
 
 const NO_REGISTER: &str = " is none of EAX, EBX, ECX, EDX, ESI, EDI; a location is written [x]";
 
-const NO_LOCATION: &str = " names no location: [ ] has a location's name alone";
-
-/// By how its name begins, an instruction that isn't read without LOCK.
-static UNLOCKED: [Alike; 3] = [
-    Alike {
-        words: &["MFENCE"],
-        said: " stands alone in its cell",
-    },
-    Alike {
-        words: &["SFENCE", "LFENCE"],
-        said: " isn't read: it changes nothing between plain loads and stores, so leave it out",
-    },
-    Alike {
-        words: &["XADD"],
-        said: " isn't read without LOCK, which makes it one step: LOCK XADD [x],EAX",
-    },
-];
-
-/// By how its name begins, an instruction that isn't read after LOCK.
-static LOCKED: [Alike; 1] = [Alike {
-    words: &["MOV"],
-    said: " can't be locked: LOCK stands before XCHG or XADD alone",
-}];
-
-/// The name of an instruction with the size of its operands.
-static SIZED: [Alike; 5] = [
-    Alike {
-        words: &["MOVL", "MOVQ"],
-        said: ": write MOV, for words of 32 bits",
-    },
-    Alike {
-        words: &["XCHGL", "XCHGQ"],
-        said: ": write XCHG, for words of 32 bits",
-    },
-    Alike {
-        words: &["XADDL"],
-        said: ": write XADD, for words of 32 bits",
-    },
-    Alike {
-        words: &["XADDQ"],
-        said: " isn't read: a sum of 64 bits isn't one of 32",
-    },
-    Alike {
-        words: &["MOVB", "MOVW", "XCHGB", "XCHGW", "XADDB", "XADDW"],
-        said: " isn't read: words of 32 bits have no parts here",
-    },
-];
-
-/// The forms of an instruction.
-static FORMS: [Alike; 3] = [
-    Alike {
-        words: &["MOV"],
-        said: "MOV has the forms MOV [x],$1  MOV [x],EAX  MOV EAX,[x]  MOV EAX,$1  MOV EAX,EBX",
-    },
-    Alike {
-        words: &["XCHG"],
-        said: "XCHG has the forms XCHG [x],EAX  XCHG EAX,[x]",
-    },
-    Alike {
-        words: &["XADD"],
-        said: "LOCK XADD has the form LOCK XADD [x],EAX",
-    },
-];
+const NO_LOCATION: &str =
+    " names no location, and addresses in registers aren't read: [ ] has a location's own name, as [x]";
 
 /// Of the cell at the front of a text.
 ///
 /// Errors: out of memory only.
 pub fn bad_instruction<'a>(alloc: Global, rest: &'a [u8]) -> Result<Words<'a>, NoMemory> {
-    let cell = without_end(up_to(up_to(rest, b'|'), b';'));
+    let cell = up_to(up_to(rest, b'|'), b';').trim_ascii_end();
     if cell.contains(&b'\n') {
         return Ok(around(
             "no ; or | stands at the end of ",
-            Piece::Named(without_end(up_to(cell, b'\n'))),
+            Piece::Named(up_to(cell, b'\n').trim_ascii_end()),
             "",
         ));
     }
@@ -98,6 +38,9 @@ fn cell_words<'a>(cell: &'a [u8], tokens: &[Token<'a>]) -> Words<'a> {
     let Some((name, operands)) = first_name(tokens) else {
         return otherwise;
     };
+    if after_symbol(Symbol::Colon, operands).is_some() {
+        return naming(name, STRAIGHT);
+    }
     if !name.eq_ignore_ascii_case(b"LOCK") {
         return instruction_words(cell, &UNLOCKED, name, operands, otherwise);
     }
@@ -176,10 +119,10 @@ fn misfit<'a>(in_brackets: bool, name: &'a [u8]) -> Option<Words<'a>> {
         None
     } else if in_brackets && !is_location_name(name) {
         Some(naming(name, NO_LOCATION))
-    } else if !in_brackets && Reg::from_name(name).is_none() {
-        Some(naming(name, NO_REGISTER))
-    } else {
+    } else if in_brackets || Reg::from_name(name).is_some() {
         None
+    } else {
+        Some(naming(name, said_of(&SIZES, name).unwrap_or(NO_REGISTER)))
     }
 }
 

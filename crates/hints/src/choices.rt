@@ -1,7 +1,8 @@
 //! What is said of choices: the word at fault, and which words may stand there.
 
+use crate::faults::ONE_TEST;
 use crate::printing::Where;
-use crate::quotes::{is_all_digits, is_space};
+use crate::quotes::{SPACES, is_all_digits};
 use crate::words::{Piece, Words, listed, naming, plain, six};
 use scheduler::{ChoiceFault, MAX_CHOICES};
 use std::alloc::{AllocError, Global};
@@ -29,7 +30,7 @@ pub fn choice_words<'a>(
 }
 
 pub fn split_words(alloc: Global, text: &[u8]) -> Result<Vec<&[u8]>, AllocError> {
-    text.split(|byte| is_space(*byte))
+    text.split(|byte| SPACES.contains(byte))
         .filter(|word| !word.is_empty())
         .collect(alloc)
 }
@@ -138,6 +139,8 @@ fn bad_first<'a>(word: &'a [u8]) -> Words<'a> {
             word,
             ": one line ==== stands in an input, between the test and the choices",
         )
+    } else if word.starts_with(b"X86") {
+        plain(ONE_TEST)
     } else if word == b"Test".as_slice() || word == b"Order".as_slice() {
         naming(
             word,

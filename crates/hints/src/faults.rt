@@ -9,7 +9,8 @@ use crate::openings::{bad_init, bad_token, no_header, unclosed};
 use crate::place::Place;
 use crate::quotes::up_to;
 use crate::rows::{bad_header_row, too_large, wrong_cells};
-use crate::words::{Piece, Words, around, listed, naming};
+use crate::tables::is_one_of;
+use crate::words::{Piece, Words, around, listed, naming, plain};
 use litmus_reader::Why;
 use std::alloc::Global;
 use tso_model::NoMemory;
@@ -24,6 +25,9 @@ pub fn test_words<'a>(
     place: Place<'a>,
     why: Why,
 ) -> Result<Words<'a>, NoMemory> {
+    if let Some(said) = foreign_line(place, why) {
+        return Ok(plain(said));
+    }
     match why {
         Why::NoHeader => Ok(no_header(place)),
         Why::Unclosed => Ok(unclosed(asked, is_divided, place)),
@@ -39,6 +43,19 @@ pub fn test_words<'a>(
         Why::BadCondition => Ok(bad_condition(place)),
         Why::Trailing => Ok(trailing(asked, is_divided, place)),
         Why::NoMemory => Err(NoMemory),
+    }
+}
+
+/// Of a line that is no part of a test as it is read, whatever is at fault in it.
+fn foreign_line(place: Place<'_>, why: Why) -> Option<&'static str> {
+    if matches!(why, Why::NoHeader | Why::TooLarge) {
+        None
+    } else if place.from_line().starts_with(b";;") {
+        Some(COMMENT)
+    } else if place.token().starts_with(b"X86") {
+        Some(ONE_TEST)
+    } else {
+        None
     }
 }
 
@@ -73,6 +90,16 @@ fn trailing<'a>(asked: SecondPart, is_divided: bool, place: Place<'a>) -> Words<
 const FORM: &str =
     ": a condition is exists, ~exists or forall, and then atoms as 0:EAX=1, x=1 or true, joined by /\\ and \\/";
 
+const OTHER_REGISTER: &str =
+    " is none of EAX, EBX, ECX, EDX, ESI, EDI, the registers of 32 bits: tools/import renames others, but no parts as AL";
+
+/// What is said of a comment of another form.
+pub const COMMENT: &str = "a comment is written (* .. *)";
+
+/// What is said of a second test.
+pub const ONE_TEST: &str =
+    "a second test begins here: an input has one, so make a call for each; tools/campaign takes many";
+
 /// What is said of a sign or a word that other programs write in a condition.
 pub const CONNECTIVES: &str =
     ": in a condition write /\\ for and, \\/ for or, ~ for not, and = alone";
@@ -81,8 +108,8 @@ pub const CONNECTIVES: &str =
 pub fn bad_condition<'a>(place: Place<'a>) -> Words<'a> {
     if let Some(words) = foreign_form(place) {
         words
-    } else if place.is_register() {
-        naming(place.token(), " is none of EAX, EBX, ECX, EDX, ESI, EDI")
+    } else if let Some(words) = foreign_register(place) {
+        words
     } else if place.rest.is_empty() {
         around("the test ends within its condition", Piece::Text(FORM), "")
     } else {
@@ -108,8 +135,18 @@ pub fn foreign_form<'a>(place: Place<'a>) -> Option<Words<'a>> {
 
 fn is_connective(place: Place<'_>) -> bool {
     let token = place.token();
-    token == b"|".as_slice()
+    is_one_of(&["|", "and", "or"], token)
         || (token == b"=".as_slice() && place.last_word() == b"=".as_slice())
-        || token.eq_ignore_ascii_case(b"and")
-        || token.eq_ignore_ascii_case(b"or")
+}
+
+/// What is said of a register of another form: of one that isn't read, or of the `P` of its core.
+pub fn foreign_register<'a>(place: Place<'a>) -> Option<Words<'a>> {
+    let last = place.last_word();
+    if place.is_register() {
+        Some(naming(place.token(), OTHER_REGISTER))
+    } else if place.rest.starts_with(b":") && last.starts_with(b"P") {
+        Some(naming(last, ": a core is its number alone here, as in 0:EAX"))
+    } else {
+        None
+    }
 }

@@ -8,10 +8,12 @@
 mod body;
 mod cause;
 mod cells;
+mod characters;
 mod choices;
 mod divider;
 mod faults;
 mod hinting;
+mod instructions;
 mod lines;
 mod numbers;
 mod openings;

@@ -5,9 +5,14 @@ ghost use Rattle.std.specs.Prelude.{IfOk, IfSome, string_bytes};
 ghost use Rattle.hints.specs.Hint.{IsHint};
 
 use crate::printing::{Where, hint};
+use crate::quotes::up_to;
 use crate::words::{Piece, Words, listed, plain, six};
 use std::alloc::Global;
 use tso_model::NoMemory;
+
+const COMMANDS: [&str; 7] = [
+    "run", "trace", "sweep", "outcomes", "check", "witness", "tables",
+];
 
 /// The hint of a command line that was refused, by its words, the first of which is the program's name.
 /// `None` where nothing more is known of it.
@@ -28,21 +33,14 @@ fn line_words<'a>(words: &[&'a str]) -> Option<Words<'a>> {
     if asks_for_help(words) {
         return None;
     }
-    if !is_command(command) {
+    if !is_exactly_one_of(&COMMANDS, command.as_bytes()) {
         return no_command(command);
     }
     words_after(command, words)
 }
 
 fn asks_for_help(words: &[&str]) -> bool {
-    words.iter().any(|word| *word == "--help" || *word == "-h")
-}
-
-fn is_command(word: &str) -> bool {
-    matches!(
-        word,
-        "run" | "trace" | "sweep" | "outcomes" | "check" | "witness" | "tables"
-    )
+    is_exactly_one_of(words, b"--help") || is_exactly_one_of(words, b"-h")
 }
 
 /// Of a line whose first word names a file and no command.
@@ -84,14 +82,14 @@ fn word_after<'a>(command: &'a str, option: &str, word: &'a str) -> Option<Words
         return Some(file_named(command, word));
     }
     let name = name_of(word);
-    let owners = owners_of(name)?;
-    if has_option(command, name) {
+    let option = option_named(name)?;
+    if is_exactly_one_of(option.commands, command.as_bytes()) {
         return None;
     }
     Some(listed(
         Piece::Shown(name),
         Piece::Text(" is an option of "),
-        Piece::Text(owners),
+        Piece::Text(option.owners),
         Piece::Text(""),
     ))
 }
@@ -113,60 +111,66 @@ fn file_named<'a>(command: &'a str, word: &'a str) -> Words<'a> {
 
 /// An option without the value that follows its `=`.
 fn name_of(word: &str) -> &[u8] {
-    let bytes = word.as_bytes();
-    let count = bytes.iter().take_while(|byte| **byte != b'=').count();
-    let (name, _) = bytes.split_at(count.min(bytes.len()));
-    name
+    up_to(word.as_bytes(), b'=')
 }
 
-/// The commands that have an option.
-fn owners_of(name: &[u8]) -> Option<&'static str> {
-    if is_one_of(name, &["--protocol"]) {
-        Some("run, trace, sweep and tables")
-    } else if is_one_of(name, &["--depth"]) {
-        Some("run, trace, sweep, outcomes and witness")
-    } else if is_one_of(name, &["--sets", "--ways", "--words", "--bus"]) {
-        Some("run, trace and sweep")
-    } else if is_one_of(name, &["--from", "--seeds", "--length"]) {
-        Some("sweep")
-    } else if is_one_of(name, &["--states"]) {
-        Some("outcomes")
-    } else if is_one_of(name, &["--json"]) {
-        Some("run, trace and outcomes")
-    } else {
-        None
+/// Options that the same commands have, and these commands in words.
+struct Owned {
+    options: &'static [&'static str],
+    commands: &'static [&'static str],
+    owners: &'static str,
+}
+
+static OPTIONS: [Owned; 6] = [
+    Owned {
+        options: &["--protocol"],
+        commands: &["run", "trace", "sweep", "tables"],
+        owners: "run, trace, sweep and tables",
+    },
+    Owned {
+        options: &["--depth"],
+        commands: &["run", "trace", "sweep", "outcomes", "witness"],
+        owners: "run, trace, sweep, outcomes and witness",
+    },
+    Owned {
+        options: &["--sets", "--ways", "--words", "--bus"],
+        commands: &["run", "trace", "sweep"],
+        owners: "run, trace and sweep",
+    },
+    Owned {
+        options: &["--from", "--seeds", "--length"],
+        commands: &["sweep"],
+        owners: "sweep",
+    },
+    Owned {
+        options: &["--states"],
+        commands: &["outcomes"],
+        owners: "outcomes",
+    },
+    Owned {
+        options: &["--json"],
+        commands: &["run", "trace", "outcomes"],
+        owners: "run, trace and outcomes",
+    },
+];
+
+/// The entry of an option, if some command has it.
+fn option_named(name: &[u8]) -> Option<&'static Owned> {
+    for owned in &OPTIONS {
+        if is_exactly_one_of(owned.options, name) {
+            return Some(owned);
+        }
     }
+    None
 }
 
-/// Whether a command has an option.
-fn has_option(command: &str, name: &[u8]) -> bool {
-    match command {
-        "run" | "trace" => is_machine_option(name) || is_one_of(name, &["--json"]),
-        "sweep" => is_machine_option(name) || is_one_of(name, &["--from", "--seeds", "--length"]),
-        "outcomes" => is_one_of(name, &["--depth", "--states", "--json"]),
-        "witness" => is_one_of(name, &["--depth"]),
-        "tables" => is_one_of(name, &["--protocol"]),
-        _ => false,
+fn is_exactly_one_of(words: &[&str], word: &[u8]) -> bool {
+    for one in words {
+        if one.as_bytes() == word {
+            return true;
+        }
     }
-}
-
-/// Whether an option is one that a machine is built by.
-fn is_machine_option(name: &[u8]) -> bool {
-    is_one_of(
-        name,
-        &[
-            "--protocol",
-            "--depth",
-            "--sets",
-            "--ways",
-            "--words",
-            "--bus",
-        ],
-    )
-}
-
-fn is_one_of(name: &[u8], names: &[&str]) -> bool {
-    names.iter().any(|one| one.as_bytes() == name)
+    false
 }
 
 /// Whether the next word is an option's value.

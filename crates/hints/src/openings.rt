@@ -2,15 +2,81 @@
 //! doesn't end.
 
 use crate::cause::SecondPart;
+use crate::characters::foreign_character;
 use crate::divider::missing_divider;
-use crate::faults::CONNECTIVES;
+use crate::faults::{COMMENT, CONNECTIVES, foreign_register};
 use crate::numbers::GREATEST;
 use crate::operands::percent;
 use crate::place::Place;
 use crate::quotes::{begins_with_letter, is_bare, word};
+use crate::tables::{Alike, is_one_of, named_in, said_of_front};
 use crate::words::{Piece, Words, around, naming, plain, six};
 use tso_model::limits::MAX_NAME;
-use tso_model::names::is_location_name;
+use tso_model::names::{continues_name, is_location_name};
+
+/// Words that begin a test of another kind.
+static HEADERS: [Alike; 4] = [
+    Alike {
+        words: &["X86"],
+        said: ": write X86, in capitals",
+    },
+    Alike {
+        words: &["X86_64"],
+        said: " tests aren't read: tools/import turns them into X86 tests; by hand begin with X86 and a name, and use EAX, EBX, ECX, EDX, ESI, EDI",
+    },
+    Alike {
+        words: &[
+            "AArch64", "ARM", "PPC", "Power", "MIPS", "RISCV", "RISC-V", "S390", "Alpha", "SPARC",
+        ],
+        said: " is another processor: a test begins with X86, a space and its name; tools/import turns one of X86_64 into such",
+    },
+    Alike {
+        words: &["C", "CPP", "C11", "LISA", "Bell", "LLVM", "JAVA", "ASL"],
+        said: " is a language: a test begins with X86, a space and its name; tools/import turns one of X86_64 into such",
+    },
+];
+
+/// Words that stand after the rows of a test as it isn't read.
+static KEYWORDS: [Alike; 6] = [
+    Alike {
+        words: &["exist", "exists"],
+        said: " is no instruction: write exists",
+    },
+    Alike {
+        words: &["forall"],
+        said: " is no instruction: write forall",
+    },
+    Alike {
+        words: &["location", "locations"],
+        said: " is no instruction: write locations",
+    },
+    Alike {
+        words: &["not"],
+        said: " exists isn't read: write ~exists",
+    },
+    Alike {
+        words: &["forbidden"],
+        said: " isn't read: write ~exists",
+    },
+    Alike {
+        words: &["filter", "final"],
+        said: " isn't read: a condition is exists, ~exists or forall",
+    },
+];
+
+/// Types of items in tests of other programs.
+const TYPES: [&str; 10] = [
+    "int",
+    "char",
+    "short",
+    "long",
+    "unsigned",
+    "signed",
+    "volatile",
+    "const",
+    "atomic_int",
+    "_Atomic",
+];
 
 /// Of a header line.
 pub fn no_header<'a>(place: Place<'a>) -> Words<'a> {
@@ -20,14 +86,10 @@ pub fn no_header<'a>(place: Place<'a>) -> Words<'a> {
         plain("no test: give one on standard input, as in: tso run < FILE")
     } else if rest.starts_with(b"\xef\xbb\xbf") {
         plain("a byte order mark stands before X86: save the file without it")
-    } else if word.starts_with(b"X86_64") {
-        plain(
-            "X86_64 tests aren't read: tools/import turns them into X86 tests; by hand begin with X86 and a name, and use EAX, EBX, ECX, EDX, ESI, EDI",
-        )
     } else if word == b"X86".as_slice() {
         plain("after X86 stands a space and then the test's name, in printable ASCII")
-    } else if word.eq_ignore_ascii_case(b"X86") {
-        naming(word, ": write X86, in capitals")
+    } else if let Some(words) = named_in(&HEADERS, word) {
+        words
     } else {
         around(
             "a test begins with X86, a space and its name: here stands ",
@@ -59,45 +121,16 @@ pub fn unclosed<'a>(asked: SecondPart, is_divided: bool, place: Place<'a>) -> Wo
 
 fn unclosed_row<'a>(asked: SecondPart, is_divided: bool, place: Place<'a>) -> Words<'a> {
     let token = place.token();
-    if let Some(words) = nearly_keyword(token) {
-        return words;
-    }
-    match missing_divider(asked, is_divided, place.rest) {
-        Some(words) => words,
-        None => around(
+    if let Some(words) = named_in(&KEYWORDS, token) {
+        words
+    } else if let Some(words) = missing_divider(asked, is_divided, place.rest) {
+        words
+    } else {
+        around(
             "no ; ends the row that begins with ",
             Piece::Named(token),
             "",
-        ),
-    }
-}
-
-/// What is said of a word that is nearly one that stands after the rows.
-fn nearly_keyword<'a>(token: &'a [u8]) -> Option<Words<'a>> {
-    if token.eq_ignore_ascii_case(b"exist") || token.eq_ignore_ascii_case(b"exists") {
-        Some(naming(token, " is no instruction: write exists"))
-    } else if token.eq_ignore_ascii_case(b"forall") {
-        Some(naming(token, " is no instruction: write forall"))
-    } else if token.eq_ignore_ascii_case(b"location") || token.eq_ignore_ascii_case(b"locations") {
-        Some(naming(token, " is no instruction: write locations"))
-    } else {
-        foreign_keyword(token)
-    }
-}
-
-/// What is said of a word that stands after the rows in tests of other programs.
-fn foreign_keyword<'a>(token: &'a [u8]) -> Option<Words<'a>> {
-    if token == b"not".as_slice() {
-        Some(plain("not exists isn't read: write ~exists"))
-    } else if token.eq_ignore_ascii_case(b"forbidden") {
-        Some(naming(token, " isn't read: write ~exists"))
-    } else if token.eq_ignore_ascii_case(b"filter") || token.eq_ignore_ascii_case(b"final") {
-        Some(naming(
-            token,
-            " isn't read: a condition is exists, ~exists or forall",
-        ))
-    } else {
-        None
+        )
     }
 }
 
@@ -144,7 +177,7 @@ fn no_brackets<'a>(place: Place<'a>) -> Words<'a> {
 fn begins_token(text: &[u8]) -> bool {
     match text.first() {
         Some(first) => {
-            is_bare(&[*first])
+            continues_name(*first)
                 || b"=;:[]{}|,$~()".contains(first)
                 || text.starts_with(b"/\\")
                 || text.starts_with(b"\\/")
@@ -153,7 +186,30 @@ fn begins_token(text: &[u8]) -> bool {
     }
 }
 
+/// What begins no token, and what is meant by it.
+static SIGNS: [Alike; 3] = [
+    Alike {
+        words: &["--", ".."],
+        said: "the dividing line between a test and its choices is ==== alone",
+    },
+    Alike {
+        words: &["//"],
+        said: COMMENT,
+    },
+    Alike {
+        words: &["*)"],
+        said: "*) ends no comment here: a comment ends at its first *), and has none within it",
+    },
+];
+
 fn bad_byte<'a>(place: Place<'a>, byte: u8) -> Words<'a> {
+    match said_of_front(&SIGNS, place.rest) {
+        Some(said) => plain(said),
+        None => other_byte(place, byte),
+    }
+}
+
+fn other_byte<'a>(place: Place<'a>, byte: u8) -> Words<'a> {
     match byte {
         b'-' => around(
             "a number has no sign: values are 0 to ",
@@ -163,19 +219,11 @@ fn bad_byte<'a>(place: Place<'a>, byte: u8) -> Words<'a> {
         b'#' if place.last_word() == b",".as_slice() => {
             plain("a value is written with $: MOV [x],$1")
         }
-        b'#' => plain("a comment is written (* .. *)"),
-        b'*' if place.rest.starts_with(b"*)") => {
-            plain("*) ends no comment here: a comment ends at its first *), and has none within it")
-        }
-        b'/' if place.rest.starts_with(b"//") => plain("a comment is written (* .. *)"),
+        b'#' => plain(COMMENT),
         b'%' => percent(place),
         b'&' | b'!' | b'/' | b'\\' | b'<' | b'>' => naming(place.token(), CONNECTIVES),
         b'!'..=b'~' => naming(place.token(), " begins nothing that a test has"),
-        _ => around(
-            "the byte ",
-            Piece::Number(usize::from(byte)),
-            " begins nothing that a test has",
-        ),
+        _ => foreign_character(place, byte),
     }
 }
 
@@ -192,13 +240,13 @@ pub fn bad_init<'a>(place: Place<'a>) -> Words<'a> {
             " is a type, and items have none here: leave it out, and the whole item where it has no value, which begins as 0",
         );
     }
-    if place.is_register() {
-        return naming(token, " is none of EAX, EBX, ECX, EDX, ESI, EDI");
+    if let Some(words) = foreign_register(place) {
+        return words;
     }
     if last == b"=".as_slice() && begins_with_letter(token) {
         return naming(
             token,
-            " is no number: addresses aren't read, a program names its locations as [x]",
+            " is no number, and addresses in registers aren't read: an instruction has its location's own name, as [x]",
         );
     }
     naming(
@@ -208,10 +256,5 @@ pub fn bad_init<'a>(place: Place<'a>) -> Words<'a> {
 }
 
 fn is_type(word: &[u8]) -> bool {
-    word == b"int".as_slice()
-        || word == b"char".as_slice()
-        || word == b"short".as_slice()
-        || word == b"long".as_slice()
-        || word == b"unsigned".as_slice()
-        || (word.ends_with(b"_t") && is_location_name(word))
+    is_one_of(&TYPES, word) || (word.ends_with(b"_t") && is_location_name(word))
 }

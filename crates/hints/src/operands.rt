@@ -4,7 +4,7 @@
 use crate::place::Place;
 use crate::quotes::after_byte;
 use crate::words::{Words, naming, plain};
-use litmus_tokens::{Symbol, Token, is_symbol};
+use litmus_tokens::{Lexeme, Symbol, Token};
 
 const SOURCE_FIRST: &str =
     " is AT&T's order, source first; here the destination stands first, as in MOV EAX,[y]: tools/import turns it round";
@@ -19,21 +19,26 @@ const IN_REGISTER: &str =
 /// Of two operands in AT&T's order, as far as their tokens tell, which have no `%`: a number with `$` stands first, or one
 /// of them stands in `( )`.
 pub fn source_first(operands: &[Token<'_>]) -> Option<&'static str> {
-    let comma = operands
-        .iter()
-        .position(|token| is_symbol(Symbol::Comma, token))?;
-    let (first, _) = operands.split_at(comma.min(operands.len()));
-    if has(Symbol::Dollar, first) {
+    let mut is_first = true;
+    let mut has_number_first = false;
+    let mut has_brackets = false;
+    for token in operands {
+        match token.lexeme {
+            Lexeme::Symbol(Symbol::Comma) => is_first = false,
+            Lexeme::Symbol(Symbol::Dollar) => has_number_first = has_number_first || is_first,
+            Lexeme::Symbol(Symbol::OpenRound) => has_brackets = true,
+            _ => {}
+        }
+    }
+    if is_first {
+        None
+    } else if has_number_first {
         Some(SOURCE_FIRST)
-    } else if has(Symbol::OpenRound, operands) {
+    } else if has_brackets {
         Some(BOTH_ORDERS)
     } else {
         None
     }
-}
-
-fn has(symbol: Symbol, tokens: &[Token<'_>]) -> bool {
-    tokens.iter().any(|token| is_symbol(symbol, token))
 }
 
 /// Of a `%` before a register: in a cell with two operands it is a sign of AT&T's order.

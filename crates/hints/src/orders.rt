@@ -1,7 +1,7 @@
 //! What is said of orders: the line at fault, and what an order's text needs there.
 
 use crate::printing::Where;
-use crate::quotes::{after_byte, is_all_digits, is_choice, up_to, without_front, word};
+use crate::quotes::{after_byte, is_all_digits, is_choice, up_to, word};
 use crate::words::{Piece, Words, around, listed, naming, plain};
 use litmus_tokens::word as word_value;
 use order_builder::OrderFault;
@@ -49,7 +49,7 @@ fn no_order<'a>(text: &'a [u8]) -> Words<'a> {
 
 /// The first word of a text, or no bytes.
 pub fn first_word(text: &[u8]) -> &[u8] {
-    word(without_front(text))
+    word(text.trim_ascii_start())
 }
 
 /// A line without a carriage return at its end.

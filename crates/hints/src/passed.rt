@@ -40,11 +40,21 @@ pub fn limit_at(alloc: Global, place: Place<'_>) -> Result<Limit, NoMemory> {
 
 /// What stands after the `}` of the initial state.
 fn after_initial_state<'a, 'b>(tokens: &'b [Token<'a>]) -> Option<&'b [Token<'a>]> {
-    let end = tokens
-        .iter()
-        .position(|token| is_symbol(Symbol::CloseCurly, token))?;
+    let end = place_of(Symbol::CloseCurly, tokens)?;
     let (_, rest) = tokens.split_at(end.saturating_add(1).min(tokens.len()));
     Some(rest)
+}
+
+/// How many tokens stand before the first of this symbol.
+fn place_of(symbol: Symbol, tokens: &[Token<'_>]) -> Option<usize> {
+    let mut place = 0usize;
+    for token in tokens {
+        if is_symbol(symbol, token) {
+            return Some(place);
+        }
+        place = place.saturating_add(1);
+    }
+    None
 }
 
 fn limit_in_condition(tokens: &[Token<'_>]) -> Limit {
@@ -63,10 +73,7 @@ fn is_of_atom(token: &Token<'_>) -> bool {
 
 /// The limit that what stands after these tokens of rows passes; the first row is that of the cores.
 fn limit_in_rows(tokens: &[Token<'_>]) -> Limit {
-    if !tokens
-        .iter()
-        .any(|token| is_symbol(Symbol::Semicolon, token))
-    {
+    if place_of(Symbol::Semicolon, tokens).is_none() {
         Limit::Cores
     } else if cells_above(tokens, bars_at_end(tokens)) >= MAX_INSTRUCTIONS {
         Limit::Instructions

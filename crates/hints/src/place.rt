@@ -1,10 +1,13 @@
 //! The place of a fault in a text: a refusal has the line alone, and a hint names what stands there.
 
 use crate::quotes::{
-    begins_with_letter, digits_and_letters, first_bytes, last_bytes, last_word, token, without_end,
-    without_front,
+    after_last, begins_with_letter, digits_and_letters, first_bytes, last_bytes, last_word, token,
+    up_to_any,
 };
 use litmus_tokens::line_of;
+
+/// What ends a cell of a row, or what stands before rows.
+const ENDS_OF_CELL: &[u8] = b"|;}\n";
 
 /// A text in two: what stands before a place, and what stands from there on.
 #[derive(Clone, Copy)]
@@ -36,21 +39,35 @@ impl<'a> Place<'a> {
         }
     }
 
+    /// What stands from the beginning of its line on.
+    pub fn from_line(self) -> &'a [u8] {
+        self.from_last(b"\n")
+    }
+
+    /// What stands after the last of these bytes before it.
+    fn from_last(self, stops: &[u8]) -> &'a [u8] {
+        let count = after_last(self.before, stops).len();
+        last_bytes(self.text, self.rest.len().saturating_add(count))
+    }
+
     /// The cell of a row in which it is, or of another line what stands there between such ends.
     pub fn cell(self) -> &'a [u8] {
-        let before = self
-            .before
-            .iter()
-            .rev()
-            .take_while(|byte| !ends_cell(**byte))
-            .count();
-        let after = self
-            .rest
-            .iter()
-            .take_while(|byte| !ends_cell(**byte))
-            .count();
-        let from_cell = last_bytes(self.text, self.rest.len().saturating_add(before));
-        without_end(without_front(first_bytes(from_cell, before.saturating_add(after))))
+        let from_cell = self.from_last(ENDS_OF_CELL);
+        up_to_any(from_cell, ENDS_OF_CELL).trim_ascii()
+    }
+
+    /// Which character of its line it is, from 1.
+    pub fn column(self) -> usize {
+        let line = self.from_line();
+        let before = first_bytes(line, line.len().saturating_sub(self.rest.len()));
+        let mut column = 1usize;
+        for byte in before {
+            // The further bytes of a character in UTF-8 are these.
+            if !matches!(*byte, 0x80..=0xbf) {
+                column = column.saturating_add(1);
+            }
+        }
+        column
     }
 
     /// The token that stands there.
@@ -83,8 +100,4 @@ impl<'a> Place<'a> {
     pub fn is_register(self) -> bool {
         self.last_word() == b":".as_slice() && begins_with_letter(self.rest)
     }
-}
-
-fn ends_cell(byte: u8) -> bool {
-    matches!(byte, b'|' | b';' | b'}' | b'\n')
 }

@@ -115,6 +115,7 @@ fn push_piece(alloc: Global, bytes: &mut Vec<u8>, piece: Piece<'_>) -> Result<()
         Piece::Named(name) => push_named(bytes, name),
         Piece::Shown(shown) => push_shown(bytes, shown),
         Piece::Number(number) => push_number(alloc, bytes, number),
+        Piece::Character(character) => push_code_point(alloc, bytes, character),
         Piece::Stalled(stalls) => push_stalls(alloc, bytes, stalls),
     }
 }
@@ -168,6 +169,14 @@ fn push_text(bytes: &mut Vec<u8>, text: &str) -> Result<(), NoMemory> {
 fn push_number(alloc: Global, bytes: &mut Vec<u8>, number: usize) -> Result<(), NoMemory> {
     let digits = format!(in alloc; "{number}")?;
     bytes.extend_from_slice(digits.as_bytes())?;
+    Ok(())
+}
+
+/// A character's code point, as `U+2227`.
+fn push_code_point(alloc: Global, bytes: &mut Vec<u8>, character: char) -> Result<(), NoMemory> {
+    let code_point = u32::from(character);
+    let text = format!(in alloc; "U+{code_point:04X}")?;
+    bytes.extend_from_slice(text.as_bytes())?;
     Ok(())
 }
 

@@ -3,10 +3,8 @@
 
 use tso_model::names::continues_name;
 
-/// Whether a byte is white space.
-pub fn is_space(byte: u8) -> bool {
-    matches!(byte, b' ' | b'\t' | b'\r' | b'\n')
-}
+/// White space.
+pub const SPACES: &[u8] = b" \t\r\n";
 
 /// The first so many bytes, or all where there are fewer.
 pub fn first_bytes(bytes: &[u8], count: usize) -> &[u8] {
@@ -22,12 +20,12 @@ pub fn last_bytes(bytes: &[u8], count: usize) -> &[u8] {
 
 /// Whether these are digits, one or more.
 pub fn is_all_digits(bytes: &[u8]) -> bool {
-    !bytes.is_empty() && bytes.iter().all(|byte| byte.is_ascii_digit())
+    !bytes.is_empty() && digits(bytes).len() == bytes.len()
 }
 
 /// Whether these are letters, digits and underscores, one or more.
 pub fn is_bare(bytes: &[u8]) -> bool {
-    !bytes.is_empty() && bytes.iter().all(|byte| continues_name(*byte))
+    !bytes.is_empty() && digits_and_letters(bytes).len() == bytes.len()
 }
 
 /// The name or the digits at the front, as long as they go; or `/\` or `\/`; or else one byte.
@@ -40,7 +38,7 @@ fn token_len(text: &[u8]) -> usize {
         return 0;
     };
     if first.is_ascii_digit() {
-        text.iter().take_while(|byte| byte.is_ascii_digit()).count()
+        digits(text).len()
     } else if continues_name(*first) {
         digits_and_letters(text).len()
     } else if text.starts_with(b"/\\") || text.starts_with(b"\\/") {
@@ -48,6 +46,14 @@ fn token_len(text: &[u8]) -> usize {
     } else {
         1
     }
+}
+
+/// The digits at the front.
+fn digits(text: &[u8]) -> &[u8] {
+    first_bytes(
+        text,
+        text.iter().take_while(|byte| byte.is_ascii_digit()).count(),
+    )
 }
 
 /// The letters, digits and underscores at the front.
@@ -62,15 +68,37 @@ pub fn digits_and_letters(text: &[u8]) -> &[u8] {
 
 /// What stands before the next white space.
 pub fn word(text: &[u8]) -> &[u8] {
-    first_bytes(
-        text,
-        text.iter().take_while(|byte| !is_space(**byte)).count(),
-    )
+    up_to_any(text, SPACES)
 }
 
 /// What stands before the first such byte, or all where there is none.
 pub fn up_to(text: &[u8], stop: u8) -> &[u8] {
-    first_bytes(text, text.iter().take_while(|byte| **byte != stop).count())
+    up_to_any(text, &[stop])
+}
+
+/// What stands before the first of these bytes, or all where there is none.
+pub fn up_to_any<'a>(text: &'a [u8], stops: &[u8]) -> &'a [u8] {
+    let mut count = 0usize;
+    for byte in text {
+        if stops.contains(byte) {
+            break;
+        }
+        count = count.saturating_add(1);
+    }
+    first_bytes(text, count)
+}
+
+/// What stands after the last of these bytes, or all where there is none.
+pub fn after_last<'a>(text: &'a [u8], stops: &[u8]) -> &'a [u8] {
+    let mut count = 0usize;
+    for byte in text {
+        count = if stops.contains(byte) {
+            0
+        } else {
+            count.saturating_add(1)
+        };
+    }
+    last_bytes(text, count)
 }
 
 /// What stands after the first such byte.
@@ -80,25 +108,9 @@ pub fn after_byte(text: &[u8], byte: u8) -> Option<&[u8]> {
     Some(after)
 }
 
-/// The bytes without white space at their front.
-pub fn without_front(bytes: &[u8]) -> &[u8] {
-    let spaces = bytes.iter().take_while(|byte| is_space(**byte)).count();
-    last_bytes(bytes, bytes.len().saturating_sub(spaces))
-}
-
-/// The bytes without white space at their end.
-pub fn without_end(bytes: &[u8]) -> &[u8] {
-    let spaces = bytes
-        .iter()
-        .rev()
-        .take_while(|byte| is_space(**byte))
-        .count();
-    first_bytes(bytes, bytes.len().saturating_sub(spaces))
-}
-
 /// The letters, digits and underscores that a text ends with, white space aside; or else its last byte.
 pub fn last_word(text: &[u8]) -> &[u8] {
-    let text = without_end(text);
+    let text = text.trim_ascii_end();
     let count = text
         .iter()
         .rev()

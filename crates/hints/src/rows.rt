@@ -2,7 +2,7 @@
 
 use crate::passed::{Limit, limit_at};
 use crate::place::Place;
-use crate::quotes::{up_to, without_end};
+use crate::quotes::up_to;
 use crate::words::{Piece, Words, around, listed, naming, plain, six};
 use litmus_reader::MAX_TEXT;
 use litmus_tokens::after_gap;
@@ -134,5 +134,5 @@ fn opens(token: &[u8]) -> bool {
 /// What stands before the end of a cell, of an item or of an atom.
 fn item(text: &[u8]) -> &[u8] {
     let item = up_to(up_to(up_to(text, b'|'), b';'), b'}');
-    without_end(up_to(up_to(up_to(item, b'/'), b'\\'), b')'))
+    up_to(up_to(up_to(item, b'/'), b'\\'), b')').trim_ascii_end()
 }

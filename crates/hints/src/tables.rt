@@ -2,6 +2,7 @@
 //! of them.
 
 use crate::quotes::first_bytes;
+use crate::words::{Words, naming};
 
 /// Words that are alike, and what is said of one of them.
 pub struct Alike {
@@ -19,6 +20,12 @@ pub fn said_of(table: &[Alike], word: &[u8]) -> Option<&'static str> {
     None
 }
 
+/// A word, and what a table says of it, if that is one of its words.
+pub fn named_in<'a>(table: &[Alike], word: &'a [u8]) -> Option<Words<'a>> {
+    let said = said_of(table, word)?;
+    Some(naming(word, said))
+}
+
 /// What a table says of the first of its words with which a text begins. Capitals and small letters count as one.
 pub fn said_of_front(table: &[Alike], text: &[u8]) -> Option<&'static str> {
     for alike in table {
@@ -29,13 +36,21 @@ pub fn said_of_front(table: &[Alike], text: &[u8]) -> Option<&'static str> {
     None
 }
 
-/// Whether a word is one of these.
+/// Whether a word is one of these. Capitals and small letters count as one.
 pub fn is_one_of(words: &[&str], word: &[u8]) -> bool {
-    words
-        .iter()
-        .any(|one| one.as_bytes().eq_ignore_ascii_case(word))
+    for one in words {
+        if one.as_bytes().eq_ignore_ascii_case(word) {
+            return true;
+        }
+    }
+    false
 }
 
 fn begins_with_one_of(words: &[&str], text: &[u8]) -> bool {
-    words.iter().any(|one| { first_bytes(text, one.len()).eq_ignore_ascii_case(one.as_bytes()) })
+    for one in words {
+        if first_bytes(text, one.len()).eq_ignore_ascii_case(one.as_bytes()) {
+            return true;
+        }
+    }
+    false
 }

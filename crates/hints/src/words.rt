@@ -13,6 +13,8 @@ pub enum Piece<'a> {
     Shown(&'a [u8]),
     /// A number.
     Number(usize),
+    /// A character, by its code point.
+    Character(char),
     /// How many choices stalled, and why; nothing where none did.
     Stalled(Stalls),
 }

@@ -1,0 +1,83 @@
+//! What is said of a byte that isn't printable: a character that other texts have is told by its code point, since a hint is
+//! ASCII, with what stands for it here.
+
+use crate::place::Place;
+use crate::quotes::first_bytes;
+use crate::tables::{Alike, said_of_front};
+use crate::words::{Piece, Words, around, six};
+
+/// Characters, and what stands for them.
+static CHARACTERS: [Alike; 9] = [
+    Alike {
+        words: &["\u{2227}"],
+        said: "write /\\",
+    },
+    Alike {
+        words: &["\u{2228}"],
+        said: "write \\/",
+    },
+    Alike {
+        words: &["\u{ac}"],
+        said: "write ~",
+    },
+    Alike {
+        words: &["\u{2203}"],
+        said: "write exists",
+    },
+    Alike {
+        words: &["\u{2200}"],
+        said: "write forall",
+    },
+    Alike {
+        words: &[
+            "\u{a0}", "\u{2002}", "\u{2003}", "\u{2009}", "\u{202f}", "\u{3000}",
+        ],
+        said: "write a space",
+    },
+    Alike {
+        words: &["\u{201c}", "\u{201d}", "\u{201e}", "\u{ab}", "\u{bb}"],
+        said: "write \" here and at its other end",
+    },
+    Alike {
+        words: &["\u{2212}", "\u{2010}", "\u{2011}", "\u{2013}", "\u{2014}"],
+        said: "a number has no sign, and -1 is written 4294967295",
+    },
+    Alike {
+        words: &["\u{feff}", "\u{200b}", "\u{200c}", "\u{200d}", "\u{2060}"],
+        said: "leave it out, it shows nothing",
+    },
+];
+
+/// Of a byte that isn't printable, and of the character that it begins.
+pub fn foreign_character<'a>(place: Place<'a>, byte: u8) -> Words<'a> {
+    match character_at(place.rest) {
+        Some(character) => six([
+            Piece::Character(character),
+            Piece::Text(", in column "),
+            Piece::Number(place.column()),
+            Piece::Text(", isn't ASCII: "),
+            Piece::Text(said_of_front(&CHARACTERS, place.rest).unwrap_or(
+                "only a comment may have it",
+            )),
+            Piece::Text(""),
+        ]),
+        None => around(
+            "the byte ",
+            Piece::Number(usize::from(byte)),
+            " begins nothing that a test has",
+        ),
+    }
+}
+
+/// The character at the front of a text, if it is in UTF-8 and not ASCII.
+fn character_at(text: &[u8]) -> Option<char> {
+    if text.first()?.is_ascii() {
+        return None;
+    }
+    for length in 2..5 {
+        if let Ok(text) = str::from_utf8(first_bytes(text, length)) {
+            return text.chars().next();
+        }
+    }
+    None
+}
