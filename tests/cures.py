@@ -11,6 +11,8 @@ import litmus
 # A user gives up after so many hints.
 MOST_HINTS = 200
 
+WORD = 2 ** 32
+
 
 class Text:
     """A test's lines as they are written, with the line that a hint is about."""
@@ -48,6 +50,16 @@ class Text:
     def core_of(self, name):
         """The core in whose cell a name stands first on the line."""
         return next(core for core, cell in enumerate(self.line.split("|")) if re.search(r"\b%s\b" % re.escape(name), cell))
+
+    def cell(self, core):
+        """The cell of a core on the line, without its ends."""
+        return self.line.split("|")[core].strip(" ;")
+
+    def put(self, core, *cells):
+        """Puts cells in the place of a core's cell on the line: the first there, each further one into a row of its own below."""
+        row = [cell.strip(" ;") for cell in self.line.split("|")]
+        rows = [row[:core] + [cells[0]] + row[core + 1:]] + [[""] * core + [cell] + [""] * (len(row) - core - 1) for cell in cells[1:]]
+        self.lines[self.at:self.at + 1] = [" %s ;" % " | ".join(row) for row in rows]
 
     def words_of(self, core):
         """All words of a core's cells, and of what else names its registers."""
@@ -101,6 +113,29 @@ def write_header(text, word):
     text.replace(word, "X86")
 
 
+def write_comment(text):
+    text.line = re.sub(r"(?:;;|#|//)(.*)", r"(*\1 *)", text.line, count=1)
+
+
+def write_divider(text):
+    text.line = "===="
+
+
+def write_character(text, code_point, column, cure):
+    """What stands for a character, in its column."""
+    before, rest = text.line[:int(column) - 1], text.line[int(column):]
+    assert text.line[int(column) - 1] == chr(int(code_point, 16))
+    if cure.startswith("a number has no sign"):
+        number, rest = re.fullmatch(r"(\d+)(.*)", rest).groups()
+        text.line = before + str(WORD - int(number)) + rest
+    elif cure.startswith("leave it out"):
+        text.line = before + rest
+    elif cure == 'write " here and at its other end':
+        text.line = before + '"' + re.sub("[\u201c-\u201e\u00ab\u00bb]", '"', rest, count=1)
+    else:
+        text.line = before + {"write a space": " "}.get(cure, cure[len("write "):]) + rest
+
+
 def leave_out_type(text, kind):
     """Leaves a type out, or all of its item where that has no value."""
     place = re.search(r"\b%s\b\s*" % kind, text.line)
@@ -111,6 +146,10 @@ def leave_out_type(text, kind):
 
 def leave_out_percent(text):
     text.line = text.line.replace("%", "", 1)
+
+
+def leave_out_second_test(text):
+    del text.lines[text.at:]
 
 
 # ---- the changes of cells
@@ -125,6 +164,47 @@ def turn_round(text, cell):
     text.line = text.line[:at] + "%s %s,%s%s" % (name, second, first, rest) + text.line[end:]
 
 
+def leave_out_cell(text, name):
+    text.put(text.core_of(name), "")
+
+
+def leave_out_jump(text, name):
+    """Leaves out a label, or all of a cell with a jump or a compare."""
+    core = text.core_of(name)
+    label = re.match(r"\w+\s*:(.*)", text.cell(core))
+    text.put(core, label[1].strip() if label else "")
+
+
+def leave_out_pointer(text):
+    text.line = re.sub(r"(?i)\bdword(\s+ptr)?\s*", "", text.line, count=1)
+
+
+def add_by_xadd(text, name):
+    """An addition that is locked, with its number in a register."""
+    core = text.core_of(name)
+    place, number = re.search(r"(\[\w+\])(?:\s*,\s*\$?(\d+))?", text.cell(core)).groups()
+    number, register = int(number or 1), text.free_register(core)
+    number = WORD - number if name.upper() in ("SUB", "DEC") else number
+    text.put(core, "MOV %s,$%d" % (register, number), "LOCK XADD %s,%s" % (place, register))
+
+
+def load_and_store(text, name):
+    """A load and a store of what an instruction gives, or a register set to it; the number is the user's to find."""
+    core = text.core_of(name)
+    place = re.search(r"\[\w+\]", text.cell(core))
+    if place:
+        text.put(core, "MOV %s,%s" % (text.free_register(core), place[0]), "MOV %s,$1" % place[0])
+    else:
+        text.put(core, "MOV %s,$1" % re.search(r"\be\w+", text.cell(core), re.I)[0])
+
+
+def go_through_register(text):
+    core = next(core for core, cell in enumerate(text.line.split("|")) if cell.count("[") == 2)
+    to, source = re.findall(r"\[\w+\]", text.cell(core))
+    register = text.free_register(core)
+    text.put(core, "MOV %s,%s" % (register, source), "MOV %s,%s" % (to, register))
+
+
 # ---- the changes of places
 
 def rename_register(text, name):
@@ -136,29 +216,65 @@ def rename_register(text, name):
         text.line = re.sub(r"[\[(]\s*%s\s*[\])]|\b%s\b" % (name, name), lambda _: "[%s]" % name, text.line, count=1)
 
 
+def number_core(text, name):
+    text.replace(name, name[1:])
+
+
+def name_location(text, name):
+    text.line = re.sub(r"\[\s*%s\s*\]" % name, "[x]", text.line)
+
+
+def leave_out_address(text, name):
+    text.line = re.sub(r"\d+\s*:\s*\w+\s*=\s*%s\b" % name, "", text.line, count=1)
+
+
 CURES = [
     (r"X86_64 tests aren't read: .*; by hand begin with X86 and .*", lambda text: write_header(text, "X86_64")),
+    (r"(\w+) is (?:another processor|a language): a test begins with X86, a space and its name; .*", write_header),
+    (r"(\w+): write X86, in capitals", write_header),
     (r"'(.*)' is AT&T's order, source first; here the destination stands first, as in MOV EAX,\[y\]: .*", turn_round),
     (r"a register is written without %: EAX", leave_out_percent),
     (r"(\w+): write (\w+), for words of 32 bits", Text.replace),
     (r"(\w+) is none of EAX, EBX, ECX, EDX, ESI, EDI\b.*", rename_register),
+    (r"(\w+) is a part of a register: where all its 32 bits do as well, write EAX, .*", rename_register),
     (r"(0[xX]\w+): numbers are decimal", write_decimal),
     (r"(\w+) is a type, and items have none here: leave it out, and the whole item where it has no value, .*", leave_out_type),
+    (r"(\w+) isn't read after LOCK: in a cell before it MOV .* here write LOCK XADD \[x\],EAX", add_by_xadd),
+    (r"(\w+) can't be said here: .* Write a load, as MOV EAX,\[x\], and a store of the number that it gives, .*", load_and_store),
+    (r"(\w+) isn't read: programs are straight lines, with no jumps and no compares; .*", leave_out_jump),
+    (r"(\w+) isn't read: it changes .*, so leave it out", leave_out_cell),
+    (r"\w+: leave DWORD PTR out, words have 32 bits", leave_out_pointer),
+    (r"MOV has the forms .*; from \[y\] to \[x\] go through a register: .*", go_through_register),
+    (r"(P\w+): a core is its number alone here, as in 0:EAX", number_core),
+    (r"(\w+) names no location, and addresses in registers aren't read: .*", name_location),
+    (r"(\w+) is no number, and addresses in registers aren't read: .*", leave_out_address),
+    (r"U\+(\w+), in column (\d+), isn't ASCII: (.*)", write_character),
+    (r"a comment is written \(\* \.\. \*\)", write_comment),
+    (r"the dividing line between a test and its choices is ==== alone", write_divider),
+    (r"a second test begins here: an input has one, .*", leave_out_second_test),
 ]
 
 
 def cured(text, hint):
     """The text as a user leaves it who is told this hint; None where it names no change."""
-    told = re.fullmatch(r"hint: line (\d+): (.*)\n", hint)
+    told = re.fullmatch(r"hint: (line|word) (\d+): (.*)\n", hint)
     if not told:
         return None
+    number = int(told[2]) if told[1] == "line" else line_of_word(text, int(told[2]))
     for form, change in CURES:
-        found = re.fullmatch(form, told[2])
+        found = re.fullmatch(form, told[3])
         if found:
-            changed = Text(text, int(told[1]))
+            changed = Text(text, number)
             change(changed, *found.groups())
             return changed.text()
     return None
+
+
+def line_of_word(text, number):
+    """The line of a text on which this word of its choices stands, from 1."""
+    test, _, choices = text.partition("\n====\n")
+    before = re.match(r"\s*(?:\S+\s+){%d}" % (number - 1), choices)[0]
+    return test.count("\n") + 3 + before.count("\n")
 
 
 def followed(program, text):

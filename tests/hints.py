@@ -7,7 +7,8 @@ tests/rows.py says how a row is written; standard error is the hint, and empty w
 standard output and the status must be the same.
 
 Then the hints are followed, word by word as tests/cures.py has it: on tests in AT&T's order of operands, which are read in the end as
-the tests that tools/import makes of them (tests/at_and_t.py).
+the tests that tools/import makes of them (tests/at_and_t.py); and on 300 wrong texts, each of which is read after one to three of them
+(tests/wrong_texts.py).
 
 The last line is 'N passed, M failed'.
 """
@@ -17,6 +18,7 @@ sys.dont_write_bytecode = True
 import at_and_t
 import judging
 import rows
+import wrong_texts
 
 
 def faults_of(program, row):
@@ -32,7 +34,7 @@ def named(row):
 
 def works(_):
     held = [(named(row), lambda program, row=row: faults_of(program, row)) for row in rows.read("hints").values()]
-    return held + at_and_t.works()
+    return held + at_and_t.works() + wrong_texts.works()
 
 
 if __name__ == "__main__":

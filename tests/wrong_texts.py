@@ -1,0 +1,224 @@
+"""Wrong texts for tests/hints.py, made from a seed: a test with one slip, of each kind in several places.
+
+Each is refused with a hint that names a cure, and is read once a script has done what the hint says (tests/cures.py); where a cure shows
+what else is wrong there, after one or two more.
+"""
+import random
+import re
+
+from cures import followed
+
+SEED, COUNT = 1, 300
+
+# A slip may be two faults, as `movl $1,(x)` is.
+MOST_CURES = 3
+
+REGISTERS = ("EAX", "EBX", "ECX", "EDX", "ESI", "EDI")
+LOCATIONS = ("x", "y", "z")
+
+
+class Parts:
+    """A test in parts, which a slip changes."""
+
+    def __init__(self, chance):
+        self.chance = chance
+        self.header, self.facts, self.choices = "X86 t%d" % chance.randrange(100), ["Orig=PodWR Fre"][:chance.randint(0, 1)], ""
+        self.items = ["%s=%d" % (name, chance.randrange(3)) for name in LOCATIONS[:chance.randint(0, 2)]]
+        self.cores = chance.randint(1, 3)
+        self.rows = [[self.cell() for _ in range(self.cores)] for _ in range(chance.randint(1, 3))]
+        self.atoms = ["%s=%d" % (name, chance.randrange(3)) for name in LOCATIONS[:chance.randint(1, 2)]]
+
+    def cell(self):
+        chance = self.chance
+        forms = ("MOV [%s],$1", "MOV [%s],%s", "MOV %s,[%s]", "XCHG [%s],%s", "LOCK XADD [%s],%s", "MFENCE", "MOV %s,$2")
+        form = chance.choice(forms)
+        place, register = chance.choice(LOCATIONS), chance.choice(REGISTERS)
+        words = (register, place) if form.startswith("MOV %s,[") else (register,) if form == "MOV %s,$2" else (place, register)
+        return form % words[:form.count("%s")]
+
+    def lines(self):
+        yield self.header
+        yield from self.facts
+        yield "{ %s }" % "".join(item + "; " for item in self.items)
+        yield " %s ;" % " | ".join("P%d" % core for core in range(self.cores))
+        for row in self.rows:
+            yield " %s ;" % " | ".join(row)
+        if self.atoms:
+            yield "exists (%s)" % " /\\ ".join(self.atoms)
+        if self.choices:
+            yield from ("====", self.choices)
+
+    def text(self):
+        return "\n".join(self.lines()) + "\n"
+
+    def put_cell(self, *cells):
+        """Puts one of these cells in the place of some cell."""
+        row = self.chance.choice(self.rows)
+        row[self.chance.randrange(self.cores)] = self.chance.choice(cells)
+        return self.text()
+
+    def put_item(self, *items):
+        """Puts one of these items into the initial state."""
+        self.items.insert(self.chance.randint(0, len(self.items)), self.chance.choice(items))
+        return self.text()
+
+    def put_atom(self, *atoms):
+        """Puts one of these atoms into the condition."""
+        self.atoms.insert(self.chance.randint(0, len(self.atoms)), self.chance.choice(atoms))
+        return self.text()
+
+    def put_line(self, line, first=1):
+        """Puts a line between others, after so many of them at least."""
+        lines = list(self.lines())
+        lines.insert(self.chance.randint(first, len(lines)), line)
+        return "\n".join(lines) + "\n"
+
+
+# ---- the slips
+
+def adds_after_lock(parts):
+    return parts.put_cell("LOCK ADD [x],1", "LOCK ADD [y],$7", "LOCK INC [x]", "lock inc [z]", "LOCK SUB [x],2", "LOCK DEC [y]")
+
+
+def computes(parts):
+    return parts.put_cell("ADD [x],1", "INC [x]", "inc [y]", "SUB [z],3", "DEC [x]", "ADD EAX,1", "XOR EAX,EAX", "AND EBX,$1", "NEG ECX")
+
+
+def jumps(parts):
+    return parts.put_cell("CMPXCHG [x],EAX", "LOCK CMPXCHG [y],EBX", "JNE L0", "JMP L0", "jz l1", "CMP EAX,$1", "CMP EAX,[x]", "L0:",
+                          "TEST EAX,EAX", "LOOP L0", "CALL f", "RET")
+
+
+def names_label(parts):
+    row = parts.chance.choice(parts.rows)
+    core = parts.chance.randrange(parts.cores)
+    row[core] = parts.chance.choice(("L0: ", "l1:", "again : ")) + row[core]
+    return parts.text()
+
+
+def says_size(parts):
+    return parts.put_cell("MOVL [x],$1", "movl [y],EAX", "MOVL EAX,[x]", "MOVQ [x],$1", "MOVQ EBX,[z]", "MOVL EAX,$3", "XCHGL [x],EAX",
+                          "xchgq EAX,[y]", "LOCK XADDL [x],EAX", "LOCK XCHGL [x],EBX")
+
+
+def does_nothing(parts):
+    return parts.put_cell("NOP", "nop", "PAUSE", "CLFLUSH [x]", "clflushopt [y]", "SFENCE", "LFENCE")
+
+
+def says_pointer(parts):
+    return parts.put_cell("MOV DWORD PTR [x],1", "MOV [x],DWORD PTR 1", "MOV EAX,DWORD PTR [y]", "mov dword ptr [z],$4",
+                          "XCHG DWORD PTR [x],EAX", "LOCK XADD DWORD PTR [x],EBX", "MOV DWORD [x],EAX")
+
+
+def moves_between_locations(parts):
+    return parts.put_cell("MOV [x],[y]", "MOV [z],[x]", "mov [y],[z]")
+
+
+def names_core(parts):
+    core, register = parts.chance.randrange(parts.cores), parts.chance.choice(REGISTERS)
+    slip = "P%d:%s=1" % (core, register)
+    return parts.chance.choice((parts.put_item, parts.put_atom))(slip)
+
+
+CHARACTERS = {" ": "\u00a0\u2003\u202f", "/\\": "\u2227", "exists": "\u2203", '"': "\u201c\u201d"}
+
+
+def is_not_ascii(parts):
+    """A character of other texts stands for one of these, or shows nothing."""
+    chance = parts.chance
+    kind = chance.randrange(5)
+    if kind == 0:
+        return parts.put_item("%s=\u22121" % chance.choice(("a", "b")))
+    if kind == 1:
+        parts.facts = ["\u201cPodWR Fre\u201d"]
+        return parts.text()
+    text = parts.text()
+    if kind == 2:
+        places = [found.end() for found in re.finditer(r"[;,|{]", text)]
+        at = chance.choice(places)
+        return text[:at] + chance.choice("\u200b\ufeff\u2060") + text[at:]
+    old = chance.choice([word for word in (" ", "/\\", "exists") if word in text.split("\n", 1)[1]])
+    head, body = text.split("\n", 1)
+    body = body if parts.facts == [] else body.split("\n", 1)[1]
+    places = [found.start() for found in re.finditer(re.escape(old), body)]
+    at = chance.choice(places)
+    return head + "\n" + body[:at] + chance.choice(CHARACTERS[old]) + body[at + len(old):]
+
+
+def begins_comment(parts):
+    return parts.put_line(parts.chance.choice((";; a comment", ";;; another one", ";;no blank")))
+
+
+def divides_otherwise(parts):
+    parts.choices = ""
+    return parts.text() + parts.chance.choice(("----", "-----", "...", "....", "--")) + "\n0s 0d\n"
+
+
+def has_two_tests(parts):
+    other = Parts(parts.chance).text()
+    if parts.chance.random() < 0.3:
+        parts.choices = "0s 0d"
+    elif parts.chance.random() < 0.5:
+        parts.atoms = []
+    return parts.text() + other
+
+
+def has_other_register(parts):
+    register = parts.chance.choice(("RAX", "rbx", "r8", "R9d", "r15", "al", "CL", "ax", "SI"))
+    core = parts.chance.randrange(parts.cores)
+    slip = "%d:%s=1" % (core, register)
+    return parts.chance.choice((parts.put_item, parts.put_atom))(slip)
+
+
+def has_other_register_in_cell(parts):
+    return parts.put_cell("MOV RAX,[x]", "MOV [x],r8d", "MOV R9,$1", "XCHG [y],RBX", "LOCK XADD [x],r10d", "MOV al,[x]", "MOV EAX,x")
+
+
+def has_other_header(parts):
+    word = parts.chance.choice(("AArch64", "ARM", "PPC", "RISCV", "MIPS", "C", "CPP", "LISA", "X86_64", "x86"))
+    parts.header = parts.header.replace("X86", word)
+    return parts.text()
+
+
+def has_address(parts):
+    core, register = parts.chance.randrange(parts.cores), parts.chance.choice(REGISTERS)
+    parts.chance.choice(parts.rows)[core] = parts.chance.choice(("MOV [%s],$1", "MOV EAX,[%s]", "XCHG [%s],EBX")) % register
+    if parts.chance.random() < 0.5:
+        parts.items.append("%d:%s=x" % (core, register))
+    return parts.text()
+
+
+def has_source_first(parts):
+    return parts.put_cell("movl $1,(x)", "movl (y),%eax", "mov %ebx,(z)", "MOV $1,[x]", "MOV $2,EAX", "xchgl %eax,(x)", "movl %eax,%ebx",
+                          "lock xaddl %ecx,(y)")
+
+
+SLIPS = (adds_after_lock, computes, jumps, names_label, says_size, does_nothing, says_pointer, moves_between_locations, names_core,
+         is_not_ascii, begins_comment, divides_otherwise, has_two_tests, has_other_register, has_other_register_in_cell, has_other_header,
+         has_address, has_source_first)
+
+
+def texts():
+    """The texts, each with its slip: no text twice."""
+    chance, found = random.Random(SEED), {}
+    while len(found) < COUNT:
+        slip = SLIPS[len(found) % len(SLIPS)]
+        found.setdefault(slip(Parts(chance)), slip)
+    return list(found.items())
+
+
+# ---- judging
+
+def faults_of(program, text):
+    read, hints = followed(program, text)
+    if not hints:
+        return ["isn't refused"] + text.split("\n")
+    if read is None or len(hints) > MOST_CURES:
+        return ["isn't read after so many cures:"] + hints + text.split("\n")
+    return []
+
+
+def works():
+    """Names of the texts, each with a function of a program's faults."""
+    return [("the cure of a wrong text, %d: %s" % (number, slip.__name__), lambda program, text=text: faults_of(program, text))
+            for number, (text, slip) in enumerate(texts())]
