@@ -80,9 +80,9 @@ READ = [
 
 REFUSED = [
     ("a register of Intel's beside AT&T's location", x86("MOV EAX,(x)"), 4, "which one it has isn't known"),
-    ("the same the other way round", x86("MOV (x),EAX"), 4, "which one it has isn't known"),
+    ("AT&T's location before a register of Intel's", x86("MOV (x),EAX"), 4, "which one it has isn't known"),
     ("a register of AT&T's beside Intel's location", x86_64("movl %eax,[x]"), 4, "which one it has isn't known"),
-    ("the same the other way round", x86_64("movl [x],%eax"), 4, "which one it has isn't known"),
+    ("Intel's location before a register of AT&T's", x86_64("movl [x],%eax"), 4, "which one it has isn't known"),
     ("registers of both", x86_64("movl %eax,ebx"), 4, "which one it has isn't known"),
     ("an exchange with signs of both", x86("XCHG EAX,(x)"), 4, "which one it has isn't known"),
     ("two numbers", x86("MOV $1,$2"), 4, "such operands"),
