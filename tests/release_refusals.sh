@@ -64,15 +64,26 @@ make_checkout() {
 # Back to the commit of this name, with nothing else.
 back_to() { git_in reset -q --hard "$1" && git_in clean -qfdx; }
 
-# A program that isn't proved, with its digests made to fit.
-put_another() {
-  printf '\0' >> release/tso
-  (sed 's/^[0-9a-f]*  //' release/SHA256SUMS | xargs sha256sum) > "$room/sums" && cp "$room/sums" release/SHA256SUMS
-}
+# Makes the sums fit what stands in release/.
+make_sums() { (sed 's/^[0-9a-f]*  //' release/SHA256SUMS | xargs sha256sum) > "$room/sums" && cp "$room/sums" release/SHA256SUMS; }
+
+# Makes the lists of the release fit what stands.
+make_lists() { tools/digests sources > release/SOURCES && tools/digests proofs > release/PROOFS && make_sums; }
+
+# A program that isn't proved, with its sums made to fit.
+put_another() { printf '\0' >> release/tso && make_sums; }
+
+# A program that answers wrongly, with its sums made to fit.
+put_wrong() { sed -i 's/Sometimes/Neverever/' release/tso && make_sums; }
+
+# A toolchain that isn't here, with the sums made to fit.
+name_another_toolchain() { echo "another toolchain" > release/TOOLCHAIN && make_sums; }
 
 change_one_byte() { printf 'X' | dd of=release/tso bs=1 seek=5000 conv=notrunc status=none; }
 
 change_a_source() { echo "// Another line." >> crates/decimals/src/lib.rt; }
+
+change_a_proof() { echo "-- Another line." >> "$(git_in ls-files 'crates/decimals/proofs' | head -n 1)"; }
 
 judge_programs() {
   local release
@@ -106,6 +117,69 @@ judge_programs() {
   commit "another program"
   refuses "had other sources than SOURCES names" "${gate[@]}"
   judge "another program, newer sources, committed: the gate" $?
+  back_to "$release"
+}
+
+# What the gate says of lists that aren't those of what stands, or of the commit.
+judge_lists() {
+  local release
+  release=$(git_in rev-parse HEAD)
+  sed -i '$d' release/PROOFS && make_sums
+  refuses "isn't of what stands, by its PROOFS" "${gate[@]}"
+  judge "a list without a proof: the gate" $?
+  commit "a list without a proof"
+  refuses "had other definitions and proofs than PROOFS names" "${gate[@]}"
+  judge "a list without a proof, committed: the gate" $?
+  back_to "$release"
+
+  change_a_proof
+  commit "a proof"
+  accepts "${gate[@]}" && grep -q "the definitions and proofs are newer" "$room/said" && ! grep -q "sources are newer" "$room/said"
+  judge "newer proofs: the gate says so" $?
+  back_to "$release"
+
+  if ! command -v rt > /dev/null; then
+    echo "not tried: another toolchain, which needs rt"
+    return
+  fi
+  name_another_toolchain
+  refuses "isn't of what stands, by its TOOLCHAIN" "${gate[@]}"
+  judge "another toolchain: the gate" $?
+  commit "another toolchain"
+  accepts "${gate[@]}" && grep -q "the toolchain here is another" "$room/said"
+  judge "another toolchain, committed: the gate says so" $?
+  put_another
+  commit "another program of another toolchain"
+  accepts "${gate[@]}" && grep -q "its answers are held" "$room/said"
+  judge "another program of another toolchain: the gate holds its answers" $?
+  put_wrong
+  commit "a wrong program of another toolchain"
+  refuses "doesn't answer the rows" "${gate[@]}"
+  judge "a wrong program of another toolchain: the gate" $?
+  back_to "$release"
+}
+
+# What the gate can't refuse, and what it says where the history is too short to see.
+judge_limits() {
+  local release
+  release=$(git_in rev-parse HEAD)
+  change_a_source
+  put_wrong
+  make_lists
+  commit "a wrong program with lists of its own"
+  refuses "isn't the one built from them" "${gate[@]}"
+  judge "a wrong program with lists of its own, at its commit: the gate" $?
+  change_a_source
+  commit "newer sources"
+  accepts "${gate[@]}" && grep -q "the sources are newer" "$room/said" && tests/release.sh --help | grep -q "^It can't refuse a wrong program"
+  judge "a wrong program with lists of its own, newer sources: what the gate can't refuse, and says" $?
+  git clone -q --depth 1 "file://$room/clone" "$room/short clone"
+  accepts "$room/short clone/tests/release.sh" "$program" && grep -q "the history here is too short" "$room/said"
+  judge "a history that is too short: the gate says so" $?
+  rm -rf "$room/short clone/.git"
+  accepts "$room/short clone/tests/release.sh" "$program" && grep -q "there is no history here" "$room/said"
+  judge "no history: the gate says so" $?
+  rm -rf "$room/short clone"
   back_to "$release"
 }
 
@@ -269,6 +343,8 @@ judge_packages() {
 
 make_checkout
 judge_programs
+judge_lists
+judge_limits
 judge_tso
 judge_no_release
 judge_prove
