@@ -6,19 +6,21 @@
 - view/ is what it has to be: texts that are the examples', scripts of fewer than 400 lines that the page names, its policy and no
   other, no script or style in the page itself, at most 1 MB with the module.
 - What the page makes of the steps of a trace is what the order of the same run tells: tests/view/histories.js.
-- tools/page makes the module of this tree, and Node runs it under the program's words, by tests/page_program.js: each row of
-  tests/run_rows.py but those of the command line itself, and N inputs made at random (300), of which standard output, standard error and
-  status are the program's, byte for byte. With --twice the module is made again in a copy of the tree, and is the same.
+- The module that ships, in view/module.js, answers in Node. Where it was made of the sources that stand, it is asked each row of
+  tests/run_rows.py but those of the command line itself, and N inputs made at random (300): output, hint and status are the program's,
+  byte for byte. Its last step of a trace alone is that of the program's trace --json, for each row and made input that is a run.
+- Where the sources are newer, it answers what release/tso of its own sources does (tests/shipped.py): the inputs of the rows that
+  stand, those of the rows of its commit, made inputs and last steps, but what that program refuses as a command line.
+- The module that ships, with one of its words changed, doesn't pass.
+- tools/page makes the module of this tree. Where the sources and the tools are those of the module that ships, both are the same, byte
+  for byte; else this one is asked too. Where wasm-opt isn't there, it is asked as it is before it is lowered.
+- With --twice it is made again in a copy of the tree, and is the same.
 
-Where the module can't be made (no wasm-opt, no Node, no proved crates) that part is left out with a word. tests/view/check.py looks at
-the page in a browser. The last line is 'N passed, M failed'.
+What can't be made or seen here (no Node, no proved crates, no wasm-opt, no history) is left out with a word. tests/view/check.py looks
+at the page in a browser. The last line is 'N passed, M failed'.
 """
 import argparse
-import base64
-import gzip
-import json
 import os
-import queue
 import re
 import shutil
 import subprocess
@@ -27,26 +29,23 @@ import tempfile
 
 sys.dont_write_bytecode = True
 import judging
-import made_inputs
-import run_rows
+import page_answers
+import shipped
+from judging import TESTS, TOP, content
+from page_answers import Served
 
-TESTS = os.path.dirname(os.path.abspath(__file__))
-TOP = os.path.dirname(TESTS)
 VIEW = os.path.join(TOP, "view")
 MODULE = os.path.join("crates", "page_exports", "out", "page.wasm")
-PAGE_PROGRAM = os.path.join(TESTS, "page_program.js")
+WIDE = os.path.join("crates", "page_exports", "out", "page.wide.wasm")
 
 POLICY = ("default-src 'none'; script-src 'self' 'wasm-unsafe-eval'; style-src 'self'; worker-src blob:; img-src blob:; base-uri 'none'; "
           "form-action 'none'; require-trusted-types-for 'script'; trusted-types worker")
 MOST_LINES, MOST_BYTES = 400, 1_000_000
 GENERATED = ("module.js", "texts.js")
 CANNOT = 69
-INPUTS, SEED = 300, 48
-
-
-def content(*path):
-    with open(os.path.join(*path), encoding="utf-8") as file:
-        return file.read()
+INPUTS = 300
+# A word that a module says, and one as long that none says.
+SAID, NEVER_SAID = b"Sometimes", b"Neverever"
 
 
 # The folder.
@@ -90,13 +89,58 @@ def faults_of_size(script=None):
     return [] if size <= MOST_BYTES else ["it has %d bytes" % size]
 
 
-# The module.
+# The module that ships.
 
-def make_module(tree):
+def groups_of(told, program, count, room):
+    """The groups of works that judge the module that ships. The room is an empty folder, for what they need of another commit."""
+    if told.sources == shipped.digest_of(TOP):
+        return page_answers.groups_that_stand(program, count)
+    tree = shipped.tree_of_release(told.sources, room)
+    print("view/module.js: the sources are newer than those of version %s, of which it is; it is held against that release" % told.version)
+    return page_answers.groups_of_release(tree, count)
+
+
+def add_groups(tally, name, groups, served):
+    """Counts what these groups of works find at a module, and says how many works there are."""
+    for group, works in groups:
+        print("%s: %d %s" % (name, len(works), group), flush=True)
+        tally.add("%s, %s" % (name, group), page_answers.judged(works, served))
+
+
+def faults_of_spoiled(module, groups, room):
+    """Whether these works let the module pass with a word changed in it; the room is a folder for that module."""
+    if SAID not in module:
+        return ["it never says %s" % SAID.decode()]
+    spoiled = os.path.join(room, "spoiled.wasm")
+    with open(spoiled, "wb") as file:
+        file.write(module.replace(SAID, NEVER_SAID))
+    with Served(spoiled, count=1) as served:
+        fails = any(judging.faults_told(lambda: work(served)) for _, works in groups for _, work in works)
+    return [] if fails else ["with %s in place of %s it passes" % (NEVER_SAID.decode(), SAID.decode())]
+
+
+def judge_shipped(tally, program, count):
+    """Judges the module that ships. Answers what its script tells, None where that is at fault."""
+    told = None
+    try:
+        told = shipped.told(shipped.bytes_in(TOP, shipped.SCRIPT))
+        with tempfile.TemporaryDirectory() as room, tempfile.TemporaryDirectory() as other:
+            groups = groups_of(told, program, count, room)
+            with Served(os.path.join(TOP, shipped.SCRIPT)) as served:
+                add_groups(tally, shipped.SCRIPT, groups, served)
+            tally.add(shipped.SCRIPT, [("with a word changed", faults_of_spoiled(told.module, groups, other))])
+    except shipped.Fault as fault:
+        tally.add(shipped.SCRIPT, [("the module", [str(fault)])])
+    except shipped.Unseen as unseen:
+        print("left out, what view/module.js answers: %s" % unseen)
+    return told
+
+
+# The module that is made.
+
+def make_module(tree, *words):
     """Why the module can't be made in this tree, or None where it was."""
-    if shutil.which("node") is None:
-        return "node isn't there: apt-get install -y nodejs"
-    made = subprocess.run([os.path.join(tree, "tools", "page")], capture_output=True, text=True)
+    made = subprocess.run([os.path.join(tree, "tools", "page"), *words], capture_output=True, text=True)
     if made.returncode == CANNOT:
         return made.stderr.strip()
     if made.returncode != 0:
@@ -113,60 +157,44 @@ def script_of(tree):
 
 
 def faults_of_script(script):
-    """The script has the module, packed, and tells the version, the digest of its sources and its tools."""
-    told = {name.decode(): value.decode() for name, value in re.findall(rb"^  (\w+):\s+'([^']*)',$", script, re.MULTILINE)}
-    faults = ["it tells %s" % sorted(told)] if sorted(told) != ["packed", "sources", "tools", "version"] else []
-    with open(os.path.join(TOP, MODULE), "rb") as file:
-        faults += [] if gzip.decompress(base64.b64decode(told.get("packed", ""))) == file.read() else ["it has another module"]
-    faults += [] if told.get("sources") == content(TOP, MODULE + ".sources").strip() else ["it has the digest of other sources"]
+    """The script has the module that was made, packed, and the digest of what it was made of."""
+    told = shipped.told(script)
+    faults = [] if told.module == shipped.bytes_in(TOP, MODULE) else ["it has another module"]
+    faults += [] if told.sources == shipped.digest_of(TOP) else ["it has the digest of other sources"]
     return faults + ([] if script_of(TOP) == script else ["it is another each time"])
 
 
-class Served:
-    """The page's program, by processes of Node that go on."""
-
-    def __init__(self, count):
-        self.free = queue.Queue()
-        for _ in range(count):
-            self.free.put(subprocess.Popen([PAGE_PROGRAM, "--serve"], stdin=subprocess.PIPE, stdout=subprocess.PIPE))
-
-    def run(self, words, given):
-        server = self.free.get()
-        try:
-            call = {"words": words, "input": base64.b64encode(given).decode()}
-            server.stdin.write(json.dumps(call).encode() + b"\n")
-            server.stdin.flush()
-            answer = json.loads(server.stdout.readline())
-        finally:
-            self.free.put(server)
-        return subprocess.CompletedProcess(words, answer["status"], base64.b64decode(answer["output"]), base64.b64decode(answer["errors"]))
-
-    def end(self):
-        while not self.free.empty():
-            server = self.free.get()
-            server.stdin.close()
-            server.wait()
+def judge_wide(tally, program, count):
+    """Judges the module that is made of this tree before it is lowered."""
+    missing = make_module(TOP, "--wide")
+    if missing:
+        print("left out, what it answers before it is lowered: " + missing)
+        return
+    with Served(os.path.join(TOP, WIDE), flags=page_answers.wide_flags()) as served:
+        add_groups(tally, "the module that is made, before it is lowered", page_answers.groups_that_stand(program, count), served)
 
 
-def row_works(served):
-    """The rows, but for those of the command line itself, as pairs of a name and a function of a program's faults."""
-    return run_rows.works(served, lambda row: row.status != judging.BAD_LINE)
-
-
-def faults_of_input(program, served, made):
-    wanted = judging.run(program, made.words, made.given)
-    if wanted.returncode == judging.BAD_LINE:
-        return []
-    return judging.difference(served.run(made.words, made.given), wanted.returncode, wanted.stdout, wanted.stderr)
-
-
-def input_works(program, count):
-    made = [(number, made_inputs.made(SEED, number)) for number in range(count)]
-    return [("input %d of seed %d" % (number, SEED), lambda served, each=each: faults_of_input(program, served, each)) for number, each in made]
-
-
-def judged(works, served):
-    return judging.in_threads(lambda work: (work[0], work[1](served)), works)
+def judge_made(tally, program, count, told):
+    """Judges the module that is made of this tree, where the one that ships tells this. Answers whether it can be made."""
+    stands = told is not None and told.sources == shipped.digest_of(TOP)
+    missing = make_module(TOP)
+    if missing:
+        print("left out, the module that is made: " + missing)
+        if not stands:
+            judge_wide(tally, program, count)
+        return False
+    script = script_of(TOP)
+    made = shipped.told(script)
+    tally.add("view/", [("module.js of the module that is made", faults_of_script(script)), ("its size with that", faults_of_size(script))])
+    if stands and made.tools == told.tools:
+        faults = [] if made.module == told.module else ["it isn't the module that is made of its sources by its tools"]
+        tally.add("view/", [("module.js", faults)])
+        return True
+    if stands:
+        print("left out, whether view/module.js is the module that is made: it is of other tools, %s" % told.tools)
+    with Served(os.path.join(TOP, MODULE)) as served:
+        add_groups(tally, "the module that is made", page_answers.groups_that_stand(program, count), served)
+    return True
 
 
 def faults_of_second_module():
@@ -192,24 +220,18 @@ def faults_of_histories(program):
 
 def main():
     parser = argparse.ArgumentParser()
-    parser.add_argument("program")
+    parser.add_argument("program", type=os.path.abspath)
     parser.add_argument("--inputs", type=int, default=INPUTS)
     parser.add_argument("--twice", action="store_true")
     given = parser.parse_args()
     tally = judging.Tally()
     tally.add("view/", [("texts.js", faults_of_texts()), ("the policy", faults_of_policy()), ("the scripts", faults_of_scripts()),
-                        ("its size", faults_of_size()), ("histories of steps", faults_of_histories(os.path.abspath(given.program)))])
-    missing = make_module(TOP)
-    if missing:
-        print("left out, what the module answers: " + missing)
+                        ("its size", faults_of_size()), ("histories of steps", faults_of_histories(given.program))])
+    if shutil.which("node") is None:
+        print("left out, what the page's modules answer: node isn't there: apt-get install -y nodejs")
         return tally.end()
-    script = script_of(TOP)
-    tally.add("view/", [("module.js of this module", faults_of_script(script)), ("its size with the module", faults_of_size(script))])
-    served = Served(os.cpu_count())
-    tally.add("rows", judged(row_works(served), served))
-    tally.add("made inputs", judged(input_works(os.path.abspath(given.program), given.inputs), served))
-    served.end()
-    if given.twice:
+    told = judge_shipped(tally, given.program, given.inputs)
+    if judge_made(tally, given.program, given.inputs, told) and given.twice:
         tally.add("the module", [("made in another folder", faults_of_second_module())])
     return tally.end()
 

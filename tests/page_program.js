@@ -1,30 +1,43 @@
 #!/usr/bin/env -S node --no-warnings
 // The page's module under the words of the program's command line, for the scripts that judge a program:
 //
-//   tests/page_program.js COMMAND [OPTION ..] < INPUT      the module is crates/page_exports/out/page.wasm, or that of TSO_MODULE
+//   tests/page_program.js COMMAND [OPTION ..] < INPUT      the module is crates/page_exports/out/page.wasm, or that of TSO_MODULE, which
+//                                                       may name a script as view/module.js, too
 //
 //   tests/page_program.js --serve                          answers one call after the other: each a line of JSON with words and input,
 //                                                       each answer one with status, output and errors, texts in base64
 //
-// Which values an option may have is judged by the module; help, the version and the words of refused command lines aren't here.
+// A command more than the program has is `step`, with the options of a machine: the last step of `trace --json` alone. Which values an
+// option may have is judged by the module; help, the version and the words of refused command lines aren't here.
 'use strict';
 
 const fs = require('fs');
 const path = require('path');
 const vm = require('vm');
+const zlib = require('zlib');
 
 const TOP = path.dirname(__dirname);
 const MODULE = process.env.TSO_MODULE || path.join(TOP, 'crates', 'page_exports', 'out', 'page.wasm');
-const Tso = vm.runInThisContext(fs.readFileSync(path.join(TOP, 'view', 'answers.js'), 'utf8') + '\nTso;');
+const Tso = valueIn(path.join(TOP, 'view', 'answers.js'), 'Tso');
 
 const REFUSED = 2;
 const MACHINE = ['protocol', 'bus', 'depth', 'sets', 'ways', 'words'];
 const OPTIONS = {
   run: [...MACHINE, 'json'], sweep: [...MACHINE, 'from', 'seeds', 'length'], outcomes: ['depth', 'states', 'json'],
-  trace: [...MACHINE, 'json'], check: [], witness: ['depth'], tables: ['protocol'],
+  trace: [...MACHINE, 'json'], step: MACHINE, check: [], witness: ['depth'], tables: ['protocol'],
 };
 const WORDS = { protocol: Tso.PROTOCOLS, bus: Tso.BUSES };
 const MOST = { depth: 254, sets: 254, ways: 254, words: 254 };
+
+/** What a script of the page gives this name. */
+function valueIn(script, name) {
+  return vm.runInThisContext(fs.readFileSync(script, 'utf8') + `\n${name};`);
+}
+
+/** The bytes of a module, from its own file or from a script that has it packed. */
+function bytesOf(file) {
+  return file.endsWith('.js') ? zlib.gunzipSync(Buffer.from(valueIn(file, 'MODULE').packed, 'base64')) : fs.readFileSync(file);
+}
 
 /** A command line that is refused. */
 class Refused extends Error {}
@@ -81,7 +94,7 @@ function serve(tso) {
 }
 
 function main(words) {
-  const tso = new Tso(new WebAssembly.Module(fs.readFileSync(MODULE)));
+  const tso = new Tso(new WebAssembly.Module(bytesOf(MODULE)));
   if (words[0] === '--serve') return serve(tso);
   const { status, text, hint } = answer(tso, words, () => fs.readFileSync(0));
   write(1, text);

@@ -1,6 +1,6 @@
 #!/usr/bin/env bash
 # Makes a small repository with a release of PROGRAM, and shows in it what ./tso, tests/release.sh and the packages do: a program
-# that was changed or put there is noticed, and a changed source is said.
+# that was changed or put there is noticed, and a changed source is said. Then, which release the page's module is held against.
 #
 #   tests/release_refusals.sh PROGRAM
 #
@@ -183,6 +183,63 @@ judge_limits() {
   back_to "$release"
 }
 
+# Says which program tests/page.py holds the module that ships against, or what is at fault in it.
+held() {
+  python3 -B - <<< '
+import sys, tempfile
+sys.path.insert(0, "tests")
+import shipped
+with tempfile.TemporaryDirectory() as room:
+    sources = shipped.told(shipped.bytes_in(shipped.SCRIPT)).sources
+    names = {room: "the release of its commit", shipped.TOP: "the release that stands"}
+    print("the program" if sources == shipped.digest_of(shipped.TOP) else names[shipped.tree_of_release(sources, room)])'
+}
+holds_against() { accepts held && [ "$(cat "$room/said")" = "$1" ]; }
+
+# Makes the module name the sources that stand as its own.
+name_these_sources() {
+  local digest
+  digest=$({ tools/digests sources && tools/digests proofs && tools/digests page; } | sha256sum)
+  sed -i "s/^  sources: '.*'/  sources: '${digest%% *}'/" view/module.js
+}
+
+judge_module() {
+  local release
+  release=$(git_in rev-parse HEAD)
+  name_these_sources
+  commit "a module"
+  holds_against "the program"
+  judge "a module of the sources that stand" $?
+  change_a_source
+  commit "newer sources"
+  holds_against "the release of its commit"
+  judge "a module of older sources" $?
+  git clone -q --depth 1 "file://$room/clone" "$room/short clone"
+  (cd "$room/short clone" && holds_against "the release that stands")
+  judge "a module of older sources, and a history that is too short" $?
+  rm -rf "$room/short clone/release"
+  (cd "$room/short clone" && refuses "Unseen: the history here is too short" held)
+  judge "a module of older sources, and no release to be seen" $?
+  rm -rf "$room/short clone"
+
+  sed -i "s/^  tools: '/&other tools, /" view/module.js
+  holds_against "the release of its commit"
+  judge "another module, older sources: held to the same release" $?
+  commit "another module"
+  refuses "Fault: the commit .* had other sources than it names" held
+  judge "another module, older sources, committed" $?
+  name_these_sources
+  commit "another module with a digest of its own"
+  change_a_source
+  commit "newer sources"
+  refuses "Fault: the commit .* had no release of its sources" held
+  judge "another module with a digest of its own, and no release of its sources" $?
+  echo "alert();" >> view/module.js
+  refuses "Fault: it isn't in the form" held
+  judge "a module's script that does more" $?
+  back_to "$release"
+}
+
 judge_tso() {
   local release status word
   release=$(git_in rev-parse HEAD)
@@ -345,6 +402,7 @@ make_checkout
 judge_programs
 judge_lists
 judge_limits
+judge_module
 judge_tso
 judge_no_release
 judge_prove

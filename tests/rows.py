@@ -221,27 +221,27 @@ class Reader:
             return file.read()
 
 
-def read(subject):
+def read(subject, folder=FOLDER):
     """The rows of a subject, by name."""
-    return Reader(os.path.join(FOLDER, subject + ENDING)).read()
+    return Reader(os.path.join(folder, subject + ENDING)).read()
 
 
-def subjects():
-    return sorted(name[:-len(ENDING)] for name in os.listdir(FOLDER) if name.endswith(ENDING))
+def subjects(folder=FOLDER):
+    return sorted(name[:-len(ENDING)] for name in os.listdir(folder) if name.endswith(ENDING))
 
 
-def all_rows(without=()):
+def all_rows(without=(), folder=FOLDER):
     """The rows of all subjects but these, by name: of different subjects too, each name stands once. A file that no row names is refused."""
     found, sources = {}, set()
-    for subject in subjects():
-        for name, row in read(subject).items():
+    for subject in subjects(folder):
+        for name, row in read(subject, folder).items():
             if name in found:
                 raise Refused("%s: the row %s stands in %s too" % (row.place, name, found[name].place))
             found[name] = row
             sources |= {value.source for value in row.own.values()}
-    others = sorted(set(os.listdir(FOLDER)) - sources - {subject + ENDING for subject in subjects()})
+    others = sorted(set(os.listdir(folder)) - sources - {subject + ENDING for subject in subjects(folder)})
     if others:
-        raise Refused("%s: no row has its text from it" % os.path.join(os.path.relpath(FOLDER), others[0]))
+        raise Refused("%s: no row has its text from it" % os.path.join(os.path.relpath(folder), others[0]))
     return {name: row for name, row in found.items() if os.path.basename(row.path)[:-len(ENDING)] not in without}
 
 

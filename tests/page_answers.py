@@ -1,0 +1,152 @@
+"""What a module of the page is asked, in Node, and what it must answer.
+
+A module of the sources that stand is held against the rows and the program that is built of them, a module of older sources against a
+program of its own. A group is a name and its works: pairs of a name and a function of a module's faults.
+"""
+import base64
+import json
+import os
+import queue
+import subprocess
+import typing
+
+import judging
+import made_inputs
+import rows
+import run_rows
+
+PAGE_PROGRAM = os.path.join(judging.TESTS, "page_program.js")
+# What Node needs for addresses of 64 bits, as long as it asks for a word.
+WIDE_FLAG = "--experimental-wasm-memory64"
+SEED = 48
+
+
+class Served:
+    """The page's program with this module, by processes of Node that go on."""
+
+    def __init__(self, module, count=os.cpu_count(), flags=()):
+        words = ["node", "--no-warnings", *flags, PAGE_PROGRAM, "--serve"]
+        self.free = queue.Queue()
+        for _ in range(count):
+            self.free.put(subprocess.Popen(words, stdin=subprocess.PIPE, stdout=subprocess.PIPE, env=dict(os.environ, TSO_MODULE=module)))
+
+    def __enter__(self):
+        return self
+
+    def __exit__(self, *_):
+        while not self.free.empty():
+            server = self.free.get()
+            server.stdin.close()
+            server.wait()
+
+    def run(self, words, given):
+        server = self.free.get()
+        try:
+            call = {"words": words, "input": base64.b64encode(given).decode()}
+            server.stdin.write(json.dumps(call).encode() + b"\n")
+            server.stdin.flush()
+            answer = json.loads(server.stdout.readline())
+        finally:
+            self.free.put(server)
+        return subprocess.CompletedProcess(words, answer["status"], base64.b64decode(answer["output"]), base64.b64decode(answer["errors"]))
+
+
+def wide_flags():
+    """The flags of Node for a module with addresses of 64 bits: none where it knows no such flag."""
+    return (WIDE_FLAG,) if subprocess.run(["node", WIDE_FLAG, "-e", ""], stderr=subprocess.DEVNULL).returncode == 0 else ()
+
+
+# What is asked.
+
+class Asked(typing.NamedTuple):
+    """An input under the words of a command line, with a name."""
+    name: str
+    words: list
+    given: bytes
+
+
+def asked_by_rows(folder=rows.FOLDER):
+    """What the rows of a folder ask, each beginning of a text by itself."""
+    return [Asked(name, row.words, given) for name, row in rows.all_rows(folder=folder).items()
+            for given in [given for given, _ in row.beginnings()] or [row.given]]
+
+
+def asked_by_rows_then(folder):
+    """The same of a folder of another commit; nothing, with a word, where its rows can't be read any more."""
+    try:
+        return asked_by_rows(folder)
+    except (OSError, rows.Refused) as fault:
+        print("left out, the rows of another commit: %s" % fault)
+        return []
+
+
+def asked_at_random(count):
+    """So many inputs that are made at random, the same each time."""
+    made = [made_inputs.made(SEED, number) for number in range(count)]
+    return [Asked("input %d of seed %d" % (number, SEED), each.words, each.given) for number, each in enumerate(made)]
+
+
+def each_once(*lists):
+    """What is asked in these lists, the same words with the same input once."""
+    return list({(*asked.words, asked.given): asked for each in lists for asked in each}.values())
+
+
+# What must be answered.
+
+def faults_of_answer(program, served, asked):
+    """How the answer differs from that of a program."""
+    wanted = judging.run(program, asked.words, asked.given)
+    if wanted.returncode == judging.BAD_LINE:
+        return []
+    return judging.difference(served.run(asked.words, asked.given), wanted.returncode, wanted.stdout, wanted.stderr)
+
+
+def last_step(answer):
+    """The last step in an answer to `trace --json`; where no choice was used, the machine at the start; a refusal as it is."""
+    if answer.returncode == judging.REFUSED:
+        return answer.stdout
+    trace = json.loads(answer.stdout)["trace"]
+    last = trace["steps"][-1] if trace["steps"] else {"start": trace["start"]}
+    return json.dumps(last, separators=(",", ":")).encode() + b"\n"
+
+
+def faults_of_step(program, served, asked):
+    """How the last step alone differs from that of a program's trace."""
+    machine = [word for word in asked.words[1:] if word != "--json"]
+    wanted = judging.run(program, ["trace", "--json", *machine], asked.given)
+    if wanted.returncode == judging.BAD_LINE:
+        return []
+    return judging.difference(served.run(["step", *machine], asked.given), wanted.returncode, last_step(wanted), wanted.stderr)
+
+
+def works_of(judge, program, asked):
+    """The works of what is asked, by a function of a program, a module and one of these."""
+    return [(each.name, lambda served, each=each: judge(program, served, each)) for each in asked]
+
+
+def step_works(program, *lists):
+    """The last step of each run that is asked in these lists."""
+    return works_of(faults_of_step, program, [asked for asked in each_once(*lists) if asked.words[:1] in (["run"], ["trace"])])
+
+
+def groups_that_stand(program, count):
+    """The rows but those of the command line itself, made inputs and last steps, for a module of the sources that stand."""
+    made = asked_at_random(count)
+    return [("rows", run_rows.works(judging.Program(program), lambda row: row.status != judging.BAD_LINE)),
+            ("made inputs", works_of(faults_of_answer, program, made)),
+            ("last steps", step_works(program, asked_by_rows(), made))]
+
+
+def groups_of_release(tree, count):
+    """The same inputs and those of the rows of this checkout, for a module of the sources of its release, which answers alike."""
+    program = os.path.join(tree, "release", "tso")
+    asked = each_once(asked_by_rows(), asked_by_rows_then(os.path.join(tree, "tests", "data", "rows")))
+    made = asked_at_random(count)
+    return [("inputs of rows", works_of(faults_of_answer, program, asked)),
+            ("made inputs", works_of(faults_of_answer, program, made)),
+            ("last steps", step_works(program, asked, made))]
+
+
+def judged(works, served):
+    """The works' names with what this module's faults are."""
+    return judging.in_threads(lambda work: (work[0], judging.faults_told(lambda: work[1](served))), works)
