@@ -2,3 +2,4 @@
 pub mod Looked
 pub mod Brackets
 pub mod Stepped
+pub mod BusMemory

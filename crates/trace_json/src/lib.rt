@@ -4,6 +4,7 @@
 
 mod copies;
 mod cores;
+pub mod laws;
 mod machine;
 mod own_words;
 mod programs;
