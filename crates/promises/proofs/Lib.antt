@@ -2,3 +2,4 @@ mod TracedRuns
 mod ExactSearches
 mod LinesAgain
 mod NoMore
+mod Waiting

@@ -1,2 +1,3 @@
 pub mod Locked
 pub mod Searched
+pub mod Waiting

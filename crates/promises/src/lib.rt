@@ -19,4 +19,5 @@ pub mod split_accesses;
 pub mod streams;
 pub mod tallies;
 pub mod threads;
+pub mod traced;
 pub mod witnesses;

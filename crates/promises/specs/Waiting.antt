@@ -1,0 +1,27 @@
+-- The line of a locked instruction that has read and not yet written: each access of another core waits for the bus.
+use Rattle.std.specs.Prelude.{ℕ, ◌≡◌, ◌≢◌}
+use Rattle.tso_model.specs.FlatMachine.{chosen}
+use Rattle.tso_model.specs.MemoryAccess.{MemoryAccess, NoAccess, Reads, Writes, Locks, access_of}
+use Rattle.tso_model.specs.SplitMachine.{HeldBetween}
+use Rattle.tso_model.specs.declared.choice.Bus.TheVariants.{Split}
+use Rattle.tso_model.specs.declared.choice.Choice.{Choice}
+use Rattle.tso_model.specs.declared.choice.Outcome.TheVariants.{Stalled}
+use Rattle.tso_model.specs.declared.choice.Stall.TheVariants.{Bus}
+use Rattle.tso_model.specs.declared.execution.Entry.{Entry}
+use Rattle.machine_core.specs.Caches.{Caches}
+use Rattle.machine_core.specs.Running.{Running, effect_by}
+use Rattle.promises.specs.Locked.{ShareLine}
+
+-- an access, a read or a write, to the line of this location
+abbrev pub IsAtLine : Caches → ℕ → MemoryAccess → Type 0
+IsAtLine c loc NoAccess = ⊥
+IsAtLine c loc (Reads at) = ShareLine c at.0 loc
+IsAtLine c loc (Writes at) = ShareLine c at.0 loc
+IsAtLine c loc (Locks at) = ShareLine c at.0 loc
+
+-- while a locked instruction has read and not yet written, each choice of another core that makes such an access stalls
+abbrev pub OthersWaitForTheLine : Running → Type 0
+OthersWaitForTheLine m =
+    (e : Entry) (choice : Choice) → m.bus ≡ Split → m.state.holder ≡ HeldBetween e → chosen choice ≢ e.core.0
+    → IsAtLine m.statistics.caches e.loc.0 (access_of m.test m.depth m.state.flat choice)
+    → (effect_by m choice).effect.outcome ≡ Stalled Bus
